@@ -1,0 +1,37 @@
+-- A fact of a whole table is a test over all modes, which computes to true; from there it holds at each mode.
+use Rattle.std.proofs.Common.{◌≡◌, Bool, true, false, ◌&&◌, ◌||◌, refl, not}
+use Rattle.std.proofs.lemmas.Bool.{and_parts}
+use mathlib.Core.Bool.{beq}
+use Rattle.lock_modes.specs.declared.Mode.{Mode}
+use Rattle.lock_modes.specs.declared.Mode.TheVariants.{NL, IS, IX, S, SIX, X}
+
+-- the test passes at each mode
+abbrev pub every : (Mode → Bool) → Bool
+every p = p NL && (p IS && (p IX && (p S && (p SIX && p X))))
+
+pub every-at : (p : Mode → Bool) → every p ≡ true → (m : Mode) → p m ≡ true
+every-at p h m =
+    let h1 = and_parts (p NL) (p IS && (p IX && (p S && (p SIX && p X)))) h in
+    let h2 = and_parts (p IS) (p IX && (p S && (p SIX && p X))) h1.1 in
+    let h3 = and_parts (p IX) (p S && (p SIX && p X)) h2.1 in
+    let h4 = and_parts (p S) (p SIX && p X) h3.1 in
+    let h5 = and_parts (p SIX) (p X) h4.1 in
+    elim m as (λ n. p n ≡ true) [ NL ↦ h1.0 | IS ↦ h2.0 | IX ↦ h3.0 | S ↦ h4.0 | SIX ↦ h5.0 | X ↦ h5.1 ]
+
+pub every2-at : (p : Mode → Mode → Bool) → every (λ a. every (p a)) ≡ true → (a b : Mode) → p a b ≡ true
+every2-at p h a b = every-at (p a) (every-at (λ a. every (p a)) h a) b
+
+pub every3-at : (p : Mode → Mode → Mode → Bool) → every (λ a. every (λ b. every (p a b))) ≡ true → (a b c : Mode) → p a b c ≡ true
+every3-at p h a b c = every-at (p a b) (every2-at (λ a b. every (p a b)) h a b) c
+
+-- two tests that agree
+pub beq-same : (x y : Bool) → beq x y ≡ true → x ≡ y
+beq-same true true h = refl
+beq-same false false h = refl
+beq-same true false h = cc
+beq-same false true h = cc
+
+-- a test that implies another
+pub implied : (x y : Bool) → (not x || y) ≡ true → x ≡ true → y ≡ true
+implied true y h e = h
+implied false y h e = cc

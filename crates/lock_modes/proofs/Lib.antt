@@ -1,0 +1,6 @@
+pub mod Every
+pub mod Compatibility
+pub mod Codes
+pub mod Order
+pub mod Columns
+pub mod Needs

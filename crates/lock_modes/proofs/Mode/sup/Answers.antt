@@ -1,0 +1,13 @@
+-- By the table: IX and S are the only two modes of which neither is at or above the other.
+use Rattle.std.proofs.Common.{rules}
+use Rattle.lock_modes.proofs.Order.{sup_least}
+use Rattle.lock_modes.proofs.Mode.sup.Goals as goal
+
+pub returns-in-IX-S-clause-least : goal.returns-in-IX-S-clause-least
+returns-in-IX-S-clause-least c = sup_least c.args.self c.args.other _ (search rules)
+
+pub returns-in-IX-S-2-clause-least : goal.returns-in-IX-S-2-clause-least
+returns-in-IX-S-2-clause-least c = sup_least c.args.self c.args.other _ (search rules)
+
+pub returns-in_default-clause-least : goal.returns-in_default-clause-least
+returns-in_default-clause-least c = sup_least c.args.self c.args.other c.max.result (search rules)

@@ -1,0 +1,35 @@
+-- How the modes are written: as bits, so that scans are fast, and as names. Codes and masks are this project's own.
+use Rattle.std.specs.Prelude.{ℕ, List, [], ◌∷◌, codes, bit_or}
+use Rattle.lock_modes.specs.declared.Mode.{Mode}
+use Rattle.lock_modes.specs.declared.Mode.TheVariants.{NL, IS, IX, S, SIX, X}
+
+-- the code of the least upper bound of two modes is the or of their codes
+abbrev pub code_of : Mode → ℕ
+code_of NL = 0
+code_of IS = 1
+code_of IX = 3
+code_of S = 5
+code_of SIX = 7
+code_of X = 15
+
+-- the mask of a mode meets the codes of the modes that it conflicts with, and no others
+abbrev pub mask_of : Mode → ℕ
+mask_of NL = 0
+mask_of IS = 8
+mask_of IX = 4
+mask_of S = 2
+mask_of SIX = 6
+mask_of X = 1
+
+-- the or of the codes of a column of modes
+abbrev pub union_of : List Mode → ℕ
+union_of [] = 0
+union_of (m ∷ ms) = bit_or (code_of m) (union_of ms)
+
+abbrev pub name_of : Mode → List ℕ
+name_of NL = codes "NL"
+name_of IS = codes "IS"
+name_of IX = codes "IX"
+name_of S = codes "S"
+name_of SIX = codes "SIX"
+name_of X = codes "X"

@@ -1,0 +1,85 @@
+-- A request that begins to wait.
+use Rattle.std.proofs.Common.{◌≡◌, ℕ, Bool, true, false, cond, not, eqb, ◌&&◌, ◌||◌, inl, inr, List, [], ◌∷◌, ◌++◌, Some, None, refl, sym, ◌∙◌, ap, arith, append_assoc}
+use Rattle.std.specs.Prelude.{filter, is_some}
+use Rattle.std.proofs.lemmas.Bool.Decides.{nat_tests, Decides-eqb}
+use Rattle.std.proofs.lemmas.Bool.{and_from}
+use Rattle.lock_modes.specs.declared.Mode.{Mode}
+use Rattle.lock_tree.specs.Paths.{same_path}
+use Rattle.lock_rules.specs.State.{Claim, Table, mode_in, held_mode, request_of, claims_but}
+use Rattle.lock_rules.specs.Queue.{queue, fits, with_request, is_granted, is_empty}
+use Rattle.lock_rules.proofs.Lists.{bool_cases, same_path-refl, same_path-true, IsOnce, times-none, times-append, request_of-push, claims_but-push}
+use Rattle.lock_rules.proofs.Alters.{Alters, queue-alters, request-alters}
+use Rattle.lock_rules.proofs.Sound.{IsSound, UnfitAt, head-request}
+
+abbrev new : ℕ → List ℕ → Mode → Claim
+new s r m = record { session = s; resource = r; mode = m }
+
+back : (s : ℕ) (r : List ℕ) (m : Mode) (t : Table) → request_of s t.waits ≡ None → Alters s (with_request s r m t) t
+back s r m t n = record { waits = sym (claims_but-push s t.waits (new s r m) n refl); others = λ u x k. refl; order = λ o. o }
+
+once-push : (s : ℕ) (r : List ℕ) (m : Mode) (qs : List Claim) → IsOnce qs → request_of s qs ≡ None → IsOnce (qs ++ new s r m ∷ [])
+once-push s r m qs o n u = grind (arith, nat_tests, times-append u qs (new s r m ∷ []), times-none s qs n, o u)
+
+pub begins-sound : (s : ℕ) (r : List ℕ) (m : Mode) (t : Table) → IsSound t → request_of s t.waits ≡ None → held_mode t s r ≡ None → IsSound (with_request s r m t)
+begins-sound s r m t i n free = record {
+  order = i.order;
+  once = once-push s r m t.waits i.once n;
+  fresh = λ u q e. elim (bool_cases (eqb u s)) [
+    | inl f ↦ let p = own u q e ((Decides-eqb u s).0 f) in rw (p.0, ← p.1) free
+    | inr k ↦ i.fresh u q (request-alters s (with_request s r m t) t (back s r m t n) u k ∙ e)
+  ];
+  agree = λ a b x k l d e f. i.agree a b x k l d e f;
+}
+  where
+    own : (u : ℕ) (q : Claim) → request_of u (t.waits ++ new s r m ∷ []) ≡ Some q → u ≡ s → (u ≡ s) × (new s r m ≡ q)
+    own u q e f = let g = request_of-push s t.waits (new s r m) n refl in (f, cc)
+
+filter-in : (p : Claim → Bool) (xs : List Claim) (x : Claim) → p x ≡ true → filter p (xs ++ x ∷ []) ≡ filter p xs ++ x ∷ []
+filter-in p [] x h = ap (λ (b : Bool). cond b (x ∷ []) []) h
+filter-in p (y ∷ xs) x h = grind (arith, filter-in p xs x h, bool_cases (p y))
+
+filter-out : (p : Claim → Bool) (xs : List Claim) (x : Claim) → p x ≡ false → filter p (xs ++ x ∷ []) ≡ filter p xs
+filter-out p [] x h = ap (λ (b : Bool). cond b (x ∷ []) []) h
+filter-out p (y ∷ xs) x h = grind (arith, filter-out p xs x h, bool_cases (p y))
+
+-- a fresh request stands last
+pub queue-fresh : (s : ℕ) (r : List ℕ) (m : Mode) (t : Table) → is_some (held_mode t s r) ≡ false → queue (with_request s r m t) r ≡ queue t r ++ new s r m ∷ []
+queue-fresh s r m t h =
+    let p : Claim → Bool = λ (q : Claim). same_path q.resource r && is_some (mode_in q.session r t.held) in
+    let p' : Claim → Bool = λ (q : Claim). same_path q.resource r && not (is_some (mode_in q.session r t.held)) in
+    let e : filter p (t.waits ++ new s r m ∷ []) ≡ filter p t.waits = filter-out p t.waits (new s r m) (ap (λ (b : Bool). same_path r r && b) h ∙ and-false (same_path r r)) in
+    let e' : filter p' (t.waits ++ new s r m ∷ []) ≡ filter p' t.waits ++ new s r m ∷ [] = filter-in p' t.waits (new s r m) (and_from (same_path r r) (not (is_some (mode_in s r t.held))) (same_path-refl r) (ap not h)) in
+    ap (λ (ws : List Claim). ws ++ filter p' (t.waits ++ new s r m ∷ [])) e ∙ (ap (λ (ws : List Claim). filter p t.waits ++ ws) e' ∙ sym (append_assoc (filter p t.waits) (filter p' t.waits) (new s r m ∷ [])))
+  where
+    and-false : (b : Bool) → (b && false) ≡ false
+    and-false true = refl
+    and-false false = refl
+
+pub begins-unfit : (s : ℕ) (r : List ℕ) (m : Mode) (t : Table) → IsSound t → IsSound (with_request s r m t) → request_of s t.waits ≡ None → is_granted t s r m ≡ false → ((x : List ℕ) → UnfitAt t x) → (x : List ℕ) → UnfitAt (with_request s r m t) x
+begins-unfit s r m t i i' n g h x q qs e = elim (bool_cases (eqb q.session s)) [
+  | inr k ↦ h x q (claims_but s qs) (queue-alters s (with_request s r m t) t (back s r m t n) x ∙ (ap (claims_but s) e ∙ ap (λ (b : Bool). cond (not b) (q ∷ claims_but s qs) (claims_but s qs)) k))
+  | inl k ↦
+      let f = (Decides-eqb q.session s).0 k in
+      let own = head-request (with_request s r m t) x q qs i'.once e in
+      let g2 = request_of-push s t.waits (new s r m) n refl in
+      let g3 = rw f at own.0 in
+      let same : new s r m ≡ q = cc in
+      let path : r ≡ x = same_path-true r x (ap (λ (c : Claim). same_path c.resource x) same ∙ own.1) in
+      ap (λ (c : Claim). fits t c.session x c.mode) (sym same) ∙ (ap (λ (y : List ℕ). fits t s y m) (sym path) ∙ unfit same (rw (← path) at e))
+]
+  where
+    none : (q : Claim) → request_of s t.waits ≡ Some q → ⊥
+    none q e = cc
+
+    unfit : new s r m ≡ q → queue (with_request s r m t) r ≡ q ∷ qs → fits t s r m ≡ false
+    unfit same e = go (fits t s r m) refl (is_some (held_mode t s r)) refl (queue t r) refl g
+      where
+        go : (b : Bool) → fits t s r m ≡ b → (c : Bool) → is_some (held_mode t s r) ≡ c → (old : List Claim) → queue t r ≡ old → (b && (c || is_empty old)) ≡ false → fits t s r m ≡ false
+        go false eb c ec old eo z = eb
+        go true eb true ec old eo z = absurd (cc)
+        go true eb false ec [] eo z = absurd (cc)
+        go true eb false ec (p ∷ ps) eo z =
+            let k = queue-fresh s r m t ec in
+            let k2 : q ∷ qs ≡ p ∷ (ps ++ new s r m ∷ []) = sym e ∙ (k ∙ ap (λ (ws : List Claim). ws ++ new s r m ∷ []) eo) in
+            let first : new s r m ≡ p = same ∙ (cc) in
+            absurd (none p (ap (λ (c : Claim). request_of c.session t.waits) first ∙ (head-request t r p ps i.once eo).0))

@@ -1,0 +1,12 @@
+pub mod Lists
+pub mod Marks
+pub mod Alters
+pub mod Sound
+pub mod Promote
+pub mod Cuts
+pub mod Begins
+pub mod Steps
+pub mod Histories
+pub mod Fronts
+pub mod SessionCalls
+pub mod States

@@ -1,0 +1,92 @@
+-- What promotions keep, and what they bring about.
+use Rattle.std.proofs.Common.{◌≡◌, ℕ, Bool, true, false, cond, ◌||◌, inl, inr, List, [], ◌∷◌, Some, refl, sym, ◌∙◌, ap}
+use Rattle.std.specs.List.{list_any}
+use Rattle.lock_modes.specs.declared.Mode.{Mode}
+use Rattle.lock_modes.specs.Order.{at_or_below}
+use Rattle.lock_tree.specs.Paths.{same_path}
+use Rattle.lock_rules.specs.State.{Claim, Table, held_mode, request_of}
+use Rattle.lock_rules.specs.Queue.{queue, fits, granted, granted_front, promoted, promoted_all}
+use Rattle.lock_rules.proofs.Lists.{same_path_tells, same_path-true}
+use Rattle.lock_rules.proofs.Marks.{mode_or_nothing, below-refl, below-trans}
+use Rattle.lock_rules.proofs.Sound.{IsSound, UnfitAt, Rises, head-request, queue-rest, unfit_at-alters, none-below, granted-alters, granted-rises, granted-sound}
+
+-- the table stays sound, and nobody holds less
+pub record Follows (t t' : Table) : Type 0 where
+  pub sound : IsSound t'
+  pub rises : Rises t t'
+
+pub follows-refl : (t : Table) → IsSound t → Follows t t
+follows-refl t i = record { sound = i; rises = λ s x. below-refl (mode_or_nothing (held_mode t s x)) }
+
+pub follows-trans : (t u w : Table) → Follows t u → Follows u w → Follows t w
+follows-trans t u w a b = record {
+  sound = b.sound;
+  rises = λ s x. below-trans (mode_or_nothing (held_mode t s x)) (mode_or_nothing (held_mode u s x)) (mode_or_nothing (held_mode w s x)) (a.rises s x) (b.rises s x);
+}
+
+pub granted-follows : (s : ℕ) (r : List ℕ) (m : Mode) (t : Table) → IsSound t → at_or_below (mode_or_nothing (held_mode t s r)) m ≡ true → fits t s r m ≡ true → Follows t (granted s r m t)
+granted-follows s r m t i up fit = record { sound = granted-sound s r m t i fit; rises = granted-rises s r m t up }
+
+abbrev pub Elsewhere : List ℕ → Table → Table → Type 0
+Elsewhere r t t' = (x : List ℕ) → same_path r x ≡ false → UnfitAt t x → UnfitAt t' x
+
+pub record IsPromoted (r : List ℕ) (t t' : Table) : Type 0 where
+  pub follows : Follows t t'
+  pub elsewhere : Elsewhere r t t'
+  pub there : UnfitAt t' r
+
+granted_front-promoted : (r : List ℕ) (qs : List Claim) (t : Table) → IsSound t → queue t r ≡ qs → IsPromoted r t (granted_front qs t)
+granted_front-promoted r [] t i e = record { follows = follows-refl t i; elsewhere = λ x n h. h; there = λ q qs f. let g = sym e ∙ f in absurd (cc) }
+granted_front-promoted r (q ∷ qs) t i e = go (fits t q.session q.resource q.mode) refl (λ j f. granted_front-promoted r qs (granted q.session q.resource q.mode t) j f)
+  where
+    request : (request_of q.session t.waits ≡ Some q) × (same_path q.resource r ≡ true)
+    request = head-request t r q qs i.once e
+
+    path : q.resource ≡ r
+    path = same_path-true q.resource r request.1
+
+    go : (b : Bool) → fits t q.session q.resource q.mode ≡ b
+        → (IsSound (granted q.session q.resource q.mode t) → queue (granted q.session q.resource q.mode t) r ≡ qs → IsPromoted r (granted q.session q.resource q.mode t) (granted_front qs (granted q.session q.resource q.mode t)))
+        → IsPromoted r t (cond b (granted_front qs (granted q.session q.resource q.mode t)) t)
+    go false f next = record {
+      follows = follows-refl t i;
+      elsewhere = λ x n h. h;
+      there = λ p ps g. let same : q ≡ p = let k = sym e ∙ g in cc in ap (λ (c : Claim). fits t c.session r c.mode) (sym same) ∙ (ap (λ (y : List ℕ). fits t q.session y q.mode) (sym path) ∙ f);
+    }
+    go true f next =
+        let first = granted-follows q.session q.resource q.mode t i (none-below (held_mode t q.session q.resource) q.mode (i.fresh q.session q request.0)) f in
+        let rest = next first.sound (queue-rest t (granted q.session q.resource q.mode t) r q qs i.once e (granted-alters q.session q.resource q.mode t)) in
+        record {
+          follows = follows-trans t (granted q.session q.resource q.mode t) (granted_front qs (granted q.session q.resource q.mode t)) first rest.follows;
+          elsewhere = λ x n h. rest.elsewhere x n
+              (unfit_at-alters q.session t (granted q.session q.resource q.mode t) x (granted-alters q.session q.resource q.mode t) (first.rises q.session x)
+              (λ p g. let same : q ≡ p = let k = sym request.0 ∙ g in cc in ap (λ (c : Claim). same_path c.resource x) (sym same) ∙ (ap (λ (y : List ℕ). same_path y x) path ∙ n)) i h);
+          there = rest.there;
+        }
+
+pub promoted-promoted : (r : List ℕ) (t : Table) → IsSound t → IsPromoted r t (promoted r t)
+promoted-promoted r t i = granted_front-promoted r (queue t r) t i refl
+
+abbrev pub among : List (List ℕ) → List ℕ → Bool
+among rs x = list_any (λ r. same_path r x) rs
+
+pub record ArePromoted (rs : List (List ℕ)) (t t' : Table) : Type 0 where
+  pub follows : Follows t t'
+  pub unfit : ((x : List ℕ) → among rs x ≡ false → UnfitAt t x) → (x : List ℕ) → UnfitAt t' x
+
+pub all-promoted : (rs : List (List ℕ)) (t : Table) → IsSound t → ArePromoted rs t (promoted_all rs t)
+all-promoted [] t i = record { follows = follows-refl t i; unfit = λ h x. h x refl }
+all-promoted (r ∷ rs) t i =
+    let first = promoted-promoted r t i in
+    let rest = all-promoted rs (promoted r t) first.follows.sound in
+    record {
+      follows = follows-trans t (promoted r t) (promoted_all rs (promoted r t)) first.follows rest.follows;
+      unfit = λ h. rest.unfit (λ x n. elim (same_path_tells r x) [
+        | inl p ↦ rw (← p.1) first.there
+        | inr m ↦ first.elsewhere x m (h x (neither (same_path r x) (among rs x) m n))
+      ]);
+    }
+  where
+    neither : (a b : Bool) → a ≡ false → b ≡ false → (a || b) ≡ false
+    neither true b h k = h
+    neither false b h k = k

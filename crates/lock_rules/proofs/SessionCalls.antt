@@ -1,0 +1,136 @@
+-- The calls of one session in a history.
+use Rattle.std.proofs.Common.{◌≡◌, ℕ, zero, suc, ◌+◌, ◌<◌, ◌≤◌, Bool, true, false, cond, eqb, ◌⊎◌, inl, inr, List, [], ◌∷◌, ◌++◌, length, Some, refl, ◌∙◌, ap, arith, slice_get, slice_index_or, Contains}
+use Rattle.std.proofs.lemmas.Bool.Decides.{Decides-eqb}
+use Rattle.lock_rules.specs.declared.calls.Entry.{Entry}
+use Rattle.lock_rules.specs.Legal.{Answered, calls_from, calls_of}
+use Rattle.lock_rules.specs.Laws.{IsEntryOf, ArePlacesRising}
+
+abbrev answer : ℕ → Entry → Answered
+answer place e = record { place = place; call = e.call; reply = e.reply }
+
+-- one more entry
+
+abbrev pub last_call : ℕ → ℕ → Entry → List Answered
+last_call s place e = cond (eqb e.session s) (answer place e ∷ []) []
+
+same-append : (b : Bool) (x : Answered) (xs ys : List Answered) → cond b (x ∷ (xs ++ ys)) (xs ++ ys) ≡ cond b (x ∷ xs) xs ++ ys
+same-append true x xs ys = refl
+same-append false x xs ys = refl
+
+calls_from-push : (s place : ℕ) (es : List Entry) (e : Entry) → calls_from s place (es ++ e ∷ []) ≡ calls_from s place es ++ last_call s (place + length es) e
+calls_from-push s place [] e = let z : place ≡ place + 0 = omega arith in ap (λ (p : ℕ). last_call s p e) z
+calls_from-push s place (f ∷ es) e =
+    let n : place + 1 + length es ≡ place + suc (length es) = omega arith in
+    let next : calls_from s (place + 1) (es ++ e ∷ []) ≡ calls_from s (place + 1) es ++ last_call s (place + suc (length es)) e
+    = calls_from-push s (place + 1) es e ∙ ap (λ (p : ℕ). calls_from s (place + 1) es ++ last_call s p e) n in
+    ap (λ (xs : List Answered). cond (eqb f.session s) (answer place f ∷ xs) xs) next
+    ∙ same-append (eqb f.session s) (answer place f) (calls_from s (place + 1) es) (last_call s (place + suc (length es)) e)
+
+pub calls_of-push : (s : ℕ) (es : List Entry) (e : Entry) → calls_of s (es ++ e ∷ []) ≡ calls_of s es ++ last_call s (length es) e
+calls_of-push s es e = calls_from-push s 0 es e ∙ ap (λ (p : ℕ). calls_of s es ++ last_call s p e) (let z : 0 + length es ≡ length es = omega arith in z)
+
+-- the places rise
+
+abbrev StartsAt : ℕ → List Answered → Type 0
+StartsAt place [] = Unit {0}
+StartsAt place (a ∷ rest) = place ≤ a.place
+
+starts : (s place : ℕ) (es : List Entry) → StartsAt place (calls_from s place es)
+starts s place [] = tt
+starts s place (e ∷ es) = go (eqb e.session s) (starts s (place + 1) es)
+  where
+    later : (xs : List Answered) → StartsAt (place + 1) xs → StartsAt place xs
+    later [] h = tt
+    later (a ∷ xs) h = omega (arith, h)
+
+    go : (b : Bool) → StartsAt (place + 1) (calls_from s (place + 1) es) → StartsAt place (cond b (answer place e ∷ calls_from s (place + 1) es) (calls_from s (place + 1) es))
+    go true h = omega arith
+    go false h = later (calls_from s (place + 1) es) h
+
+rising-from : (s place : ℕ) (es : List Entry) → ArePlacesRising (calls_from s place es)
+rising-from s place [] = tt
+rising-from s place (e ∷ es) = go (eqb e.session s) (rising-from s (place + 1) es)
+  where
+    put_first : (xs : List Answered) → StartsAt (place + 1) xs → ArePlacesRising xs → ArePlacesRising (answer place e ∷ xs)
+    put_first [] h k = tt
+    put_first (a ∷ xs) h k = (omega (arith, h), k)
+
+    go : (b : Bool) → ArePlacesRising (calls_from s (place + 1) es) → ArePlacesRising (cond b (answer place e ∷ calls_from s (place + 1) es) (calls_from s (place + 1) es))
+    go true h = put_first (calls_from s (place + 1) es) (starts s (place + 1) es) h
+    go false h = h
+
+pub rising : (s : ℕ) (es : List Entry) → ArePlacesRising (calls_of s es)
+rising s es = rising-from s 0 es
+
+-- the members are the entries of the session
+
+abbrev In : Answered → List Answered → Type 0
+In a [] = ⊥
+In a (x ∷ xs) = (x ≡ a) ⊎ In a xs
+
+contains-in : (a : Answered) (xs : List Answered) → Contains xs a → In a xs
+contains-in a [] h = let n = h.1 in absurd (omega (arith, n))
+contains-in a (x ∷ xs) h = at (contains-in a xs) h.0 h.1 h.2
+  where
+    at : (Contains xs a → In a xs) → (k : ℕ) → k < length (x ∷ xs) → slice_index_or (x ∷ xs) k a ≡ a → In a (x ∷ xs)
+    at next zero l e = inl e
+    at next (suc k) l e = inr (next (k, omega (arith, l), e))
+
+in-contains : (a : Answered) (xs : List Answered) → In a xs → Contains xs a
+in-contains a [] h = absurd h
+in-contains a (x ∷ xs) h = elim h [
+  | inl e ↦ (0, omega arith, e)
+  | inr i ↦ let r = in-contains a xs i in (suc r.0, omega (arith, r.1), r.2)
+]
+
+abbrev entry_of : ℕ → Answered → Entry
+entry_of s a = record { session = s; call = a.call; reply = a.reply }
+
+-- the entry so many after this place is the answered call
+abbrev IsAfter : ℕ → ℕ → List Entry → Answered → Type 0
+IsAfter s place es a = (k : ℕ) × (a.place ≡ place + k) × (slice_get es k ≡ Some (entry_of s a))
+
+in-entry : (s place : ℕ) (es : List Entry) (a : Answered) → In a (calls_from s place es) → IsAfter s place es a
+in-entry s place [] a h = absurd h
+in-entry s place (e ∷ es) a h = go (λ i. later (in-entry s (place + 1) es a i)) (eqb e.session s) refl h
+  where
+    later : IsAfter s (place + 1) es a → IsAfter s place (e ∷ es) a
+    later r = (suc r.0, omega (arith, r.1), r.2)
+
+    here : e.session ≡ s → answer place e ≡ a → IsAfter s place (e ∷ es) a
+    here f g =
+        let p : place ≡ a.place = ap (λ (x : Answered). x.place) g in
+        (0, omega (arith, p), ap Some (ap (λ (n : ℕ). entry_of n (answer place e)) f ∙ ap (entry_of s) g))
+
+    go : (In a (calls_from s (place + 1) es) → IsAfter s place (e ∷ es) a) → (b : Bool) → eqb e.session s ≡ b
+        → In a (cond b (answer place e ∷ calls_from s (place + 1) es) (calls_from s (place + 1) es)) → IsAfter s place (e ∷ es) a
+    go next true f (inl g) = here ((Decides-eqb e.session s).0 f) g
+    go next true f (inr i) = next i
+    go next false f i = next i
+
+in-later : (b : Bool) (x a : Answered) (xs : List Answered) → In a xs → In a (cond b (x ∷ xs) xs)
+in-later true x a xs h = inr h
+in-later false x a xs h = h
+
+in-here : (b : Bool) (x a : Answered) (xs : List Answered) → b ≡ true → x ≡ a → In a (cond b (x ∷ xs) xs)
+in-here true x a xs h e = inl e
+in-here false x a xs h e = absurd (cc)
+
+entry-in : (s place : ℕ) (es : List Entry) (a : Answered) (k : ℕ) → a.place ≡ place + k → slice_get es k ≡ Some (entry_of s a) → In a (calls_from s place es)
+entry-in s place [] a k p h = absurd (cc)
+entry-in s place (e ∷ es) a zero p h =
+    let same : e ≡ entry_of s a = cc in
+    let q : place ≡ a.place = omega (arith, p) in
+    in-here (eqb e.session s) (answer place e) a (calls_from s (place + 1) es) ((Decides-eqb e.session s).1 (ap (λ (x : Entry). x.session) same)) (ap (answer place) same ∙ ap (λ (n : ℕ). answer n (entry_of s a)) q)
+entry-in s place (e ∷ es) a (suc k) p h =
+    let q : a.place ≡ place + 1 + k = omega (arith, p) in
+    in-later (eqb e.session s) (answer place e) a (calls_from s (place + 1) es) (entry-in s (place + 1) es a k q h)
+
+pub contains-entry : (s : ℕ) (es : List Entry) (a : Answered) → Contains (calls_of s es) a → IsEntryOf s es a
+contains-entry s es a h =
+    let r = in-entry s 0 es a (contains-in a (calls_of s es) h) in
+    let p : a.place ≡ r.0 = omega (arith, r.1) in
+    ap (slice_get es) p ∙ r.2
+
+pub entry-contains : (s : ℕ) (es : List Entry) (a : Answered) → IsEntryOf s es a → Contains (calls_of s es) a
+entry-contains s es a h = let p : a.place ≡ 0 + a.place = omega arith in in-contains a (calls_of s es) (entry-in s 0 es a a.place p h)

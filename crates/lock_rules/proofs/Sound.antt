@@ -1,0 +1,209 @@
+-- What holds of every table between two calls, and how a change of one session keeps it.
+use Rattle.std.proofs.Common.{◌≡◌, ℕ, ◌≤◌, Bool, true, false, cond, not, eqb, ◌&&◌, ◌||◌, ◌⊎◌, inl, inr, List, [], ◌∷◌, Option, Some, None, refl, sym, ◌∙◌, ap, arith}
+use Rattle.std.specs.Prelude.{filter, is_some}
+use Rattle.std.specs.List.{list_all}
+use Rattle.std.proofs.lemmas.Bool.Decides.{nat_tests, Decides-eqb}
+use Rattle.std.proofs.lemmas.Bool.{and_parts}
+use Rattle.lock_modes.specs.declared.Mode.{Mode}
+use Rattle.lock_modes.specs.Order.{at_or_below}
+use Rattle.lock_modes.specs.Compatibility.{are_compatible}
+use Rattle.lock_tree.specs.Paths.{same_path}
+use Rattle.lock_rules.specs.State.{Claim, Table, mode_in, held_mode, request_of, claims_but, holders}
+use Rattle.lock_rules.specs.Queue.{queue, fits, granted}
+use Rattle.lock_rules.proofs.Lists.{IsOrdered, ordered-with_lock, seek, seek-after, mode_in-seek, ascend, after, bool_cases, eqb-refl, same_path_tells, mode_in-with_lock, mode_in-with_lock_path, mode_in-with_lock_other, IsOnce, times, times-claims_but, times-append, times-apart, In, In-append, In-filter, In-request}
+use Rattle.lock_rules.proofs.Marks.{mode_or_nothing, conflicts, below-refl, conflicts-raised, nothing-below}
+use Rattle.lock_rules.proofs.Alters.{Alters, queue-alters, request-alters, request-gone, true≢false}
+
+-- one order at least is compatible
+abbrev pub Agree : Mode → Mode → Type 0
+Agree a b = (are_compatible a b ≡ true) ⊎ (are_compatible b a ≡ true)
+
+pub Agree-swap : (a b : Mode) → Agree a b → Agree b a
+Agree-swap a b h = elim h [ inl k ↦ inr k | inr k ↦ inl k ]
+
+-- holders ascend; a session has one request at most, and holds nothing where it waits; holders of one resource go together
+pub record IsSound (t : Table) : Type 0 where
+  pub order : IsOrdered t.held
+  pub once : IsOnce t.waits
+  pub fresh : (s : ℕ) (q : Claim) → request_of s t.waits ≡ Some q → held_mode t s q.resource ≡ None
+  pub agree : (s u : ℕ) (r : List ℕ) (k l : Mode) → eqb s u ≡ false → held_mode t s r ≡ Some k → held_mode t u r ≡ Some l → Agree k l
+
+pub eqb-swap : (s u : ℕ) → eqb s u ≡ false → eqb u s ≡ false
+eqb-swap s u h = grind (arith, nat_tests)
+
+pub altered-sound : (v : ℕ) (t t' : Table) → Alters v t t' → IsSound t
+    → ((u : ℕ) (r : List ℕ) (k l : Mode) → eqb u v ≡ false → held_mode t' v r ≡ Some k → held_mode t u r ≡ Some l → Agree k l)
+    → IsSound t'
+altered-sound v t t' a i agree = record {
+  order = a.order i.order;
+  once = λ s. omega (arith, times-claims_but s v t.waits, i.once s, ap (times s) a.waits);
+  fresh = λ s q e. elim (bool_cases (eqb s v)) [
+    | inl f ↦ absurd (gone s q e ((Decides-eqb s v).0 f))
+    | inr n ↦ a.others s q.resource n ∙ i.fresh s q (sym (request-alters v t t' a s n) ∙ e)
+  ];
+  agree = λ s u r k l n e f. elim (bool_cases (eqb s v)) [
+    | inl g ↦ let h = (Decides-eqb s v).0 g in
+        let m = eqb-swap v u (rw h at n) in
+        agree u r k l m (rw h at e) (sym (a.others u r m) ∙ f)
+    | inr m ↦ elim (bool_cases (eqb u v)) [
+      | inl g ↦ let h = (Decides-eqb u v).0 g in Agree-swap l k (agree s r l k m (rw h at f) (sym (a.others s r m) ∙ e))
+      | inr p ↦ i.agree s u r k l n (sym (a.others s r m) ∙ e) (sym (a.others u r p) ∙ f)
+    ]
+  ];
+}
+  where
+    gone : (s : ℕ) (q : Claim) → request_of s t'.waits ≡ Some q → s ≡ v → ⊥
+    gone s q e f = let g = request-gone v t t' a in cc
+
+-- what fits, and what doesn't
+
+fits-each : (s : ℕ) (m : Mode) (hs : List (ℕ × Mode)) → list_all (λ h. eqb h.0 s || are_compatible m h.1) hs ≡ true → (u : ℕ) (k : Mode) → eqb u s ≡ false → seek u hs ≡ Some k → are_compatible m k ≡ true
+fits-each s m [] h u k n e = absurd (cc)
+fits-each s m (c ∷ hs) h u k n e = grind (arith, nat_tests, bool_cases (are_compatible m c.1), fits-each s m hs)
+
+pub fits-tells : (t : Table) (s : ℕ) (r : List ℕ) (m : Mode) → fits t s r m ≡ true → (u : ℕ) → eqb u s ≡ false → conflicts m (held_mode t u r) ≡ false
+fits-tells t s r m h u n = go (mode_in u r t.held) refl
+  where
+    go : (o : Option Mode) → mode_in u r t.held ≡ o → conflicts m (mode_in u r t.held) ≡ false
+    go None e = ap (conflicts m) e
+    go (Some k) e = ap (conflicts m) e ∙ ap not (fits-each s m (holders r t.held) h u k n (sym (mode_in-seek u r t.held) ∙ e))
+
+unfit-each : (s : ℕ) (m : Mode) (hs : List (ℕ × Mode)) → list_all (λ h. eqb h.0 s || are_compatible m h.1) hs ≡ false → ascend hs ≡ true → (u : ℕ) × (eqb u s ≡ false) × (conflicts m (seek u hs) ≡ true)
+unfit-each s m [] h a = absurd (cc)
+unfit-each s m (c ∷ hs) h a = elim (bool_cases (eqb c.0 s || are_compatible m c.1)) [
+  | inl e ↦
+      let w = unfit-each s m hs (later _ _ e h) p.1 in
+      (w.0, w.1, beyond w.0 w.2 (bool_cases (eqb c.0 w.0)))
+  | inr e ↦ let q = neither (eqb c.0 s) (are_compatible m c.1) e in (c.0, q.0, ap (λ (b : Bool). conflicts m (cond b (Some c.1) (seek c.0 hs))) (eqb-refl c.0) ∙ ap not q.1)
+]
+  where
+    p : (after c.0 hs ≡ true) × (ascend hs ≡ true)
+    p = and_parts (after c.0 hs) (ascend hs) a
+
+    later : (x y : Bool) → x ≡ true → (x && y) ≡ false → y ≡ false
+    later true y e h = h
+    later false y e h = cc
+
+    neither : (x y : Bool) → (x || y) ≡ false → (x ≡ false) × (y ≡ false)
+    neither true y e = cc
+    neither false true e = cc
+    neither false false e = (refl, refl)
+
+    beyond : (u : ℕ) → conflicts m (seek u hs) ≡ true → (eqb c.0 u ≡ true) ⊎ (eqb c.0 u ≡ false) → conflicts m (cond (eqb c.0 u) (Some c.1) (seek u hs)) ≡ true
+    beyond u k (inl e) = let f = ap (λ (i : ℕ). conflicts m (seek i hs)) (sym ((Decides-eqb c.0 u).0 e)) ∙ ap (conflicts m) (seek-after c.0 hs p.0) in absurd (true≢false k f)
+    beyond u k (inr e) = ap (λ (b : Bool). conflicts m (cond b (Some c.1) (seek u hs))) e ∙ k
+
+pub unfit-some : (t : Table) → IsOrdered t.held → (s : ℕ) (r : List ℕ) (m : Mode) → fits t s r m ≡ false → (u : ℕ) × (eqb u s ≡ false) × (conflicts m (held_mode t u r) ≡ true)
+unfit-some t o s r m h = let w = unfit-each s m (holders r t.held) h (o r) in (w.0, w.1, ap (conflicts m) (mode_in-seek w.0 r t.held) ∙ w.2)
+
+pub unfit-kept : (v : ℕ) (t t' : Table) → Alters v t t' → IsOrdered t.held → (x : List ℕ) → at_or_below (mode_or_nothing (held_mode t v x)) (mode_or_nothing (held_mode t' v x)) ≡ true → (s : ℕ) (m : Mode) → fits t s x m ≡ false → fits t' s x m ≡ false
+unfit-kept v t t' a o x up s m h = elim (bool_cases (fits t' s x m)) [
+  | inr k ↦ k
+  | inl k ↦ let w = unfit-some t o s x m h in absurd (true≢false (conflict w.0 w.2 (bool_cases (eqb w.0 v))) (fits-tells t' s x m k w.0 w.1))
+]
+  where
+    conflict : (u : ℕ) → conflicts m (mode_in u x t.held) ≡ true → (eqb u v ≡ true) ⊎ (eqb u v ≡ false) → conflicts m (mode_in u x t'.held) ≡ true
+    conflict u k c = elim c [
+      | inl e ↦ let f = (Decides-eqb u v).0 e in rw f (conflicts-raised m (mode_in v x t.held) (mode_in v x t'.held) up (rw f at k))
+      | inr n ↦ ap (conflicts m) (a.others u x n) ∙ k
+    ]
+
+-- queues
+
+pub In-queue : (t : Table) (x : List ℕ) (h : Claim) → In h (queue t x) → In h t.waits × (same_path h.resource x ≡ true)
+In-queue t x h i = elim (In-append h _ _ i) [
+  | inl j ↦ let r = In-filter (λ q. same_path q.resource x && is_some (held_mode t q.session x)) h t.waits j in (r.0, (and_parts (same_path h.resource x) (is_some (held_mode t h.session x)) r.1).0)
+  | inr j ↦ let r = In-filter (λ q. same_path q.resource x && not (is_some (held_mode t q.session x))) h t.waits j in (r.0, (and_parts (same_path h.resource x) (not (is_some (held_mode t h.session x))) r.1).0)
+]
+
+pub head-request : (t : Table) (x : List ℕ) (h : Claim) (hs : List Claim) → IsOnce t.waits → queue t x ≡ h ∷ hs → (request_of h.session t.waits ≡ Some h) × (same_path h.resource x ≡ true)
+head-request t x h hs o e =
+    let i = In-queue t x h (rw e (inl refl)) in
+    (In-request h t.waits (o h.session) i.0, i.1)
+
+either-kind : (b c : Bool) → (b && c) ≡ true → (b && not c) ≡ false
+either-kind true true h = refl
+either-kind true false h = cc
+either-kind false c h = refl
+
+times-queue : (t : Table) (x : List ℕ) (s : ℕ) → times s (queue t x) ≤ times s t.waits
+times-queue t x s = omega (
+  arith,
+  times-append s (filter (λ q. same_path q.resource x && is_some (held_mode t q.session x)) t.waits) (filter (λ q. same_path q.resource x && not (is_some (held_mode t q.session x))) t.waits),
+  times-apart s (λ q. same_path q.resource x && is_some (held_mode t q.session x)) (λ q. same_path q.resource x && not (is_some (held_mode t q.session x))) t.waits (λ q h. either-kind (same_path q.resource x) (is_some (held_mode t q.session x)) h),
+)
+
+claims_but-absent : (s : ℕ) (qs : List Claim) → times s qs ≡ 0 → claims_but s qs ≡ qs
+claims_but-absent s [] h = refl
+claims_but-absent s (q ∷ qs) h = grind (arith, nat_tests, claims_but-absent s qs)
+
+claims_but-head : (q : Claim) (qs : List Claim) → times q.session (q ∷ qs) ≤ 1 → claims_but q.session (q ∷ qs) ≡ qs
+claims_but-head q qs h = grind (arith, nat_tests, claims_but-absent q.session qs)
+
+-- once the head of a queue is gone, the rest is the queue
+pub queue-rest : (t t' : Table) (r : List ℕ) (q : Claim) (qs : List Claim) → IsOnce t.waits → queue t r ≡ q ∷ qs → Alters q.session t t' → queue t' r ≡ qs
+queue-rest t t' r q qs o e a =
+    queue-alters q.session t t' a r ∙ (ap (claims_but q.session) e ∙ claims_but-head q qs (omega (arith, times-queue t r q.session, o q.session, ap (times q.session) e)))
+
+-- nobody waits needlessly
+
+abbrev pub UnfitAt : Table → List ℕ → Type 0
+UnfitAt t x = (q : Claim) (qs : List Claim) → queue t x ≡ q ∷ qs → fits t q.session x q.mode ≡ false
+
+same-head : (v : ℕ) (t t' : Table) (x : List ℕ) → Alters v t t' → ((q : Claim) → request_of v t.waits ≡ Some q → same_path q.resource x ≡ false) → IsOnce t.waits
+    → (q : Claim) (qs : List Claim) → queue t' x ≡ q ∷ qs → (old : List Claim) → queue t x ≡ old → (hs : List Claim) × (queue t x ≡ q ∷ hs)
+same-head v t t' x a apart o q qs e [] f = let g = queue-alters v t t' a x ∙ ap (claims_but v) f in absurd (cc)
+same-head v t t' x a apart o q qs e (h ∷ hs) f = elim (bool_cases (eqb h.session v)) [
+  | inl k ↦
+      let r = head-request t x h hs o f in
+      absurd (true≢false r.1 (apart h (ap (λ (i : ℕ). request_of i t.waits) (sym ((Decides-eqb h.session v).0 k)) ∙ r.0)))
+  | inr k ↦
+      let g = sym e ∙ (queue-alters v t t' a x ∙ (ap (claims_but v) f ∙ ap (λ (b : Bool). cond (not b) (h ∷ claims_but v hs) (claims_but v hs)) k)) in
+      let same : h ≡ q = cc in
+      (hs, f ∙ ap (λ (c : Claim). c ∷ hs) same)
+]
+
+pub unfit_at-alters : (v : ℕ) (t t' : Table) (x : List ℕ) → Alters v t t' → at_or_below (mode_or_nothing (held_mode t v x)) (mode_or_nothing (held_mode t' v x)) ≡ true
+    → ((q : Claim) → request_of v t.waits ≡ Some q → same_path q.resource x ≡ false) → IsSound t → UnfitAt t x → UnfitAt t' x
+unfit_at-alters v t t' x a up apart i h q qs e =
+    let old = same-head v t t' x a apart i.once q qs e (queue t x) refl in
+    unfit-kept v t t' a i.order x up q.session q.mode (h q old.0 old.1)
+
+-- a grant
+
+pub granted-alters : (s : ℕ) (r : List ℕ) (m : Mode) (t : Table) → Alters s t (granted s r m t)
+granted-alters s r m t = record { waits = refl; others = λ u x n. mode_in-with_lock_other u s x r m t.held n; order = ordered-with_lock s r m t.held }
+
+abbrev pub Rises : Table → Table → Type 0
+Rises t t' = (s : ℕ) (x : List ℕ) → at_or_below (mode_or_nothing (held_mode t s x)) (mode_or_nothing (held_mode t' s x)) ≡ true
+
+pub same-rises : (a b : Option Mode) → b ≡ a → at_or_below (mode_or_nothing a) (mode_or_nothing b) ≡ true
+same-rises a b e = rw e (below-refl (mode_or_nothing a))
+
+pub granted-rises : (s : ℕ) (r : List ℕ) (m : Mode) (t : Table) → at_or_below (mode_or_nothing (held_mode t s r)) m ≡ true → Rises t (granted s r m t)
+granted-rises s r m t h u x = elim (bool_cases (eqb u s)) [
+  | inr n ↦ same-rises _ _ (mode_in-with_lock_other u s x r m t.held n)
+  | inl e ↦ let f = (Decides-eqb u s).0 e in elim (same_path_tells r x) [
+    | inr n ↦ same-rises _ _ (mode_in-with_lock_path u s x r m t.held n)
+    | inl p ↦ let g = sym p.1 in rw (f, g) (ap (λ (o : Option Mode). at_or_below (mode_or_nothing (mode_in s r t.held)) (mode_or_nothing o)) (mode_in-with_lock s r m t.held) ∙ h)
+  ]
+]
+
+pub granted-sound : (s : ℕ) (r : List ℕ) (m : Mode) (t : Table) → IsSound t → fits t s r m ≡ true → IsSound (granted s r m t)
+granted-sound s r m t i fit = altered-sound s t (granted s r m t) (granted-alters s r m t) i
+    (λ u x k l n e f. elim (same_path_tells r x) [
+      | inl p ↦ let g = sym p.1 in let f2 = sym (mode_in-with_lock s r m t.held) ∙ rw g at e in let same : m ≡ k = cc in
+          inl (rw (← same) (compatible m l (ap (conflicts m) (sym (rw g at f)) ∙ fits-tells t s r m fit u n)))
+      | inr n2 ↦ i.agree s u x k l (eqb-swap u s n) (sym (mode_in-with_lock_path s s x r m t.held n2) ∙ e) f
+    ])
+  where
+    compatible : (m l : Mode) → not (are_compatible m l) ≡ false → are_compatible m l ≡ true
+    compatible m l h = flip (are_compatible m l) h
+      where
+        flip : (x : Bool) → not x ≡ false → x ≡ true
+        flip true e = refl
+        flip false e = cc
+
+-- a request waits where its session holds nothing, so its grant only adds
+pub none-below : (o : Option Mode) (k : Mode) → o ≡ None → at_or_below (mode_or_nothing o) k ≡ true
+none-below o k e = ap (λ (p : Option Mode). at_or_below (mode_or_nothing p) k) e ∙ nothing-below k

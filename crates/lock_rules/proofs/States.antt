@@ -1,0 +1,65 @@
+-- The laws of states, in the words of the contracts.
+use Rattle.std.proofs.Common.{◌≡◌, ◌≢◌, ℕ, Bool, true, false, not, eqb, inl, inr, List, Option, Some, None, refl, sym, ◌∙◌, ap}
+use Rattle.std.proofs.lemmas.Bool.Decides.{Decides-eqb}
+use Rattle.lock_modes.specs.declared.Mode.{Mode}
+use Rattle.lock_modes.specs.Compatibility.{IsCompatible, are_compatible}
+use Rattle.lock_modes.proofs.Compatibility.{compatible-from, compatible-tests}
+use Rattle.lock_rules.specs.declared.calls.Entry.{Entry}
+use Rattle.lock_tree.specs.Paths.{same_path}
+use Rattle.lock_rules.specs.State.{Table, State, held_mode}
+use Rattle.lock_rules.specs.Queue.{fits, granted}
+use Rattle.lock_rules.specs.Legal.{state_of}
+use Rattle.lock_rules.specs.Laws.{DoesFitTell, AreHoldersCompatible, IsLawfulState, IsGrantOf}
+use Rattle.lock_rules.proofs.Lists.{bool_cases, same_path_tells, mode_in-with_lock, mode_in-with_lock_path, mode_in-with_lock_other, request_of-claims_but, request_of-claims_but_other}
+use Rattle.lock_rules.proofs.Alters.{true≢false}
+use Rattle.lock_rules.proofs.Marks.{conflicts}
+use Rattle.lock_rules.proofs.Sound.{IsSound, fits-tells, unfit-some}
+use Rattle.lock_rules.proofs.Steps.{state-lawful}
+
+other : (s u : ℕ) → u ≢ s → eqb u s ≡ false
+other s u n = elim (bool_cases (eqb u s)) [ inl e ↦ absurd (n ((Decides-eqb u s).0 e)) | inr e ↦ e ]
+
+apart : (s u : ℕ) → eqb u s ≡ false → u ≢ s
+apart s u e h = true≢false ((Decides-eqb u s).1 h) e
+
+flip : (b : Bool) → not b ≡ false → b ≡ true
+flip true e = refl
+flip false e = cc
+
+pub fit-tells : (st : State) → IsSound st.table → DoesFitTell st
+fit-tells st i s r m = (told, fit)
+  where
+    told : fits st.table s r m ≡ true → (u : ℕ) (k : Mode) → u ≢ s → held_mode st.table u r ≡ Some k → IsCompatible m k
+    told h u k n e = compatible-from m k (flip (are_compatible m k) (ap (conflicts m) (sym e) ∙ fits-tells st.table s r m h u (other s u n)))
+
+    clash : (o : Option Mode) → conflicts m o ≡ true → ((k : Mode) → o ≡ Some k → IsCompatible m k) → ⊥
+    clash None c h = absurd (cc)
+    clash (Some k) c h = true≢false c (ap not (compatible-tests m k (h k refl)))
+
+    fit : ((u : ℕ) (k : Mode) → u ≢ s → held_mode st.table u r ≡ Some k → IsCompatible m k) → fits st.table s r m ≡ true
+    fit h = elim (bool_cases (fits st.table s r m)) [
+      | inl e ↦ e
+      | inr e ↦ let w = unfit-some st.table i.order s r m e in absurd (clash (held_mode st.table w.0 r) w.2 (λ k f. h w.0 k (apart s w.0 w.1) f))
+    ]
+
+pub holders-compatible : (st : State) → IsSound st.table → AreHoldersCompatible st
+holders-compatible st i s u r k l n e f = elim (i.agree s u r k l (other u s n) e f) [ inl h ↦ inl (compatible-from k l h) | inr h ↦ inr (compatible-from l k h) ]
+
+differs : (a b : List ℕ) → a ≢ b → same_path b a ≡ false
+differs a b n = elim (same_path_tells b a) [ inl p ↦ absurd (n (sym p.1)) | inr e ↦ e ]
+
+pub grant-one : (s : ℕ) (r : List ℕ) (m : Mode) (t : Table) → IsGrantOf s r m t (granted s r m t)
+grant-one s r m t = record {
+  held = mode_in-with_lock s r m t.held;
+  elsewhere = λ x n. mode_in-with_lock_path s s x r m t.held (differs x r n);
+  others_hold = λ u x n. mode_in-with_lock_other u s x r m t.held (other s u n);
+  waits_no_more = request_of-claims_but s t.waits;
+  others_wait = λ u n. request_of-claims_but_other u s t.waits (other s u n);
+}
+
+pub lawful : (es : List Entry) → IsLawfulState (state_of es)
+lawful es = let i = state-lawful es in record {
+  fit_tells = fit-tells (state_of es) i.sound;
+  holders_compatible = holders-compatible (state_of es) i.sound;
+  nobody_waits_needlessly = i.unfit;
+}

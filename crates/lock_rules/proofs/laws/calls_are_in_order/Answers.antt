@@ -1,0 +1,11 @@
+use Rattle.lock_rules.proofs.SessionCalls.{contains-entry, entry-contains, rising, calls_of-push}
+use Rattle.lock_rules.proofs.laws.calls_are_in_order.Goals as goal
+
+pub returns-clause-entries : goal.returns-clause-entries
+returns-clause-entries c = λ s es a. (contains-entry s es a, entry-contains s es a)
+
+pub returns-clause-rising : goal.returns-clause-rising
+returns-clause-rising c = rising
+
+pub returns-clause-one_more : goal.returns-clause-one_more
+returns-clause-one_more c = calls_of-push

@@ -1,0 +1,5 @@
+use Rattle.lock_rules.proofs.States.{lawful}
+use Rattle.lock_rules.proofs.laws.nobody_waits_needlessly.Goals as goal
+
+pub returns : goal.returns
+returns c = λ es. (lawful es).nobody_waits_needlessly

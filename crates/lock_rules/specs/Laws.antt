@@ -1,0 +1,94 @@
+-- What holds of every history and of every state that one leads to, in plain words.
+use Rattle.std.specs.Prelude.{◌≡◌, ◌≢◌, ℕ, ◌<◌, ◌≤◌, ◌↔◌, true, false, ◌⊎◌, None, List, [], ◌∷◌, ◌++◌, length, Some, slice_get}
+use Rattle.lock_modes.specs.declared.Mode.{Mode}
+use Rattle.lock_modes.specs.Compatibility.{IsCompatible}
+use Rattle.lock_rules.specs.declared.calls.Call.{Call}
+use Rattle.lock_rules.specs.declared.calls.Reply.TheVariants.{Refused}
+use Rattle.lock_rules.specs.declared.calls.Why.{Why}
+use Rattle.lock_rules.specs.declared.calls.Entry.{Entry}
+use Rattle.lock_rules.specs.State.{Claim, Table, State, held_mode, request_of}
+use Rattle.lock_rules.specs.Queue.{queue, fits, granted, promoted}
+use Rattle.lock_rules.specs.Step.{tests, first_failing, step}
+use Rattle.lock_rules.specs.Legal.{state_of, Answered}
+
+-- histories
+
+-- the reply of every entry is the one that the step gives in the state that the entries before it lead to
+abbrev pub AreRepliesOfSteps : List Entry → Type 0
+AreRepliesOfSteps es = (front rest : List Entry) (e : Entry) → es ≡ front ++ e ∷ rest → e.reply ≡ (step (state_of front) e.session e.call).reply
+
+-- an answered call of the session is an entry of the history at its place
+abbrev pub IsEntryOf : ℕ → List Entry → Answered → Type 0
+IsEntryOf s es a = slice_get es a.place ≡ Some (record { session = s; call = a.call; reply = a.reply })
+
+-- the places rise
+abbrev pub ArePlacesRising : List Answered → Type 0
+ArePlacesRising [] = Unit {0}
+ArePlacesRising (a ∷ []) = Unit {0}
+ArePlacesRising (a ∷ b ∷ rest) = (a.place < b.place) × ArePlacesRising (b ∷ rest)
+
+-- refusals
+
+-- a test of the call fails, this one is the first, and nothing is done
+abbrev pub IsRefusalExact : State → Type 0
+IsRefusalExact st = (s : ℕ) (c : Call) (why : Why) → ((step st s c).reply ≡ Refused why) ↔ (first_failing (tests st s c) ≡ Some why)
+
+abbrev pub DoesRefusalKeep : State → Type 0
+DoesRefusalKeep st = (s : ℕ) (c : Call) (why : Why) → (step st s c).reply ≡ Refused why → (step st s c).state ≡ st
+
+-- grants and promotions
+
+-- the session holds the resource in this mode and waits no more; what it holds elsewhere, and all of the others, stays
+pub record IsGrantOf (s : ℕ) (r : List ℕ) (m : Mode) (t t' : Table) : Type 0 where
+  pub held : held_mode t' s r ≡ Some m
+  pub elsewhere : (x : List ℕ) → x ≢ r → held_mode t' s x ≡ held_mode t s x
+  pub others_hold : (u : ℕ) (x : List ℕ) → u ≢ s → held_mode t' u x ≡ held_mode t u x
+  pub waits_no_more : request_of s t'.waits ≡ None
+  pub others_wait : (u : ℕ) → u ≢ s → request_of u t'.waits ≡ request_of u t.waits
+
+-- each of these requests is granted, one after another
+abbrev pub grants : List Claim → Table → Table
+grants [] t = t
+grants (q ∷ qs) t = grants qs (granted q.session q.resource q.mode t)
+
+abbrev pub IsFront : List Claim → List Claim → Type 0
+IsFront front qs = (rest : List Claim) × (qs ≡ front ++ rest)
+
+-- each request of the front fits once those before it are held
+abbrev pub EachFits : Table → List Claim → Type 0
+EachFits t front = (before rest : List Claim) (q : Claim) → front ≡ before ++ q ∷ rest → fits (grants before t) q.session q.resource q.mode ≡ true
+
+-- of the fronts of the resource's queue in which each request fits once those before it are held, this is the longest
+pub record IsLongestFront (t : Table) (r : List ℕ) (front : List Claim) : Type 0 where
+  pub front_of_queue : IsFront front (queue t r)
+  pub each_fits : EachFits t front
+  pub longest : (other : List Claim) → IsFront other (queue t r) → EachFits t other → length other ≤ length front
+
+-- a promotion grants the requests of the longest such front, and no others
+abbrev pub DoesPromotionGrantLongest : Table → Type 0
+DoesPromotionGrantLongest t = (r : List ℕ) → (front : List Claim) × (IsLongestFront t r front × (promoted r t ≡ grants front t))
+
+-- states
+
+-- a mode fits exactly where it is compatible with each mode that another session holds there
+abbrev pub DoesFitTell : State → Type 0
+DoesFitTell st = (s : ℕ) (r : List ℕ) (m : Mode) →
+    (fits st.table s r m ≡ true) ↔ ((u : ℕ) (k : Mode) → u ≢ s → held_mode st.table u r ≡ Some k → IsCompatible m k)
+
+-- two modes go together on one resource where they are compatible in one order at least; today one order says what the other says
+abbrev pub GoTogether : Mode → Mode → Type 0
+GoTogether a b = IsCompatible a b ⊎ IsCompatible b a
+
+-- two holders of one resource have compatible modes
+abbrev pub AreHoldersCompatible : State → Type 0
+AreHoldersCompatible st = (s u : ℕ) (r : List ℕ) (k l : Mode) → s ≢ u → held_mode st.table s r ≡ Some k → held_mode st.table u r ≡ Some l → GoTogether k l
+
+-- nobody waits whose request is the first of its queue and fits
+abbrev pub DoesNobodyWaitNeedlessly : State → Type 0
+DoesNobodyWaitNeedlessly st = (r : List ℕ) (q : Claim) (qs : List Claim) → queue st.table r ≡ q ∷ qs → fits st.table q.session r q.mode ≡ false
+
+-- all laws of a state
+pub record IsLawfulState (st : State) : Type 0 where
+  pub fit_tells : DoesFitTell st
+  pub holders_compatible : AreHoldersCompatible st
+  pub nobody_waits_needlessly : DoesNobodyWaitNeedlessly st

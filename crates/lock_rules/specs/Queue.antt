@@ -1,0 +1,55 @@
+-- Who waits for a resource, what fits beside its holders, and whom a promotion grants.
+use Rattle.std.specs.Prelude.{ℕ, Bool, true, false, not, ◌&&◌, ◌||◌, if◌then◌else◌, ◌==◌, nat_lt, List, [], ◌∷◌, ◌++◌, filter, is_some}
+use Rattle.std.specs.List.{list_all}
+use Rattle.lock_modes.specs.declared.Mode.{Mode}
+use Rattle.lock_modes.specs.Compatibility.{are_compatible}
+use Rattle.lock_tree.specs.Paths.{same_path}
+use Rattle.lock_rules.specs.State.{Claim, Table, held_mode, holders, claims_but}
+
+-- the requests on the resource: those of its holders, which ask for more, before the others, each kind in order of arrival
+abbrev pub queue : Table → List ℕ → List Claim
+queue t r =
+    filter (λ q. same_path q.resource r && is_some (held_mode t q.session r)) t.waits
+    ++ filter (λ q. same_path q.resource r && not (is_some (held_mode t q.session r))) t.waits
+
+abbrev pub is_empty : List Claim → Bool
+is_empty [] = true
+is_empty (q ∷ qs) = false
+
+-- the mode is compatible with what each other session holds on the resource
+abbrev pub fits : Table → ℕ → List ℕ → Mode → Bool
+fits t s r m = list_all (λ h. (h.0 == s) || are_compatible m h.1) (holders r t.held)
+
+-- the session's lock on the resource is this one, and stands by session number
+abbrev pub with_lock : ℕ → List ℕ → Mode → List Claim → List Claim
+with_lock s r m [] = record { session = s; resource = r; mode = m } ∷ []
+with_lock s r m (c ∷ cs) =
+    if same_path c.resource r
+    then (if c.session == s then record { session = s; resource = r; mode = m } ∷ cs
+    else (if nat_lt s c.session then record { session = s; resource = r; mode = m } ∷ c ∷ cs else c ∷ with_lock s r m cs))
+    else c ∷ with_lock s r m cs
+
+-- the session holds the resource in the mode, and waits no more
+abbrev pub granted : ℕ → List ℕ → Mode → Table → Table
+granted s r m t = record { held = with_lock s r m t.held; waits = claims_but s t.waits }
+
+-- a fresh request is granted at once where nothing waits on the resource and it fits, one of a holder wherever it fits
+abbrev pub is_granted : Table → ℕ → List ℕ → Mode → Bool
+is_granted t s r m = fits t s r m && (is_some (held_mode t s r) || is_empty (queue t r))
+
+-- any other request waits
+abbrev pub with_request : ℕ → List ℕ → Mode → Table → Table
+with_request s r m t = record { held = t.held; waits = t.waits ++ record { session = s; resource = r; mode = m } ∷ [] }
+
+-- one request after another is granted, up to the first that doesn't fit
+abbrev pub granted_front : List Claim → Table → Table
+granted_front [] t = t
+granted_front (q ∷ qs) t = if fits t q.session q.resource q.mode then granted_front qs (granted q.session q.resource q.mode t) else t
+
+-- what is done to a resource's queue once a lock or a request there is taken away
+abbrev pub promoted : List ℕ → Table → Table
+promoted r t = granted_front (queue t r) t
+
+abbrev pub promoted_all : List (List ℕ) → Table → Table
+promoted_all [] t = t
+promoted_all (r ∷ rs) t = promoted_all rs (promoted r t)

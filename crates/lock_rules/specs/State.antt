@@ -1,0 +1,72 @@
+-- What a lock manager has in mind between two calls, and what can be looked up there.
+use Rattle.std.specs.Prelude.{ℕ, Bool, ◌&&◌, not, if◌then◌else◌, ◌==◌, List, [], ◌∷◌, filter, Option, Some, None, is_some}
+use Rattle.lock_modes.specs.declared.Mode.{Mode}
+use Rattle.lock_tree.specs.Paths.{same_path}
+
+-- a session with a resource and a mode: a lock that it holds, or a request that waits, with its target
+pub record Claim : Type 0 where
+  pub session : ℕ
+  pub resource : List ℕ
+  pub mode : Mode
+
+-- the locks that are held, those on one resource by session number, and the requests that wait, in order of arrival
+pub record Table : Type 0 where
+  pub held : List Claim
+  pub waits : List Claim
+
+-- an open transaction
+pub record Transaction : Type 0 where
+  pub number : ℕ
+
+-- how many transactions have begun, the open transaction of each session, and the table
+pub record State : Type 0 where
+  pub count : ℕ
+  pub begun : ℕ → Option Transaction
+  pub table : Table
+
+abbrev pub no_locks : Table
+no_locks = record { held = []; waits = [] }
+
+-- before the first call
+abbrev pub empty : State
+empty = record { count = 0; begun = λ s. None; table = no_locks }
+
+-- the mode of the session's claim on the resource
+abbrev pub mode_in : ℕ → List ℕ → List Claim → Option Mode
+mode_in s r [] = None
+mode_in s r (c ∷ cs) = if (c.session == s) && same_path c.resource r then Some c.mode else mode_in s r cs
+
+-- what the session holds on the resource outright
+abbrev pub held_mode : Table → ℕ → List ℕ → Option Mode
+held_mode t s r = mode_in s r t.held
+
+-- the request of the session, of which there is at most one
+abbrev pub request_of : ℕ → List Claim → Option Claim
+request_of s [] = None
+request_of s (q ∷ qs) = if q.session == s then Some q else request_of s qs
+
+-- the holders of the resource with their modes, by session number
+abbrev pub holders : List ℕ → List Claim → List (ℕ × Mode)
+holders r [] = []
+holders r (c ∷ cs) = if same_path c.resource r then (c.session, c.mode) ∷ holders r cs else holders r cs
+
+-- the claims of the session
+abbrev pub claims_of : ℕ → List Claim → List Claim
+claims_of s cs = filter (λ c. c.session == s) cs
+
+-- the claims of all other sessions
+abbrev pub claims_but : ℕ → List Claim → List Claim
+claims_but s cs = filter (λ c. not (c.session == s)) cs
+
+abbrev pub is_open : State → ℕ → Bool
+is_open st s = is_some (st.begun s)
+
+abbrev pub is_waiting : State → ℕ → Bool
+is_waiting st s = is_some (request_of s st.table.waits)
+
+-- the same with this transaction of the session, or with none
+abbrev pub with_begun : ℕ → Option Transaction → State → State
+with_begun s o st = record { count = st.count; begun = λ u. if u == s then o else st.begun u; table = st.table }
+
+abbrev pub with_table : Table → State → State
+with_table t st = record { count = st.count; begun = st.begun; table = t }

@@ -1,0 +1,86 @@
+-- The sequential lock manager: what a call does, and its reply.
+use Rattle.std.specs.Prelude.{ℕ, ◌+◌, Bool, true, false, not, if◌then◌else◌, nat_le, List, [], ◌∷◌, ◌++◌, length, map, Option, Some, None, is_some}
+use Rattle.lock_modes.specs.declared.Mode.{Mode}
+use Rattle.lock_modes.specs.declared.Mode.TheVariants.{NL}
+use Rattle.lock_rules.specs.declared.calls.Call.{Call}
+use Rattle.lock_rules.specs.declared.calls.Call.TheVariants.{Begin, Lock, Commit}
+use Rattle.lock_rules.specs.declared.calls.Reply.{Reply}
+use Rattle.lock_rules.specs.declared.calls.Reply.TheVariants.{Began, Granted, Waiting, Committed, Refused}
+use Rattle.lock_rules.specs.declared.calls.Why.{Why}
+use Rattle.lock_rules.specs.declared.calls.Why.TheVariants.{AlreadyOpen, NoTransaction, IsWaiting, NothingAsked, AlreadyHeld, TooManyLocks}
+use Rattle.lock_rules.specs.declared.calls.TheConstants.{MAX_LOCKS}
+use Rattle.lock_rules.specs.State.{Claim, Table, State, held_mode, request_of, claims_of, claims_but, is_open, is_waiting, with_begun, with_table}
+use Rattle.lock_rules.specs.Queue.{granted, is_granted, with_request, promoted_all}
+
+-- a new state and a reply
+pub record Outcome : Type 0 where
+  pub state : State
+  pub reply : Reply
+
+abbrev pub is_nothing : Mode → Bool
+is_nothing NL = true
+is_nothing _ = false
+
+-- the tests of a call in their order: whether each fails, and the refusal that it gives
+abbrev pub tests : State → ℕ → Call → List (Bool × Why)
+tests st s Begin = (is_open st s, AlreadyOpen) ∷ []
+tests st s (Lock r m) =
+    (not (is_open st s), NoTransaction)
+    ∷ (is_waiting st s, IsWaiting)
+    ∷ (is_nothing m, NothingAsked)
+    ∷ (is_some (held_mode st.table s r), AlreadyHeld)
+    ∷ (nat_le MAX_LOCKS (length (claims_of s st.table.held)), TooManyLocks)
+    ∷ []
+tests st s Commit = (not (is_open st s), NoTransaction) ∷ (is_waiting st s, IsWaiting) ∷ []
+
+-- the refusal of the first test that fails
+abbrev pub first_failing : List (Bool × Why) → Option Why
+first_failing [] = None
+first_failing (t ∷ ts) = if t.0 then Some t.1 else first_failing ts
+
+-- a request begins to wait
+abbrev pub after_wait : State → ℕ → List ℕ → Mode → State
+after_wait st s r m = with_table (with_request s r m st.table) st
+
+-- the state after a session has asked for a mode on a resource
+abbrev pub asked : State → ℕ → List ℕ → Mode → State
+asked st s r m = if is_granted st.table s r m then with_table (granted s r m st.table) st else after_wait st s r m
+
+-- where it still waits then, it is told so
+abbrev pub ask : State → ℕ → List ℕ → Mode → Outcome
+ask st s r m =
+    let after = asked st s r m in
+    record { state = after; reply = if is_waiting after s then Waiting else Granted m }
+
+-- the resource of a request
+abbrev pub wanted : Option Claim → List (List ℕ)
+wanted None = []
+wanted (Some q) = q.resource ∷ []
+
+-- all that the session holds and waits for is taken away
+abbrev pub left : ℕ → Table → Table
+left s t = record { held = claims_but s t.held; waits = claims_but s t.waits }
+
+-- and each resource that this touches is promoted
+abbrev pub ended : ℕ → Table → Table
+ended s t = promoted_all (wanted (request_of s t.waits) ++ map (λ c. c.resource) (claims_of s t.held)) (left s t)
+
+-- what a call does where no test fails
+abbrev pub act : State → ℕ → Call → Outcome
+act st s Begin = record {
+  state = with_begun s (Some (record { number = st.count + 1 })) (record { count = st.count + 1; begun = st.begun; table = st.table });
+  reply = Began (st.count + 1);
+}
+act st s (Lock r m) = ask st s r m
+act st s Commit = record {
+  state = with_begun s None (with_table (ended s st.table) st);
+  reply = Committed (length (claims_of s st.table.held));
+}
+
+abbrev pub outcome_of : Option Why → State → ℕ → Call → Outcome
+outcome_of (Some why) st s call = record { state = st; reply = Refused why }
+outcome_of None st s call = act st s call
+
+-- a call of a session in a state
+abbrev pub step : State → ℕ → Call → Outcome
+step st s call = outcome_of (first_failing (tests st s call)) st s call

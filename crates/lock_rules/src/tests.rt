@@ -1,0 +1,46 @@
+use crate::{Call, Entry, MAX_LOCKS, MAX_SESSIONS, Reply, Why, laws};
+use lock_modes::Mode;
+
+#[test]
+fn refusals_have_their_numbers(rt: HostRuntime) {
+    assert_eq!(rt; Why::AlreadyOpen as u8, 1);
+    assert_eq!(rt; Why::NoTransaction as u8, 2);
+    assert_eq!(rt; Why::IsWaiting as u8, 3);
+    assert_eq!(rt; Why::NothingAsked as u8, 5);
+    assert_eq!(rt; Why::TooManyLocks as u8, 9);
+    assert_eq!(rt; Why::AlreadyHeld as u8, 10);
+}
+
+#[test]
+fn limits_are_as_documented(rt: HostRuntime) {
+    assert_eq!(rt; MAX_SESSIONS, 256);
+    assert_eq!(rt; MAX_LOCKS, 4096);
+}
+
+#[test]
+fn entries_are_plain_values(rt: HostRuntime) {
+    let entry = Entry {
+        session: 1,
+        call: Call::Begin,
+        reply: Reply::Began(1),
+    };
+    let copy = entry;
+    assert_eq!(rt; entry, copy);
+    assert!(rt; entry.reply != Reply::Granted(Mode::S));
+}
+
+#[test]
+fn laws_can_be_cited() {
+    laws::histories_are_legal_by_steps();
+    laws::states_follow_by_steps();
+    laws::histories_are_determined_by_calls();
+    laws::calls_are_in_order();
+    laws::refusals_keep_the_state();
+    laws::grants_change_one_lock();
+    laws::promotions_grant_the_longest_front();
+    laws::fits_is_compatible_with_others();
+    laws::holders_are_compatible();
+    laws::nobody_waits_needlessly();
+    laws::states_are_lawful();
+    laws::examples_are_legal();
+}

@@ -1,0 +1,6 @@
+pub mod ByByte
+pub mod Numerals
+pub mod Texts
+pub mod ByPiece
+pub mod PaddedOrder
+pub mod PaddedEquality

@@ -1,0 +1,5 @@
+pub mod Paths
+pub mod Text
+pub mod Faults
+pub mod Readings
+pub mod Fields

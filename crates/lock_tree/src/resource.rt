@@ -1,0 +1,118 @@
+//! A resource: the numbers on the way down the lock tree.
+
+ghost use Rattle.std.specs.Prelude.{◌≡◌, ◌↔◌, ℕ, List, Some, Ok, Err, IsSome, IfSome};
+ghost use Rattle.lock_tree.specs.Paths.{IsResource};
+ghost use Rattle.lock_tree.specs.Text.{text_of};
+ghost use Rattle.lock_tree.specs.Faults.{fault_of};
+ghost use Rattle.lock_tree.specs.Readings.{reading_of};
+ghost use Rattle.lock_tree.specs.declared.path_fault.PathFault.{PathFault as FaultValue};
+
+use crate::levels::LEVELS;
+use crate::path_fault::PathFault;
+use crate::piece::read_piece;
+use std::fmt;
+use std::marker::Model;
+
+/// A node of the lock tree, by 1 to `LEVELS` numbers from 0 to 4294967295, that of the top first.
+///
+/// It is small and copied freely. The order is number by number, a front before what continues
+/// it, so that an ancestor stands before its descendants.
+#[derive(Clone, Copy, Debug, PartialEq, Eq, PartialOrd, Ord, Hash)]
+pub struct Resource {
+    numbers: [u32; LEVELS],
+    level: u8,
+}
+
+impl Model for Resource {
+    ghost use Rattle.std.specs.Prelude.{ℕ, List};
+    ghost use Rattle.lock_tree.specs.Fields.{path_of, fields_of, fields_again, ArePadded};
+
+    ghost Value = { List ℕ };
+
+    ghost view = { path_of };
+
+    ghost invariant = { ArePadded };
+
+    ghost inverse = { fields_of };
+
+    ghost inverse_ok = { fields_again };
+}
+
+impl Resource {
+    /// Reads a resource from the text that it is displayed as, and from no other text.
+    ///
+    /// This is one pass over the text, and takes no memory. `PathFault` says which fault is told
+    /// where there are several.
+    pub fn parse(text: &str) -> Result<Resource, PathFault>
+        ensures ok { (r : List ℕ)
+            → (result ≡ Ok r) ↔ (IsResource r × (text_of r ≡ text.now)) }
+        ensures fault { (f : FaultValue) → (result ≡ Err f) ↔ (fault_of text.now ≡ Some f) }
+    {
+        Resource::read(text.as_bytes())
+    }
+
+    // A faulty piece doesn't end it, since a `/` too many is told first.
+    fn read(bytes: &[u8]) -> Result<Resource, PathFault>
+        ensures { result ≡ reading_of bytes.now }
+    {
+        let mut numbers = [0; LEVELS];
+        let mut fault = None;
+        let mut rest = bytes;
+        for level in 0..LEVELS {
+            let (number, length) = read_piece(rest);
+            numbers[level] = number.unwrap_or(0);
+            fault = fault.or(number.err());
+            if length == rest.len() {
+                return match fault {
+                    Some(fault) => Err(fault),
+                    None => Ok(Resource {
+                        numbers,
+                        level: level as u8 + 1,
+                    }),
+                };
+            }
+            let after = &rest[length..];
+            rest = &after[1..];
+        }
+        Err(PathFault::TooDeep)
+    }
+
+    /// The resource with these numbers, or `None` where there are none or more than `LEVELS`.
+    pub fn from_numbers(numbers: &[u32]) -> Option<Resource>
+        ensures found { IsSome result ↔ IsResource numbers.now }
+        ensures value { IfSome result (λ resource. resource ≡ numbers.now) }
+    {
+        if numbers.is_empty() || numbers.len() > LEVELS {
+            return None;
+        }
+        let mut padded = [0; LEVELS];
+        padded[..numbers.len()].copy_from_slice(numbers);
+        Some(Resource {
+            numbers: padded,
+            level: numbers.len() as u8,
+        })
+    }
+
+    /// The numbers, that of the top first.
+    pub fn numbers(&self) -> &[u32]
+        ensures value { result.now ≡ self.now }
+        ensures resource { IsResource self.now }
+    {
+        &self.numbers[..self.level as usize]
+    }
+}
+
+/// Writes the numbers in decimal, with a `/` between each two. That is this project's own choice.
+impl fmt::Display for Resource {
+    ghost output = { λ r. Some (text_of r) };
+
+    fn fmt<W: fmt::Write>(&self, f: &mut fmt::Formatter<W>) -> fmt::Result {
+        let numbers = self.numbers();
+        let first = numbers[0];
+        write!(f, "{first}")?;
+        for number in &numbers[1..] {
+            write!(f, "/{number}")?;
+        }
+        Ok(())
+    }
+}

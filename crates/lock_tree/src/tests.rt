@@ -1,0 +1,80 @@
+//! Texts, order and size, by hand.
+
+use super::*;
+use std::cmp::Ordering;
+use std::test::Fail;
+
+const HUNDRED_DIGITS: &str = "99999999999999999999999999999999999999999999999999\
+    99999999999999999999999999999999999999999999999999";
+
+#[test]
+fn reads_numbers(rt: HostRuntime) -> Result<(), Fail> {
+    for (text, number) in [("0", 0), ("7", 7), ("10", 10), ("4294967295", 4294967295)] {
+        let resource = Resource::parse(text)?;
+        assert_eq!(rt; resource.numbers(), [number].as_slice(), "at {text}");
+        assert_eq!(rt;
+            Some(resource),
+            Resource::from_numbers(&[number]),
+            "at {text}"
+        );
+        assert_eq!(rt; resource.to_string(rt.alloc())?.as_str(), text);
+    }
+    Ok(())
+}
+
+#[test]
+fn tells_faults(rt: HostRuntime) {
+    for (text, fault) in [
+        ("", PathFault::Empty),
+        ("/", PathFault::TooDeep),
+        ("1/2", PathFault::TooDeep),
+        ("x/1", PathFault::TooDeep),
+        ("x", PathFault::NotANumber),
+        ("1x", PathFault::NotANumber),
+        ("x4294967296", PathFault::NotANumber),
+        ("4294967296x", PathFault::NotANumber),
+        ("+1", PathFault::NotANumber),
+        (" 1", PathFault::NotANumber),
+        ("-1", PathFault::NotANumber),
+        ("4294967296", PathFault::TooLarge),
+        ("04294967296", PathFault::TooLarge),
+        ("18446744073709551617", PathFault::TooLarge),
+        (HUNDRED_DIGITS, PathFault::TooLarge),
+        ("00", PathFault::LeadingZero),
+        ("01", PathFault::LeadingZero),
+    ] {
+        assert_eq!(rt; Resource::parse(text), Err(fault), "at {text}");
+    }
+}
+
+#[test]
+fn prints_names_of_faults(rt: HostRuntime) -> Result<(), Fail> {
+    for (fault, name) in [
+        (PathFault::Empty, "Empty"),
+        (PathFault::TooDeep, "TooDeep"),
+        (PathFault::NotANumber, "NotANumber"),
+        (PathFault::TooLarge, "TooLarge"),
+        (PathFault::LeadingZero, "LeadingZero"),
+    ] {
+        assert_eq!(rt; fault.to_string(rt.alloc())?.as_str(), name);
+    }
+    Ok(())
+}
+
+#[test]
+fn orders_by_number(rt: HostRuntime) -> Result<(), Fail> {
+    for (low, high) in [("0", "1"), ("9", "10"), ("255", "256")] {
+        let low = Resource::parse(low)?;
+        let high = Resource::parse(high)?;
+        assert!(rt; low < high);
+        assert_eq!(rt; high.cmp(&high), Ordering::Equal);
+    }
+    Ok(())
+}
+
+#[test]
+fn is_small(rt: HostRuntime) {
+    assert!(rt; size_of::<Resource>() <= 20);
+    assert_eq!(rt; Resource::from_numbers(&[]), None);
+    assert_eq!(rt; Resource::from_numbers(&[1; LEVELS + 1]), None);
+}
