@@ -1,0 +1,76 @@
+//! Input that is no trace: each fault names its row, and nothing is written.
+
+use crate::running::{replay, run_words};
+use std::test::Fail;
+
+#[test]
+fn bad_rows_are_named(rt: HostRuntime) -> Result<(), Fail> {
+    for (trace, told) in [
+        ("1,poll,,", "glm: row 1: Op\n"),
+        ("1,Begin,,\n", "glm: row 1: Op\n"),
+        ("1,begin,,\n1,lock,01,S\n", "glm: row 2: Path LeadingZero\n"),
+        ("1,begin,,\n1,lock,1", "glm: row 2: Shape\n"),
+        ("1,begin,,,\n", "glm: row 1: Shape\n"),
+        ("257,begin,,\n", "glm: row 1: Session\n"),
+        ("0,begin,,\n", "glm: row 1: Session\n"),
+        ("01,begin,,\n", "glm: row 1: Session\n"),
+        ("+1,begin,,\n", "glm: row 1: Session\n"),
+        ("18446744073709551617,begin,,\n", "glm: row 1: Session\n"),
+        (",begin,,\n", "glm: row 1: Session\n"),
+        ("x,poll,01,s\n", "glm: row 1: Session\n"),
+        ("1,commit,1,\n", "glm: row 1: Extra\n"),
+        ("1,begin,,S\n", "glm: row 1: Extra\n"),
+        ("1,lock,,S\n", "glm: row 1: Path Empty\n"),
+        ("1,lock,x,s\n", "glm: row 1: Path NotANumber\n"),
+        ("1,lock,4294967296,S\n", "glm: row 1: Path TooLarge\n"),
+        ("1,lock,1, S\n", "glm: row 1: Mode\n"),
+        ("1,lock,1,s\n", "glm: row 1: Mode\n"),
+        ("1,lock,1,\n", "glm: row 1: Mode\n"),
+        ("\n\n1,begin,,\n\n9x,begin,,\nx\n", "glm: row 2: Session\n"),
+        (
+            "1,begin,,\r\n\"1\",lock,\"1\",\"T\"\r\n",
+            "glm: row 2: Mode\n",
+        ),
+    ] {
+        let ran = replay(&rt, trace)?;
+        assert_eq!(rt; ran.status, 1, "{trace}");
+        assert_eq!(rt; ran.errors.as_slice(), told.as_bytes(), "{trace}");
+        assert!(rt; ran.output.is_empty(), "{trace}");
+    }
+    Ok(())
+}
+
+#[test]
+fn bytes_that_are_no_text_are_no_number(rt: HostRuntime) -> Result<(), Fail> {
+    let ran = run_words(
+        &rt,
+        ["replay"].as_slice(),
+        b"1,begin,,\n1,lock,\xff,S\n".as_slice(),
+    )?;
+    assert_eq!(rt; ran.status, 1);
+    assert_eq!(rt;
+        ran.errors.as_slice(),
+        b"glm: row 2: Path NotANumber\n".as_slice()
+    );
+    Ok(())
+}
+
+#[test]
+fn line_ends_and_quotes_are_those_of_csv(rt: HostRuntime) -> Result<(), Fail> {
+    for trace in [
+        "1,begin,,\n1,commit,,\n",
+        "1,begin,,\n1,commit,,",
+        "1,begin,,\r\n1,commit,,\r\n",
+        "\n\n1,begin,,\n\r\n1,commit,,\n\n",
+        "\"1\",\"begin\",\"\",\"\"\n1,commit,,\n",
+    ] {
+        let ran = replay(&rt, trace)?;
+        assert_eq!(rt; ran.status, 0, "{trace}");
+        assert_eq!(rt;
+            ran.output.as_slice(),
+            b"0,1,begin,,,began,1\n1,1,commit,,,committed,0\n".as_slice(),
+            "{trace}"
+        );
+    }
+    Ok(())
+}

@@ -1,0 +1,51 @@
+//! Traces with the histories that were worked out for them by hand.
+
+use crate::running::{replay, run_words};
+use std::test::Fail;
+
+const QUEUE: (&str, &str) = (
+    "1,begin,,\n2,begin,,\n3,begin,,\n1,lock,1,S\n2,lock,1,X\n3,lock,1,S\n2,lock,2,S\n1,commit,,\n2,commit,,\n3,commit,,\n",
+    "0,1,begin,,,began,1\n1,2,begin,,,began,2\n2,3,begin,,,began,3\n3,1,lock,1,S,granted,S\n4,2,lock,1,X,waiting,\n5,3,lock,1,S,waiting,\n6,2,lock,2,S,refused,IsWaiting\n7,1,commit,,,committed,1\n8,2,commit,,,committed,1\n9,3,commit,,,committed,1\n",
+);
+
+const READERS: (&str, &str) = (
+    "1,begin,,\n2,begin,,\n3,begin,,\n1,lock,7,X\n2,lock,7,S\n3,lock,7,IS\n1,commit,,\n2,commit,,\n3,commit,,\n",
+    "0,1,begin,,,began,1\n1,2,begin,,,began,2\n2,3,begin,,,began,3\n3,1,lock,7,X,granted,X\n4,2,lock,7,S,waiting,\n5,3,lock,7,IS,waiting,\n6,1,commit,,,committed,1\n7,2,commit,,,committed,1\n8,3,commit,,,committed,1\n",
+);
+
+const REFUSALS: (&str, &str) = (
+    "1,lock,1,S\n1,begin,,\n1,begin,,\n1,lock,1,NL\n1,lock,1,S\n2,begin,,\n2,lock,1,X\n2,lock,2,S\n2,commit,,\n1,commit,,\n2,commit,,\n",
+    "0,1,lock,1,S,refused,NoTransaction\n1,1,begin,,,began,1\n2,1,begin,,,refused,AlreadyOpen\n3,1,lock,1,NL,refused,NothingAsked\n4,1,lock,1,S,granted,S\n5,2,begin,,,began,2\n6,2,lock,1,X,waiting,\n7,2,lock,2,S,refused,IsWaiting\n8,2,commit,,,refused,IsWaiting\n9,1,commit,,,committed,1\n10,2,commit,,,committed,1\n",
+);
+
+const HELD_ALREADY: (&str, &str) = (
+    "1,begin,,\n1,lock,4294967295,IS\n1,lock,4294967295,X\n1,commit,,\n1,begin,,\n1,lock,0,SIX\n1,commit,,\n",
+    "0,1,begin,,,began,1\n1,1,lock,4294967295,IS,granted,IS\n2,1,lock,4294967295,X,refused,AlreadyHeld\n3,1,commit,,,committed,1\n4,1,begin,,,began,2\n5,1,lock,0,SIX,granted,SIX\n6,1,commit,,,committed,1\n",
+);
+
+#[test]
+fn traces_give_their_histories(rt: HostRuntime) -> Result<(), Fail> {
+    for (trace, history) in [QUEUE, READERS, REFUSALS, HELD_ALREADY, ("", "")] {
+        let ran = replay(&rt, trace)?;
+        assert_eq!(rt; ran.status, 0, "{trace}");
+        assert_eq!(rt; ran.output.as_slice(), history.as_bytes(), "{trace}");
+        assert!(rt; ran.errors.is_empty(), "{trace}");
+    }
+    Ok(())
+}
+
+#[test]
+fn sessions_are_as_many_as_asked(rt: HostRuntime) -> Result<(), Fail> {
+    let trace = b"256,begin,,\n".as_slice();
+    let ran = run_words(&rt, ["replay"].as_slice(), trace)?;
+    assert_eq!(rt; ran.status, 0);
+    assert_eq!(rt;
+        ran.output.as_slice(),
+        b"0,256,begin,,,began,1\n".as_slice()
+    );
+    let ran = run_words(&rt, ["replay", "--sessions", "255"].as_slice(), trace)?;
+    assert_eq!(rt; ran.status, 1);
+    assert_eq!(rt; ran.errors.as_slice(), b"glm: row 1: Session\n".as_slice());
+    assert!(rt; ran.output.is_empty());
+    Ok(())
+}

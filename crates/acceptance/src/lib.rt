@@ -1,0 +1,13 @@
+//! Tests that go through several layers: from the bytes of a trace to the bytes of a history, statuses and messages.
+#![tactic(auto)]
+
+#[cfg(test)]
+mod bad_input;
+#[cfg(test)]
+mod devices;
+#[cfg(test)]
+mod examples;
+#[cfg(test)]
+mod running;
+#[cfg(test)]
+mod usage;

@@ -1,0 +1,33 @@
+//! One run of the program, in memory.
+
+use glm::program;
+use std::test::Fail;
+
+/// The status of a run, and what it wrote.
+#[derive(Drop)]
+pub(crate) struct Ran {
+    pub status: u8,
+    pub output: Vec<u8>,
+    pub errors: Vec<u8>,
+}
+
+/// Runs the program on these words, which come after its name.
+pub(crate) fn run_words(rt: &HostRuntime, words: &[&str], input: &[u8]) -> Result<Ran, Fail> {
+    let mut all = vec![in rt.alloc(); "glm"]?;
+    for word in words {
+        all.push(*word)?;
+    }
+    let mut output = Vec::new(rt.alloc());
+    let mut errors = Vec::new(rt.alloc());
+    let status = program(rt.alloc(), &all, input, &mut output, &mut errors);
+    Ok(Ran {
+        status,
+        output,
+        errors,
+    })
+}
+
+/// Replays a trace.
+pub(crate) fn replay(rt: &HostRuntime, trace: &str) -> Result<Ran, Fail> {
+    run_words(rt, ["replay"].as_slice(), trace.as_bytes())
+}

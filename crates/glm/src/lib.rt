@@ -1,0 +1,8 @@
+//! The tool `glm`: from the bytes of a trace to the bytes of a history, and the command line round it.
+#![tactic(auto)]
+
+mod commands;
+mod replaying;
+
+pub use commands::program;
+pub use replaying::{ToolFault, replay};

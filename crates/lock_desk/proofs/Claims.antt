@@ -1,0 +1,70 @@
+-- Lists of claims on one resource.
+use Rattle.std.proofs.Common.{◌≡◌, ℕ, ◌+◌, ◌<◌, ◌≤◌, true, false, cond, not, eqb, ◌&&◌, ◌||◌, ◌⊎◌, inr, List, [], ◌∷◌, ◌++◌, length, get_or, take, drop, set, refl, sym, ◌∙◌, ap, arith, add-one}
+use Rattle.std.proofs.lemmas.List.{set_split, drop_more}
+use Rattle.std.proofs.lemmas.Bool.Decides.{nat_tests}
+use Rattle.lock_desk.specs.declared.cells.Claim.{Claim}
+use Rattle.lock_desk.specs.Cells.{with_claim, has_claim, times, without, is_nobody}
+
+-- a claim that is put at its place
+
+with_claim-same : (c h : Claim) (hs : List Claim) → h.session ≡ c.session → with_claim c (h ∷ hs) ≡ c ∷ hs
+with_claim-same c h hs e = grind (arith, nat_tests)
+
+-- writing over the claim of the same session puts the claim at its place
+pub with_claim-set : (xs : List Claim) (i : ℕ) (c h : Claim) → i < length xs → h ≡ get_or xs i h → h.session ≡ c.session → with_claim c xs ≡ take i xs ++ with_claim c (drop i xs) → set xs i c ≡ with_claim c xs
+with_claim-set xs i c h lt at e passed =
+    set_split xs i c lt
+    ∙ sym (passed ∙ ap (λ ys. take i xs ++ with_claim c ys) (drop_more xs i h lt ∙ ap (λ y. y ∷ drop (i + 1) xs) (sym at))
+    ∙ ap (λ ys. take i xs ++ ys) (with_claim-same c h (drop (i + 1) xs) e) ∙ rw add-one refl)
+
+-- how many claims a session has
+
+-- a session has a claim, or its number of claims is 0
+pub has_tells : (s : ℕ) (cs : List Claim) → ((has_claim s cs ≡ true) × (1 ≤ times s cs)) ⊎ ((has_claim s cs ≡ false) × (times s cs ≡ 0))
+has_tells s [] = inr (refl, refl)
+has_tells s (c ∷ cs) = grind (arith, nat_tests, has_tells s cs)
+
+-- who has a claim once one is put
+pub has_claim-with_claim : (s : ℕ) (c : Claim) (hs : List Claim) → has_claim s (with_claim c hs) ≡ (eqb c.session s || has_claim s hs)
+has_claim-with_claim s c [] = refl
+has_claim-with_claim s c (h ∷ hs) = grind (arith, nat_tests, has_claim-with_claim s c hs)
+
+-- a claim that is put adds one at most
+pub times-with_claim : (s : ℕ) (c : Claim) (hs : List Claim) → times s (with_claim c hs) ≤ times s hs + cond (eqb c.session s) 1 0
+times-with_claim s c [] = grind (arith, nat_tests)
+times-with_claim s c (h ∷ hs) = grind (arith, nat_tests, times-with_claim s c hs)
+
+-- a claim at the end adds one
+pub times-push : (s : ℕ) (cs : List Claim) (c : Claim) → times s (cs ++ c ∷ []) ≡ times s cs + cond (eqb c.session s) 1 0
+times-push s [] c = grind (arith, nat_tests)
+times-push s (d ∷ cs) c = grind (arith, nat_tests, times-push s cs c)
+
+-- who has a claim once one is added at the end
+pub has_claim-push : (s : ℕ) (cs : List Claim) (c : Claim) → has_claim s (cs ++ c ∷ []) ≡ (eqb c.session s || has_claim s cs)
+has_claim-push s [] c = refl
+has_claim-push s (d ∷ cs) c = grind (arith, nat_tests, has_claim-push s cs c)
+
+-- without a session nobody has more claims
+pub times-without : (s u : ℕ) (cs : List Claim) → times u (without s cs) ≤ times u cs
+times-without s u [] = omega arith
+times-without s u (c ∷ cs) = grind (arith, nat_tests, times-without s u cs)
+
+-- who has a claim once a session is gone
+pub has_claim-without : (s u : ℕ) (cs : List Claim) → has_claim u (without s cs) ≡ (not (eqb u s) && has_claim u cs)
+has_claim-without s u [] = grind (arith, nat_tests)
+has_claim-without s u (c ∷ cs) = grind (arith, nat_tests, has_claim-without s u cs)
+
+-- a session with no claim leaves nothing behind
+pub without-none : (s : ℕ) (cs : List Claim) → has_claim s cs ≡ false → without s cs ≡ cs
+without-none s [] h = refl
+without-none s (c ∷ cs) h = grind (arith, nat_tests, without-none s cs)
+
+-- somebody is there once a claim is put
+pub nobody-with_claim : (c : Claim) (hs : List Claim) → is_nobody (with_claim c hs) ≡ false
+nobody-with_claim c [] = refl
+nobody-with_claim c (h ∷ hs) = grind (arith, nat_tests)
+
+-- somebody is there once a claim is added at the end
+pub nobody-push : (c : Claim) (cs : List Claim) → is_nobody (cs ++ c ∷ []) ≡ false
+nobody-push c [] = refl
+nobody-push c (d ∷ cs) = refl

@@ -1,0 +1,106 @@
+-- What a grant, a request and a release do to the claims on one resource.
+use Rattle.std.proofs.Common.{◌≡◌, ℕ, Bool, true, false, cond, not, ◌&&◌, ◌||◌, inl, inr, List, [], ◌∷◌, ◌++◌, Some, None, refl, sym, ◌∙◌, ap, arith, subst}
+use Rattle.std.proofs.lemmas.Bool.Decides.{nat_tests, Decides-eqb}
+use Rattle.lock_desk.specs.declared.cells.Claim.{Claim}
+use Rattle.lock_desk.specs.declared.cells.Cell.{Cell}
+use Rattle.lock_desk.specs.Cells.{View, with_claim, has_claim, times, is_nobody, fits_among, next_grant, next_view, front_granted, promoted_view, left_view, IsOnce, IsNew, is_busy, view_of, HasRoom, IsKeptCell}
+use Rattle.lock_desk.proofs.Claims.{has_tells, times-with_claim, times-push, times-without, nobody-with_claim, nobody-push}
+
+abbrev both : List Claim → List Claim → View
+both hs ws = record { holders = hs; waiting = ws }
+
+-- the first of the queue was granted
+pub record IsNext (v : View) (c : Claim) (w : View) : Type 0 where
+  pub first : v.waiting ≡ c ∷ w.waiting
+  pub fits : fits_among c v.holders ≡ true
+  pub holders : w.holders ≡ with_claim c v.holders
+
+-- the grant that is made is that of the first
+pub next-some : (hs ws : List Claim) (c : Claim) → next_grant hs ws ≡ Some c → IsNext (both hs ws) c (next_view hs ws)
+next-some hs [] c h = absurd (cc)
+next-some hs (q ∷ ws) c h = go (fits_among q hs) refl h
+  where
+    go : (b : Bool) → fits_among q hs ≡ b → cond b (Some q) None ≡ Some c → IsNext (both hs (q ∷ ws)) c (cond b (both (with_claim q hs) ws) (both hs (q ∷ ws)))
+    go false e k = absurd (cc)
+    go true e k = let same : q ≡ c = cc in record {
+      first = ap (λ (x : Claim). x ∷ ws) same;
+      fits = ap (λ (x : Claim). fits_among x hs) (sym same) ∙ e;
+      holders = ap (λ (x : Claim). with_claim x hs) same;
+    }
+
+-- the same, of a cell
+pub next-cell : (hs ws : List Claim) (c : Claim) (w : View) → Some c ≡ next_grant hs ws → w ≡ next_view hs ws → IsNext (both hs ws) c w
+next-cell hs ws c w e f = subst (IsNext (both hs ws) c) (sym f) (next-some hs ws c (sym e))
+
+-- after a grant the rest of the promotion is the same
+pub promoted-next : (v : View) (c : Claim) (w : View) → IsNext v c w → promoted_view w ≡ promoted_view v
+promoted-next v c w n =
+    ap (λ (hs : List Claim). front_granted hs w.waiting) n.holders
+    ∙ sym (ap (front_granted v.holders) n.first ∙ ap (λ (b : Bool). cond b (front_granted (with_claim c v.holders) w.waiting) (both v.holders (c ∷ w.waiting))) n.fits)
+
+-- who is granted was waiting
+pub next-waits : (v : View) (c : Claim) (w : View) → IsNext v c w → has_claim c.session v.waiting ≡ true
+next-waits v c w n = ap (has_claim c.session) n.first ∙ ap (λ (b : Bool). b || has_claim c.session w.waiting) ((Decides-eqb c.session c.session).1 refl)
+
+-- and held nothing there
+pub next-new : (v : View) (c : Claim) (w : View) → IsNext v c w → IsOnce v → has_claim c.session v.holders ≡ false
+next-new v c w n o = elim (has_tells c.session v.holders) [
+  | inr h ↦ h.0
+  | inl h ↦ elim (has_tells c.session v.waiting) [
+    | inl k ↦ absurd (omega (arith, o c.session, h.1, k.1))
+    | inr k ↦ absurd (let e = next-waits v c w n in let f = k.0 in cc)
+  ]
+]
+
+-- no session gets a second claim
+
+-- a grant gives no second claim
+pub once-next : (v : View) (c : Claim) (w : View) → IsNext v c w → IsOnce v → IsOnce w
+once-next v c w n o s = omega (arith, o s, ap (times s) n.first, ap (times s) n.holders, times-with_claim s c v.holders)
+
+-- nor a new claim among the holders
+pub once-put : (c : Claim) (v : View) → IsNew c.session v → IsOnce v → IsOnce (record { holders = with_claim c v.holders; waiting = v.waiting })
+once-put c v k o s = let p = times-with_claim s c v.holders in let q = o s in grind (arith, nat_tests)
+
+-- nor one in the queue
+pub once-push : (c : Claim) (v : View) → IsNew c.session v → IsOnce v → IsOnce (record { holders = v.holders; waiting = v.waiting ++ c ∷ [] })
+once-push c v k o s = let p = times-push s v.waiting c in let q = o s in grind (arith, nat_tests)
+
+-- nor a release
+pub once-left : (s : ℕ) (v : View) → IsOnce v → IsOnce (left_view s v)
+once-left s v o u = omega (arith, o u, times-without s u v.holders)
+
+-- somebody is there
+
+-- a holder is there
+pub busy-put : (c : Claim) (v : View) → is_busy (record { holders = with_claim c v.holders; waiting = v.waiting }) ≡ true
+busy-put c v = ap (λ (b : Bool). not (b && is_nobody v.waiting)) (nobody-with_claim c v.holders)
+
+-- a request is there
+pub busy-push : (c : Claim) (v : View) → is_busy (record { holders = v.holders; waiting = v.waiting ++ c ∷ [] }) ≡ true
+busy-push c v = ap (λ (b : Bool). not (is_nobody v.holders && b)) (nobody-push c v.waiting) ∙ not-and (is_nobody v.holders)
+  where
+    not-and : (b : Bool) → not (b && false) ≡ true
+    not-and true = refl
+    not-and false = refl
+
+-- a promotion that was made leaves nothing to promote
+
+promoted-twice : (hs ws : List Claim) → promoted_view (front_granted hs ws) ≡ front_granted hs ws
+promoted-twice hs [] = refl
+promoted-twice hs (q ∷ ws) = go (fits_among q hs) refl (promoted-twice (with_claim q hs) ws)
+  where
+    go : (b : Bool) → fits_among q hs ≡ b → promoted_view (front_granted (with_claim q hs) ws) ≡ front_granted (with_claim q hs) ws
+        → promoted_view (cond b (front_granted (with_claim q hs) ws) (both hs (q ∷ ws))) ≡ cond b (front_granted (with_claim q hs) ws) (both hs (q ∷ ws))
+    go true e h = h
+    go false e h = ap (λ (b : Bool). cond b (front_granted (with_claim q hs) ws) (both hs (q ∷ ws))) e
+
+-- a second promotion does nothing
+pub promoted-again : (v : View) → promoted_view (promoted_view v) ≡ promoted_view v
+promoted-again v = promoted-twice v.holders v.waiting
+
+-- a cell is kept where what it says is in order
+
+-- by its room and by what it says
+pub kept-view : (c : Cell) (v : View) → view_of c ≡ v → HasRoom c → IsOnce v → is_busy v ≡ true → IsKeptCell c
+kept-view c v e room once busy = record { room = room; once = subst IsOnce (sym e) once; busy = ap is_busy e ∙ busy }

@@ -1,0 +1,16 @@
+pub mod Claims
+pub mod Grants
+pub mod Standings
+pub mod Faces
+pub mod Promotions
+pub mod Results
+pub mod GivenBack
+pub mod Wholes
+pub mod Asks
+pub mod Backs
+pub mod Tables
+pub mod Counts
+pub mod Steps
+pub mod Shown
+pub mod Ends
+pub mod Books

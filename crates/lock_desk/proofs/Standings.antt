@@ -1,0 +1,134 @@
+-- What a grant does to the rows.
+use Rattle.std.proofs.Common.{◌≡◌, ℕ, zero, suc, ◌<◌, Bool, true, false, eqb, ◌||◌, inl, inr, List, [], ◌∷◌, ◌++◌, length, map, get_or, set, Option, Some, None, refl, sym, ◌∙◌, ap, arith}
+use Rattle.std.proofs.lemmas.Bool.Decides.{nat_tests, Decides-eqb}
+use Rattle.std.proofs.lemmas.List.{get_or-set_same, get_or-set_other}
+use Rattle.lock_tree.specs.Paths.{same_path}
+use Rattle.lock_rules.proofs.Lists.{bool_cases, same_path-refl, same_path_tells}
+use Rattle.lock_rules.proofs.Alters.{true≢false}
+use Rattle.lock_desk.specs.declared.cells.Claim.{Claim}
+use Rattle.lock_desk.specs.declared.rows.Row.{Row}
+use Rattle.lock_desk.specs.Cells.{View, has_claim, times, has_path, AreApart, IsOnce}
+use Rattle.lock_desk.specs.Rows.{Standing, no_standing, standing_of, standing_at, is_wanted, requests_in, admitted, IsSameOrAdmitted, AreSameOrAdmitted, DoAgree}
+use Rattle.lock_desk.proofs.Claims.{has_tells, has_claim-with_claim}
+use Rattle.lock_desk.proofs.Grants.{IsNext}
+
+-- lists of resources
+
+-- which resources there are with one more at the end
+pub has_path-push : (r q : List ℕ) (rs : List (List ℕ)) → has_path r (rs ++ q ∷ []) ≡ (has_path r rs || same_path q r)
+has_path-push r q [] = or-false (same_path q r)
+  where
+    or-false : (b : Bool) → (b || false) ≡ b
+    or-false true = refl
+    or-false false = refl
+has_path-push r q (p ∷ rs) = ap (λ (b : Bool). same_path p r || b) (has_path-push r q rs) ∙ or-assoc (same_path p r) (has_path r rs) (same_path q r)
+  where
+    or-assoc : (a b c : Bool) → (a || (b || c)) ≡ ((a || b) || c)
+    or-assoc true b c = refl
+    or-assoc false b c = refl
+
+-- neither test holds
+pub or_false : (x y : Bool) → (x || y) ≡ false → (x ≡ false) × (y ≡ false)
+or_false true y h = (h, cc)
+or_false false y h = (refl, h)
+
+-- two resources are apart both ways
+pub same_path-swap : (a b : List ℕ) → same_path a b ≡ false → same_path b a ≡ false
+same_path-swap a b h = elim (same_path_tells b a) [ inl k ↦ absurd (contra k.1) | inr k ↦ k ]
+  where
+    contra : b ≡ a → ⊥
+    contra e = let k : same_path a b ≡ true = rw e (same_path-refl a) in cc
+
+-- a new resource stands only once
+pub apart-push : (rs : List (List ℕ)) (q : List ℕ) → AreApart rs → has_path q rs ≡ false → AreApart (rs ++ q ∷ [])
+apart-push [] q a h = (refl, tt)
+apart-push (r ∷ rs) q a h =
+    let p = or_false (same_path r q) (has_path q rs) h in
+    (has_path-push r q rs ∙ (ap (λ (b : Bool). b || same_path q r) a.0 ∙ same_path-swap r q p.0), apart-push rs q a.1 p.1)
+
+-- the last resource stands only there
+pub apart-pop : (rs : List (List ℕ)) (q : List ℕ) → AreApart (rs ++ q ∷ []) → AreApart rs × (has_path q rs ≡ false)
+apart-pop [] q a = (tt, refl)
+apart-pop (r ∷ rs) q a =
+    let k = or_false (has_path r rs) (same_path q r) (sym (has_path-push r q rs) ∙ a.0) in
+    let p = apart-pop rs q a.1 in
+    ((k.0, p.0), ap (λ (b : Bool). b || has_path q rs) (same_path-swap q r k.1) ∙ p.1)
+
+-- rows
+
+-- writing a row writes its standing
+pub standings-set : (ws : List Row) (i : ℕ) (w : Row) → map standing_of (set ws i w) ≡ set (map standing_of ws) i (standing_of w)
+standings-set [] i w = refl
+standings-set (x ∷ ws) zero w = refl
+standings-set (x ∷ ws) (suc i) w = ap (λ (ss : List Standing). standing_of x ∷ ss) (standings-set ws i w)
+
+-- what the row at its place says
+pub standing-here : (ws : List Row) (i : ℕ) (w : Row) → i < length ws → w ≡ get_or ws i w → standing_at i (map standing_of ws) ≡ standing_of w
+standing-here [] i w lt at = absurd (omega arith)
+standing-here (x ∷ ws) zero w lt at = ap standing_of (sym at)
+standing-here (x ∷ ws) (suc i) w lt at = standing-here ws i w (omega arith) at
+
+-- as many standings as rows
+pub length-standings : (ws : List Row) → length (map standing_of ws) ≡ length ws
+length-standings [] = refl
+length-standings (w ∷ ws) = omega (arith, length-standings ws)
+
+-- who waits for a resource has one request
+pub requests-some : (r : List ℕ) (o : Option (List ℕ)) → is_wanted r o ≡ true → requests_in o ≡ 1
+requests-some r None h = absurd (cc)
+requests-some r (Some q) h = refl
+
+-- who waits has a row
+pub waits-within : (ss : List Standing) (r : List ℕ) (s : ℕ) → is_wanted r (standing_at s ss).wanted ≡ true → s < length ss
+waits-within [] r s h = absurd (cc)
+waits-within (x ∷ ss) r zero h = omega arith
+waits-within (x ∷ ss) r (suc s) h = omega (arith, waits-within ss r s h)
+
+-- the session that is granted was the only one to change
+
+-- rows and cell agree after a grant
+pub agree-next : (r : List ℕ) (v : View) (c : Claim) (w : View) (ss : List Standing) → IsNext v c w → IsOnce v → DoAgree r v ss → c.session < length ss
+    → DoAgree r w (set ss c.session (admitted r (standing_at c.session ss)))
+agree-next r v c w ss n o a lt = record {
+  held = λ s. elim (bool_cases (eqb c.session s)) [
+    | inl e ↦ let f = (Decides-eqb c.session s).0 e in
+        rw (← f) (ap (λ (x : Standing). has_path r x.held) (get_or-set_same ss c.session (admitted r (standing_at c.session ss)) no_standing lt)
+        ∙ (has_path-push r r (standing_at c.session ss).held ∙ (ap (λ (b : Bool). has_path r (standing_at c.session ss).held || b) (same_path-refl r) ∙ or-true (has_path r (standing_at c.session ss).held)))
+        ∙ sym (ap (has_claim c.session) n.holders ∙ (has_claim-with_claim c.session c v.holders ∙ ap (λ (b : Bool). b || has_claim c.session v.holders) ((Decides-eqb c.session c.session).1 refl))))
+    | inr e ↦ ap (λ (x : Standing). has_path r x.held) (other s e)
+        ∙ (a.held s ∙ sym (ap (has_claim s) n.holders ∙ (has_claim-with_claim s c v.holders ∙ ap (λ (b : Bool). b || has_claim s v.holders) e)))
+  ];
+  wanted = λ s. elim (bool_cases (eqb c.session s)) [
+    | inl e ↦ let f = (Decides-eqb c.session s).0 e in
+        rw (← f) (ap (λ (x : Standing). is_wanted r x.wanted) (get_or-set_same ss c.session (admitted r (standing_at c.session ss)) no_standing lt) ∙ sym gone)
+    | inr e ↦ ap (λ (x : Standing). is_wanted r x.wanted) (other s e)
+        ∙ (a.wanted s ∙ (ap (has_claim s) n.first ∙ ap (λ (b : Bool). b || has_claim s w.waiting) e))
+  ];
+}
+  where
+    or-true : (b : Bool) → (b || true) ≡ true
+    or-true true = refl
+    or-true false = refl
+
+    other : (s : ℕ) → eqb c.session s ≡ false → standing_at s (set ss c.session (admitted r (standing_at c.session ss))) ≡ standing_at s ss
+    other s e = grind (arith, nat_tests, get_or-set_other {A = Standing})
+
+    gone : has_claim c.session w.waiting ≡ false
+    gone = let k = o c.session in let f = ap (times c.session) n.first in elim (has_tells c.session w.waiting) [
+      | inl h ↦ absurd (grind (arith, nat_tests))
+      | inr h ↦ h.0
+    ]
+
+-- nobody is granted the resource twice
+pub same-next : (r : List ℕ) (old ss : List Standing) (s : ℕ) → s < length ss → is_wanted r (standing_at s ss).wanted ≡ true → AreSameOrAdmitted r old ss → AreSameOrAdmitted r old (set ss s (admitted r (standing_at s ss)))
+same-next r old ss s lt w h u = elim (bool_cases (eqb s u)) [
+  | inl e ↦ let f = (Decides-eqb s u).0 e in rw (← f) (own (h s))
+  | inr e ↦ let k : standing_at u (set ss s (admitted r (standing_at s ss))) ≡ standing_at u ss = grind (arith, nat_tests, get_or-set_other {A = Standing}) in rw k (h u)
+]
+  where
+    new : standing_at s (set ss s (admitted r (standing_at s ss))) ≡ admitted r (standing_at s ss)
+    new = get_or-set_same ss s (admitted r (standing_at s ss)) no_standing lt
+
+    own : IsSameOrAdmitted r (standing_at s old) (standing_at s ss) → IsSameOrAdmitted r (standing_at s old) (standing_at s (set ss s (admitted r (standing_at s ss))))
+    own (inl e) = inr (ap (λ (x : Standing). is_wanted r x.wanted) (sym e) ∙ w, new ∙ ap (admitted r) e)
+    own (inr e) = absurd (true≢false w (ap (λ (x : Standing). is_wanted r x.wanted) e.1))

@@ -1,0 +1,174 @@
+-- What is seen of one resource, and of one session, after each change of a table.
+use Rattle.std.proofs.Common.{◌≡◌, ℕ, ◌+◌, Bool, true, false, cond, not, eqb, ◌||◌, inl, inr, List, [], ◌∷◌, ◌++◌, length, map, Some, None, is_some, refl, sym, ◌∙◌, ap, arith, subst}
+use Rattle.std.specs.List.{list_all}
+use Rattle.std.proofs.lemmas.Bool.Decides.{nat_tests, Decides-eqb}
+use Rattle.lock_modes.specs.declared.Mode.{Mode}
+use Rattle.lock_modes.specs.Compatibility.{are_compatible}
+use Rattle.lock_tree.specs.Paths.{same_path}
+use Rattle.lock_rules.specs.State as rules
+use Rattle.lock_rules.specs.Queue.{queue, fits, with_lock, granted, granted_front, promoted, promoted_all}
+use Rattle.lock_rules.proofs.Lists.{bool_cases, same_path-refl, same_path-true, same_path_tells, In, In-request, IsOnce, times}
+use Rattle.lock_rules.proofs.Alters.{queue-alters, true≢false}
+use Rattle.lock_rules.proofs.Sound.{IsSound, In-queue, head-request, queue-rest, granted-alters, granted-sound}
+use Rattle.lock_rules.proofs.Promote.{promoted-promoted}
+use Rattle.lock_desk.specs.declared.cells.Claim.{Claim}
+use Rattle.lock_desk.specs.Cells.{View, has_claim, with_claim, without, fits_among, front_granted, promoted_view, has_path}
+use Rattle.lock_desk.specs.Shows.{short, claims_on, view}
+use Rattle.lock_desk.proofs.Grants.{promoted-again}
+
+-- a session with a mode
+abbrev pub claim : ℕ → Mode → Claim
+claim s m = record { session = s; mode = m }
+
+-- holders
+
+-- a mode fits in a table where it fits among the holders that are seen
+pub fits-seen : (s : ℕ) (m : Mode) (r : List ℕ) (cs : List rules.Claim) → list_all (λ h. eqb h.0 s || are_compatible m h.1) (rules.holders r cs) ≡ fits_among (claim s m) (claims_on r cs)
+fits-seen s m r [] = refl
+fits-seen s m r (c ∷ cs) = grind (arith, bool_cases (same_path c.resource r), fits-seen s m r cs)
+
+-- the holders of the resource once a lock is put
+pub claims_on-with_lock : (s : ℕ) (r : List ℕ) (m : Mode) (cs : List rules.Claim) → claims_on r (with_lock s r m cs) ≡ with_claim (claim s m) (claims_on r cs)
+claims_on-with_lock s r m [] = grind (arith, nat_tests, same_path-refl)
+claims_on-with_lock s r m (c ∷ cs) = grind (arith, nat_tests, same_path-refl, same_path_tells, claims_on-with_lock s r m cs)
+
+-- and those of another
+pub claims_on-with_lock_path : (s : ℕ) (q r : List ℕ) (m : Mode) (cs : List rules.Claim) → same_path q r ≡ false → claims_on r (with_lock s q m cs) ≡ claims_on r cs
+claims_on-with_lock_path s q r m [] h = grind (arith, nat_tests)
+claims_on-with_lock_path s q r m (c ∷ cs) h = grind (arith, nat_tests, same_path_tells, claims_on-with_lock_path s q r m cs h)
+
+-- the holders without a session
+pub claims_on-claims_but : (s : ℕ) (r : List ℕ) (cs : List rules.Claim) → claims_on r (rules.claims_but s cs) ≡ without s (claims_on r cs)
+claims_on-claims_but s r [] = refl
+claims_on-claims_but s r (c ∷ cs) = grind (arith, nat_tests, bool_cases (same_path c.resource r), claims_on-claims_but s r cs)
+
+-- who holds a resource is seen among its holders
+pub held-seen : (s : ℕ) (r : List ℕ) (cs : List rules.Claim) → is_some (rules.mode_in s r cs) ≡ has_claim s (claims_on r cs)
+held-seen s r [] = refl
+held-seen s r (c ∷ cs) = grind (arith, nat_tests, bool_cases (same_path c.resource r), held-seen s r cs)
+
+-- how many claims a session has
+
+-- how many claims a session has in a table
+abbrev pub count : ℕ → List rules.Claim → ℕ
+count s cs = length (rules.claims_of s cs)
+
+-- a new lock adds one
+pub count-with_lock : (u s : ℕ) (r : List ℕ) (m : Mode) (cs : List rules.Claim) → rules.mode_in s r cs ≡ None → count u (with_lock s r m cs) ≡ count u cs + cond (eqb s u) 1 0
+count-with_lock u s r m [] h = grind (arith, nat_tests)
+count-with_lock u s r m (c ∷ cs) h = grind (arith, nat_tests, same_path_tells, count-with_lock u s r m cs)
+
+-- without a session it has none
+pub count-claims_but : (u s : ℕ) (cs : List rules.Claim) → count u (rules.claims_but s cs) ≡ cond (eqb u s) 0 (count u cs)
+count-claims_but u s [] = grind (arith, nat_tests)
+count-claims_but u s (c ∷ cs) = grind (arith, nat_tests, count-claims_but u s cs)
+
+-- a request adds one
+pub count-push : (u : ℕ) (cs : List rules.Claim) (c : rules.Claim) → count u (cs ++ c ∷ []) ≡ count u cs + cond (eqb c.session u) 1 0
+count-push u [] c = grind (arith, nat_tests)
+count-push u (d ∷ cs) c = grind (arith, nat_tests, count-push u cs c)
+
+-- a session with a request has one at least
+pub count-request : (s : ℕ) (cs : List rules.Claim) → is_some (rules.request_of s cs) ≡ not (eqb (count s cs) 0)
+count-request s [] = refl
+count-request s (c ∷ cs) = grind (arith, nat_tests, count-request s cs)
+
+-- the same number as in the laws
+pub count-once : (s : ℕ) (cs : List rules.Claim) → times s cs ≡ count s cs
+count-once s [] = refl
+count-once s (c ∷ cs) = grind (arith, nat_tests, count-once s cs)
+
+-- queues
+
+queue-without : (s : ℕ) (qs : List rules.Claim) → map short (rules.claims_but s qs) ≡ without s (map short qs)
+queue-without s [] = refl
+queue-without s (q ∷ qs) = grind (arith, nat_tests, queue-without s qs)
+
+claims_but-others : (s : ℕ) (qs : List rules.Claim) → ((h : rules.Claim) → In h qs → eqb h.session s ≡ false) → rules.claims_but s qs ≡ qs
+claims_but-others s [] h = refl
+claims_but-others s (q ∷ qs) h =
+    ap (λ (b : Bool). cond (not b) (q ∷ rules.claims_but s qs) (rules.claims_but s qs)) (h q (inl refl))
+    ∙ ap (λ (xs : List rules.Claim). q ∷ xs) (claims_but-others s qs (λ p i. h p (inr i)))
+
+-- a session whose request is elsewhere, or that has none, doesn't wait in this queue
+pub queue-apart : (t : rules.Table) (s : ℕ) (x : List ℕ) → IsOnce t.waits → ((q : rules.Claim) → rules.request_of s t.waits ≡ Some q → same_path q.resource x ≡ false) → rules.claims_but s (queue t x) ≡ queue t x
+queue-apart t s x o h = claims_but-others s (queue t x) (λ p i. elim (bool_cases (eqb p.session s)) [
+  | inr n ↦ n
+  | inl e ↦
+      let k = In-queue t x p i in
+      let f = (Decides-eqb p.session s).0 e in
+      absurd (true≢false k.1 (h p (ap (λ (j : ℕ). rules.request_of j t.waits) (sym f) ∙ In-request p t.waits (o p.session) k.0)))
+])
+
+-- one claim is granted
+
+granted-there : (s : ℕ) (r x : List ℕ) (m : Mode) (t : rules.Table) → same_path r x ≡ false → IsOnce t.waits → ((q : rules.Claim) → rules.request_of s t.waits ≡ Some q → same_path q.resource x ≡ false) → view x (granted s r m t) ≡ view x t
+granted-there s r x m t n o h =
+    let hs : claims_on x (granted s r m t).held ≡ claims_on x t.held = claims_on-with_lock_path s r x m t.held n in
+    let ws : queue (granted s r m t) x ≡ queue t x = queue-alters s t (granted s r m t) (granted-alters s r m t) x ∙ queue-apart t s x o h in
+    λ i. record { holders = hs i; waiting = map short (ws i) }
+
+-- promotions
+
+front-seen : (r : List ℕ) (qs : List rules.Claim) (t : rules.Table) → IsSound t → queue t r ≡ qs → (x : List ℕ)
+    → view x (granted_front qs t) ≡ cond (same_path r x) (front_granted (claims_on r t.held) (map short qs)) (view x t)
+front-seen r [] t i e x = elim (same_path_tells r x) [
+  | inl h ↦ subst (λ (p : List ℕ). view p t ≡ cond (same_path r p) (record { holders = claims_on r t.held; waiting = [] }) (view p t)) h.1
+      ((λ j. record { holders = claims_on r t.held; waiting = map short (e j) }) ∙ sym (ap (λ (b : Bool). cond b (record { holders = claims_on r t.held; waiting = [] }) (view r t)) (same_path-refl r)))
+  | inr h ↦ sym (ap (λ (b : Bool). cond b (record { holders = claims_on r t.held; waiting = [] }) (view x t)) h)
+]
+front-seen r (q ∷ qs) t i e x = go (fits t q.session q.resource q.mode) refl (λ j f. front-seen r qs (granted q.session q.resource q.mode t) j f x)
+  where
+    request : (rules.request_of q.session t.waits ≡ Some q) × (same_path q.resource r ≡ true)
+    request = head-request t r q qs i.once e
+
+    path : q.resource ≡ r
+    path = same_path-true q.resource r request.1
+
+    same-fit : fits t q.session q.resource q.mode ≡ fits_among (short q) (claims_on r t.held)
+    same-fit = ap (λ (p : List ℕ). fits t q.session p q.mode) path ∙ fits-seen q.session q.mode r t.held
+
+    holders-next : claims_on r (granted q.session q.resource q.mode t).held ≡ with_claim (short q) (claims_on r t.held)
+    holders-next = ap (λ (p : List ℕ). claims_on r (with_lock q.session p q.mode t.held)) path ∙ claims_on-with_lock q.session r q.mode t.held
+
+    there : same_path r x ≡ false → view x (granted q.session q.resource q.mode t) ≡ view x t
+    there n = granted-there q.session q.resource x q.mode t (ap (λ (p : List ℕ). same_path p x) path ∙ n) i.once
+        (λ p f. let same : q ≡ p = let k = sym request.0 ∙ f in cc in ap (λ (c : rules.Claim). same_path c.resource x) (sym same) ∙ (ap (λ (y : List ℕ). same_path y x) path ∙ n))
+
+    go : (b : Bool) → fits t q.session q.resource q.mode ≡ b
+        → (IsSound (granted q.session q.resource q.mode t) → queue (granted q.session q.resource q.mode t) r ≡ qs → view x (granted_front qs (granted q.session q.resource q.mode t)) ≡ cond (same_path r x) (front_granted (claims_on r (granted q.session q.resource q.mode t).held) (map short qs)) (view x (granted q.session q.resource q.mode t)))
+        → view x (cond b (granted_front qs (granted q.session q.resource q.mode t)) t) ≡ cond (same_path r x) (cond (fits_among (short q) (claims_on r t.held)) (front_granted (with_claim (short q) (claims_on r t.held)) (map short qs)) (record { holders = claims_on r t.held; waiting = short q ∷ map short qs })) (view x t)
+    go true f more =
+        more (granted-sound q.session q.resource q.mode t i f) (queue-rest t (granted q.session q.resource q.mode t) r q qs i.once e (granted-alters q.session q.resource q.mode t))
+        ∙ (ap (λ (hs : List Claim). cond (same_path r x) (front_granted hs (map short qs)) (view x (granted q.session q.resource q.mode t))) holders-next
+        ∙ (elim (bool_cases (same_path r x)) [
+          | inl h ↦ rw h refl
+          | inr h ↦ ap (λ (b : Bool). cond b (front_granted (with_claim (short q) (claims_on r t.held)) (map short qs)) (view x (granted q.session q.resource q.mode t))) h ∙ (there h ∙ sym (ap (λ (b : Bool). cond b (front_granted (with_claim (short q) (claims_on r t.held)) (map short qs)) (view x t)) h))
+        ]
+        ∙ ap (λ (b : Bool). cond (same_path r x) (cond b (front_granted (with_claim (short q) (claims_on r t.held)) (map short qs)) (record { holders = claims_on r t.held; waiting = short q ∷ map short qs })) (view x t)) (sym f ∙ same-fit)))
+    go false f more =
+        elim (same_path_tells r x) [
+          | inl h ↦ subst (λ (p : List ℕ). view p t ≡ cond (same_path r p) (record { holders = claims_on r t.held; waiting = short q ∷ map short qs }) (view p t)) h.1
+              ((λ j. record { holders = claims_on r t.held; waiting = map short (e j) }) ∙ sym (ap (λ (b : Bool). cond b (record { holders = claims_on r t.held; waiting = short q ∷ map short qs }) (view r t)) (same_path-refl r)))
+          | inr h ↦ sym (ap (λ (b : Bool). cond b (record { holders = claims_on r t.held; waiting = short q ∷ map short qs }) (view x t)) h)
+        ]
+        ∙ ap (λ (b : Bool). cond (same_path r x) (cond b (front_granted (with_claim (short q) (claims_on r t.held)) (map short qs)) (record { holders = claims_on r t.held; waiting = short q ∷ map short qs })) (view x t)) (sym f ∙ same-fit)
+
+promoted-seen : (r : List ℕ) (t : rules.Table) → IsSound t → (x : List ℕ) → view x (promoted r t) ≡ cond (same_path r x) (promoted_view (view x t)) (view x t)
+promoted-seen r t i x = front-seen r (queue t r) t i refl x ∙ elim (same_path_tells r x) [
+  | inl h ↦ subst (λ (p : List ℕ). cond (same_path r p) (promoted_view (view r t)) (view p t) ≡ cond (same_path r p) (promoted_view (view p t)) (view p t)) h.1 refl
+  | inr h ↦ rw h refl
+]
+
+-- each resource that is named was promoted
+pub all-seen : (rs : List (List ℕ)) (t : rules.Table) → IsSound t → (x : List ℕ) → view x (promoted_all rs t) ≡ cond (has_path x rs) (promoted_view (view x t)) (view x t)
+all-seen [] t i x = refl
+all-seen (r ∷ rs) t i x =
+    all-seen rs (promoted r t) (promoted-promoted r t i).follows.sound x
+    ∙ (ap (λ (v : View). cond (has_path x rs) (promoted_view v) v) (promoted-seen r t i x)
+    ∙ go (same_path r x) (has_path x rs))
+  where
+    go : (b c : Bool) → cond c (promoted_view (cond b (promoted_view (view x t)) (view x t))) (cond b (promoted_view (view x t)) (view x t)) ≡ cond (b || c) (promoted_view (view x t)) (view x t)
+    go true true = promoted-again (view x t)
+    go true false = refl
+    go false c = refl

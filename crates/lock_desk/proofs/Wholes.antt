@@ -1,0 +1,194 @@
+-- The rows say what the cells say, after each change.
+use Rattle.std.proofs.Common.{◌≡◌, ℕ, zero, suc, ◌<◌, Bool, true, false, cond, not, eqb, ◌&&◌, ◌||◌, inl, inr, List, [], ◌∷◌, ◌++◌, length, map, get_or, set, Option, Some, None, refl, sym, ◌∙◌, ap, arith, subst}
+use Rattle.std.specs.List.{All}
+use Rattle.std.proofs.lemmas.Bool.Decides.{nat_tests, Decides-eqb}
+use Rattle.std.proofs.lemmas.List.{get_or-set_same, get_or-set_other}
+use Rattle.std.proofs.lemmas.List.Elements.{All-head, All-tail}
+use Rattle.lock_tree.specs.Paths.{same_path}
+use Rattle.lock_rules.proofs.Lists.{bool_cases, same_path-refl, same_path-true, same_path_tells}
+use Rattle.lock_desk.specs.declared.cells.Claim.{Claim}
+use Rattle.lock_desk.specs.declared.rows.Row.{Row}
+use Rattle.lock_desk.specs.declared.desk.Desk.{Desk}
+use Rattle.lock_desk.specs.Cells.{View, with_claim, has_claim, left_view, can_grant, asked_view, has_path, AreApart}
+use Rattle.lock_desk.specs.Rows.{Standing, no_standing, standing_of, standing_at, is_wanted, asked_standing, IsKeptRow, IsSameOrAdmitted, AreSameOrAdmitted, DoAgree}
+use Rattle.lock_desk.specs.Changes.{seen, standings}
+use Rattle.lock_desk.proofs.Claims.{has_claim-with_claim, has_claim-push, has_claim-without}
+use Rattle.lock_desk.proofs.Standings.{has_path-push}
+use Rattle.lock_desk.proofs.Faces.{map-set_same, get_or-any}
+
+-- the standing of one session is written
+
+-- the others stand as before
+pub other-standing : (ss : List Standing) (s u : ℕ) (x : Standing) → eqb s u ≡ false → standing_at u (set ss s x) ≡ standing_at u ss
+other-standing ss s u x e = grind (arith, nat_tests, get_or-set_other {A = Standing})
+
+-- the session stands as written
+pub own-standing : (ss : List Standing) (s : ℕ) (x : Standing) → s < length ss → standing_at s (set ss s x) ≡ x
+own-standing ss s x lt = get_or-set_same ss s x no_standing lt
+
+-- a row that says the same changes nothing
+pub standings-same : (ws : List Row) (s : ℕ) (w new : Row) → s < length ws → w ≡ get_or ws s w → standing_of new ≡ standing_of w → map standing_of (set ws s new) ≡ map standing_of ws
+standings-same ws s w new lt at e = map-set_same standing_of ws s new (e ∙ ap standing_of (at ∙ get_or-any ws s w new lt))
+
+-- no session holds a resource twice
+pub apart-at : (ws : List Row) (s : ℕ) → All IsKeptRow ws → AreApart (standing_at s (map standing_of ws)).held
+apart-at [] s k = tt
+apart-at (w ∷ ws) zero k = (All-head IsKeptRow w ws k).apart
+apart-at (w ∷ ws) (suc s) k = apart-at ws s (All-tail IsKeptRow w ws k)
+
+-- the rows and the cells agree about the resource that has changed, and about the others as before
+pub all-agree : (r : List ℕ) (v : View) (d e : Desk) → ((q : List ℕ) → seen q e ≡ cond (same_path r q) v (seen q d)) → DoAgree r v (standings e)
+    → ((x : List ℕ) → same_path r x ≡ false → DoAgree x (seen x d) (standings e)) → (x : List ℕ) → DoAgree x (seen x e) (standings e)
+all-agree r v d e views here there x = elim (same_path_tells r x) [
+  | inl h ↦ subst (λ (w : View). DoAgree x w (standings e)) (sym (views x ∙ ap (λ (b : Bool). cond b v (seen x d)) h.0)) (subst (λ (p : List ℕ). DoAgree p v (standings e)) h.1 here)
+  | inr h ↦ subst (λ (w : View). DoAgree x w (standings e)) (sym (views x ∙ ap (λ (b : Bool). cond b v (seen x d)) h)) (there x h)
+]
+
+or-same : (b c : Bool) → c ≡ false → (b || c) ≡ b
+or-same true c e = refl
+or-same false c e = e
+
+or-true : (b c : Bool) → c ≡ true → (b || c) ≡ true
+or-true true c e = refl
+or-true false c e = e
+
+-- another resource more makes no difference
+pub has_path-other : (x r : List ℕ) (rs : List (List ℕ)) → same_path r x ≡ false → has_path x (rs ++ r ∷ []) ≡ has_path x rs
+has_path-other x r rs h = has_path-push x r rs ∙ or-same (has_path x rs) (same_path r x) h
+
+-- the new resource is there
+pub has_path-own : (r : List ℕ) (rs : List (List ℕ)) → has_path r (rs ++ r ∷ []) ≡ true
+has_path-own r rs = has_path-push r r rs ∙ or-true (has_path r rs) (same_path r r) (same_path-refl r)
+
+-- two numbers differ both ways
+pub eqb-swap : (s u : ℕ) → eqb s u ≡ false → eqb u s ≡ false
+eqb-swap s u h = grind (arith, nat_tests)
+
+-- a lock is given back
+
+-- the standing with these locks
+abbrev pub popped : List (List ℕ) → Standing → Standing
+popped front x = record { transaction = x.transaction; held = front; wanted = x.wanted }
+
+module _ (ss : List Standing) (s : ℕ) (r : List ℕ) (front : List (List ℕ)) (lt : s < length ss) (e : (standing_at s ss).held ≡ front ++ r ∷ []) where
+  abbrev after : List Standing
+  after = set ss s (popped front (standing_at s ss))
+
+  -- rows and cell agree where the lock was
+  pub popped-agree : has_path r front ≡ false → (v : View) → DoAgree r v ss → DoAgree r (left_view s v) after
+  popped-agree gone v a = record {
+    held = λ u. elim (bool_cases (eqb s u)) [
+      | inl h ↦ let f = (Decides-eqb s u).0 h in
+          rw (← f) (ap (λ (x : Standing). has_path r x.held) (own-standing ss s (popped front (standing_at s ss)) lt) ∙ (gone ∙ sym (has_claim-without s s v.holders ∙ ap (λ (b : Bool). not b && has_claim s v.holders) ((Decides-eqb s s).1 refl))))
+      | inr h ↦ ap (λ (x : Standing). has_path r x.held) (other-standing ss s u (popped front (standing_at s ss)) h) ∙ (a.held u ∙ sym (has_claim-without s u v.holders ∙ ap (λ (b : Bool). not b && has_claim u v.holders) (eqb-swap s u h)))
+    ];
+    wanted = λ u. elim (bool_cases (eqb s u)) [
+      | inl h ↦ let f = (Decides-eqb s u).0 h in rw (← f) (ap (λ (x : Standing). is_wanted r x.wanted) (own-standing ss s (popped front (standing_at s ss)) lt) ∙ a.wanted s)
+      | inr h ↦ ap (λ (x : Standing). is_wanted r x.wanted) (other-standing ss s u (popped front (standing_at s ss)) h) ∙ a.wanted u
+    ];
+  }
+
+  -- and elsewhere as before
+  pub popped-other : (x : List ℕ) → same_path r x ≡ false → (v : View) → DoAgree x v ss → DoAgree x v after
+  popped-other x n v a = record {
+    held = λ u. elim (bool_cases (eqb s u)) [
+      | inl h ↦ let f = (Decides-eqb s u).0 h in
+          rw (← f) (ap (λ (y : Standing). has_path x y.held) (own-standing ss s (popped front (standing_at s ss)) lt) ∙ (sym (ap (has_path x) e ∙ has_path-other x r front n) ∙ a.held s))
+      | inr h ↦ ap (λ (y : Standing). has_path x y.held) (other-standing ss s u (popped front (standing_at s ss)) h) ∙ a.held u
+    ];
+    wanted = λ u. elim (bool_cases (eqb s u)) [
+      | inl h ↦ let f = (Decides-eqb s u).0 h in rw (← f) (ap (λ (y : Standing). is_wanted x y.wanted) (own-standing ss s (popped front (standing_at s ss)) lt) ∙ a.wanted s)
+      | inr h ↦ ap (λ (y : Standing). is_wanted x y.wanted) (other-standing ss s u (popped front (standing_at s ss)) h) ∙ a.wanted u
+    ];
+  }
+
+-- who is admitted to one resource has the others as before
+
+wanted-other : (r x : List ℕ) (o : Option (List ℕ)) → is_wanted r o ≡ true → same_path r x ≡ false → is_wanted x o ≡ false
+wanted-other r x None h n = refl
+wanted-other r x (Some p) h n = ap (λ (q : List ℕ). same_path q x) (same_path-true p r h) ∙ n
+
+held-admitted : (r x : List ℕ) (a b : Standing) → same_path r x ≡ false → IsSameOrAdmitted r a b → has_path x b.held ≡ has_path x a.held
+held-admitted r x a b n (inl e) = ap (λ (y : Standing). has_path x y.held) e
+held-admitted r x a b n (inr e) = ap (λ (y : Standing). has_path x y.held) e.1 ∙ has_path-other x r a.held n
+
+wanted-admitted : (r x : List ℕ) (a b : Standing) → same_path r x ≡ false → IsSameOrAdmitted r a b → is_wanted x b.wanted ≡ is_wanted x a.wanted
+wanted-admitted r x a b n (inl e) = ap (λ (y : Standing). is_wanted x y.wanted) e
+wanted-admitted r x a b n (inr e) = ap (λ (y : Standing). is_wanted x y.wanted) e.1 ∙ sym (wanted-other r x a.wanted e.0 n)
+
+-- a grant elsewhere makes no difference
+pub admitted-other : (r x : List ℕ) (v : View) (old new : List Standing) → same_path r x ≡ false → AreSameOrAdmitted r old new → DoAgree x v old → DoAgree x v new
+admitted-other r x v old new n h a = record {
+  held = λ u. held-admitted r x (standing_at u old) (standing_at u new) n (h u) ∙ a.held u;
+  wanted = λ u. wanted-admitted r x (standing_at u old) (standing_at u new) n (h u) ∙ a.wanted u;
+}
+
+-- who waits for nothing is not admitted
+pub not-admitted : (r : List ℕ) (a b : Standing) → a.wanted ≡ None → IsSameOrAdmitted r a b → b ≡ a
+not-admitted r a b h (inl e) = e
+not-admitted r a b h (inr e) = absurd (let f = ap (is_wanted r) h in let g = e.0 in cc)
+
+-- a session asks
+
+module _ (ss : List Standing) (s : ℕ) (r : List ℕ) (c : Claim) (lt : s < length ss) (same : c.session ≡ s) where
+  own-claim : (hs : List Claim) → has_claim s (with_claim c hs) ≡ true
+  own-claim hs = has_claim-with_claim s c hs ∙ ap (λ (b : Bool). b || has_claim s hs) ((Decides-eqb c.session s).1 same)
+
+  other-claim : (u : ℕ) (hs : List Claim) → eqb s u ≡ false → has_claim u (with_claim c hs) ≡ has_claim u hs
+  other-claim u hs n = has_claim-with_claim u c hs ∙ ap (λ (b : Bool). b || has_claim u hs) (ap (λ (i : ℕ). eqb i u) same ∙ n)
+
+  own-push : (ws : List Claim) → has_claim s (ws ++ c ∷ []) ≡ true
+  own-push ws = has_claim-push s ws c ∙ ap (λ (b : Bool). b || has_claim s ws) ((Decides-eqb c.session s).1 same)
+
+  other-push : (u : ℕ) (ws : List Claim) → eqb s u ≡ false → has_claim u (ws ++ c ∷ []) ≡ has_claim u ws
+  other-push u ws n = has_claim-push u ws c ∙ ap (λ (b : Bool). b || has_claim u ws) (ap (λ (i : ℕ). eqb i u) same ∙ n)
+
+  abbrev asked_standings : Bool → List Standing
+  asked_standings b = set ss s (asked_standing b r (standing_at s ss))
+
+  asked-either : (v : View) (b : Bool) → DoAgree r v ss → DoAgree r (cond b (record { holders = with_claim c v.holders; waiting = v.waiting }) (record { holders = v.holders; waiting = v.waiting ++ c ∷ [] })) (asked_standings b)
+  asked-either v true a = record {
+    held = λ u. elim (bool_cases (eqb s u)) [
+      | inl h ↦ let f = (Decides-eqb s u).0 h in rw (← f) (ap (λ (x : Standing). has_path r x.held) (own-standing ss s (asked_standing true r (standing_at s ss)) lt) ∙ (has_path-own r (standing_at s ss).held ∙ sym (own-claim v.holders)))
+      | inr h ↦ ap (λ (x : Standing). has_path r x.held) (other-standing ss s u (asked_standing true r (standing_at s ss)) h) ∙ (a.held u ∙ sym (other-claim u v.holders h))
+    ];
+    wanted = λ u. elim (bool_cases (eqb s u)) [
+      | inl h ↦ let f = (Decides-eqb s u).0 h in rw (← f) (ap (λ (x : Standing). is_wanted r x.wanted) (own-standing ss s (asked_standing true r (standing_at s ss)) lt) ∙ a.wanted s)
+      | inr h ↦ ap (λ (x : Standing). is_wanted r x.wanted) (other-standing ss s u (asked_standing true r (standing_at s ss)) h) ∙ a.wanted u
+    ];
+  }
+  asked-either v false a = record {
+    held = λ u. elim (bool_cases (eqb s u)) [
+      | inl h ↦ let f = (Decides-eqb s u).0 h in rw (← f) (ap (λ (x : Standing). has_path r x.held) (own-standing ss s (asked_standing false r (standing_at s ss)) lt) ∙ a.held s)
+      | inr h ↦ ap (λ (x : Standing). has_path r x.held) (other-standing ss s u (asked_standing false r (standing_at s ss)) h) ∙ a.held u
+    ];
+    wanted = λ u. elim (bool_cases (eqb s u)) [
+      | inl h ↦ let f = (Decides-eqb s u).0 h in rw (← f) (ap (λ (x : Standing). is_wanted r x.wanted) (own-standing ss s (asked_standing false r (standing_at s ss)) lt) ∙ (same_path-refl r ∙ sym (own-push v.waiting)))
+      | inr h ↦ ap (λ (x : Standing). is_wanted r x.wanted) (other-standing ss s u (asked_standing false r (standing_at s ss)) h) ∙ (a.wanted u ∙ sym (other-push u v.waiting h))
+    ];
+  }
+
+  -- rows and cell agree about the resource that was asked for
+  pub asked-agree : (v : View) (b : Bool) → b ≡ can_grant c v → DoAgree r v ss → DoAgree r (asked_view c v) (asked_standings b)
+  asked-agree v b e a = subst (λ (x : Bool). DoAgree r (cond x (record { holders = with_claim c v.holders; waiting = v.waiting }) (record { holders = v.holders; waiting = v.waiting ++ c ∷ [] })) (asked_standings b)) e (asked-either v b a)
+
+  held-asked : (x : List ℕ) (b : Bool) → same_path r x ≡ false → has_path x (asked_standing b r (standing_at s ss)).held ≡ has_path x (standing_at s ss).held
+  held-asked x true n = has_path-other x r (standing_at s ss).held n
+  held-asked x false n = refl
+
+  wanted-asked : (x : List ℕ) (b : Bool) → same_path r x ≡ false → (standing_at s ss).wanted ≡ None → is_wanted x (asked_standing b r (standing_at s ss)).wanted ≡ is_wanted x (standing_at s ss).wanted
+  wanted-asked x true n idle = refl
+  wanted-asked x false n idle = n ∙ sym (ap (is_wanted x) idle)
+
+  -- and about the others as before
+  pub asked-other : (x : List ℕ) (v : View) (b : Bool) → same_path r x ≡ false → (standing_at s ss).wanted ≡ None → DoAgree x v ss → DoAgree x v (asked_standings b)
+  asked-other x v b n idle a = record {
+    held = λ u. elim (bool_cases (eqb s u)) [
+      | inl h ↦ let f = (Decides-eqb s u).0 h in rw (← f) (ap (λ (y : Standing). has_path x y.held) (own-standing ss s (asked_standing b r (standing_at s ss)) lt) ∙ (held-asked x b n ∙ a.held s))
+      | inr h ↦ ap (λ (y : Standing). has_path x y.held) (other-standing ss s u (asked_standing b r (standing_at s ss)) h) ∙ a.held u
+    ];
+    wanted = λ u. elim (bool_cases (eqb s u)) [
+      | inl h ↦ let f = (Decides-eqb s u).0 h in rw (← f) (ap (λ (y : Standing). is_wanted x y.wanted) (own-standing ss s (asked_standing b r (standing_at s ss)) lt) ∙ (wanted-asked x b n idle ∙ a.wanted s))
+      | inr h ↦ ap (λ (y : Standing). is_wanted x y.wanted) (other-standing ss s u (asked_standing b r (standing_at s ss)) h) ∙ a.wanted u
+    ];
+  }

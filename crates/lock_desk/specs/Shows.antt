@@ -1,0 +1,41 @@
+-- When a desk shows a state of the sequential lock manager.
+use Rattle.std.specs.Prelude.{◌≡◌, ℕ, List, [], ◌∷◌, if◌then◌else◌, length, map, Option, Some, None}
+use Rattle.lock_tree.specs.Paths.{same_path}
+use Rattle.lock_rules.specs.State as rules
+use Rattle.lock_rules.specs.declared.calls.Reply.{Reply}
+use Rattle.lock_rules.specs.Step.{Outcome}
+use Rattle.lock_rules.specs.Queue.{queue}
+use Rattle.lock_desk.specs.declared.cells.Claim.{Claim}
+use Rattle.lock_desk.specs.declared.desk.Desk.{Desk}
+use Rattle.lock_desk.specs.Cells.{View}
+use Rattle.lock_desk.specs.Rows.{requests_in}
+use Rattle.lock_desk.specs.Changes.{seen, standing}
+
+-- a claim, where its resource is known
+abbrev pub short : rules.Claim → Claim
+short c = record { session = c.session; mode = c.mode }
+
+-- the claims on the resource
+abbrev pub claims_on : List ℕ → List rules.Claim → List Claim
+claims_on r [] = []
+claims_on r (c ∷ cs) = if same_path c.resource r then short c ∷ claims_on r cs else claims_on r cs
+
+-- the holders of a resource in a table, and its queue
+abbrev pub view : List ℕ → rules.Table → View
+view r t = record { holders = claims_on r t.held; waiting = map short (queue t r) }
+
+abbrev pub number_of : Option rules.Transaction → Option ℕ
+number_of None = None
+number_of (Some x) = Some x.number
+
+-- the desk says of each resource and of each session what the state says
+pub record Shows (d : Desk) (st : rules.State) : Type 0 where
+  pub count : d.count ≡ st.count
+  pub transactions : (s : ℕ) → (standing s d).transaction ≡ number_of (st.begun s)
+  pub views : (r : List ℕ) → seen r d ≡ view r st.table
+  pub locks : (s : ℕ) → length (standing s d).held ≡ length (rules.claims_of s st.table.held)
+  pub requests : (s : ℕ) → requests_in (standing s d).wanted ≡ length (rules.claims_of s st.table.waits)
+
+-- the reply is that of the outcome, and the desk shows its state
+abbrev pub DoesAnswer : Outcome → Desk → Reply → Type 0
+DoesAnswer o d reply = (reply ≡ o.reply) × Shows d o.state

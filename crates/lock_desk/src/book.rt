@@ -1,0 +1,103 @@
+//! The book: the desk with its history.
+
+ghost use Rattle.std.specs.Prelude.{◌≡◌, ℕ, ◌+◌, ◌<◌, ◌≤◌, [], ◌∷◌, ◌++◌, IfOk, OnErr};
+ghost use Rattle.std.specs.List.{All};
+ghost use Rattle.lock_rules.specs.Step.{step};
+ghost use Rattle.lock_rules.specs.Legal.{state_of, IsLegal};
+ghost use Rattle.lock_desk.specs.Kept.{IsEntryWithin};
+
+use crate::desk::Desk;
+use crate::rows::new_row;
+use lock_rules::{Call, Entry, MAX_SESSIONS, Reply};
+use std::alloc::{AllocError as NoMemory, Global};
+use std::marker::Model;
+
+/// A lock table with the history of the calls that it has served, oldest first.
+///
+/// Contracts see it as its number of sessions and its history. The history is always legal: each reply is the one that
+/// the sequential lock manager of `lock_rules` gives there.
+#[derive(Drop)]
+pub struct Book {
+    sessions: u16,
+    desk: Desk,
+    history: Vec<Entry>,
+}
+
+impl Model for Book {
+    ghost use Rattle.lock_desk.specs.Kept.{Told, told_of, IsKept};
+
+    ghost Value = { Told };
+
+    ghost view = { told_of };
+
+    ghost invariant = { IsKept };
+}
+
+impl Book {
+    /// An empty table for sessions 1 to `sessions`, of which there are 1 to `MAX_SESSIONS`.
+    /// `NoMemory` where the rows of the sessions found no room.
+    pub fn new(alloc: Global, sessions: u16) -> Result<Book, NoMemory>
+        requires some { 1 ≤ sessions }
+        requires few { sessions ≤ MAX_SESSIONS }
+        ensures sessions { IfOk result (λ book. book.sessions ≡ sessions) }
+        ensures empty { IfOk result (λ book. book.history ≡ []) }
+    {
+        let mut rows = Vec::new(alloc);
+        for _row in 0..sessions + 1 {
+            rows.push(new_row(alloc))?;
+        }
+        let desk = Desk {
+            count: 0,
+            rows,
+            cells: Vec::new(alloc),
+        };
+        Ok(Book {
+            sessions,
+            desk,
+            history: Vec::new(alloc),
+        })
+    }
+
+    /// The number that was given to `new`.
+    pub fn sessions(&self) -> u16
+        ensures { result ≡ self.now.sessions }
+    {
+        self.sessions
+    }
+
+    /// All calls that were served with their replies, oldest first: a legal history, of these sessions alone.
+    pub fn history(&self) -> &[Entry]
+        ensures history { result.now ≡ self.now.history }
+        ensures legal { IsLegal self.now.history }
+        ensures within { All (IsEntryWithin self.now.sessions) self.now.history }
+    {
+        &self.history
+    }
+
+    /// Serves one call of a session: the reply is the one of the sequential lock manager in the state that the history
+    /// leads to, and stands in the history with its call.
+    ///
+    /// All growths come before the first change. `NoMemory` only where one of them was refused: the book is as before,
+    /// and the same call may be made again. A Begin, a Commit and a refused call grow the history alone.
+    pub fn serve(&mut self, session: u16, call: Call) -> Result<Reply, NoMemory>
+        requires some { 1 ≤ session }
+        requires within { session ≤ self.old.sessions }
+        ensures reply { let outcome = step (state_of self.old.history) session call in
+            IfOk result (λ reply. reply ≡ outcome.reply) }
+        ensures entry { IfOk result (λ reply. self.new ≡ record self.old {
+          history = self.old.history ++ record { session = session; call = call; reply = reply } ∷ [];
+        }) }
+        ensures err { OnErr result (self.new ≡ self.old) }
+    {
+        self.history.reserve(1)?;
+        let asked = call;
+        let reply = self.desk.serve(session, call)?;
+        let entry = Entry {
+            session,
+            call: asked,
+            reply,
+        };
+        self.history.push_reserved(entry);
+        Ok(reply)
+    }
+}

@@ -1,0 +1,11 @@
+pub mod Numerals
+pub mod Names
+pub mod Resources
+pub mod Sessions
+pub mod RowLaws
+pub mod RecordSteps
+pub mod CsvRecords
+pub mod TraceLaws
+pub mod TraceSteps
+pub mod Lines
+pub mod ReadBack

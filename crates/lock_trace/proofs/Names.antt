@@ -1,0 +1,87 @@
+-- Operations and modes are found by their names, and nothing else is.
+use Rattle.std.proofs.Common.{◌≡◌, ℕ, Bool, true, false, List, [], ◌∷◌, Result, Ok, Err, refl, sym, ap, ◌∙◌, arith}
+use Rattle.std.specs.Prelude.{if◌then◌else◌, bytes_eq, nat_lt, ◌<◌}
+use Rattle.std.specs.List.{list_all}
+use Rattle.std.specs.Str.{is_utf8, IsAscii}
+use Rattle.std.proofs.lemmas.Bool.Decides.{nat_tests}
+use Rattle.std.proofs.lemmas.Slice.Eq.{bytes_eq-Decides}
+use Rattle.std.proofs.lemmas.Str.{is_utf8-from_IsUtf8, IsUtf8-from_ascii}
+use Rattle.std.proofs.lemmas.Str.Ascii.{IsAscii-nil, IsAscii-cons}
+use Rattle.lock_modes.specs.declared.Mode.{Mode}
+use Rattle.lock_modes.specs.declared.Mode.TheVariants.{NL, IS, IX, S, SIX, X}
+use Rattle.lock_modes.specs.Codes.{name_of}
+use Rattle.lock_trace.specs.declared.faults.TraceKind.{TraceKind}
+use Rattle.lock_trace.specs.declared.faults.TraceKind.TheVariants as kind
+use Rattle.lock_trace.specs.declared.fields.Op.{Op}
+use Rattle.lock_trace.specs.declared.fields.Op.TheVariants as op
+use Rattle.lock_trace.specs.Fields.{named, word_of, op_in, mode_in}
+use Rattle.lock_trace.proofs.Numerals.{and_parts}
+
+-- the name of none of them
+abbrev pub Misses : {A : Type 0} → (A → List ℕ) → List A → List ℕ → Type 0
+Misses name [] bs = Unit {0}
+Misses name (x ∷ xs) bs = (bs ≡ name x → ⊥) × Misses name xs bs
+
+-- a name of none of them is a fault
+named_none : {A : Type 0} (name : A → List ℕ) (fault : TraceKind) (xs : List A) (bs : List ℕ) → Misses name xs bs → named name fault xs bs ≡ Err fault
+named_none name fault [] bs miss = refl
+named_none {A} name fault (y ∷ ys) bs miss = cases (bytes_eq bs (name y)) refl (named_none name fault ys bs miss.1)
+  where
+    cases : (b : Bool) → bytes_eq bs (name y) ≡ b → named name fault ys bs ≡ Err fault → (if b then Ok y else named name fault ys bs) ≡ Err fault
+    cases true is rest = absurd (miss.0 ((bytes_eq-Decides bs (name y)).0 is))
+    cases false is rest = rest
+
+abbrev ok : {A : Type 0} → A → Result A TraceKind
+ok a = Ok a
+
+same_ok : {A : Type 0} (a b : A) → ok a ≡ ok b → a ≡ b
+same_ok a b e = cc
+
+-- what is found has the name
+named_ok : {A : Type 0} (name : A → List ℕ) (fault : TraceKind) (xs : List A) (bs : List ℕ) (x : A) → named name fault xs bs ≡ Ok x → bs ≡ name x
+named_ok name fault [] bs x e = absurd cc
+named_ok {A} name fault (y ∷ ys) bs x e = cases (bytes_eq bs (name y)) refl (named_ok name fault ys bs x) e
+  where
+    cases : (b : Bool) → bytes_eq bs (name y) ≡ b → (named name fault ys bs ≡ Ok x → bs ≡ name x) → (if b then ok y else named name fault ys bs) ≡ ok x → bs ≡ name x
+    cases true is later found = (bytes_eq-Decides bs (name y)).0 is ∙ ap name (same_ok y x found)
+    cases false is later found = later found
+
+pub op_is : (bs : List ℕ) (o : Op) → op_in bs ≡ Ok o → bs ≡ word_of o
+op_is bs o e = named_ok word_of kind.Op (op.Begin ∷ op.Lock ∷ op.Commit ∷ []) bs o e
+
+pub mode_is : (bs : List ℕ) (m : Mode) → mode_in bs ≡ Ok m → bs ≡ name_of m
+mode_is bs m e = named_ok name_of kind.Mode (NL ∷ IS ∷ IX ∷ S ∷ SIX ∷ X ∷ []) bs m e
+
+pub mode_by_name : (m : Mode) (bs : List ℕ) → bs ≡ name_of m → mode_in bs ≡ Ok m
+mode_by_name NL bs e = rw e refl
+mode_by_name IS bs e = rw e refl
+mode_by_name IX bs e = rw e refl
+mode_by_name S bs e = rw e refl
+mode_by_name SIX bs e = rw e refl
+mode_by_name X bs e = rw e refl
+
+ascii_by_test : (bs : List ℕ) → list_all (λ b. nat_lt b 128) bs ≡ true → IsAscii bs
+ascii_by_test [] e = IsAscii-nil
+ascii_by_test (b ∷ bs) e =
+    let parts = and_parts (nat_lt b 128) (list_all (λ b. nat_lt b 128) bs) e in
+    IsAscii-cons b bs (below b parts.0) (ascii_by_test bs parts.1)
+  where
+    below : (b : ℕ) → nat_lt b 128 ≡ true → b < 128
+    below b is = grind (arith, nat_tests)
+
+is_text : (bs : List ℕ) → list_all (λ b. nat_lt b 128) bs ≡ true → is_utf8 bs ≡ true
+is_text bs e = is_utf8-from_IsUtf8 bs (IsUtf8-from_ascii bs (ascii_by_test bs e))
+
+mode_text : (m : Mode) → is_utf8 (name_of m) ≡ true
+mode_text NL = is_text _ refl
+mode_text IS = is_text _ refl
+mode_text IX = is_text _ refl
+mode_text S = is_text _ refl
+mode_text SIX = is_text _ refl
+mode_text X = is_text _ refl
+
+pub no_mode : (bs : List ℕ) → ((m : Mode) → bs ≡ name_of m → ⊥) → mode_in bs ≡ Err kind.Mode
+no_mode bs none = named_none name_of kind.Mode (NL ∷ IS ∷ IX ∷ S ∷ SIX ∷ X ∷ []) bs (none NL, (none IS, (none IX, (none S, (none SIX, (none X, tt))))))
+
+pub no_text_no_mode : (bs : List ℕ) → is_utf8 bs ≡ false → mode_in bs ≡ Err kind.Mode
+no_text_no_mode bs not = no_mode bs (λ m e. let is : is_utf8 bs ≡ true = ap is_utf8 e ∙ mode_text m in let bad : true ≡ false = sym is ∙ not in cc)

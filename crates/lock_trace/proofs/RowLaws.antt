@@ -1,0 +1,134 @@
+-- Fields are read as a row where they are the fields of that row.
+use Rattle.std.proofs.Common.{◌≡◌, ◌↔◌, ℕ, ◌<◌, ◌≤◌, ◌^◌, Bool, true, false, List, [], ◌∷◌, length, Option, Some, Result, Ok, Err, refl, sym, ap, ◌∙◌, subst, arith, ne_eqb}
+use Rattle.std.specs.Prelude.{◌==◌, ◌||◌, not, if◌then◌else◌, decimal, IfOk}
+use Rattle.csv.specs.Records.{field_at}
+use Rattle.lock_modes.specs.Codes.{name_of}
+use Rattle.lock_tree.specs.Text.{text_of}
+use Rattle.lock_rules.specs.declared.calls.Call.{Call}
+use Rattle.lock_rules.specs.declared.calls.Call.TheVariants as call
+use Rattle.lock_trace.specs.declared.faults.TraceKind.{TraceKind}
+use Rattle.lock_trace.specs.declared.faults.TraceKind.TheVariants as kind
+use Rattle.lock_trace.specs.declared.fields.Op.{Op}
+use Rattle.lock_trace.specs.declared.fields.Op.TheVariants as op
+use Rattle.lock_trace.specs.declared.rows.TraceRow.{TraceRow}
+use Rattle.lock_trace.specs.Fields.{word_of, session_in, op_in, resource_in, mode_in}
+use Rattle.lock_trace.specs.Rows.{fields_of_call, fields_of_row, HasResources, IsRow, ◌>>=◌, bare, call_in, row_in, row_of}
+use Rattle.lock_trace.proofs.Names.{op_is, mode_is, mode_by_name}
+use Rattle.lock_trace.proofs.Resources.{resource_iff, resource_back}
+use Rattle.lock_trace.proofs.Sessions.{session_iff, session_back}
+
+-- what comes of two steps comes of the second, at what the first gave
+bind_ok : {A B : Type 0} (x : Result A TraceKind) (f : A → Result B TraceKind) (b : B) → (x >>= f) ≡ Ok b → (a : A) × (x ≡ Ok a) × (f a ≡ Ok b)
+bind_ok (Ok a) f b e = (a, refl, e)
+bind_ok (Err k) f b e = absurd cc
+
+abbrev ok_call : Call → Result Call TraceKind
+ok_call c = Ok c
+
+empty : (xs : List ℕ) → (length xs == 0) ≡ true → xs ≡ []
+empty [] e = refl
+empty (x ∷ xs) e =
+    let not_none : (length (x ∷ xs) == 0) ≡ false = ne_eqb (length (x ∷ xs)) 0 (λ none. omega (arith, none)) in
+    let bad : true ≡ false = sym e ∙ not_none in
+    absurd cc
+
+bare_cases : (a b : Bool) (c : Call) (r m : List ℕ) (d : Call) → (length r == 0) ≡ a → (length m == 0) ≡ b → (if not a || not b then Err kind.Extra else ok_call c) ≡ ok_call d → (r ≡ []) × (m ≡ []) × (c ≡ d)
+bare_cases true true c r m d no_r no_m e = (empty r no_r, empty m no_m, cc)
+bare_cases true false c r m d no_r no_m e = absurd cc
+bare_cases false true c r m d no_r no_m e = absurd cc
+bare_cases false false c r m d no_r no_m e = absurd cc
+
+bare_has : (c : Call) (r m : List ℕ) (d : Call) → bare c r m ≡ Ok d → (r ≡ []) × (m ≡ []) × (c ≡ d)
+bare_has c r m d e = bare_cases (length r == 0) (length m == 0) c r m d refl refl e
+
+three : (a b b' c c' : List ℕ) → b ≡ b' → c ≡ c' → (a ∷ b ∷ c ∷ []) ≡ (a ∷ b' ∷ c' ∷ [])
+three a b b' c c' e f = rw (e, f) refl
+
+two : (a a' b b' : List ℕ) (cs : List (List ℕ)) → a ≡ a' → b ≡ b' → (a ∷ b ∷ cs) ≡ (a' ∷ b' ∷ cs)
+two a a' b b' cs e f = rw (e, f) refl
+
+read_call : (o : Op) (r m : List ℕ) (c : Call) → call_in o r m ≡ Ok c → HasResources c × ((word_of o ∷ r ∷ m ∷ []) ≡ fields_of_call c)
+read_call op.Begin r m c e =
+    let (no_r, no_m, is) = bare_has call.Begin r m c e in
+    let P : Call → Type 0 = λ d. HasResources d × ((word_of op.Begin ∷ r ∷ m ∷ []) ≡ fields_of_call d) in
+    subst P is (tt, three (word_of op.Begin) r [] m [] no_r no_m)
+read_call op.Commit r m c e =
+    let (no_r, no_m, is) = bare_has call.Commit r m c e in
+    let P : Call → Type 0 = λ d. HasResources d × ((word_of op.Commit ∷ r ∷ m ∷ []) ≡ fields_of_call d) in
+    subst P is (tt, three (word_of op.Commit) r [] m [] no_r no_m)
+read_call op.Lock r m c e =
+    let (resource, read_r, then_mode) = bind_ok (resource_in r) (λ resource. mode_in m >>= (λ mode. Ok (call.Lock resource mode))) c e in
+    let (mode, read_m, is_ok) = bind_ok (mode_in m) (λ mode. Ok (call.Lock resource mode)) c then_mode in
+    let is : call.Lock resource mode ≡ c = cc in
+    let at = (resource_iff resource r).0 read_r in
+    let P : Call → Type 0 = λ d. HasResources d × ((word_of op.Lock ∷ r ∷ m ∷ []) ≡ fields_of_call d) in
+    subst P is (at.0, three (word_of op.Lock) r (text_of resource) m (name_of mode) at.1 (mode_is m mode read_m))
+
+abbrev ok_row : TraceRow → Result TraceRow TraceKind
+ok_row x = Ok x
+
+same_row : (a b : TraceRow) → ok_row a ≡ ok_row b → a ≡ b
+same_row a b e = cc
+
+read_row : (n : ℕ) (s o r m : List ℕ) (row : TraceRow) → n < 2 ^ 16 → row_in n s o r m ≡ Ok row → IsRow n row × ((s ∷ o ∷ r ∷ m ∷ []) ≡ fields_of_row row)
+read_row n s o r m row lt e =
+    let (session, read_s, then_op) = bind_ok (session_in n s) (λ session. op_in o >>= (λ asked. call_in asked r m >>= (λ made. Ok (record { session = session; call = made })))) row e in
+    let (asked, read_o, then_call) = bind_ok (op_in o) (λ asked. call_in asked r m >>= (λ made. Ok (record { session = session; call = made }))) row then_op in
+    let (made, read_c, is_ok) = bind_ok (call_in asked r m) (λ made. Ok (record { session = session; call = made })) row then_call in
+    let made_row : TraceRow = record { session = session; call = made } in
+    let is : made_row ≡ row = same_row made_row row is_ok in
+    let text = (session_iff n session s lt).0 read_s in
+    let has = read_call asked r m made read_c in
+    let P : TraceRow → Type 0 = λ x. IsRow n x × ((s ∷ o ∷ r ∷ m ∷ []) ≡ fields_of_row x) in
+    subst P is (
+      record { first = text.first; last = text.last; resources = has.0 },
+      two s (decimal session) o (word_of asked) (r ∷ m ∷ []) text.text (op_is o asked read_o) ∙ ap (λ (fs : List (List ℕ)). decimal session ∷ fs) has.1,
+    )
+
+row_fields : (n : ℕ) (fields : List (List ℕ)) (row : TraceRow) → n < 2 ^ 16 → row_of n fields ≡ Ok row → IsRow n row × (fields ≡ fields_of_row row)
+row_fields n [] row lt e = absurd cc
+row_fields n (s ∷ []) row lt e = absurd cc
+row_fields n (s ∷ o ∷ []) row lt e = absurd cc
+row_fields n (s ∷ o ∷ r ∷ []) row lt e = absurd cc
+row_fields n (s ∷ o ∷ r ∷ m ∷ []) row lt e = read_row n s o r m row lt e
+row_fields n (s ∷ o ∷ r ∷ m ∷ x ∷ xs) row lt e = absurd cc
+
+fields_row : (n s : ℕ) (c : Call) → n < 2 ^ 16 → 0 < s → s ≤ n → HasResources c → row_of n (decimal s ∷ fields_of_call c) ≡ Ok (record { session = s; call = c })
+fields_row n s call.Begin lt some le has = rw (session_back n s lt some le) refl
+fields_row n s (call.Lock r m) lt some le has = rw (session_back n s lt some le, resource_back r has, mode_by_name m (name_of m) refl) refl
+fields_row n s call.Commit lt some le has = rw (session_back n s lt some le) refl
+
+pub row_back : (n : ℕ) (row : TraceRow) → n < 2 ^ 16 → IsRow n row → row_of n (fields_of_row row) ≡ Ok row
+row_back n row lt is = fields_row n row.session row.call lt is.first is.last is.resources
+
+pub row_iff : (n : ℕ) (row : TraceRow) (fields : List (List ℕ)) → n < 2 ^ 16 → (row_of n fields ≡ Ok row) ↔ (IsRow n row × (fields ≡ fields_of_row row))
+row_iff n row fields lt = (row_fields n fields row lt, λ h. ap (row_of n) h.1 ∙ row_back n row lt h.0)
+
+-- a row that was read is one
+pub is_row : (n : ℕ) (fields : List (List ℕ)) (result : Result TraceRow TraceKind) → n < 2 ^ 16 → result ≡ row_of n fields → IfOk result (λ row. IsRow n row)
+is_row n fields (Ok row) lt e = ((row_iff n row fields lt).0 (sym e)).0
+is_row n fields (Err k) lt e = tt
+
+abbrev some : List ℕ → Option (List ℕ)
+some x = Some x
+
+same : (x y : List ℕ) → some x ≡ some y → x ≡ y
+same x y e = cc
+
+-- four fields by their places
+pub four : (n : ℕ) (fs : List (List ℕ)) (s o r m : List ℕ) → length fs ≡ 4 → field_at fs 0 ≡ Some s → field_at fs 1 ≡ Some o → field_at fs 2 ≡ Some r → field_at fs 3 ≡ Some m → row_in n s o r m ≡ row_of n fs
+unfolding field_at
+four n [] s o r m len a b c d = absurd (omega (arith, len))
+four n (x ∷ []) s o r m len a b c d = absurd (omega (arith, len))
+four n (x ∷ y ∷ []) s o r m len a b c d = absurd (omega (arith, len))
+four n (x ∷ y ∷ z ∷ []) s o r m len a b c d = absurd (omega (arith, len))
+four n (x ∷ y ∷ z ∷ w ∷ []) s o r m len a b c d = rw (same x s a, same y o b, same z r c, same w m d) refl
+four n (x ∷ y ∷ z ∷ w ∷ v ∷ vs) s o r m len a b c d = absurd (omega (arith, len))
+
+pub not_four : (n : ℕ) (fs : List (List ℕ)) → (length fs ≡ 4 → ⊥) → Err kind.Shape ≡ row_of n fs
+not_four n [] h = refl
+not_four n (x ∷ []) h = refl
+not_four n (x ∷ y ∷ []) h = refl
+not_four n (x ∷ y ∷ z ∷ []) h = refl
+not_four n (x ∷ y ∷ z ∷ w ∷ []) h = absurd (h refl)
+not_four n (x ∷ y ∷ z ∷ w ∷ v ∷ vs) h = refl

@@ -1,0 +1,77 @@
+-- The text of a history.
+use Rattle.std.specs.Prelude.{ℕ, ◌+◌, ◌<◌, ◌^◌, List, [], ◌∷◌, ◌++◌, All, codes, decimal}
+use Rattle.lock_modes.specs.Codes.{name_of}
+use Rattle.lock_rules.specs.declared.calls.Reply.{Reply}
+use Rattle.lock_rules.specs.declared.calls.Reply.TheVariants as reply
+use Rattle.lock_rules.specs.declared.calls.Why.{Why}
+use Rattle.lock_rules.specs.declared.calls.Why.TheVariants as why
+use Rattle.lock_rules.specs.declared.calls.Entry.{Entry}
+use Rattle.lock_trace.specs.declared.rows.TraceRow.{TraceRow}
+use Rattle.lock_trace.specs.Rows.{HasResources, fields_of_row}
+
+abbrev pub name_of_why : Why → List ℕ
+name_of_why why.AlreadyOpen = codes "AlreadyOpen"
+name_of_why why.NoTransaction = codes "NoTransaction"
+name_of_why why.IsWaiting = codes "IsWaiting"
+name_of_why why.NothingAsked = codes "NothingAsked"
+name_of_why why.TooManyLocks = codes "TooManyLocks"
+name_of_why why.AlreadyHeld = codes "AlreadyHeld"
+
+-- the fields of a reply: its word and its value
+abbrev pub fields_of_reply : Reply → List (List ℕ)
+fields_of_reply (reply.Began n) = codes "began" ∷ decimal n ∷ []
+fields_of_reply (reply.Granted m) = codes "granted" ∷ name_of m ∷ []
+fields_of_reply reply.Waiting = codes "waiting" ∷ [] ∷ []
+fields_of_reply (reply.Committed n) = codes "committed" ∷ decimal n ∷ []
+fields_of_reply (reply.Refused w) = codes "refused" ∷ name_of_why w ∷ []
+
+-- the row of a trace that the entry answers
+abbrev pub row_of_entry : Entry → TraceRow
+row_of_entry e = record { session = e.session; call = e.call }
+
+-- the seven fields of an entry: its place, its row and its reply
+abbrev pub fields_of_entry : ℕ → Entry → List (List ℕ)
+fields_of_entry place e = decimal place ∷ (fields_of_row (row_of_entry e) ++ fields_of_reply e.reply)
+
+-- the fields of each entry, from a place on
+abbrev pub fields_from : ℕ → List Entry → List (List (List ℕ))
+fields_from place [] = []
+fields_from place (e ∷ es) = fields_of_entry place e ∷ fields_from (place + 1) es
+
+abbrev pub records_of_history : List Entry → List (List (List ℕ))
+records_of_history es = fields_from 0 es
+
+-- fields with a comma before each
+unfoldable pub after_commas : List (List ℕ) → List ℕ
+after_commas [] = []
+after_commas (f ∷ fs) = 44 ∷ (f ++ after_commas fs)
+
+-- fields joined by commas, and a line feed
+abbrev pub line_of : List (List ℕ) → List ℕ
+line_of [] = 10 ∷ []
+line_of (f ∷ fs) = f ++ (after_commas fs ++ 10 ∷ [])
+
+-- the lines of some records
+abbrev pub lines_of : List (List (List ℕ)) → List ℕ
+lines_of [] = []
+lines_of (r ∷ rs) = line_of r ++ lines_of rs
+
+abbrev pub text_of_history : List Entry → List ℕ
+text_of_history es = lines_of (records_of_history es)
+
+-- the numbers of a reply are of the machine
+abbrev pub ReplyFits : Reply → Type 0
+ReplyFits (reply.Began n) = n < 2 ^ 64
+ReplyFits (reply.Granted m) = Unit {0}
+ReplyFits reply.Waiting = Unit {0}
+ReplyFits (reply.Committed n) = n < 2 ^ 64
+ReplyFits (reply.Refused w) = Unit {0}
+
+-- an entry that a machine can hold
+pub record EntryFits (e : Entry) : Type 0 where
+  pub session : e.session < 2 ^ 64
+  pub resources : HasResources e.call
+  pub reply : ReplyFits e.reply
+
+abbrev pub AllFit : List Entry → Type 0
+AllFit es = All EntryFits es

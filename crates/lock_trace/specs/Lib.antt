@@ -1,0 +1,6 @@
+pub mod Fields
+pub mod Rows
+pub mod Records
+pub mod Traces
+pub mod Reading
+pub mod Histories

@@ -1,0 +1,45 @@
+//! What is wrong with a trace, and in which row.
+
+use lock_tree::PathFault;
+use thiserror::Error;
+
+/// The first faulty row of a trace, and what is wrong with it. It is shown as `row 3: Mode`.
+#[derive(Clone, Copy, Debug, PartialEq, Eq, Error)]
+#[error("row {row}: {kind}")]
+pub struct TraceFault {
+    /// The row's number. Rows are counted from 1, and empty lines aren't counted.
+    pub row: u64,
+    /// The first test that the row fails.
+    pub kind: TraceKind,
+}
+
+/// Why a row is refused. The tests of a row are made in the order in which they stand here, and the
+/// first that fails is told. They are this project's own choice, as is the format; see docs/FORMATS.md.
+#[derive(Clone, Copy, Debug, PartialEq, Eq, Error)]
+pub enum TraceKind {
+    /// The row has fewer or more fields than a row has to have.
+    #[error("Shape")]
+    Shape,
+    /// The session is no decimal number from 1 to the number of sessions, of digits alone and
+    /// without a leading zero.
+    #[error("Session")]
+    Session,
+    /// The operation is none that is known. Names are lower case.
+    #[error("Op")]
+    Op,
+    /// The operation takes a resource, and the field isn't one.
+    #[error("Path {0}")]
+    Path(PathFault),
+    /// The operation takes a mode, and the field isn't the name of one.
+    #[error("Mode")]
+    Mode,
+    /// A field that the operation doesn't take isn't empty.
+    #[error("Extra")]
+    Extra,
+    /// The reader failed while it read this row.
+    #[error("Device")]
+    Device,
+    /// Memory was refused while this row was read.
+    #[error("NoMemory")]
+    NoMemory,
+}

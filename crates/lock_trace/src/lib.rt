@@ -1,0 +1,17 @@
+//! Traces and histories as text: rows of calls are read from bytes, and histories are written to bytes.
+#![tactic(auto)]
+
+mod faults;
+mod fields;
+pub mod laws;
+mod reading;
+mod rows;
+#[cfg(test)]
+mod tests;
+mod writing;
+
+pub use faults::{TraceFault, TraceKind};
+pub use reading::read_trace;
+pub use rows::TraceRow;
+pub use std::alloc::AllocError as NoMemory;
+pub use writing::history_text;

@@ -1,0 +1,114 @@
+//! Traces out of bytes.
+
+ghost use Rattle.std.specs.Prelude.{◌≡◌, ℕ, ◌+◌, Bool, List, [], Some, IsSome, IfSome, IfOk, OnOk, if◌then◌else◌, option_map, All};
+ghost use Rattle.csv.specs.Reading.{source_of, strip_bom, is_io, error_kind};
+ghost use Rattle.csv.specs.Records.{fields_of};
+ghost use Rattle.csv.specs.declared.parser.State.TheVariants as st;
+ghost use Rattle.lock_trace.specs.declared.faults.TraceKind.TheVariants as kind;
+ghost use Rattle.lock_trace.specs.Rows.{IsRow};
+ghost use Rattle.lock_trace.specs.Records.{records_on};
+ghost use Rattle.lock_trace.specs.Traces.{Answers};
+ghost use Rattle.lock_trace.specs.Reading.{IsReading, IsNextRecord, IsNextRow};
+
+use crate::faults::{TraceFault, TraceKind};
+use crate::rows::{TraceRow, row_in_record};
+use csv::{ByteRecord, Error, Reader, ReaderBuilder};
+use std::alloc::Global;
+use std::io::Read;
+
+// A reader of records of any length, with no header.
+fn records<R: Read>(alloc: Global, input: R) -> Reader<R>
+    ensures reading { IsReading result }
+    ensures start { result.state ≡ st.StartRecord }
+    ensures source { source_of R.remaining result ≡ option_map strip_bom (R.remaining input) }
+{
+    ReaderBuilder::new()
+        .has_headers(false)
+        .flexible(true)
+        .from_reader(alloc, input)
+}
+
+fn kind_of(error: &Error) -> TraceKind
+    ensures { result ≡ (if is_io (error_kind error.now) then kind.Device else kind.NoMemory) }
+{
+    if error.is_io_error() {
+        TraceKind::Device
+    } else {
+        TraceKind::NoMemory
+    }
+}
+
+// Reads the next record, and whether there was one.
+fn next_record<R: Read>(reader: &mut Reader<R>, row: &mut ByteRecord) -> Result<bool, TraceKind>
+    requires { IsReading reader.old }
+    ensures reading { OnOk result (IsReading reader.new) }
+    ensures next { (bytes : List ℕ) → source_of R.remaining reader.old ≡ Some bytes
+        → IsNextRecord R.remaining (records_on reader.old.state [] [] bytes) reader.new (fields_of row.new) result }
+{
+    match reader.read_byte_record(row) {
+        Ok(found) => Ok(found),
+        Err(error) => Err(kind_of(&error)),
+    }
+}
+
+// The next row, or what is wrong with it.
+fn next_row<R: Read>(
+    reader: &mut Reader<R>,
+    row: &mut ByteRecord,
+    sessions: u16,
+) -> Result<Option<TraceRow>, TraceKind>
+    requires { IsReading reader.old }
+    ensures reading { IfOk result (λ found. IsSome found → IsReading reader.new) }
+    ensures row { IfOk result (λ found. IfSome found (λ row. IsRow sessions row)) }
+    ensures next { (bytes : List ℕ) → source_of R.remaining reader.old ≡ Some bytes
+        → IsNextRow R.remaining sessions (records_on reader.old.state [] [] bytes) reader.new result }
+{
+    if !next_record(reader, row)? {
+        return Ok(None);
+    }
+    match row_in_record(row, sessions) {
+        Ok(found) => Ok(Some(found)),
+        Err(kind) => Err(kind),
+    }
+}
+
+/// Reads a whole trace, for sessions that are numbered from 1 to `sessions`, which is at most
+/// `MAX_SESSIONS`. The text is comma-separated: four fields a row, which docs/FORMATS.md describes.
+///
+/// Every record has to be a row. Otherwise nothing is given back but the first faulty row, with the
+/// first test that it fails; `Device` and `NoMemory` tell the row that was being read. The reader is
+/// consumed, and a fault doesn't tell how far it was read.
+pub fn read_trace<R: Read + Drop>(
+    alloc: Global,
+    input: R,
+    sessions: u16,
+) -> Result<Vec<TraceRow>, TraceFault>
+    // This holds whatever the reader gives.
+    ensures rows { IfOk result (λ rows. All (IsRow sessions) rows.items) }
+
+    // This holds where the reader tells what it gives.
+    ensures answer { (bytes : List ℕ) → R.remaining input ≡ Some bytes
+        → Answers sessions bytes result }
+{
+    let mut reader = records(alloc, input);
+    let mut row = ByteRecord::new(alloc);
+    let mut rows = Vec::new(alloc);
+    for _ in 0..u64::MAX {
+        let number = rows.len() as u64 + 1;
+        match next_row(&mut reader, &mut row, sessions) {
+            Ok(Some(found)) => {
+                if rows.push(found).is_err() {
+                    let kind = TraceKind::NoMemory;
+                    return Err(TraceFault { row: number, kind });
+                }
+            }
+            Ok(None) => return Ok(rows),
+            Err(kind) => return Err(TraceFault { row: number, kind }),
+        }
+    }
+    let kind = TraceKind::NoMemory;
+    Err(TraceFault {
+        row: rows.len() as u64 + 1,
+        kind,
+    })
+}

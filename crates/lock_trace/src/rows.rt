@@ -1,0 +1,81 @@
+//! One row of a trace, from the fields of its record.
+
+ghost use Rattle.std.specs.Prelude.{◌≡◌, ◌<◌, Some, List, length, IfOk};
+ghost use Rattle.csv.specs.Records.{fields_of, field_at as field_in};
+ghost use Rattle.lock_trace.specs.Rows.{IsRow, HasResources, bare, call_in, row_in, row_of};
+
+use crate::faults::TraceKind;
+use crate::fields::{Op, mode_of, op_of, resource_of, session_of};
+use csv::ByteRecord;
+use lock_rules::Call;
+
+/// One row of a trace: a session's call. The rows are in the order in which the calls are made.
+#[derive(Clone, Copy, Debug, PartialEq, Eq)]
+pub struct TraceRow {
+    /// From 1 to the number of sessions.
+    pub session: u16,
+    pub call: Call,
+}
+
+// A call that takes neither a resource nor a mode.
+fn bare_call(call: Call, resource: &[u8], mode: &[u8]) -> Result<Call, TraceKind>
+    ensures { result ≡ bare call resource.now mode.now }
+{
+    if !resource.is_empty() || !mode.is_empty() {
+        return Err(TraceKind::Extra);
+    }
+    Ok(call)
+}
+
+fn call_of(op: Op, resource: &[u8], mode: &[u8]) -> Result<Call, TraceKind>
+    ensures { result ≡ call_in op resource.now mode.now }
+{
+    match op {
+        Op::Begin => bare_call(Call::Begin, resource, mode),
+        Op::Lock => {
+            let resource = resource_of(resource)?;
+            let mode = mode_of(mode)?;
+            Ok(Call::Lock(resource, mode))
+        }
+        Op::Commit => bare_call(Call::Commit, resource, mode),
+    }
+}
+
+fn read_row(
+    sessions: u16,
+    session: &[u8],
+    op: &[u8],
+    resource: &[u8],
+    mode: &[u8],
+) -> Result<TraceRow, TraceKind>
+    ensures { result ≡ row_in sessions session.now op.now resource.now mode.now }
+{
+    let session = session_of(session, sessions)?;
+    let op = op_of(op)?;
+    let call = call_of(op, resource, mode)?;
+    Ok(TraceRow { session, call })
+}
+
+// The field at a place.
+fn field_at<'a>(row: &'a ByteRecord, i: usize) -> &'a [u8]
+    requires { i < length (fields_of row.now) }
+    ensures { field_in (fields_of row.now) i ≡ Some result.now }
+{
+    row.get(i).unwrap()
+}
+
+pub(crate) fn row_in_record(row: &ByteRecord, sessions: u16) -> Result<TraceRow, TraceKind>
+    ensures value { result ≡ row_of sessions (fields_of row.now) }
+    ensures row { IfOk result (λ found. IsRow sessions found) }
+{
+    if row.len() != 4 {
+        return Err(TraceKind::Shape);
+    }
+    read_row(
+        sessions,
+        field_at(row, 0),
+        field_at(row, 1),
+        field_at(row, 2),
+        field_at(row, 3),
+    )
+}

@@ -1,0 +1,117 @@
+//! Histories as bytes.
+
+ghost use Rattle.std.specs.Prelude.{◌≡◌, ◌++◌, List, OnOk, IfOk, decimal};
+ghost use Rattle.lock_tree.specs.Text.{text_of};
+ghost use Rattle.lock_trace.specs.Rows.{fields_of_call};
+ghost use Rattle.lock_trace.specs.Histories.{name_of_why, fields_of_reply, fields_of_entry, after_commas, line_of, text_of_history};
+
+use itoa::Buffer;
+use lock_rules::{Call, Entry, Reply, Why};
+use lock_tree::Resource;
+use std::alloc::{AllocError as NoMemory, Global};
+
+// About the length of a row. Where rows are longer, the text grows as they are written.
+const ROW_BYTES: usize = 40;
+
+fn put_text(out: &mut Vec<u8>, text: &str) -> Result<(), NoMemory>
+    ensures { OnOk result (out.new.items ≡ out.old.items ++ text.now) }
+{
+    out.extend_from_slice(text.as_bytes())
+}
+
+fn put_number(out: &mut Vec<u8>, number: u64) -> Result<(), NoMemory>
+    ensures { OnOk result (out.new.items ≡ out.old.items ++ decimal number) }
+{
+    let mut buffer = Buffer::new();
+    out.extend_from_slice(buffer.format(number).as_bytes())
+}
+
+fn put_resource(out: &mut Vec<u8>, resource: &Resource) -> Result<(), NoMemory>
+    ensures { OnOk result (out.new.items ≡ out.old.items ++ text_of resource.now) }
+{
+    for (level, number) in resource.numbers().iter().enumerate() {
+        if level > 0 {
+            put_text(out, "/")?;
+        }
+        put_number(out, *number as u64)?;
+    }
+    Ok(())
+}
+
+#[tactic(auto, unfolding(crate::specs::Histories::after_commas))]
+fn put_call(out: &mut Vec<u8>, call: &Call) -> Result<(), NoMemory>
+    ensures { OnOk result (out.new.items ≡ out.old.items ++ after_commas (fields_of_call call.now)) }
+{
+    match call {
+        Call::Begin => put_text(out, ",begin,,"),
+        Call::Lock(resource, mode) => {
+            put_text(out, ",lock,")?;
+            put_resource(out, resource)?;
+            put_text(out, ",")?;
+            put_text(out, mode.name())
+        }
+        Call::Commit => put_text(out, ",commit,,"),
+    }
+}
+
+fn why_name(why: Why) -> &'static str
+    ensures { result.now ≡ name_of_why why }
+{
+    match why {
+        Why::AlreadyOpen => "AlreadyOpen",
+        Why::NoTransaction => "NoTransaction",
+        Why::IsWaiting => "IsWaiting",
+        Why::NothingAsked => "NothingAsked",
+        Why::TooManyLocks => "TooManyLocks",
+        Why::AlreadyHeld => "AlreadyHeld",
+    }
+}
+
+#[tactic(auto, unfolding(crate::specs::Histories::after_commas))]
+fn put_reply(out: &mut Vec<u8>, reply: Reply) -> Result<(), NoMemory>
+    ensures { OnOk result (out.new.items ≡ out.old.items ++ after_commas (fields_of_reply reply)) }
+{
+    match reply {
+        Reply::Began(number) => {
+            put_text(out, ",began,")?;
+            put_number(out, number)
+        }
+        Reply::Granted(mode) => {
+            put_text(out, ",granted,")?;
+            put_text(out, mode.name())
+        }
+        Reply::Waiting => put_text(out, ",waiting,"),
+        Reply::Committed(locks) => {
+            put_text(out, ",committed,")?;
+            put_number(out, locks as u64)
+        }
+        Reply::Refused(why) => {
+            put_text(out, ",refused,")?;
+            put_text(out, why_name(why))
+        }
+    }
+}
+
+fn put_entry(out: &mut Vec<u8>, place: usize, entry: &Entry) -> Result<(), NoMemory>
+    ensures { OnOk result (out.new.items ≡ out.old.items ++ line_of (fields_of_entry place entry.now)) }
+{
+    put_number(out, place as u64)?;
+    put_text(out, ",")?;
+    put_number(out, entry.session as u64)?;
+    put_call(out, &entry.call)?;
+    put_reply(out, entry.reply)?;
+    put_text(out, "\n")
+}
+
+/// The text of a history: a row of seven fields for each entry, the first of which is the entry's
+/// place, counted from 0. Fields are joined by single commas, and each row is ended by one LF. An
+/// empty history is no bytes. docs/FORMATS.md describes the fields, which are this project's own choice.
+pub fn history_text(alloc: Global, entries: &[Entry]) -> Result<Vec<u8>, NoMemory>
+    ensures { IfOk result (λ text. text.items ≡ text_of_history entries.now) }
+{
+    let mut out = Vec::with_capacity(alloc, entries.len().saturating_mul(ROW_BYTES))?;
+    for (place, entry) in entries.iter().enumerate() {
+        put_entry(&mut out, place, entry)?;
+    }
+    Ok(out)
+}

@@ -1,0 +1,5 @@
+pub mod Places
+pub mod Members
+pub mod Walks
+pub mod Youngest
+pub mod Circles

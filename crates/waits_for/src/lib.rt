@@ -1,0 +1,18 @@
+//! Who waits for whom, and who is on a circle of waits.
+//!
+//! Sessions go by their positions: session number less 1. A [`Rows`] keeps the pairs (t, u) of which t
+//! waits for u, and answers by walks over them. It knows nothing of locks or modes.
+#![tactic(auto)]
+
+pub use rows::Rows;
+pub use std::alloc::AllocError as NoMemory;
+
+pub mod laws;
+mod rows;
+mod search;
+mod square;
+#[cfg(test)]
+mod tests;
+
+/// The most sessions that a [`Rows`] is made for. This project's own limit.
+pub const MAX_SESSIONS: u16 = 256;
