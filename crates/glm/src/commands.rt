@@ -1,5 +1,9 @@
 //! The command line.
 
+ghost use Rattle.std.specs.Prelude.{◌≡◌, ◌≢◌};
+ghost use Rattle.std.specs.Io.KnownBytes.{Keeps};
+ghost use Rattle.glm.specs.Statuses.{IsStatus, status_for};
+
 use crate::replaying::{ToolFault, replay};
 use clap::error::ErrorKind;
 use clap::{Arg, ArgMatches, Command, Error, value_parser};
@@ -8,16 +12,20 @@ use lock_trace::TraceKind;
 use std::alloc::Global;
 use std::io::{Read, Write};
 
-/// Statuses of the program: what it ends with.
-const DONE: u8 = 0;
+/// The status where all was done, or help was asked for.
+pub const DONE: u8 = 0;
 
-const REFUSED: u8 = 1;
+/// The status where a row of the input was refused.
+pub const REFUSED: u8 = 1;
 
-const USAGE: u8 = 2;
+/// The status where the words of the command line are off.
+pub const USAGE: u8 = 2;
 
-const NO_MEMORY: u8 = 4;
+/// The status where memory was refused.
+pub const NO_MEMORY: u8 = 4;
 
-const DEVICE: u8 = 5;
+/// The status where a reader or a writer failed.
+pub const DEVICE: u8 = 5;
 
 // The matches of these words by the commands that there are.
 fn parsed<'a>(alloc: Global, words: &'a [&'a str]) -> Result<ArgMatches<'a>, Error> {
@@ -37,7 +45,9 @@ fn parsed<'a>(alloc: Global, words: &'a [&'a str]) -> Result<ArgMatches<'a>, Err
     command.try_get_matches_from(words)
 }
 
-fn status_of(fault: &ToolFault) -> u8 {
+fn status_of(fault: &ToolFault) -> u8
+    ensures { result ≡ status_for fault.now }
+{
     match fault {
         ToolFault::Trace(fault) => match fault.kind {
             TraceKind::Device => DEVICE,
@@ -50,7 +60,9 @@ fn status_of(fault: &ToolFault) -> u8 {
 }
 
 // Tells of a fault in one line. Where standard error fails too, the status still tells.
-fn tell<E: Write>(fault: &ToolFault, errors: &mut E) -> u8 {
+fn tell<E: Write>(fault: &ToolFault, errors: &mut E) -> u8
+    ensures { result ≡ status_for fault.now }
+{
     let status = status_of(fault);
     let _told = match status {
         NO_MEMORY => writeln!(errors, "glm: out of memory"),
@@ -61,7 +73,10 @@ fn tell<E: Write>(fault: &ToolFault, errors: &mut E) -> u8 {
 }
 
 // What the words came to where they are no command: help on the output, or a usage fault.
-fn tell_usage<W: Write, E: Write>(error: &Error, output: &mut W, errors: &mut E) -> u8 {
+fn tell_usage<W: Write, E: Write>(error: &Error, output: &mut W, errors: &mut E) -> u8
+    ensures status { IsStatus result }
+    ensures silent { result ≢ DONE → result ≢ DEVICE → Keeps (W.contents output.old) (W.contents output.new) }
+{
     match error.kind() {
         ErrorKind::DisplayHelp => match write!(output, "{error}") {
             Ok(()) => DONE,
@@ -85,7 +100,10 @@ pub fn program<'a, R: Read + Drop, W: Write, E: Write>(
     input: R,
     output: &mut W,
     errors: &mut E,
-) -> u8 {
+) -> u8
+    ensures status { IsStatus result }
+    ensures silent { result ≢ DONE → result ≢ DEVICE → Keeps (W.contents output.old) (W.contents output.new) }
+{
     let matches = match parsed(alloc, words) {
         Ok(matches) => matches,
         Err(error) => return tell_usage(&error, output, errors),

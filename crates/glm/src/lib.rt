@@ -4,5 +4,5 @@
 mod commands;
 mod replaying;
 
-pub use commands::program;
+pub use commands::{DEVICE, DONE, NO_MEMORY, REFUSED, USAGE, program};
 pub use replaying::{ToolFault, replay};

@@ -1,6 +1,7 @@
 //! A trace, served in its order on one lock table.
 
-ghost use Rattle.std.specs.Prelude.{◌≡◌, ℕ, ◌<◌, ◌≤◌, List, Some, map, IfOk};
+ghost use Rattle.std.specs.Io.KnownBytes.{Keeps};
+ghost use Rattle.std.specs.Prelude.{◌≡◌, ◌≢◌, ℕ, ◌<◌, ◌≤◌, List, Some, map, IfOk, IfErr};
 ghost use Rattle.lock_rules.specs.declared.calls.TheConstants.{MAX_SESSIONS};
 ghost use Rattle.lock_trace.specs.Histories.{row_of_entry};
 ghost use Rattle.glm.specs.Replays.{AreRows, IsTextFor, Replays};
@@ -65,7 +66,11 @@ pub fn replay<R: Read + Drop, W: Write>(
 ) -> Result<u64, ToolFault>
     requires some { 0 < sessions }
     requires few { sessions ≤ MAX_SESSIONS }
-    ensures { (bytes : List ℕ) → R.remaining input ≡ Some bytes → Replays sessions bytes (W.contents output.old) (W.contents output.new) result }
+    // This holds whatever the reader gives.
+    ensures kept { IfErr result (λ fault. fault ≢ ToolFault.Device → Keeps (W.contents output.old) (W.contents output.new)) }
+
+    // This holds where the reader tells what it gives.
+    ensures replays { (bytes : List ℕ) → R.remaining input ≡ Some bytes → Replays sessions bytes (W.contents output.old) (W.contents output.new) result }
 {
     let rows = match read_trace(alloc, input, sessions) {
         Ok(rows) => rows,

@@ -1,7 +1,7 @@
 //! The program `glm`: the words of the command line, the standard streams and the exit status, and nothing more.
 #![tactic(auto)]
 
-use glm::program;
+use glm::{NO_MEMORY, program};
 use std::process::ExitCode;
 use std::{env, io};
 
@@ -23,7 +23,7 @@ fn main(rt: HostRuntime) -> ExitCode {
         Ok(status) => ExitCode::from(status),
         Err(_) => {
             let _told = eprintln!(rt; "glm: out of memory");
-            ExitCode::from(4)
+            ExitCode::from(NO_MEMORY)
         }
     }
 }

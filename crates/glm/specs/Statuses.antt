@@ -1,0 +1,28 @@
+-- The statuses that the program ends with.
+use Rattle.std.specs.Prelude.{◌≡◌, ◌⊎◌, ℕ}
+use Rattle.lock_trace.specs.declared.faults.TraceKind.{TraceKind}
+use Rattle.lock_trace.specs.declared.faults.TraceKind.TheVariants as kind
+use Rattle.glm.specs.declared.replaying.ToolFault.{ToolFault}
+use Rattle.glm.specs.declared.replaying.ToolFault.TheVariants as tool
+use Rattle.glm.specs.declared.commands.TheConstants.{DONE, REFUSED, USAGE, NO_MEMORY, DEVICE}
+
+-- one of the five
+abbrev pub IsStatus : ℕ → Type 0
+IsStatus status = (status ≡ DONE) ⊎ ((status ≡ REFUSED) ⊎ ((status ≡ USAGE) ⊎ ((status ≡ NO_MEMORY) ⊎ (status ≡ DEVICE))))
+
+-- the status of a fault of a row
+abbrev pub status_of_kind : TraceKind → ℕ
+status_of_kind kind.Device = DEVICE
+status_of_kind kind.NoMemory = NO_MEMORY
+status_of_kind kind.Shape = REFUSED
+status_of_kind kind.Session = REFUSED
+status_of_kind kind.Op = REFUSED
+status_of_kind (kind.Path fault) = REFUSED
+status_of_kind kind.Mode = REFUSED
+status_of_kind kind.Extra = REFUSED
+
+-- the status of a fault
+abbrev pub status_for : ToolFault → ℕ
+status_for (tool.Trace fault) = status_of_kind fault.kind
+status_for tool.NoMemory = NO_MEMORY
+status_for tool.Device = DEVICE
