@@ -23,6 +23,31 @@ const HELD_ALREADY: (&str, &str) = (
     "0,1,begin,,,began,1\n1,1,lock,4294967295,IS,granted,IS\n2,1,lock,4294967295,X,refused,AlreadyHeld\n3,1,commit,,,committed,1\n4,1,begin,,,began,2\n5,1,lock,0,SIX,granted,SIX\n6,1,commit,,,committed,1\n",
 );
 
+const TREE: (&str, &str) = (
+    "1,begin,,\n1,lock,1/2,S\n1,lock,1,IX\n1,lock,1/2,IX\n1,lock,1/2/3,X\n2,begin,,\n2,lock,1,IS\n2,lock,1/2,S\n1,release,1/2,\n1,release,1/2/3,\n1,release,1/2,\n1,commit,,\n2,lock,1/2/7,S\n2,commit,,\n",
+    "0,1,begin,,,began,1\n1,1,lock,1/2,S,refused,ParentNotHeld\n2,1,lock,1,IX,granted,IX\n3,1,lock,1/2,IX,granted,IX\n4,1,lock,1/2/3,X,granted,X\n5,2,begin,,,began,2\n6,2,lock,1,IS,granted,IS\n7,2,lock,1/2,S,waiting,\n8,1,release,1/2,,refused,ChildHeld\n9,1,release,1/2/3,,released,\n10,1,release,1/2,,released,\n11,1,commit,,,committed,1\n12,2,lock,1/2/7,S,granted,S\n13,2,commit,,,committed,3\n",
+);
+
+const DOWN_THE_TREE: (&str, &str) = (
+    "1,begin,,\n1,lock,1,IX\n1,lock,1/2,IX\n1,lock,1/2/3,X\n1,commit,,\n",
+    "0,1,begin,,,began,1\n1,1,lock,1,IX,granted,IX\n2,1,lock,1/2,IX,granted,IX\n3,1,lock,1/2/3,X,granted,X\n4,1,commit,,,committed,3\n",
+);
+
+const PARENTS_FIRST: (&str, &str) = (
+    "1,begin,,\n1,lock,1/2,S\n1,lock,1,IS\n1,lock,1/2,X\n1,lock,1/2,S\n",
+    "0,1,begin,,,began,1\n1,1,lock,1/2,S,refused,ParentNotHeld\n2,1,lock,1,IS,granted,IS\n3,1,lock,1/2,X,refused,ParentNotHeld\n4,1,lock,1/2,S,granted,S\n",
+);
+
+const LEAVES_FIRST: (&str, &str) = (
+    "1,begin,,\n1,lock,1,IX\n1,lock,1/2,IX\n1,lock,1/2/3,X\n1,release,1/2,\n1,release,1/2/3,\n1,release,1/2,\n1,release,1/2,\n1,commit,,\n",
+    "0,1,begin,,,began,1\n1,1,lock,1,IX,granted,IX\n2,1,lock,1/2,IX,granted,IX\n3,1,lock,1/2/3,X,granted,X\n4,1,release,1/2,,refused,ChildHeld\n5,1,release,1/2/3,,released,\n6,1,release,1/2,,released,\n7,1,release,1/2,,refused,NotHeld\n8,1,commit,,,committed,1\n",
+);
+
+const PARENTS_OUTRIGHT: (&str, &str) = (
+    "1,begin,,\n1,lock,1,IX\n1,lock,1/2/3,S\n1,lock,1/2,X\n1,lock,1/2/3,S\n1,lock,1/2/3/4,X\n1,lock,1/2/3,X\n1,release,1,\n1,commit,,\n",
+    "0,1,begin,,,began,1\n1,1,lock,1,IX,granted,IX\n2,1,lock,1/2/3,S,refused,ParentNotHeld\n3,1,lock,1/2,X,granted,X\n4,1,lock,1/2/3,S,granted,S\n5,1,lock,1/2/3/4,X,refused,ParentNotHeld\n6,1,lock,1/2/3,X,refused,AlreadyHeld\n7,1,release,1,,refused,ChildHeld\n8,1,commit,,,committed,3\n",
+);
+
 #[test]
 fn traces_give_their_histories(rt: HostRuntime) -> Result<(), Fail> {
     for (trace, history) in [QUEUE, READERS, REFUSALS, HELD_ALREADY, ("", "")] {
@@ -30,6 +55,22 @@ fn traces_give_their_histories(rt: HostRuntime) -> Result<(), Fail> {
         assert_eq!(rt; ran.status, 0, "{trace}");
         assert_eq!(rt; ran.output.as_slice(), history.as_bytes(), "{trace}");
         assert!(rt; ran.errors.is_empty(), "{trace}");
+    }
+    Ok(())
+}
+
+#[test]
+fn traces_of_the_tree_give_their_histories(rt: HostRuntime) -> Result<(), Fail> {
+    for (trace, history) in [
+        TREE,
+        DOWN_THE_TREE,
+        PARENTS_FIRST,
+        LEAVES_FIRST,
+        PARENTS_OUTRIGHT,
+    ] {
+        let ran = replay(&rt, trace)?;
+        assert_eq!(rt; ran.status, 0, "{trace}");
+        assert_eq!(rt; ran.output.as_slice(), history.as_bytes(), "{trace}");
     }
     Ok(())
 }

@@ -8,34 +8,29 @@ use Rattle.lock_rules.proofs.Lists.{same_path-refl, same_path_tells}
 use Rattle.lock_desk.specs.declared.rows.Row.{Row}
 use Rattle.lock_desk.specs.declared.desk.Desk.{Desk}
 use Rattle.lock_desk.specs.Cells.{View, has_claim, left_view, promoted_view, has_path, AreApart, CellsBecame}
-use Rattle.lock_desk.specs.Rows.{Standing, standing_of, standing_at, requests_in, IsKeptRow, IsSameOrAdmitted, AreSameOrAdmitted, DoAgree}
+use Rattle.lock_desk.specs.Rows.{Standing, standing_of, requests_in, IsKeptRow, IsSameOrAdmitted, AreSameOrAdmitted, DoAgree}
 use Rattle.lock_desk.specs.Changes.{seen, standings, standing, weight, ended_view, IsWhole, GivesBack, HasGivenBack}
-use Rattle.lock_desk.proofs.Standings.{standings-set, standing-here, length-standings, apart-pop, requests-some}
-use Rattle.lock_desk.proofs.Wholes.{own-standing, other-standing, apart-at, all-agree, has_path-own, has_path-other, popped, popped-agree, popped-other, admitted-other, not-admitted}
+use Rattle.lock_desk.proofs.Standings.{standing-here, apart-pop, requests-some}
+use Rattle.lock_desk.proofs.Wholes.{apart-at, has_path-own, has_path-other, popped}
+use Rattle.lock_desk.proofs.Frees.{freed-agree, freed-own, freed-others, freed-views, freed-whole}
 
 module _ (d : Desk) (s : ℕ) (r : List ℕ) (row new : Row) (w : IsWhole d) (lt : s < length d.rows.items) (at : row ≡ get_or d.rows.items s row)
     (pops : row.held.items ≡ new.held.items ++ r ∷ []) (same : standing_of new ≡ popped new.held.items (standing_of row)) where
   abbrev front : List (List ℕ)
   front = new.held.items
 
-  here : standing s d ≡ standing_of row
-  here = standing-here d.rows.items s row lt at
-
   held : (standing s d).held ≡ front ++ r ∷ []
-  held = ap (λ (x : Standing). x.held) here ∙ pops
+  held = ap (λ (x : Standing). x.held) (standing-here d.rows.items s row lt at) ∙ pops
 
   apart : AreApart front × (has_path r front ≡ false)
   apart = apart-pop front r (subst AreApart held (apart-at d.rows.items s w.rows))
 
-  long : s < length (standings d)
-  long = omega (arith, lt, length-standings d.rows.items)
-
-  mid : map standing_of (set d.rows.items s new) ≡ set (standings d) s (popped front (standing s d))
-  mid = standings-set d.rows.items s new ∙ ap (λ (x : Standing). set (standings d) s x) (same ∙ ap (popped front) (sym here))
+  elsewhere : (x : List ℕ) → same_path r x ≡ false → has_path x front ≡ has_path x (standing s d).held
+  elsewhere x n = sym (ap (has_path x) held ∙ has_path-other x r front n)
 
   -- the row without the lock agrees with the cell that its holder has left
   pub back-agree : DoAgree r (left_view s (seen r d)) (map standing_of (set d.rows.items s new))
-  back-agree = subst (DoAgree r (left_view s (seen r d))) (sym mid) (popped-agree (standings d) s r front long held apart.1 (seen r d) (w.agree r))
+  back-agree = freed-agree d s r front row new lt at same apart.1 elsewhere w
 
   -- the rows are kept
   pub back-rows : vec_len new.held + 1 ≡ vec_len row.held → vec_capacity new.held ≡ vec_capacity row.held → new.wanted ≡ row.wanted → All IsKeptRow (set d.rows.items s new)
@@ -50,41 +45,30 @@ module _ (d : Desk) (s : ℕ) (r : List ℕ) (row new : Row) (w : IsWhole d) (lt
 
   module _ (e : Desk) (idle : (standing s d).wanted ≡ None) (count : e.count ≡ d.count) (v : View) (is : v ≡ promoted_view (left_view s (seen r d)))
       (b : CellsBecame r v d.cells.items e.cells.items) (agree : DoAgree r v (standings e)) (rows : All IsKeptRow e.rows.items) (granted : AreSameOrAdmitted r (map standing_of (set d.rows.items s new)) (standings e)) where
-    granted-mid : AreSameOrAdmitted r (set (standings d) s (popped front (standing s d))) (standings e)
-    granted-mid = subst (λ (ss : List Standing). AreSameOrAdmitted r ss (standings e)) mid granted
-
-    own-mid : standing_at s (set (standings d) s (popped front (standing s d))) ≡ popped front (standing s d)
-    own-mid = own-standing (standings d) s (popped front (standing s d)) long
-
-    own-after : standing s e ≡ popped front (standing s d)
-    own-after = not-admitted r _ (standing s e) (ap (λ (x : Standing). x.wanted) own-mid ∙ idle) (granted-mid s) ∙ own-mid
-
     -- what is seen is what a release brings
     pub back-gives : GivesBack s d e
     back-gives = record {
       resource = r;
       count = count;
       own = (λ i. record { transaction = (standing s d).transaction; held = held i; wanted = (standing s d).wanted })
-          ∙ sym (ap (λ (x : Standing). record { transaction = x.transaction; held = x.held ++ r ∷ []; wanted = x.wanted }) own-after);
-      others = λ u n. subst (λ (x : Standing). IsSameOrAdmitted r x (standing u e)) (other-standing (standings d) s u (popped front (standing s d)) n) (granted-mid u);
-      views = λ q. b.views q ∙ ap (λ (x : View). cond (same_path r q) x (seen q d)) is;
+          ∙ sym (ap (λ (x : Standing). record { transaction = x.transaction; held = x.held ++ r ∷ []; wanted = x.wanted }) (freed-own d s r front row new lt at same apart.1 elsewhere w e idle v is b agree rows granted));
+      others = freed-others d s r front row new lt at same apart.1 elsewhere w e idle v is b agree rows granted;
+      views = freed-views d s r front row new lt at same apart.1 elsewhere w e idle v is b agree rows granted;
     }
 
     -- and the desk is whole
     pub back-whole : IsWhole e
-    back-whole = record {
-      cells = b.kept;
-      rows = rows;
-      agree = all-agree r v d e b.views agree (λ x n. admitted-other r x (seen x d) _ (standings e) n granted-mid (popped-other (standings d) s r front long held x n (seen x d) (w.agree x)));
-    }
+    back-whole = freed-whole d s r front row new lt at same apart.1 elsewhere w e idle v is b agree rows granted
 
 -- lock after lock
 
-weight-admitted : (r : List ℕ) (a b : Standing) → IsSameOrAdmitted r a b → weight b ≡ weight a
+-- a session that is admitted has as much as before
+pub weight-admitted : (r : List ℕ) (a b : Standing) → IsSameOrAdmitted r a b → weight b ≡ weight a
 weight-admitted r a b (inl e) = ap weight e
 weight-admitted r a b (inr e) = ap weight e.1 ∙ omega (arith, requests-some r a.wanted e.0, length-append a.held (r ∷ []))
 
-transaction-admitted : (r : List ℕ) (a b : Standing) → IsSameOrAdmitted r a b → b.transaction ≡ a.transaction
+-- and its transaction
+pub transaction-admitted : (r : List ℕ) (a b : Standing) → IsSameOrAdmitted r a b → b.transaction ≡ a.transaction
 transaction-admitted r a b (inl e) = ap (λ (x : Standing). x.transaction) e
 transaction-admitted r a b (inr e) = ap (λ (x : Standing). x.transaction) e.1
 

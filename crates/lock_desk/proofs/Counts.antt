@@ -9,7 +9,7 @@ use Rattle.lock_rules.specs.Queue.{queue, fits, granted, granted_front, promoted
 use Rattle.lock_rules.specs.Step.{wanted, left, ended}
 use Rattle.lock_rules.proofs.Lists.{bool_cases, same_path-refl}
 use Rattle.lock_rules.proofs.Alters.{true≢false}
-use Rattle.lock_rules.proofs.Sound.{IsSound, head-request, queue-rest, granted-alters, granted-sound, altered-sound}
+use Rattle.lock_rules.proofs.Sound.{IsSound, head-request, queue-rest, none-below, granted-alters, granted-sound, altered-sound}
 use Rattle.lock_rules.proofs.Promote.{promoted-promoted, all-promoted}
 use Rattle.lock_rules.proofs.Cuts.{left-alters, left-none}
 use Rattle.lock_desk.specs.Cells.{has_claim}
@@ -56,19 +56,23 @@ front-weight u r (q ∷ qs) t i e = go (fits t q.session q.resource q.mode) refl
         → (IsSound (granted q.session q.resource q.mode t) → queue (granted q.session q.resource q.mode t) r ≡ qs → weight_in u (granted_front qs (granted q.session q.resource q.mode t)) ≡ weight_in u (granted q.session q.resource q.mode t))
         → weight_in u (cond b (granted_front qs (granted q.session q.resource q.mode t)) t) ≡ weight_in u t
     go true f more =
-        more (granted-sound q.session q.resource q.mode t i f) (queue-rest t (granted q.session q.resource q.mode t) r q qs i.once e (granted-alters q.session q.resource q.mode t))
+        more (granted-sound q.session q.resource q.mode t i (none-below (rules.held_mode t q.session q.resource) q.mode (i.fresh q.session q (head-request t r q qs i.once e).0)) (i.asked_under q.session q (head-request t r q qs i.once e).0) f) (queue-rest t (granted q.session q.resource q.mode t) r q qs i.once e (granted-alters q.session q.resource q.mode t))
         ∙ granted-weight u q t i (head-request t r q qs i.once e).0
     go false f more = refl
 
+-- a promotion leaves each session what it has
+pub promoted-weight : (u : ℕ) (r : List ℕ) (t : rules.Table) → IsSound t → weight_in u (promoted r t) ≡ weight_in u t
+promoted-weight u r t i = front-weight u r (queue t r) t i refl
+
 all-weight : (u : ℕ) (rs : List (List ℕ)) (t : rules.Table) → IsSound t → weight_in u (promoted_all rs t) ≡ weight_in u t
 all-weight u [] t i = refl
-all-weight u (r ∷ rs) t i = all-weight u rs (promoted r t) (promoted-promoted r t i).follows.sound ∙ front-weight u r (queue t r) t i refl
+all-weight u (r ∷ rs) t i = all-weight u rs (promoted r t) (promoted-promoted r t i).follows.sound ∙ promoted-weight u r t i
 
 -- the end of a transaction
 
 -- a table that a session leaves is sound
 pub left-sound : (s : ℕ) (t : rules.Table) → IsSound t → IsSound (left s t)
-left-sound s t i = altered-sound s t (left s t) (left-alters s t) i (λ u x k m n e f. absurd (left-none s t x k e))
+left-sound s t i = altered-sound s t (left s t) (left-alters s t) i (λ x k e. absurd (left-none s t x k e)) (λ u x k m n e f. absurd (left-none s t x k e))
 
 -- the resources that the end of a transaction touches
 abbrev pub touched : ℕ → rules.Table → List (List ℕ)

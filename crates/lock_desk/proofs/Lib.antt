@@ -12,5 +12,8 @@ pub mod Tables
 pub mod Counts
 pub mod Steps
 pub mod Shown
+pub mod Frees
+pub mod Below
+pub mod Less
 pub mod Ends
 pub mod Books

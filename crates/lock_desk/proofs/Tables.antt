@@ -9,10 +9,10 @@ use Rattle.lock_rules.specs.State as rules
 use Rattle.lock_rules.specs.Queue.{queue, fits, with_lock, granted, granted_front, promoted, promoted_all}
 use Rattle.lock_rules.proofs.Lists.{bool_cases, same_path-refl, same_path-true, same_path_tells, In, In-request, IsOnce, times}
 use Rattle.lock_rules.proofs.Alters.{queue-alters, true≢false}
-use Rattle.lock_rules.proofs.Sound.{IsSound, In-queue, head-request, queue-rest, granted-alters, granted-sound}
+use Rattle.lock_rules.proofs.Sound.{IsSound, In-queue, head-request, queue-rest, none-below, granted-alters, granted-sound}
 use Rattle.lock_rules.proofs.Promote.{promoted-promoted}
 use Rattle.lock_desk.specs.declared.cells.Claim.{Claim}
-use Rattle.lock_desk.specs.Cells.{View, has_claim, with_claim, without, fits_among, front_granted, promoted_view, has_path}
+use Rattle.lock_desk.specs.Cells.{View, has_claim, mode_of, pair_of, with_claim, without, fits_among, front_granted, promoted_view, has_path}
 use Rattle.lock_desk.specs.Shows.{short, claims_on, view}
 use Rattle.lock_desk.proofs.Grants.{promoted-again}
 
@@ -46,6 +46,16 @@ claims_on-claims_but s r (c ∷ cs) = grind (arith, nat_tests, bool_cases (same_
 pub held-seen : (s : ℕ) (r : List ℕ) (cs : List rules.Claim) → is_some (rules.mode_in s r cs) ≡ has_claim s (claims_on r cs)
 held-seen s r [] = refl
 held-seen s r (c ∷ cs) = grind (arith, nat_tests, bool_cases (same_path c.resource r), held-seen s r cs)
+
+-- the mode that it holds there is seen too
+pub mode-seen : (s : ℕ) (r : List ℕ) (cs : List rules.Claim) → rules.mode_in s r cs ≡ mode_of s (claims_on r cs)
+mode-seen s r [] = refl
+mode-seen s r (c ∷ cs) = grind (arith, nat_tests, bool_cases (same_path c.resource r), mode-seen s r cs)
+
+-- the holders with their modes are those that are seen
+pub pairs-seen : (r : List ℕ) (cs : List rules.Claim) → map pair_of (claims_on r cs) ≡ rules.holders r cs
+pairs-seen r [] = refl
+pairs-seen r (c ∷ cs) = grind (arith, bool_cases (same_path c.resource r), pairs-seen r cs)
 
 -- how many claims a session has
 
@@ -139,7 +149,7 @@ front-seen r (q ∷ qs) t i e x = go (fits t q.session q.resource q.mode) refl (
         → (IsSound (granted q.session q.resource q.mode t) → queue (granted q.session q.resource q.mode t) r ≡ qs → view x (granted_front qs (granted q.session q.resource q.mode t)) ≡ cond (same_path r x) (front_granted (claims_on r (granted q.session q.resource q.mode t).held) (map short qs)) (view x (granted q.session q.resource q.mode t)))
         → view x (cond b (granted_front qs (granted q.session q.resource q.mode t)) t) ≡ cond (same_path r x) (cond (fits_among (short q) (claims_on r t.held)) (front_granted (with_claim (short q) (claims_on r t.held)) (map short qs)) (record { holders = claims_on r t.held; waiting = short q ∷ map short qs })) (view x t)
     go true f more =
-        more (granted-sound q.session q.resource q.mode t i f) (queue-rest t (granted q.session q.resource q.mode t) r q qs i.once e (granted-alters q.session q.resource q.mode t))
+        more (granted-sound q.session q.resource q.mode t i (none-below (rules.held_mode t q.session q.resource) q.mode (i.fresh q.session q request.0)) (i.asked_under q.session q request.0) f) (queue-rest t (granted q.session q.resource q.mode t) r q qs i.once e (granted-alters q.session q.resource q.mode t))
         ∙ (ap (λ (hs : List Claim). cond (same_path r x) (front_granted hs (map short qs)) (view x (granted q.session q.resource q.mode t))) holders-next
         ∙ (elim (bool_cases (same_path r x)) [
           | inl h ↦ rw h refl
@@ -154,7 +164,8 @@ front-seen r (q ∷ qs) t i e x = go (fits t q.session q.resource q.mode) refl (
         ]
         ∙ ap (λ (b : Bool). cond (same_path r x) (cond b (front_granted (with_claim (short q) (claims_on r t.held)) (map short qs)) (record { holders = claims_on r t.held; waiting = short q ∷ map short qs })) (view x t)) (sym f ∙ same-fit)
 
-promoted-seen : (r : List ℕ) (t : rules.Table) → IsSound t → (x : List ℕ) → view x (promoted r t) ≡ cond (same_path r x) (promoted_view (view x t)) (view x t)
+-- the resource whose queue is promoted
+pub promoted-seen : (r : List ℕ) (t : rules.Table) → IsSound t → (x : List ℕ) → view x (promoted r t) ≡ cond (same_path r x) (promoted_view (view x t)) (view x t)
 promoted-seen r t i x = front-seen r (queue t r) t i refl x ∙ elim (same_path_tells r x) [
   | inl h ↦ subst (λ (p : List ℕ). cond (same_path r p) (promoted_view (view r t)) (view p t) ≡ cond (same_path r p) (promoted_view (view p t)) (view p t)) h.1 refl
   | inr h ↦ rw h refl

@@ -48,7 +48,8 @@ or-same : (b c : Bool) → c ≡ false → (b || c) ≡ b
 or-same true c e = refl
 or-same false c e = e
 
-or-true : (b c : Bool) → c ≡ true → (b || c) ≡ true
+-- where the second test holds
+pub or-true : (b c : Bool) → c ≡ true → (b || c) ≡ true
 or-true true c e = refl
 or-true false c e = e
 
@@ -70,7 +71,7 @@ eqb-swap s u h = grind (arith, nat_tests)
 abbrev pub popped : List (List ℕ) → Standing → Standing
 popped front x = record { transaction = x.transaction; held = front; wanted = x.wanted }
 
-module _ (ss : List Standing) (s : ℕ) (r : List ℕ) (front : List (List ℕ)) (lt : s < length ss) (e : (standing_at s ss).held ≡ front ++ r ∷ []) where
+module _ (ss : List Standing) (s : ℕ) (r : List ℕ) (front : List (List ℕ)) (lt : s < length ss) (elsewhere : (x : List ℕ) → same_path r x ≡ false → has_path x front ≡ has_path x (standing_at s ss).held) where
   abbrev after : List Standing
   after = set ss s (popped front (standing_at s ss))
 
@@ -93,7 +94,7 @@ module _ (ss : List Standing) (s : ℕ) (r : List ℕ) (front : List (List ℕ))
   popped-other x n v a = record {
     held = λ u. elim (bool_cases (eqb s u)) [
       | inl h ↦ let f = (Decides-eqb s u).0 h in
-          rw (← f) (ap (λ (y : Standing). has_path x y.held) (own-standing ss s (popped front (standing_at s ss)) lt) ∙ (sym (ap (has_path x) e ∙ has_path-other x r front n) ∙ a.held s))
+          rw (← f) (ap (λ (y : Standing). has_path x y.held) (own-standing ss s (popped front (standing_at s ss)) lt) ∙ (elsewhere x n ∙ a.held s))
       | inr h ↦ ap (λ (y : Standing). has_path x y.held) (other-standing ss s u (popped front (standing_at s ss)) h) ∙ a.held u
     ];
     wanted = λ u. elim (bool_cases (eqb s u)) [

@@ -1,6 +1,7 @@
 -- What the cells say of a resource, and what is done there.
 use Rattle.std.specs.Prelude.{◌≡◌, ℕ, ◌+◌, ◌<◌, ◌≤◌, Bool, true, false, not, ◌&&◌, ◌||◌, if◌then◌else◌, ◌==◌, nat_lt, List, [], ◌∷◌, ◌++◌, length, map, filter, take, Option, Some, None, slice_index_or, vec_len, vec_capacity}
 use Rattle.std.specs.List.{All, list_any, list_all}
+use Rattle.lock_modes.specs.declared.Mode.{Mode}
 use Rattle.lock_modes.specs.Compatibility.{are_compatible}
 use Rattle.lock_tree.specs.Paths.{same_path}
 use Rattle.lock_desk.specs.declared.cells.Claim.{Claim}
@@ -11,6 +12,15 @@ use Rattle.lock_desk.specs.declared.cells.Cell.{Cell}
 -- the session has a claim among them
 abbrev pub has_claim : ℕ → List Claim → Bool
 has_claim s cs = list_any (λ c. c.session == s) cs
+
+-- the mode of the session's claim among them
+abbrev pub mode_of : ℕ → List Claim → Option Mode
+mode_of s [] = None
+mode_of s (c ∷ cs) = if c.session == s then Some c.mode else mode_of s cs
+
+-- the session of a claim with its mode
+abbrev pub pair_of : Claim → ℕ × Mode
+pair_of c = (c.session, c.mode)
 
 -- how many claims the session has
 abbrev pub times : ℕ → List Claim → ℕ

@@ -1,6 +1,7 @@
 -- What the rows say of each session.
-use Rattle.std.specs.Prelude.{◌≡◌, ℕ, ◌+◌, ◌≤◌, Bool, true, false, ◌⊎◌, List, [], ◌∷◌, ◌++◌, length, map, Option, Some, None, slice_index_or, vec_len, vec_capacity}
-use Rattle.lock_tree.specs.Paths.{same_path}
+use Rattle.std.specs.Prelude.{◌≡◌, ℕ, ◌+◌, ◌≤◌, Bool, true, false, not, ◌⊎◌, List, [], ◌∷◌, ◌++◌, length, map, filter, Option, Some, None, slice_index_or, vec_len, vec_capacity}
+use Rattle.std.specs.List.{list_any}
+use Rattle.lock_tree.specs.Paths.{same_path, is_ancestor}
 use Rattle.lock_rules.specs.declared.calls.TheConstants.{MAX_LOCKS}
 use Rattle.lock_desk.specs.declared.rows.Row.{Row}
 use Rattle.lock_desk.specs.Cells.{View, has_claim, has_path, AreApart}
@@ -26,6 +27,14 @@ standings_of ws = map standing_of ws
 abbrev pub standing_at : ℕ → List Standing → Standing
 standing_at s ss = slice_index_or ss s no_standing
 
+-- one of the resources stands below this one
+abbrev pub has_below : List ℕ → List (List ℕ) → Bool
+has_below r rs = list_any (λ q. is_ancestor r q) rs
+
+-- the other resources
+abbrev pub paths_but : List ℕ → List (List ℕ) → List (List ℕ)
+paths_but r rs = filter (λ q. not (same_path q r)) rs
+
 -- this resource is waited for
 abbrev pub is_wanted : List ℕ → Option (List ℕ) → Bool
 is_wanted r None = false
@@ -45,6 +54,10 @@ pub record IsKeptRow (w : Row) : Type 0 where
 -- the session holds the resource, and waits no more
 abbrev pub admitted : List ℕ → Standing → Standing
 admitted r x = record { transaction = x.transaction; held = x.held ++ r ∷ []; wanted = None }
+
+-- the session holds the resource no more
+abbrev pub let_go : List ℕ → Standing → Standing
+let_go r x = record { transaction = x.transaction; held = paths_but r x.held; wanted = x.wanted }
 
 -- a resource more is held, or one is waited for
 abbrev pub asked_standing : Bool → List ℕ → Standing → Standing

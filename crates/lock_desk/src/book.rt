@@ -1,14 +1,17 @@
 //! The book: the desk with its history.
 
-ghost use Rattle.std.specs.Prelude.{◌≡◌, ℕ, ◌+◌, ◌<◌, ◌≤◌, [], ◌∷◌, ◌++◌, IfOk, OnErr};
+ghost use Rattle.std.specs.Prelude.{◌≡◌, ℕ, ◌+◌, ◌<◌, ◌≤◌, [], ◌∷◌, ◌++◌, IfOk, OnOk, OnErr};
 ghost use Rattle.std.specs.List.{All};
+ghost use Rattle.lock_rules.specs.State.{held_mode, holders};
 ghost use Rattle.lock_rules.specs.Step.{step};
 ghost use Rattle.lock_rules.specs.Legal.{state_of, IsLegal};
 ghost use Rattle.lock_desk.specs.Kept.{IsEntryWithin};
 
 use crate::desk::Desk;
 use crate::rows::new_row;
+use lock_modes::Mode;
 use lock_rules::{Call, Entry, MAX_SESSIONS, Reply};
+use lock_tree::Resource;
 use std::alloc::{AllocError as NoMemory, Global};
 use std::marker::Model;
 
@@ -74,11 +77,29 @@ impl Book {
         &self.history
     }
 
+    /// The mode that the session holds on the resource outright; what a request waits for is not held.
+    pub fn held(&self, session: u16, resource: Resource) -> Option<Mode>
+        requires some { 1 ≤ session }
+        requires within { session ≤ self.now.sessions }
+        ensures { result ≡ held_mode (state_of self.now.history).table session resource }
+    {
+        self.desk.held(session, resource)
+    }
+
+    /// Writes the sessions that hold the resource, each with its mode, to the list, by session number.
+    /// `NoMemory` where the list found no room: it is then as before.
+    pub fn holders(&self, resource: Resource, list: &mut Vec<(u16, Mode)>) -> Result<(), NoMemory>
+        ensures ok { OnOk result (list.new.items ≡ holders resource (state_of self.now.history).table.held) }
+        ensures err { OnErr result (list.new.items ≡ list.old.items) }
+    {
+        self.desk.holders(resource, list)
+    }
+
     /// Serves one call of a session: the reply is the one of the sequential lock manager in the state that the history
     /// leads to, and stands in the history with its call.
     ///
     /// All growths come before the first change. `NoMemory` only where one of them was refused: the book is as before,
-    /// and the same call may be made again. A Begin, a Commit and a refused call grow the history alone.
+    /// and the same call may be made again. A Begin, a Release, a Commit and a refused call grow the history alone.
     pub fn serve(&mut self, session: u16, call: Call) -> Result<Reply, NoMemory>
         requires some { 1 ≤ session }
         requires within { session ≤ self.old.sessions }

@@ -2,7 +2,7 @@
 
 ghost use Rattle.std.specs.Prelude.{◌≡◌, ℕ, ◌+◌, ◌<◌, ◌≤◌, insert, Bool, false, true, not, List, [], ◌∷◌, ◌++◌, map, IfOk, OnOk, OnErr, IfNone, IfSome, vec_len, vec_capacity};
 ghost use Rattle.lock_tree.specs.Paths.{same_path};
-ghost use Rattle.lock_desk.specs.Cells.{View, view_of, has_claim, times, with_claim, without, fits_among, next_grant, next_view, can_grant, asked_view, HasRoom, IsNew, IsOnce, IsKeptCell, AreKeptCells, IsPlace, is_busy, resource_of, has_path, cell_view, CellsBecame, ViewBecame};
+ghost use Rattle.lock_desk.specs.Cells.{View, view_of, has_claim, mode_of, pair_of, times, with_claim, without, fits_among, next_grant, next_view, can_grant, asked_view, HasRoom, IsNew, IsOnce, IsKeptCell, AreKeptCells, IsPlace, is_busy, resource_of, has_path, cell_view, CellsBecame, ViewBecame};
 
 use lock_modes::Mode;
 use lock_tree::{Resource, same_path_is_equality};
@@ -24,7 +24,7 @@ pub struct Cell {
     pub waiting: Vec<Claim>,
 }
 
-fn is_same(a: Resource, b: Resource) -> bool
+pub(crate) fn is_same(a: Resource, b: Resource) -> bool
     ensures { result ≡ same_path a b }
 {
     same_path_is_equality();
@@ -35,6 +35,31 @@ pub(crate) fn is_among(claims: &[Claim], session: u16) -> bool
     ensures { result ≡ has_claim session claims.now }
 {
     claims.iter().any(|claim| claim.session == session)
+}
+
+/// The mode of the session's claim.
+pub(crate) fn mode_among(claims: &[Claim], session: u16) -> Option<Mode>
+    ensures { result ≡ mode_of session claims.now }
+{
+    for claim in claims {
+        if claim.session == session {
+            return Some(claim.mode);
+        }
+    }
+    None
+}
+
+/// Writes the claims to the list, in their order.
+pub(crate) fn list_claims(claims: &[Claim], list: &mut Vec<(u16, Mode)>) -> Result<(), AllocError>
+    ensures ok { OnOk result (list.new.items ≡ map pair_of claims.now) }
+    ensures err { OnErr result (list.new.items ≡ list.old.items) }
+{
+    list.reserve(claims.len())?;
+    list.clear();
+    for claim in claims {
+        list.push_reserved((claim.session, claim.mode));
+    }
+    Ok(())
 }
 
 /// Whether the claim's mode is compatible with what each other session holds.

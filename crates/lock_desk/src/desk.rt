@@ -1,16 +1,16 @@
 //! The desk: all cells and rows, and what each call does to them.
 
-ghost use Rattle.std.specs.Prelude.{◌≡◌, ℕ, ◌+◌, ◌<◌, ◌≤◌, None, is_some, map, length, IfOk, OnErr, vec_len};
+ghost use Rattle.std.specs.Prelude.{◌≡◌, ℕ, ◌+◌, ◌<◌, ◌≤◌, None, is_some, map, length, IfOk, OnOk, OnErr, vec_len};
 ghost use Rattle.lock_rules.specs.State.{State};
 ghost use Rattle.lock_rules.specs.Step.{is_nothing, tests, first_failing, act, step};
 ghost use Rattle.lock_rules.proofs.Sound.{IsSound};
-ghost use Rattle.lock_desk.specs.Cells.{has_claim};
-ghost use Rattle.lock_desk.specs.Changes.{seen, standing, IsWhole, lock_tests, desk_tests, IsSameSeen, CanAsk, HasAsked, GivesBack, HasGivenBack, HasBegun, HasEnded};
+ghost use Rattle.lock_desk.specs.Cells.{has_claim, mode_of, pair_of};
+ghost use Rattle.lock_desk.specs.Changes.{seen, standing, IsWhole, lacks_seen, lock_tests, release_tests, desk_tests, IsSameSeen, CanAsk, HasAsked, CanRelease, HasReleased, GivesBack, HasGivenBack, HasBegun, HasEnded};
 ghost use Rattle.lock_desk.specs.Shows.{Shows, DoesAnswer};
 
-use crate::cells::{Cell, Claim, ask, is_among, place_of};
+use crate::cells::{Cell, Claim, ask, is_among, list_claims, mode_among, place_of};
 use crate::releases::release;
-use crate::rows::{Row, hold, make_room, want};
+use crate::rows::{Row, drop_lock, hold, holds_below, make_room, want};
 use lock_modes::Mode;
 use lock_rules::{Call, MAX_LOCKS, Reply, Why};
 use lock_tree::Resource;
@@ -35,6 +35,48 @@ impl Desk {
         }
     }
 
+    /// The mode that the session holds on the resource outright.
+    pub(crate) fn held(&self, session: u16, resource: Resource) -> Option<Mode>
+        ensures { result ≡ mode_of session (seen resource self.now).holders }
+    {
+        match place_of(&self.cells, resource) {
+            Some(at) => mode_among(&self.cells[at].holders, session),
+            None => None,
+        }
+    }
+
+    /// Writes the holders of the resource to the list, by session number.
+    pub(crate) fn holders(
+        &self,
+        resource: Resource,
+        list: &mut Vec<(u16, Mode)>,
+    ) -> Result<(), AllocError>
+        ensures ok { OnOk result (list.new.items ≡ map pair_of (seen resource self.now).holders) }
+        ensures err { OnErr result (list.new.items ≡ list.old.items) }
+    {
+        match place_of(&self.cells, resource) {
+            Some(at) => list_claims(&self.cells[at].holders, list),
+            None => {
+                list.clear();
+                Ok(())
+            }
+        }
+    }
+
+    /// Whether what the session holds on the parent doesn't cover what the mode needs there.
+    fn lacks_parent(&self, session: u16, resource: Resource, mode: Mode) -> bool
+        ensures { result ≡ lacks_seen self.now session resource mode }
+    {
+        let Some(parent) = resource.parent() else {
+            return false;
+        };
+        let held = match self.held(session, parent) {
+            Some(held) => held,
+            None => Mode::NL,
+        };
+        !held.covers(mode.parent_need())
+    }
+
     fn lock_refusal(&self, session: u16, resource: Resource, mode: Mode) -> Option<Why>
         requires { session < vec_len self.now.rows }
         ensures { result ≡ first_failing (lock_tests self.now session resource mode) }
@@ -45,9 +87,25 @@ impl Desk {
         if self.holds(session, resource) {
             return Some(Why::AlreadyHeld);
         }
+        if self.lacks_parent(session, resource, mode) {
+            return Some(Why::ParentNotHeld);
+        }
         let row = &self.rows[session as usize];
         if row.held.len() >= MAX_LOCKS {
             return Some(Why::TooManyLocks);
+        }
+        None
+    }
+
+    fn release_refusal(&self, session: u16, resource: Resource) -> Option<Why>
+        requires { session < vec_len self.now.rows }
+        ensures { result ≡ first_failing (release_tests self.now session resource) }
+    {
+        if !self.holds(session, resource) {
+            return Some(Why::NotHeld);
+        }
+        if holds_below(&self.rows[session as usize], resource) {
+            return Some(Why::ChildHeld);
         }
         None
     }
@@ -63,9 +121,10 @@ impl Desk {
         match call {
             Call::Begin if open => Some(Why::AlreadyOpen),
             Call::Begin => None,
-            Call::Lock(_, _) | Call::Commit if !open => Some(Why::NoTransaction),
-            Call::Lock(_, _) | Call::Commit if waits => Some(Why::IsWaiting),
+            Call::Lock(_, _) | Call::Release(_) | Call::Commit if !open => Some(Why::NoTransaction),
+            Call::Lock(_, _) | Call::Release(_) | Call::Commit if waits => Some(Why::IsWaiting),
             Call::Lock(resource, mode) => self.lock_refusal(session, resource, mode),
+            Call::Release(resource) => self.release_refusal(session, resource),
             Call::Commit => None,
         }
     }
@@ -90,6 +149,20 @@ impl Desk {
             want(row, resource);
         }
         Ok(granted)
+    }
+
+    /// The session gives the resource back.
+    fn release(&mut self, session: u16, resource: Resource)
+        requires within { session < vec_len self.old.rows }
+        requires whole { IsWhole self.old }
+        requires can { CanRelease session resource self.old }
+        ensures released { HasReleased session resource self.old self.new }
+        ensures whole { IsWhole self.new }
+        ensures len { vec_len self.new.rows ≡ vec_len self.old.rows }
+    {
+        let row = &mut self.rows[session as usize];
+        drop_lock(row, resource);
+        release(&mut self.cells, &mut self.rows, session, resource);
     }
 
     /// Gives back what the session was granted last.
@@ -184,6 +257,10 @@ impl Desk {
                 } else {
                     Ok(Reply::Waiting)
                 }
+            }
+            Call::Release(resource) => {
+                self.release(session, resource);
+                Ok(Reply::Released)
             }
             Call::Commit => {
                 let locks = self.commit(session);

@@ -1,4 +1,5 @@
-//! The lock table for databases: transactions begin, lock resources and commit, and each call is in the history.
+//! The lock table for databases: transactions begin, lock and release resources and commit, and each call is in
+//! the history.
 //!
 //! Three layers, each of which knows only the contracts of the one below: the cells and rows, which are lists of
 //! holders, waiting requests and locks; the desk, which does what each call does to all of them; and the book, which is

@@ -2,8 +2,9 @@
 
 ghost use Rattle.std.specs.Prelude.{◌≡◌, ◌<◌, ◌≤◌, false, true, length, OnOk, vec_len, vec_capacity};
 ghost use Rattle.lock_desk.specs.Cells.{has_path};
-ghost use Rattle.lock_desk.specs.Rows.{no_standing, standing_of, admitted, asked_standing, is_wanted, IsKeptRow};
+ghost use Rattle.lock_desk.specs.Rows.{no_standing, standing_of, admitted, asked_standing, is_wanted, has_below, let_go, IsKeptRow};
 
+use crate::cells::is_same;
 use lock_rules::MAX_LOCKS;
 use lock_tree::Resource;
 use std::alloc::{AllocError, Global};
@@ -51,6 +52,22 @@ pub(crate) fn hold(row: &mut Row, resource: Resource)
     ensures kept { IsKeptRow row.new }
 {
     row.held.push_reserved(resource);
+}
+
+/// Whether the session holds a resource below this one.
+pub(crate) fn holds_below(row: &Row, resource: Resource) -> bool
+    ensures { result ≡ has_below resource row.now.held.items }
+{
+    row.held.iter().any(|held| resource.is_ancestor_of(held))
+}
+
+/// The session holds the resource no more.
+pub(crate) fn drop_lock(row: &mut Row, resource: Resource)
+    requires kept { IsKeptRow row.old }
+    ensures standing { standing_of row.new ≡ let_go resource (standing_of row.old) }
+    ensures kept { IsKeptRow row.new }
+{
+    row.held.retain(|held| !is_same(*held, resource));
 }
 
 /// The session waits for the resource.

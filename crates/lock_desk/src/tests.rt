@@ -11,6 +11,11 @@ fn resource(number: u32) -> Result<Resource, Fail> {
     Ok(resource)
 }
 
+fn below(numbers: &[u32]) -> Result<Resource, Fail> {
+    let resource = Resource::from_numbers(numbers).ok_or("no resource")?;
+    Ok(resource)
+}
+
 fn new_book(rt: &impl Abort, alloc: Global, sessions: u16) -> Result<Book, NoMemory> {
     assert!(rt; sessions >= 1);
     assert!(rt; sessions <= 256);
@@ -50,6 +55,20 @@ fn serve_all(rt: &impl Abort, book: &mut Book, entries: &[Entry]) -> Result<(), 
         assert_eq!(rt; reply, entry.reply);
     }
     Ok(())
+}
+
+fn held(rt: &impl Abort, book: &Book, session: u16, resource: Resource) -> Option<Mode> {
+    assert!(rt; session >= 1);
+    assert!(rt; session <= book.sessions());
+    book.held(session, resource)
+}
+
+/// Asks for the holders, and once more where memory was refused.
+fn holders(book: &Book, resource: Resource, list: &mut Vec<(u16, Mode)>) -> Result<(), NoMemory> {
+    match book.holders(resource, list) {
+        Ok(()) => Ok(()),
+        Err(_) => book.holders(resource, list),
+    }
 }
 
 fn entry(session: u16, call: Call, reply: Reply) -> Entry {
@@ -171,5 +190,72 @@ fn a_transaction_holds_4096_locks_and_no_more(rt: HostRuntime) -> Result<(), Fai
         Reply::Committed(4096)
     );
     assert_eq!(rt; book.history().len(), 4100);
+    Ok(())
+}
+
+#[test]
+fn locks_stand_under_their_parents_and_go_from_leaf_to_root(rt: HostRuntime) -> Result<(), Fail> {
+    let base = resource(1)?;
+    let file = below(&[1, 7])?;
+    let page = below(&[1, 7, 0])?;
+    let lacks = Reply::Refused(Why::ParentNotHeld);
+    let entries = [
+        entry(1, Call::Release(base), Reply::Refused(Why::NoTransaction)),
+        entry(1, Call::Begin, Reply::Began(1)),
+        entry(1, Call::Release(base), Reply::Refused(Why::NotHeld)),
+        entry(1, Call::Lock(file, Mode::X), lacks),
+        entry(1, Call::Lock(base, Mode::IS), Reply::Granted(Mode::IS)),
+        entry(1, Call::Lock(file, Mode::X), lacks),
+        entry(1, Call::Lock(file, Mode::S), Reply::Granted(Mode::S)),
+        entry(1, Call::Release(base), Reply::Refused(Why::ChildHeld)),
+        entry(1, Call::Release(file), Reply::Released),
+        entry(1, Call::Release(base), Reply::Released),
+        entry(1, Call::Lock(base, Mode::IX), Reply::Granted(Mode::IX)),
+        entry(1, Call::Lock(page, Mode::X), lacks),
+        entry(1, Call::Lock(file, Mode::IX), Reply::Granted(Mode::IX)),
+        entry(1, Call::Lock(page, Mode::X), Reply::Granted(Mode::X)),
+        entry(1, Call::Release(base), Reply::Refused(Why::ChildHeld)),
+        entry(1, Call::Release(file), Reply::Refused(Why::ChildHeld)),
+        entry(1, Call::Release(page), Reply::Released),
+        entry(1, Call::Release(page), Reply::Refused(Why::NotHeld)),
+        entry(1, Call::Release(file), Reply::Released),
+        entry(1, Call::Commit, Reply::Committed(1)),
+    ];
+    let mut book = new_book(&rt, rt.alloc(), 1)?;
+    serve_all(&rt, &mut book, &entries)?;
+    assert_eq!(rt; book.history(), entries.as_slice());
+    Ok(())
+}
+
+#[test]
+fn a_release_promotes_and_holders_are_told(rt: HostRuntime) -> Result<(), Fail> {
+    let one = resource(1)?;
+    let before = [
+        entry(1, Call::Begin, Reply::Began(1)),
+        entry(2, Call::Begin, Reply::Began(2)),
+        entry(3, Call::Begin, Reply::Began(3)),
+        entry(1, Call::Lock(one, Mode::X), Reply::Granted(Mode::X)),
+        entry(3, Call::Lock(one, Mode::S), Reply::Waiting),
+        entry(2, Call::Lock(one, Mode::S), Reply::Waiting),
+        entry(2, Call::Release(one), Reply::Refused(Why::IsWaiting)),
+    ];
+    let after = [
+        entry(1, Call::Release(one), Reply::Released),
+        entry(1, Call::Release(one), Reply::Refused(Why::NotHeld)),
+    ];
+    let mut book = new_book(&rt, rt.alloc(), 3)?;
+    let mut list = Vec::new(rt.alloc());
+    holders(&book, one, &mut list)?;
+    assert_eq!(rt; list.len(), 0);
+    serve_all(&rt, &mut book, &before)?;
+    holders(&book, one, &mut list)?;
+    assert_eq!(rt; list.as_slice(), [(1, Mode::X)].as_slice());
+    assert_eq!(rt; held(&rt, &book, 1, one), Some(Mode::X));
+    assert_eq!(rt; held(&rt, &book, 2, one), None);
+    serve_all(&rt, &mut book, &after)?;
+    holders(&book, one, &mut list)?;
+    assert_eq!(rt; list.as_slice(), [(2, Mode::S), (3, Mode::S)].as_slice());
+    assert_eq!(rt; held(&rt, &book, 1, one), None);
+    assert_eq!(rt; held(&rt, &book, 3, one), Some(Mode::S));
     Ok(())
 }

@@ -9,7 +9,7 @@ use Rattle.lock_rules.specs.State.{Claim, Table, mode_in, held_mode, request_of,
 use Rattle.lock_rules.specs.Queue.{queue, fits, with_request, is_granted, is_empty}
 use Rattle.lock_rules.proofs.Lists.{bool_cases, same_path-refl, same_path-true, IsOnce, times-none, times-append, request_of-push, claims_but-push}
 use Rattle.lock_rules.proofs.Alters.{Alters, queue-alters, request-alters}
-use Rattle.lock_rules.proofs.Sound.{IsSound, UnfitAt, head-request}
+use Rattle.lock_rules.proofs.Sound.{Stands, IsSound, UnfitAt, head-request}
 
 abbrev new : ℕ → List ℕ → Mode → Claim
 new s r m = record { session = s; resource = r; mode = m }
@@ -20,14 +20,19 @@ back s r m t n = record { waits = sym (claims_but-push s t.waits (new s r m) n r
 once-push : (s : ℕ) (r : List ℕ) (m : Mode) (qs : List Claim) → IsOnce qs → request_of s qs ≡ None → IsOnce (qs ++ new s r m ∷ [])
 once-push s r m qs o n u = grind (arith, nat_tests, times-append u qs (new s r m ∷ []), times-none s qs n, o u)
 
-pub begins-sound : (s : ℕ) (r : List ℕ) (m : Mode) (t : Table) → IsSound t → request_of s t.waits ≡ None → held_mode t s r ≡ None → IsSound (with_request s r m t)
-begins-sound s r m t i n free = record {
+pub begins-sound : (s : ℕ) (r : List ℕ) (m : Mode) (t : Table) → IsSound t → request_of s t.waits ≡ None → held_mode t s r ≡ None → Stands t s r m → IsSound (with_request s r m t)
+begins-sound s r m t i n free under = record {
   order = i.order;
   once = once-push s r m t.waits i.once n;
   fresh = λ u q e. elim (bool_cases (eqb u s)) [
     | inl f ↦ let p = own u q e ((Decides-eqb u s).0 f) in rw (p.0, ← p.1) free
     | inr k ↦ i.fresh u q (request-alters s (with_request s r m t) t (back s r m t n) u k ∙ e)
   ];
+  asked_under = λ u q e. elim (bool_cases (eqb u s)) [
+    | inl f ↦ let p = own u q e ((Decides-eqb u s).0 f) in rw (p.0, ← p.1) under
+    | inr k ↦ i.asked_under u q (request-alters s (with_request s r m t) t (back s r m t n) u k ∙ e)
+  ];
+  held_under = λ u x k e. i.held_under u x k e;
   agree = λ a b x k l d e f. i.agree a b x k l d e f;
 }
   where

@@ -9,4 +9,5 @@ pub mod Steps
 pub mod Histories
 pub mod Fronts
 pub mod SessionCalls
+pub mod Children
 pub mod States

@@ -7,7 +7,7 @@ use Rattle.std.proofs.lemmas.Bool.{and_parts, and_from}
 use Rattle.lock_modes.specs.declared.Mode.{Mode}
 use Rattle.lock_tree.specs.Paths.{same_path}
 use Rattle.lock_rules.specs.State.{Claim, mode_in, request_of, claims_but, holders}
-use Rattle.lock_rules.specs.Queue.{with_lock}
+use Rattle.lock_rules.specs.Queue.{with_lock, locks_but}
 
 pub bool_cases : (b : Bool) → (b ≡ true) ⊎ (b ≡ false)
 bool_cases true = inl refl
@@ -42,6 +42,18 @@ mode_in-with_lock_path u s x r m (c ∷ cs) h = grind (arith, nat_tests, same_pa
 pub mode_in-with_lock_other : (u s : ℕ) (x r : List ℕ) (m : Mode) (cs : List Claim) → eqb u s ≡ false → mode_in u x (with_lock s r m cs) ≡ mode_in u x cs
 mode_in-with_lock_other u s x r m [] h = grind (arith, nat_tests)
 mode_in-with_lock_other u s x r m (c ∷ cs) h = grind (arith, nat_tests, mode_in-with_lock_other u s x r m cs h)
+
+pub mode_in-locks_but : (s : ℕ) (r : List ℕ) (cs : List Claim) → mode_in s r (locks_but s r cs) ≡ None
+mode_in-locks_but s r [] = refl
+mode_in-locks_but s r (c ∷ cs) = grind (arith, nat_tests, same_path_tells, mode_in-locks_but s r cs)
+
+pub mode_in-locks_but_path : (u s : ℕ) (x r : List ℕ) (cs : List Claim) → same_path r x ≡ false → mode_in u x (locks_but s r cs) ≡ mode_in u x cs
+mode_in-locks_but_path u s x r [] h = refl
+mode_in-locks_but_path u s x r (c ∷ cs) h = grind (arith, nat_tests, same_path_tells, mode_in-locks_but_path u s x r cs h)
+
+pub mode_in-locks_but_other : (u s : ℕ) (x r : List ℕ) (cs : List Claim) → eqb u s ≡ false → mode_in u x (locks_but s r cs) ≡ mode_in u x cs
+mode_in-locks_but_other u s x r [] h = refl
+mode_in-locks_but_other u s x r (c ∷ cs) h = grind (arith, nat_tests, mode_in-locks_but_other u s x r cs h)
 
 pub mode_in-claims_but : (s : ℕ) (x : List ℕ) (cs : List Claim) → mode_in s x (claims_but s cs) ≡ None
 mode_in-claims_but s x [] = refl

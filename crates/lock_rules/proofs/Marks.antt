@@ -1,16 +1,13 @@
 -- Facts of the modes that the laws of states need, computed over whole tables.
-use Rattle.std.proofs.Common.{◌≡◌, Bool, true, false, not, ◌||◌, Option, Some, None, refl}
+use Rattle.std.proofs.Common.{◌≡◌, Bool, true, false, not, ◌||◌, Option, Some, None, refl, ap}
 use Rattle.lock_modes.specs.declared.Mode.{Mode}
 use Rattle.lock_modes.specs.declared.Mode.TheVariants.{NL}
-use Rattle.lock_modes.specs.Order.{at_or_below}
+use Rattle.lock_modes.specs.Order.{at_or_below, need_of}
 use Rattle.lock_modes.specs.Compatibility.{are_compatible}
+use Rattle.lock_rules.specs.State.{mode_or_nothing}
+use Rattle.lock_rules.specs.Step.{is_nothing}
 use Rattle.lock_modes.proofs.Every.{every-at, every3-at, implied}
 use Rattle.lock_modes.proofs.Order.{at_or_below-refl, at_or_below-trans}
-
--- who holds nothing holds NL
-abbrev pub mode_or_nothing : Option Mode → Mode
-mode_or_nothing None = NL
-mode_or_nothing (Some k) = k
 
 -- the mode asked conflicts with what is held, if anything is
 abbrev pub conflicts : Mode → Option Mode → Bool
@@ -41,3 +38,11 @@ conflicts-raised m (Some a) None h k = let r = raised m a NL h k in let e = any-
     no : (b : Bool) → b ≡ true → not b ≡ true → ⊥
     no true e r = cc
     no false e r = cc
+
+-- a mode that is something needs something
+pub need-some : (m : Mode) → is_nothing m ≡ false → at_or_below (need_of m) NL ≡ false
+need-some m h = flip _ (implied (not (is_nothing m)) _ (every-at (λ m. not (not (is_nothing m)) || not (at_or_below (need_of m) NL)) refl m) (ap not h))
+  where
+    flip : (b : Bool) → not b ≡ true → b ≡ false
+    flip true e = cc
+    flip false e = refl

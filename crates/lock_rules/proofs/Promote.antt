@@ -7,8 +7,9 @@ use Rattle.lock_tree.specs.Paths.{same_path}
 use Rattle.lock_rules.specs.State.{Claim, Table, held_mode, request_of}
 use Rattle.lock_rules.specs.Queue.{queue, fits, granted, granted_front, promoted, promoted_all}
 use Rattle.lock_rules.proofs.Lists.{same_path_tells, same_path-true}
-use Rattle.lock_rules.proofs.Marks.{mode_or_nothing, below-refl, below-trans}
-use Rattle.lock_rules.proofs.Sound.{IsSound, UnfitAt, Rises, head-request, queue-rest, unfit_at-alters, none-below, granted-alters, granted-rises, granted-sound}
+use Rattle.lock_rules.specs.State.{mode_or_nothing}
+use Rattle.lock_rules.proofs.Marks.{below-refl, below-trans}
+use Rattle.lock_rules.proofs.Sound.{Stands, IsSound, UnfitAt, Rises, head-request, queue-rest, unfit_at-alters, none-below, granted-alters, granted-rises, granted-sound}
 
 -- the table stays sound, and nobody holds less
 pub record Follows (t t' : Table) : Type 0 where
@@ -24,8 +25,8 @@ follows-trans t u w a b = record {
   rises = λ s x. below-trans (mode_or_nothing (held_mode t s x)) (mode_or_nothing (held_mode u s x)) (mode_or_nothing (held_mode w s x)) (a.rises s x) (b.rises s x);
 }
 
-pub granted-follows : (s : ℕ) (r : List ℕ) (m : Mode) (t : Table) → IsSound t → at_or_below (mode_or_nothing (held_mode t s r)) m ≡ true → fits t s r m ≡ true → Follows t (granted s r m t)
-granted-follows s r m t i up fit = record { sound = granted-sound s r m t i fit; rises = granted-rises s r m t up }
+pub granted-follows : (s : ℕ) (r : List ℕ) (m : Mode) (t : Table) → IsSound t → at_or_below (mode_or_nothing (held_mode t s r)) m ≡ true → Stands t s r m → fits t s r m ≡ true → Follows t (granted s r m t)
+granted-follows s r m t i up under fit = record { sound = granted-sound s r m t i up under fit; rises = granted-rises s r m t up }
 
 abbrev pub Elsewhere : List ℕ → Table → Table → Type 0
 Elsewhere r t t' = (x : List ℕ) → same_path r x ≡ false → UnfitAt t x → UnfitAt t' x
@@ -54,7 +55,7 @@ granted_front-promoted r (q ∷ qs) t i e = go (fits t q.session q.resource q.mo
       there = λ p ps g. let same : q ≡ p = let k = sym e ∙ g in cc in ap (λ (c : Claim). fits t c.session r c.mode) (sym same) ∙ (ap (λ (y : List ℕ). fits t q.session y q.mode) (sym path) ∙ f);
     }
     go true f next =
-        let first = granted-follows q.session q.resource q.mode t i (none-below (held_mode t q.session q.resource) q.mode (i.fresh q.session q request.0)) f in
+        let first = granted-follows q.session q.resource q.mode t i (none-below (held_mode t q.session q.resource) q.mode (i.fresh q.session q request.0)) (i.asked_under q.session q request.0) f in
         let rest = next first.sound (queue-rest t (granted q.session q.resource q.mode t) r q qs i.once e (granted-alters q.session q.resource q.mode t)) in
         record {
           follows = follows-trans t (granted q.session q.resource q.mode t) (granted_front qs (granted q.session q.resource q.mode t)) first rest.follows;

@@ -5,13 +5,16 @@ use Rattle.std.specs.List.{list_all}
 use Rattle.std.proofs.lemmas.Bool.Decides.{nat_tests, Decides-eqb}
 use Rattle.std.proofs.lemmas.Bool.{and_parts}
 use Rattle.lock_modes.specs.declared.Mode.{Mode}
-use Rattle.lock_modes.specs.Order.{at_or_below}
+use Rattle.lock_modes.specs.Order.{IsAtOrBelow, at_or_below, need_of}
+use Rattle.lock_modes.proofs.Order.{order-from}
 use Rattle.lock_modes.specs.Compatibility.{are_compatible}
-use Rattle.lock_tree.specs.Paths.{same_path}
-use Rattle.lock_rules.specs.State.{Claim, Table, mode_in, held_mode, request_of, claims_but, holders}
+use Rattle.lock_tree.specs.Paths.{same_path, parent_of, has_parent}
+use Rattle.lock_rules.specs.Laws.{IsUnderParent}
+use Rattle.lock_rules.specs.State.{Claim, Table, mode_in, held_mode, mode_or_nothing, request_of, claims_but, holders}
 use Rattle.lock_rules.specs.Queue.{queue, fits, granted}
+use Rattle.lock_rules.specs.Step.{is_nothing, lacks_parent}
 use Rattle.lock_rules.proofs.Lists.{IsOrdered, ordered-with_lock, seek, seek-after, mode_in-seek, ascend, after, bool_cases, eqb-refl, same_path_tells, mode_in-with_lock, mode_in-with_lock_path, mode_in-with_lock_other, IsOnce, times, times-claims_but, times-append, times-apart, In, In-append, In-filter, In-request}
-use Rattle.lock_rules.proofs.Marks.{mode_or_nothing, conflicts, below-refl, conflicts-raised, nothing-below}
+use Rattle.lock_rules.proofs.Marks.{need-some, conflicts, below-refl, below-trans, conflicts-raised, nothing-below}
 use Rattle.lock_rules.proofs.Alters.{Alters, queue-alters, request-alters, request-gone, true≢false}
 
 -- one order at least is compatible
@@ -21,25 +24,47 @@ Agree a b = (are_compatible a b ≡ true) ⊎ (are_compatible b a ≡ true)
 pub Agree-swap : (a b : Mode) → Agree a b → Agree b a
 Agree-swap a b h = elim h [ inl k ↦ inr k | inr k ↦ inl k ]
 
--- holders ascend; a session has one request at most, and holds nothing where it waits; holders of one resource go together
+-- the parent is held as the mode needs, and the mode is something
+abbrev pub Stands : Table → ℕ → List ℕ → Mode → Type 0
+Stands t s r m = (lacks_parent t s r m ≡ false) × (is_nothing m ≡ false)
+
+-- holders ascend; a session has one request at most, and holds nothing where it waits; requests and locks stand under
+-- their parents; holders of one resource go together
 pub record IsSound (t : Table) : Type 0 where
   pub order : IsOrdered t.held
   pub once : IsOnce t.waits
   pub fresh : (s : ℕ) (q : Claim) → request_of s t.waits ≡ Some q → held_mode t s q.resource ≡ None
+  pub asked_under : (s : ℕ) (q : Claim) → request_of s t.waits ≡ Some q → Stands t s q.resource q.mode
+  pub held_under : (s : ℕ) (r : List ℕ) (k : Mode) → held_mode t s r ≡ Some k → Stands t s r k
   pub agree : (s u : ℕ) (r : List ℕ) (k l : Mode) → eqb s u ≡ false → held_mode t s r ≡ Some k → held_mode t u r ≡ Some l → Agree k l
+
+pub lacks-same : (t t' : Table) (s : ℕ) (r : List ℕ) (m : Mode) → mode_in s (parent_of r) t'.held ≡ mode_in s (parent_of r) t.held → lacks_parent t s r m ≡ false → lacks_parent t' s r m ≡ false
+lacks-same t t' s r m e h = ap (λ (o : Option Mode). has_parent r && not (at_or_below (need_of m) (mode_or_nothing o))) e ∙ h
 
 pub eqb-swap : (s u : ℕ) → eqb s u ≡ false → eqb u s ≡ false
 eqb-swap s u h = grind (arith, nat_tests)
 
+pub stands-same : (t t' : Table) (s : ℕ) (r : List ℕ) (m : Mode) → mode_in s (parent_of r) t'.held ≡ mode_in s (parent_of r) t.held → Stands t s r m → Stands t' s r m
+stands-same t t' s r m e h = (lacks-same t t' s r m e h.0, h.1)
+
 pub altered-sound : (v : ℕ) (t t' : Table) → Alters v t t' → IsSound t
+    → ((r : List ℕ) (k : Mode) → held_mode t' v r ≡ Some k → Stands t' v r k)
     → ((u : ℕ) (r : List ℕ) (k l : Mode) → eqb u v ≡ false → held_mode t' v r ≡ Some k → held_mode t u r ≡ Some l → Agree k l)
     → IsSound t'
-altered-sound v t t' a i agree = record {
+altered-sound v t t' a i under agree = record {
   order = a.order i.order;
   once = λ s. omega (arith, times-claims_but s v t.waits, i.once s, ap (times s) a.waits);
   fresh = λ s q e. elim (bool_cases (eqb s v)) [
     | inl f ↦ absurd (gone s q e ((Decides-eqb s v).0 f))
     | inr n ↦ a.others s q.resource n ∙ i.fresh s q (sym (request-alters v t t' a s n) ∙ e)
+  ];
+  asked_under = λ s q e. elim (bool_cases (eqb s v)) [
+    | inl f ↦ absurd (gone s q e ((Decides-eqb s v).0 f))
+    | inr n ↦ stands-same t t' s q.resource q.mode (a.others s (parent_of q.resource) n) (i.asked_under s q (sym (request-alters v t t' a s n) ∙ e))
+  ];
+  held_under = λ s r k e. elim (bool_cases (eqb s v)) [
+    | inl f ↦ let g = (Decides-eqb s v).0 f in rw g (under r k (rw g at e))
+    | inr n ↦ stands-same t t' s r k (a.others s (parent_of r) n) (i.held_under s r k (sym (a.others s r n) ∙ e))
   ];
   agree = λ s u r k l n e f. elim (bool_cases (eqb s v)) [
     | inl g ↦ let h = (Decides-eqb s v).0 g in
@@ -189,8 +214,26 @@ granted-rises s r m t h u x = elim (bool_cases (eqb u s)) [
   ]
 ]
 
-pub granted-sound : (s : ℕ) (r : List ℕ) (m : Mode) (t : Table) → IsSound t → fits t s r m ≡ true → IsSound (granted s r m t)
-granted-sound s r m t i fit = altered-sound s t (granted s r m t) (granted-alters s r m t) i
+lacks-at : (b : Bool) (n a c : Mode) → at_or_below a c ≡ true → (b && not (at_or_below n a)) ≡ false → (b && not (at_or_below n c)) ≡ false
+lacks-at false n a c h k = refl
+lacks-at true n a c h k = ap not (below-trans n a c (flip _ k) h)
+  where
+    flip : (x : Bool) → not x ≡ false → x ≡ true
+    flip true e = refl
+    flip false e = cc
+
+pub lacks-raised : (t t' : Table) (s : ℕ) (r : List ℕ) (m : Mode) → at_or_below (mode_or_nothing (held_mode t s (parent_of r))) (mode_or_nothing (held_mode t' s (parent_of r))) ≡ true → lacks_parent t s r m ≡ false → lacks_parent t' s r m ≡ false
+lacks-raised t t' s r m up h = lacks-at (has_parent r) (need_of m) (mode_or_nothing (held_mode t s (parent_of r))) (mode_or_nothing (held_mode t' s (parent_of r))) up h
+
+pub stands-raised : (t t' : Table) (s : ℕ) (r : List ℕ) (m : Mode) → at_or_below (mode_or_nothing (held_mode t s (parent_of r))) (mode_or_nothing (held_mode t' s (parent_of r))) ≡ true → Stands t s r m → Stands t' s r m
+stands-raised t t' s r m up h = (lacks-raised t t' s r m up h.0, h.1)
+
+pub granted-sound : (s : ℕ) (r : List ℕ) (m : Mode) (t : Table) → IsSound t → at_or_below (mode_or_nothing (held_mode t s r)) m ≡ true → Stands t s r m → fits t s r m ≡ true → IsSound (granted s r m t)
+granted-sound s r m t i up under fit = altered-sound s t (granted s r m t) (granted-alters s r m t) i
+    (λ x k e. stands-raised t (granted s r m t) s x k (granted-rises s r m t up s (parent_of x)) (elim (same_path_tells r x) [
+      | inl p ↦ let g = sym p.1 in let f = sym (mode_in-with_lock s r m t.held) ∙ rw g at e in let same : m ≡ k = cc in rw (g, ← same) under
+      | inr n ↦ i.held_under s x k (sym (mode_in-with_lock_path s s x r m t.held n) ∙ e)
+    ]))
     (λ u x k l n e f. elim (same_path_tells r x) [
       | inl p ↦ let g = sym p.1 in let f2 = sym (mode_in-with_lock s r m t.held) ∙ rw g at e in let same : m ≡ k = cc in
           inl (rw (← same) (compatible m l (ap (conflicts m) (sym (rw g at f)) ∙ fits-tells t s r m fit u n)))
@@ -207,3 +250,21 @@ granted-sound s r m t i fit = altered-sound s t (granted s r m t) (granted-alter
 -- a request waits where its session holds nothing, so its grant only adds
 pub none-below : (o : Option Mode) (k : Mode) → o ≡ None → at_or_below (mode_or_nothing o) k ≡ true
 none-below o k e = ap (λ (p : Option Mode). at_or_below (mode_or_nothing p) k) e ∙ nothing-below k
+
+-- the parents, in the words of the laws
+
+under-parent : (b : Bool) (m : Mode) (o : Option Mode) → is_nothing m ≡ false → (b && not (at_or_below (need_of m) (mode_or_nothing o))) ≡ false → b ≡ true → (k : Mode) × (o ≡ Some k) × IsAtOrBelow (need_of m) k
+under-parent false m o n h e = absurd (cc)
+under-parent true m None n h e = absurd (true≢false (flip _ h) (need-some m n))
+  where
+    flip : (x : Bool) → not x ≡ false → x ≡ true
+    flip true e = refl
+    flip false e = cc
+under-parent true m (Some k) n h e = (k, refl, order-from (need_of m) k (flip _ h))
+  where
+    flip : (x : Bool) → not x ≡ false → x ≡ true
+    flip true e = refl
+    flip false e = cc
+
+pub stands-under : (t : Table) (s : ℕ) (r : List ℕ) (m : Mode) → Stands t s r m → IsUnderParent t s r m
+stands-under t s r m h p = under-parent (has_parent r) m (held_mode t s (parent_of r)) h.1 h.0 p

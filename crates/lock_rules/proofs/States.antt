@@ -13,7 +13,8 @@ use Rattle.lock_rules.specs.Laws.{DoesFitTell, AreHoldersCompatible, IsLawfulSta
 use Rattle.lock_rules.proofs.Lists.{bool_cases, same_path_tells, mode_in-with_lock, mode_in-with_lock_path, mode_in-with_lock_other, request_of-claims_but, request_of-claims_but_other}
 use Rattle.lock_rules.proofs.Alters.{true≢false}
 use Rattle.lock_rules.proofs.Marks.{conflicts}
-use Rattle.lock_rules.proofs.Sound.{IsSound, fits-tells, unfit-some}
+use Rattle.lock_rules.proofs.Sound.{IsSound, stands-under, fits-tells, unfit-some}
+use Rattle.lock_rules.proofs.Children.{children-held}
 use Rattle.lock_rules.proofs.Steps.{state-lawful}
 
 other : (s u : ℕ) → u ≢ s → eqb u s ≡ false
@@ -62,4 +63,7 @@ lawful es = let i = state-lawful es in record {
   fit_tells = fit-tells (state_of es) i.sound;
   holders_compatible = holders-compatible (state_of es) i.sound;
   nobody_waits_needlessly = i.unfit;
+  locks_under_parents = λ s r m h. stands-under (state_of es).table s r m (i.sound.held_under s r m h);
+  requests_under_parents = λ s q h. stands-under (state_of es).table s q.resource q.mode (i.sound.asked_under s q h);
+  children_held = children-held (state_of es) i.sound;
 }

@@ -4,27 +4,27 @@ use Rattle.std.specs.Prelude.{is_some}
 use Rattle.std.proofs.lemmas.Bool.{and_parts}
 use Rattle.lock_modes.specs.declared.Mode.{Mode}
 use Rattle.lock_rules.specs.declared.calls.Call.{Call}
-use Rattle.lock_rules.specs.declared.calls.Call.TheVariants.{Begin, Lock, Commit}
+use Rattle.lock_rules.specs.declared.calls.Call.TheVariants.{Begin, Lock, Release, Commit}
 use Rattle.lock_rules.specs.declared.calls.Why.{Why}
 use Rattle.lock_rules.specs.declared.calls.Entry.{Entry}
 use Rattle.lock_rules.specs.State.{Claim, State, no_locks, empty, held_mode, request_of, with_table}
 use Rattle.lock_rules.specs.Queue.{fits, granted, is_granted}
 use Rattle.lock_rules.specs.Step.{tests, first_failing, after_wait, asked, act, outcome_of, step}
 use Rattle.lock_rules.specs.Legal.{state_after, state_of}
-use Rattle.lock_rules.proofs.Sound.{granted-alters, unfit_at-alters, none-below}
+use Rattle.lock_rules.proofs.Sound.{Stands, granted-alters, unfit_at-alters, none-below}
 use Rattle.lock_rules.proofs.Promote.{granted-follows}
-use Rattle.lock_rules.proofs.Cuts.{IsLawful, ended-lawful}
+use Rattle.lock_rules.proofs.Cuts.{IsLawful, released-lawful, ended-lawful}
 use Rattle.lock_rules.proofs.Begins.{begins-sound, begins-unfit}
 
 pub none-lawful : IsLawful no_locks
 none-lawful = record {
-  sound = record { order = λ r. refl; once = λ s. omega arith; fresh = λ s q e. absurd (cc); agree = λ s u r k l n e f. absurd (cc) };
+  sound = record { order = λ r. refl; once = λ s. omega arith; fresh = λ s q e. absurd (cc); asked_under = λ s q e. absurd (cc); held_under = λ s r k e. absurd (cc); agree = λ s u r k l n e f. absurd (cc) };
   unfit = λ x q qs e. absurd (cc);
 }
 
 -- a request is granted or begins to wait
-pub asked-lawful : (st : State) (s : ℕ) (r : List ℕ) (m : Mode) → IsLawful st.table → request_of s st.table.waits ≡ None → held_mode st.table s r ≡ None → IsLawful (asked st s r m).table
-asked-lawful st s r m i n free = go (is_granted st.table s r m) refl
+pub asked-lawful : (st : State) (s : ℕ) (r : List ℕ) (m : Mode) → IsLawful st.table → request_of s st.table.waits ≡ None → held_mode st.table s r ≡ None → Stands st.table s r m → IsLawful (asked st s r m).table
+asked-lawful st s r m i n free under = go (is_granted st.table s r m) refl
   where
     none : (q : Claim) → request_of s st.table.waits ≡ Some q → ⊥
     none q k = cc
@@ -32,13 +32,13 @@ asked-lawful st s r m i n free = go (is_granted st.table s r m) refl
     go : (b : Bool) → is_granted st.table s r m ≡ b → IsLawful (cond b (with_table (granted s r m st.table) st) (after_wait st s r m)).table
     go true e =
         let fit = (and_parts (fits st.table s r m) _ e).0 in
-        let f = granted-follows s r m st.table i.sound (none-below (held_mode st.table s r) m free) fit in
+        let f = granted-follows s r m st.table i.sound (none-below (held_mode st.table s r) m free) under fit in
         record {
           sound = f.sound;
           unfit = λ x. unfit_at-alters s st.table (granted s r m st.table) x (granted-alters s r m st.table) (f.rises s x) (λ q k. absurd (none q k)) i.sound (i.unfit x);
         }
     go false e =
-        let sound = begins-sound s r m st.table i.sound n free in
+        let sound = begins-sound s r m st.table i.sound n free under in
         record { sound = sound; unfit = begins-unfit s r m st.table i.sound sound n e i.unfit }
 
 -- all tests of a list pass
@@ -62,7 +62,10 @@ pub act-lawful : (st : State) (s : ℕ) (c : Call) → IsLawful st.table → fir
 act-lawful st s Begin i h = i
 act-lawful st s (Lock r m) i h =
     let p = all-pass (tests st s (Lock r m)) h in
-    asked-lawful st s r m i (is-none (request_of s st.table.waits) p.1.0) (is-none (held_mode st.table s r) p.1.1.1.0)
+    asked-lawful st s r m i (is-none (request_of s st.table.waits) p.1.0) (is-none (held_mode st.table s r) p.1.1.1.0) (p.1.1.1.1.0, p.1.1.0)
+act-lawful st s (Release r) i h =
+    let p = all-pass (tests st s (Release r)) h in
+    released-lawful s r st.table i (is-none (request_of s st.table.waits) p.1.0) p.1.1.1.0
 act-lawful st s Commit i h = ended-lawful s st.table i
 
 pub step-lawful : (st : State) (s : ℕ) (c : Call) → IsLawful st.table → IsLawful (step st s c).state.table

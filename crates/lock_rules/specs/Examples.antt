@@ -2,10 +2,10 @@
 use Rattle.std.specs.Prelude.{ℕ, zero, suc, List, [], ◌∷◌}
 use Rattle.lock_modes.specs.declared.Mode.TheVariants.{NL, IS, IX, S, SIX, X}
 use Rattle.lock_rules.specs.declared.calls.Call.{Call}
-use Rattle.lock_rules.specs.declared.calls.Call.TheVariants.{Begin, Lock, Commit}
+use Rattle.lock_rules.specs.declared.calls.Call.TheVariants.{Begin, Lock, Release, Commit}
 use Rattle.lock_rules.specs.declared.calls.Reply.{Reply}
-use Rattle.lock_rules.specs.declared.calls.Reply.TheVariants.{Began, Granted, Waiting, Committed, Refused}
-use Rattle.lock_rules.specs.declared.calls.Why.TheVariants.{AlreadyOpen, NoTransaction, IsWaiting, NothingAsked, AlreadyHeld}
+use Rattle.lock_rules.specs.declared.calls.Reply.TheVariants.{Began, Granted, Waiting, Released, Committed, Refused}
+use Rattle.lock_rules.specs.declared.calls.Why.TheVariants.{AlreadyOpen, NoTransaction, IsWaiting, NothingAsked, NotHeld, ParentNotHeld, ChildHeld, AlreadyHeld}
 use Rattle.lock_rules.specs.declared.calls.Entry.{Entry}
 
 abbrev pub entry : ℕ → Call → Reply → Entry
@@ -73,4 +73,43 @@ refusals =
     ∷ entry 1 (Lock (database 1) S) (Granted S) ∷ entry 1 (Lock (database 1) X) (Refused AlreadyHeld)
     ∷ entry 1 (Lock (database 1) NL) (Refused NothingAsked)
     ∷ entry 1 Commit (Committed 1) ∷ entry 1 Begin (Began 2) ∷ entry 1 Commit (Committed 0)
+    ∷ []
+
+-- A lock needs its parent: IS or above for S, IX or above for X; the parent's parent doesn't serve.
+abbrev pub down_the_tree : List Entry
+down_the_tree =
+    entry 1 Begin (Began 1)
+    ∷ entry 1 (Lock (1 ∷ 2 ∷ []) S) (Refused ParentNotHeld)
+    ∷ entry 1 (Lock (database 1) IS) (Granted IS)
+    ∷ entry 1 (Lock (1 ∷ 2 ∷ []) X) (Refused ParentNotHeld)
+    ∷ entry 1 (Lock (1 ∷ 2 ∷ []) S) (Granted S)
+    ∷ entry 1 (Lock (1 ∷ 3 ∷ 4 ∷ []) S) (Refused ParentNotHeld)
+    ∷ entry 1 (Lock (1 ∷ 2 ∷ 5 ∷ []) S) (Granted S)
+    ∷ entry 1 Commit (Committed 3)
+    ∷ []
+
+-- Locks are released from leaf to root.
+abbrev pub up_the_tree : List Entry
+up_the_tree =
+    entry 1 Begin (Began 1)
+    ∷ entry 1 (Lock (database 1) IX) (Granted IX)
+    ∷ entry 1 (Lock (1 ∷ 2 ∷ []) IX) (Granted IX)
+    ∷ entry 1 (Lock (1 ∷ 2 ∷ 3 ∷ []) X) (Granted X)
+    ∷ entry 1 (Release (1 ∷ 2 ∷ [])) (Refused ChildHeld)
+    ∷ entry 1 (Release (1 ∷ 2 ∷ 3 ∷ [])) Released
+    ∷ entry 1 (Release (1 ∷ 2 ∷ [])) Released
+    ∷ entry 1 (Release (1 ∷ 2 ∷ [])) (Refused NotHeld)
+    ∷ entry 1 Commit (Committed 1)
+    ∷ []
+
+-- A release promotes the queue of its resource.
+abbrev pub release_promotes : List Entry
+release_promotes =
+    entry 1 Begin (Began 1) ∷ entry 2 Begin (Began 2)
+    ∷ entry 1 (Lock (database 1) S) (Granted S)
+    ∷ entry 2 (Lock (database 1) IX) Waiting
+    ∷ entry 2 (Release (database 1)) (Refused IsWaiting)
+    ∷ entry 1 (Release (database 1)) Released
+    ∷ entry 2 (Release (database 1)) Released
+    ∷ entry 1 (Release (database 1)) (Refused NotHeld)
     ∷ []

@@ -1,7 +1,9 @@
 -- What holds of every history and of every state that one leads to, in plain words.
 use Rattle.std.specs.Prelude.{◌≡◌, ◌≢◌, ℕ, ◌<◌, ◌≤◌, ◌↔◌, true, false, ◌⊎◌, None, List, [], ◌∷◌, ◌++◌, length, Some, slice_get}
 use Rattle.lock_modes.specs.declared.Mode.{Mode}
+use Rattle.lock_modes.specs.Order.{IsAtOrBelow, need_of}
 use Rattle.lock_modes.specs.Compatibility.{IsCompatible}
+use Rattle.lock_tree.specs.Paths.{is_ancestor, parent_of, has_parent}
 use Rattle.lock_rules.specs.declared.calls.Call.{Call}
 use Rattle.lock_rules.specs.declared.calls.Reply.TheVariants.{Refused}
 use Rattle.lock_rules.specs.declared.calls.Why.{Why}
@@ -87,8 +89,28 @@ AreHoldersCompatible st = (s u : ℕ) (r : List ℕ) (k l : Mode) → s ≢ u �
 abbrev pub DoesNobodyWaitNeedlessly : State → Type 0
 DoesNobodyWaitNeedlessly st = (r : List ℕ) (q : Claim) (qs : List Claim) → queue st.table r ≡ q ∷ qs → fits st.table q.session r q.mode ≡ false
 
+-- the session holds the parent, if there is one, in a mode at or above what the mode needs
+abbrev pub IsUnderParent : Table → ℕ → List ℕ → Mode → Type 0
+IsUnderParent t s r m = has_parent r ≡ true → (k : Mode) × (held_mode t s (parent_of r) ≡ Some k) × IsAtOrBelow (need_of m) k
+
+-- each lock stands under a lock of the parent
+abbrev pub AreLocksUnderParents : State → Type 0
+AreLocksUnderParents st = (s : ℕ) (r : List ℕ) (m : Mode) → held_mode st.table s r ≡ Some m → IsUnderParent st.table s r m
+
+-- and so does each request that waits
+abbrev pub AreRequestsUnderParents : State → Type 0
+AreRequestsUnderParents st = (s : ℕ) (q : Claim) → request_of s st.table.waits ≡ Some q → IsUnderParent st.table s q.resource q.mode
+
+-- what a session holds somewhere below a resource, it holds under a child of the resource that it holds too
+abbrev pub AreChildrenHeld : State → Type 0
+AreChildrenHeld st = (s : ℕ) (r x : List ℕ) (m : Mode) → r ≢ [] → is_ancestor r x ≡ true → held_mode st.table s x ≡ Some m →
+    (child : List ℕ) × (k : Mode) × (has_parent child ≡ true) × (parent_of child ≡ r) × (held_mode st.table s child ≡ Some k)
+
 -- all laws of a state
 pub record IsLawfulState (st : State) : Type 0 where
   pub fit_tells : DoesFitTell st
   pub holders_compatible : AreHoldersCompatible st
   pub nobody_waits_needlessly : DoesNobodyWaitNeedlessly st
+  pub locks_under_parents : AreLocksUnderParents st
+  pub requests_under_parents : AreRequestsUnderParents st
+  pub children_held : AreChildrenHeld st

@@ -29,6 +29,10 @@ with_lock s r m (c ∷ cs) =
     else (if nat_lt s c.session then record { session = s; resource = r; mode = m } ∷ c ∷ cs else c ∷ with_lock s r m cs))
     else c ∷ with_lock s r m cs
 
+-- the locks but that of the session on the resource
+abbrev pub locks_but : ℕ → List ℕ → List Claim → List Claim
+locks_but s r cs = filter (λ c. not ((c.session == s) && same_path c.resource r)) cs
+
 -- the session holds the resource in the mode, and waits no more
 abbrev pub granted : ℕ → List ℕ → Mode → Table → Table
 granted s r m t = record { held = with_lock s r m t.held; waits = claims_but s t.waits }

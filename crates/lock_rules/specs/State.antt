@@ -1,6 +1,7 @@
 -- What a lock manager has in mind between two calls, and what can be looked up there.
 use Rattle.std.specs.Prelude.{ℕ, Bool, ◌&&◌, not, if◌then◌else◌, ◌==◌, List, [], ◌∷◌, filter, Option, Some, None, is_some}
 use Rattle.lock_modes.specs.declared.Mode.{Mode}
+use Rattle.lock_modes.specs.declared.Mode.TheVariants.{NL}
 use Rattle.lock_tree.specs.Paths.{same_path}
 
 -- a session with a resource and a mode: a lock that it holds, or a request that waits, with its target
@@ -39,6 +40,11 @@ mode_in s r (c ∷ cs) = if (c.session == s) && same_path c.resource r then Some
 -- what the session holds on the resource outright
 abbrev pub held_mode : Table → ℕ → List ℕ → Option Mode
 held_mode t s r = mode_in s r t.held
+
+-- who holds nothing holds NL
+abbrev pub mode_or_nothing : Option Mode → Mode
+mode_or_nothing None = NL
+mode_or_nothing (Some k) = k
 
 -- the request of the session, of which there is at most one
 abbrev pub request_of : ℕ → List Claim → Option Claim

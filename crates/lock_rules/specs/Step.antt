@@ -1,16 +1,19 @@
 -- The sequential lock manager: what a call does, and its reply.
-use Rattle.std.specs.Prelude.{ℕ, ◌+◌, Bool, true, false, not, if◌then◌else◌, nat_le, List, [], ◌∷◌, ◌++◌, length, map, Option, Some, None, is_some}
+use Rattle.std.specs.Prelude.{ℕ, ◌+◌, Bool, true, false, not, ◌&&◌, if◌then◌else◌, ◌==◌, nat_le, List, [], ◌∷◌, ◌++◌, length, map, Option, Some, None, is_some}
+use Rattle.std.specs.List.{list_any}
 use Rattle.lock_modes.specs.declared.Mode.{Mode}
 use Rattle.lock_modes.specs.declared.Mode.TheVariants.{NL}
+use Rattle.lock_modes.specs.Order.{at_or_below, need_of}
+use Rattle.lock_tree.specs.Paths.{is_ancestor, parent_of, has_parent}
 use Rattle.lock_rules.specs.declared.calls.Call.{Call}
-use Rattle.lock_rules.specs.declared.calls.Call.TheVariants.{Begin, Lock, Commit}
+use Rattle.lock_rules.specs.declared.calls.Call.TheVariants.{Begin, Lock, Release, Commit}
 use Rattle.lock_rules.specs.declared.calls.Reply.{Reply}
-use Rattle.lock_rules.specs.declared.calls.Reply.TheVariants.{Began, Granted, Waiting, Committed, Refused}
+use Rattle.lock_rules.specs.declared.calls.Reply.TheVariants.{Began, Granted, Waiting, Released, Committed, Refused}
 use Rattle.lock_rules.specs.declared.calls.Why.{Why}
-use Rattle.lock_rules.specs.declared.calls.Why.TheVariants.{AlreadyOpen, NoTransaction, IsWaiting, NothingAsked, AlreadyHeld, TooManyLocks}
+use Rattle.lock_rules.specs.declared.calls.Why.TheVariants.{AlreadyOpen, NoTransaction, IsWaiting, NothingAsked, NotHeld, ParentNotHeld, ChildHeld, AlreadyHeld, TooManyLocks}
 use Rattle.lock_rules.specs.declared.calls.TheConstants.{MAX_LOCKS}
-use Rattle.lock_rules.specs.State.{Claim, Table, State, held_mode, request_of, claims_of, claims_but, is_open, is_waiting, with_begun, with_table}
-use Rattle.lock_rules.specs.Queue.{granted, is_granted, with_request, promoted_all}
+use Rattle.lock_rules.specs.State.{Claim, Table, State, held_mode, mode_or_nothing, request_of, claims_of, claims_but, is_open, is_waiting, with_begun, with_table}
+use Rattle.lock_rules.specs.Queue.{locks_but, granted, is_granted, with_request, promoted, promoted_all}
 
 -- a new state and a reply
 pub record Outcome : Type 0 where
@@ -21,6 +24,14 @@ abbrev pub is_nothing : Mode → Bool
 is_nothing NL = true
 is_nothing _ = false
 
+-- the resource has a parent, and what the session holds on it outright doesn't cover what the mode needs
+abbrev pub lacks_parent : Table → ℕ → List ℕ → Mode → Bool
+lacks_parent t s r m = has_parent r && not (at_or_below (need_of m) (mode_or_nothing (held_mode t s (parent_of r))))
+
+-- the session holds a resource below
+abbrev pub holds_child : Table → ℕ → List ℕ → Bool
+holds_child t s r = list_any (λ c. (c.session == s) && is_ancestor r c.resource) t.held
+
 -- the tests of a call in their order: whether each fails, and the refusal that it gives
 abbrev pub tests : State → ℕ → Call → List (Bool × Why)
 tests st s Begin = (is_open st s, AlreadyOpen) ∷ []
@@ -29,7 +40,14 @@ tests st s (Lock r m) =
     ∷ (is_waiting st s, IsWaiting)
     ∷ (is_nothing m, NothingAsked)
     ∷ (is_some (held_mode st.table s r), AlreadyHeld)
+    ∷ (lacks_parent st.table s r m, ParentNotHeld)
     ∷ (nat_le MAX_LOCKS (length (claims_of s st.table.held)), TooManyLocks)
+    ∷ []
+tests st s (Release r) =
+    (not (is_open st s), NoTransaction)
+    ∷ (is_waiting st s, IsWaiting)
+    ∷ (not (is_some (held_mode st.table s r)), NotHeld)
+    ∷ (holds_child st.table s r, ChildHeld)
     ∷ []
 tests st s Commit = (not (is_open st s), NoTransaction) ∷ (is_waiting st s, IsWaiting) ∷ []
 
@@ -52,6 +70,10 @@ ask st s r m =
     let after = asked st s r m in
     record { state = after; reply = if is_waiting after s then Waiting else Granted m }
 
+-- one lock is taken away, and its resource is promoted
+abbrev pub released : ℕ → List ℕ → Table → Table
+released s r t = promoted r (record { held = locks_but s r t.held; waits = t.waits })
+
 -- the resource of a request
 abbrev pub wanted : Option Claim → List (List ℕ)
 wanted None = []
@@ -72,6 +94,7 @@ act st s Begin = record {
   reply = Began (st.count + 1);
 }
 act st s (Lock r m) = ask st s r m
+act st s (Release r) = record { state = with_table (released s r st.table) st; reply = Released }
 act st s Commit = record {
   state = with_begun s None (with_table (ended s st.table) st);
   reply = Committed (length (claims_of s st.table.held));

@@ -16,6 +16,8 @@ pub enum Call {
     Begin,
     /// Asks for a lock on the resource, in the mode or above it.
     Lock(Resource, Mode),
+    /// Gives back one lock before the end of the transaction. Locks are given back from leaf to root.
+    Release(Resource),
     /// Ends the transaction and gives back all its locks.
     Commit,
 }
@@ -32,6 +34,12 @@ pub enum Why {
     IsWaiting = 3,
     /// The mode that was asked is NL.
     NothingAsked = 5,
+    /// The session doesn't hold the resource outright.
+    NotHeld = 6,
+    /// The session doesn't hold the parent in a mode that covers what the target needs of it.
+    ParentNotHeld = 7,
+    /// The session holds a resource below.
+    ChildHeld = 8,
     /// The transaction holds `MAX_LOCKS` locks.
     TooManyLocks = 9,
     /// The session holds the resource.
@@ -47,6 +55,8 @@ pub enum Reply {
     Granted(Mode),
     /// The request waits for other transactions.
     Waiting,
+    /// The lock was given back.
+    Released,
     /// The transaction has ended; this many locks were given back.
     Committed(u32),
     /// Nothing was done.

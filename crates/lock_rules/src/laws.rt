@@ -2,17 +2,17 @@
 
 ghost use Rattle.std.specs.Prelude.{◌≡◌, ℕ, ◌↔◌, List, [], ◌∷◌, ◌++◌, length, Contains, if◌then◌else◌, ◌==◌};
 ghost use Rattle.lock_modes.specs.declared.Mode.{Mode as ModeValue};
-ghost use Rattle.lock_modes.specs.declared.Mode.TheVariants.{S, IX};
+ghost use Rattle.lock_modes.specs.declared.Mode.TheVariants.{S, IX, X};
 ghost use Rattle.lock_rules.specs.declared.calls.Call.{Call as CallValue};
 ghost use Rattle.lock_rules.specs.declared.calls.Entry.{Entry as EntryValue};
-ghost use Rattle.lock_rules.specs.declared.calls.Reply.TheVariants.{Began, Granted, Waiting, Refused};
+ghost use Rattle.lock_rules.specs.declared.calls.Reply.TheVariants.{Began, Granted, Waiting, Released, Refused};
 ghost use Rattle.lock_rules.specs.declared.calls.Why.TheVariants.{IsWaiting, AlreadyHeld};
 ghost use Rattle.lock_rules.specs.State.{State, Table, empty};
 ghost use Rattle.lock_rules.specs.Queue.{granted};
 ghost use Rattle.lock_rules.specs.Step.{step};
 ghost use Rattle.lock_rules.specs.Legal.{Answered, IsLegal, state_of, asked_in, calls_of};
-ghost use Rattle.lock_rules.specs.Laws.{AreRepliesOfSteps, IsEntryOf, ArePlacesRising, IsRefusalExact, DoesRefusalKeep, IsGrantOf, DoesPromotionGrantLongest, DoesFitTell, AreHoldersCompatible, DoesNobodyWaitNeedlessly, IsLawfulState};
-ghost use Rattle.lock_rules.specs.Examples.{with_reply, queue_in_order, promotion_stops, readers_together, intentions, refusals};
+ghost use Rattle.lock_rules.specs.Laws.{AreRepliesOfSteps, IsEntryOf, ArePlacesRising, IsRefusalExact, DoesRefusalKeep, IsGrantOf, DoesPromotionGrantLongest, DoesFitTell, AreHoldersCompatible, DoesNobodyWaitNeedlessly, AreLocksUnderParents, AreRequestsUnderParents, AreChildrenHeld, IsLawfulState};
+ghost use Rattle.lock_rules.specs.Examples.{with_reply, queue_in_order, promotion_stops, readers_together, intentions, refusals, down_the_tree, up_the_tree, release_promotes};
 
 /// A history is legal exactly where each reply is the one that the step gives at its place. So each
 /// front of a legal history is legal.
@@ -79,6 +79,19 @@ pub fn nobody_waits_needlessly()
     ensures { (history : List EntryValue) → DoesNobodyWaitNeedlessly (state_of history) }
 {}
 
+/// Each lock, and each request that waits, stands under a parent that the same session holds outright,
+/// in a mode at or above what it needs of the parent.
+pub fn locks_stand_under_parents()
+    ensures locks { (history : List EntryValue) → AreLocksUnderParents (state_of history) }
+    ensures requests { (history : List EntryValue) → AreRequestsUnderParents (state_of history) }
+{}
+
+/// What a session holds somewhere below a resource, it holds under a child of the resource that it
+/// holds too. So a test of the children tells whether it holds anything below.
+pub fn children_are_held()
+    ensures { (history : List EntryValue) → AreChildrenHeld (state_of history) }
+{}
+
 /// Every state that a history leads to is lawful.
 pub fn states_are_lawful()
     ensures { (history : List EntryValue) → IsLawfulState (state_of history) }
@@ -98,4 +111,13 @@ pub fn examples_are_legal()
     ensures intention_jumps { IsLegal (with_reply 5 (Granted IX) intentions) → ⊥ }
     ensures refusals { IsLegal refusals }
     ensures number_used_again { IsLegal (with_reply 8 (Began 1) refusals) → ⊥ }
+    ensures down_the_tree { IsLegal down_the_tree }
+    ensures parent_left_out { IsLegal (with_reply 1 (Granted S) down_the_tree) → ⊥ }
+    ensures need_of_share_for_exclusive { IsLegal (with_reply 3 (Granted X) down_the_tree) → ⊥ }
+    ensures grandparent_for_parent { IsLegal (with_reply 5 (Granted S) down_the_tree) → ⊥ }
+    ensures up_the_tree { IsLegal up_the_tree }
+    ensures parent_before_child { IsLegal (with_reply 4 Released up_the_tree) → ⊥ }
+    ensures release_kept { IsLegal (with_reply 7 Released up_the_tree) → ⊥ }
+    ensures release_promotes { IsLegal release_promotes }
+    ensures release_without_promotion { IsLegal (with_reply 6 (Refused IsWaiting) release_promotes) → ⊥ }
 {}

@@ -7,6 +7,9 @@ fn refusals_have_their_numbers(rt: HostRuntime) {
     assert_eq!(rt; Why::NoTransaction as u8, 2);
     assert_eq!(rt; Why::IsWaiting as u8, 3);
     assert_eq!(rt; Why::NothingAsked as u8, 5);
+    assert_eq!(rt; Why::NotHeld as u8, 6);
+    assert_eq!(rt; Why::ParentNotHeld as u8, 7);
+    assert_eq!(rt; Why::ChildHeld as u8, 8);
     assert_eq!(rt; Why::TooManyLocks as u8, 9);
     assert_eq!(rt; Why::AlreadyHeld as u8, 10);
 }
@@ -41,6 +44,8 @@ fn laws_can_be_cited() {
     laws::fits_is_compatible_with_others();
     laws::holders_are_compatible();
     laws::nobody_waits_needlessly();
+    laws::locks_stand_under_parents();
+    laws::children_are_held();
     laws::states_are_lawful();
     laws::examples_are_legal();
 }

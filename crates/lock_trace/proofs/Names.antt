@@ -47,7 +47,7 @@ named_ok {A} name fault (y ∷ ys) bs x e = cases (bytes_eq bs (name y)) refl (n
     cases false is later found = later found
 
 pub op_is : (bs : List ℕ) (o : Op) → op_in bs ≡ Ok o → bs ≡ word_of o
-op_is bs o e = named_ok word_of kind.Op (op.Begin ∷ op.Lock ∷ op.Commit ∷ []) bs o e
+op_is bs o e = named_ok word_of kind.Op (op.Begin ∷ op.Lock ∷ op.Release ∷ op.Commit ∷ []) bs o e
 
 pub mode_is : (bs : List ℕ) (m : Mode) → mode_in bs ≡ Ok m → bs ≡ name_of m
 mode_is bs m e = named_ok name_of kind.Mode (NL ∷ IS ∷ IX ∷ S ∷ SIX ∷ X ∷ []) bs m e

@@ -47,6 +47,10 @@ three a b b' c c' e f = rw (e, f) refl
 two : (a a' b b' : List ℕ) (cs : List (List ℕ)) → a ≡ a' → b ≡ b' → (a ∷ b ∷ cs) ≡ (a' ∷ b' ∷ cs)
 two a a' b b' cs e f = rw (e, f) refl
 
+none_after : (b : Bool) (m : List ℕ) (c d : Call) → (length m == 0) ≡ b → (if not b then Err kind.Extra else ok_call c) ≡ ok_call d → (m ≡ []) × (c ≡ d)
+none_after true m c d no_m e = (empty m no_m, cc)
+none_after false m c d no_m e = absurd cc
+
 read_call : (o : Op) (r m : List ℕ) (c : Call) → call_in o r m ≡ Ok c → HasResources c × ((word_of o ∷ r ∷ m ∷ []) ≡ fields_of_call c)
 read_call op.Begin r m c e =
     let (no_r, no_m, is) = bare_has call.Begin r m c e in
@@ -63,6 +67,12 @@ read_call op.Lock r m c e =
     let at = (resource_iff resource r).0 read_r in
     let P : Call → Type 0 = λ d. HasResources d × ((word_of op.Lock ∷ r ∷ m ∷ []) ≡ fields_of_call d) in
     subst P is (at.0, three (word_of op.Lock) r (text_of resource) m (name_of mode) at.1 (mode_is m mode read_m))
+read_call op.Release r m c e =
+    let (resource, read_r, then_none) = bind_ok (resource_in r) (λ resource. if not (length m == 0) then Err kind.Extra else ok_call (call.Release resource)) c e in
+    let (no_m, is) = none_after (length m == 0) m (call.Release resource) c refl then_none in
+    let at = (resource_iff resource r).0 read_r in
+    let P : Call → Type 0 = λ d. HasResources d × ((word_of op.Release ∷ r ∷ m ∷ []) ≡ fields_of_call d) in
+    subst P is (at.0, three (word_of op.Release) r (text_of resource) m [] at.1 no_m)
 
 abbrev ok_row : TraceRow → Result TraceRow TraceKind
 ok_row x = Ok x
@@ -96,6 +106,7 @@ row_fields n (s ∷ o ∷ r ∷ m ∷ x ∷ xs) row lt e = absurd cc
 fields_row : (n s : ℕ) (c : Call) → n < 2 ^ 16 → 0 < s → s ≤ n → HasResources c → row_of n (decimal s ∷ fields_of_call c) ≡ Ok (record { session = s; call = c })
 fields_row n s call.Begin lt some le has = rw (session_back n s lt some le) refl
 fields_row n s (call.Lock r m) lt some le has = rw (session_back n s lt some le, resource_back r has, mode_by_name m (name_of m) refl) refl
+fields_row n s (call.Release r) lt some le has = rw (session_back n s lt some le, resource_back r has) refl
 fields_row n s call.Commit lt some le has = rw (session_back n s lt some le) refl
 
 pub row_back : (n : ℕ) (row : TraceRow) → n < 2 ^ 16 → IsRow n row → row_of n (fields_of_row row) ≡ Ok row

@@ -51,10 +51,11 @@ named name fault (x ∷ xs) bs = if bytes_eq bs (name x) then Ok x else named na
 abbrev pub word_of : Op → List ℕ
 word_of op.Begin = codes "begin"
 word_of op.Lock = codes "lock"
+word_of op.Release = codes "release"
 word_of op.Commit = codes "commit"
 
 abbrev pub op_in : List ℕ → Result Op TraceKind
-op_in bs = named word_of kind.Op (op.Begin ∷ op.Lock ∷ op.Commit ∷ []) bs
+op_in bs = named word_of kind.Op (op.Begin ∷ op.Lock ∷ op.Release ∷ op.Commit ∷ []) bs
 
 abbrev pub mode_in : List ℕ → Result Mode TraceKind
 mode_in bs = named name_of kind.Mode (NL ∷ IS ∷ IX ∷ S ∷ SIX ∷ X ∷ []) bs

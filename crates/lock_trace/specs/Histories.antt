@@ -14,6 +14,9 @@ name_of_why why.AlreadyOpen = codes "AlreadyOpen"
 name_of_why why.NoTransaction = codes "NoTransaction"
 name_of_why why.IsWaiting = codes "IsWaiting"
 name_of_why why.NothingAsked = codes "NothingAsked"
+name_of_why why.NotHeld = codes "NotHeld"
+name_of_why why.ParentNotHeld = codes "ParentNotHeld"
+name_of_why why.ChildHeld = codes "ChildHeld"
 name_of_why why.TooManyLocks = codes "TooManyLocks"
 name_of_why why.AlreadyHeld = codes "AlreadyHeld"
 
@@ -22,6 +25,7 @@ abbrev pub fields_of_reply : Reply → List (List ℕ)
 fields_of_reply (reply.Began n) = codes "began" ∷ decimal n ∷ []
 fields_of_reply (reply.Granted m) = codes "granted" ∷ name_of m ∷ []
 fields_of_reply reply.Waiting = codes "waiting" ∷ [] ∷ []
+fields_of_reply reply.Released = codes "released" ∷ [] ∷ []
 fields_of_reply (reply.Committed n) = codes "committed" ∷ decimal n ∷ []
 fields_of_reply (reply.Refused w) = codes "refused" ∷ name_of_why w ∷ []
 
@@ -64,6 +68,7 @@ abbrev pub ReplyFits : Reply → Type 0
 ReplyFits (reply.Began n) = n < 2 ^ 64
 ReplyFits (reply.Granted m) = Unit {0}
 ReplyFits reply.Waiting = Unit {0}
+ReplyFits reply.Released = Unit {0}
 ReplyFits (reply.Committed n) = n < 2 ^ 64
 ReplyFits (reply.Refused w) = Unit {0}
 

@@ -16,6 +16,7 @@ use Rattle.lock_trace.specs.Fields.{word_of, session_in, op_in, resource_in, mod
 abbrev pub fields_of_call : Call → List (List ℕ)
 fields_of_call call.Begin = word_of op.Begin ∷ [] ∷ [] ∷ []
 fields_of_call (call.Lock r m) = word_of op.Lock ∷ text_of r ∷ name_of m ∷ []
+fields_of_call (call.Release r) = word_of op.Release ∷ text_of r ∷ [] ∷ []
 fields_of_call call.Commit = word_of op.Commit ∷ [] ∷ [] ∷ []
 
 -- the four fields of a row: each is the one text of its part
@@ -26,6 +27,7 @@ fields_of_row row = decimal row.session ∷ fields_of_call row.call
 abbrev pub HasResources : Call → Type 0
 HasResources call.Begin = Unit {0}
 HasResources (call.Lock r m) = IsResource r
+HasResources (call.Release r) = IsResource r
 HasResources call.Commit = Unit {0}
 
 -- a row for so many sessions
@@ -43,6 +45,12 @@ abbrev pub ◌>>=◌ : {A B : Type 0} → Result A TraceKind → (A → Result B
 abbrev pub bare : Call → List ℕ → List ℕ → Result Call TraceKind
 bare c r m = if not (length r == 0) || not (length m == 0) then Err kind.Extra else Ok c
 
+-- a call that takes a resource and no mode
+abbrev pub with_resource : (List ℕ → Call) → List ℕ → List ℕ → Result Call TraceKind
+with_resource c r m = do
+  resource ← resource_in r
+  if not (length m == 0) then Err kind.Extra else Ok (c resource)
+
 -- the call that an operation and the fields after it are, or the first of their tests that fails
 abbrev pub call_in : Op → List ℕ → List ℕ → Result Call TraceKind
 call_in op.Begin r m = bare call.Begin r m
@@ -50,6 +58,7 @@ call_in op.Lock r m = do
   resource ← resource_in r
   mode ← mode_in m
   Ok (call.Lock resource mode)
+call_in op.Release r m = with_resource (λ resource. call.Release resource) r m
 call_in op.Commit r m = bare call.Commit r m
 
 -- the row that four fields are, or the first test that fails

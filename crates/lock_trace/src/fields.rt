@@ -17,6 +17,7 @@ use std::str;
 pub enum Op {
     Begin,
     Lock,
+    Release,
     Commit,
 }
 
@@ -76,6 +77,9 @@ pub(crate) fn op_of(field: &[u8]) -> Result<Op, TraceKind>
     }
     if field == b"lock".as_slice() {
         return Ok(Op::Lock);
+    }
+    if field == b"release".as_slice() {
+        return Ok(Op::Release);
     }
     if field == b"commit".as_slice() {
         return Ok(Op::Commit);

@@ -37,6 +37,13 @@ fn call_of(op: Op, resource: &[u8], mode: &[u8]) -> Result<Call, TraceKind>
             let mode = mode_of(mode)?;
             Ok(Call::Lock(resource, mode))
         }
+        Op::Release => {
+            let resource = resource_of(resource)?;
+            if !mode.is_empty() {
+                return Err(TraceKind::Extra);
+            }
+            Ok(Call::Release(resource))
+        }
         Op::Commit => bare_call(Call::Commit, resource, mode),
     }
 }

@@ -29,10 +29,11 @@ fn put_number(out: &mut Vec<u8>, number: u64) -> Result<(), NoMemory>
 fn put_resource(out: &mut Vec<u8>, resource: &Resource) -> Result<(), NoMemory>
     ensures { OnOk result (out.new.items ≡ out.old.items ++ text_of resource.now) }
 {
-    for (level, number) in resource.numbers().iter().enumerate() {
-        if level > 0 {
-            put_text(out, "/")?;
-        }
+    let numbers = resource.numbers();
+    let first = numbers[0];
+    put_number(out, first as u64)?;
+    for number in &numbers[1..] {
+        put_text(out, "/")?;
         put_number(out, *number as u64)?;
     }
     Ok(())
@@ -50,6 +51,11 @@ fn put_call(out: &mut Vec<u8>, call: &Call) -> Result<(), NoMemory>
             put_text(out, ",")?;
             put_text(out, mode.name())
         }
+        Call::Release(resource) => {
+            put_text(out, ",release,")?;
+            put_resource(out, resource)?;
+            put_text(out, ",")
+        }
         Call::Commit => put_text(out, ",commit,,"),
     }
 }
@@ -62,6 +68,9 @@ fn why_name(why: Why) -> &'static str
         Why::NoTransaction => "NoTransaction",
         Why::IsWaiting => "IsWaiting",
         Why::NothingAsked => "NothingAsked",
+        Why::NotHeld => "NotHeld",
+        Why::ParentNotHeld => "ParentNotHeld",
+        Why::ChildHeld => "ChildHeld",
         Why::TooManyLocks => "TooManyLocks",
         Why::AlreadyHeld => "AlreadyHeld",
     }
@@ -81,6 +90,7 @@ fn put_reply(out: &mut Vec<u8>, reply: Reply) -> Result<(), NoMemory>
             put_text(out, mode.name())
         }
         Reply::Waiting => put_text(out, ",waiting,"),
+        Reply::Released => put_text(out, ",released,"),
         Reply::Committed(locks) => {
             put_text(out, ",committed,")?;
             put_number(out, locks as u64)

@@ -4,3 +4,4 @@ pub mod Texts
 pub mod ByPiece
 pub mod PaddedOrder
 pub mod PaddedEquality
+pub mod Ancestors

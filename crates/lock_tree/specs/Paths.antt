@@ -1,5 +1,5 @@
 -- A resource is the list of the numbers on its way down the lock tree, that of the database first.
-use Rattle.std.specs.Prelude.{ℕ, ◌<◌, ◌≤◌, ◌^◌, Bool, true, false, ◌&&◌, ◌==◌, List, [], ◌∷◌, length, All}
+use Rattle.std.specs.Prelude.{◌≡◌, ◌++◌, ℕ, ◌<◌, ◌≤◌, ◌^◌, Bool, true, false, ◌&&◌, ◌==◌, List, [], ◌∷◌, length, All}
 use Rattle.std.specs.declared.cmp.Ordering.{Ordering}
 use Rattle.std.specs.Ordering.{nat_cmp}
 use Rattle.std.specs.Cmp.Lexicographic.{slice_cmp}
@@ -21,3 +21,26 @@ same_path (x ∷ xs) (y ∷ ys) = (x == y) && same_path xs ys
 -- the order of resources: number by number, a front before what continues it
 abbrev pub path_cmp : List ℕ → List ℕ → Ordering
 path_cmp a b = slice_cmp nat_cmp a b
+
+-- a shorter front
+abbrev pub is_ancestor : List ℕ → List ℕ → Bool
+is_ancestor [] [] = false
+is_ancestor [] (y ∷ ys) = true
+is_ancestor (x ∷ xs) [] = false
+is_ancestor (x ∷ xs) (y ∷ ys) = (x == y) && is_ancestor xs ys
+
+-- all numbers but the last
+abbrev pub parent_of : List ℕ → List ℕ
+parent_of [] = []
+parent_of (x ∷ []) = []
+parent_of (x ∷ y ∷ ys) = x ∷ parent_of (y ∷ ys)
+
+-- there is a number above the last
+abbrev pub has_parent : List ℕ → Bool
+has_parent [] = false
+has_parent (x ∷ []) = false
+has_parent (x ∷ y ∷ ys) = true
+
+-- one resource stands above the other: its numbers are the first ones of the other, which has more
+abbrev pub IsAncestor : List ℕ → List ℕ → Type 0
+IsAncestor a r = (rest : List ℕ) × (0 < length rest) × (r ≡ a ++ rest)

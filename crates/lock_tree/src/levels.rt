@@ -4,4 +4,4 @@
 ///
 /// Gray, Lorie, Putzolu and Traiger (1976) have a database, its files, their pages and the pages'
 /// records. No other line of this crate depends on how many there are.
-pub const LEVELS: usize = 1;
+pub const LEVELS: usize = 4;

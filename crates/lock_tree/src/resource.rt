@@ -1,7 +1,7 @@
 //! A resource: the numbers on the way down the lock tree.
 
-ghost use Rattle.std.specs.Prelude.{◌≡◌, ◌↔◌, ℕ, List, Some, Ok, Err, IsSome, IfSome};
-ghost use Rattle.lock_tree.specs.Paths.{IsResource};
+ghost use Rattle.std.specs.Prelude.{◌≡◌, ◌↔◌, ℕ, List, Some, Ok, Err, true, length, IsTrue, IsSome, IfSome};
+ghost use Rattle.lock_tree.specs.Paths.{IsResource, IsAncestor, is_ancestor, has_parent, parent_of};
 ghost use Rattle.lock_tree.specs.Text.{text_of};
 ghost use Rattle.lock_tree.specs.Faults.{fault_of};
 ghost use Rattle.lock_tree.specs.Readings.{reading_of};
@@ -93,6 +93,32 @@ impl Resource {
         })
     }
 
+    /// The level of the resource: 1 for a database, 2 for a file, 3 for a page, 4 for a record.
+    pub fn level(&self) -> u8
+        ensures { result ≡ length self.now }
+    {
+        self.level
+    }
+
+    /// The resource above: all numbers but the last. `None` for a database, which has nothing above.
+    pub fn parent(&self) -> Option<Resource>
+        ensures some { IsSome result ↔ (has_parent self.now ≡ true) }
+        ensures value { IfSome result (λ parent. parent ≡ parent_of self.now) }
+    {
+        let numbers = self.numbers();
+        Resource::from_numbers(&numbers[..numbers.len() - 1])
+    }
+
+    /// Whether this resource stands above the other one, at any height. None stands above itself.
+    pub fn is_ancestor_of(&self, other: &Resource) -> bool
+        ensures value { result ≡ is_ancestor self.now other.now }
+        ensures relation { IsTrue result ↔ IsAncestor self.now other.now }
+    {
+        let numbers = self.numbers();
+        let others = other.numbers();
+        is_front(numbers, others)
+    }
+
     /// The numbers, that of the top first.
     pub fn numbers(&self) -> &[u32]
         ensures value { result.now ≡ self.now }
@@ -100,6 +126,14 @@ impl Resource {
     {
         &self.numbers[..self.level as usize]
     }
+}
+
+// Whether the numbers begin the other ones, which are more.
+fn is_front(numbers: &[u32], others: &[u32]) -> bool
+    ensures { result ≡ is_ancestor numbers.now others.now }
+{
+    let count = numbers.len();
+    count < others.len() && numbers == &others[..count]
 }
 
 /// Writes the numbers in decimal, with a `/` between each two. That is this project's own choice.

@@ -23,12 +23,53 @@ fn reads_numbers(rt: HostRuntime) -> Result<(), Fail> {
 }
 
 #[test]
+fn reads_paths(rt: HostRuntime) -> Result<(), Fail> {
+    for (text, numbers) in [
+        ("0/4294967295", [0, 4294967295].as_slice()),
+        ("1/2/3", [1, 2, 3].as_slice()),
+        ("4294967295/0/0/10", [4294967295, 0, 0, 10].as_slice()),
+    ] {
+        let resource = Resource::parse(text)?;
+        assert_eq!(rt; resource.numbers(), numbers, "at {text}");
+        assert_eq!(rt; resource.level() as usize, numbers.len(), "at {text}");
+        assert_eq!(rt; resource.to_string(rt.alloc())?.as_str(), text);
+    }
+    Ok(())
+}
+
+#[test]
+fn stands_under_its_parent(rt: HostRuntime) -> Result<(), Fail> {
+    let database = Resource::parse("0")?;
+    let file = Resource::parse("0/4294967295")?;
+    let page = Resource::parse("0/4294967295/7")?;
+    assert_eq!(rt; database.parent(), None);
+    assert_eq!(rt; file.parent(), Some(database));
+    assert_eq!(rt; page.parent(), Some(file));
+    assert!(rt; database.is_ancestor_of(&page));
+    assert!(rt; file.is_ancestor_of(&page));
+    assert!(rt; !page.is_ancestor_of(&page));
+    assert!(rt; !page.is_ancestor_of(&file));
+    assert!(rt; !Resource::parse("1")?.is_ancestor_of(&page));
+    assert!(rt; database < file);
+    assert!(rt; file < page);
+    assert!(rt; page < Resource::parse("1")?);
+    Ok(())
+}
+
+#[test]
 fn tells_faults(rt: HostRuntime) {
     for (text, fault) in [
         ("", PathFault::Empty),
-        ("/", PathFault::TooDeep),
-        ("1/2", PathFault::TooDeep),
-        ("x/1", PathFault::TooDeep),
+        ("/", PathFault::Empty),
+        ("1//2", PathFault::Empty),
+        ("1/", PathFault::Empty),
+        ("1/2/3/4/5", PathFault::TooDeep),
+        ("////", PathFault::TooDeep),
+        ("x/1/2/3/4", PathFault::TooDeep),
+        ("1/x/01", PathFault::NotANumber),
+        ("1/4294967296", PathFault::TooLarge),
+        ("1/00", PathFault::LeadingZero),
+        ("1/2/3/x", PathFault::NotANumber),
         ("x", PathFault::NotANumber),
         ("1x", PathFault::NotANumber),
         ("x4294967296", PathFault::NotANumber),

@@ -1,7 +1,7 @@
 use Rattle.std.proofs.Common.{◌≡◌, ◌∙◌, ap, sym, subst, IfOk, Bool}
-use Rattle.lock_desk.specs.Cells.{View, view_of, asked_view, can_grant, IsNew}
-use Rattle.lock_desk.proofs.Results.{on-ok, on-err}
-use Rattle.lock_desk.proofs.Faces.{view-here, view_at-none, became-written, became-view}
+use Rattle.lock_desk.specs.Cells.{View, view_of, cell_view, asked_view, can_grant, IsNew, CellsBecame}
+use Rattle.lock_desk.proofs.Results.{on-ok, on-err, on-err-from}
+use Rattle.lock_desk.proofs.Faces.{view-here, view_at-none, became-same, became-written, became-view}
 use Rattle.lock_desk.proofs.cells.ask.Goals as goal
 
 pub join-requires-clause-new : goal.join-requires-clause-new
@@ -41,3 +41,9 @@ pub returns-in_ok-open-in-None-clause-ok : goal.returns-in_ok-open-in-None-claus
 returns-in_ok-open-in-None-clause-ok c =
     let none = view_at-none c.args.resource c.args.cells.now.items (rw c.deref.ensures.value at c.in-None.ensures.none) in
     became-view c.args.resource _ _ c.args.cells.now.items c.open.new.cells.items (sym (ap (asked_view c.args.claim) none)) c.in_ok-open-in-None.ensures.ok
+
+pub returns-in_err-open-in-None-clause-err : goal.returns-in_err-open-in-None-clause-err
+returns-in_err-open-in-None-clause-err c =
+    let r = c.args.resource in
+    let cs = c.args.cells.now.items in
+    on-err-from c.from_residual.result (subst (λ xs. CellsBecame r (cell_view r cs) cs xs) (sym c.in_err-open-in-None.ensures.err) (became-same r cs c.requires.kept))

@@ -1,6 +1,8 @@
-use Rattle.std.proofs.Common.{◌≡◌, ◌++◌, take}
-use Rattle.lock_tree.specs.Text.{text_of}
+use Rattle.std.proofs.Common.{◌≡◌, ◌++◌, ◌∷◌, take}
+use Rattle.std.specs.Prelude.{decimal}
+use Rattle.std.specs.List.{flat_map}
 use Rattle.lock_trace.proofs.writing.put_resource.Given as goal
 
-abbrev pub invariant-loop-level : goal.invariant-loop-level
-invariant-loop-level l = l.out.items ≡ l.fn.out.items ++ text_of (take l.level l.resource)
+-- the first number has been written, and each one so far after a `/`
+abbrev pub invariant-loop-number : goal.invariant-loop-number
+invariant-loop-number l = l.out.items ≡ l.fn.out.items ++ (decimal l.first ++ flat_map (λ n. 47 ∷ decimal n) (take l.number-index l.number-items))

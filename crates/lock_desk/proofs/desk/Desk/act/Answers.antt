@@ -1,8 +1,8 @@
-use Rattle.std.proofs.Common.{◌<◌, ◌∙◌, Bool, cond, length, ap, sym, arith}
+use Rattle.std.proofs.Common.{refl, ◌<◌, ◌∙◌, Bool, cond, length, ap, sym, arith}
 use Rattle.lock_rules.specs.declared.calls.Reply.TheVariants.{Granted, Waiting, Committed}
 use Rattle.lock_desk.specs.Changes.{standings}
 use Rattle.lock_desk.proofs.Standings.{length-standings}
-use Rattle.lock_desk.proofs.Shown.{lock-can, commit-can, asked-reply, asked-shown, ended-shown}
+use Rattle.lock_desk.proofs.Shown.{lock-can, release-can, commit-can, asked-reply, asked-shown, released-shown, ended-shown}
 use Rattle.lock_desk.proofs.desk.Desk.act.Goals as goal
 
 pub returns-then-branch-clause-act : goal.returns-then-branch-clause-act
@@ -28,6 +28,14 @@ returns-else-branch-clause-act c = λ st i h.
       ap (λ (b : Bool). cond b (Granted c.in-Lock.mode) Waiting) (sym c.if-branch.false) ∙ asked-reply d st s c.in-Lock.resource h can c.lock.new.self c.in-Lock.mode c.in_ok-lock-in-Lock.field-0 long i k,
       asked-shown d st s c.in-Lock.resource h can c.lock.new.self c.in-Lock.mode c.in_ok-lock-in-Lock.field-0 long i k,
     )
+
+pub returns-in-Release-clause-act : goal.returns-in-Release-clause-act
+returns-in-Release-clause-act c = λ st i h.
+    let d = c.args.self.now in
+    let s = c.args.session in
+    let r = c.in-Release.resource in
+    let can = release-can d s r (rw c.in-Release.is at c.requires.passed) in
+    rw c.in-Release.is (refl, released-shown d c.release.new.self st s r i c.requires.whole can c.release.ensures.whole c.release.ensures.released h)
 
 pub returns-in-Commit-clause-act : goal.returns-in-Commit-clause-act
 returns-in-Commit-clause-act c = λ st i h.

@@ -11,12 +11,12 @@ pub returns-in-Some-clause-step : goal.returns-in-Some-clause-step
 returns-in-Some-clause-step c = λ st i h.
     let d = c.args.self.now in
     let s = c.args.session in
-    let e = c.in-Some.ensures ∙ ap first_failing (tests-shown d st s c.args.call h) in
+    let e = c.in-Some.ensures ∙ ap first_failing (tests-shown d st s c.args.call c.requires.whole h) in
     subst (λ (o : Option Why). (Refused c.in-Some.why ≡ (outcome_of o st s c.args.call).reply) × Shows d (outcome_of o st s c.args.call).state) e (refl, h)
 
 pub returns-in-None-clause-step : goal.returns-in-None-clause-step
 returns-in-None-clause-step c = λ st i h.
     let d = c.args.self.now in
     let s = c.args.session in
-    let e = c.in-None.ensures ∙ ap first_failing (tests-shown d st s c.args.call h) in
+    let e = c.in-None.ensures ∙ ap first_failing (tests-shown d st s c.args.call c.requires.whole h) in
     subst (λ (o : Option Why). IfOk c.act.result (λ (reply : Reply). (reply ≡ (outcome_of o st s c.args.call).reply) × Shows c.act.new.self (outcome_of o st s c.args.call).state)) e (c.act.ensures.act st i h)

@@ -1,0 +1,13 @@
+use Rattle.std.proofs.Common.{◌∙◌, ap}
+use Rattle.lock_rules.specs.State.{held_mode}
+use Rattle.lock_rules.specs.Legal.{state_of}
+use Rattle.lock_desk.specs.Kept.{Told}
+use Rattle.lock_desk.proofs.Shown.{mode-shown}
+use Rattle.lock_desk.proofs.book.Book.held.Goals as goal
+
+pub returns : goal.returns
+returns c =
+    let k = c.self.invariant in
+    c.held.ensures
+    ∙ (mode-shown c.self.inside.desk (state_of c.self.inside.history.items) c.args.session c.args.resource k.shows
+    ∙ ap (λ (t : Told). held_mode (state_of t.history).table c.args.session c.args.resource) c.self.view_is)

@@ -1,0 +1,62 @@
+-- What a session holds below a resource, it holds under a child of the resource that it holds too.
+use Rattle.std.proofs.Common.{◌≡◌, ◌≢◌, ℕ, zero, suc, ◌≤◌, true, false, eqb, ◌&&◌, ◌⊎◌, inl, inr, List, [], ◌∷◌, length, Some, refl, sym, ap, arith}
+use Rattle.std.proofs.lemmas.Bool.Decides.{Decides-eqb}
+use Rattle.std.proofs.lemmas.Bool.{and_parts, and_from}
+use Rattle.lock_modes.specs.declared.Mode.{Mode}
+use Rattle.lock_tree.specs.Paths.{is_ancestor, parent_of, has_parent}
+use Rattle.lock_rules.specs.State.{Table, State, held_mode}
+use Rattle.lock_rules.specs.Laws.{AreChildrenHeld}
+use Rattle.lock_rules.proofs.Alters.{true≢false}
+use Rattle.lock_rules.proofs.Sound.{IsSound, stands-under}
+
+-- an ancestor is the parent or an ancestor of it
+pub ancestor-parent : (y z : List ℕ) → is_ancestor y z ≡ true → (y ≡ parent_of z) ⊎ (is_ancestor y (parent_of z) ≡ true)
+ancestor-parent [] [] h = absurd (cc)
+ancestor-parent [] (b ∷ []) h = inl refl
+ancestor-parent [] (b ∷ c ∷ zs) h = inr refl
+ancestor-parent (a ∷ ys) [] h = absurd (cc)
+ancestor-parent (a ∷ []) (b ∷ []) h = absurd (true≢false (and_parts (eqb a b) false h).1 refl)
+ancestor-parent (a ∷ x ∷ ys) (b ∷ []) h = absurd (true≢false (and_parts (eqb a b) false h).1 refl)
+ancestor-parent (a ∷ ys) (b ∷ c ∷ zs) h =
+    let p = and_parts (eqb a b) (is_ancestor ys (c ∷ zs)) h in
+    elim (ancestor-parent ys (c ∷ zs) p.1) [
+      | inl e ↦ let f = (Decides-eqb a b).0 p.0 in inl (cc)
+      | inr k ↦ inr (and_from (eqb a b) (is_ancestor ys (parent_of (c ∷ zs))) p.0 k)
+    ]
+
+pub length-parent : (b c : ℕ) (zs : List ℕ) → length (parent_of (b ∷ c ∷ zs)) ≡ suc (length zs)
+length-parent b c [] = refl
+length-parent b c (d ∷ zs) = ap suc (length-parent c d zs)
+
+record HoldsChild (t : Table) (s : ℕ) (r : List ℕ) : Type 0 where
+  child : List ℕ
+  mode : Mode
+  has_one : has_parent child ≡ true
+  is_parent : parent_of child ≡ r
+  held : held_mode t s child ≡ Some mode
+
+module _ (t : Table) (i : IsSound t) (s : ℕ) (r : List ℕ) (some : r ≢ []) where
+  child-held : (n : ℕ) (x : List ℕ) → length x ≤ n → (m : Mode) → is_ancestor r x ≡ true → held_mode t s x ≡ Some m → HoldsChild t s r
+  child-held n [] le m a h = elim (ancestor-parent r [] a) [ inl e ↦ absurd (some e) | inr k ↦ child-none k ]
+    where
+      child-none : is_ancestor r [] ≡ true → HoldsChild t s r
+      child-none k = absurd (no r k)
+        where
+          no : (y : List ℕ) → is_ancestor y [] ≡ true → ⊥
+          no [] k = cc
+          no (b ∷ y) k = cc
+  child-held n (b ∷ []) le m a h = elim (ancestor-parent r (b ∷ []) a) [ inl e ↦ absurd (some e) | inr k ↦ absurd (no r k) ]
+    where
+      no : (y : List ℕ) → is_ancestor y [] ≡ true → ⊥
+      no [] k = cc
+      no (c ∷ y) k = cc
+  child-held zero (b ∷ c ∷ zs) le m a h = absurd (omega arith)
+  child-held (suc n) (b ∷ c ∷ zs) le m a h = elim (ancestor-parent r (b ∷ c ∷ zs) a) [
+    | inl e ↦ record { child = b ∷ c ∷ zs; mode = m; has_one = refl; is_parent = sym e; held = h }
+    | inr k ↦
+        let up = stands-under t s (b ∷ c ∷ zs) m (i.held_under s (b ∷ c ∷ zs) m h) refl in
+        child-held n (parent_of (b ∷ c ∷ zs)) (omega (arith, length-parent b c zs)) up.0 k up.1
+  ]
+
+pub children-held : (st : State) → IsSound st.table → AreChildrenHeld st
+children-held st i s r x m some a h = let w = child-held st.table i s r some (length x) x (omega arith) m a h in (w.child, w.mode, w.has_one, w.is_parent, w.held)
