@@ -1,11 +1,16 @@
 #!/usr/bin/env python3
-"""Times ./glm replay on uncontended traces and tells its peak memory.
+"""Times ./glm replay on two kinds of trace, and tells its peak memory.
 
 Usage: bench/replay.py [ROWS..]     (default: 100000 1000000)
 
-A trace has 8 sessions that take turns. Each transaction has 14 rows: begin, 12 locks on databases of
-the session's own, commit. So nothing ever waits. A line for each trace: rows, seconds, rows a second,
-peak memory in MiB. The trace and the history are files of a temporary folder.
+Uncontended: 8 sessions take turns. Each transaction has 14 rows: begin, 12 locks on databases of the
+session's own, commit. So nothing ever waits. A line for each number of rows.
+
+Waits: of 256 sessions 252 hold databases of their own, few or many. Then, a third of ROWS times, one
+session begins, waits for a database behind a writer and another session, and aborts. A line for each
+number of rows and of databases held: what the rows with waits cost beyond the rows before them.
+
+The traces and the histories are files of a temporary folder.
 """
 import resource
 import subprocess
@@ -16,10 +21,11 @@ from pathlib import Path
 
 SESSIONS = 8
 LOCKS = 12
+HELD = [252, 252_000]
 TOP = Path(__file__).resolve().parent.parent
 
 
-def rows(count):
+def uncontended(count):
     """Yields the rows of a trace, transaction by transaction, the sessions in turn."""
     made = 0
     while True:
@@ -34,29 +40,50 @@ def rows(count):
                 made += 1
 
 
-def time_replay(count, folder):
+def holders(held):
+    """Yields the rows by which sessions 4 to 255 hold so many databases, and 1 and 2 stand in the way of 3."""
+    for session in range(4, 256):
+        yield f"{session},begin,,\n"
+        for number in range(held // 252):
+            yield f"{session},lock,{session * 10_000 + number},X\n"
+    yield from ["1,begin,,\n", "1,lock,1,X\n", "2,begin,,\n", "2,lock,1,S\n"]
+
+
+def waits(count):
+    for _ in range(count):
+        yield from ["3,begin,,\n", "3,lock,1,X\n", "3,abort,,\n"]
+
+
+def replayed(rows, folder):
+    """Seconds and peak memory of a replay of these rows."""
     trace, history = folder / "trace.csv", folder / "history.csv"
     with trace.open("w") as out:
-        out.writelines(rows(count))
-    before = resource.getrusage(resource.RUSAGE_CHILDREN).ru_maxrss
+        out.writelines(rows)
     with trace.open() as given, history.open("w") as out:
         start = time.monotonic()
         subprocess.run([TOP / "glm", "replay"], stdin=given, stdout=out, check=True)
         seconds = time.monotonic() - start
-    with history.open() as made:
-        answered = sum(1 for _ in made)
-    if answered != count:
-        sys.exit(f"{count} rows gave {answered} entries")
-    peak = max(before, resource.getrusage(resource.RUSAGE_CHILDREN).ru_maxrss)
-    print(f"{count} rows: {seconds:.2f} s, {count / seconds:.0f} rows a second, peak {peak / 1024:.0f} MiB")
+    with history.open() as made, trace.open() as given:
+        answers, asked = sum(1 for _ in made), sum(1 for _ in given)
+    if answers != asked:
+        sys.exit(f"{asked} rows gave {answers} entries")
+    return seconds, resource.getrusage(resource.RUSAGE_CHILDREN).ru_maxrss / 1024
 
 
 def main():
-    counts = [int(word) for word in sys.argv[1:]] or [100_000, 1_000_000]
+    counts = sorted(int(word) for word in sys.argv[1:]) or [100_000, 1_000_000]
     subprocess.run([TOP / "glm", "--help"], stdout=subprocess.DEVNULL, check=True)
-    with tempfile.TemporaryDirectory() as folder:
-        for count in sorted(counts):
-            time_replay(count, Path(folder))
+    with tempfile.TemporaryDirectory() as name:
+        folder = Path(name)
+        for count in counts:
+            seconds, peak = replayed(uncontended(count), folder)
+            print(f"{count} rows: {seconds:.2f} s, {count / seconds:.0f} rows a second, peak {peak:.0f} MiB")
+        for held in HELD:
+            before, _ = replayed(holders(held), folder)
+            for count in counts:
+                seconds, _ = replayed(list(holders(held)) + list(waits(count // 3)), folder)
+                each = (seconds - before) * 1e6 / (count // 3)
+                print(f"{count // 3} waits beside {held} databases: {seconds - before:.2f} s, {each:.1f} microseconds a wait")
 
 
 main()

@@ -6,9 +6,8 @@ use std::test::Fail;
 #[test]
 fn bad_rows_are_named(rt: HostRuntime) -> Result<(), Fail> {
     for (trace, told) in [
-        ("1,poll,,", "glm: row 1: Op\n"),
+        ("1,rollback,,", "glm: row 1: Op\n"),
         ("1,Begin,,\n", "glm: row 1: Op\n"),
-        ("1,begin,,\n1,lock,01,S\n", "glm: row 2: Path LeadingZero\n"),
         ("1,begin,,\n1,lock,1", "glm: row 2: Shape\n"),
         ("1,begin,,,\n", "glm: row 1: Shape\n"),
         ("257,begin,,\n", "glm: row 1: Session\n"),
@@ -19,7 +18,33 @@ fn bad_rows_are_named(rt: HostRuntime) -> Result<(), Fail> {
         (",begin,,\n", "glm: row 1: Session\n"),
         ("x,poll,01,s\n", "glm: row 1: Session\n"),
         ("1,commit,1,\n", "glm: row 1: Extra\n"),
+        ("1,poll,1,", "glm: row 1: Extra\n"),
+        ("1,abort,,S\n", "glm: row 1: Extra\n"),
+        ("1,convert,1,\n", "glm: row 1: Mode\n"),
         ("1,begin,,S\n", "glm: row 1: Extra\n"),
+        ("1,release,1,S\n", "glm: row 1: Extra\n"),
+        ("1,lock,1, S\n", "glm: row 1: Mode\n"),
+        ("1,lock,1,s\n", "glm: row 1: Mode\n"),
+        ("1,lock,1,\n", "glm: row 1: Mode\n"),
+        ("\n\n1,begin,,\n\n9x,begin,,\nx\n", "glm: row 2: Session\n"),
+        (
+            "1,begin,,\r\n\"1\",lock,\"1\",\"T\"\r\n",
+            "glm: row 2: Mode\n",
+        ),
+    ] {
+        let ran = replay(&rt, trace)?;
+        assert_eq!(rt; ran.status, 1, "{trace}");
+        assert_eq!(rt; ran.errors.as_slice(), told.as_bytes(), "{trace}");
+        assert!(rt; ran.output.is_empty(), "{trace}");
+    }
+    Ok(())
+}
+
+#[test]
+fn bad_resources_are_named(rt: HostRuntime) -> Result<(), Fail> {
+    for (trace, told) in [
+        ("1,begin,,\n1,lock,01,S\n", "glm: row 2: Path LeadingZero\n"),
+        ("1,convert,1/x,S\n", "glm: row 1: Path NotANumber\n"),
         ("1,lock,,S\n", "glm: row 1: Path Empty\n"),
         ("1,lock,x,s\n", "glm: row 1: Path NotANumber\n"),
         ("1,lock,4294967296,S\n", "glm: row 1: Path TooLarge\n"),
@@ -30,16 +55,7 @@ fn bad_rows_are_named(rt: HostRuntime) -> Result<(), Fail> {
         ("1,lock,1/4294967296,S\n", "glm: row 1: Path TooLarge\n"),
         ("1,release,1/00,\n", "glm: row 1: Path LeadingZero\n"),
         ("1,release,,\n", "glm: row 1: Path Empty\n"),
-        ("1,release,1,S\n", "glm: row 1: Extra\n"),
         ("1,release,x,S\n", "glm: row 1: Path NotANumber\n"),
-        ("1,lock,1, S\n", "glm: row 1: Mode\n"),
-        ("1,lock,1,s\n", "glm: row 1: Mode\n"),
-        ("1,lock,1,\n", "glm: row 1: Mode\n"),
-        ("\n\n1,begin,,\n\n9x,begin,,\nx\n", "glm: row 2: Session\n"),
-        (
-            "1,begin,,\r\n\"1\",lock,\"1\",\"T\"\r\n",
-            "glm: row 2: Mode\n",
-        ),
     ] {
         let ran = replay(&rt, trace)?;
         assert_eq!(rt; ran.status, 1, "{trace}");

@@ -18,9 +18,14 @@ const REFUSALS: (&str, &str) = (
     "0,1,lock,1,S,refused,NoTransaction\n1,1,begin,,,began,1\n2,1,begin,,,refused,AlreadyOpen\n3,1,lock,1,NL,refused,NothingAsked\n4,1,lock,1,S,granted,S\n5,2,begin,,,began,2\n6,2,lock,1,X,waiting,\n7,2,lock,2,S,refused,IsWaiting\n8,2,commit,,,refused,IsWaiting\n9,1,commit,,,committed,1\n10,2,commit,,,committed,1\n",
 );
 
-const HELD_ALREADY: (&str, &str) = (
+const INTENTIONS_BESIDE_SIX: (&str, &str) = (
+    "1,begin,,\n2,begin,,\n3,begin,,\n1,lock,1,SIX\n2,lock,1,IS\n3,lock,1,IX\n",
+    "0,1,begin,,,began,1\n1,2,begin,,,began,2\n2,3,begin,,,began,3\n3,1,lock,1,SIX,granted,SIX\n4,2,lock,1,IS,granted,IS\n5,3,lock,1,IX,waiting,\n",
+);
+
+const LOCKED_AGAIN: (&str, &str) = (
     "1,begin,,\n1,lock,4294967295,IS\n1,lock,4294967295,X\n1,commit,,\n1,begin,,\n1,lock,0,SIX\n1,commit,,\n",
-    "0,1,begin,,,began,1\n1,1,lock,4294967295,IS,granted,IS\n2,1,lock,4294967295,X,refused,AlreadyHeld\n3,1,commit,,,committed,1\n4,1,begin,,,began,2\n5,1,lock,0,SIX,granted,SIX\n6,1,commit,,,committed,1\n",
+    "0,1,begin,,,began,1\n1,1,lock,4294967295,IS,granted,IS\n2,1,lock,4294967295,X,granted,X\n3,1,commit,,,committed,1\n4,1,begin,,,began,2\n5,1,lock,0,SIX,granted,SIX\n6,1,commit,,,committed,1\n",
 );
 
 const TREE: (&str, &str) = (
@@ -39,18 +44,25 @@ const PARENTS_FIRST: (&str, &str) = (
 );
 
 const LEAVES_FIRST: (&str, &str) = (
-    "1,begin,,\n1,lock,1,IX\n1,lock,1/2,IX\n1,lock,1/2/3,X\n1,release,1/2,\n1,release,1/2/3,\n1,release,1/2,\n1,release,1/2,\n1,commit,,\n",
-    "0,1,begin,,,began,1\n1,1,lock,1,IX,granted,IX\n2,1,lock,1/2,IX,granted,IX\n3,1,lock,1/2/3,X,granted,X\n4,1,release,1/2,,refused,ChildHeld\n5,1,release,1/2/3,,released,\n6,1,release,1/2,,released,\n7,1,release,1/2,,refused,NotHeld\n8,1,commit,,,committed,1\n",
+    "1,begin,,\n1,lock,1,IX\n1,lock,1/2,IX\n1,lock,1/2/3,X\n1,release,1/2,\n1,release,1/2/3,\n1,release,1/2,\n1,release,1/2,\n1,commit,,\n1,poll,,\n",
+    "0,1,begin,,,began,1\n1,1,lock,1,IX,granted,IX\n2,1,lock,1/2,IX,granted,IX\n3,1,lock,1/2/3,X,granted,X\n4,1,release,1/2,,refused,ChildHeld\n5,1,release,1/2/3,,released,\n6,1,release,1/2,,released,\n7,1,release,1/2,,refused,NotHeld\n8,1,commit,,,committed,1\n9,1,poll,,,refused,NoTransaction\n",
 );
 
 const PARENTS_OUTRIGHT: (&str, &str) = (
     "1,begin,,\n1,lock,1,IX\n1,lock,1/2/3,S\n1,lock,1/2,X\n1,lock,1/2/3,S\n1,lock,1/2/3/4,X\n1,lock,1/2/3,X\n1,release,1,\n1,commit,,\n",
-    "0,1,begin,,,began,1\n1,1,lock,1,IX,granted,IX\n2,1,lock,1/2/3,S,refused,ParentNotHeld\n3,1,lock,1/2,X,granted,X\n4,1,lock,1/2/3,S,granted,S\n5,1,lock,1/2/3/4,X,refused,ParentNotHeld\n6,1,lock,1/2/3,X,refused,AlreadyHeld\n7,1,release,1,,refused,ChildHeld\n8,1,commit,,,committed,3\n",
+    "0,1,begin,,,began,1\n1,1,lock,1,IX,granted,IX\n2,1,lock,1/2/3,S,refused,ParentNotHeld\n3,1,lock,1/2,X,granted,X\n4,1,lock,1/2/3,S,granted,S\n5,1,lock,1/2/3/4,X,refused,ParentNotHeld\n6,1,lock,1/2/3,X,granted,X\n7,1,release,1,,refused,ChildHeld\n8,1,commit,,,committed,3\n",
 );
 
 #[test]
 fn traces_give_their_histories(rt: HostRuntime) -> Result<(), Fail> {
-    for (trace, history) in [QUEUE, READERS, REFUSALS, HELD_ALREADY, ("", "")] {
+    for (trace, history) in [
+        QUEUE,
+        READERS,
+        REFUSALS,
+        INTENTIONS_BESIDE_SIX,
+        LOCKED_AGAIN,
+        ("", ""),
+    ] {
         let ran = replay(&rt, trace)?;
         assert_eq!(rt; ran.status, 0, "{trace}");
         assert_eq!(rt; ran.output.as_slice(), history.as_bytes(), "{trace}");

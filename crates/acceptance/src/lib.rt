@@ -4,9 +4,15 @@
 #[cfg(test)]
 mod bad_input;
 #[cfg(test)]
+mod conversions;
+#[cfg(test)]
+mod deadlocks;
+#[cfg(test)]
 mod devices;
 #[cfg(test)]
 mod examples;
+#[cfg(test)]
+mod numbers;
 #[cfg(test)]
 mod running;
 #[cfg(test)]

@@ -1,112 +1,124 @@
--- A session gives one lock back: the desk stays whole.
-use Rattle.std.proofs.Common.{◌≡◌, ℕ, ◌+◌, ◌<◌, Bool, true, false, cond, inl, inr, List, [], ◌∷◌, ◌++◌, length, map, get_or, set, None, sym, ◌∙◌, ap, arith, subst, length-append}
+-- A session gives back all its locks, the last one first.
+use Rattle.std.proofs.Common.{◌≡◌, ℕ, ◌+◌, ◌<◌, Bool, true, false, cond, ◌||◌, inl, inr, List, [], ◌∷◌, ◌++◌, length, map, get_or, set, Option, Some, None, refl, sym, ◌∙◌, ap, arith, subst}
 use Rattle.std.specs.List.{All}
 use Rattle.std.specs.Prelude.{vec_len, vec_capacity}
 use Rattle.std.proofs.lemmas.List.Elements.{All-set, All-get_or}
 use Rattle.lock_tree.specs.Paths.{same_path}
 use Rattle.lock_rules.proofs.Lists.{same_path-refl, same_path_tells}
+use Rattle.lock_desk.specs.declared.cells.Part.TheVariants as part
+use Rattle.lock_desk.specs.declared.rows.Request.{Request}
 use Rattle.lock_desk.specs.declared.rows.Row.{Row}
 use Rattle.lock_desk.specs.declared.desk.Desk.{Desk}
-use Rattle.lock_desk.specs.Cells.{View, has_claim, left_view, promoted_view, has_path, AreApart, CellsBecame}
-use Rattle.lock_desk.specs.Rows.{Standing, standing_of, requests_in, IsKeptRow, IsSameOrAdmitted, AreSameOrAdmitted, DoAgree}
-use Rattle.lock_desk.specs.Changes.{seen, standings, standing, weight, ended_view, IsWhole, GivesBack, HasGivenBack}
-use Rattle.lock_desk.proofs.Standings.{standing-here, apart-pop, requests-some}
-use Rattle.lock_desk.proofs.Wholes.{apart-at, has_path-own, has_path-other, popped}
-use Rattle.lock_desk.proofs.Frees.{freed-agree, freed-own, freed-others, freed-views, freed-whole}
+use Rattle.lock_desk.specs.Cells.{View, has_claim, given_up, freed_view, has_path, AreApart, CellsBecame}
+use Rattle.lock_desk.specs.Rows.{Standing, wanted_in, standing_of, locks_to_come, IsKeptRow, AreSameOrAdmitted, DoAgree}
+use Rattle.lock_desk.specs.Changes.{seen, standings, standing, unlocked_view, IsWhole, HasGivenBack, HasGivenBackAll}
+use Rattle.lock_desk.proofs.Standings.{standing-here, apart-pop, has_path-push}
+use Rattle.lock_desk.proofs.Wholes.{apart-at, or-true, GivesUp}
+use Rattle.lock_desk.proofs.Frees.{gives-last, freed-agree, freed-own, has-freed, freed-whole}
+
+-- no request is none
+pub none-in : (o : Option Request) → wanted_in o ≡ None → o ≡ None
+none-in None h = refl
+none-in (Some q) h = absurd (cc)
+
+-- the last lock goes
 
 module _ (d : Desk) (s : ℕ) (r : List ℕ) (row new : Row) (w : IsWhole d) (lt : s < length d.rows.items) (at : row ≡ get_or d.rows.items s row)
-    (pops : row.held.items ≡ new.held.items ++ r ∷ []) (same : standing_of new ≡ popped new.held.items (standing_of row)) where
-  abbrev front : List (List ℕ)
-  front = new.held.items
+    (pops : row.held.items ≡ new.held.items ++ r ∷ []) (transaction : new.transaction ≡ row.transaction) (wanted : new.wanted ≡ row.wanted) (idle : (standing s d).wanted ≡ None) where
+  kept : IsKeptRow row
+  kept = subst IsKeptRow (sym at) (All-get_or IsKeptRow d.rows.items s row lt w.rows)
 
-  held : (standing s d).held ≡ front ++ r ∷ []
-  held = ap (λ (x : Standing). x.held) (standing-here d.rows.items s row lt at) ∙ pops
+  waits-not : (standing_of row).wanted ≡ None
+  waits-not = ap (λ (x : Standing). x.wanted) (sym (standing-here d.rows.items s row lt at)) ∙ idle
 
-  apart : AreApart front × (has_path r front ≡ false)
-  apart = apart-pop front r (subst AreApart held (apart-at d.rows.items s w.rows))
-
-  elsewhere : (x : List ℕ) → same_path r x ≡ false → has_path x front ≡ has_path x (standing s d).held
-  elsewhere x n = sym (ap (has_path x) held ∙ has_path-other x r front n)
+  gives : GivesUp part.Lock r (standing_of row) (standing_of new)
+  gives = gives-last r (standing_of row) (standing_of new) kept.apart transaction (ap wanted_in wanted) pops
 
   -- the row without the lock agrees with the cell that its holder has left
-  pub back-agree : DoAgree r (left_view s (seen r d)) (map standing_of (set d.rows.items s new))
-  back-agree = freed-agree d s r front row new lt at same apart.1 elsewhere w
+  pub back-agree : DoAgree r (given_up part.Lock s (seen r d)) (map standing_of (set d.rows.items s new))
+  back-agree = freed-agree d part.Lock s r row new lt at gives w
 
   -- the rows are kept
-  pub back-rows : vec_len new.held + 1 ≡ vec_len row.held → vec_capacity new.held ≡ vec_capacity row.held → new.wanted ≡ row.wanted → All IsKeptRow (set d.rows.items s new)
-  back-rows len cap wanted =
-      let kept : IsKeptRow row = subst IsKeptRow (sym at) (All-get_or IsKeptRow d.rows.items s row lt w.rows) in
-      let one = ap requests_in wanted in
+  pub back-rows : vec_len new.held + 1 ≡ vec_len row.held → vec_capacity new.held ≡ vec_capacity row.held → All IsKeptRow (set d.rows.items s new)
+  back-rows len cap =
+      let one = ap locks_to_come wanted in
+      let none : new.wanted ≡ None = wanted ∙ none-in row.wanted waits-not in
       All-set IsKeptRow d.rows.items s new (record {
-        apart = apart.0;
+        apart = (apart-pop new.held.items r (subst AreApart pops kept.apart)).0;
+        kind = rw none tt;
         room = omega (arith, len, cap, kept.room, one);
         few = omega (arith, len, kept.few, one, new.held.ok.0, row.held.ok.0);
       }) w.rows
 
-  module _ (e : Desk) (idle : (standing s d).wanted ≡ None) (count : e.count ≡ d.count) (v : View) (is : v ≡ promoted_view (left_view s (seen r d)))
-      (b : CellsBecame r v d.cells.items e.cells.items) (agree : DoAgree r v (standings e)) (rows : All IsKeptRow e.rows.items) (granted : AreSameOrAdmitted r (map standing_of (set d.rows.items s new)) (standings e)) where
+  module _ (e : Desk) (count : e.count ≡ d.count)
+      (b : CellsBecame r (freed_view part.Lock s (seen r d)) d.cells.entries e.cells.entries) (agree : DoAgree r (freed_view part.Lock s (seen r d)) (standings e)) (rows : All IsKeptRow e.rows.items) (granted : AreSameOrAdmitted r (map standing_of (set d.rows.items s new)) (standings e)) where
+    none-left : (standing_of new).wanted ≡ None
+    none-left = ap wanted_in wanted ∙ waits-not
+
+    own : standing s e ≡ standing_of new
+    own = freed-own d part.Lock s r row new lt at gives w e none-left b agree rows granted
+
     -- what is seen is what a release brings
-    pub back-gives : GivesBack s d e
+    pub back-gives : HasGivenBack s d e
     back-gives = record {
       resource = r;
-      count = count;
-      own = (λ i. record { transaction = (standing s d).transaction; held = held i; wanted = (standing s d).wanted })
-          ∙ sym (ap (λ (x : Standing). record { transaction = x.transaction; held = x.held ++ r ∷ []; wanted = x.wanted }) (freed-own d s r front row new lt at same apart.1 elsewhere w e idle v is b agree rows granted));
-      others = freed-others d s r front row new lt at same apart.1 elsewhere w e idle v is b agree rows granted;
-      views = freed-views d s r front row new lt at same apart.1 elsewhere w e idle v is b agree rows granted;
+      held = ap (λ (x : Standing). x.held) (standing-here d.rows.items s row lt at) ∙ (pops ∙ sym (ap (λ (x : Standing). x.held ++ r ∷ []) own));
+      idle = ap (λ (x : Standing). x.wanted) own ∙ none-left;
+      freed = has-freed d part.Lock s r row new lt at gives w e none-left b agree rows granted count;
     }
 
     -- and the desk is whole
     pub back-whole : IsWhole e
-    back-whole = freed-whole d s r front row new lt at same apart.1 elsewhere w e idle v is b agree rows granted
+    back-whole = freed-whole d part.Lock s r row new lt at gives w e none-left b agree rows granted
 
 -- lock after lock
 
--- a session that is admitted has as much as before
-pub weight-admitted : (r : List ℕ) (a b : Standing) → IsSameOrAdmitted r a b → weight b ≡ weight a
-weight-admitted r a b (inl e) = ap weight e
-weight-admitted r a b (inr e) = ap weight e.1 ∙ omega (arith, requests-some r a.wanted e.0, length-append a.held (r ∷ []))
-
--- and its transaction
-pub transaction-admitted : (r : List ℕ) (a b : Standing) → IsSameOrAdmitted r a b → b.transaction ≡ a.transaction
-transaction-admitted r a b (inl e) = ap (λ (x : Standing). x.transaction) e
-transaction-admitted r a b (inr e) = ap (λ (x : Standing). x.transaction) e.1
+-- nothing was given back yet
+pub back-none : (s : ℕ) (d : Desk) → IsWhole d → (standing s d).wanted ≡ None → HasGivenBackAll s d d
+back-none s d w idle = record { count = refl; idle = idle; transactions = λ u. refl; views = λ q. go q (has_path q (standing s d).held) refl }
+  where
+    go : (q : List ℕ) (b : Bool) → has_path q (standing s d).held ≡ b → seen q d ≡ cond b (seen q d) (unlocked_view s (seen q d))
+    go q true e = refl
+    go q false e = sym (ap (λ (c : Bool). cond c (freed_view part.Lock s (seen q d)) (seen q d)) (sym ((w.agree q).held s) ∙ e))
 
 -- one lock more was given back
-pub back-more : (s : ℕ) (d e f : Desk) → IsWhole e → HasGivenBack s d e → GivesBack s e f → HasGivenBack s d f
+pub back-more : (s : ℕ) (d e f : Desk) → IsWhole e → HasGivenBackAll s d e → HasGivenBack s e f → HasGivenBackAll s d f
 back-more s d e f w h g = record {
-  count = g.count ∙ h.count;
-  idle = sym (ap (λ (x : Standing). x.wanted) g.own) ∙ h.idle;
-  transactions = λ u n. transaction-admitted g.resource (standing u e) (standing u f) (g.others u n) ∙ h.transactions u n;
-  weights = λ u n. weight-admitted g.resource (standing u e) (standing u f) (g.others u n) ∙ h.weights u n;
+  count = g.freed.count ∙ h.count;
+  idle = g.idle;
+  transactions = λ u. g.freed.transactions u ∙ h.transactions u;
   views = λ q. elim (same_path_tells g.resource q) [
     | inl k ↦ here q k.0 k.1
-    | inr k ↦ g.views q ∙ (ap (λ (b : Bool). cond b (promoted_view (left_view s (seen g.resource e))) (seen q e)) k
-        ∙ (h.views q ∙ ap (λ (b : Bool). cond b (seen q d) (ended_view s (seen q d))) (ap (has_path q) held ∙ has_path-other q g.resource (standing s f).held k)))
+    | inr k ↦ g.freed.views q ∙ (ap (λ (b : Bool). cond b (freed_view part.Lock s (seen g.resource e)) (seen q e)) k
+        ∙ (h.views q ∙ ap (λ (b : Bool). cond b (seen q d) (unlocked_view s (seen q d))) (ap (has_path q) g.held ∙ has_path-other q k)))
   ];
 }
   where
-    held : (standing s e).held ≡ (standing s f).held ++ g.resource ∷ []
-    held = ap (λ (x : Standing). x.held) g.own
+    or-same : (b c : Bool) → c ≡ false → (b || c) ≡ b
+    or-same true c e = refl
+    or-same false c e = e
+
+    has_path-other : (q : List ℕ) → same_path g.resource q ≡ false → has_path q ((standing s f).held ++ g.resource ∷ []) ≡ has_path q (standing s f).held
+    has_path-other q n = has_path-push q g.resource (standing s f).held ∙ or-same (has_path q (standing s f).held) (same_path g.resource q) n
 
     gone : has_path g.resource (standing s f).held ≡ false
-    gone = (apart-pop (standing s f).held g.resource (subst AreApart held (apart-at e.rows.items s w.rows))).1
+    gone = (apart-pop (standing s f).held g.resource (subst AreApart g.held (apart-at e.rows.items s w.rows))).1
 
     had : has_path g.resource (standing s e).held ≡ true
-    had = ap (has_path g.resource) held ∙ has_path-own g.resource (standing s f).held
+    had = ap (has_path g.resource) g.held ∙ (has_path-push g.resource g.resource (standing s f).held ∙ or-true (has_path g.resource (standing s f).held) (same_path g.resource g.resource) (same_path-refl g.resource))
 
     before : seen g.resource e ≡ seen g.resource d
-    before = h.views g.resource ∙ ap (λ (b : Bool). cond b (seen g.resource d) (ended_view s (seen g.resource d))) had
+    before = h.views g.resource ∙ ap (λ (b : Bool). cond b (seen g.resource d) (unlocked_view s (seen g.resource d))) had
 
     holds : has_claim s (seen g.resource d).holders ≡ true
     holds = ap (λ (v : View). has_claim s v.holders) (sym before) ∙ (sym ((w.agree g.resource).held s) ∙ had)
 
-    at-it : seen g.resource f ≡ cond (has_path g.resource (standing s f).held) (seen g.resource d) (ended_view s (seen g.resource d))
+    at-it : seen g.resource f ≡ cond (has_path g.resource (standing s f).held) (seen g.resource d) (unlocked_view s (seen g.resource d))
     at-it =
-        g.views g.resource ∙ (ap (λ (b : Bool). cond b (promoted_view (left_view s (seen g.resource e))) (seen g.resource e)) (same_path-refl g.resource)
-        ∙ (ap (λ (v : View). promoted_view (left_view s v)) before
-        ∙ sym (ap (λ (b : Bool). cond b (seen g.resource d) (ended_view s (seen g.resource d))) gone
-        ∙ ap (λ (b : Bool). cond b (promoted_view (left_view s (seen g.resource d))) (seen g.resource d)) holds)))
+        g.freed.views g.resource ∙ (ap (λ (b : Bool). cond b (freed_view part.Lock s (seen g.resource e)) (seen g.resource e)) (same_path-refl g.resource)
+        ∙ (ap (λ (v : View). freed_view part.Lock s v) before
+        ∙ sym (ap (λ (b : Bool). cond b (seen g.resource d) (unlocked_view s (seen g.resource d))) gone
+        ∙ ap (λ (b : Bool). cond b (freed_view part.Lock s (seen g.resource d)) (seen g.resource d)) holds)))
 
-    here : (q : List ℕ) → same_path g.resource q ≡ true → g.resource ≡ q → seen q f ≡ cond (has_path q (standing s f).held) (seen q d) (ended_view s (seen q d))
-    here q t e = subst (λ (p : List ℕ). seen p f ≡ cond (has_path p (standing s f).held) (seen p d) (ended_view s (seen p d))) e at-it
+    here : (q : List ℕ) → same_path g.resource q ≡ true → g.resource ≡ q → seen q f ≡ cond (has_path q (standing s f).held) (seen q d) (unlocked_view s (seen q d))
+    here q t e = subst (λ (p : List ℕ). seen p f ≡ cond (has_path p (standing s f).held) (seen p d) (unlocked_view s (seen p d))) e at-it

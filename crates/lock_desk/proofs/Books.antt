@@ -1,5 +1,5 @@
 -- What a book keeps follows from its history and its desk.
-use Rattle.std.proofs.Common.{◌≡◌, ℕ, ◌+◌, ◌≤◌, List, [], ◌∷◌, ◌++◌, length, length-append, sym, ap, arith, subst}
+use Rattle.std.proofs.Common.{◌≡◌, ℕ, zero, suc, ◌+◌, ◌≤◌, List, [], ◌∷◌, ◌++◌, length, map, refl, length-append, sym, ap, arith, subst}
 use Rattle.std.specs.Prelude.{vec_len}
 use Rattle.std.specs.List.{All}
 use Rattle.std.proofs.lemmas.List.Elements.{All-push}
@@ -10,32 +10,37 @@ use Rattle.lock_rules.specs.Step.{step}
 use Rattle.lock_rules.specs.Legal.{state_of, IsLegal}
 use Rattle.lock_rules.proofs.Histories.{legal-push, state_of-push}
 use Rattle.lock_desk.specs.declared.book.Book.TheInside.{Inside}
+use Rattle.lock_desk.specs.declared.rows.Row.{Row}
+use Rattle.lock_desk.specs.Rows.{no_standing, standing_of, standing_at}
 use Rattle.lock_desk.specs.Changes.{IsWhole}
+use Rattle.lock_desk.specs.Ready.{IsReadyDesk}
 use Rattle.lock_desk.specs.Shows.{Shows}
 use Rattle.lock_desk.specs.Kept.{IsKept, IsEntryWithin}
 
 -- one entry more
 pub kept-more : (a : Inside) (es : List Entry) (session : ℕ) (call : Call) (reply : Reply) → a.history.items ≡ es ++ record { session = session; call = call; reply = reply } ∷ []
     → IsLegal es → All (IsEntryWithin a.sessions) es → 1 ≤ session → session ≤ a.sessions
-    → reply ≡ (step (state_of es) session call).reply → Shows a.desk (step (state_of es) session call).state → IsWhole a.desk → vec_len a.desk.rows ≡ a.sessions + 1 → a.desk.count ≤ length es + 1 → IsKept a
-kept-more a es session call reply h legal within some most same shows whole rows counted =
+    → reply ≡ (step (state_of es) session call).reply → Shows a.desk (step (state_of es) session call).state → IsWhole a.desk → IsReadyDesk a.desk → vec_len a.desk.rows ≡ a.sessions + 1 → a.desk.count ≤ length es + 1 → IsKept a
+kept-more a es session call reply h legal within some most same shows whole ready rows counted =
     let e : Entry = record { session = session; call = call; reply = reply } in
     record {
       legal = subst IsLegal (sym h) (legal-push es e legal same);
       within = subst (All (IsEntryWithin a.sessions)) (sym h) (All-push (IsEntryWithin a.sessions) es e within (record { some = some; within = most }));
       shows = subst (λ (xs : List Entry). Shows a.desk (state_of xs)) (sym h) (subst (Shows a.desk) (sym (state_of-push es e)) shows);
       whole = whole;
+      ready = ready;
       rows = rows;
       counted = let n = ap length h in omega (arith, n, length-append es (e ∷ []), counted);
     }
 
 -- the same history
-pub kept-same : (a : Inside) (es : List Entry) → a.history.items ≡ es → IsLegal es → All (IsEntryWithin a.sessions) es → Shows a.desk (state_of es) → IsWhole a.desk → vec_len a.desk.rows ≡ a.sessions + 1 → (n : ℕ) → n ≡ (state_of es).count → n ≤ length es → IsKept a
-kept-same a es h legal within shows whole rows n c few = record {
+pub kept-same : (a : Inside) (es : List Entry) → a.history.items ≡ es → IsLegal es → All (IsEntryWithin a.sessions) es → Shows a.desk (state_of es) → IsWhole a.desk → IsReadyDesk a.desk → vec_len a.desk.rows ≡ a.sessions + 1 → (n : ℕ) → n ≡ (state_of es).count → n ≤ length es → IsKept a
+kept-same a es h legal within shows whole ready rows n c few = record {
   legal = subst IsLegal (sym h) legal;
   within = subst (All (IsEntryWithin a.sessions)) (sym h) within;
   shows = subst (λ (xs : List Entry). Shows a.desk (state_of xs)) (sym h) shows;
   whole = whole;
+  ready = ready;
   rows = rows;
   counted = let k = ap length h in let m = shows.count in omega (arith, k, m, c, few);
 }
@@ -43,3 +48,10 @@ kept-same a es h legal within shows whole rows n c few = record {
 -- one entry more allows one transaction more
 pub bound : {a b c : ℕ} → a ≤ b + 1 → b ≤ c → a ≤ c + 1
 bound h k = omega arith
+
+-- one row more of no transaction
+pub none-push : (ws : List Row) (w : Row) → ((s : ℕ) → standing_at s (map standing_of ws) ≡ no_standing) → standing_of w ≡ no_standing → (s : ℕ) → standing_at s (map standing_of (ws ++ w ∷ [])) ≡ no_standing
+none-push [] w h e zero = e
+none-push [] w h e (suc s) = refl
+none-push (x ∷ ws) w h e zero = h zero
+none-push (x ∷ ws) w h e (suc s) = none-push ws w (λ i. h (suc i)) e s

@@ -1,9 +1,10 @@
 -- Lists of claims on one resource.
-use Rattle.std.proofs.Common.{◌≡◌, ℕ, ◌+◌, ◌<◌, ◌≤◌, true, false, cond, not, eqb, ◌&&◌, ◌||◌, ◌⊎◌, inr, List, [], ◌∷◌, ◌++◌, length, get_or, take, drop, set, refl, sym, ◌∙◌, ap, arith, add-one}
+use Rattle.std.proofs.Common.{◌≡◌, ℕ, ◌+◌, ◌<◌, ◌≤◌, Bool, true, false, is_some, cond, not, eqb, ◌&&◌, ◌||◌, ◌⊎◌, inr, List, [], ◌∷◌, ◌++◌, length, get_or, take, drop, set, refl, sym, ◌∙◌, ap, arith, add-one}
 use Rattle.std.proofs.lemmas.List.{set_split, drop_more}
 use Rattle.std.proofs.lemmas.Bool.Decides.{nat_tests}
+use Rattle.lock_rules.proofs.Lists.{bool_cases}
 use Rattle.lock_desk.specs.declared.cells.Claim.{Claim}
-use Rattle.lock_desk.specs.Cells.{with_claim, has_claim, times, without, is_nobody}
+use Rattle.lock_desk.specs.Cells.{with_claim, has_claim, mode_of, times, without, is_nobody, behind_conversions, queued}
 
 -- a claim that is put at its place
 
@@ -17,6 +18,11 @@ with_claim-set xs i c h lt at e passed =
     ∙ sym (passed ∙ ap (λ ys. take i xs ++ with_claim c ys) (drop_more xs i h lt ∙ ap (λ y. y ∷ drop (i + 1) xs) (sym at))
     ∙ ap (λ ys. take i xs ++ ys) (with_claim-same c h (drop (i + 1) xs) e) ∙ rw add-one refl)
 
+-- each of the requests is of a holder, or none is
+abbrev pub AreAll : List Claim → Bool → List Claim → Type 0
+AreAll hs b [] = Unit {0}
+AreAll hs b (q ∷ qs) = (has_claim q.session hs ≡ b) × AreAll hs b qs
+
 -- how many claims a session has
 
 -- a session has a claim, or its number of claims is 0
@@ -28,11 +34,6 @@ has_tells s (c ∷ cs) = grind (arith, nat_tests, has_tells s cs)
 pub has_claim-with_claim : (s : ℕ) (c : Claim) (hs : List Claim) → has_claim s (with_claim c hs) ≡ (eqb c.session s || has_claim s hs)
 has_claim-with_claim s c [] = refl
 has_claim-with_claim s c (h ∷ hs) = grind (arith, nat_tests, has_claim-with_claim s c hs)
-
--- a claim that is put adds one at most
-pub times-with_claim : (s : ℕ) (c : Claim) (hs : List Claim) → times s (with_claim c hs) ≤ times s hs + cond (eqb c.session s) 1 0
-times-with_claim s c [] = grind (arith, nat_tests)
-times-with_claim s c (h ∷ hs) = grind (arith, nat_tests, times-with_claim s c hs)
 
 -- a claim at the end adds one
 pub times-push : (s : ℕ) (cs : List Claim) (c : Claim) → times s (cs ++ c ∷ []) ≡ times s cs + cond (eqb c.session s) 1 0
@@ -64,7 +65,53 @@ pub nobody-with_claim : (c : Claim) (hs : List Claim) → is_nobody (with_claim 
 nobody-with_claim c [] = refl
 nobody-with_claim c (h ∷ hs) = grind (arith, nat_tests)
 
--- somebody is there once a claim is added at the end
-pub nobody-push : (c : Claim) (cs : List Claim) → is_nobody (cs ++ c ∷ []) ≡ false
-nobody-push c [] = refl
-nobody-push c (d ∷ cs) = refl
+-- who has a claim has a mode
+pub mode-has : (s : ℕ) (cs : List Claim) → is_some (mode_of s cs) ≡ has_claim s cs
+mode-has s [] = refl
+mode-has s (c ∷ cs) = grind (arith, nat_tests, mode-has s cs)
+
+-- a request in the queue
+
+times-behind : (s : ℕ) (c : Claim) (hs qs : List Claim) → times s (behind_conversions c hs qs) ≡ times s qs + cond (eqb c.session s) 1 0
+times-behind s c hs [] = grind (arith, nat_tests)
+times-behind s c hs (q ∷ qs) = grind (arith, nat_tests, bool_cases (has_claim q.session hs), times-behind s c hs qs)
+
+-- a request that comes into the queue adds one
+pub times-queued : (s : ℕ) (c : Claim) (hs qs : List Claim) → times s (queued c hs qs) ≡ times s qs + cond (eqb c.session s) 1 0
+times-queued s c hs qs = go (has_claim c.session hs)
+  where
+    go : (b : Bool) → times s (cond b (behind_conversions c hs qs) (qs ++ c ∷ [])) ≡ times s qs + cond (eqb c.session s) 1 0
+    go true = times-behind s c hs qs
+    go false = times-push s qs c
+
+has_claim-behind : (s : ℕ) (c : Claim) (hs qs : List Claim) → has_claim s (behind_conversions c hs qs) ≡ (eqb c.session s || has_claim s qs)
+has_claim-behind s c hs [] = refl
+has_claim-behind s c hs (q ∷ qs) = grind (arith, nat_tests, bool_cases (has_claim q.session hs), has_claim-behind s c hs qs)
+
+-- who waits once a request has come into the queue
+pub has_claim-queued : (s : ℕ) (c : Claim) (hs qs : List Claim) → has_claim s (queued c hs qs) ≡ (eqb c.session s || has_claim s qs)
+has_claim-queued s c hs qs = go (has_claim c.session hs)
+  where
+    go : (b : Bool) → has_claim s (cond b (behind_conversions c hs qs) (qs ++ c ∷ [])) ≡ (eqb c.session s || has_claim s qs)
+    go true = has_claim-behind s c hs qs
+    go false = has_claim-push s qs c
+
+-- somebody waits then
+pub nobody-queued : (c : Claim) (hs qs : List Claim) → is_nobody (queued c hs qs) ≡ false
+nobody-queued c hs qs = go (has_claim c.session hs) qs
+  where
+    go : (b : Bool) (qs : List Claim) → is_nobody (cond b (behind_conversions c hs qs) (qs ++ c ∷ [])) ≡ false
+    go true [] = refl
+    go true (q ∷ qs) = either (has_claim q.session hs)
+      where
+        either : (b : Bool) → is_nobody (cond b (q ∷ behind_conversions c hs qs) (c ∷ q ∷ qs)) ≡ false
+        either true = refl
+        either false = refl
+    go false [] = refl
+    go false (q ∷ qs) = refl
+
+-- where the front is of holders and the rest is not, a conversion comes between
+pub behind-between : (c : Claim) (hs front rest : List Claim) → AreAll hs true front → AreAll hs false rest → behind_conversions c hs (front ++ rest) ≡ front ++ c ∷ rest
+behind-between c hs [] [] a b = refl
+behind-between c hs [] (q ∷ rest) a b = ap (λ (x : Bool). cond x (q ∷ behind_conversions c hs rest) (c ∷ q ∷ rest)) b.0
+behind-between c hs (p ∷ front) rest a b = ap (λ (x : Bool). cond x (p ∷ behind_conversions c hs (front ++ rest)) (c ∷ p ∷ (front ++ rest))) a.0 ∙ ap (λ (xs : List Claim). p ∷ xs) (behind-between c hs front rest a.1 b)

@@ -4,15 +4,21 @@ use Rattle.std.specs.List.{All}
 use Rattle.std.specs.Prelude.{vec_len, vec_capacity}
 use Rattle.std.proofs.lemmas.Bool.Decides.{Decides-eqb}
 use Rattle.std.proofs.lemmas.List.Elements.{All-set, All-get_or, All-head, All-tail}
+use Rattle.lock_tree.specs.Paths.{same_path}
 use Rattle.lock_rules.specs.declared.calls.TheConstants.{MAX_LOCKS}
-use Rattle.lock_rules.proofs.Lists.{bool_cases}
+use Rattle.lock_rules.proofs.Lists.{bool_cases, same_path_tells}
+use Rattle.lock_desk.specs.declared.cells.Part.TheVariants as part
+use Rattle.lock_desk.specs.declared.rows.Transaction.{Transaction}
+use Rattle.lock_desk.specs.declared.rows.Request.{Request}
 use Rattle.lock_desk.specs.declared.rows.Row.{Row}
 use Rattle.lock_desk.specs.declared.desk.Desk.{Desk}
-use Rattle.lock_desk.specs.Cells.{View, face_of, view_at, has_path, AreApart, AreKeptCells}
-use Rattle.lock_desk.specs.Rows.{Standing, standing_of, standing_at, requests_in, is_wanted, IsKeptRow, DoAgree}
-use Rattle.lock_desk.specs.Changes.{seen, standings, standing, weight, ended_view, IsWhole, HasGivenBack, HasBegun, HasEnded}
+use Rattle.lock_desk.specs.Cells.{View, has_claim, given_up, freed_view, cell_view, has_path, AreApart, AreKeptCells, CellsBecame}
+use Rattle.lock_desk.specs.Rows.{Standing, doomed, resource_asked, wanted_in, standing_of, standing_at, is_wanted, locks_to_come, IsOfKind, IsKeptRow, AreSameOrAdmitted, DoAgree}
+use Rattle.lock_desk.specs.Changes.{seen, standings, standing, unlocked_view, cancelled_view, IsWhole, HasFreed, HasGivenBackAll, HasCancelled, HasDoomed, HasBegun, HasEnded}
 use Rattle.lock_desk.proofs.Standings.{standings-set, standing-here, length-standings}
-use Rattle.lock_desk.proofs.Wholes.{own-standing, other-standing, eqb-swap}
+use Rattle.lock_desk.proofs.Wholes.{own-standing, other-standing, eqb-swap, GivesUp}
+use Rattle.lock_desk.proofs.Asks.{idle-there}
+use Rattle.lock_desk.proofs.Frees.{gives-request, freed-agree, freed-own, has-freed, freed-whole}
 
 -- no session holds more than its limit
 pub few-at : (ws : List Row) (s : ℕ) → All IsKeptRow ws → length (standing_at s (map standing_of ws)).held ≤ MAX_LOCKS
@@ -21,11 +27,11 @@ few-at (w ∷ ws) zero k = let f = (All-head IsKeptRow w ws k).few in omega arit
 few-at (w ∷ ws) (suc s) k = few-at ws s (All-tail IsKeptRow w ws k)
 
 -- the standing with this transaction
-abbrev pub told : Option ℕ → Standing → Standing
+abbrev pub told : Option Transaction → Standing → Standing
 told o x = record { transaction = o; held = x.held; wanted = x.wanted }
 
-module _ (d : Desk) (s : ℕ) (o : Option ℕ) (row new : Row) (e : Desk) (w : IsWhole d) (lt : s < length d.rows.items) (at : row ≡ get_or d.rows.items s row)
-    (same : standing_of new ≡ told o (standing_of row)) (held : new.held ≡ row.held) (rows : e.rows.items ≡ set d.rows.items s new) (cells : e.cells ≡ d.cells) where
+module _ (d : Desk) (s : ℕ) (o : Option Transaction) (row new : Row) (e : Desk) (w : IsWhole d) (lt : s < length d.rows.items) (at : row ≡ get_or d.rows.items s row)
+    (same : standing_of new ≡ told o (standing_of row)) (held : new.held ≡ row.held) (wanted : new.wanted ≡ row.wanted) (rows : e.rows.items ≡ set d.rows.items s new) (cells : e.cells ≡ d.cells) where
   all-told : standings e ≡ set (standings d) s (told o (standing s d))
   all-told = ap (map standing_of) rows ∙ (standings-set d.rows.items s new ∙ ap (λ (x : Standing). set (standings d) s x) (same ∙ ap (told o) (sym (standing-here d.rows.items s row lt at))))
 
@@ -61,7 +67,7 @@ module _ (d : Desk) (s : ℕ) (o : Option ℕ) (row new : Row) (e : Desk) (w : I
 
   -- the cells say what they said
   pub seen-told : (q : List ℕ) → seen q e ≡ seen q d
-  seen-told q = ap (λ cs. view_at q (map face_of cs.items)) cells
+  seen-told q = ap (λ cs. cell_view q cs.entries) cells
 
   -- each holds what it held
   pub held-each : (u : ℕ) → (standing u e).held ≡ (standing u d).held
@@ -79,31 +85,29 @@ module _ (d : Desk) (s : ℕ) (o : Option ℕ) (row new : Row) (e : Desk) (w : I
   pub told-whole : IsWhole e
   told-whole =
       let k : IsKeptRow row = subst IsKeptRow (sym at) (All-get_or IsKeptRow d.rows.items s row lt w.rows) in
-      let wanted = ap (λ (x : Standing). requests_in x.wanted) same in
+      let to_come = ap locks_to_come wanted in
+      let len = ap vec_len held in
+      let cap = ap vec_capacity held in
       let long = ap (λ v. length v.items) held in
       record {
-        cells = subst (λ cs. AreKeptCells cs.items) (sym cells) w.cells;
+        cells = subst (λ cs. AreKeptCells cs.entries) (sym cells) w.cells;
         rows = rw rows (All-set IsKeptRow d.rows.items s new (record {
           apart = subst (λ v. AreApart v.items) (sym held) k.apart;
-          room = room k.room (ap vec_len held) (ap vec_capacity held) wanted;
-          few = omega (arith, k.few, long, wanted);
+          kind = subst (λ q. IsOfKind q new.held.items) (sym wanted) (subst (λ v. IsOfKind row.wanted v.items) (sym held) k.kind);
+          room = omega (arith, k.room, len, cap, to_come);
+          few = omega (arith, k.few, long, to_come);
         }) w.rows);
         agree = λ x. subst (λ (v : View). DoAgree x v (standings e)) (sym (seen-told x)) (record {
           held = λ u. ap (has_path x) (held-each u) ∙ (w.agree x).held u;
           wanted = λ u. ap (is_wanted x) (wanted-each u) ∙ (w.agree x).wanted u;
         });
       }
-    where
-      room : vec_len row.held + requests_in row.wanted ≤ vec_capacity row.held → vec_len new.held ≡ vec_len row.held → vec_capacity new.held ≡ vec_capacity row.held → requests_in new.wanted ≡ requests_in row.wanted → vec_len new.held + requests_in new.wanted ≤ vec_capacity new.held
-      room a b c f = omega (arith, a, b, c, f)
 
   -- a transaction has begun
-  pub has-begun : e.count ≡ d.count + 1 → o ≡ Some (d.count + 1) → HasBegun s d e
+  pub has-begun : e.count ≡ d.count + 1 → o ≡ Some (record { number = d.count + 1; doomed = false }) → HasBegun s d e
   has-begun count number = record {
     count = count;
-    transactions = λ u. transaction-each u ∙ ap (λ (x : Option ℕ). cond (eqb u s) x (standing u d).transaction) number;
-    held = held-each;
-    wanted = wanted-each;
+    transactions = λ u. transaction-each u ∙ ap (λ (x : Option Transaction). cond (eqb u s) x (standing u d).transaction) number;
     views = seen-told;
   }
 
@@ -113,25 +117,115 @@ nothing : (rs : List (List ℕ)) → length rs ≡ 0 → rs ≡ []
 nothing [] h = refl
 nothing (r ∷ rs) h = absurd (omega arith)
 
+-- who waits for nothing has nothing to cancel
+pub none-cancelled : (s : ℕ) (d : Desk) → IsWhole d → (standing s d).wanted ≡ None → (q : List ℕ) → cancelled_view s (seen q d) ≡ seen q d
+none-cancelled s d w idle q = ap (λ (b : Bool). cond b (freed_view part.Request s (seen q d)) (seen q d)) (idle-there s q d w idle)
+
 -- where all was given back, the transaction has ended
-pub has-ended : (s : ℕ) (d f e : Desk) → HasGivenBack s d f → length (standing s f).held ≡ 0 → e.count ≡ f.count → ((q : List ℕ) → seen q e ≡ seen q f)
-    → ((u : ℕ) → (standing u e).held ≡ (standing u f).held) → ((u : ℕ) → (standing u e).wanted ≡ (standing u f).wanted) → ((u : ℕ) → (standing u e).transaction ≡ cond (eqb u s) None (standing u f).transaction)
-    → HasEnded s d e
-has-ended s d f e g none count views held wanted transactions = record {
+pub has-ended : (s : ℕ) (d f e : Desk) → IsWhole d → (standing s d).wanted ≡ None → HasGivenBackAll s d f → length (standing s f).held ≡ 0 → e.count ≡ f.count → ((q : List ℕ) → seen q e ≡ seen q f)
+    → ((u : ℕ) → (standing u e).transaction ≡ cond (eqb u s) None (standing u f).transaction) → HasEnded s d e
+has-ended s d f e w idle g none count views transactions = record {
   count = count ∙ g.count;
-  transactions = λ u. elim (bool_cases (eqb u s)) [
-    | inl h ↦ transactions u ∙ (ap (λ (b : Bool). cond b None (standing u f).transaction) h ∙ sym (ap (λ (b : Bool). cond b None (standing u d).transaction) h))
-    | inr h ↦ transactions u ∙ (ap (λ (o : Option ℕ). cond (eqb u s) None o) (g.transactions u (eqb-swap u s h)))
-  ];
-  weights = λ u. same-weight u ∙ elim (bool_cases (eqb u s)) [
-    | inl h ↦ own u ((Decides-eqb u s).0 h) ∙ sym (ap (λ (b : Bool). cond b 0 (weight (standing u d))) h)
-    | inr h ↦ g.weights u (eqb-swap u s h) ∙ sym (ap (λ (b : Bool). cond b 0 (weight (standing u d))) h)
-  ];
-  views = λ q. views q ∙ (g.views q ∙ ap (λ (rs : List (List ℕ)). cond (has_path q rs) (seen q d) (ended_view s (seen q d))) (nothing (standing s f).held none));
+  transactions = λ u. transactions u ∙ ap (λ (o : Option Transaction). cond (eqb u s) None o) (g.transactions u);
+  views = λ q. views q ∙ (g.views q ∙ (ap (λ (rs : List (List ℕ)). cond (has_path q rs) (seen q d) (unlocked_view s (seen q d))) (nothing (standing s f).held none)
+      ∙ sym (ap (unlocked_view s) (none-cancelled s d w idle q))));
+}
+
+-- the request was cancelled before
+pub ended-after : (s : ℕ) (d f e : Desk) → IsWhole f → HasCancelled s d f → HasEnded s f e → HasEnded s d e
+ended-after s d f e w c h = record {
+  count = h.count ∙ c.count;
+  transactions = λ u. h.transactions u ∙ ap (λ (o : Option Transaction). cond (eqb u s) None o) (c.transactions u);
+  views = λ q. h.views q ∙ ap (unlocked_view s) (none-cancelled s f w c.idle q ∙ c.views q);
+}
+
+-- a request is cancelled
+
+module _ (d : Desk) (s : ℕ) (r : List ℕ) (q : Request) (row new : Row) (w : IsWhole d) (lt : s < length d.rows.items) (at : row ≡ get_or d.rows.items s row)
+    (waits : row.wanted ≡ Some q) (there : r ≡ resource_asked q) (transaction : new.transaction ≡ row.transaction) (held : new.held ≡ row.held) (gone : new.wanted ≡ None) where
+  asks : (standing_of row).wanted ≡ Some r
+  asks = ap wanted_in waits ∙ ap Some (sym there)
+
+  none-now : (standing_of new).wanted ≡ None
+  none-now = ap wanted_in gone
+
+  gives : GivesUp part.Request r (standing_of row) (standing_of new)
+  gives = gives-request r (standing_of row) (standing_of new) transaction (ap (λ v. v.items) held) asks none-now
+
+  -- the row without the request agrees with the cell
+  pub cancel-agree : DoAgree r (given_up part.Request s (seen r d)) (map standing_of (set d.rows.items s new))
+  cancel-agree = freed-agree d part.Request s r row new lt at gives w
+
+  -- the rows are kept
+  pub cancel-rows : All IsKeptRow (set d.rows.items s new)
+  cancel-rows =
+      let k : IsKeptRow row = subst IsKeptRow (sym at) (All-get_or IsKeptRow d.rows.items s row lt w.rows) in
+      let none = ap locks_to_come gone in
+      let len = ap vec_len held in
+      let cap = ap vec_capacity held in
+      let long = ap (λ v. length v.items) held in
+      All-set IsKeptRow d.rows.items s new (record {
+        apart = subst (λ v. AreApart v.items) (sym held) k.apart;
+        kind = rw gone tt;
+        room = omega (arith, k.room, len, cap, none);
+        few = omega (arith, k.few, long, none);
+      }) w.rows
+
+  module _ (e : Desk) (b : CellsBecame r (freed_view part.Request s (seen r d)) d.cells.entries e.cells.entries)
+      (agree : DoAgree r (freed_view part.Request s (seen r d)) (standings e)) (rows : All IsKeptRow e.rows.items) (granted : AreSameOrAdmitted r (map standing_of (set d.rows.items s new)) (standings e)) where
+    freed : e.count ≡ d.count → HasFreed part.Request s r d e
+    freed count = has-freed d part.Request s r row new lt at gives w e none-now b agree rows granted count
+
+    own : standing s e ≡ standing_of new
+    own = freed-own d part.Request s r row new lt at gives w e none-now b agree rows granted
+
+    waits-there : (x : List ℕ) → has_claim s (seen x d).waiting ≡ same_path r x
+    waits-there x = sym ((w.agree x).wanted s) ∙ ap (is_wanted x) (ap (λ (y : Standing). y.wanted) (standing-here d.rows.items s row lt at) ∙ asks)
+
+    -- what is seen is what this brings
+    pub has-cancelled : e.count ≡ d.count → HasCancelled s d e
+    has-cancelled count = record {
+      count = count;
+      idle = ap (λ (x : Standing). x.wanted) own ∙ none-now;
+      held = ap (λ (x : Standing). x.held) own ∙ (ap (λ v. v.items) held ∙ sym (ap (λ (x : Standing). x.held) (standing-here d.rows.items s row lt at)));
+      transactions = (freed count).transactions;
+      views = λ x. (freed count).views x ∙ elim (same_path_tells r x) [
+        | inl k ↦ ap (λ (c : Bool). cond c (freed_view part.Request s (seen r d)) (seen x d)) k.0
+            ∙ (ap (λ (y : List ℕ). freed_view part.Request s (seen y d)) k.1 ∙ sym (ap (λ (c : Bool). cond c (freed_view part.Request s (seen x d)) (seen x d)) (waits-there x ∙ k.0)))
+        | inr k ↦ ap (λ (c : Bool). cond c (freed_view part.Request s (seen r d)) (seen x d)) k ∙ sym (ap (λ (c : Bool). cond c (freed_view part.Request s (seen x d)) (seen x d)) (waits-there x ∙ k))
+      ];
+    }
+
+    -- and the desk is whole
+    pub cancel-whole : IsWhole e
+    cancel-whole = freed-whole d part.Request s r row new lt at gives w e none-now b agree rows granted
+
+-- a session that doesn't wait is as if cancelled
+pub same-cancelled : (s : ℕ) (d e : Desk) → IsWhole d → (standing s d).wanted ≡ None → e.count ≡ d.count → e.rows.items ≡ d.rows.items → e.cells ≡ d.cells → HasCancelled s d e
+same-cancelled s d e w idle count rows cells =
+    let stands = λ (u : ℕ). ap (λ (ws : List Row). standing_at u (map standing_of ws)) rows in
+    record {
+      count = count;
+      idle = ap (λ (x : Standing). x.wanted) (stands s) ∙ idle;
+      held = ap (λ (x : Standing). x.held) (stands s);
+      transactions = λ u. ap (λ (x : Standing). x.transaction) (stands u);
+      views = λ q. ap (λ cs. cell_view q cs.entries) cells ∙ sym (none-cancelled s d w idle q);
+    }
+
+-- a session is doomed once its request was cancelled
+pub has-doomed : (s : ℕ) (d f e : Desk) → HasCancelled s d f → e.count ≡ f.count → ((q : List ℕ) → seen q e ≡ seen q f)
+    → ((u : ℕ) → (standing u e).transaction ≡ cond (eqb u s) (doomed (standing s f).transaction) (standing u f).transaction) → HasDoomed s d e
+has-doomed s d f e c count views transactions = record {
+  count = count ∙ c.count;
+  transactions = λ u. transactions u ∙ go u (eqb u s) refl;
+  views = λ q. views q ∙ c.views q;
 }
   where
-    same-weight : (u : ℕ) → weight (standing u e) ≡ weight (standing u f)
-    same-weight u = let a = ap length (held u) in let b = ap requests_in (wanted u) in omega (arith, a, b)
+    go : (u : ℕ) (b : Bool) → eqb u s ≡ b → cond b (doomed (standing s f).transaction) (standing u f).transaction ≡ cond b (doomed (standing u d).transaction) (standing u d).transaction
+    go u true e = ap doomed (c.transactions s ∙ ap (λ (i : ℕ). (standing i d).transaction) (sym ((Decides-eqb u s).0 e)))
+    go u false e = c.transactions u
 
-    own : (u : ℕ) → u ≡ s → weight (standing u f) ≡ 0
-    own u h = let a = ap (λ (i : ℕ). length (standing i f).held) h in let b = ap (λ (i : ℕ). requests_in (standing i f).wanted) h in let c = ap requests_in g.idle in omega (arith, a, b, c, none)
+-- which transaction that is
+pub doomed-each : (f : Desk) (s : ℕ) (row : Row) (o : Option Transaction) → s < length f.rows.items → row ≡ get_or f.rows.items s row → o ≡ doomed row.transaction
+    → (e : Desk) → ((u : ℕ) → (standing u e).transaction ≡ cond (eqb u s) o (standing u f).transaction) → (u : ℕ) → (standing u e).transaction ≡ cond (eqb u s) (doomed (standing s f).transaction) (standing u f).transaction
+doomed-each f s row o lt at is e h u = h u ∙ ap (λ (x : Option Transaction). cond (eqb u s) x (standing u f).transaction) (is ∙ ap (λ (x : Standing). doomed x.transaction) (sym (standing-here f.rows.items s row lt at)))

@@ -1,15 +1,23 @@
--- A session gives back one lock, wherever it stands in its list.
-use Rattle.std.proofs.Common.{◌≡◌, ℕ, ◌+◌, ◌<◌, ◌≤◌, Bool, true, false, cond, not, eqb, ◌⊎◌, inl, inr, List, [], ◌∷◌, length, map, get_or, set, None, refl, sym, ◌∙◌, ap, arith, subst}
+-- A session gives up one lock, wherever it stands in its list, or its request.
+use Rattle.std.proofs.Common.{◌≡◌, ℕ, ◌+◌, ◌<◌, ◌≤◌, Bool, true, false, cond, not, eqb, ◌||◌, ◌⊎◌, inl, inr, List, [], ◌∷◌, ◌++◌, length, map, get_or, set, Some, None, refl, sym, ◌∙◌, ap, arith, subst}
 use Rattle.std.specs.List.{All}
+use Rattle.std.proofs.lemmas.Bool.Decides.{Decides-eqb}
 use Rattle.lock_tree.specs.Paths.{same_path}
 use Rattle.lock_rules.proofs.Lists.{bool_cases, same_path_tells}
+use Rattle.lock_desk.specs.declared.cells.Part.{Part}
+use Rattle.lock_desk.specs.declared.cells.Part.TheVariants as part
 use Rattle.lock_desk.specs.declared.rows.Row.{Row}
 use Rattle.lock_desk.specs.declared.desk.Desk.{Desk}
-use Rattle.lock_desk.specs.Cells.{View, left_view, promoted_view, has_path, AreApart, CellsBecame}
-use Rattle.lock_desk.specs.Rows.{Standing, standing_of, standing_at, paths_but, let_go, IsKeptRow, IsSameOrAdmitted, AreSameOrAdmitted, DoAgree}
-use Rattle.lock_desk.specs.Changes.{seen, standings, standing, IsWhole, HasReleased}
-use Rattle.lock_desk.proofs.Standings.{standings-set, standing-here, length-standings, or_false}
-use Rattle.lock_desk.proofs.Wholes.{own-standing, other-standing, all-agree, popped, popped-agree, popped-other, admitted-other, not-admitted}
+use Rattle.lock_desk.specs.Cells.{given_up, freed_view, has_path, AreApart, CellsBecame}
+use Rattle.lock_desk.specs.Rows.{Standing, standing_of, standing_at, is_wanted, paths_but, let_go, IsKeptRow, IsSameOrAdmitted, AreSameOrAdmitted, DoAgree}
+use Rattle.lock_desk.specs.Changes.{seen, standings, standing, IsWhole, HasFreed}
+use Rattle.lock_desk.proofs.Standings.{standings-set, standing-here, length-standings, or_false, apart-pop, has_path-push}
+use Rattle.lock_desk.proofs.Wholes.{own-standing, other-standing, all-agree, GivesUp, given-agree, given-other, admitted-other, not-admitted}
+
+-- a session that is admitted has its transaction
+transaction-admitted : (r : List ℕ) (a b : Standing) → IsSameOrAdmitted r a b → b.transaction ≡ a.transaction
+transaction-admitted r a b (inl e) = ap (λ (x : Standing). x.transaction) e
+transaction-admitted r a b (inr e) = ap (λ (x : Standing). x.transaction) e.1
 
 -- lists of resources without one
 
@@ -54,75 +62,85 @@ less-but r (p ∷ rs) a h = go (same_path_tells p r) (less-but r rs a.1)
     go (inl e) next = let n = same-but r rs (subst (λ (q : List ℕ). has_path q rs ≡ false) e.1 a.0) in let l = ap length n in let t = e.0 in grind (arith)
     go (inr e) next = grind (arith)
 
--- one row has other locks
+-- one session gives something up
 
-module _ (d : Desk) (s : ℕ) (r : List ℕ) (front : List (List ℕ)) (row new : Row) (lt : s < length d.rows.items) (at : row ≡ get_or d.rows.items s row) (same : standing_of new ≡ popped front (standing_of row))
-    (gone : has_path r front ≡ false) (elsewhere : (x : List ℕ) → same_path r x ≡ false → has_path x front ≡ has_path x (standing s d).held) (w : IsWhole d) where
+module _ (d : Desk) (p : Part) (s : ℕ) (r : List ℕ) (row new : Row) (lt : s < length d.rows.items) (at : row ≡ get_or d.rows.items s row) (gives : GivesUp p r (standing_of row) (standing_of new)) (w : IsWhole d) where
   long : s < length (standings d)
   long = omega (arith, lt, length-standings d.rows.items)
 
-  mid : map standing_of (set d.rows.items s new) ≡ set (standings d) s (popped front (standing s d))
-  mid = standings-set d.rows.items s new ∙ ap (λ (x : Standing). set (standings d) s x) (same ∙ ap (popped front) (sym (standing-here d.rows.items s row lt at)))
+  mid : map standing_of (set d.rows.items s new) ≡ set (standings d) s (standing_of new)
+  mid = standings-set d.rows.items s new
 
-  -- the row without the lock agrees with the cell that its holder has left
-  pub freed-agree : DoAgree r (left_view s (seen r d)) (map standing_of (set d.rows.items s new))
-  freed-agree = subst (DoAgree r (left_view s (seen r d))) (sym mid) (popped-agree (standings d) s r front long elsewhere gone (seen r d) (w.agree r))
+  here : GivesUp p r (standing s d) (standing_of new)
+  here = subst (λ (x : Standing). GivesUp p r x (standing_of new)) (sym (standing-here d.rows.items s row lt at)) gives
 
-  module _ (e : Desk) (idle : (standing s d).wanted ≡ None) (v : View) (is : v ≡ promoted_view (left_view s (seen r d)))
-      (b : CellsBecame r v d.cells.items e.cells.items) (agree : DoAgree r v (standings e)) (rows : All IsKeptRow e.rows.items) (granted : AreSameOrAdmitted r (map standing_of (set d.rows.items s new)) (standings e)) where
-    granted-mid : AreSameOrAdmitted r (set (standings d) s (popped front (standing s d))) (standings e)
+  -- the row agrees then with the cell where it was given up
+  pub freed-agree : DoAgree r (given_up p s (seen r d)) (map standing_of (set d.rows.items s new))
+  freed-agree = subst (DoAgree r (given_up p s (seen r d))) (sym mid) (given-agree (standings d) p s r (standing_of new) long here (seen r d) (w.agree r))
+
+  module _ (e : Desk) (idle : (standing_of new).wanted ≡ None) (b : CellsBecame r (freed_view p s (seen r d)) d.cells.entries e.cells.entries)
+      (agree : DoAgree r (freed_view p s (seen r d)) (standings e)) (rows : All IsKeptRow e.rows.items) (granted : AreSameOrAdmitted r (map standing_of (set d.rows.items s new)) (standings e)) where
+    granted-mid : AreSameOrAdmitted r (set (standings d) s (standing_of new)) (standings e)
     granted-mid = subst (λ (ss : List Standing). AreSameOrAdmitted r ss (standings e)) mid granted
 
-    own-mid : standing_at s (set (standings d) s (popped front (standing s d))) ≡ popped front (standing s d)
-    own-mid = own-standing (standings d) s (popped front (standing s d)) long
+    own-mid : standing_at s (set (standings d) s (standing_of new)) ≡ standing_of new
+    own-mid = own-standing (standings d) s (standing_of new) long
 
-    -- the session holds the others
-    pub freed-own : standing s e ≡ popped front (standing s d)
+    -- the session stands as its row says
+    pub freed-own : standing s e ≡ standing_of new
     freed-own = not-admitted r _ (standing s e) (ap (λ (x : Standing). x.wanted) own-mid ∙ idle) (granted-mid s) ∙ own-mid
 
-    -- other sessions are admitted, or stand as before
-    pub freed-others : (u : ℕ) → eqb s u ≡ false → IsSameOrAdmitted r (standing u d) (standing u e)
-    freed-others u n = subst (λ (x : Standing). IsSameOrAdmitted r x (standing u e)) (other-standing (standings d) s u (popped front (standing s d)) n) (granted-mid u)
+    -- each session has the transaction that it had
+    pub freed-transactions : (u : ℕ) → (standing u e).transaction ≡ (standing u d).transaction
+    freed-transactions u = elim (bool_cases (eqb s u)) [
+      | inl h ↦ let f = (Decides-eqb s u).0 h in subst (λ (i : ℕ). (standing i e).transaction ≡ (standing i d).transaction) f (ap (λ (x : Standing). x.transaction) freed-own ∙ here.transaction)
+      | inr h ↦ transaction-admitted r _ (standing u e) (granted-mid u) ∙ ap (λ (x : Standing). x.transaction) (other-standing (standings d) s u (standing_of new) h)
+    ]
 
-    -- the resource is seen as released, and the others as before
-    pub freed-views : (q : List ℕ) → seen q e ≡ cond (same_path r q) (promoted_view (left_view s (seen r d))) (seen q d)
-    freed-views q = b.views q ∙ ap (λ (x : View). cond (same_path r q) x (seen q d)) is
+    -- what is seen is what this brings
+    pub has-freed : e.count ≡ d.count → HasFreed p s r d e
+    has-freed count = record { count = count; transactions = freed-transactions; views = b.views }
 
     -- and the desk is whole
     pub freed-whole : IsWhole e
     freed-whole = record {
       cells = b.kept;
       rows = rows;
-      agree = all-agree r v d e b.views agree (λ x n. admitted-other r x (seen x d) _ (standings e) n granted-mid (popped-other (standings d) s r front long elsewhere x n (seen x d) (w.agree x)));
+      agree = all-agree r (freed_view p s (seen r d)) d e b.views agree (λ x n. admitted-other r x (seen x d) _ (standings e) n granted-mid (given-other (standings d) p s r (standing_of new) long here x n (seen x d) (w.agree x)));
     }
 
--- the lock is taken out of the row
+-- what is given up
 
-module _ (d : Desk) (s : ℕ) (r : List ℕ) (row new : Row) (lt : s < length d.rows.items) (at : row ≡ get_or d.rows.items s row) (same : standing_of new ≡ let_go r (standing_of row)) (w : IsWhole d) where
-  abbrev front : List (List ℕ)
-  front = paths_but r (standing s d).held
+-- a lock is taken out of the row
+pub gives-lock : (r : List ℕ) (x y : Standing) → y ≡ let_go r x → GivesUp part.Lock r x y
+gives-lock r x y e = record {
+  transaction = ap (λ (z : Standing). z.transaction) e;
+  held = ap (λ (z : Standing). has_path r z.held) e ∙ gone-but r x.held;
+  wanted = ap (λ (z : Standing). is_wanted r z.wanted) e;
+  held_elsewhere = λ q n. ap (λ (z : Standing). has_path q z.held) e ∙ other-but r q x.held n;
+  wanted_elsewhere = λ q n. ap (λ (z : Standing). is_wanted q z.wanted) e;
+}
 
-  popped-same : standing_of new ≡ popped front (standing_of row)
-  popped-same = same ∙ ap (λ (x : Standing). popped (paths_but r x.held) (standing_of row)) (sym (standing-here d.rows.items s row lt at))
+-- the last lock goes
+pub gives-last : (r : List ℕ) (x y : Standing) → AreApart x.held → y.transaction ≡ x.transaction → y.wanted ≡ x.wanted → x.held ≡ y.held ++ r ∷ [] → GivesUp part.Lock r x y
+gives-last r x y apart t w h = record {
+  transaction = t;
+  held = (apart-pop y.held r (subst AreApart h apart)).1;
+  wanted = ap (is_wanted r) w;
+  held_elsewhere = λ q n. sym (ap (has_path q) h ∙ (has_path-push q r y.held ∙ or-same (has_path q y.held) (same_path r q) n));
+  wanted_elsewhere = λ q n. ap (is_wanted q) w;
+}
+  where
+    or-same : (b c : Bool) → c ≡ false → (b || c) ≡ b
+    or-same true c e = refl
+    or-same false c e = e
 
-  elsewhere : (x : List ℕ) → same_path r x ≡ false → has_path x front ≡ has_path x (standing s d).held
-  elsewhere x n = other-but r x (standing s d).held n
-
-  -- the row agrees with the cell that its holder has left
-  pub let-go-agree : DoAgree r (left_view s (seen r d)) (map standing_of (set d.rows.items s new))
-  let-go-agree = freed-agree d s r front row new lt at popped-same (gone-but r (standing s d).held) elsewhere w
-
-  module _ (e : Desk) (idle : (standing s d).wanted ≡ None) (count : e.count ≡ d.count)
-      (b : CellsBecame r (promoted_view (left_view s (seen r d))) d.cells.items e.cells.items) (agree : DoAgree r (promoted_view (left_view s (seen r d))) (standings e)) (rows : All IsKeptRow e.rows.items) (granted : AreSameOrAdmitted r (map standing_of (set d.rows.items s new)) (standings e)) where
-    -- what is seen is what a release brings
-    pub let-go-released : HasReleased s r d e
-    let-go-released = record {
-      count = count;
-      own = freed-own d s r front row new lt at popped-same (gone-but r (standing s d).held) elsewhere w e idle _ refl b agree rows granted;
-      others = freed-others d s r front row new lt at popped-same (gone-but r (standing s d).held) elsewhere w e idle _ refl b agree rows granted;
-      views = freed-views d s r front row new lt at popped-same (gone-but r (standing s d).held) elsewhere w e idle _ refl b agree rows granted;
-    }
-
-    -- and the desk is whole
-    pub let-go-whole : IsWhole e
-    let-go-whole = freed-whole d s r front row new lt at popped-same (gone-but r (standing s d).held) elsewhere w e idle _ refl b agree rows granted
+-- the request goes
+pub gives-request : (r : List ℕ) (x y : Standing) → y.transaction ≡ x.transaction → y.held ≡ x.held → x.wanted ≡ Some r → y.wanted ≡ None → GivesUp part.Request r x y
+gives-request r x y t h w n = record {
+  transaction = t;
+  held = ap (has_path r) h;
+  wanted = ap (is_wanted r) n;
+  held_elsewhere = λ q k. ap (has_path q) h;
+  wanted_elsewhere = λ q k. ap (is_wanted q) n ∙ sym (ap (is_wanted q) w ∙ k);
+}

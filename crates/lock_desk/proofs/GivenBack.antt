@@ -1,55 +1,75 @@
--- A session gives one resource back.
-use Rattle.std.proofs.Common.{◌≡◌, ℕ, ◌+◌, Bool, true, false, not, List, ◌++◌, map, get_or, set, take, drop, refl, sym, ◌∙◌, ap, subst}
+-- A session gives up its lock on a resource, or its request.
+use Rattle.std.proofs.Common.{◌≡◌, ℕ, Bool, true, false, cond, not, List, Option, Some, None, refl, sym, ◌∙◌, ap, subst}
+use Rattle.std.specs.Map.{lookup}
+use Rattle.lock_tree.specs.Paths.{same_path}
 use Rattle.lock_desk.specs.declared.cells.Cell.{Cell}
-use Rattle.lock_desk.specs.Cells.{View, view_of, view_at, face_of, resource_of, has_path, without, left_view, promoted_view, HasRoom, IsOnce, is_busy, IsPlace, AreKeptCells, CellsBecame}
+use Rattle.lock_desk.specs.declared.cells.Part.{Part}
+use Rattle.lock_desk.specs.declared.cells.Part.TheVariants as part
+use Rattle.lock_desk.specs.Cells.{View, no_view, view_of, Cells, cell_at, said, cell_view, given_up, freed_view, promoted_view, HasRoom, IsOnce, is_busy, AreKeptCells, CellsBecame}
 use Rattle.lock_desk.specs.Rows.{Standing, DoAgree}
-use Rattle.lock_desk.proofs.Grants.{once-left}
-use Rattle.lock_desk.proofs.Faces.{path-here, view-here, view_at-none, became-same, became-view, became-written, became-dropped}
+use Rattle.lock_desk.proofs.Grants.{once-given_up}
+use Rattle.lock_desk.proofs.Seen.{became-same, became-view, became, idle-view}
 
 -- there is no such cell
 
-absent-view : (r : List ℕ) (s : ℕ) (cs : List Cell) → has_path r (map resource_of cs) ≡ false → view_at r (map face_of cs) ≡ promoted_view (left_view s (view_at r (map face_of cs)))
-absent-view r s cs h = let e = view_at-none r cs h in e ∙ sym (ap (λ (v : View). promoted_view (left_view s v)) e)
+none-given : (g : Part) (s : ℕ) → given_up g s no_view ≡ no_view
+none-given part.Lock s = refl
+none-given part.Request s = refl
 
--- a release changes nothing there
-pub release-absent : (r : List ℕ) (s : ℕ) (cs : List Cell) → AreKeptCells cs → has_path r (map resource_of cs) ≡ false → CellsBecame r (promoted_view (left_view s (view_at r (map face_of cs)))) cs cs
-release-absent r s cs k h = became-view r _ _ cs cs (absent-view r s cs h) (became-same r cs k)
+module _ (g : Part) (r : List ℕ) (s : ℕ) (cs : Cells) (none : None ≡ cell_at r cs) where
+  nothing : cell_view r cs ≡ no_view
+  nothing = sym (ap said none)
 
--- and the rows agree as before
-pub agree-absent : (r : List ℕ) (s : ℕ) (cs : List Cell) (ss : List Standing) → has_path r (map resource_of cs) ≡ false → DoAgree r (left_view s (view_at r (map face_of cs))) ss → DoAgree r (promoted_view (left_view s (view_at r (map face_of cs)))) ss
-agree-absent r s cs ss h a =
-    let e = view_at-none r cs h in
-    subst (λ (v : View). DoAgree r v ss) (ap (left_view s) e ∙ sym (ap (λ (v : View). promoted_view (left_view s v)) e)) a
+  absent-given : given_up g s (cell_view r cs) ≡ cell_view r cs
+  absent-given = ap (given_up g s) nothing ∙ (none-given g s ∙ sym nothing)
+
+  absent-freed : freed_view g s (cell_view r cs) ≡ cell_view r cs
+  absent-freed = ap promoted_view absent-given ∙ (ap promoted_view nothing ∙ sym nothing)
+
+  -- nothing changes there
+  pub free-absent : AreKeptCells cs → CellsBecame r (freed_view g s (cell_view r cs)) cs cs
+  free-absent k = became-view r _ _ cs cs (sym absent-freed) (became-same r cs k)
+
+  -- and the rows agree as before
+  pub agree-absent : (ss : List Standing) → DoAgree r (given_up g s (cell_view r cs)) ss → DoAgree r (freed_view g s (cell_view r cs)) ss
+  agree-absent ss a = subst (λ (v : View). DoAgree r v ss) (absent-given ∙ sym absent-freed) a
 
 -- there is one
 
-module _ (r : List ℕ) (s : ℕ) (cs : List Cell) (i : ℕ) (x l : Cell) (k : AreKeptCells cs) (p : IsPlace r i cs) (at : x ≡ get_or cs i x) (holders : l.holders.items ≡ without s x.holders.items) (waiting : l.waiting.items ≡ x.waiting.items) where
-  -- what the cell says once its holder has left
-  pub view-left : view_of l ≡ left_view s (view_at r (map face_of cs))
-  view-left = (λ j. record { holders = holders j; waiting = waiting j }) ∙ ap (left_view s) (view-here r cs i x p at)
+module _ (g : Part) (r : List ℕ) (s : ℕ) (cs : Cells) (x l : Cell) (there : Some x ≡ cell_at r cs) (gave : view_of l ≡ given_up g s (view_of x)) where
+  -- what the cell says once the session has given it up
+  pub view-left : view_of l ≡ given_up g s (cell_view r cs)
+  view-left = gave ∙ ap (λ (o : Option Cell). given_up g s (said o)) there
 
-  -- no session has two claims then
+  -- no session waits twice then
   pub once-there : IsOnce (view_of x) → IsOnce (view_of l)
-  once-there o = subst IsOnce (sym view-left) (once-left s (view_at r (map face_of cs)) (subst IsOnce (view-here r cs i x p at) o))
+  once-there o = subst IsOnce (sym gave) (once-given_up g s (view_of x) o)
 
-  module _ (new : Cell) (promoted : view_of new ≡ promoted_view (view_of l)) (same : new.resource ≡ x.resource) where
+  module _ (new : Cell) (promoted : view_of new ≡ promoted_view (view_of l)) where
     -- what it says once its queue is promoted
-    pub view-promoted : view_of new ≡ promoted_view (left_view s (view_at r (map face_of cs)))
+    pub view-promoted : view_of new ≡ freed_view g s (cell_view r cs)
     view-promoted = promoted ∙ ap promoted_view view-left
 
-    -- the cell stays
-    pub release-kept : HasRoom new → IsOnce (view_of new) → is_busy (view_of new) ≡ true → CellsBecame r (promoted_view (left_view s (view_at r (map face_of cs)))) cs (set cs i new)
-    release-kept room once busy = became-written r cs i x new _ k p at same (record { room = room; once = once; busy = busy }) view-promoted
-
-    -- the cell goes
-    pub release-idle : (after : List Cell) → is_busy (view_of new) ≡ false → after ≡ take i (set cs i new) ++ drop (i + 1) (set cs i new) → CellsBecame r (promoted_view (left_view s (view_at r (map face_of cs)))) cs after
-    release-idle after idle e = became-dropped r _ cs after i new k p (ap is_busy (sym view-promoted) ∙ idle) e
-
     -- the rows agree with it
-    pub agree-there : l.resource ≡ x.resource → (ss : List Standing) → DoAgree l.resource (view_of new) ss → DoAgree r (promoted_view (left_view s (view_at r (map face_of cs)))) ss
-    agree-there res ss a =
-        subst (λ (v : View). DoAgree r v ss) view-promoted
-        (subst (λ (q : List ℕ). DoAgree q (view_of new) ss) (res ∙ path-here r cs i x p at) a)
+    pub agree-there : (ss : List Standing) → DoAgree r (view_of new) ss → DoAgree r (freed_view g s (cell_view r cs)) ss
+    agree-there ss a = subst (λ (v : View). DoAgree r v ss) view-promoted a
+
+    module _ (eq : List ℕ → List ℕ → Bool) (same : (a b : List ℕ) → eq a b ≡ same_path a b) (k : AreKeptCells cs) (after : Cells) where
+      -- the cell stays
+      pub free-kept : HasRoom new → IsOnce (view_of new) → is_busy (view_of new) ≡ true → ((q : List ℕ) → lookup (eq q) after ≡ cond (eq r q) (Some new) (lookup (eq q) cs)) → CellsBecame r (freed_view g s (cell_view r cs)) cs after
+      free-kept room once busy updates = became-view r (view_of new) _ cs after view-promoted (became eq same r (Some new) cs after k (record { room = room; once = once; busy = busy }) updates)
+
+      -- the cell goes
+      pub free-idle : (mid : Cells) → is_busy (view_of new) ≡ false → ((q : List ℕ) → lookup (eq q) mid ≡ cond (eq r q) (Some new) (lookup (eq q) cs)) → ((q : List ℕ) → lookup (eq q) after ≡ cond (eq r q) None (lookup (eq q) mid))
+          → CellsBecame r (freed_view g s (cell_view r cs)) cs after
+      free-idle mid idle lent gone =
+          became-view r no_view _ cs after (sym (idle-view (view_of new) idle) ∙ view-promoted)
+          (became eq same r None cs after k tt (λ q. gone q ∙ (ap (λ (o : Option Cell). cond (eq r q) None o) (lent q) ∙ twice (eq r q) (Some new) None (lookup (eq q) cs))))
+        where
+          -- two changes at one place are the last one
+          twice : (b : Bool) (x y z : Option Cell) → cond b y (cond b x z) ≡ cond b y z
+          twice true x y z = refl
+          twice false x y z = refl
 
 -- a cell is idle, or busy
 

@@ -1,10 +1,12 @@
 -- What a grant, a request and a release do to the claims on one resource.
-use Rattle.std.proofs.Common.{◌≡◌, ℕ, Bool, true, false, cond, not, ◌&&◌, ◌||◌, inl, inr, List, [], ◌∷◌, ◌++◌, Some, None, refl, sym, ◌∙◌, ap, arith, subst}
+use Rattle.std.proofs.Common.{◌≡◌, ℕ, ◌≤◌, Bool, true, false, cond, not, eqb, ◌&&◌, ◌||◌, inl, inr, List, [], ◌∷◌, Some, None, refl, sym, ◌∙◌, ap, arith, subst}
 use Rattle.std.proofs.lemmas.Bool.Decides.{nat_tests, Decides-eqb}
 use Rattle.lock_desk.specs.declared.cells.Claim.{Claim}
 use Rattle.lock_desk.specs.declared.cells.Cell.{Cell}
-use Rattle.lock_desk.specs.Cells.{View, with_claim, has_claim, times, is_nobody, fits_among, next_grant, next_view, front_granted, promoted_view, left_view, IsOnce, IsNew, is_busy, view_of, HasRoom, IsKeptCell}
-use Rattle.lock_desk.proofs.Claims.{has_tells, times-with_claim, times-push, times-without, nobody-with_claim, nobody-push}
+use Rattle.lock_desk.specs.declared.cells.Part.{Part}
+use Rattle.lock_desk.specs.declared.cells.Part.TheVariants as part
+use Rattle.lock_desk.specs.Cells.{View, no_view, with_claim, has_claim, times, is_nobody, fits_among, next_grant, next_view, front_granted, promoted_view, given_up, queued, IsOnce, is_busy, view_of, HasRoom, IsKeptCell}
+use Rattle.lock_desk.proofs.Claims.{has_tells, has_claim-with_claim, has_claim-without, has_claim-queued, times-queued, times-without, nobody-with_claim, nobody-queued}
 
 abbrev both : List Claim → List Claim → View
 both hs ws = record { holders = hs; waiting = ws }
@@ -42,33 +44,66 @@ promoted-next v c w n =
 pub next-waits : (v : View) (c : Claim) (w : View) → IsNext v c w → has_claim c.session v.waiting ≡ true
 next-waits v c w n = ap (has_claim c.session) n.first ∙ ap (λ (b : Bool). b || has_claim c.session w.waiting) ((Decides-eqb c.session c.session).1 refl)
 
--- and held nothing there
-pub next-new : (v : View) (c : Claim) (w : View) → IsNext v c w → IsOnce v → has_claim c.session v.holders ≡ false
-next-new v c w n o = elim (has_tells c.session v.holders) [
-  | inr h ↦ h.0
-  | inl h ↦ elim (has_tells c.session v.waiting) [
-    | inl k ↦ absurd (omega (arith, o c.session, h.1, k.1))
-    | inr k ↦ absurd (let e = next-waits v c w n in let f = k.0 in cc)
-  ]
-]
+-- no session waits twice
 
--- no session gets a second claim
-
--- a grant gives no second claim
+-- a grant leaves the rest of the queue
 pub once-next : (v : View) (c : Claim) (w : View) → IsNext v c w → IsOnce v → IsOnce w
-once-next v c w n o s = omega (arith, o s, ap (times s) n.first, ap (times s) n.holders, times-with_claim s c v.holders)
+once-next v c w n o = record {
+  once = λ s. let f = ap (times s) n.first in let k = o.once s in grind (arith, nat_tests);
+  holders = ap (has_claim 0) n.holders ∙ (has_claim-with_claim 0 c v.holders ∙ neither (eqb c.session 0) (has_claim 0 v.holders) (first (eqb c.session 0) (has_claim 0 w.waiting) waits) o.holders);
+  waiting = second (eqb c.session 0) (has_claim 0 w.waiting) waits;
+}
+  where
+    waits : (eqb c.session 0 || has_claim 0 w.waiting) ≡ false
+    waits = sym (ap (has_claim 0) n.first) ∙ o.waiting
 
--- nor a new claim among the holders
-pub once-put : (c : Claim) (v : View) → IsNew c.session v → IsOnce v → IsOnce (record { holders = with_claim c v.holders; waiting = v.waiting })
-once-put c v k o s = let p = times-with_claim s c v.holders in let q = o s in grind (arith, nat_tests)
+    neither : (a b : Bool) → a ≡ false → b ≡ false → (a || b) ≡ false
+    neither true b h k = h
+    neither false b h k = k
 
--- nor one in the queue
-pub once-push : (c : Claim) (v : View) → IsNew c.session v → IsOnce v → IsOnce (record { holders = v.holders; waiting = v.waiting ++ c ∷ [] })
-once-push c v k o s = let p = times-push s v.waiting c in let q = o s in grind (arith, nat_tests)
+    first : (a b : Bool) → (a || b) ≡ false → a ≡ false
+    first true b h = h
+    first false b h = refl
 
--- nor a release
-pub once-left : (s : ℕ) (v : View) → IsOnce v → IsOnce (left_view s v)
-once-left s v o u = omega (arith, o u, times-without s u v.holders)
+    second : (a b : Bool) → (a || b) ≡ false → b ≡ false
+    second true b h = absurd (cc)
+    second false b h = h
+
+-- a request of a session that has none comes into the queue
+pub once-queued : (c : Claim) (v : View) → 1 ≤ c.session → has_claim c.session v.waiting ≡ false → IsOnce v → IsOnce (record { holders = v.holders; waiting = queued c v.holders v.waiting })
+once-queued c v some k o = record {
+  once = λ s. let p = times-queued s c v.holders v.waiting in let q = o.once s in let n = none in grind (arith, nat_tests);
+  holders = o.holders;
+  waiting = has_claim-queued 0 c v.holders v.waiting ∙ (let e = o.waiting in grind (arith, nat_tests));
+}
+  where
+    none : times c.session v.waiting ≡ 0
+    none = elim (has_tells c.session v.waiting) [ inl h ↦ absurd (let e = h.0 in cc) | inr h ↦ h.1 ]
+
+-- what is given up adds none
+pub once-given_up : (p : Part) (s : ℕ) (v : View) → IsOnce v → IsOnce (given_up p s v)
+once-given_up part.Lock s v o = record { once = o.once; holders = has_claim-without s 0 v.holders ∙ and-none (not (eqb 0 s)) (has_claim 0 v.holders) o.holders; waiting = o.waiting }
+  where
+    and-none : (a b : Bool) → b ≡ false → (a && b) ≡ false
+    and-none true b h = h
+    and-none false b h = refl
+once-given_up part.Request s v o = record { once = λ u. omega (arith, o.once u, times-without s u v.waiting); holders = o.holders; waiting = has_claim-without s 0 v.waiting ∙ and-none (not (eqb 0 s)) (has_claim 0 v.waiting) o.waiting }
+  where
+    and-none : (a b : Bool) → b ≡ false → (a && b) ≡ false
+    and-none true b h = h
+    and-none false b h = refl
+
+-- a grant at once leaves the queue
+pub once-put : (c : Claim) (v : View) → 1 ≤ c.session → IsOnce v → IsOnce (record { holders = with_claim c v.holders; waiting = v.waiting })
+once-put c v some o = record {
+  once = o.once;
+  holders = has_claim-with_claim 0 c v.holders ∙ (let e = o.holders in grind (arith, nat_tests));
+  waiting = o.waiting;
+}
+
+-- nobody is there
+pub once-nobody : IsOnce no_view
+once-nobody = record { once = λ s. omega arith; holders = refl; waiting = refl }
 
 -- somebody is there
 
@@ -77,8 +112,8 @@ pub busy-put : (c : Claim) (v : View) → is_busy (record { holders = with_claim
 busy-put c v = ap (λ (b : Bool). not (b && is_nobody v.waiting)) (nobody-with_claim c v.holders)
 
 -- a request is there
-pub busy-push : (c : Claim) (v : View) → is_busy (record { holders = v.holders; waiting = v.waiting ++ c ∷ [] }) ≡ true
-busy-push c v = ap (λ (b : Bool). not (is_nobody v.holders && b)) (nobody-push c v.waiting) ∙ not-and (is_nobody v.holders)
+pub busy-queued : (c : Claim) (v : View) → is_busy (record { holders = v.holders; waiting = queued c v.holders v.waiting }) ≡ true
+busy-queued c v = ap (λ (b : Bool). not (is_nobody v.holders && b)) (nobody-queued c v.holders v.waiting) ∙ not-and (is_nobody v.holders)
   where
     not-and : (b : Bool) → not (b && false) ≡ true
     not-and true = refl

@@ -1,7 +1,8 @@
 pub mod Claims
 pub mod Grants
 pub mod Standings
-pub mod Faces
+pub mod Admits
+pub mod Seen
 pub mod Promotions
 pub mod Results
 pub mod GivenBack
@@ -15,5 +16,11 @@ pub mod Shown
 pub mod Frees
 pub mod Below
 pub mod Less
+pub mod Leaves
+pub mod Fills
+pub mod Numbered
+pub mod Finds
+pub mod Rounds
+pub mod Few
 pub mod Ends
 pub mod Books

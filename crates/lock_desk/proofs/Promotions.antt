@@ -1,10 +1,10 @@
 -- One grant of a promotion: the session that is granted has a row, and only that row changes.
-use Rattle.std.proofs.Common.{◌≡◌, ℕ, ◌<◌, true, false, List, length, map, get_or, set, sym, ◌∙◌, ap, arith}
+use Rattle.std.proofs.Common.{◌≡◌, ℕ, ◌<◌, true, List, length, map, get_or, set, sym, ◌∙◌, ap, arith}
 use Rattle.lock_desk.specs.declared.cells.Claim.{Claim}
 use Rattle.lock_desk.specs.declared.rows.Row.{Row}
-use Rattle.lock_desk.specs.Cells.{View, has_path, IsOnce}
-use Rattle.lock_desk.specs.Rows.{Standing, standing_of, standing_at, is_wanted, admitted, AreSameOrAdmitted, DoAgree}
-use Rattle.lock_desk.proofs.Grants.{IsNext, next-waits, next-new}
+use Rattle.lock_desk.specs.Cells.{View, IsOnce}
+use Rattle.lock_desk.specs.Rows.{Standing, wanted_in, standing_of, standing_at, is_wanted, admitted, AreSameOrAdmitted, DoAgree}
+use Rattle.lock_desk.proofs.Grants.{IsNext, next-waits}
 use Rattle.lock_desk.proofs.Standings.{standing-here, standings-set, length-standings, waits-within, agree-next, same-next}
 
 module _ (r : List ℕ) (v w : View) (c : Claim) (rows : List Row) (n : IsNext v c w) (agree : DoAgree r v (map standing_of rows)) where
@@ -21,12 +21,8 @@ module _ (r : List ℕ) (v w : View) (c : Claim) (rows : List Row) (n : IsNext v
     here = standing-here rows c.session row grant-within at
 
     -- the row says so
-    pub grant-waits_row : is_wanted r row.wanted ≡ true
+    pub grant-waits_row : is_wanted r (wanted_in row.wanted) ≡ true
     grant-waits_row = ap (λ (x : Standing). is_wanted r x.wanted) (sym here) ∙ grant-waits
-
-    -- and that it does not hold the resource
-    pub grant-new_row : IsOnce v → has_path r row.held.items ≡ false
-    grant-new_row o = ap (λ (x : Standing). has_path r x.held) (sym here) ∙ (agree.held c.session ∙ next-new v c w n o)
 
     module _ (new : Row) (q : List ℕ) (e : standing_of new ≡ admitted q (standing_of row)) (same : q ≡ r) where
       -- only its standing changes

@@ -1,5 +1,7 @@
 -- From one clause of a result to another.
-use Rattle.std.proofs.Common.{Result, Ok, Err, IfOk, OnOk, OnErr}
+use Rattle.std.proofs.Common.{◌≡◌, Bool, true, false, cond, List, [], ◌∷◌, ◌++◌, Some, None, refl, Result, Ok, Err, IfOk, OnOk, OnErr}
+use Rattle.lock_rules.specs.declared.calls.Why.{Why}
+use Rattle.lock_rules.specs.Step.{first_failing}
 
 -- from a clause of the answer to a fact
 pub on-ok : {T E : Type 0} (r : Result T E) (P : T → Type 0) (Q : Type 0) → IfOk r P → ((x : T) → P x → Q) → OnOk r Q
@@ -20,3 +22,23 @@ on-err (Err e) P Q h f = f h
 pub on-err-from : {T E P : Type 0} (r : Result T E) → P → OnErr r P
 on-err-from (Ok x) p = tt
 on-err-from (Err e) p = p
+
+-- tests one after the other
+
+-- the first test that fails is among the first ones
+pub first-some : (xs ys : List (Bool × Why)) (why : Why) → Some why ≡ first_failing xs → Some why ≡ first_failing (xs ++ ys)
+first-some [] ys why h = absurd (cc)
+first-some (x ∷ xs) ys why h = go x.0 h (first-some xs ys why)
+  where
+    go : (b : Bool) → Some why ≡ cond b (Some x.1) (first_failing xs) → (Some why ≡ first_failing xs → Some why ≡ first_failing (xs ++ ys)) → Some why ≡ cond b (Some x.1) (first_failing (xs ++ ys))
+    go true h next = h
+    go false h next = next h
+
+-- or it is among the others
+pub first-none : (xs ys : List (Bool × Why)) → None ≡ first_failing xs → first_failing (xs ++ ys) ≡ first_failing ys
+first-none [] ys h = refl
+first-none (x ∷ xs) ys h = go x.0 h (first-none xs ys)
+  where
+    go : (b : Bool) → None ≡ cond b (Some x.1) (first_failing xs) → (None ≡ first_failing xs → first_failing (xs ++ ys) ≡ first_failing ys) → cond b (Some x.1) (first_failing (xs ++ ys)) ≡ first_failing ys
+    go true h next = absurd (cc)
+    go false h next = next h

@@ -1,103 +1,157 @@
 -- A desk that shows a state makes its tests, and shows the next state after each act.
-use Rattle.std.proofs.Common.{◌≡◌, ℕ, ◌+◌, ◌<◌, Bool, true, false, cond, not, eqb, ◌&&◌, leb, inl, inr, List, [], ◌∷◌, length, map, length-append, Option, Some, None, is_some, refl, sym, ◌∙◌, ap, arith, subst}
-use Rattle.std.proofs.lemmas.Bool.Decides.{nat_tests, Decides-eqb}
+use Rattle.std.proofs.Common.{◌≡◌, ℕ, ◌+◌, ◌<◌, Bool, true, false, cond, not, eqb, ◌&&◌, leb, inl, inr, List, [], ◌∷◌, ◌++◌, length, length-append, map, Option, Some, None, is_some, refl, sym, ◌∙◌, ap, arith, subst}
 use Rattle.lock_modes.specs.declared.Mode.{Mode}
 use Rattle.lock_modes.specs.Order.{at_or_below, need_of}
 use Rattle.lock_tree.specs.Paths.{same_path, parent_of, has_parent}
 use Rattle.lock_rules.specs.State as rules
 use Rattle.lock_rules.specs.declared.calls.Call.{Call}
-use Rattle.lock_rules.specs.declared.calls.Call.TheVariants.{Begin, Lock, Release, Commit}
-use Rattle.lock_rules.specs.declared.calls.Why.TheVariants.{AlreadyOpen, NoTransaction, IsWaiting, NothingAsked, NotHeld, ParentNotHeld, ChildHeld, AlreadyHeld, TooManyLocks}
-use Rattle.lock_rules.specs.declared.calls.Reply.TheVariants.{Granted, Waiting}
+use Rattle.lock_rules.specs.declared.calls.Call.TheVariants.{Begin, Lock, Convert, Poll, Release, Commit, Abort}
+use Rattle.lock_rules.specs.declared.calls.Why.{Why}
+use Rattle.lock_rules.specs.declared.calls.Why.TheVariants.{AlreadyOpen, NoTransaction, IsWaiting, IsDoomed, NothingAsked, NotHeld, ParentNotHeld, ChildHeld, TooManyLocks}
+use Rattle.lock_rules.specs.declared.calls.Reply.{Reply}
+use Rattle.lock_rules.specs.declared.calls.Reply.TheVariants.{Granted, Waiting, Deadlock}
 use Rattle.lock_rules.specs.declared.calls.TheConstants.{MAX_LOCKS}
-use Rattle.lock_rules.specs.Queue.{granted, is_granted}
-use Rattle.lock_rules.specs.Step.{is_nothing, lacks_parent, holds_child, tests, first_failing, asked, after_wait, released, ended, act}
-use Rattle.lock_rules.proofs.Lists.{bool_cases, claims_but-none}
-use Rattle.lock_rules.proofs.Sound.{IsSound}
+use Rattle.lock_rules.specs.Queue.{granted, is_granted, with_request}
+use Rattle.lock_rules.specs.Waits.{settled}
+use Rattle.lock_rules.specs.Step.{is_nothing, lacks_parent, holds_child, target_of, tests, first_failing, is_held, asked, after_wait, ask, ended, act}
+use Rattle.lock_rules.proofs.Lists.{bool_cases, request_of-claims_but}
+use Rattle.lock_rules.proofs.Marks.{below-sup, sup-some}
+use Rattle.lock_rules.proofs.Sound.{Stands, IsSound}
+use Rattle.lock_rules.proofs.Begins.{begins-sound}
+use Rattle.lock_rules.proofs.Victims.{settled-enough}
+use Rattle.lock_rules.proofs.Owners.{IsNumbered, waiting-numbered}
 use Rattle.lock_rules.proofs.Steps.{all-pass, is-none}
+use Rattle.lock_desk.specs.declared.cells.Part.TheVariants as part
 use Rattle.lock_desk.specs.declared.desk.Desk.{Desk}
-use Rattle.lock_desk.specs.Cells.{View, has_claim, mode_of, pair_of, times, promoted_view, left_view, can_grant, asked_view}
-use Rattle.lock_desk.specs.Rows.{Standing, standing_at, requests_in, has_below, asked_standing}
-use Rattle.lock_desk.specs.Changes.{seen, standings, standing, weight, ended_view, IsWhole, lacks_seen, desk_tests, CanAsk, HasAsked, CanRelease, HasReleased, HasEnded}
-use Rattle.lock_desk.specs.Shows.{claims_on, view, number_of, Shows}
-use Rattle.lock_desk.proofs.Wholes.{own-standing, other-standing, apart-at}
-use Rattle.lock_desk.proofs.Tables.{claim, count, held-seen, mode-seen, pairs-seen, count-with_lock, count-push, count-request}
-use Rattle.lock_desk.proofs.Counts.{weight_in, ended-sound, ended-weight, requests-told}
-use Rattle.lock_desk.proofs.Claims.{has_tells}
-use Rattle.lock_desk.proofs.Frees.{less-but}
-use Rattle.lock_desk.proofs.Backs.{weight-admitted, transaction-admitted}
+use Rattle.lock_desk.specs.Cells.{View, has_claim, mode_of, pair_of, freed_view, can_grant, asked_view}
+use Rattle.lock_desk.specs.declared.rows.Transaction.{Transaction}
+use Rattle.lock_desk.specs.Rows.{Standing, standing_at, doomed_in, has_below}
+use Rattle.lock_desk.specs.Changes.{seen, standing, ended_view, IsWhole, held_seen, lacks_seen, lock_tests, convert_tests, release_tests, idle_tests, desk_tests, IsSameSeen, MayAsk, HasAsked, CanRelease, HasFreed, HasBegun, HasEnded}
+use Rattle.lock_desk.specs.Shows.{view, row_of, Shows, DoesAnswer}
+use Rattle.lock_desk.proofs.Wholes.{apart-at}
+use Rattle.lock_desk.proofs.Asks.{held-row}
+use Rattle.lock_desk.proofs.Tables.{claim, mode-seen, pairs-seen}
+use Rattle.lock_desk.proofs.Counts.{waits-told, locks-told}
 use Rattle.lock_desk.proofs.Below.{path-below, below-path, child-there, there-child, both-ways}
-use Rattle.lock_desk.proofs.Less.{released-sound, released-seen, released-weight, once-at}
-use Rattle.lock_desk.proofs.Steps.{ended-seen, granted-seen, asked-seen, ask-reply}
+use Rattle.lock_desk.proofs.Less.{released-seen}
+use Rattle.lock_desk.proofs.Steps.{ended-seen, granted-seen, first_state, first-seen}
 
 -- tests
 
-some-number : (o : Option rules.Transaction) → is_some (number_of o) ≡ is_some o
-some-number None = refl
-some-number (Some x) = refl
+some-row : (o : Option rules.Transaction) → is_some (row_of o) ≡ is_some o
+some-row None = refl
+some-row (Some x) = refl
+
+row-doom : (o : Option rules.Transaction) → doomed_in (row_of o) ≡ rules.doomed_in o
+row-doom None = refl
+row-doom (Some x) = refl
 
 open-shown : (d : Desk) (st : rules.State) (s : ℕ) → Shows d st → is_some (standing s d).transaction ≡ rules.is_open st s
-open-shown d st s h = ap is_some (h.transactions s) ∙ some-number (st.begun s)
+open-shown d st s h = ap is_some (h.transactions s) ∙ some-row (st.begun s)
 
-some-wanted : (o : Option (List ℕ)) → is_some o ≡ not (eqb (requests_in o) 0)
-some-wanted None = refl
-some-wanted (Some r) = refl
+-- and whether its transaction is doomed
+pub doom-shown : (d : Desk) (st : rules.State) (s : ℕ) → Shows d st → doomed_in (standing s d).transaction ≡ rules.is_doomed st s
+doom-shown d st s h = ap doomed_in (h.transactions s) ∙ row-doom (st.begun s)
 
-waits-shown : (d : Desk) (st : rules.State) (s : ℕ) → Shows d st → is_some (standing s d).wanted ≡ rules.is_waiting st s
-waits-shown d st s h = some-wanted (standing s d).wanted ∙ (ap (λ (n : ℕ). not (eqb n 0)) (h.requests s) ∙ sym (count-request s st.table.waits))
-
-held-shown : (d : Desk) (st : rules.State) (s : ℕ) (r : List ℕ) → Shows d st → has_claim s (seen r d).holders ≡ is_some (rules.held_mode st.table s r)
-held-shown d st s r h = ap (λ (v : View). has_claim s v.holders) (h.views r) ∙ sym (held-seen s r st.table.held)
+-- a row tells whether its session waits
+pub waits-shown : (d : Desk) (st : rules.State) (s : ℕ) → IsWhole d → Shows d st → is_some (standing s d).wanted ≡ rules.is_waiting st s
+waits-shown d st s w h = waits-told s st.table (standing s d).wanted (λ x. (w.agree x).wanted s ∙ ap (λ (v : View). has_claim s v.waiting) (h.views x))
 
 -- the mode that the desk sees is the one that is held
-pub mode-shown : (d : Desk) (st : rules.State) (s : ℕ) (r : List ℕ) → Shows d st → mode_of s (seen r d).holders ≡ rules.held_mode st.table s r
+pub mode-shown : (d : Desk) (st : rules.State) (s : ℕ) (r : List ℕ) → Shows d st → held_seen d s r ≡ rules.held_mode st.table s r
 mode-shown d st s r h = ap (λ (v : View). mode_of s v.holders) (h.views r) ∙ sym (mode-seen s r st.table.held)
 
 -- and the holders that it sees are those of the state
 pub holders-shown : (d : Desk) (st : rules.State) (r : List ℕ) → Shows d st → map pair_of (seen r d).holders ≡ rules.holders r st.table.held
 holders-shown d st r h = ap (λ (v : View). map pair_of v.holders) (h.views r) ∙ pairs-seen r st.table.held
 
+-- a row tells how many locks its session holds
+pub locks-shown : (d : Desk) (st : rules.State) (s : ℕ) → IsWhole d → IsSound st.table → Shows d st → length (standing s d).held ≡ length (rules.claims_of s st.table.held)
+locks-shown d st s w i h = locks-told s st.table (standing s d).held i (apart-at d.rows.items s w.rows) (λ x. (w.agree x).held s ∙ ap (λ (v : View). has_claim s v.holders) (h.views x))
+
 lacks-shown : (d : Desk) (st : rules.State) (s : ℕ) (r : List ℕ) (m : Mode) → Shows d st → lacks_seen d s r m ≡ lacks_parent st.table s r m
 lacks-shown d st s r m h = ap (λ (o : Option Mode). has_parent r && not (at_or_below (need_of m) (rules.mode_or_nothing o))) (mode-shown d st s (parent_of r) h)
 
+target-shown : (d : Desk) (st : rules.State) (s : ℕ) (r : List ℕ) (m : Mode) → Shows d st → lacks_seen d s r (target_of (held_seen d s r) m) ≡ lacks_parent st.table s r (target_of (rules.held_mode st.table s r) m)
+target-shown d st s r m h = ap (λ (o : Option Mode). lacks_seen d s r (target_of o m)) (mode-shown d st s r h) ∙ lacks-shown d st s r (target_of (rules.held_mode st.table s r) m) h
+
 below-shown : (d : Desk) (st : rules.State) (s : ℕ) (r : List ℕ) → IsWhole d → Shows d st → has_below r (standing s d).held ≡ holds_child st.table s r
 below-shown d st s r w h = both-ways _ _
-    (λ k. let p = path-below r (standing s d).held k in there-child s r p.path st.table.held (sym (held-shown d st s p.path h) ∙ (sym ((w.agree p.path).held s) ∙ p.there)) p.below)
-    (λ k. let p = child-there s r st.table.held k in below-path r p.path (standing s d).held ((w.agree p.path).held s ∙ (held-shown d st s p.path h ∙ p.there)) p.below)
+    (λ k. let p = path-below r (standing s d).held k in there-child s r p.path st.table.held (sym (ap is_some (mode-shown d st s p.path h)) ∙ (sym (held-row s p.path d w) ∙ p.there)) p.below)
+    (λ k. let p = child-there s r st.table.held k in below-path r p.path (standing s d).held (held-row s p.path d w ∙ (ap is_some (mode-shown d st s p.path h) ∙ p.there)) p.below)
 
--- the tests that the desk makes are those of the state
-pub tests-shown : (d : Desk) (st : rules.State) (s : ℕ) (c : Call) → IsWhole d → Shows d st → desk_tests d s c ≡ tests st s c
-tests-shown d st s Begin w h = ap (λ (b : Bool). (b, AlreadyOpen) ∷ []) (open-shown d st s h)
-tests-shown d st s Commit w h = let a = open-shown d st s h in let b = waits-shown d st s h in λ i. (not (a i), NoTransaction) ∷ (b i, IsWaiting) ∷ []
-tests-shown d st s (Lock r m) w h =
-    let a = open-shown d st s h in
-    let b = waits-shown d st s h in
-    let e = held-shown d st s r h in
-    let l = lacks-shown d st s r m h in
-    let n = h.locks s in
-    λ i. (not (a i), NoTransaction) ∷ (b i, IsWaiting) ∷ (is_nothing m, NothingAsked) ∷ (e i, AlreadyHeld) ∷ (l i, ParentNotHeld) ∷ (leb MAX_LOCKS (n i), TooManyLocks) ∷ []
-tests-shown d st s (Release r) w h =
-    let a = open-shown d st s h in
-    let b = waits-shown d st s h in
-    let e = held-shown d st s r h in
-    let f = below-shown d st s r w h in
-    λ i. (not (a i), NoTransaction) ∷ (b i, IsWaiting) ∷ (not (e i), NotHeld) ∷ (f i, ChildHeld) ∷ []
+module _ (d : Desk) (st : rules.State) (s : ℕ) (w : IsWhole d) (i : IsSound st.table) (h : Shows d st) where
+  standing-shown : (more told : List (Bool × Why)) → more ≡ told → (idle_tests d s ++ more) ≡ (not (rules.is_open st s), NoTransaction) ∷ (rules.is_waiting st s, IsWaiting) ∷ (rules.is_doomed st s, IsDoomed) ∷ told
+  standing-shown more told e = let a = open-shown d st s h in let b = waits-shown d st s w h in let k = doom-shown d st s h in λ j. (not (a j), NoTransaction) ∷ (b j, IsWaiting) ∷ (k j, IsDoomed) ∷ e j
+
+  lock-shown : (r : List ℕ) (m : Mode) → lock_tests d s r m
+      ≡ (is_nothing m, NothingAsked) ∷ (lacks_parent st.table s r (target_of (rules.held_mode st.table s r) m), ParentNotHeld) ∷ (not (is_some (rules.held_mode st.table s r)) && leb MAX_LOCKS (length (rules.claims_of s st.table.held)), TooManyLocks) ∷ []
+  lock-shown r m =
+      let l = target-shown d st s r m h in
+      let o = mode-shown d st s r h in
+      let n = locks-shown d st s w i h in
+      λ j. (is_nothing m, NothingAsked) ∷ (l j, ParentNotHeld) ∷ (not (is_some (o j)) && leb MAX_LOCKS (n j), TooManyLocks) ∷ []
+
+  convert-shown : (r : List ℕ) (m : Mode) → convert_tests d s r m
+      ≡ (is_nothing m, NothingAsked) ∷ (not (is_some (rules.held_mode st.table s r)), NotHeld) ∷ (lacks_parent st.table s r (target_of (rules.held_mode st.table s r) m), ParentNotHeld) ∷ []
+  convert-shown r m =
+      let l = target-shown d st s r m h in
+      let o = mode-shown d st s r h in
+      λ j. (is_nothing m, NothingAsked) ∷ (not (is_some (o j)), NotHeld) ∷ (l j, ParentNotHeld) ∷ []
+
+  release-shown : (r : List ℕ) → release_tests d s r ≡ (not (is_some (rules.held_mode st.table s r)), NotHeld) ∷ (holds_child st.table s r, ChildHeld) ∷ []
+  release-shown r =
+      let o = mode-shown d st s r h in
+      let f = below-shown d st s r w h in
+      λ j. (not (is_some (o j)), NotHeld) ∷ (f j, ChildHeld) ∷ []
+
+  -- the tests that the desk makes are those of the state
+  pub tests-shown : (c : Call) → desk_tests d s c ≡ tests st s c
+  tests-shown Begin = ap (λ (b : Bool). (b, AlreadyOpen) ∷ []) (open-shown d st s h)
+  tests-shown (Lock r m) = standing-shown _ _ (lock-shown r m)
+  tests-shown (Convert r m) = standing-shown _ _ (convert-shown r m)
+  tests-shown Poll = ap (λ (b : Bool). (not b, NoTransaction) ∷ []) (open-shown d st s h)
+  tests-shown (Release r) = standing-shown _ _ (release-shown r)
+  tests-shown Commit = standing-shown [] [] refl
+  tests-shown Abort = ap (λ (b : Bool). (not b, NoTransaction) ∷ []) (open-shown d st s h)
 
 -- a call that passes its tests may be done
+
+turned : (b : Bool) → not b ≡ false → b ≡ true
+turned true e = refl
+turned false e = absurd (cc)
 
 -- who may commit waits for nothing
 pub commit-can : (d : Desk) (s : ℕ) → first_failing (desk_tests d s Commit) ≡ None → (standing s d).wanted ≡ None
 commit-can d s h = is-none (standing s d).wanted (all-pass (desk_tests d s Commit) h).1.0
 
--- who may lock waits for nothing, holds nothing there, and has room
-pub lock-can : (d : Desk) (s : ℕ) (r : List ℕ) (m : Mode) → first_failing (desk_tests d s (Lock r m)) ≡ None → CanAsk s r d
-lock-can d s r m h =
+-- who may lock is open and sound, waits for nothing, stands under the parent, and has room where it holds nothing there
+pub lock-may : (d : Desk) (s : ℕ) (r : List ℕ) (m : Mode) → first_failing (desk_tests d s (Lock r m)) ≡ None → MayAsk s r m d
+lock-may d s r m h =
     let p = all-pass (desk_tests d s (Lock r m)) h in
     record {
-      idle = is-none (standing s d).wanted p.1.0;
-      new = p.1.1.1.0;
-      few = let k = p.1.1.1.1.1.0 in grind (arith, nat_tests);
+      can = record { idle = is-none (standing s d).wanted p.1.0; few = p.1.1.1.1.1.0 };
+      opened = turned (is_some (standing s d).transaction) p.0;
+      sound = p.1.1.0;
+      something = p.1.1.1.0;
+      under = p.1.1.1.1.0;
     }
+
+-- and so is who may convert, which holds the resource
+pub convert-may : (d : Desk) (s : ℕ) (r : List ℕ) (m : Mode) → first_failing (desk_tests d s (Convert r m)) ≡ None → MayAsk s r m d
+convert-may d s r m h =
+    let p = all-pass (desk_tests d s (Convert r m)) h in
+    record {
+      can = record { idle = is-none (standing s d).wanted p.1.0; few = held (is_some (held_seen d s r)) p.1.1.1.1.0 };
+      opened = turned (is_some (standing s d).transaction) p.0;
+      sound = p.1.1.0;
+      something = p.1.1.1.0;
+      under = p.1.1.1.1.1.0;
+    }
+  where
+    held : (b : Bool) → not b ≡ false → (not b && leb MAX_LOCKS (length (standing s d).held)) ≡ false
+    held true e = refl
+    held false e = absurd (cc)
 
 -- who may release waits for nothing, holds the resource, and holds nothing below
 pub release-can : (d : Desk) (s : ℕ) (r : List ℕ) → first_failing (desk_tests d s (Release r)) ≡ None → CanRelease s r d
@@ -105,189 +159,152 @@ release-can d s r h =
     let p = all-pass (desk_tests d s (Release r)) h in
     record {
       idle = is-none (standing s d).wanted p.1.0;
-      held = flip (has_claim s (seen r d).holders) p.1.1.0;
-      free = p.1.1.1.0;
+      held = turned (is_some (held_seen d s r)) p.1.1.1.0;
+      free = p.1.1.1.1.0;
     }
-  where
-    flip : (b : Bool) → not b ≡ false → b ≡ true
-    flip true e = refl
-    flip false e = cc
+
+-- who doesn't wait in the desk doesn't wait in the state
+pub idle-shown : (d : Desk) (st : rules.State) (s : ℕ) → IsWhole d → Shows d st → (standing s d).wanted ≡ None → rules.request_of s st.table.waits ≡ None
+idle-shown d st s w h idle = is-none (rules.request_of s st.table.waits) (sym (waits-shown d st s w h) ∙ ap is_some idle)
 
 -- a session asks
 
-tally : (b c : Bool) → b ≡ c → ◌≡◌ {A = ℕ} (cond b 1 0) (cond c 1 0)
-tally b c e = rw e refl
-
-module _ (d : Desk) (st : rules.State) (s : ℕ) (r : List ℕ) (h : Shows d st) (can : CanAsk s r d) where
+module _ (d e : Desk) (st : rules.State) (s : ℕ) (r : List ℕ) (asks m : Mode) (w : IsWhole d) (i : IsSound st.table) (h : Shows d st) (may : MayAsk s r asks d) (target : m ≡ target_of (held_seen d s r) asks) where
   none-waits : rules.request_of s st.table.waits ≡ None
-  none-waits = is-none (rules.request_of s st.table.waits) (sym (waits-shown d st s h) ∙ ap is_some can.idle)
+  none-waits = idle-shown d st s w h may.can.idle
 
-  none-held : rules.held_mode st.table s r ≡ None
-  none-held = is-none (rules.held_mode st.table s r) (sym (held-shown d st s r h) ∙ can.new)
+  sound : rules.is_doomed st s ≡ false
+  sound = sym (doom-shown d st s h) ∙ may.sound
 
-  module _ (e : Desk) (m : Mode) (b : Bool) (long : s < length (standings d)) (i : IsSound st.table) (k : HasAsked s r m b d e) where
-    granted-same : b ≡ is_granted st.table s r m
-    granted-same = k.granted_is ∙ (ap (can_grant (claim s m)) (h.views r) ∙ sym (granted-seen s r m st.table none-held))
+  -- its target is the state's
+  same-target : target_of (rules.held_mode st.table s r) asks ≡ m
+  same-target = ap (λ (o : Option Mode). target_of o asks) (sym (mode-shown d st s r h)) ∙ sym target
 
-    -- the reply of a request
-    pub asked-reply : cond b (Granted m) Waiting ≡ (act st s (Lock r m)).reply
-    asked-reply = ap (λ (x : Bool). cond x (Granted m) Waiting) granted-same ∙ sym (ask-reply st s r m none-waits)
+  held-so : (b : Bool) → is_held (held_seen d s r) m ≡ b → is_held (rules.held_mode st.table s r) m ≡ b
+  held-so b k = ap (λ (o : Option Mode). is_held o m) (sym (mode-shown d st s r h)) ∙ k
 
-    transaction-asked : (x : Bool) → (asked_standing x r (standing s d)).transaction ≡ (standing s d).transaction
-    transaction-asked true = refl
-    transaction-asked false = refl
+  asked-held : is_held (held_seen d s r) m ≡ true → asked st s r m ≡ st
+  asked-held k = ap (λ (b : Bool). cond b st (cond (is_granted st.table s r m) (rules.with_table (granted s r m st.table) st) (after_wait st s r m))) (held-so true k)
 
-    state-count : (x : Bool) → (cond x (rules.with_table (granted s r m st.table) st) (after_wait st s r m)).count ≡ st.count
-    state-count true = refl
-    state-count false = refl
+  asked-more : is_held (held_seen d s r) m ≡ false → asked st s r m ≡ cond (is_granted st.table s r m) (rules.with_table (granted s r m st.table) st) (after_wait st s r m)
+  asked-more k = ap (λ (b : Bool). cond b st (cond (is_granted st.table s r m) (rules.with_table (granted s r m st.table) st) (after_wait st s r m))) (held-so false k)
 
-    state-begun : (x : Bool) (u : ℕ) → (cond x (rules.with_table (granted s r m st.table) st) (after_wait st s r m)).begun u ≡ st.begun u
-    state-begun true u = refl
-    state-begun false u = refl
+  abbrev told-of : rules.State → Reply
+  told-of x = cond (rules.is_doomed x s) Deadlock (cond (rules.is_waiting x s) Waiting (Granted m))
 
-    own-locks : (x : Bool) → length (asked_standing x r (standing s d)).held ≡ count s (cond x (rules.with_table (granted s r m st.table) st) (after_wait st s r m)).table.held
-    own-locks true = let a = count-with_lock s s r m st.table.held none-held in let l = h.locks s in let n = length-append (standing s d).held (r ∷ []) in let o = (Decides-eqb s s).1 refl in let c = tally (eqb s s) true o in omega (arith, a, l, n, c)
-    own-locks false = h.locks s
+  told-granted : (x : rules.State) → rules.is_doomed x s ≡ false → rules.request_of s x.table.waits ≡ None → told-of x ≡ Granted m
+  told-granted x a b = ap (λ (c : Bool). cond c Deadlock (cond (rules.is_waiting x s) Waiting (Granted m))) a ∙ ap (λ (o : Option rules.Claim). cond (is_some o) Waiting (Granted m)) b
 
-    own-requests : (x : Bool) → requests_in (asked_standing x r (standing s d)).wanted ≡ count s (cond x (rules.with_table (granted s r m st.table) st) (after_wait st s r m)).table.waits
-    own-requests true = h.requests s ∙ sym (ap (count s) (claims_but-none s st.table.waits none-waits))
-    own-requests false = let a = count-push s st.table.waits (record { session = s; resource = r; mode = m }) in let l = h.requests s in let o = tally (eqb s s) true ((Decides-eqb s s).1 refl) in let z = ap requests_in can.idle in omega (arith, a, l, o, z)
+  granted-is : (b : Bool) → HasAsked s r m b d e → is_granted st.table s r m ≡ b
+  granted-is b k = granted-seen s r m st.table ∙ (sym (ap (can_grant (claim s m)) (h.views r)) ∙ sym k.granted_is)
 
-    other-locks : (x : Bool) (u : ℕ) → eqb s u ≡ false → count u st.table.held ≡ count u (cond x (rules.with_table (granted s r m st.table) st) (after_wait st s r m)).table.held
-    other-locks true u n = let a = count-with_lock u s r m st.table.held none-held in let c = tally (eqb s u) false n in omega (arith, a, c)
-    other-locks false u n = refl
+  -- what is shown once it has asked
+  first-shown : (b : Bool) → HasAsked s r m b d e → Shows e (first_state st s r m b)
+  first-shown b k = record {
+    count = k.count ∙ h.count;
+    transactions = λ u. k.transactions u ∙ h.transactions u;
+    views = λ q. k.views q ∙ (ap (λ (v : View). cond (same_path r q) (asked_view (claim s m) v) (seen q d)) (h.views r)
+        ∙ (ap (cond (same_path r q) (asked_view (claim s m) (view r st.table))) (h.views q)
+        ∙ sym (first-seen st s r q m b (k.granted_is ∙ ap (can_grant (claim s m)) (h.views r)) i none-waits)));
+  }
 
-    other-requests : (x : Bool) (u : ℕ) → eqb s u ≡ false → count u st.table.waits ≡ count u (cond x (rules.with_table (granted s r m st.table) st) (after_wait st s r m)).table.waits
-    other-requests true u n = sym (ap (count u) (claims_but-none s st.table.waits none-waits))
-    other-requests false u n = let a = count-push u st.table.waits (record { session = s; resource = r; mode = m }) in let c = tally (eqb s u) false n in omega (arith, a, c)
+  answered : (x : rules.State) → asked st s r m ≡ x → Shows e x → (reply : Reply) → reply ≡ told-of x → DoesAnswer (ask st s r (target_of (rules.held_mode st.table s r) asks)) e reply
+  answered x is shows reply told = subst (λ (k : Mode). DoesAnswer (ask st s r k) e reply) (sym same-target) (told ∙ ap told-of (sym is), subst (Shows e) (sym is) shows)
 
-    own : standing s e ≡ asked_standing b r (standing s d)
-    own = ap (standing_at s) k.own ∙ own-standing (standings d) s (asked_standing b r (standing s d)) long
+  -- what it asked for is held then
+  pub granted-answer : (is_held (held_seen d s r) m ≡ true → IsSameSeen d e) → (is_held (held_seen d s r) m ≡ false → HasAsked s r m true d e) → DoesAnswer (ask st s r (target_of (rules.held_mode st.table s r) asks)) e (Granted m)
+  granted-answer held more = elim (bool_cases (is_held (held_seen d s r) m)) [
+    | inl y ↦ answered st (asked-held y) (let same = held y in record {
+      count = same.count ∙ h.count;
+      transactions = λ u. ap (λ ss. (standing_at u ss).transaction) same.standings_same ∙ h.transactions u;
+      views = λ q. same.views q ∙ h.views q;
+    }) (Granted m) (sym (told-granted st sound none-waits))
+    | inr n ↦
+        let k = more n in
+        answered (first_state st s r m true) (asked-more n ∙ ap (λ (b : Bool). cond b (rules.with_table (granted s r m st.table) st) (after_wait st s r m)) (granted-is true k)) (first-shown true k) (Granted m)
+        (sym (told-granted (first_state st s r m true) sound (request_of-claims_but s st.table.waits)))
+  ]
 
-    other : (u : ℕ) → eqb s u ≡ false → standing u e ≡ standing u d
-    other u n = ap (standing_at u) k.own ∙ other-standing (standings d) s u (asked_standing b r (standing s d)) n
+  -- or it waits, and deadlocks are resolved
+  module _ (more : is_held (held_seen d s r) m ≡ false) (k : HasAsked s r m false d e) where
+    pub waits-shown_first : Shows e (first_state st s r m false)
+    waits-shown_first = first-shown false k
 
-    abbrev next : rules.State
-    next = cond b (rules.with_table (granted s r m st.table) st) (after_wait st s r m)
+    stands : Stands st.table s r m
+    stands =
+        let under : lacks_parent st.table s r m ≡ false = ap (lacks_parent st.table s r) (sym same-target) ∙ (sym (target-shown d st s r asks h) ∙ may.under) in
+        let something : is_nothing m ≡ false = ap is_nothing (sym same-target) ∙ sup-some (rules.mode_or_nothing (rules.held_mode st.table s r)) asks may.something in
+        (under, something)
 
-    same-next : next ≡ asked st s r m
-    same-next = ap (λ (x : Bool). cond x (rules.with_table (granted s r m st.table) st) (after_wait st s r m)) granted-same
+    raising : at_or_below (rules.mode_or_nothing (rules.held_mode st.table s r)) m ≡ true
+    raising = ap (at_or_below (rules.mode_or_nothing (rules.held_mode st.table s r))) (sym same-target) ∙ below-sup (rules.mode_or_nothing (rules.held_mode st.table s r)) asks
 
-    next-shown : Shows e next
-    next-shown = record {
-      count = k.count ∙ (h.count ∙ sym (state-count b));
-      transactions = λ u. elim (bool_cases (eqb s u)) [
-        | inl f ↦ let g = (Decides-eqb s u).0 f in rw (← g) (ap (λ (x : Standing). x.transaction) own ∙ (transaction-asked b ∙ (h.transactions s ∙ ap number_of (sym (state-begun b s)))))
-        | inr n ↦ ap (λ (x : Standing). x.transaction) (other u n) ∙ (h.transactions u ∙ ap number_of (sym (state-begun b u)))
-      ];
-      views = λ q. k.views q ∙ (at-both q ∙ sym (ap (λ (x : rules.State). view q x.table) same-next ∙ asked-seen st s r q m i none-waits none-held));
-      locks = λ u. elim (bool_cases (eqb s u)) [
-        | inl f ↦ let g = (Decides-eqb s u).0 f in rw (← g) (ap (λ (x : Standing). length x.held) own ∙ own-locks b)
-        | inr n ↦ ap (λ (x : Standing). length x.held) (other u n) ∙ (h.locks u ∙ other-locks b u n)
-      ];
-      requests = λ u. elim (bool_cases (eqb s u)) [
-        | inl f ↦ let g = (Decides-eqb s u).0 f in rw (← g) (ap (λ (x : Standing). requests_in x.wanted) own ∙ own-requests b)
-        | inr n ↦ ap (λ (x : Standing). requests_in x.wanted) (other u n) ∙ (h.requests u ∙ other-requests b u n)
-      ];
-    }
-      where
-        at-both : (q : List ℕ) → cond (same_path r q) (asked_view (claim s m) (seen r d)) (seen q d) ≡ cond (same_path r q) (asked_view (claim s m) (view r st.table)) (view q st.table)
-        at-both q = (ap (λ (v : View). cond (same_path r q) (asked_view (claim s m) v) (seen q d)) (h.views r)) ∙ ap (cond (same_path r q) (asked_view (claim s m) (view r st.table))) (h.views q)
+    pub waits-sound : IsSound (with_request s r m st.table)
+    waits-sound = begins-sound s r m st.table i none-waits raising stands
 
-    -- the state that it leads to is shown
-    pub asked-shown : Shows e (act st s (Lock r m)).state
-    asked-shown = subst (Shows e) same-next next-shown
+    pub waits-numbered : IsNumbered st → IsNumbered (first_state st s r m false)
+    waits-numbered j = waiting-numbered st s r m j (sym (open-shown d st s h) ∙ may.opened)
+
+    asked-waits : asked st s r m ≡ settled (length st.table.waits + 2) s (first_state st s r m false)
+    asked-waits = asked-more more ∙ ap (λ (b : Bool). cond b (rules.with_table (granted s r m st.table) st) (after_wait st s r m)) (granted-is false k)
+
+    -- the answer is that of the last state
+    pub waits-answer : (n : ℕ) (last : Desk) → length (with_request s r m st.table).waits < n → IsWhole last → Shows last (settled n s (first_state st s r m false)) → (reply : Reply)
+        → reply ≡ cond (doomed_in (standing s last).transaction) Deadlock (cond (is_some (standing s last).wanted) Waiting (Granted m)) → DoesAnswer (ask st s r (target_of (rules.held_mode st.table s r) asks)) last reply
+    waits-answer n last few whole shows reply told =
+        let len = length-append st.table.waits (record { session = s; resource = r; mode = m } ∷ []) in
+        let is = asked-waits ∙ settled-enough (length st.table.waits + 2) n s (first_state st s r m false) waits-sound (omega (arith, len)) few in
+        let x = settled n s (first_state st s r m false) in
+        let a = doom-shown last (settled n s (first_state st s r m false)) s shows in
+        let b = waits-shown last (settled n s (first_state st s r m false)) s whole shows in
+        subst (λ (t : Mode). DoesAnswer (ask st s r t) last reply) (sym same-target)
+        (told ∙ ((λ j. cond (a j) Deadlock (cond (b j) Waiting (Granted m))) ∙ ap told-of (sym is)), subst (Shows last) (sym is) shows)
 
 -- a transaction ends
 
--- the state after a commit is shown
-pub ended-shown : (d e : Desk) (st : rules.State) (s : ℕ) → IsSound st.table → (standing s d).wanted ≡ None → IsWhole e → HasEnded s d e → Shows d st → Shows e (act st s Commit).state
-ended-shown d e st s i idle w k h = record {
+-- the state after a commit, and after an abort, is shown
+pub ended-shown : (d e : Desk) (st : rules.State) (s : ℕ) → IsSound st.table → HasEnded s d e → Shows d st → Shows e (rules.with_begun s None (rules.with_table (ended s st.table) st))
+ended-shown d e st s i k h = record {
   count = k.count ∙ h.count;
-  transactions = λ u. k.transactions u ∙ (ap (λ (o : Option ℕ). cond (eqb u s) None o) (h.transactions u) ∙ none-number (eqb u s) (st.begun u));
-  views = views;
-  locks = λ u. let a = weights u in let b = requests u in omega (arith, a, b);
-  requests = requests;
+  transactions = λ u. k.transactions u ∙ (ap (λ (o : Option Transaction). cond (eqb u s) None o) (h.transactions u) ∙ none-row (eqb u s) (st.begun u));
+  views = λ q. k.views q ∙ (ap (ended_view s) (h.views q) ∙ sym (ended-seen s st.table i q));
 }
   where
-    none-number : (b : Bool) (o : Option rules.Transaction) → cond b None (number_of o) ≡ number_of (cond b None o)
-    none-number true o = refl
-    none-number false o = refl
-
-    none-waits : rules.request_of s st.table.waits ≡ None
-    none-waits = is-none (rules.request_of s st.table.waits) (sym (waits-shown d st s h) ∙ ap is_some idle)
-
-    views : (q : List ℕ) → seen q e ≡ view q (ended s st.table)
-    views q = k.views q ∙ (ap (ended_view s) (h.views q) ∙ sym (ended-seen s st.table i none-waits q))
-
-    weights : (u : ℕ) → weight (standing u e) ≡ weight_in u (ended s st.table)
-    weights u = k.weights u ∙ (ap (λ (n : ℕ). cond (eqb u s) 0 n) (both u) ∙ sym (ended-weight u s st.table i))
-      where
-        both : (u : ℕ) → weight (standing u d) ≡ weight_in u st.table
-        both u = let a = h.locks u in let b = h.requests u in omega (arith, a, b)
-
-    requests : (u : ℕ) → requests_in (standing u e).wanted ≡ count u (ended s st.table).waits
-    requests u = requests-told u (ended s st.table) (standing u e).wanted (ended-sound s st.table i) (λ x. (w.agree x).wanted u ∙ ap (λ (v : View). has_claim u v.waiting) (views x))
+    none-row : (b : Bool) (o : Option rules.Transaction) → cond b None (row_of o) ≡ row_of (cond b None o)
+    none-row true o = refl
+    none-row false o = refl
 
 -- a lock is given back
 
-module _ (d e : Desk) (st : rules.State) (s : ℕ) (r : List ℕ) (i : IsSound st.table) (before : IsWhole d) (can : CanRelease s r d) (w : IsWhole e) (k : HasReleased s r d e) (h : Shows d st) where
-  idle : rules.request_of s st.table.waits ≡ None
-  idle = is-none (rules.request_of s st.table.waits) (sym (waits-shown d st s h) ∙ ap is_some can.idle)
+-- the state after a release is shown
+pub released-shown : (d e : Desk) (st : rules.State) (s : ℕ) (r : List ℕ) → IsSound st.table → IsWhole d → CanRelease s r d → HasFreed part.Lock s r d e → Shows d st → Shows e (act st s (Release r)).state
+released-shown d e st s r i w can k h = record {
+  count = k.count ∙ h.count;
+  transactions = λ u. k.transactions u ∙ h.transactions u;
+  views = λ q. k.views q ∙ (ap (λ (v : View). cond (same_path r q) (freed_view part.Lock s v) (seen q d)) (h.views r)
+      ∙ (ap (cond (same_path r q) (freed_view part.Lock s (view r st.table))) (h.views q)
+      ∙ sym (released-seen s r st.table i (sym (below-shown d st s r w h) ∙ can.free) (idle-shown d st s w h can.idle) q)));
+}
 
-  free : holds_child st.table s r ≡ false
-  free = sym (below-shown d st s r before h) ∙ can.free
+-- a desk that looks the same shows the same state
+pub same-shown : (d e : Desk) (st : rules.State) → IsSameSeen d e → Shows d st → Shows e st
+same-shown d e st k h = record {
+  count = k.count ∙ h.count;
+  transactions = λ u. ap (λ (ss : List Standing). (standing_at u ss).transaction) k.standings_same ∙ h.transactions u;
+  views = λ q. k.views q ∙ h.views q;
+}
 
-  views-released : (q : List ℕ) → seen q e ≡ view q (released s r st.table)
-  views-released q =
-      k.views q ∙ (ap (λ (v : View). cond (same_path r q) (promoted_view (left_view s v)) (seen q d)) (h.views r)
-      ∙ (ap (cond (same_path r q) (promoted_view (left_view s (view r st.table)))) (h.views q) ∙ sym (released-seen s r st.table i free idle q)))
+-- a transaction begins
 
-  requests-released : (u : ℕ) → requests_in (standing u e).wanted ≡ count u (released s r st.table).waits
-  requests-released u = requests-told u (released s r st.table) (standing u e).wanted (released-sound s r st.table i free idle) (λ x. (w.agree x).wanted u ∙ ap (λ (v : View). has_claim u v.waiting) (views-released x))
-
-  weight-before : (u : ℕ) → weight (standing u d) ≡ weight_in u st.table
-  weight-before u = let a = h.locks u in let b = h.requests u in omega (arith, a, b)
-
-  one-claim : times s (claims_on r st.table.held) ≡ 1
-  one-claim =
-      let o = once-at r d.cells.items before.cells.each s in
-      let v = ap (λ (v : View). times s v.holders) (h.views r) in
-      elim (has_tells s (seen r d).holders) [ inl f ↦ (let n = f.1 in omega (arith, o, v, n)) | inr f ↦ absurd (let n = f.0 in let m = can.held in cc) ]
-
-  own-weight : weight (standing s e) + 1 ≡ weight (standing s d)
-  own-weight =
-      let a = ap weight k.own in
-      let b = less-but r (standing s d).held (apart-at d.rows.items s before.rows) ((before.agree r).held s ∙ can.held) in
-      omega (arith, a, b)
-
-  weights-released : (u : ℕ) → weight (standing u e) ≡ weight_in u (released s r st.table)
-  weights-released u =
-      let c = released-weight s r st.table i free idle u in
-      elim (bool_cases (eqb s u)) [
-        | inl f ↦
-            let g = (Decides-eqb s u).0 f in
-            let x = ap (λ (b : Bool). weight_in u (released s r st.table) + cond b (times s (claims_on r st.table.held)) 0) f in
-            let y = ap (λ (j : ℕ). weight (standing j e) + 1) (sym g) in
-            let z = ap (λ (j : ℕ). weight (standing j d)) g in
-            let v = weight-before u in
-            omega (arith, c, x, y, z, v, own-weight, one-claim)
-        | inr f ↦
-            let x = ap (λ (b : Bool). weight_in u (released s r st.table) + cond b (times s (claims_on r st.table.held)) 0) f in
-            let y = weight-admitted r (standing u d) (standing u e) (k.others u f) in
-            let v = weight-before u in
-            omega (arith, c, x, y, v)
-      ]
-
-  -- the state after a release is shown
-  pub released-shown : Shows e (act st s (Release r)).state
-  released-shown = record {
-    count = k.count ∙ h.count;
-    transactions = λ u. elim (bool_cases (eqb s u)) [
-      | inl f ↦ let g = (Decides-eqb s u).0 f in subst (λ (j : ℕ). (standing j e).transaction ≡ number_of (st.begun j)) g (ap (λ (x : Standing). x.transaction) k.own ∙ h.transactions s)
-      | inr f ↦ transaction-admitted r (standing u d) (standing u e) (k.others u f) ∙ h.transactions u
-    ];
-    views = views-released;
-    locks = λ u. let a = weights-released u in let b = requests-released u in omega (arith, a, b);
-    requests = requests-released;
-  }
+-- the state after a begin is shown
+pub begun-shown : (d e : Desk) (st : rules.State) (s : ℕ) → HasBegun s d e → Shows d st → Shows e (act st s Begin).state
+begun-shown d e st s k h = record {
+  count = k.count ∙ ap (λ n. n + 1) h.count;
+  transactions = λ u. k.transactions u ∙ (ap (λ (n : ℕ). cond (eqb u s) (Some (record { number = n + 1; doomed = false })) (standing u d).transaction) h.count
+      ∙ (ap (cond (eqb u s) (Some (record { number = st.count + 1; doomed = false }))) (h.transactions u) ∙ new-row (eqb u s) (st.begun u)));
+  views = λ q. k.views q ∙ h.views q;
+}
+  where
+    new-row : (b : Bool) (o : Option rules.Transaction) → cond b (Some (record { number = st.count + 1; doomed = false })) (row_of o) ≡ row_of (cond b (Some (record { number = st.count + 1; doomed = false })) o)
+    new-row true o = refl
+    new-row false o = refl

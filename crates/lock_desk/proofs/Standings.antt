@@ -1,5 +1,5 @@
 -- What a grant does to the rows.
-use Rattle.std.proofs.Common.{◌≡◌, ℕ, zero, suc, ◌<◌, Bool, true, false, eqb, ◌||◌, inl, inr, List, [], ◌∷◌, ◌++◌, length, map, get_or, set, Option, Some, None, refl, sym, ◌∙◌, ap, arith}
+use Rattle.std.proofs.Common.{◌≡◌, ℕ, zero, suc, ◌<◌, Bool, true, false, cond, eqb, ◌||◌, inl, inr, List, [], ◌∷◌, ◌++◌, length, map, get_or, set, refl, sym, ◌∙◌, ap, arith}
 use Rattle.std.proofs.lemmas.Bool.Decides.{nat_tests, Decides-eqb}
 use Rattle.std.proofs.lemmas.List.{get_or-set_same, get_or-set_other}
 use Rattle.lock_tree.specs.Paths.{same_path}
@@ -8,7 +8,7 @@ use Rattle.lock_rules.proofs.Alters.{true≢false}
 use Rattle.lock_desk.specs.declared.cells.Claim.{Claim}
 use Rattle.lock_desk.specs.declared.rows.Row.{Row}
 use Rattle.lock_desk.specs.Cells.{View, has_claim, times, has_path, AreApart, IsOnce}
-use Rattle.lock_desk.specs.Rows.{Standing, no_standing, standing_of, standing_at, is_wanted, requests_in, admitted, IsSameOrAdmitted, AreSameOrAdmitted, DoAgree}
+use Rattle.lock_desk.specs.Rows.{Standing, no_standing, standing_of, standing_at, is_wanted, with_path, admitted, IsSameOrAdmitted, AreSameOrAdmitted, DoAgree}
 use Rattle.lock_desk.proofs.Claims.{has_tells, has_claim-with_claim}
 use Rattle.lock_desk.proofs.Grants.{IsNext}
 
@@ -73,10 +73,31 @@ pub length-standings : (ws : List Row) → length (map standing_of ws) ≡ lengt
 length-standings [] = refl
 length-standings (w ∷ ws) = omega (arith, length-standings ws)
 
--- who waits for a resource has one request
-pub requests-some : (r : List ℕ) (o : Option (List ℕ)) → is_wanted r o ≡ true → requests_in o ≡ 1
-requests-some r None h = absurd (cc)
-requests-some r (Some q) h = refl
+-- a resource that comes to those held
+
+-- it is there then
+pub has_path-with : (r : List ℕ) (rs : List (List ℕ)) → has_path r (with_path r rs) ≡ true
+has_path-with r rs = go (has_path r rs) refl
+  where
+    or-true : (b c : Bool) → c ≡ true → (b || c) ≡ true
+    or-true true c e = refl
+    or-true false c e = e
+
+    go : (b : Bool) → has_path r rs ≡ b → has_path r (cond b rs (rs ++ r ∷ [])) ≡ true
+    go true e = e
+    go false e = has_path-push r r rs ∙ or-true (has_path r rs) (same_path r r) (same_path-refl r)
+
+-- and each other one as before
+pub has_path-with_other : (x r : List ℕ) (rs : List (List ℕ)) → same_path r x ≡ false → has_path x (with_path r rs) ≡ has_path x rs
+has_path-with_other x r rs n = go (has_path r rs)
+  where
+    or-same : (b c : Bool) → c ≡ false → (b || c) ≡ b
+    or-same true c e = refl
+    or-same false c e = e
+
+    go : (b : Bool) → has_path x (cond b rs (rs ++ r ∷ [])) ≡ has_path x rs
+    go true = refl
+    go false = has_path-push x r rs ∙ or-same (has_path x rs) (same_path r x) n
 
 -- who waits has a row
 pub waits-within : (ss : List Standing) (r : List ℕ) (s : ℕ) → is_wanted r (standing_at s ss).wanted ≡ true → s < length ss
@@ -93,7 +114,7 @@ agree-next r v c w ss n o a lt = record {
   held = λ s. elim (bool_cases (eqb c.session s)) [
     | inl e ↦ let f = (Decides-eqb c.session s).0 e in
         rw (← f) (ap (λ (x : Standing). has_path r x.held) (get_or-set_same ss c.session (admitted r (standing_at c.session ss)) no_standing lt)
-        ∙ (has_path-push r r (standing_at c.session ss).held ∙ (ap (λ (b : Bool). has_path r (standing_at c.session ss).held || b) (same_path-refl r) ∙ or-true (has_path r (standing_at c.session ss).held)))
+        ∙ has_path-with r (standing_at c.session ss).held
         ∙ sym (ap (has_claim c.session) n.holders ∙ (has_claim-with_claim c.session c v.holders ∙ ap (λ (b : Bool). b || has_claim c.session v.holders) ((Decides-eqb c.session c.session).1 refl))))
     | inr e ↦ ap (λ (x : Standing). has_path r x.held) (other s e)
         ∙ (a.held s ∙ sym (ap (has_claim s) n.holders ∙ (has_claim-with_claim s c v.holders ∙ ap (λ (b : Bool). b || has_claim s v.holders) e)))
@@ -106,15 +127,11 @@ agree-next r v c w ss n o a lt = record {
   ];
 }
   where
-    or-true : (b : Bool) → (b || true) ≡ true
-    or-true true = refl
-    or-true false = refl
-
     other : (s : ℕ) → eqb c.session s ≡ false → standing_at s (set ss c.session (admitted r (standing_at c.session ss))) ≡ standing_at s ss
     other s e = grind (arith, nat_tests, get_or-set_other {A = Standing})
 
     gone : has_claim c.session w.waiting ≡ false
-    gone = let k = o c.session in let f = ap (times c.session) n.first in elim (has_tells c.session w.waiting) [
+    gone = let k = o.once c.session in let f = ap (times c.session) n.first in elim (has_tells c.session w.waiting) [
       | inl h ↦ absurd (grind (arith, nat_tests))
       | inr h ↦ h.0
     ]

@@ -1,47 +1,65 @@
 -- What is seen after a request, and after the end of a transaction.
-use Rattle.std.proofs.Common.{◌≡◌, ℕ, Bool, true, false, cond, not, eqb, ◌&&◌, ◌||◌, inl, inr, List, [], ◌∷◌, ◌++◌, map, Option, None, is_some, refl, sym, ◌∙◌, ap, arith}
+use Rattle.std.proofs.Common.{◌≡◌, ℕ, Bool, true, false, cond, not, ◌&&◌, ◌||◌, inl, inr, List, [], ◌∷◌, ◌++◌, map, None, is_some, refl, sym, ◌∙◌, ap}
 use Rattle.std.specs.Prelude.{filter}
+use Rattle.std.proofs.lemmas.Bool.{and_parts}
 use Rattle.lock_modes.specs.declared.Mode.{Mode}
 use Rattle.lock_tree.specs.Paths.{same_path}
 use Rattle.lock_rules.specs.State as rules
-use Rattle.lock_rules.specs.declared.calls.Reply.TheVariants.{Granted, Waiting}
-use Rattle.lock_rules.specs.Queue.{queue, is_empty, fits, with_lock, granted, is_granted, with_request}
-use Rattle.lock_rules.specs.Step.{wanted, left, ended, asked, ask, after_wait}
-use Rattle.lock_rules.proofs.Lists.{bool_cases, same_path_tells, request_of-claims_but, request_of-push}
+use Rattle.lock_rules.specs.Queue.{conversions, fresh_requests, queue, is_empty, with_lock, granted, is_granted, with_request}
+use Rattle.lock_rules.specs.Waits.{wanted, waits_no_more, cancelled}
+use Rattle.lock_rules.specs.Step.{left, ended}
+use Rattle.lock_rules.proofs.Lists.{ascend, same_path_tells}
 use Rattle.lock_rules.proofs.Alters.{queue-alters}
-use Rattle.lock_rules.proofs.Sound.{IsSound, granted-alters}
-use Rattle.lock_rules.proofs.Cuts.{left-alters}
-use Rattle.lock_rules.proofs.Begins.{queue-fresh}
-use Rattle.lock_desk.specs.Cells.{View, has_claim, with_claim, fits_among, is_nobody, promoted_view, left_view, can_grant, asked_view, has_path}
-use Rattle.lock_desk.specs.Changes.{ended_view}
+use Rattle.lock_rules.proofs.Sound.{IsSound, eqb-swap, altered-sound, granted-alters, no_more-alters}
+use Rattle.lock_rules.proofs.Cuts.{left-alters, left-sound}
+use Rattle.lock_rules.proofs.Begins.{queue-fresh, queue-converted, queue-beside}
+use Rattle.lock_desk.specs.declared.cells.Part.TheVariants as part
+use Rattle.lock_desk.specs.Cells.{View, has_claim, with_claim, is_nobody, promoted_view, given_up, freed_view, behind_conversions, queued, can_grant, asked_view, has_path}
+use Rattle.lock_desk.specs.Changes.{cancelled_view, ended_view}
 use Rattle.lock_desk.specs.Shows.{short, claims_on, view}
-use Rattle.lock_desk.proofs.Claims.{without-none}
-use Rattle.lock_desk.proofs.Tables.{claim, fits-seen, claims_on-with_lock, claims_on-with_lock_path, claims_on-claims_but, queue-apart, all-seen}
-use Rattle.lock_desk.proofs.Counts.{left-sound, touched}
+use Rattle.lock_desk.proofs.Claims.{AreAll, behind-between, without-none}
+use Rattle.lock_desk.proofs.Tables.{claim, fits-seen, held-seen, pairs-seen, claims_on-with_lock, claims_on-with_lock_path, claims_on-claims_but, queue-without, queue-apart, all-seen}
+use Rattle.lock_desk.proofs.Counts.{queue-has, waits_on-once, locks_in, listed}
+use Rattle.lock_desk.proofs.Leaves.{Ascends, gone_view, gone-ended}
 
 -- the end of a transaction
 
-left-seen : (s : ℕ) (t : rules.Table) → IsSound t → rules.request_of s t.waits ≡ None → (x : List ℕ) → view x (left s t) ≡ left_view s (view x t)
-left-seen s t i n x =
+left-seen : (s : ℕ) (t : rules.Table) (x : List ℕ) → view x (left s t) ≡ gone_view s (view x t)
+left-seen s t x =
     let hs = claims_on-claims_but s x t.held in
-    let ws : queue (left s t) x ≡ queue t x = queue-alters s t (left s t) (left-alters s t) x ∙ queue-apart t s x i.once (λ q e. absurd (cc)) in
-    λ j. record { holders = hs j; waiting = map short (ws j) }
+    let ws = ap (map short) (queue-alters s t (left s t) (left-alters s t) x) ∙ queue-without s (queue t x) in
+    λ j. record { holders = hs j; waiting = ws j }
 
-listed : (s : ℕ) (x : List ℕ) (cs : List rules.Claim) → has_path x (map (λ (c : rules.Claim). c.resource) (rules.claims_of s cs)) ≡ has_claim s (claims_on x cs)
-listed s x [] = refl
-listed s x (c ∷ cs) = grind (arith, bool_cases (eqb c.session s), bool_cases (same_path c.resource x), listed s x cs)
+has-both : (x : List ℕ) (xs ys : List (List ℕ)) → has_path x (xs ++ ys) ≡ (has_path x xs || has_path x ys)
+has-both x [] ys = refl
+has-both x (z ∷ xs) ys = ap (λ (b : Bool). same_path z x || b) (has-both x xs ys) ∙ assoc (same_path z x) (has_path x xs) (has_path x ys)
+  where
+    assoc : (a b c : Bool) → (a || (b || c)) ≡ ((a || b) || c)
+    assoc true b c = refl
+    assoc false b c = refl
+
+-- the resources that the end of a transaction touches
+abbrev touched : ℕ → rules.Table → List (List ℕ)
+touched s t = wanted (rules.request_of s t.waits) ++ locks_in s t.held
+
+touched-seen : (s : ℕ) (t : rules.Table) → IsSound t → (x : List ℕ) → has_path x (touched s t) ≡ (has_claim s (view x t).waiting || has_claim s (view x t).holders)
+touched-seen s t i x =
+    let a = has-both x (wanted (rules.request_of s t.waits)) (locks_in s t.held) in
+    let b = sym (waits_on-once s x t.waits (i.once s)) ∙ sym (queue-has s x t) in
+    let c = listed s x t.held in
+    a ∙ (λ j. b j || c j)
+
+-- holders are seen in the order of their sessions
+pub ascends-seen : (t : rules.Table) → IsSound t → (x : List ℕ) → Ascends (view x t).holders
+ascends-seen t i x = ap ascend (pairs-seen x t.held) ∙ i.order x
 
 -- what is seen of each resource once a transaction has ended
-pub ended-seen : (s : ℕ) (t : rules.Table) → IsSound t → rules.request_of s t.waits ≡ None → (x : List ℕ) → view x (ended s t) ≡ ended_view s (view x t)
-ended-seen s t i n x =
+pub ended-seen : (s : ℕ) (t : rules.Table) → IsSound t → (x : List ℕ) → view x (ended s t) ≡ ended_view s (view x t)
+ended-seen s t i x =
     all-seen (touched s t) (left s t) (left-sound s t i) x
-    ∙ (ap (λ (v : View). cond (has_path x (touched s t)) (promoted_view v) v) (left-seen s t i n x)
-    ∙ (ap (λ (b : Bool). cond b (promoted_view (left_view s (view x t))) (left_view s (view x t))) (ap (λ (o : Option rules.Claim). has_path x (wanted o ++ map (λ (c : rules.Claim). c.resource) (rules.claims_of s t.held))) n ∙ listed s x t.held)
-    ∙ go (has_claim s (claims_on x t.held)) refl))
-  where
-    go : (b : Bool) → has_claim s (claims_on x t.held) ≡ b → cond b (promoted_view (left_view s (view x t))) (left_view s (view x t)) ≡ cond b (promoted_view (left_view s (view x t))) (view x t)
-    go true e = refl
-    go false e = λ j. record { holders = without-none s (claims_on x t.held) e j; waiting = map short (queue t x) }
+    ∙ (ap (λ (v : View). cond (has_path x (touched s t)) (promoted_view v) v) (left-seen s t x)
+    ∙ (ap (λ (b : Bool). cond b (promoted_view (gone_view s (view x t))) (gone_view s (view x t))) (touched-seen s t i x)
+    ∙ gone-ended s (view x t) (ascends-seen t i x)))
 
 -- a request
 
@@ -50,26 +68,49 @@ nobody-seen [] = refl
 nobody-seen (q ∷ qs) = refl
 
 -- a request is granted at once where the view says so
-pub granted-seen : (s : ℕ) (r : List ℕ) (m : Mode) (t : rules.Table) → rules.held_mode t s r ≡ None → is_granted t s r m ≡ can_grant (claim s m) (view r t)
-granted-seen s r m t free =
-    ap (λ (o : Option Mode). fits t s r m && (is_some o || is_empty (queue t r))) free
-    ∙ (ap (λ (b : Bool). b && is_empty (queue t r)) (fits-seen s m r t.held) ∙ ap (λ (b : Bool). fits_among (claim s m) (claims_on r t.held) && b) (nobody-seen (queue t r)))
+pub granted-seen : (s : ℕ) (r : List ℕ) (m : Mode) (t : rules.Table) → is_granted t s r m ≡ can_grant (claim s m) (view r t)
+granted-seen s r m t =
+    let a = fits-seen s m r t.held in
+    let b = held-seen s r t.held in
+    let c = nobody-seen (queue t r) in
+    λ i. a i && (b i || c i)
 
-filter-out : (p : rules.Claim → Bool) (xs : List rules.Claim) (x : rules.Claim) → p x ≡ false → filter p (xs ++ x ∷ []) ≡ filter p xs
-filter-out p [] x h = ap (λ (b : Bool). cond b (x ∷ []) []) h
-filter-out p (y ∷ xs) x h = grind (arith, filter-out p xs x h, bool_cases (p y))
+map-both : (ps qs : List rules.Claim) → map short (ps ++ qs) ≡ map short ps ++ map short qs
+map-both [] qs = refl
+map-both (p ∷ ps) qs = ap (λ xs. short p ∷ xs) (map-both ps qs)
 
--- a request elsewhere doesn't stand in the queue
-queue-elsewhere : (s : ℕ) (r x : List ℕ) (m : Mode) (t : rules.Table) → same_path r x ≡ false → queue (with_request s r m t) x ≡ queue t x
-queue-elsewhere s r x m t n =
-    let q : rules.Claim = record { session = s; resource = r; mode = m } in
-    let a : filter (λ q. same_path q.resource x && is_some (rules.held_mode t q.session x)) (t.waits ++ q ∷ []) ≡ filter (λ q. same_path q.resource x && is_some (rules.held_mode t q.session x)) t.waits = filter-out _ t.waits q (ap (λ (b : Bool). b && is_some (rules.held_mode t s x)) n) in
-    let b : filter (λ q. same_path q.resource x && not (is_some (rules.held_mode t q.session x))) (t.waits ++ q ∷ []) ≡ filter (λ q. same_path q.resource x && not (is_some (rules.held_mode t q.session x))) t.waits = filter-out _ t.waits q (ap (λ (b : Bool). b && not (is_some (rules.held_mode t s x))) n) in
-    λ i. a i ++ b i
+-- conversions are of holders, and fresh requests are not
+all-kind : (b : Bool) (r : List ℕ) (t : rules.Table) (p : rules.Claim → Bool) (ws : List rules.Claim) → ((q : rules.Claim) → p q ≡ true → is_some (rules.held_mode t q.session r) ≡ b) → AreAll (claims_on r t.held) b (map short (filter p ws))
+all-kind b r t p [] h = tt
+all-kind b r t p (q ∷ ws) h = go (p q) refl (all-kind b r t p ws h)
+  where
+    go : (c : Bool) → p q ≡ c → AreAll (claims_on r t.held) b (map short (filter p ws)) → AreAll (claims_on r t.held) b (map short (cond c (q ∷ filter p ws) (filter p ws)))
+    go true e rest = (sym (held-seen q.session r t.held) ∙ h q e, rest)
+    go false e rest = rest
 
-map-push : (qs : List rules.Claim) (q : rules.Claim) → map short (qs ++ q ∷ []) ≡ map short qs ++ short q ∷ []
-map-push [] q = refl
-map-push (p ∷ qs) q = ap (λ xs. short p ∷ xs) (map-push qs q)
+-- a request that waits comes into the queue that is seen
+queued-seen : (s : ℕ) (r : List ℕ) (m : Mode) (t : rules.Table) → map short (queue (with_request s r m t) r) ≡ queued (claim s m) (claims_on r t.held) (map short (queue t r))
+queued-seen s r m t = go (is_some (rules.held_mode t s r)) refl
+  where
+    seen-as : (b : Bool) → is_some (rules.held_mode t s r) ≡ b → queued (claim s m) (claims_on r t.held) (map short (queue t r)) ≡ cond b (behind_conversions (claim s m) (claims_on r t.held) (map short (queue t r))) (map short (queue t r) ++ claim s m ∷ [])
+    seen-as b e = ap (λ (c : Bool). cond c (behind_conversions (claim s m) (claims_on r t.held) (map short (queue t r))) (map short (queue t r) ++ claim s m ∷ [])) (sym (held-seen s r t.held) ∙ e)
+
+    flip : (a b : Bool) → (a && not b) ≡ true → b ≡ false
+    flip a b h = let p = and_parts a (not b) h in turned b p.1
+      where
+        turned : (b : Bool) → not b ≡ true → b ≡ false
+        turned true e = cc
+        turned false e = refl
+
+    go : (b : Bool) → is_some (rules.held_mode t s r) ≡ b → map short (queue (with_request s r m t) r) ≡ queued (claim s m) (claims_on r t.held) (map short (queue t r))
+    go true e =
+        ap (map short) (queue-converted s r m t e)
+        ∙ (map-both (conversions t r) (record { session = s; resource = r; mode = m } ∷ fresh_requests t r)
+        ∙ (sym (behind-between (claim s m) (claims_on r t.held) (map short (conversions t r)) (map short (fresh_requests t r))
+        (all-kind true r t (λ q. same_path q.resource r && is_some (rules.held_mode t q.session r)) t.waits (λ q h. (and_parts (same_path q.resource r) (is_some (rules.held_mode t q.session r)) h).1))
+        (all-kind false r t (λ q. same_path q.resource r && not (is_some (rules.held_mode t q.session r))) t.waits (λ q h. flip (same_path q.resource r) (is_some (rules.held_mode t q.session r)) h)))
+        ∙ sym (seen-as true e ∙ ap (behind_conversions (claim s m) (claims_on r t.held)) (map-both (conversions t r) (fresh_requests t r)))))
+    go false e = ap (map short) (queue-fresh s r m t e) ∙ (map-both (queue t r) (record { session = s; resource = r; mode = m } ∷ []) ∙ sym (seen-as false e))
 
 granted-view : (s : ℕ) (r x : List ℕ) (m : Mode) (t : rules.Table) → IsSound t → rules.request_of s t.waits ≡ None
     → view x (granted s r m t) ≡ cond (same_path r x) (record { holders = with_claim (claim s m) (claims_on r t.held); waiting = map short (queue t r) }) (view x t)
@@ -86,37 +127,52 @@ granted-view s r x m t i n =
         ∙ ((let hs = claims_on-with_lock s r m t.held in λ j. record { holders = hs j; waiting = map short (queue t (e j)) })
         ∙ sym (ap (λ (b : Bool). cond b (record { holders = with_claim (claim s m) (claims_on r t.held); waiting = map short (queue t r) }) (view x t)) h))
 
-waiting-view : (s : ℕ) (r x : List ℕ) (m : Mode) (t : rules.Table) → rules.held_mode t s r ≡ None
-    → view x (with_request s r m t) ≡ cond (same_path r x) (record { holders = claims_on r t.held; waiting = map short (queue t r) ++ claim s m ∷ [] }) (view x t)
-waiting-view s r x m t free = elim (same_path_tells r x) [
+waiting-view : (s : ℕ) (r x : List ℕ) (m : Mode) (t : rules.Table)
+    → view x (with_request s r m t) ≡ cond (same_path r x) (record { holders = claims_on r t.held; waiting = queued (claim s m) (claims_on r t.held) (map short (queue t r)) }) (view x t)
+waiting-view s r x m t = elim (same_path_tells r x) [
   | inl h ↦ at (sym h.1) h.0
-  | inr h ↦ (let ws = queue-elsewhere s r x m t h in λ j. record { holders = claims_on x t.held; waiting = map short (ws j) }) ∙ sym (ap (λ (b : Bool). cond b (record { holders = claims_on r t.held; waiting = map short (queue t r) ++ claim s m ∷ [] }) (view x t)) h)
+  | inr h ↦ (let ws = queue-beside s r x m t h in λ j. record { holders = claims_on x t.held; waiting = map short (ws j) }) ∙ sym (ap (λ (b : Bool). cond b (record { holders = claims_on r t.held; waiting = queued (claim s m) (claims_on r t.held) (map short (queue t r)) }) (view x t)) h)
 ]
   where
-    at : x ≡ r → same_path r x ≡ true → view x (with_request s r m t) ≡ cond (same_path r x) (record { holders = claims_on r t.held; waiting = map short (queue t r) ++ claim s m ∷ [] }) (view x t)
+    at : x ≡ r → same_path r x ≡ true → view x (with_request s r m t) ≡ cond (same_path r x) (record { holders = claims_on r t.held; waiting = queued (claim s m) (claims_on r t.held) (map short (queue t r)) }) (view x t)
     at e h =
         ap (λ (y : List ℕ). view y (with_request s r m t)) e
-        ∙ ((let ws = ap (map short) (queue-fresh s r m t (ap is_some free)) ∙ map-push (queue t r) (record { session = s; resource = r; mode = m }) in λ j. record { holders = claims_on r t.held; waiting = ws j })
-        ∙ sym (ap (λ (b : Bool). cond b (record { holders = claims_on r t.held; waiting = map short (queue t r) ++ claim s m ∷ [] }) (view x t)) h))
+        ∙ ((let ws = queued-seen s r m t in λ j. record { holders = claims_on r t.held; waiting = ws j })
+        ∙ sym (ap (λ (b : Bool). cond b (record { holders = claims_on r t.held; waiting = queued (claim s m) (claims_on r t.held) (map short (queue t r)) }) (view x t)) h))
 
--- what is seen of each resource after a request
-pub asked-seen : (st : rules.State) (s : ℕ) (r x : List ℕ) (m : Mode) → IsSound st.table → rules.request_of s st.table.waits ≡ None → rules.held_mode st.table s r ≡ None
-    → view x (asked st s r m).table ≡ cond (same_path r x) (asked_view (claim s m) (view r st.table)) (view x st.table)
-asked-seen st s r x m i n free =
-    go (is_granted st.table s r m)
-    ∙ ap (λ (b : Bool). cond (same_path r x) (cond b (record { holders = with_claim (claim s m) (claims_on r st.table.held); waiting = map short (queue st.table r) }) (record { holders = claims_on r st.table.held; waiting = map short (queue st.table r) ++ claim s m ∷ [] })) (view x st.table)) (granted-seen s r m st.table free)
+-- a request was granted, or waits
+abbrev pub first_state : rules.State → ℕ → List ℕ → Mode → Bool → rules.State
+first_state st s r m b = rules.with_table (cond b (granted s r m st.table) (with_request s r m st.table)) st
+
+-- what is seen of each resource then
+pub first-seen : (st : rules.State) (s : ℕ) (r x : List ℕ) (m : Mode) (b : Bool) → b ≡ can_grant (claim s m) (view r st.table) → IsSound st.table → rules.request_of s st.table.waits ≡ None
+    → view x (first_state st s r m b).table ≡ cond (same_path r x) (asked_view (claim s m) (view r st.table)) (view x st.table)
+first-seen st s r x m b is i n =
+    go b ∙ ap (λ (c : Bool). cond (same_path r x) (cond c (record { holders = with_claim (claim s m) (claims_on r st.table.held); waiting = map short (queue st.table r) }) (record { holders = claims_on r st.table.held; waiting = queued (claim s m) (claims_on r st.table.held) (map short (queue st.table r)) })) (view x st.table)) is
   where
-    go : (b : Bool) → view x (cond b (rules.with_table (granted s r m st.table) st) (after_wait st s r m)).table
-        ≡ cond (same_path r x) (cond b (record { holders = with_claim (claim s m) (claims_on r st.table.held); waiting = map short (queue st.table r) }) (record { holders = claims_on r st.table.held; waiting = map short (queue st.table r) ++ claim s m ∷ [] })) (view x st.table)
+    go : (b : Bool) → view x (cond b (granted s r m st.table) (with_request s r m st.table))
+        ≡ cond (same_path r x) (cond b (record { holders = with_claim (claim s m) (claims_on r st.table.held); waiting = map short (queue st.table r) }) (record { holders = claims_on r st.table.held; waiting = queued (claim s m) (claims_on r st.table.held) (map short (queue st.table r)) })) (view x st.table)
     go true = granted-view s r x m st.table i n
-    go false = waiting-view s r x m st.table free
+    go false = waiting-view s r x m st.table
 
--- its reply
+-- a request is cancelled
 
--- what the session is told
-pub ask-reply : (st : rules.State) (s : ℕ) (r : List ℕ) (m : Mode) → rules.request_of s st.table.waits ≡ None → (ask st s r m).reply ≡ cond (is_granted st.table s r m) (Granted m) Waiting
-ask-reply st s r m n = go (is_granted st.table s r m)
+no_more-seen : (s : ℕ) (t : rules.Table) (x : List ℕ) → view x (waits_no_more s t) ≡ given_up part.Request s (view x t)
+no_more-seen s t x =
+    let ws = ap (map short) (queue-alters s t (waits_no_more s t) (no_more-alters s t) x) ∙ queue-without s (queue t x) in
+    λ j. record { holders = claims_on x t.held; waiting = ws j }
+
+no_more-sound : (s : ℕ) (t : rules.Table) → IsSound t → IsSound (waits_no_more s t)
+no_more-sound s t i = altered-sound s t (waits_no_more s t) (no_more-alters s t) i (λ x k e. i.held_under s x k e) (λ u x k l m e f. i.agree s u x k l (eqb-swap u s m) e f)
+
+-- what is seen of each resource once a request is cancelled
+pub cancelled-seen : (s : ℕ) (t : rules.Table) → IsSound t → (x : List ℕ) → view x (cancelled s t) ≡ cancelled_view s (view x t)
+cancelled-seen s t i x =
+    all-seen (wanted (rules.request_of s t.waits)) (waits_no_more s t) (no_more-sound s t i) x
+    ∙ (ap (λ (v : View). cond (has_path x (wanted (rules.request_of s t.waits))) (promoted_view v) v) (no_more-seen s t x)
+    ∙ (ap (λ (b : Bool). cond b (freed_view part.Request s (view x t)) (given_up part.Request s (view x t))) (sym (waits_on-once s x t.waits (i.once s)) ∙ sym (queue-has s x t))
+    ∙ go (has_claim s (view x t).waiting) refl))
   where
-    go : (b : Bool) → cond (rules.is_waiting (cond b (rules.with_table (granted s r m st.table) st) (after_wait st s r m)) s) Waiting (Granted m) ≡ cond b (Granted m) Waiting
-    go true = ap (λ (o : Option rules.Claim). cond (is_some o) Waiting (Granted m)) (request_of-claims_but s st.table.waits)
-    go false = ap (λ (o : Option rules.Claim). cond (is_some o) Waiting (Granted m)) (request_of-push s st.table.waits (record { session = s; resource = r; mode = m }) n refl)
+    go : (b : Bool) → has_claim s (view x t).waiting ≡ b → cond b (freed_view part.Request s (view x t)) (given_up part.Request s (view x t)) ≡ cond b (freed_view part.Request s (view x t)) (view x t)
+    go true e = refl
+    go false e = let ws = without-none s (view x t).waiting e in λ j. record { holders = (view x t).holders; waiting = ws j }

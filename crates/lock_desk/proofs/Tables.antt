@@ -1,5 +1,5 @@
 -- What is seen of one resource, and of one session, after each change of a table.
-use Rattle.std.proofs.Common.{◌≡◌, ℕ, ◌+◌, Bool, true, false, cond, not, eqb, ◌||◌, inl, inr, List, [], ◌∷◌, ◌++◌, length, map, Some, None, is_some, refl, sym, ◌∙◌, ap, arith, subst}
+use Rattle.std.proofs.Common.{◌≡◌, ℕ, Bool, true, false, cond, not, eqb, ◌||◌, inl, inr, List, [], ◌∷◌, map, Some, is_some, refl, sym, ◌∙◌, ap, arith, subst}
 use Rattle.std.specs.List.{list_all}
 use Rattle.std.proofs.lemmas.Bool.Decides.{nat_tests, Decides-eqb}
 use Rattle.lock_modes.specs.declared.Mode.{Mode}
@@ -7,9 +7,9 @@ use Rattle.lock_modes.specs.Compatibility.{are_compatible}
 use Rattle.lock_tree.specs.Paths.{same_path}
 use Rattle.lock_rules.specs.State as rules
 use Rattle.lock_rules.specs.Queue.{queue, fits, with_lock, granted, granted_front, promoted, promoted_all}
-use Rattle.lock_rules.proofs.Lists.{bool_cases, same_path-refl, same_path-true, same_path_tells, In, In-request, IsOnce, times}
+use Rattle.lock_rules.proofs.Lists.{bool_cases, same_path-refl, same_path-true, same_path_tells, In, In-request, IsOnce}
 use Rattle.lock_rules.proofs.Alters.{queue-alters, true≢false}
-use Rattle.lock_rules.proofs.Sound.{IsSound, In-queue, head-request, queue-rest, none-below, granted-alters, granted-sound}
+use Rattle.lock_rules.proofs.Sound.{IsSound, In-queue, head-request, queue-rest, granted-alters, granted-sound}
 use Rattle.lock_rules.proofs.Promote.{promoted-promoted}
 use Rattle.lock_desk.specs.declared.cells.Claim.{Claim}
 use Rattle.lock_desk.specs.Cells.{View, has_claim, mode_of, pair_of, with_claim, without, fits_among, front_granted, promoted_view, has_path}
@@ -57,40 +57,10 @@ pub pairs-seen : (r : List ℕ) (cs : List rules.Claim) → map pair_of (claims_
 pairs-seen r [] = refl
 pairs-seen r (c ∷ cs) = grind (arith, bool_cases (same_path c.resource r), pairs-seen r cs)
 
--- how many claims a session has
-
--- how many claims a session has in a table
-abbrev pub count : ℕ → List rules.Claim → ℕ
-count s cs = length (rules.claims_of s cs)
-
--- a new lock adds one
-pub count-with_lock : (u s : ℕ) (r : List ℕ) (m : Mode) (cs : List rules.Claim) → rules.mode_in s r cs ≡ None → count u (with_lock s r m cs) ≡ count u cs + cond (eqb s u) 1 0
-count-with_lock u s r m [] h = grind (arith, nat_tests)
-count-with_lock u s r m (c ∷ cs) h = grind (arith, nat_tests, same_path_tells, count-with_lock u s r m cs)
-
--- without a session it has none
-pub count-claims_but : (u s : ℕ) (cs : List rules.Claim) → count u (rules.claims_but s cs) ≡ cond (eqb u s) 0 (count u cs)
-count-claims_but u s [] = grind (arith, nat_tests)
-count-claims_but u s (c ∷ cs) = grind (arith, nat_tests, count-claims_but u s cs)
-
--- a request adds one
-pub count-push : (u : ℕ) (cs : List rules.Claim) (c : rules.Claim) → count u (cs ++ c ∷ []) ≡ count u cs + cond (eqb c.session u) 1 0
-count-push u [] c = grind (arith, nat_tests)
-count-push u (d ∷ cs) c = grind (arith, nat_tests, count-push u cs c)
-
--- a session with a request has one at least
-pub count-request : (s : ℕ) (cs : List rules.Claim) → is_some (rules.request_of s cs) ≡ not (eqb (count s cs) 0)
-count-request s [] = refl
-count-request s (c ∷ cs) = grind (arith, nat_tests, count-request s cs)
-
--- the same number as in the laws
-pub count-once : (s : ℕ) (cs : List rules.Claim) → times s cs ≡ count s cs
-count-once s [] = refl
-count-once s (c ∷ cs) = grind (arith, nat_tests, count-once s cs)
-
 -- queues
 
-queue-without : (s : ℕ) (qs : List rules.Claim) → map short (rules.claims_but s qs) ≡ without s (map short qs)
+-- the queue without a session
+pub queue-without : (s : ℕ) (qs : List rules.Claim) → map short (rules.claims_but s qs) ≡ without s (map short qs)
 queue-without s [] = refl
 queue-without s (q ∷ qs) = grind (arith, nat_tests, queue-without s qs)
 
@@ -149,7 +119,7 @@ front-seen r (q ∷ qs) t i e x = go (fits t q.session q.resource q.mode) refl (
         → (IsSound (granted q.session q.resource q.mode t) → queue (granted q.session q.resource q.mode t) r ≡ qs → view x (granted_front qs (granted q.session q.resource q.mode t)) ≡ cond (same_path r x) (front_granted (claims_on r (granted q.session q.resource q.mode t).held) (map short qs)) (view x (granted q.session q.resource q.mode t)))
         → view x (cond b (granted_front qs (granted q.session q.resource q.mode t)) t) ≡ cond (same_path r x) (cond (fits_among (short q) (claims_on r t.held)) (front_granted (with_claim (short q) (claims_on r t.held)) (map short qs)) (record { holders = claims_on r t.held; waiting = short q ∷ map short qs })) (view x t)
     go true f more =
-        more (granted-sound q.session q.resource q.mode t i (none-below (rules.held_mode t q.session q.resource) q.mode (i.fresh q.session q request.0)) (i.asked_under q.session q request.0) f) (queue-rest t (granted q.session q.resource q.mode t) r q qs i.once e (granted-alters q.session q.resource q.mode t))
+        more (granted-sound q.session q.resource q.mode t i (i.raising q.session q request.0) (i.asked_under q.session q request.0) f) (queue-rest t (granted q.session q.resource q.mode t) r q qs i.once e (granted-alters q.session q.resource q.mode t))
         ∙ (ap (λ (hs : List Claim). cond (same_path r x) (front_granted hs (map short qs)) (view x (granted q.session q.resource q.mode t))) holders-next
         ∙ (elim (bool_cases (same_path r x)) [
           | inl h ↦ rw h refl

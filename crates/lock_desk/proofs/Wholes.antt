@@ -1,5 +1,5 @@
 -- The rows say what the cells say, after each change.
-use Rattle.std.proofs.Common.{◌≡◌, ℕ, zero, suc, ◌<◌, Bool, true, false, cond, not, eqb, ◌&&◌, ◌||◌, inl, inr, List, [], ◌∷◌, ◌++◌, length, map, get_or, set, Option, Some, None, refl, sym, ◌∙◌, ap, arith, subst}
+use Rattle.std.proofs.Common.{◌≡◌, ℕ, zero, suc, ◌<◌, Bool, true, false, cond, not, eqb, ◌&&◌, ◌||◌, inl, inr, List, [], ◌∷◌, length, map, get_or, set, Option, Some, None, refl, sym, ◌∙◌, ap, arith, subst}
 use Rattle.std.specs.List.{All}
 use Rattle.std.proofs.lemmas.Bool.Decides.{nat_tests, Decides-eqb}
 use Rattle.std.proofs.lemmas.List.{get_or-set_same, get_or-set_other}
@@ -9,12 +9,14 @@ use Rattle.lock_rules.proofs.Lists.{bool_cases, same_path-refl, same_path-true, 
 use Rattle.lock_desk.specs.declared.cells.Claim.{Claim}
 use Rattle.lock_desk.specs.declared.rows.Row.{Row}
 use Rattle.lock_desk.specs.declared.desk.Desk.{Desk}
-use Rattle.lock_desk.specs.Cells.{View, with_claim, has_claim, left_view, can_grant, asked_view, has_path, AreApart}
+use Rattle.lock_desk.specs.declared.cells.Part.{Part}
+use Rattle.lock_desk.specs.declared.cells.Part.TheVariants as part
+use Rattle.lock_desk.specs.Cells.{View, with_claim, has_claim, given_up, queued, can_grant, asked_view, has_path, AreApart}
 use Rattle.lock_desk.specs.Rows.{Standing, no_standing, standing_of, standing_at, is_wanted, asked_standing, IsKeptRow, IsSameOrAdmitted, AreSameOrAdmitted, DoAgree}
 use Rattle.lock_desk.specs.Changes.{seen, standings}
-use Rattle.lock_desk.proofs.Claims.{has_claim-with_claim, has_claim-push, has_claim-without}
-use Rattle.lock_desk.proofs.Standings.{has_path-push}
-use Rattle.lock_desk.proofs.Faces.{map-set_same, get_or-any}
+use Rattle.lock_desk.proofs.Claims.{has_claim-with_claim, has_claim-queued, has_claim-without}
+use Rattle.lock_desk.proofs.Standings.{has_path-with, has_path-with_other}
+use Rattle.lock_desk.proofs.Seen.{map-set_same, get_or-any}
 
 -- the standing of one session is written
 
@@ -44,74 +46,91 @@ all-agree r v d e views here there x = elim (same_path_tells r x) [
   | inr h ↦ subst (λ (w : View). DoAgree x w (standings e)) (sym (views x ∙ ap (λ (b : Bool). cond b v (seen x d)) h)) (there x h)
 ]
 
-or-same : (b c : Bool) → c ≡ false → (b || c) ≡ b
-or-same true c e = refl
-or-same false c e = e
-
 -- where the second test holds
 pub or-true : (b c : Bool) → c ≡ true → (b || c) ≡ true
 or-true true c e = refl
 or-true false c e = e
 
--- another resource more makes no difference
-pub has_path-other : (x r : List ℕ) (rs : List (List ℕ)) → same_path r x ≡ false → has_path x (rs ++ r ∷ []) ≡ has_path x rs
-has_path-other x r rs h = has_path-push x r rs ∙ or-same (has_path x rs) (same_path r x) h
-
--- the new resource is there
-pub has_path-own : (r : List ℕ) (rs : List (List ℕ)) → has_path r (rs ++ r ∷ []) ≡ true
-has_path-own r rs = has_path-push r r rs ∙ or-true (has_path r rs) (same_path r r) (same_path-refl r)
-
 -- two numbers differ both ways
 pub eqb-swap : (s u : ℕ) → eqb s u ≡ false → eqb u s ≡ false
 eqb-swap s u h = grind (arith, nat_tests)
 
--- a lock is given back
+-- a lock or a request is given up
 
--- the standing with these locks
-abbrev pub popped : List (List ℕ) → Standing → Standing
-popped front x = record { transaction = x.transaction; held = front; wanted = x.wanted }
+-- whether a session that gives up this part holds the resource still, and waits for it still
+abbrev pub still_held : Part → Bool → Bool
+still_held part.Lock b = false
+still_held part.Request b = b
 
-module _ (ss : List Standing) (s : ℕ) (r : List ℕ) (front : List (List ℕ)) (lt : s < length ss) (elsewhere : (x : List ℕ) → same_path r x ≡ false → has_path x front ≡ has_path x (standing_at s ss).held) where
-  abbrev after : List Standing
-  after = set ss s (popped front (standing_at s ss))
+abbrev pub still_wanted : Part → Bool → Bool
+still_wanted part.Lock b = b
+still_wanted part.Request b = false
 
-  -- rows and cell agree where the lock was
-  pub popped-agree : has_path r front ≡ false → (v : View) → DoAgree r v ss → DoAgree r (left_view s v) after
-  popped-agree gone v a = record {
+-- the session has given up its lock on the resource, or its request, and nothing else
+pub record GivesUp (p : Part) (r : List ℕ) (x y : Standing) : Type 0 where
+  pub transaction : y.transaction ≡ x.transaction
+  pub held : has_path r y.held ≡ still_held p (has_path r x.held)
+  pub wanted : is_wanted r y.wanted ≡ still_wanted p (is_wanted r x.wanted)
+  pub held_elsewhere : (q : List ℕ) → same_path r q ≡ false → has_path q y.held ≡ has_path q x.held
+  pub wanted_elsewhere : (q : List ℕ) → same_path r q ≡ false → is_wanted q y.wanted ≡ is_wanted q x.wanted
+
+own-holders : (p : Part) (s : ℕ) (v : View) → has_claim s (given_up p s v).holders ≡ still_held p (has_claim s v.holders)
+own-holders part.Lock s v = has_claim-without s s v.holders ∙ ap (λ (b : Bool). not b && has_claim s v.holders) ((Decides-eqb s s).1 refl)
+own-holders part.Request s v = refl
+
+own-waiting : (p : Part) (s : ℕ) (v : View) → has_claim s (given_up p s v).waiting ≡ still_wanted p (has_claim s v.waiting)
+own-waiting part.Lock s v = refl
+own-waiting part.Request s v = has_claim-without s s v.waiting ∙ ap (λ (b : Bool). not b && has_claim s v.waiting) ((Decides-eqb s s).1 refl)
+
+other-holders : (p : Part) (s u : ℕ) (v : View) → eqb s u ≡ false → has_claim u (given_up p s v).holders ≡ has_claim u v.holders
+other-holders part.Lock s u v n = has_claim-without s u v.holders ∙ ap (λ (b : Bool). not b && has_claim u v.holders) (eqb-swap s u n)
+other-holders part.Request s u v n = refl
+
+other-waiting : (p : Part) (s u : ℕ) (v : View) → eqb s u ≡ false → has_claim u (given_up p s v).waiting ≡ has_claim u v.waiting
+other-waiting part.Lock s u v n = refl
+other-waiting part.Request s u v n = has_claim-without s u v.waiting ∙ ap (λ (b : Bool). not b && has_claim u v.waiting) (eqb-swap s u n)
+
+module _ (ss : List Standing) (p : Part) (s : ℕ) (r : List ℕ) (y : Standing) (lt : s < length ss) (gives : GivesUp p r (standing_at s ss) y) where
+  -- rows and cell agree where it was given up
+  pub given-agree : (v : View) → DoAgree r v ss → DoAgree r (given_up p s v) (set ss s y)
+  given-agree v a = record {
     held = λ u. elim (bool_cases (eqb s u)) [
       | inl h ↦ let f = (Decides-eqb s u).0 h in
-          rw (← f) (ap (λ (x : Standing). has_path r x.held) (own-standing ss s (popped front (standing_at s ss)) lt) ∙ (gone ∙ sym (has_claim-without s s v.holders ∙ ap (λ (b : Bool). not b && has_claim s v.holders) ((Decides-eqb s s).1 refl))))
-      | inr h ↦ ap (λ (x : Standing). has_path r x.held) (other-standing ss s u (popped front (standing_at s ss)) h) ∙ (a.held u ∙ sym (has_claim-without s u v.holders ∙ ap (λ (b : Bool). not b && has_claim u v.holders) (eqb-swap s u h)))
+          rw (← f) (ap (λ (x : Standing). has_path r x.held) (own-standing ss s y lt) ∙ (gives.held ∙ (ap (still_held p) (a.held s) ∙ sym (own-holders p s v))))
+      | inr h ↦ ap (λ (x : Standing). has_path r x.held) (other-standing ss s u y h) ∙ (a.held u ∙ sym (other-holders p s u v h))
     ];
     wanted = λ u. elim (bool_cases (eqb s u)) [
-      | inl h ↦ let f = (Decides-eqb s u).0 h in rw (← f) (ap (λ (x : Standing). is_wanted r x.wanted) (own-standing ss s (popped front (standing_at s ss)) lt) ∙ a.wanted s)
-      | inr h ↦ ap (λ (x : Standing). is_wanted r x.wanted) (other-standing ss s u (popped front (standing_at s ss)) h) ∙ a.wanted u
+      | inl h ↦ let f = (Decides-eqb s u).0 h in
+          rw (← f) (ap (λ (x : Standing). is_wanted r x.wanted) (own-standing ss s y lt) ∙ (gives.wanted ∙ (ap (still_wanted p) (a.wanted s) ∙ sym (own-waiting p s v))))
+      | inr h ↦ ap (λ (x : Standing). is_wanted r x.wanted) (other-standing ss s u y h) ∙ (a.wanted u ∙ sym (other-waiting p s u v h))
     ];
   }
 
   -- and elsewhere as before
-  pub popped-other : (x : List ℕ) → same_path r x ≡ false → (v : View) → DoAgree x v ss → DoAgree x v after
-  popped-other x n v a = record {
+  pub given-other : (x : List ℕ) → same_path r x ≡ false → (v : View) → DoAgree x v ss → DoAgree x v (set ss s y)
+  given-other x n v a = record {
     held = λ u. elim (bool_cases (eqb s u)) [
       | inl h ↦ let f = (Decides-eqb s u).0 h in
-          rw (← f) (ap (λ (y : Standing). has_path x y.held) (own-standing ss s (popped front (standing_at s ss)) lt) ∙ (elsewhere x n ∙ a.held s))
-      | inr h ↦ ap (λ (y : Standing). has_path x y.held) (other-standing ss s u (popped front (standing_at s ss)) h) ∙ a.held u
+          rw (← f) (ap (λ (z : Standing). has_path x z.held) (own-standing ss s y lt) ∙ (gives.held_elsewhere x n ∙ a.held s))
+      | inr h ↦ ap (λ (z : Standing). has_path x z.held) (other-standing ss s u y h) ∙ a.held u
     ];
     wanted = λ u. elim (bool_cases (eqb s u)) [
-      | inl h ↦ let f = (Decides-eqb s u).0 h in rw (← f) (ap (λ (y : Standing). is_wanted x y.wanted) (own-standing ss s (popped front (standing_at s ss)) lt) ∙ a.wanted s)
-      | inr h ↦ ap (λ (y : Standing). is_wanted x y.wanted) (other-standing ss s u (popped front (standing_at s ss)) h) ∙ a.wanted u
+      | inl h ↦ let f = (Decides-eqb s u).0 h in
+          rw (← f) (ap (λ (z : Standing). is_wanted x z.wanted) (own-standing ss s y lt) ∙ (gives.wanted_elsewhere x n ∙ a.wanted s))
+      | inr h ↦ ap (λ (z : Standing). is_wanted x z.wanted) (other-standing ss s u y h) ∙ a.wanted u
     ];
   }
 
 -- who is admitted to one resource has the others as before
 
-wanted-other : (r x : List ℕ) (o : Option (List ℕ)) → is_wanted r o ≡ true → same_path r x ≡ false → is_wanted x o ≡ false
+-- who waits for one resource doesn't wait for another
+pub wanted-other : (r x : List ℕ) (o : Option (List ℕ)) → is_wanted r o ≡ true → same_path r x ≡ false → is_wanted x o ≡ false
 wanted-other r x None h n = refl
 wanted-other r x (Some p) h n = ap (λ (q : List ℕ). same_path q x) (same_path-true p r h) ∙ n
 
 held-admitted : (r x : List ℕ) (a b : Standing) → same_path r x ≡ false → IsSameOrAdmitted r a b → has_path x b.held ≡ has_path x a.held
 held-admitted r x a b n (inl e) = ap (λ (y : Standing). has_path x y.held) e
-held-admitted r x a b n (inr e) = ap (λ (y : Standing). has_path x y.held) e.1 ∙ has_path-other x r a.held n
+held-admitted r x a b n (inr e) = ap (λ (y : Standing). has_path x y.held) e.1 ∙ has_path-with_other x r a.held n
 
 wanted-admitted : (r x : List ℕ) (a b : Standing) → same_path r x ≡ false → IsSameOrAdmitted r a b → is_wanted x b.wanted ≡ is_wanted x a.wanted
 wanted-admitted r x a b n (inl e) = ap (λ (y : Standing). is_wanted x y.wanted) e
@@ -138,47 +157,47 @@ module _ (ss : List Standing) (s : ℕ) (r : List ℕ) (c : Claim) (lt : s < len
   other-claim : (u : ℕ) (hs : List Claim) → eqb s u ≡ false → has_claim u (with_claim c hs) ≡ has_claim u hs
   other-claim u hs n = has_claim-with_claim u c hs ∙ ap (λ (b : Bool). b || has_claim u hs) (ap (λ (i : ℕ). eqb i u) same ∙ n)
 
-  own-push : (ws : List Claim) → has_claim s (ws ++ c ∷ []) ≡ true
-  own-push ws = has_claim-push s ws c ∙ ap (λ (b : Bool). b || has_claim s ws) ((Decides-eqb c.session s).1 same)
+  own-queued : (hs ws : List Claim) → has_claim s (queued c hs ws) ≡ true
+  own-queued hs ws = has_claim-queued s c hs ws ∙ ap (λ (b : Bool). b || has_claim s ws) ((Decides-eqb c.session s).1 same)
 
-  other-push : (u : ℕ) (ws : List Claim) → eqb s u ≡ false → has_claim u (ws ++ c ∷ []) ≡ has_claim u ws
-  other-push u ws n = has_claim-push u ws c ∙ ap (λ (b : Bool). b || has_claim u ws) (ap (λ (i : ℕ). eqb i u) same ∙ n)
+  other-queued : (u : ℕ) (hs ws : List Claim) → eqb s u ≡ false → has_claim u (queued c hs ws) ≡ has_claim u ws
+  other-queued u hs ws n = has_claim-queued u c hs ws ∙ ap (λ (b : Bool). b || has_claim u ws) (ap (λ (i : ℕ). eqb i u) same ∙ n)
 
   abbrev asked_standings : Bool → List Standing
   asked_standings b = set ss s (asked_standing b r (standing_at s ss))
 
-  asked-either : (v : View) (b : Bool) → DoAgree r v ss → DoAgree r (cond b (record { holders = with_claim c v.holders; waiting = v.waiting }) (record { holders = v.holders; waiting = v.waiting ++ c ∷ [] })) (asked_standings b)
-  asked-either v true a = record {
+  asked-either : (standing_at s ss).wanted ≡ None → (v : View) (b : Bool) → DoAgree r v ss → DoAgree r (cond b (record { holders = with_claim c v.holders; waiting = v.waiting }) (record { holders = v.holders; waiting = queued c v.holders v.waiting })) (asked_standings b)
+  asked-either idle v true a = record {
     held = λ u. elim (bool_cases (eqb s u)) [
-      | inl h ↦ let f = (Decides-eqb s u).0 h in rw (← f) (ap (λ (x : Standing). has_path r x.held) (own-standing ss s (asked_standing true r (standing_at s ss)) lt) ∙ (has_path-own r (standing_at s ss).held ∙ sym (own-claim v.holders)))
+      | inl h ↦ let f = (Decides-eqb s u).0 h in rw (← f) (ap (λ (x : Standing). has_path r x.held) (own-standing ss s (asked_standing true r (standing_at s ss)) lt) ∙ (has_path-with r (standing_at s ss).held ∙ sym (own-claim v.holders)))
       | inr h ↦ ap (λ (x : Standing). has_path r x.held) (other-standing ss s u (asked_standing true r (standing_at s ss)) h) ∙ (a.held u ∙ sym (other-claim u v.holders h))
     ];
     wanted = λ u. elim (bool_cases (eqb s u)) [
-      | inl h ↦ let f = (Decides-eqb s u).0 h in rw (← f) (ap (λ (x : Standing). is_wanted r x.wanted) (own-standing ss s (asked_standing true r (standing_at s ss)) lt) ∙ a.wanted s)
+      | inl h ↦ let f = (Decides-eqb s u).0 h in rw (← f) (ap (λ (x : Standing). is_wanted r x.wanted) (own-standing ss s (asked_standing true r (standing_at s ss)) lt) ∙ (sym (ap (is_wanted r) idle) ∙ a.wanted s))
       | inr h ↦ ap (λ (x : Standing). is_wanted r x.wanted) (other-standing ss s u (asked_standing true r (standing_at s ss)) h) ∙ a.wanted u
     ];
   }
-  asked-either v false a = record {
+  asked-either idle v false a = record {
     held = λ u. elim (bool_cases (eqb s u)) [
       | inl h ↦ let f = (Decides-eqb s u).0 h in rw (← f) (ap (λ (x : Standing). has_path r x.held) (own-standing ss s (asked_standing false r (standing_at s ss)) lt) ∙ a.held s)
       | inr h ↦ ap (λ (x : Standing). has_path r x.held) (other-standing ss s u (asked_standing false r (standing_at s ss)) h) ∙ a.held u
     ];
     wanted = λ u. elim (bool_cases (eqb s u)) [
-      | inl h ↦ let f = (Decides-eqb s u).0 h in rw (← f) (ap (λ (x : Standing). is_wanted r x.wanted) (own-standing ss s (asked_standing false r (standing_at s ss)) lt) ∙ (same_path-refl r ∙ sym (own-push v.waiting)))
-      | inr h ↦ ap (λ (x : Standing). is_wanted r x.wanted) (other-standing ss s u (asked_standing false r (standing_at s ss)) h) ∙ (a.wanted u ∙ sym (other-push u v.waiting h))
+      | inl h ↦ let f = (Decides-eqb s u).0 h in rw (← f) (ap (λ (x : Standing). is_wanted r x.wanted) (own-standing ss s (asked_standing false r (standing_at s ss)) lt) ∙ (same_path-refl r ∙ sym (own-queued v.holders v.waiting)))
+      | inr h ↦ ap (λ (x : Standing). is_wanted r x.wanted) (other-standing ss s u (asked_standing false r (standing_at s ss)) h) ∙ (a.wanted u ∙ sym (other-queued u v.holders v.waiting h))
     ];
   }
 
   -- rows and cell agree about the resource that was asked for
-  pub asked-agree : (v : View) (b : Bool) → b ≡ can_grant c v → DoAgree r v ss → DoAgree r (asked_view c v) (asked_standings b)
-  asked-agree v b e a = subst (λ (x : Bool). DoAgree r (cond x (record { holders = with_claim c v.holders; waiting = v.waiting }) (record { holders = v.holders; waiting = v.waiting ++ c ∷ [] })) (asked_standings b)) e (asked-either v b a)
+  pub asked-agree : (standing_at s ss).wanted ≡ None → (v : View) (b : Bool) → b ≡ can_grant c v → DoAgree r v ss → DoAgree r (asked_view c v) (asked_standings b)
+  asked-agree idle v b e a = subst (λ (x : Bool). DoAgree r (cond x (record { holders = with_claim c v.holders; waiting = v.waiting }) (record { holders = v.holders; waiting = queued c v.holders v.waiting })) (asked_standings b)) e (asked-either idle v b a)
 
   held-asked : (x : List ℕ) (b : Bool) → same_path r x ≡ false → has_path x (asked_standing b r (standing_at s ss)).held ≡ has_path x (standing_at s ss).held
-  held-asked x true n = has_path-other x r (standing_at s ss).held n
+  held-asked x true n = has_path-with_other x r (standing_at s ss).held n
   held-asked x false n = refl
 
   wanted-asked : (x : List ℕ) (b : Bool) → same_path r x ≡ false → (standing_at s ss).wanted ≡ None → is_wanted x (asked_standing b r (standing_at s ss)).wanted ≡ is_wanted x (standing_at s ss).wanted
-  wanted-asked x true n idle = refl
+  wanted-asked x true n idle = sym (ap (is_wanted x) idle)
   wanted-asked x false n idle = n ∙ sym (ap (is_wanted x) idle)
 
   -- and about the others as before

@@ -1,10 +1,13 @@
 -- What the cells say of a resource, and what is done there.
-use Rattle.std.specs.Prelude.{◌≡◌, ℕ, ◌+◌, ◌<◌, ◌≤◌, Bool, true, false, not, ◌&&◌, ◌||◌, if◌then◌else◌, ◌==◌, nat_lt, List, [], ◌∷◌, ◌++◌, length, map, filter, take, Option, Some, None, slice_index_or, vec_len, vec_capacity}
-use Rattle.std.specs.List.{All, list_any, list_all}
+use Rattle.std.specs.Prelude.{◌≡◌, ℕ, ◌+◌, ◌≤◌, Bool, true, false, not, ◌&&◌, ◌||◌, if◌then◌else◌, ◌==◌, nat_lt, List, [], ◌∷◌, ◌++◌, filter, Option, Some, None, IfSome, vec_len, vec_capacity}
+use Rattle.std.specs.List.{list_any, list_all}
+use Rattle.std.specs.Map.{lookup}
 use Rattle.lock_modes.specs.declared.Mode.{Mode}
 use Rattle.lock_modes.specs.Compatibility.{are_compatible}
 use Rattle.lock_tree.specs.Paths.{same_path}
 use Rattle.lock_desk.specs.declared.cells.Claim.{Claim}
+use Rattle.lock_desk.specs.declared.cells.Part.{Part}
+use Rattle.lock_desk.specs.declared.cells.Part.TheVariants as part
 use Rattle.lock_desk.specs.declared.cells.Cell.{Cell}
 
 -- one list of claims
@@ -71,45 +74,50 @@ front_granted hs (q ∷ qs) = if fits_among q hs then front_granted (with_claim 
 abbrev pub promoted_view : View → View
 promoted_view v = front_granted v.holders v.waiting
 
--- what the session holds is taken away
-abbrev pub left_view : ℕ → View → View
-left_view s v = record { holders = without s v.holders; waiting = v.waiting }
+-- what the session holds is taken away, or its request
+abbrev pub given_up : Part → ℕ → View → View
+given_up part.Lock s v = record { holders = without s v.holders; waiting = v.waiting }
+given_up part.Request s v = record { holders = v.holders; waiting = without s v.waiting }
 
 -- and the queue is promoted
-abbrev pub released_view : ℕ → View → View
-released_view s v = promoted_view (left_view s v)
+abbrev pub freed_view : Part → ℕ → View → View
+freed_view p s v = promoted_view (given_up p s v)
 
--- a request of a session that has no claim there is granted at once where nothing waits and it fits
+-- a conversion is granted at once where it fits, a fresh request where nothing waits besides
 abbrev pub is_nobody : List Claim → Bool
 is_nobody [] = true
 is_nobody (c ∷ cs) = false
 
 abbrev pub can_grant : Claim → View → Bool
-can_grant c v = fits_among c v.holders && is_nobody v.waiting
+can_grant c v = fits_among c v.holders && (has_claim c.session v.holders || is_nobody v.waiting)
+
+-- the request stands behind the conversions, which are the requests of holders, and ahead of the others
+abbrev pub behind_conversions : Claim → List Claim → List Claim → List Claim
+behind_conversions c hs [] = c ∷ []
+behind_conversions c hs (q ∷ qs) = if has_claim q.session hs then q ∷ behind_conversions c hs qs else c ∷ q ∷ qs
+
+-- a conversion stands there, and a fresh request at the end
+abbrev pub queued : Claim → List Claim → List Claim → List Claim
+queued c hs qs = if has_claim c.session hs then behind_conversions c hs qs else qs ++ c ∷ []
 
 -- what there is once a session has asked
 abbrev pub asked_view : Claim → View → View
-asked_view c v = if can_grant c v then record { holders = with_claim c v.holders; waiting = v.waiting } else record { holders = v.holders; waiting = v.waiting ++ c ∷ [] }
+asked_view c v = if can_grant c v then record { holders = with_claim c v.holders; waiting = v.waiting } else record { holders = v.holders; waiting = queued c v.holders v.waiting }
 
 -- cells
 
 abbrev pub view_of : Cell → View
 view_of c = record { holders = c.holders.items; waiting = c.waiting.items }
 
-abbrev pub resource_of : Cell → List ℕ
-resource_of c = c.resource
-
 -- each holder and each waiting session has room among the holders
 abbrev pub HasRoom : Cell → Type 0
 HasRoom c = vec_len c.holders + vec_len c.waiting ≤ vec_capacity c.holders
 
--- no session has more than one claim there
-abbrev pub IsOnce : View → Type 0
-IsOnce v = (s : ℕ) → times s v.holders + times s v.waiting ≤ 1
-
--- the session has none
-abbrev pub IsNew : ℕ → View → Type 0
-IsNew s v = times s v.holders + times s v.waiting ≡ 0
+-- no session waits for it twice, and sessions are numbered from 1
+pub record IsOnce (v : View) : Type 0 where
+  pub once : (s : ℕ) → times s v.waiting ≤ 1
+  pub holders : has_claim 0 v.holders ≡ false
+  pub waiting : has_claim 0 v.waiting ≡ false
 
 -- somebody holds it or waits for it
 abbrev pub is_busy : View → Bool
@@ -123,22 +131,22 @@ pub record IsKeptCell (c : Cell) : Type 0 where
 
 -- the table of cells
 
--- a resource with what its cell says
-pub record Face : Type 0 where
-  pub resource : List ℕ
-  pub view : View
+-- each resource that is held or waited for with its cell
+abbrev pub Cells : Type 0
+Cells = List (List ℕ × Cell)
 
-abbrev pub face_of : Cell → Face
-face_of c = record { resource = c.resource; view = view_of c }
+-- the cell of a resource
+abbrev pub cell_at : List ℕ → Cells → Option Cell
+cell_at r cs = lookup (same_path r) cs
+
+-- what a cell says, where there is one
+abbrev pub said : Option Cell → View
+said None = no_view
+said (Some c) = view_of c
 
 -- what the cells say of a resource
-abbrev pub view_at : List ℕ → List Face → View
-view_at r [] = no_view
-view_at r (f ∷ fs) = if same_path f.resource r then f.view else view_at r fs
-
--- what a table of cells says of a resource
-abbrev pub cell_view : List ℕ → List Cell → View
-cell_view r cs = view_at r (map face_of cs)
+abbrev pub cell_view : List ℕ → Cells → View
+cell_view r cs = said (cell_at r cs)
 
 -- the resource is among them
 abbrev pub has_path : List ℕ → List (List ℕ) → Bool
@@ -149,22 +157,15 @@ abbrev pub AreApart : List (List ℕ) → Type 0
 AreApart [] = Unit {0}
 AreApart (r ∷ rs) = (has_path r rs ≡ false) × AreApart rs
 
--- the first cell of this resource
-pub record IsPlace (r : List ℕ) (i : ℕ) (cs : List Cell) : Type 0 where
-  pub within : i < length cs
-  pub here : (c : Cell) → same_path (slice_index_or cs i c).resource r ≡ true
-  pub first : has_path r (map resource_of (take i cs)) ≡ false
-
 -- what is kept of the cells between two calls
-pub record AreKeptCells (cs : List Cell) : Type 0 where
-  pub apart : AreApart (map resource_of cs)
-  pub each : All IsKeptCell cs
+abbrev pub AreKeptCells : Cells → Type 0
+AreKeptCells cs = (r : List ℕ) → IfSome (cell_at r cs) IsKeptCell
 
 -- the cells say this of the resource now, and of the others what they said before
-pub record CellsBecame (r : List ℕ) (v : View) (old new : List Cell) : Type 0 where
-  pub views : (q : List ℕ) → view_at q (map face_of new) ≡ (if same_path r q then v else view_at q (map face_of old))
+pub record CellsBecame (r : List ℕ) (v : View) (old new : Cells) : Type 0 where
+  pub views : (q : List ℕ) → cell_view q new ≡ (if same_path r q then v else cell_view q old)
   pub kept : AreKeptCells new
 
 -- what the cells say of the resource has become this of what they said before, and nothing else has changed
-abbrev pub ViewBecame : List ℕ → (View → View) → List Cell → List Cell → Type 0
+abbrev pub ViewBecame : List ℕ → (View → View) → Cells → Cells → Type 0
 ViewBecame r f old new = CellsBecame r (f (cell_view r old)) old new

@@ -4,6 +4,7 @@ use Rattle.std.specs.List.{All}
 use Rattle.lock_rules.specs.declared.calls.Entry.{Entry}
 use Rattle.lock_rules.specs.Legal.{state_of, IsLegal}
 use Rattle.lock_desk.specs.Changes.{IsWhole}
+use Rattle.lock_desk.specs.Ready.{IsReadyDesk}
 use Rattle.lock_desk.specs.Shows.{Shows}
 use Rattle.lock_desk.specs.declared.book.Book.TheInside.{Inside}
 
@@ -26,5 +27,6 @@ pub record IsKept (a : Inside) : Type 0 where
   pub within : All (IsEntryWithin a.sessions) a.history.items
   pub shows : Shows a.desk (state_of a.history.items)
   pub whole : IsWhole a.desk
+  pub ready : IsReadyDesk a.desk
   pub rows : vec_len a.desk.rows ≡ a.sessions + 1
   pub counted : a.desk.count ≤ length a.history.items

@@ -1,5 +1,7 @@
 pub mod Cells
 pub mod Rows
 pub mod Changes
+pub mod Finding
+pub mod Ready
 pub mod Shows
 pub mod Kept

@@ -1,23 +1,48 @@
 -- What the rows say of each session.
-use Rattle.std.specs.Prelude.{◌≡◌, ℕ, ◌+◌, ◌≤◌, Bool, true, false, not, ◌⊎◌, List, [], ◌∷◌, ◌++◌, length, map, filter, Option, Some, None, slice_index_or, vec_len, vec_capacity}
+use Rattle.std.specs.Prelude.{◌≡◌, ℕ, ◌+◌, ◌≤◌, Bool, true, false, not, if◌then◌else◌, ◌⊎◌, List, [], ◌∷◌, ◌++◌, length, map, filter, Option, Some, None, slice_index_or, vec_len, vec_capacity}
 use Rattle.std.specs.List.{list_any}
 use Rattle.lock_tree.specs.Paths.{same_path, is_ancestor}
 use Rattle.lock_rules.specs.declared.calls.TheConstants.{MAX_LOCKS}
+use Rattle.lock_desk.specs.declared.rows.Transaction.{Transaction}
+use Rattle.lock_desk.specs.declared.rows.Request.{Request}
+use Rattle.lock_desk.specs.declared.rows.Request.TheVariants.{Fresh, Conversion}
 use Rattle.lock_desk.specs.declared.rows.Row.{Row}
 use Rattle.lock_desk.specs.Cells.{View, has_claim, has_path, AreApart}
 
--- the number of a session's transaction, the resources that it holds, and the one that it waits for
+-- a session's transaction, the resources that it holds, and the one that it waits for
 pub record Standing : Type 0 where
-  pub transaction : Option ℕ
+  pub transaction : Option Transaction
   pub held : List (List ℕ)
   pub wanted : Option (List ℕ)
+
+abbrev pub number_in : Option Transaction → ℕ
+number_in None = 0
+number_in (Some x) = x.number
+
+abbrev pub doomed_in : Option Transaction → Bool
+doomed_in None = false
+doomed_in (Some x) = x.doomed
+
+-- the same transaction as a victim
+abbrev pub doomed : Option Transaction → Option Transaction
+doomed None = None
+doomed (Some x) = Some (record { number = x.number; doomed = true })
 
 -- no transaction
 abbrev pub no_standing : Standing
 no_standing = record { transaction = None; held = []; wanted = None }
 
+-- the resource of a request
+abbrev pub resource_asked : Request → List ℕ
+resource_asked (Fresh r) = r
+resource_asked (Conversion r) = r
+
+abbrev pub wanted_in : Option Request → Option (List ℕ)
+wanted_in None = None
+wanted_in (Some q) = Some (resource_asked q)
+
 abbrev pub standing_of : Row → Standing
-standing_of w = record { transaction = w.transaction; held = w.held.items; wanted = w.wanted }
+standing_of w = record { transaction = w.transaction; held = w.held.items; wanted = wanted_in w.wanted }
 
 -- what the rows say of each session
 abbrev pub standings_of : List Row → List Standing
@@ -40,28 +65,42 @@ abbrev pub is_wanted : List ℕ → Option (List ℕ) → Bool
 is_wanted r None = false
 is_wanted r (Some q) = same_path q r
 
--- how many requests that is
-abbrev pub requests_in : Option (List ℕ) → ℕ
-requests_in None = 0
-requests_in (Some q) = 1
+abbrev pub is_fresh : Option Request → Bool
+is_fresh None = false
+is_fresh (Some (Fresh r)) = true
+is_fresh (Some (Conversion r)) = false
 
--- what is kept of each row between two calls: a lock that is waited for has its room
+-- how many locks the grant of a request brings: a conversion brings none
+abbrev pub locks_to_come : Option Request → ℕ
+locks_to_come o = if is_fresh o then 1 else 0
+
+-- a fresh request is for a resource that isn't among these, and a conversion for one that is
+abbrev pub IsOfKind : Option Request → List (List ℕ) → Type 0
+IsOfKind None rs = Unit {0}
+IsOfKind (Some q) rs = has_path (resource_asked q) rs ≡ not (is_fresh (Some q))
+
+-- what is kept of each row between two calls: a lock that is to come has its room
 pub record IsKeptRow (w : Row) : Type 0 where
   pub apart : AreApart w.held.items
-  pub room : vec_len w.held + requests_in w.wanted ≤ vec_capacity w.held
-  pub few : length w.held.items + requests_in w.wanted ≤ MAX_LOCKS
+  pub kind : IsOfKind w.wanted w.held.items
+  pub room : vec_len w.held + locks_to_come w.wanted ≤ vec_capacity w.held
+  pub few : length w.held.items + locks_to_come w.wanted ≤ MAX_LOCKS
+
+-- the resource is among those that are held
+abbrev pub with_path : List ℕ → List (List ℕ) → List (List ℕ)
+with_path r rs = if has_path r rs then rs else rs ++ r ∷ []
 
 -- the session holds the resource, and waits no more
 abbrev pub admitted : List ℕ → Standing → Standing
-admitted r x = record { transaction = x.transaction; held = x.held ++ r ∷ []; wanted = None }
+admitted r x = record { transaction = x.transaction; held = with_path r x.held; wanted = None }
 
 -- the session holds the resource no more
 abbrev pub let_go : List ℕ → Standing → Standing
 let_go r x = record { transaction = x.transaction; held = paths_but r x.held; wanted = x.wanted }
 
--- a resource more is held, or one is waited for
+-- the resource is held, or waited for
 abbrev pub asked_standing : Bool → List ℕ → Standing → Standing
-asked_standing true r x = record { transaction = x.transaction; held = x.held ++ r ∷ []; wanted = x.wanted }
+asked_standing true r x = admitted r x
 asked_standing false r x = record { transaction = x.transaction; held = x.held; wanted = Some r }
 
 -- the session was granted the resource that it waited for, or nothing has changed for it

@@ -1,16 +1,20 @@
 //! The book: the desk with its history.
 
-ghost use Rattle.std.specs.Prelude.{◌≡◌, ℕ, ◌+◌, ◌<◌, ◌≤◌, [], ◌∷◌, ◌++◌, IfOk, OnOk, OnErr};
+ghost use Rattle.std.specs.Prelude.{◌≡◌, ℕ, ◌+◌, ◌<◌, ◌≤◌, List, [], ◌∷◌, ◌++◌, IfOk, OnOk, OnErr};
 ghost use Rattle.std.specs.List.{All};
 ghost use Rattle.lock_rules.specs.State.{held_mode, holders};
 ghost use Rattle.lock_rules.specs.Step.{step};
+ghost use Rattle.lock_rules.specs.declared.calls.Entry.{Entry as EntryValue};
 ghost use Rattle.lock_rules.specs.Legal.{state_of, IsLegal};
+ghost use Rattle.lock_rules.specs.Laws.{DoesGrantStand, IsLawfulState};
 ghost use Rattle.lock_desk.specs.Kept.{IsEntryWithin};
 
 use crate::desk::Desk;
 use crate::rows::new_row;
+use crate::waits::new_waits;
+use indexmap::IndexMap;
 use lock_modes::Mode;
-use lock_rules::{Call, Entry, MAX_SESSIONS, Reply};
+use lock_rules::{Call, Entry, MAX_SESSIONS, Reply, laws};
 use lock_tree::Resource;
 use std::alloc::{AllocError as NoMemory, Global};
 use std::marker::Model;
@@ -45,6 +49,7 @@ impl Book {
         ensures sessions { IfOk result (λ book. book.sessions ≡ sessions) }
         ensures empty { IfOk result (λ book. book.history ≡ []) }
     {
+        let waits = new_waits(alloc, sessions)?;
         let mut rows = Vec::new(alloc);
         for _row in 0..sessions + 1 {
             rows.push(new_row(alloc))?;
@@ -52,7 +57,8 @@ impl Book {
         let desk = Desk {
             count: 0,
             rows,
-            cells: Vec::new(alloc),
+            cells: IndexMap::new(alloc),
+            waits,
         };
         Ok(Book {
             sessions,
@@ -69,11 +75,18 @@ impl Book {
     }
 
     /// All calls that were served with their replies, oldest first: a legal history, of these sessions alone.
+    ///
+    /// The state between any two calls is lawful: so no two sessions ever have incompatible access to a resource, outright
+    /// or through an ancestor, and nobody waits needlessly. What was granted stands until it is given back.
     pub fn history(&self) -> &[Entry]
         ensures history { result.now ≡ self.now.history }
         ensures legal { IsLegal self.now.history }
         ensures within { All (IsEntryWithin self.now.sessions) self.now.history }
+        ensures lawful { (front rest : List EntryValue) → self.now.history ≡ front ++ rest → IsLawfulState (state_of front) }
+        ensures grants { (front rest : List EntryValue) → self.now.history ≡ front ++ rest → DoesGrantStand front rest }
     {
+        laws::states_are_lawful();
+        laws::grants_stand();
         &self.history
     }
 
@@ -99,7 +112,8 @@ impl Book {
     /// leads to, and stands in the history with its call.
     ///
     /// All growths come before the first change. `NoMemory` only where one of them was refused: the book is as before,
-    /// and the same call may be made again. A Begin, a Release, a Commit and a refused call grow the history alone.
+    /// and the same call may be made again. A Begin, a Poll, a Release, a Commit, an Abort and a refused call grow the
+    /// history alone.
     pub fn serve(&mut self, session: u16, call: Call) -> Result<Reply, NoMemory>
         requires some { 1 ≤ session }
         requires within { session ≤ self.old.sessions }

@@ -1,9 +1,12 @@
 //! Cells: one for each resource that is held or waited for, with its holders and its queue.
 
-ghost use Rattle.std.specs.Prelude.{◌≡◌, ℕ, ◌+◌, ◌<◌, ◌≤◌, insert, Bool, false, true, not, List, [], ◌∷◌, ◌++◌, map, IfOk, OnOk, OnErr, IfNone, IfSome, vec_len, vec_capacity};
+ghost use Rattle.std.specs.Prelude.{◌≡◌, ℕ, ◌+◌, ◌<◌, ◌≤◌, insert, Bool, false, true, not, List, [], ◌∷◌, ◌++◌, map, IfOk, OnOk, OnErr, length, vec_len, vec_capacity};
+ghost use Rattle.std.specs.Option.{option_copied};
 ghost use Rattle.lock_tree.specs.Paths.{same_path};
-ghost use Rattle.lock_desk.specs.Cells.{View, view_of, has_claim, mode_of, pair_of, times, with_claim, without, fits_among, next_grant, next_view, can_grant, asked_view, HasRoom, IsNew, IsOnce, IsKeptCell, AreKeptCells, IsPlace, is_busy, resource_of, has_path, cell_view, CellsBecame, ViewBecame};
+ghost use Rattle.lock_desk.specs.declared.cells.Claim.{Claim as ClaimValue};
+ghost use Rattle.lock_desk.specs.Cells.{View, view_of, has_claim, mode_of, pair_of, with_claim, given_up, fits_among, next_grant, next_view, can_grant, behind_conversions, queued, asked_view, HasRoom, IsKeptCell, AreKeptCells, is_busy, cell_at, cell_view, CellsBecame, ViewBecame};
 
+use indexmap::IndexMap;
 use lock_modes::Mode;
 use lock_tree::{Resource, same_path_is_equality};
 use std::alloc::AllocError;
@@ -15,11 +18,20 @@ pub struct Claim {
     pub mode: Mode,
 }
 
-/// The holders of a resource, by session number, and the requests that wait for it, oldest first.
-/// The list of holders has room for all who wait, so that a promotion takes no memory.
+/// What a session may give up at a resource.
+#[derive(Clone, Copy, Debug, PartialEq, Eq)]
+pub enum Part {
+    /// What it holds there.
+    Lock,
+    /// Its request that waits.
+    Request,
+}
+
+/// The holders of a resource, by session number, and its queue: the conversions that wait, then the fresh
+/// requests, each kind in order of arrival. The list of holders has room for all who wait, so that a
+/// promotion takes no memory.
 #[derive(Drop)]
 pub struct Cell {
-    pub resource: Resource,
     pub holders: Vec<Claim>,
     pub waiting: Vec<Claim>,
 }
@@ -70,14 +82,14 @@ pub(crate) fn fits(holders: &[Claim], claim: Claim) -> bool
         || Mode::compatible(claim.mode, held.mode))
 }
 
-fn insert_at(holders: &mut Vec<Claim>, place: usize, claim: Claim)
-    requires place { place ≤ vec_len holders.old }
-    requires room { vec_len holders.old < vec_capacity holders.old }
-    ensures items { holders.new.items ≡ insert holders.old.items place claim }
-    ensures len { vec_len holders.new ≡ vec_len holders.old + 1 }
-    ensures capacity { vec_capacity holders.old ≤ vec_capacity holders.new }
+fn insert_at(claims: &mut Vec<Claim>, place: usize, claim: Claim)
+    requires place { place ≤ vec_len claims.old }
+    requires room { vec_len claims.old < vec_capacity claims.old }
+    ensures items { claims.new.items ≡ insert claims.old.items place claim }
+    ensures len { vec_len claims.new ≡ vec_len claims.old + 1 }
+    ensures capacity { vec_capacity claims.old ≤ vec_capacity claims.new }
 {
-    let _inserted = holders.insert(place, claim);
+    let _inserted = claims.insert(place, claim);
 }
 
 /// The claim comes in the place of the session's own, or between its neighbours by session number.
@@ -106,7 +118,6 @@ pub(crate) fn grant_next(cell: &mut Cell) -> Option<Claim>
     requires { HasRoom cell.old }
     ensures next { result ≡ next_grant cell.old.holders.items cell.old.waiting.items }
     ensures view { view_of cell.new ≡ next_view cell.old.holders.items cell.old.waiting.items }
-    ensures resource { cell.new.resource ≡ cell.old.resource }
     ensures room { HasRoom cell.new }
 {
     if cell.waiting.is_empty() {
@@ -121,15 +132,16 @@ pub(crate) fn grant_next(cell: &mut Cell) -> Option<Claim>
     Some(first)
 }
 
-/// Takes away what the session holds.
-pub(crate) fn leave(cell: &mut Cell, session: u16)
+/// Takes away what the session holds, or its request.
+pub(crate) fn give_up(cell: &mut Cell, session: u16, part: Part)
     requires { HasRoom cell.old }
-    ensures holders { cell.new.holders.items ≡ without session cell.old.holders.items }
-    ensures waiting { cell.new.waiting ≡ cell.old.waiting }
-    ensures resource { cell.new.resource ≡ cell.old.resource }
+    ensures view { view_of cell.new ≡ given_up part session (view_of cell.old) }
     ensures room { HasRoom cell.new }
 {
-    cell.holders.retain(|held| held.session != session);
+    match part {
+        Part::Lock => cell.holders.retain(|held| held.session != session),
+        Part::Request => cell.waiting.retain(|request| request.session != session),
+    }
 }
 
 /// Whether nobody holds the resource and nobody waits for it.
@@ -139,78 +151,110 @@ pub(crate) fn is_idle(cell: &Cell) -> bool
     cell.holders.is_empty() && cell.waiting.is_empty()
 }
 
-/// Where the cell of the resource stands.
-pub(crate) fn place_of(cells: &[Cell], resource: Resource) -> Option<usize>
-    ensures none { IfNone result (has_path resource (map resource_of cells.now) ≡ false) }
-    ensures some { IfSome result (λ i. IsPlace resource i cells.now) }
+/// The cell of the resource.
+pub(crate) fn cell_of(cells: &IndexMap<Resource, Cell>, resource: Resource) -> Option<&Cell>
+    ensures { option_copied result ≡ cell_at resource cells.now.entries }
 {
-    for (i, cell) in cells.iter().enumerate() {
-        if is_same(cell.resource, resource) {
-            return Some(i);
-        }
-    }
-    None
+    same_path_is_equality();
+    cells.get(&resource)
 }
 
-/// A session with no claim on the cell's resource asks for it: whether that is granted at once. Otherwise it waits.
+/// How many conversions wait: the place of the next one in the queue.
+fn conversions(holders: &[Claim], waiting: &[Claim]) -> usize
+    ensures within { result ≤ length waiting.now }
+    ensures place { (claim : ClaimValue)
+        → behind_conversions claim holders.now waiting.now ≡ insert waiting.now result claim }
+{
+    for (place, request) in waiting.iter().enumerate() {
+        if !is_among(holders, request.session) {
+            return place;
+        }
+    }
+    waiting.len()
+}
+
+/// The request comes into the queue at its place.
+fn enqueue(cell: &mut Cell, claim: Claim)
+    requires room { HasRoom cell.old }
+    requires holders { vec_len cell.old.holders + vec_len cell.old.waiting < vec_capacity cell.old.holders }
+    requires waiting { vec_len cell.old.waiting < vec_capacity cell.old.waiting }
+    ensures view { let before = view_of cell.old in view_of cell.new ≡ record before {
+      waiting = queued claim before.holders before.waiting;
+    } }
+    ensures room { HasRoom cell.new }
+{
+    let place = if is_among(&cell.holders, claim.session) {
+        conversions(&cell.holders, &cell.waiting)
+    } else {
+        cell.waiting.len()
+    };
+    insert_at(&mut cell.waiting, place, claim);
+}
+
+/// A session that doesn't wait for the cell's resource asks for it: whether that is granted at once. Otherwise it waits.
 fn join(cell: &mut Cell, claim: Claim) -> Result<bool, AllocError>
+    requires some { 1 ≤ claim.session }
     requires kept { IsKeptCell cell.old }
-    requires new { IsNew claim.session (view_of cell.old) }
+    requires idle { has_claim claim.session (view_of cell.old).waiting ≡ false }
     ensures granted { IfOk result (λ granted. granted ≡ can_grant claim (view_of cell.old)) }
     ensures view { IfOk result (λ _. view_of cell.new ≡ asked_view claim (view_of cell.old)) }
     ensures err { OnErr result (view_of cell.new ≡ view_of cell.old) }
-    ensures resource { cell.new.resource ≡ cell.old.resource }
     ensures kept { IsKeptCell cell.new }
 {
     let waiting = cell.waiting.len();
     cell.holders.reserve(waiting + 1)?;
     cell.waiting.reserve(1)?;
-    if fits(&cell.holders, claim) && cell.waiting.is_empty() {
+    let unhindered = is_among(&cell.holders, claim.session) || cell.waiting.is_empty();
+    if unhindered && fits(&cell.holders, claim) {
         put(&mut cell.holders, claim);
         Ok(true)
     } else {
-        cell.waiting.push_reserved(claim);
+        enqueue(cell, claim);
         Ok(false)
     }
 }
 
 /// A new cell, with its first holder.
-fn open(cells: &mut Vec<Cell>, resource: Resource, claim: Claim) -> Result<(), AllocError>
-    requires kept { AreKeptCells cells.old.items }
-    requires absent { has_path resource (map resource_of cells.old.items) ≡ false }
+fn open(
+    cells: &mut IndexMap<Resource, Cell>,
+    resource: Resource,
+    claim: Claim,
+) -> Result<(), AllocError>
+    requires some { 1 ≤ claim.session }
+    requires kept { AreKeptCells cells.old.entries }
     ensures ok { OnOk result (CellsBecame resource (record { holders = claim ∷ []; waiting = [] })
-        cells.old.items cells.new.items) }
-    ensures err { OnErr result (cells.new.items ≡ cells.old.items) }
+        cells.old.entries cells.new.entries) }
+    ensures err { OnErr result (cells.new.entries ≡ cells.old.entries) }
 {
+    same_path_is_equality();
     let alloc = *cells.allocator();
     let mut holders = Vec::new(alloc);
     holders.push(claim)?;
-    cells.push(Cell {
-        resource,
+    let cell = Cell {
         holders,
         waiting: Vec::new(alloc),
-    })?;
+    };
+    cells.insert(resource, cell)?;
     Ok(())
 }
 
-/// A session with no claim on the resource asks for it: whether that is granted at once. Otherwise it waits.
+/// A session that doesn't wait for the resource asks for it: whether that is granted at once. Otherwise it waits.
 pub(crate) fn ask(
-    cells: &mut Vec<Cell>,
+    cells: &mut IndexMap<Resource, Cell>,
     resource: Resource,
     claim: Claim,
 ) -> Result<bool, AllocError>
-    requires kept { AreKeptCells cells.old.items }
-    requires new { IsNew claim.session (cell_view resource cells.old.items) }
-    ensures granted { let before = cell_view resource cells.old.items in
+    requires some { 1 ≤ claim.session }
+    requires kept { AreKeptCells cells.old.entries }
+    requires idle { has_claim claim.session (cell_view resource cells.old.entries).waiting ≡ false }
+    ensures granted { let before = cell_view resource cells.old.entries in
         IfOk result (λ granted. granted ≡ can_grant claim before) }
-    ensures ok { OnOk result (ViewBecame resource (asked_view claim) cells.old.items cells.new.items) }
-    ensures err { OnErr result (ViewBecame resource (λ v. v) cells.old.items cells.new.items) }
+    ensures ok { OnOk result (ViewBecame resource (asked_view claim) cells.old.entries cells.new.entries) }
+    ensures err { OnErr result (ViewBecame resource (λ v. v) cells.old.entries cells.new.entries) }
 {
-    match place_of(cells, resource) {
-        Some(at) => {
-            let cell = &mut cells[at];
-            join(cell, claim)
-        }
+    same_path_is_equality();
+    match cells.get_mut(&resource) {
+        Some(cell) => join(cell, claim),
         None => {
             open(cells, resource, claim)?;
             Ok(true)

@@ -1,46 +1,50 @@
 //! The desk: all cells and rows, and what each call does to them.
 
-ghost use Rattle.std.specs.Prelude.{◌≡◌, ℕ, ◌+◌, ◌<◌, ◌≤◌, None, is_some, map, length, IfOk, OnOk, OnErr, vec_len};
-ghost use Rattle.lock_rules.specs.State.{State};
-ghost use Rattle.lock_rules.specs.Step.{is_nothing, tests, first_failing, act, step};
+ghost use Rattle.std.specs.Prelude.{◌≡◌, ℕ, ◌+◌, ◌<◌, ◌≤◌, true, false, None, is_some, if◌then◌else◌, map, length, IfOk, OnOk, OnErr, vec_len};
+ghost use Rattle.lock_rules.specs.declared.calls.Reply.TheVariants.{Granted, Waiting, Deadlock, Clear};
+ghost use Rattle.lock_rules.specs.State.{State, held_mode};
+ghost use Rattle.lock_rules.specs.Step.{target_of, is_held, first_failing, ask, act, step};
+ghost use Rattle.lock_rules.specs.Waits.{settled};
 ghost use Rattle.lock_rules.proofs.Sound.{IsSound};
-ghost use Rattle.lock_desk.specs.Cells.{has_claim, mode_of, pair_of};
-ghost use Rattle.lock_desk.specs.Changes.{seen, standing, IsWhole, lacks_seen, lock_tests, release_tests, desk_tests, IsSameSeen, CanAsk, HasAsked, CanRelease, HasReleased, GivesBack, HasGivenBack, HasBegun, HasEnded};
+ghost use Rattle.lock_rules.proofs.Owners.{IsNumbered};
+ghost use Rattle.lock_desk.specs.Rows.{doomed_in};
+ghost use Rattle.lock_desk.specs.Cells.{pair_of};
+ghost use Rattle.lock_desk.specs.declared.cells.Part.TheVariants as part;
+ghost use Rattle.lock_desk.specs.Changes.{seen, standing, IsWhole, held_seen, desk_tests, IsSameSeen, CanAsk, MayAsk, CanLock, CanConvert, HasAsked, CanRelease, HasFreed, HasGivenBack, HasGivenBackAll, HasCancelled, HasDoomed, HasBegun, HasEnded};
+ghost use Rattle.lock_desk.specs.Ready.{IsReadyDesk};
 ghost use Rattle.lock_desk.specs.Shows.{Shows, DoesAnswer};
 
-use crate::cells::{Cell, Claim, ask, is_among, list_claims, mode_among, place_of};
-use crate::releases::release;
-use crate::rows::{Row, drop_lock, hold, holds_below, make_room, want};
+use crate::cells::{Cell, Claim, Part, ask, cell_of, list_claims, mode_among};
+use crate::refusals::target_of;
+use crate::releases::free;
+use crate::rows::{
+    Request, Row, Transaction, doom, drop_lock, hold, is_doomed, make_room, resource_of, want,
+};
+use crate::waits::{Waits, fill, victim};
+use indexmap::IndexMap;
 use lock_modes::Mode;
-use lock_rules::{Call, MAX_LOCKS, Reply, Why};
+use lock_rules::{Call, MAX_LOCKS, Reply};
 use lock_tree::Resource;
 use std::alloc::AllocError;
 
 /// How many transactions have begun, a row for each session, at the place of its number, and a cell for each
-/// resource that is held or waited for. The row at place 0 is nobody's.
+/// resource that is held or waited for. The row at place 0 is nobody's. Who waits for whom is written down only to look
+/// for deadlocks.
 #[derive(Drop)]
 pub struct Desk {
     pub count: u64,
     pub rows: Vec<Row>,
-    pub cells: Vec<Cell>,
+    pub cells: IndexMap<Resource, Cell>,
+    pub waits: Waits,
 }
 
 impl Desk {
-    fn holds(&self, session: u16, resource: Resource) -> bool
-        ensures { result ≡ has_claim session (seen resource self.now).holders }
-    {
-        match place_of(&self.cells, resource) {
-            Some(at) => is_among(&self.cells[at].holders, session),
-            None => false,
-        }
-    }
-
     /// The mode that the session holds on the resource outright.
     pub(crate) fn held(&self, session: u16, resource: Resource) -> Option<Mode>
-        ensures { result ≡ mode_of session (seen resource self.now).holders }
+        ensures { result ≡ held_seen self.now session resource }
     {
-        match place_of(&self.cells, resource) {
-            Some(at) => mode_among(&self.cells[at].holders, session),
+        match cell_of(&self.cells, resource) {
+            Some(cell) => mode_among(&cell.holders, session),
             None => None,
         }
     }
@@ -54,8 +58,8 @@ impl Desk {
         ensures ok { OnOk result (list.new.items ≡ map pair_of (seen resource self.now).holders) }
         ensures err { OnErr result (list.new.items ≡ list.old.items) }
     {
-        match place_of(&self.cells, resource) {
-            Some(at) => list_claims(&self.cells[at].holders, list),
+        match cell_of(&self.cells, resource) {
+            Some(cell) => list_claims(&cell.holders, list),
             None => {
                 list.clear();
                 Ok(())
@@ -63,79 +67,15 @@ impl Desk {
         }
     }
 
-    /// Whether what the session holds on the parent doesn't cover what the mode needs there.
-    fn lacks_parent(&self, session: u16, resource: Resource, mode: Mode) -> bool
-        ensures { result ≡ lacks_seen self.now session resource mode }
-    {
-        let Some(parent) = resource.parent() else {
-            return false;
-        };
-        let held = match self.held(session, parent) {
-            Some(held) => held,
-            None => Mode::NL,
-        };
-        !held.covers(mode.parent_need())
-    }
-
-    fn lock_refusal(&self, session: u16, resource: Resource, mode: Mode) -> Option<Why>
-        requires { session < vec_len self.now.rows }
-        ensures { result ≡ first_failing (lock_tests self.now session resource mode) }
-    {
-        if is_nothing(mode) {
-            return Some(Why::NothingAsked);
-        }
-        if self.holds(session, resource) {
-            return Some(Why::AlreadyHeld);
-        }
-        if self.lacks_parent(session, resource, mode) {
-            return Some(Why::ParentNotHeld);
-        }
-        let row = &self.rows[session as usize];
-        if row.held.len() >= MAX_LOCKS {
-            return Some(Why::TooManyLocks);
-        }
-        None
-    }
-
-    fn release_refusal(&self, session: u16, resource: Resource) -> Option<Why>
-        requires { session < vec_len self.now.rows }
-        ensures { result ≡ first_failing (release_tests self.now session resource) }
-    {
-        if !self.holds(session, resource) {
-            return Some(Why::NotHeld);
-        }
-        if holds_below(&self.rows[session as usize], resource) {
-            return Some(Why::ChildHeld);
-        }
-        None
-    }
-
-    /// The refusal of the first test of the call that fails.
-    fn refusal(&self, session: u16, call: Call) -> Option<Why>
-        requires { session < vec_len self.now.rows }
-        ensures { result ≡ first_failing (desk_tests self.now session call) }
-    {
-        let row = &self.rows[session as usize];
-        let open = row.transaction.is_some();
-        let waits = row.wanted.is_some();
-        match call {
-            Call::Begin if open => Some(Why::AlreadyOpen),
-            Call::Begin => None,
-            Call::Lock(_, _) | Call::Release(_) | Call::Commit if !open => Some(Why::NoTransaction),
-            Call::Lock(_, _) | Call::Release(_) | Call::Commit if waits => Some(Why::IsWaiting),
-            Call::Lock(resource, mode) => self.lock_refusal(session, resource, mode),
-            Call::Release(resource) => self.release_refusal(session, resource),
-            Call::Commit => None,
-        }
-    }
-
-    /// Whether the lock is granted at once. Otherwise the session waits.
+    /// Asks for a resource that the session doesn't hold: whether that is granted at once. Otherwise the session waits.
     fn lock(&mut self, session: u16, resource: Resource, mode: Mode) -> Result<bool, AllocError>
+        requires some { 1 ≤ session }
         requires within { session < vec_len self.old.rows }
         requires whole { IsWhole self.old }
-        requires can { CanAsk session resource self.old }
+        requires can { CanLock session resource self.old }
         ensures asked { IfOk result (λ granted. HasAsked session resource mode granted self.old self.new) }
         ensures err { OnErr result (IsSameSeen self.old self.new) }
+        ensures waits { self.new.waits ≡ self.old.waits }
         ensures whole { IsWhole self.new }
         ensures len { vec_len self.new.rows ≡ vec_len self.old.rows }
     {
@@ -146,9 +86,52 @@ impl Desk {
         if granted {
             hold(row, resource);
         } else {
-            want(row, resource);
+            want(row, Request::Fresh(resource));
         }
         Ok(granted)
+    }
+
+    /// Asks for a higher mode on a resource that the session holds: whether that is granted at once. Otherwise the
+    /// session waits.
+    fn convert(&mut self, session: u16, resource: Resource, mode: Mode) -> Result<bool, AllocError>
+        requires some { 1 ≤ session }
+        requires within { session < vec_len self.old.rows }
+        requires whole { IsWhole self.old }
+        requires can { CanConvert session resource self.old }
+        ensures asked { IfOk result (λ granted. HasAsked session resource mode granted self.old self.new) }
+        ensures err { OnErr result (IsSameSeen self.old self.new) }
+        ensures waits { self.new.waits ≡ self.old.waits }
+        ensures whole { IsWhole self.new }
+        ensures len { vec_len self.new.rows ≡ vec_len self.old.rows }
+    {
+        let granted = ask(&mut self.cells, resource, Claim { session, mode })?;
+        if !granted {
+            let row = &mut self.rows[session as usize];
+            want(row, Request::Conversion(resource));
+        }
+        Ok(granted)
+    }
+
+    /// Asks for a target: whether the session holds it then. Otherwise it waits.
+    fn seek(&mut self, session: u16, resource: Resource, target: Mode) -> Result<bool, AllocError>
+        requires some { 1 ≤ session }
+        requires within { session < vec_len self.old.rows }
+        requires whole { IsWhole self.old }
+        requires can { CanAsk session resource self.old }
+        ensures held { is_held (held_seen self.old session resource) target ≡ true
+            → IfOk result (λ granted. (granted ≡ true) × IsSameSeen self.old self.new) }
+        ensures asked { is_held (held_seen self.old session resource) target ≡ false
+            → IfOk result (λ granted. HasAsked session resource target granted self.old self.new) }
+        ensures err { OnErr result (IsSameSeen self.old self.new) }
+        ensures waits { self.new.waits ≡ self.old.waits }
+        ensures whole { IsWhole self.new }
+        ensures len { vec_len self.new.rows ≡ vec_len self.old.rows }
+    {
+        match self.held(session, resource) {
+            Some(held) if held.covers(target) => Ok(true),
+            Some(_) => self.convert(session, resource, target),
+            None => self.lock(session, resource, target),
+        }
     }
 
     /// The session gives the resource back.
@@ -156,13 +139,20 @@ impl Desk {
         requires within { session < vec_len self.old.rows }
         requires whole { IsWhole self.old }
         requires can { CanRelease session resource self.old }
-        ensures released { HasReleased session resource self.old self.new }
+        ensures freed { HasFreed part.Lock session resource self.old self.new }
+        ensures waits { self.new.waits ≡ self.old.waits }
         ensures whole { IsWhole self.new }
         ensures len { vec_len self.new.rows ≡ vec_len self.old.rows }
     {
         let row = &mut self.rows[session as usize];
         drop_lock(row, resource);
-        release(&mut self.cells, &mut self.rows, session, resource);
+        free(
+            &mut self.cells,
+            &mut self.rows,
+            session,
+            resource,
+            Part::Lock,
+        );
     }
 
     /// Gives back what the session was granted last.
@@ -171,13 +161,20 @@ impl Desk {
         requires whole { IsWhole self.old }
         requires idle { (standing session self.old).wanted ≡ None }
         requires some { 0 < length (standing session self.old).held }
-        ensures back { GivesBack session self.old self.new }
+        ensures back { HasGivenBack session self.old self.new }
+        ensures waits { self.new.waits ≡ self.old.waits }
         ensures whole { IsWhole self.new }
         ensures len { vec_len self.new.rows ≡ vec_len self.old.rows }
     {
         let row = &mut self.rows[session as usize];
         if let Some(resource) = row.held.pop() {
-            release(&mut self.cells, &mut self.rows, session, resource);
+            free(
+                &mut self.cells,
+                &mut self.rows,
+                session,
+                resource,
+                Part::Lock,
+            );
         }
     }
 
@@ -188,7 +185,8 @@ impl Desk {
         requires idle { (standing session self.old).wanted ≡ None }
         ensures locks { result ≡ length (standing session self.old).held }
         ensures none { length (standing session self.new).held ≡ 0 }
-        ensures back { HasGivenBack session self.old self.new }
+        ensures back { HasGivenBackAll session self.old self.new }
+        ensures waits { self.new.waits ≡ self.old.waits }
         ensures whole { IsWhole self.new }
         ensures len { vec_len self.new.rows ≡ vec_len self.old.rows }
     {
@@ -207,23 +205,51 @@ impl Desk {
         requires room { self.old.count < 18446744073709551615 }
         ensures number { result ≡ self.old.count + 1 }
         ensures begun { HasBegun session self.old self.new }
+        ensures waits { self.new.waits ≡ self.old.waits }
         ensures whole { IsWhole self.new }
         ensures len { vec_len self.new.rows ≡ vec_len self.old.rows }
     {
         self.count += 1;
         let row = &mut self.rows[session as usize];
-        row.transaction = Some(self.count);
+        row.transaction = Some(Transaction {
+            number: self.count,
+            doomed: false,
+        });
         self.count
     }
 
+    /// Takes away the request of the session, if it waits; the queue of its resource is promoted.
+    fn cancel(&mut self, session: u16)
+        requires within { session < vec_len self.old.rows }
+        requires whole { IsWhole self.old }
+        ensures cancelled { HasCancelled session self.old self.new }
+        ensures waits { self.new.waits ≡ self.old.waits }
+        ensures whole { IsWhole self.new }
+        ensures len { vec_len self.new.rows ≡ vec_len self.old.rows }
+    {
+        let row = &mut self.rows[session as usize];
+        if let Some(request) = row.wanted {
+            let resource = resource_of(request);
+            row.wanted = None;
+            free(
+                &mut self.cells,
+                &mut self.rows,
+                session,
+                resource,
+                Part::Request,
+            );
+        }
+    }
+
     /// The transaction ends, and all its locks are given back: how many they were.
-    fn commit(&mut self, session: u16) -> usize
+    fn end(&mut self, session: u16) -> usize
         requires within { session < vec_len self.old.rows }
         requires whole { IsWhole self.old }
         requires idle { (standing session self.old).wanted ≡ None }
         ensures locks { result ≡ length (standing session self.old).held }
         ensures few { result ≤ MAX_LOCKS }
         ensures ended { HasEnded session self.old self.new }
+        ensures waits { self.new.waits ≡ self.old.waits }
         ensures whole { IsWhole self.new }
         ensures len { vec_len self.new.rows ≡ vec_len self.old.rows }
     {
@@ -233,52 +259,157 @@ impl Desk {
         locks
     }
 
-    /// What the call does where no test fails.
-    fn act(&mut self, session: u16, call: Call) -> Result<Reply, AllocError>
+    /// The transaction is given up, with its request that waits and all its locks: how many locks they were.
+    fn abort(&mut self, session: u16) -> usize
         requires within { session < vec_len self.old.rows }
         requires whole { IsWhole self.old }
+        ensures locks { result ≡ length (standing session self.old).held }
+        ensures few { result ≤ MAX_LOCKS }
+        ensures ended { HasEnded session self.old self.new }
+        ensures waits { self.new.waits ≡ self.old.waits }
+        ensures whole { IsWhole self.new }
+        ensures len { vec_len self.new.rows ≡ vec_len self.old.rows }
+    {
+        self.cancel(session);
+        self.end(session)
+    }
+
+    /// The session's transaction becomes a deadlock's victim: its request is taken away, and it keeps its locks.
+    fn doom(&mut self, session: u16)
+        requires within { session < vec_len self.old.rows }
+        requires whole { IsWhole self.old }
+        ensures doomed { HasDoomed session self.old self.new }
+        ensures waits { self.new.waits ≡ self.old.waits }
+        ensures whole { IsWhole self.new }
+        ensures len { vec_len self.new.rows ≡ vec_len self.old.rows }
+    {
+        self.cancel(session);
+        let row = &mut self.rows[session as usize];
+        row.transaction = doom(row.transaction);
+    }
+
+    /// While the session lies on a circle of waits, the youngest transaction on one becomes a victim.
+    fn settle(&mut self, session: u16)
+        requires some { 1 ≤ session }
+        requires within { session < vec_len self.old.rows }
+        requires whole { IsWhole self.old }
+        requires ready { IsReadyDesk self.old }
+        ensures settled { (st : State) → IsSound st.table → IsNumbered st → Shows self.old st
+            → Shows self.new (settled (vec_len self.old.rows) session st) }
+        ensures whole { IsWhole self.new }
+        ensures ready { IsReadyDesk self.new }
+        ensures count { self.new.count ≡ self.old.count }
+        ensures len { vec_len self.new.rows ≡ vec_len self.old.rows }
+    {
+        for _round in 0..self.rows.len() {
+            fill(&mut self.waits, &self.rows, &self.cells);
+            let Some(chosen) = victim(&mut self.waits, session) else {
+                return;
+            };
+            self.doom(chosen);
+        }
+    }
+
+    /// What a session is told whose request has begun to wait, once no circle goes through it.
+    fn told(&self, session: u16, target: Mode) -> Reply
+        requires { session < vec_len self.now.rows }
+        ensures { let x = standing session self.now in result ≡ (if doomed_in x.transaction then Deadlock
+            else (if is_some x.wanted then Waiting else Granted target)) }
+    {
+        let row = &self.rows[session as usize];
+        if is_doomed(row.transaction) {
+            return Reply::Deadlock;
+        }
+        if row.wanted.is_some() {
+            return Reply::Waiting;
+        }
+        Reply::Granted(target)
+    }
+
+    /// Asks for a mode on the resource, or for what covers it and what is held there.
+    fn ask(&mut self, session: u16, resource: Resource, mode: Mode) -> Result<Reply, AllocError>
+        requires some { 1 ≤ session }
+        requires within { session < vec_len self.old.rows }
+        requires whole { IsWhole self.old }
+        requires ready { IsReadyDesk self.old }
+        requires may { MayAsk session resource mode self.old }
+        ensures ask { (st : State) → IsSound st.table → IsNumbered st → Shows self.old st
+            → let held = held_mode st.table session resource in
+            IfOk result (DoesAnswer (ask st session resource (target_of held mode)) self.new) }
+        ensures err { OnErr result (IsSameSeen self.old self.new) }
+        ensures count { self.new.count ≡ self.old.count }
+        ensures whole { IsWhole self.new }
+        ensures ready { IsReadyDesk self.new }
+        ensures len { vec_len self.new.rows ≡ vec_len self.old.rows }
+    {
+        let target = target_of(self.held(session, resource), mode);
+        if self.seek(session, resource, target)? {
+            return Ok(Reply::Granted(target));
+        }
+        self.settle(session);
+        Ok(self.told(session, target))
+    }
+
+    /// Whether the session waits, or was chosen as a deadlock's victim.
+    fn poll(&self, session: u16) -> Reply
+        requires { session < vec_len self.now.rows }
+        ensures { let x = standing session self.now in result ≡ (if doomed_in x.transaction then Deadlock
+            else (if is_some x.wanted then Waiting else Clear)) }
+    {
+        let row = &self.rows[session as usize];
+        if is_doomed(row.transaction) {
+            return Reply::Deadlock;
+        }
+        if row.wanted.is_some() {
+            return Reply::Waiting;
+        }
+        Reply::Clear
+    }
+
+    /// What the call does where no test fails.
+    fn act(&mut self, session: u16, call: Call) -> Result<Reply, AllocError>
+        requires some { 1 ≤ session }
+        requires within { session < vec_len self.old.rows }
+        requires whole { IsWhole self.old }
+        requires ready { IsReadyDesk self.old }
         requires passed { first_failing (desk_tests self.old session call) ≡ None }
         requires room { self.old.count < 18446744073709551615 }
-        ensures act { (st : State) → IsSound st.table → Shows self.old st
+        ensures act { (st : State) → IsSound st.table → IsNumbered st → Shows self.old st
             → IfOk result (DoesAnswer (act st session call) self.new) }
         ensures err { OnErr result (IsSameSeen self.old self.new) }
         ensures count { self.new.count ≤ self.old.count + 1 }
         ensures whole { IsWhole self.new }
+        ensures ready { IsReadyDesk self.new }
         ensures len { vec_len self.new.rows ≡ vec_len self.old.rows }
     {
         match call {
-            Call::Begin => {
-                let number = self.begin(session);
-                Ok(Reply::Began(number))
+            Call::Begin => Ok(Reply::Began(self.begin(session))),
+            Call::Lock(resource, mode) | Call::Convert(resource, mode) => {
+                self.ask(session, resource, mode)
             }
-            Call::Lock(resource, mode) => {
-                if self.lock(session, resource, mode)? {
-                    Ok(Reply::Granted(mode))
-                } else {
-                    Ok(Reply::Waiting)
-                }
-            }
+            Call::Poll => Ok(self.poll(session)),
             Call::Release(resource) => {
                 self.release(session, resource);
                 Ok(Reply::Released)
             }
-            Call::Commit => {
-                let locks = self.commit(session);
-                Ok(Reply::Committed(locks as u32))
-            }
+            Call::Commit => Ok(Reply::Committed(self.end(session) as u32)),
+            Call::Abort => Ok(Reply::Aborted(self.abort(session) as u32)),
         }
     }
 
     /// One step of the sequential lock manager.
     pub(crate) fn serve(&mut self, session: u16, call: Call) -> Result<Reply, AllocError>
+        requires some { 1 ≤ session }
         requires within { session < vec_len self.old.rows }
         requires whole { IsWhole self.old }
+        requires ready { IsReadyDesk self.old }
         requires room { self.old.count < 18446744073709551615 }
-        ensures step { (st : State) → IsSound st.table → Shows self.old st
+        ensures step { (st : State) → IsSound st.table → IsNumbered st → Shows self.old st
             → IfOk result (DoesAnswer (step st session call) self.new) }
         ensures err { (st : State) → Shows self.old st → OnErr result (Shows self.new st) }
         ensures count { self.new.count ≤ self.old.count + 1 }
         ensures whole { IsWhole self.new }
+        ensures ready { IsReadyDesk self.new }
         ensures len { vec_len self.new.rows ≡ vec_len self.old.rows }
     {
         let asked = call;
@@ -287,10 +418,4 @@ impl Desk {
             None => self.act(session, call),
         }
     }
-}
-
-fn is_nothing(mode: Mode) -> bool
-    ensures { result ≡ is_nothing mode }
-{
-    matches!(mode, Mode::NL)
 }

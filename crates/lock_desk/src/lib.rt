@@ -9,10 +9,12 @@
 mod book;
 mod cells;
 mod desk;
+mod refusals;
 mod releases;
 mod rows;
 #[cfg(test)]
 mod tests;
+mod waits;
 
 pub use book::Book;
 pub use lock_modes::Mode;

@@ -105,34 +105,29 @@ fn requests_are_granted_in_order_of_arrival(rt: HostRuntime) -> Result<(), Fail>
 #[test]
 fn each_refusal_comes_in_its_place(rt: HostRuntime) -> Result<(), Fail> {
     let one = resource(1)?;
+    let closed = Reply::Refused(Why::NoTransaction);
+    let nothing = Reply::Refused(Why::NothingAsked);
     let entries = [
-        entry(
-            1,
-            Call::Lock(one, Mode::NL),
-            Reply::Refused(Why::NoTransaction),
-        ),
-        entry(1, Call::Commit, Reply::Refused(Why::NoTransaction)),
+        entry(1, Call::Lock(one, Mode::NL), closed),
+        entry(1, Call::Convert(one, Mode::NL), closed),
+        entry(1, Call::Commit, closed),
+        entry(1, Call::Poll, closed),
+        entry(1, Call::Abort, closed),
         entry(1, Call::Begin, Reply::Began(1)),
         entry(1, Call::Begin, Reply::Refused(Why::AlreadyOpen)),
-        entry(
-            1,
-            Call::Lock(one, Mode::NL),
-            Reply::Refused(Why::NothingAsked),
-        ),
+        entry(1, Call::Lock(one, Mode::NL), nothing),
+        entry(1, Call::Convert(one, Mode::NL), nothing),
+        entry(1, Call::Convert(one, Mode::S), Reply::Refused(Why::NotHeld)),
         entry(1, Call::Lock(one, Mode::X), Reply::Granted(Mode::X)),
-        entry(
-            1,
-            Call::Lock(one, Mode::NL),
-            Reply::Refused(Why::NothingAsked),
-        ),
-        entry(
-            1,
-            Call::Lock(one, Mode::S),
-            Reply::Refused(Why::AlreadyHeld),
-        ),
+        entry(1, Call::Lock(one, Mode::NL), nothing),
         entry(2, Call::Begin, Reply::Began(2)),
         entry(2, Call::Lock(one, Mode::IS), Reply::Waiting),
         entry(2, Call::Lock(one, Mode::NL), Reply::Refused(Why::IsWaiting)),
+        entry(
+            2,
+            Call::Convert(one, Mode::S),
+            Reply::Refused(Why::IsWaiting),
+        ),
         entry(2, Call::Commit, Reply::Refused(Why::IsWaiting)),
         entry(1, Call::Commit, Reply::Committed(1)),
         entry(2, Call::Commit, Reply::Committed(1)),
@@ -169,27 +164,97 @@ fn a_promotion_grants_all_that_fit_together(rt: HostRuntime) -> Result<(), Fail>
 
 #[test]
 fn a_transaction_holds_4096_locks_and_no_more(rt: HostRuntime) -> Result<(), Fail> {
-    let mut book = new_book(&rt, rt.alloc(), 1)?;
-    assert_eq!(rt; serve(&rt, &mut book, 1, Call::Begin)?, Reply::Began(1));
+    let shared = resource(7)?;
+    let more = resource(4096)?;
+    let mut book = new_book(&rt, rt.alloc(), 2)?;
+    let first = [
+        entry(1, Call::Begin, Reply::Began(1)),
+        entry(2, Call::Begin, Reply::Began(2)),
+        entry(2, Call::Lock(shared, Mode::IS), Reply::Granted(Mode::IS)),
+    ];
+    serve_all(&rt, &mut book, &first)?;
     for number in 0..4096 {
-        let call = Call::Lock(resource(number)?, Mode::X);
-        assert_eq!(rt; serve(&rt, &mut book, 1, call)?, Reply::Granted(Mode::X));
+        let call = Call::Lock(resource(number)?, Mode::IS);
+        assert_eq!(rt; serve(&rt, &mut book, 1, call)?, Reply::Granted(Mode::IS));
     }
-    let more = Call::Lock(resource(4096)?, Mode::X);
-    let held = Call::Lock(resource(7)?, Mode::X);
-    assert_eq!(rt;
-        serve(&rt, &mut book, 1, more)?,
-        Reply::Refused(Why::TooManyLocks)
-    );
-    assert_eq!(rt;
-        serve(&rt, &mut book, 1, held)?,
-        Reply::Refused(Why::AlreadyHeld)
-    );
-    assert_eq!(rt;
-        serve(&rt, &mut book, 1, Call::Commit)?,
-        Reply::Committed(4096)
-    );
-    assert_eq!(rt; book.history().len(), 4100);
+    let last = [
+        entry(
+            1,
+            Call::Lock(more, Mode::X),
+            Reply::Refused(Why::TooManyLocks),
+        ),
+        entry(1, Call::Lock(shared, Mode::X), Reply::Waiting),
+        entry(2, Call::Commit, Reply::Committed(1)),
+        entry(1, Call::Poll, Reply::Clear),
+        entry(1, Call::Lock(shared, Mode::S), Reply::Granted(Mode::X)),
+        entry(
+            1,
+            Call::Lock(more, Mode::X),
+            Reply::Refused(Why::TooManyLocks),
+        ),
+        entry(1, Call::Commit, Reply::Committed(4096)),
+    ];
+    serve_all(&rt, &mut book, &last)?;
+    assert_eq!(rt; book.history().len(), 4106);
+    Ok(())
+}
+
+#[test]
+fn conversions_wait_ahead_of_fresh_requests(rt: HostRuntime) -> Result<(), Fail> {
+    let one = resource(1)?;
+    let before = [
+        entry(1, Call::Begin, Reply::Began(1)),
+        entry(2, Call::Begin, Reply::Began(2)),
+        entry(3, Call::Begin, Reply::Began(3)),
+        entry(1, Call::Lock(one, Mode::IS), Reply::Granted(Mode::IS)),
+        entry(2, Call::Lock(one, Mode::S), Reply::Granted(Mode::S)),
+        entry(3, Call::Lock(one, Mode::X), Reply::Waiting),
+        entry(1, Call::Lock(one, Mode::S), Reply::Granted(Mode::S)),
+        entry(1, Call::Convert(one, Mode::IS), Reply::Granted(Mode::S)),
+        entry(1, Call::Convert(one, Mode::IX), Reply::Waiting),
+        entry(1, Call::Poll, Reply::Waiting),
+    ];
+    let after = [
+        entry(2, Call::Commit, Reply::Committed(1)),
+        entry(1, Call::Poll, Reply::Clear),
+        entry(3, Call::Poll, Reply::Waiting),
+    ];
+    let mut book = new_book(&rt, rt.alloc(), 3)?;
+    serve_all(&rt, &mut book, &before)?;
+    assert_eq!(rt; held(&rt, &book, 1, one), Some(Mode::S));
+    serve_all(&rt, &mut book, &after)?;
+    assert_eq!(rt; held(&rt, &book, 1, one), Some(Mode::SIX));
+    assert_eq!(rt; held(&rt, &book, 3, one), None);
+    Ok(())
+}
+
+#[test]
+fn an_abort_takes_the_request_and_the_locks(rt: HostRuntime) -> Result<(), Fail> {
+    let one = resource(1)?;
+    let two = resource(2)?;
+    let before = [
+        entry(1, Call::Begin, Reply::Began(1)),
+        entry(2, Call::Begin, Reply::Began(2)),
+        entry(3, Call::Begin, Reply::Began(3)),
+        entry(1, Call::Lock(one, Mode::S), Reply::Granted(Mode::S)),
+        entry(2, Call::Lock(one, Mode::S), Reply::Granted(Mode::S)),
+        entry(2, Call::Lock(two, Mode::X), Reply::Granted(Mode::X)),
+        entry(3, Call::Lock(two, Mode::X), Reply::Waiting),
+        entry(2, Call::Lock(one, Mode::X), Reply::Waiting),
+        entry(2, Call::Abort, Reply::Aborted(2)),
+        entry(3, Call::Poll, Reply::Clear),
+        entry(1, Call::Lock(one, Mode::X), Reply::Granted(Mode::X)),
+        entry(2, Call::Begin, Reply::Began(4)),
+        entry(2, Call::Lock(one, Mode::IS), Reply::Waiting),
+        entry(2, Call::Abort, Reply::Aborted(0)),
+    ];
+    let mut book = new_book(&rt, rt.alloc(), 3)?;
+    serve_all(&rt, &mut book, &before)?;
+    let mut list = Vec::new(rt.alloc());
+    holders(&book, one, &mut list)?;
+    assert_eq!(rt; list.as_slice(), [(1, Mode::X)].as_slice());
+    holders(&book, two, &mut list)?;
+    assert_eq!(rt; list.as_slice(), [(3, Mode::X)].as_slice());
     Ok(())
 }
 
@@ -257,5 +322,38 @@ fn a_release_promotes_and_holders_are_told(rt: HostRuntime) -> Result<(), Fail> 
     assert_eq!(rt; list.as_slice(), [(2, Mode::S), (3, Mode::S)].as_slice());
     assert_eq!(rt; held(&rt, &book, 1, one), None);
     assert_eq!(rt; held(&rt, &book, 3, one), Some(Mode::S));
+    Ok(())
+}
+
+#[test]
+fn a_victim_keeps_its_locks_until_it_aborts(rt: HostRuntime) -> Result<(), Fail> {
+    let one = resource(1)?;
+    let doomed = Reply::Refused(Why::IsDoomed);
+    let before = [
+        entry(1, Call::Begin, Reply::Began(1)),
+        entry(2, Call::Begin, Reply::Began(2)),
+        entry(1, Call::Lock(one, Mode::S), Reply::Granted(Mode::S)),
+        entry(2, Call::Lock(one, Mode::S), Reply::Granted(Mode::S)),
+        entry(2, Call::Lock(one, Mode::X), Reply::Waiting),
+        entry(1, Call::Lock(one, Mode::X), Reply::Waiting),
+        entry(2, Call::Poll, Reply::Deadlock),
+        entry(2, Call::Lock(one, Mode::NL), doomed),
+        entry(2, Call::Convert(one, Mode::S), doomed),
+        entry(2, Call::Release(one), doomed),
+        entry(2, Call::Commit, doomed),
+    ];
+    let after = [
+        entry(2, Call::Abort, Reply::Aborted(1)),
+        entry(1, Call::Poll, Reply::Clear),
+        entry(2, Call::Begin, Reply::Began(3)),
+        entry(2, Call::Lock(one, Mode::S), Reply::Waiting),
+        entry(1, Call::Commit, Reply::Committed(1)),
+        entry(2, Call::Commit, Reply::Committed(1)),
+    ];
+    let mut book = new_book(&rt, rt.alloc(), 2)?;
+    serve_all(&rt, &mut book, &before)?;
+    assert_eq!(rt; held(&rt, &book, 2, one), Some(Mode::S));
+    serve_all(&rt, &mut book, &after)?;
+    assert_eq!(rt; held(&rt, &book, 2, one), Some(Mode::S));
     Ok(())
 }

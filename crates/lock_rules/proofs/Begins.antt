@@ -2,31 +2,36 @@
 use Rattle.std.proofs.Common.{◌≡◌, ℕ, Bool, true, false, cond, not, eqb, ◌&&◌, ◌||◌, inl, inr, List, [], ◌∷◌, ◌++◌, Some, None, refl, sym, ◌∙◌, ap, arith, append_assoc}
 use Rattle.std.specs.Prelude.{filter, is_some}
 use Rattle.std.proofs.lemmas.Bool.Decides.{nat_tests, Decides-eqb}
-use Rattle.std.proofs.lemmas.Bool.{and_from}
+use Rattle.std.proofs.lemmas.Bool.{and_parts, and_from}
 use Rattle.lock_modes.specs.declared.Mode.{Mode}
 use Rattle.lock_tree.specs.Paths.{same_path}
-use Rattle.lock_rules.specs.State.{Claim, Table, mode_in, held_mode, request_of, claims_but}
-use Rattle.lock_rules.specs.Queue.{queue, fits, with_request, is_granted, is_empty}
+use Rattle.lock_modes.specs.Order.{at_or_below}
+use Rattle.lock_rules.specs.State.{Claim, Table, mode_in, held_mode, mode_or_nothing, request_of, claims_but}
+use Rattle.lock_rules.specs.Queue.{conversions, fresh_requests, queue, fits, with_request, is_granted, is_empty}
+use Rattle.lock_rules.specs.Waits.{waits_for}
 use Rattle.lock_rules.proofs.Lists.{bool_cases, same_path-refl, same_path-true, IsOnce, times-none, times-append, request_of-push, claims_but-push}
-use Rattle.lock_rules.proofs.Alters.{Alters, queue-alters, request-alters}
+use Rattle.lock_rules.proofs.Alters.{Alters, queue-alters, request-alters, waits_for-alters, NoCircle, beside, walk-wider}
 use Rattle.lock_rules.proofs.Sound.{Stands, IsSound, UnfitAt, head-request}
 
-abbrev new : ℕ → List ℕ → Mode → Claim
+-- the request of the session
+abbrev pub new : ℕ → List ℕ → Mode → Claim
 new s r m = record { session = s; resource = r; mode = m }
 
-back : (s : ℕ) (r : List ℕ) (m : Mode) (t : Table) → request_of s t.waits ≡ None → Alters s (with_request s r m t) t
+-- read backwards, a request that begins to wait is one that waits no more
+pub back : (s : ℕ) (r : List ℕ) (m : Mode) (t : Table) → request_of s t.waits ≡ None → Alters s (with_request s r m t) t
 back s r m t n = record { waits = sym (claims_but-push s t.waits (new s r m) n refl); others = λ u x k. refl; order = λ o. o }
 
-once-push : (s : ℕ) (r : List ℕ) (m : Mode) (qs : List Claim) → IsOnce qs → request_of s qs ≡ None → IsOnce (qs ++ new s r m ∷ [])
+-- who had no request has one
+pub once-push : (s : ℕ) (r : List ℕ) (m : Mode) (qs : List Claim) → IsOnce qs → request_of s qs ≡ None → IsOnce (qs ++ new s r m ∷ [])
 once-push s r m qs o n u = grind (arith, nat_tests, times-append u qs (new s r m ∷ []), times-none s qs n, o u)
 
-pub begins-sound : (s : ℕ) (r : List ℕ) (m : Mode) (t : Table) → IsSound t → request_of s t.waits ≡ None → held_mode t s r ≡ None → Stands t s r m → IsSound (with_request s r m t)
-begins-sound s r m t i n free under = record {
+pub begins-sound : (s : ℕ) (r : List ℕ) (m : Mode) (t : Table) → IsSound t → request_of s t.waits ≡ None → at_or_below (mode_or_nothing (held_mode t s r)) m ≡ true → Stands t s r m → IsSound (with_request s r m t)
+begins-sound s r m t i n up under = record {
   order = i.order;
   once = once-push s r m t.waits i.once n;
-  fresh = λ u q e. elim (bool_cases (eqb u s)) [
-    | inl f ↦ let p = own u q e ((Decides-eqb u s).0 f) in rw (p.0, ← p.1) free
-    | inr k ↦ i.fresh u q (request-alters s (with_request s r m t) t (back s r m t n) u k ∙ e)
+  raising = λ u q e. elim (bool_cases (eqb u s)) [
+    | inl f ↦ let p = own u q e ((Decides-eqb u s).0 f) in rw (p.0, ← p.1) up
+    | inr k ↦ i.raising u q (request-alters s (with_request s r m t) t (back s r m t n) u k ∙ e)
   ];
   asked_under = λ u q e. elim (bool_cases (eqb u s)) [
     | inl f ↦ let p = own u q e ((Decides-eqb u s).0 f) in rw (p.0, ← p.1) under
@@ -39,6 +44,20 @@ begins-sound s r m t i n free under = record {
     own : (u : ℕ) (q : Claim) → request_of u (t.waits ++ new s r m ∷ []) ≡ Some q → u ≡ s → (u ≡ s) × (new s r m ≡ q)
     own u q e f = let g = request_of-push s t.waits (new s r m) n refl in (f, cc)
 
+-- no circle goes beside the session that begins to wait
+pub begins-beside : (s : ℕ) (r : List ℕ) (m : Mode) (t : Table) → request_of s t.waits ≡ None → NoCircle (waits_for t) → NoCircle (beside s (waits_for (with_request s r m t)))
+begins-beside s r m t n none a ws walk = none a ws (walk-wider (beside s (waits_for (with_request s r m t))) (waits_for t) old a ws a walk)
+  where
+    flip : (b : Bool) → not b ≡ true → b ≡ false
+    flip true e = cc
+    flip false e = refl
+
+    old : (i u : ℕ) → beside s (waits_for (with_request s r m t)) i u ≡ true → waits_for t i u ≡ true
+    old i u h =
+        let p = and_parts (waits_for (with_request s r m t) i u) (not (eqb i s) && not (eqb u s)) h in
+        let d = and_parts (not (eqb i s)) (not (eqb u s)) p.1 in
+        waits_for-alters s (with_request s r m t) t (back s r m t n) i u (flip (eqb i s) d.0) (flip (eqb u s) d.1) ∙ p.0
+
 filter-in : (p : Claim → Bool) (xs : List Claim) (x : Claim) → p x ≡ true → filter p (xs ++ x ∷ []) ≡ filter p xs ++ x ∷ []
 filter-in p [] x h = ap (λ (b : Bool). cond b (x ∷ []) []) h
 filter-in p (y ∷ xs) x h = grind (arith, filter-in p xs x h, bool_cases (p y))
@@ -46,6 +65,10 @@ filter-in p (y ∷ xs) x h = grind (arith, filter-in p xs x h, bool_cases (p y))
 filter-out : (p : Claim → Bool) (xs : List Claim) (x : Claim) → p x ≡ false → filter p (xs ++ x ∷ []) ≡ filter p xs
 filter-out p [] x h = ap (λ (b : Bool). cond b (x ∷ []) []) h
 filter-out p (y ∷ xs) x h = grind (arith, filter-out p xs x h, bool_cases (p y))
+
+and-false : (b : Bool) → (b && false) ≡ false
+and-false true = refl
+and-false false = refl
 
 -- a fresh request stands last
 pub queue-fresh : (s : ℕ) (r : List ℕ) (m : Mode) (t : Table) → is_some (held_mode t s r) ≡ false → queue (with_request s r m t) r ≡ queue t r ++ new s r m ∷ []
@@ -55,10 +78,24 @@ queue-fresh s r m t h =
     let e : filter p (t.waits ++ new s r m ∷ []) ≡ filter p t.waits = filter-out p t.waits (new s r m) (ap (λ (b : Bool). same_path r r && b) h ∙ and-false (same_path r r)) in
     let e' : filter p' (t.waits ++ new s r m ∷ []) ≡ filter p' t.waits ++ new s r m ∷ [] = filter-in p' t.waits (new s r m) (and_from (same_path r r) (not (is_some (mode_in s r t.held))) (same_path-refl r) (ap not h)) in
     ap (λ (ws : List Claim). ws ++ filter p' (t.waits ++ new s r m ∷ [])) e ∙ (ap (λ (ws : List Claim). filter p t.waits ++ ws) e' ∙ sym (append_assoc (filter p t.waits) (filter p' t.waits) (new s r m ∷ [])))
-  where
-    and-false : (b : Bool) → (b && false) ≡ false
-    and-false true = refl
-    and-false false = refl
+
+-- a conversion stands behind the conversions and before the fresh requests
+pub queue-converted : (s : ℕ) (r : List ℕ) (m : Mode) (t : Table) → is_some (held_mode t s r) ≡ true → queue (with_request s r m t) r ≡ conversions t r ++ new s r m ∷ fresh_requests t r
+queue-converted s r m t h =
+    let p : Claim → Bool = λ (q : Claim). same_path q.resource r && is_some (mode_in q.session r t.held) in
+    let p' : Claim → Bool = λ (q : Claim). same_path q.resource r && not (is_some (mode_in q.session r t.held)) in
+    let e : filter p (t.waits ++ new s r m ∷ []) ≡ filter p t.waits ++ new s r m ∷ [] = filter-in p t.waits (new s r m) (and_from (same_path r r) (is_some (mode_in s r t.held)) (same_path-refl r) h) in
+    let e' : filter p' (t.waits ++ new s r m ∷ []) ≡ filter p' t.waits = filter-out p' t.waits (new s r m) (ap (λ (b : Bool). same_path r r && not b) h ∙ and-false (same_path r r)) in
+    ap (λ (ws : List Claim). ws ++ filter p' (t.waits ++ new s r m ∷ [])) e ∙ (ap (λ (ws : List Claim). (filter p t.waits ++ new s r m ∷ []) ++ ws) e' ∙ append_assoc (filter p t.waits) (new s r m ∷ []) (filter p' t.waits))
+
+-- elsewhere the queues stay
+pub queue-beside : (s : ℕ) (r x : List ℕ) (m : Mode) (t : Table) → same_path r x ≡ false → queue (with_request s r m t) x ≡ queue t x
+queue-beside s r x m t h =
+    let p : Claim → Bool = λ (q : Claim). same_path q.resource x && is_some (mode_in q.session x t.held) in
+    let p' : Claim → Bool = λ (q : Claim). same_path q.resource x && not (is_some (mode_in q.session x t.held)) in
+    let e : filter p (t.waits ++ new s r m ∷ []) ≡ filter p t.waits = filter-out p t.waits (new s r m) (ap (λ (b : Bool). b && is_some (mode_in s x t.held)) h) in
+    let e' : filter p' (t.waits ++ new s r m ∷ []) ≡ filter p' t.waits = filter-out p' t.waits (new s r m) (ap (λ (b : Bool). b && not (is_some (mode_in s x t.held))) h) in
+    ap (λ (ws : List Claim). ws ++ filter p' (t.waits ++ new s r m ∷ [])) e ∙ ap (λ (ws : List Claim). filter p t.waits ++ ws) e'
 
 pub begins-unfit : (s : ℕ) (r : List ℕ) (m : Mode) (t : Table) → IsSound t → IsSound (with_request s r m t) → request_of s t.waits ≡ None → is_granted t s r m ≡ false → ((x : List ℕ) → UnfitAt t x) → (x : List ℕ) → UnfitAt (with_request s r m t) x
 begins-unfit s r m t i i' n g h x q qs e = elim (bool_cases (eqb q.session s)) [

@@ -1,26 +1,32 @@
--- What is left where a lock is given back or a session ends: what is taken away, and what this touched is promoted.
-use Rattle.std.proofs.Common.{◌≡◌, ℕ, Bool, true, false, not, eqb, ◌&&◌, ◌||◌, ◌⊎◌, inl, inr, List, [], ◌∷◌, ◌++◌, Option, Some, None, refl, sym, ◌∙◌, ap, arith, map}
+-- What is left where a lock is given back, a session ends or a victim waits no more: what is taken away, and what this
+-- touched is promoted.
+use Rattle.std.proofs.Common.{◌≡◌, ℕ, ◌<◌, Bool, true, false, not, eqb, ◌&&◌, ◌||◌, ◌⊎◌, inl, inr, List, [], ◌∷◌, ◌++◌, length, Option, Some, None, refl, sym, ◌∙◌, ap, arith, map}
 use Rattle.std.specs.List.{list_any}
 use Rattle.std.proofs.lemmas.Bool.Decides.{nat_tests}
 use Rattle.std.proofs.lemmas.Bool.{and_from}
 use Rattle.lock_modes.specs.declared.Mode.{Mode}
+use Rattle.lock_modes.specs.Order.{at_or_below}
 use Rattle.lock_tree.specs.Paths.{same_path, is_ancestor, parent_of, has_parent}
-use Rattle.lock_rules.specs.State.{Claim, Table, mode_in, request_of, claims_of, claims_but}
+use Rattle.lock_rules.specs.State.{Claim, Table, mode_in, held_mode, mode_or_nothing, request_of, claims_of, claims_but}
 use Rattle.lock_rules.specs.Queue.{locks_but}
-use Rattle.lock_rules.specs.Step.{wanted, left, ended, lacks_parent, holds_child, released}
+use Rattle.lock_rules.specs.Waits.{waits_for, wanted, waits_no_more, cancelled}
+use Rattle.lock_rules.specs.Step.{left, ended, lacks_parent, holds_child, released}
 use Rattle.lock_rules.proofs.Lists.{ordered-filter, bool_cases, eqb-refl, same_path_tells, claims_but-none, mode_in-locks_but, mode_in-locks_but_path, mode_in-locks_but_other, mode_in-claims_but, mode_in-claims_but_other}
-use Rattle.lock_rules.proofs.Alters.{Alters, true≢false}
-use Rattle.lock_rules.proofs.Sound.{Stands, IsSound, UnfitAt, altered-sound, lacks-same, same-rises, unfit_at-alters, none-below}
-use Rattle.lock_rules.proofs.Promote.{all-promoted, promoted-promoted, among}
+use Rattle.lock_rules.proofs.Marks.{below-refl}
+use Rattle.lock_rules.proofs.Alters.{Alters, NoCircle, circle-alters, circle-alters_beside, true≢false}
+use Rattle.lock_rules.proofs.Sound.{Stands, IsSound, UnfitAt, eqb-swap, altered-sound, lacks-same, same-rises, unfit_at-alters, none-below, no_more-alters}
+use Rattle.lock_rules.proofs.Promote.{Follows, follows-trans, ArePromoted, all-promoted, promoted-promoted, all-fewer, among, length-claims_but, length-claims_but_some, request-fewer}
 
 -- what holds between any two calls
 pub record IsLawful (t : Table) : Type 0 where
   pub sound : IsSound t
+  pub no_circle : NoCircle (waits_for t)
   pub unfit : (x : List ℕ) → UnfitAt t x
 
 -- one lock
 
-parent-ancestor : (x : List ℕ) → has_parent x ≡ true → is_ancestor (parent_of x) x ≡ true
+-- a parent is an ancestor
+pub parent-ancestor : (x : List ℕ) → has_parent x ≡ true → is_ancestor (parent_of x) x ≡ true
 parent-ancestor [] h = cc
 parent-ancestor (a ∷ []) h = cc
 parent-ancestor (a ∷ b ∷ []) h = and_from (eqb a a) true (eqb-refl a) refl
@@ -56,25 +62,35 @@ less-lacks s r t i c x k h = go (bool_cases (has_parent x)) (same_path_tells r (
 less-under : (s : ℕ) (r : List ℕ) (t : Table) → IsSound t → holds_child t s r ≡ false → (x : List ℕ) (k : Mode) → mode_in s x (locks_but s r t.held) ≡ Some k → Stands (one_less s r t) s x k
 less-under s r t i c x k h = (less-lacks s r t i c x k h, (i.held_under s x k (less-held s r x t k h).1).1)
 
+-- the table with one lock less is sound
+pub less-sound : (s : ℕ) (r : List ℕ) (t : Table) → IsSound t → request_of s t.waits ≡ None → holds_child t s r ≡ false → IsSound (one_less s r t)
+less-sound s r t i n c = altered-sound s t (one_less s r t) (less-alters s r t n) i (less-under s r t i c) (λ u x k l m e f. i.agree s u x k l (eqb-swap u s m) (less-held s r x t k e).1 f)
+
 pub released-lawful : (s : ℕ) (r : List ℕ) (t : Table) → IsLawful t → request_of s t.waits ≡ None → holds_child t s r ≡ false → IsLawful (released s r t)
 released-lawful s r t i n c =
     let a = less-alters s r t n in
-    let sound = altered-sound s t (one_less s r t) a i.sound (less-under s r t i.sound c)
-    (λ u x k l m e f. i.sound.agree s u x k l (swap u s m) (less-held s r x t k e).1 f) in
-    let p = promoted-promoted r (one_less s r t) sound in
+    let p = promoted-promoted r (one_less s r t) (less-sound s r t i.sound n c) in
     record {
       sound = p.follows.sound;
+      no_circle = p.follows.circle (circle-alters s t (one_less s r t) a i.no_circle);
       unfit = λ x. elim (same_path_tells r x) [
         | inl q ↦ rw (← q.1) p.there
         | inr m ↦ p.elsewhere x m (unfit_at-alters s t (one_less s r t) x a (same-rises _ _ (mode_in-locks_but_path s s x r t.held m)) (λ q e. absurd (none q e)) i.sound (i.unfit x))
       ];
     }
   where
-    swap : (u s : ℕ) → eqb u s ≡ false → eqb s u ≡ false
-    swap u s h = grind (arith, nat_tests)
-
     none : (q : Claim) → request_of s t.waits ≡ Some q → ⊥
     none q e = cc
+
+-- but for this lock nobody holds less after a release
+pub released-rises : (s : ℕ) (r : List ℕ) (t : Table) → IsSound t → request_of s t.waits ≡ None → holds_child t s r ≡ false → (u : ℕ) (x : List ℕ) → (eqb u s ≡ false) ⊎ (same_path r x ≡ false) → at_or_below (mode_or_nothing (held_mode t u x)) (mode_or_nothing (held_mode (released s r t) u x)) ≡ true
+released-rises s r t i n c u x d =
+    ap (λ (o : Option Mode). at_or_below (mode_or_nothing o) (mode_or_nothing (held_mode (released s r t) u x))) (sym (same d))
+    ∙ (promoted-promoted r (one_less s r t) (less-sound s r t i n c)).follows.rises u x
+  where
+    same : (eqb u s ≡ false) ⊎ (same_path r x ≡ false) → mode_in u x (locks_but s r t.held) ≡ mode_in u x t.held
+    same (inl m) = mode_in-locks_but_other u s x r t.held m
+    same (inr m) = mode_in-locks_but_path u s x r t.held m
 
 -- all of a session
 
@@ -83,6 +99,10 @@ left-alters s t = record { waits = refl; others = λ u x m. mode_in-claims_but_o
 
 pub left-none : (s : ℕ) (t : Table) (x : List ℕ) (k : Mode) → mode_in s x (claims_but s t.held) ≡ Some k → ⊥
 left-none s t x k h = let e = mode_in-claims_but s x t.held in cc
+
+-- the table that a session leaves is sound
+pub left-sound : (s : ℕ) (t : Table) → IsSound t → IsSound (left s t)
+left-sound s t i = altered-sound s t (left s t) (left-alters s t) i (λ x k e. absurd (left-none s t x k e)) (λ u x k l m e f. absurd (left-none s t x k e))
 
 unlisted : (s : ℕ) (x : List ℕ) (cs : List Claim) → among (map (λ (c : Claim). c.resource) (claims_of s cs)) x ≡ false → mode_in s x cs ≡ None
 unlisted s x [] h = refl
@@ -107,11 +127,49 @@ wanted-apart (Some p) x h q e = go (same_path p.resource x) h refl
 pub ended-lawful : (s : ℕ) (t : Table) → IsLawful t → IsLawful (ended s t)
 ended-lawful s t i =
     let a = left-alters s t in
-    let sound = altered-sound s t (left s t) a i.sound (λ x k e. absurd (left-none s t x k e)) (λ u x k l m e f. absurd (left-none s t x k e)) in
-    let p = all-promoted (wanted (request_of s t.waits) ++ map (λ (c : Claim). c.resource) (claims_of s t.held)) (left s t) sound in
+    let p = all-promoted (wanted (request_of s t.waits) ++ map (λ (c : Claim). c.resource) (claims_of s t.held)) (left s t) (left-sound s t i.sound) in
     record {
       sound = p.follows.sound;
+      no_circle = p.follows.circle (circle-alters s t (left s t) a i.no_circle);
       unfit = p.unfit (λ x n.
           let m = among-append (wanted (request_of s t.waits)) (map (λ (c : Claim). c.resource) (claims_of s t.held)) x n in
           unfit_at-alters s t (left s t) x a (none-below _ _ (unlisted s x t.held m.1)) (wanted-apart (request_of s t.waits) x m.0) i.sound (i.unfit x));
     }
+
+-- none of the others holds less after the end of a transaction
+pub ended-rises : (s : ℕ) (t : Table) → IsSound t → (u : ℕ) (x : List ℕ) → eqb u s ≡ false → at_or_below (mode_or_nothing (held_mode t u x)) (mode_or_nothing (held_mode (ended s t) u x)) ≡ true
+ended-rises s t i u x n =
+    ap (λ (o : Option Mode). at_or_below (mode_or_nothing o) (mode_or_nothing (held_mode (ended s t) u x))) (sym (mode_in-claims_but_other u s x t.held n))
+    ∙ (all-promoted (wanted (request_of s t.waits) ++ map (λ (c : Claim). c.resource) (claims_of s t.held)) (left s t) (left-sound s t i)).follows.rises u x
+
+-- a victim
+
+no_more-follows : (v : ℕ) (t : Table) → IsSound t → Follows t (waits_no_more v t)
+no_more-follows v t i =
+    let a = no_more-alters v t in
+    record {
+      sound = altered-sound v t (waits_no_more v t) a i (λ x k e. i.held_under v x k e) (λ u x k l m e f. i.agree v u x k l (eqb-swap u v m) e f);
+      rises = λ s x. below-refl (mode_or_nothing (held_mode t s x));
+      circle = circle-alters v t (waits_no_more v t) a;
+      circle_beside = λ b. circle-alters_beside v b t (waits_no_more v t) a;
+      fewer = length-claims_but v t.waits;
+      requests = λ u q h. request-fewer u v t.waits q h;
+    }
+
+pub cancelled-promoted : (v : ℕ) (t : Table) → IsSound t → ArePromoted (wanted (request_of v t.waits)) (waits_no_more v t) (cancelled v t)
+cancelled-promoted v t i = all-promoted (wanted (request_of v t.waits)) (waits_no_more v t) (no_more-follows v t i).sound
+
+-- a victim leaves a sound table, in which nobody holds less and no circle is new
+pub cancelled-follows : (v : ℕ) (t : Table) → IsSound t → Follows t (cancelled v t)
+cancelled-follows v t i = follows-trans t (waits_no_more v t) (cancelled v t) (no_more-follows v t i) (cancelled-promoted v t i).follows
+
+-- and nobody waits needlessly there
+pub cancelled-unfit : (v : ℕ) (t : Table) → IsSound t → ((x : List ℕ) → UnfitAt t x) → (x : List ℕ) → UnfitAt (cancelled v t) x
+cancelled-unfit v t i h = (cancelled-promoted v t i).unfit (λ x n. unfit_at-alters v t (waits_no_more v t) x (no_more-alters v t) (below-refl (mode_or_nothing (held_mode t v x))) (wanted-apart (request_of v t.waits) x n) i (h x))
+
+-- the end of a request leaves one less at least
+pub victim-fewer : (v : ℕ) (t : Table) (q : Claim) → request_of v t.waits ≡ Some q → length (cancelled v t).waits < length t.waits
+victim-fewer v t q e = omega (arith, all-fewer (wanted (request_of v t.waits)) (waits_no_more v t), length-claims_but_some v t.waits q e)
+
+pub cancelled-fewer : (v : ℕ) (t : Table) (q : Claim) → IsSound t → request_of v t.waits ≡ Some q → length (cancelled v t).waits < length t.waits
+cancelled-fewer v t q i e = victim-fewer v t q e

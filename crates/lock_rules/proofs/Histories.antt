@@ -48,22 +48,24 @@ state_of-push es e = state_after-append es (e ∷ []) empty
 
 -- one legal history for each list of calls
 
-served : State → List (ℕ × Call) → List Entry
+abbrev pub served : State → List (ℕ × Call) → List Entry
 served st [] = []
 served st (c ∷ cs) = record { session = c.0; call = c.1; reply = (step st c.0 c.1).reply } ∷ served (step st c.0 c.1).state cs
 
 served-asked : (cs : List (ℕ × Call)) (st : State) → asked_in (served st cs) ≡ cs
-unfolding served
 served-asked [] st = refl
 served-asked (c ∷ cs) st = ap (λ (rest : List (ℕ × Call)). c ∷ rest) (served-asked cs (step st c.0 c.1).state)
 
 served-legal : (cs : List (ℕ × Call)) (st : State) → IsLegalFrom st (served st cs)
-unfolding served
 served-legal [] st = tt
 served-legal (c ∷ cs) st = (refl, served-legal cs (step st c.0 c.1).state)
 
 pub some-history : (cs : List (ℕ × Call)) → (es : List Entry) × ((asked_in es ≡ cs) × IsLegal es)
 some-history cs = (served empty cs, (served-asked cs empty, served-legal cs empty))
+
+-- a history that has the replies that its calls are served with is legal
+pub legal-served : (es : List Entry) → served empty (asked_in es) ≡ es → IsLegal es
+legal-served es e = subst IsLegal e (served-legal (asked_in es) empty)
 
 -- two entries of one session and call with the reply of the same step
 same-entry : (st : State) (e f : Entry) → e.session ≡ f.session → e.call ≡ f.call → e.reply ≡ (step st e.session e.call).reply → f.reply ≡ (step st f.session f.call).reply → e ≡ f

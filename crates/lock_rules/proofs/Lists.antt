@@ -1,5 +1,5 @@
 -- Holds and requests as lists: what a look-up finds after a change.
-use Rattle.std.proofs.Common.{◌≡◌, ℕ, ◌+◌, ◌<◌, ◌≤◌, Bool, true, false, cond, eqb, ltb, ◌&&◌, ◌⊎◌, inl, inr, List, [], ◌∷◌, ◌++◌, Option, Some, None, refl, ◌∙◌, ap, arith}
+use Rattle.std.proofs.Common.{◌≡◌, ◌≢◌, ℕ, ◌+◌, ◌<◌, ◌≤◌, Bool, true, false, cond, eqb, ltb, ◌&&◌, ◌⊎◌, inl, inr, List, [], ◌∷◌, ◌++◌, Option, Some, None, refl, sym, ◌∙◌, ap, arith}
 use Rattle.std.specs.Prelude.{filter}
 use Rattle.std.specs.List.{list_all}
 use Rattle.std.proofs.lemmas.Bool.Decides.{nat_tests, Decides-eqb}
@@ -8,6 +8,7 @@ use Rattle.lock_modes.specs.declared.Mode.{Mode}
 use Rattle.lock_tree.specs.Paths.{same_path}
 use Rattle.lock_rules.specs.State.{Claim, mode_in, request_of, claims_but, holders}
 use Rattle.lock_rules.specs.Queue.{with_lock, locks_but}
+use Rattle.lock_rules.specs.Waits.{stands_before}
 
 pub bool_cases : (b : Bool) → (b ≡ true) ⊎ (b ≡ false)
 bool_cases true = inl refl
@@ -28,6 +29,15 @@ same_path_tells a b = elim (bool_cases (same_path a b)) [ inl h ↦ inl (h, same
 
 pub eqb-refl : (s : ℕ) → eqb s s ≡ true
 eqb-refl s = (Decides-eqb s s).1 refl
+
+pub other : (s u : ℕ) → u ≢ s → eqb u s ≡ false
+other s u n = elim (bool_cases (eqb u s)) [ inl e ↦ absurd (n ((Decides-eqb u s).0 e)) | inr e ↦ e ]
+
+pub apart : (s u : ℕ) → eqb u s ≡ false → u ≢ s
+apart s u e h = let f = (Decides-eqb u s).1 h in cc
+
+pub differs : (a b : List ℕ) → a ≢ b → same_path b a ≡ false
+differs a b n = elim (same_path_tells b a) [ inl p ↦ absurd (n (sym p.1)) | inr e ↦ e ]
 
 -- held_mode
 
@@ -97,6 +107,11 @@ filter-swap v p p' (q ∷ qs) h = grind (arith, nat_tests, h q, filter-swap v p 
 pub claims_but-append : (v : ℕ) (xs ys : List Claim) → claims_but v (xs ++ ys) ≡ claims_but v xs ++ claims_but v ys
 claims_but-append v [] ys = refl
 claims_but-append v (x ∷ xs) ys = grind (arith, nat_tests, claims_but-append v xs ys)
+
+-- who stands before whom stays where a third is taken away
+pub stands_before-claims_but : (u s v : ℕ) (qs : List Claim) → eqb s v ≡ false → eqb u v ≡ false → stands_before u s (claims_but v qs) ≡ stands_before u s qs
+stands_before-claims_but u s v [] h k = refl
+stands_before-claims_but u s v (q ∷ qs) h k = grind (arith, nat_tests, stands_before-claims_but u s v qs h k)
 
 -- each session has at most one request
 

@@ -1,18 +1,14 @@
 -- Facts of the modes that the laws of states need, computed over whole tables.
 use Rattle.std.proofs.Common.{◌≡◌, Bool, true, false, not, ◌||◌, Option, Some, None, refl, ap}
 use Rattle.lock_modes.specs.declared.Mode.{Mode}
-use Rattle.lock_modes.specs.declared.Mode.TheVariants.{NL}
-use Rattle.lock_modes.specs.Order.{at_or_below, need_of}
+use Rattle.lock_modes.specs.declared.Mode.TheVariants.{NL, IS, IX, S, X}
+use Rattle.lock_modes.specs.Order.{at_or_below, sup_of, need_of}
 use Rattle.lock_modes.specs.Compatibility.{are_compatible}
 use Rattle.lock_rules.specs.State.{mode_or_nothing}
+use Rattle.lock_rules.specs.Waits.{conflicts}
 use Rattle.lock_rules.specs.Step.{is_nothing}
-use Rattle.lock_modes.proofs.Every.{every-at, every3-at, implied}
+use Rattle.lock_modes.proofs.Every.{every-at, every2-at, every3-at, implied}
 use Rattle.lock_modes.proofs.Order.{at_or_below-refl, at_or_below-trans}
-
--- the mode asked conflicts with what is held, if anything is
-abbrev pub conflicts : Mode → Option Mode → Bool
-conflicts m None = false
-conflicts m (Some k) = not (are_compatible m k)
 
 pub below-refl : (a : Mode) → at_or_below a a ≡ true
 below-refl = at_or_below-refl
@@ -46,3 +42,52 @@ need-some m h = flip _ (implied (not (is_nothing m)) _ (every-at (λ m. not (not
     flip : (b : Bool) → not b ≡ true → b ≡ false
     flip true e = cc
     flip false e = refl
+
+-- nothing is at or above a mode that is something
+pub some-above : (m : Mode) → is_nothing m ≡ false → at_or_below m NL ≡ false
+some-above m h = flip _ (implied (not (is_nothing m)) _ (every-at (λ m. not (not (is_nothing m)) || not (at_or_below m NL)) refl m) (ap not h))
+  where
+    flip : (b : Bool) → not b ≡ true → b ≡ false
+    flip true e = cc
+    flip false e = refl
+
+-- the target of a request is at or above what is held
+pub below-sup : (a b : Mode) → at_or_below a (sup_of a b) ≡ true
+below-sup = every2-at (λ a b. at_or_below a (sup_of a b)) refl
+
+-- and is something where something is asked
+pub sup-some : (k m : Mode) → is_nothing m ≡ false → is_nothing (sup_of k m) ≡ false
+sup-some k m h = flip _ (implied (not (is_nothing m)) _ (every2-at (λ k m. not (not (is_nothing m)) || not (is_nothing (sup_of k m))) refl k m) (ap not h))
+  where
+    flip : (b : Bool) → not b ≡ true → b ≡ false
+    flip true e = cc
+    flip false e = refl
+
+-- IX or above goes with no S or above, in either order
+pub no_ix_s : (a b : Mode) → at_or_below IX a ≡ true → at_or_below S b ≡ true → (are_compatible a b ≡ false) × (are_compatible b a ≡ false)
+no_ix_s a b h k = (
+  flip _ (implied (at_or_below S b) _ (implied (at_or_below IX a) _ (every2-at (λ a b. not (at_or_below IX a) || (not (at_or_below S b) || not (are_compatible a b))) refl a b) h) k),
+  flip _ (implied (at_or_below S b) _ (implied (at_or_below IX a) _ (every2-at (λ a b. not (at_or_below IX a) || (not (at_or_below S b) || not (are_compatible b a))) refl a b) h) k),
+)
+  where
+    flip : (b : Bool) → not b ≡ true → b ≡ false
+    flip true e = cc
+    flip false e = refl
+
+-- X goes with no IS or above, in either order
+pub no_x_is : (a b : Mode) → at_or_below X a ≡ true → at_or_below IS b ≡ true → (are_compatible a b ≡ false) × (are_compatible b a ≡ false)
+no_x_is a b h k = (
+  flip _ (implied (at_or_below IS b) _ (implied (at_or_below X a) _ (every2-at (λ a b. not (at_or_below X a) || (not (at_or_below IS b) || not (are_compatible a b))) refl a b) h) k),
+  flip _ (implied (at_or_below IS b) _ (implied (at_or_below X a) _ (every2-at (λ a b. not (at_or_below X a) || (not (at_or_below IS b) || not (are_compatible b a))) refl a b) h) k),
+)
+  where
+    flip : (b : Bool) → not b ≡ true → b ≡ false
+    flip true e = cc
+    flip false e = refl
+
+-- a mode at or above IS needs the parent so, and so does one at or above IX
+pub need-is : (m : Mode) → at_or_below IS m ≡ true → at_or_below IS (need_of m) ≡ true
+need-is m h = implied (at_or_below IS m) _ (every-at (λ m. not (at_or_below IS m) || at_or_below IS (need_of m)) refl m) h
+
+pub need-ix : (m : Mode) → at_or_below IX m ≡ true → at_or_below IX (need_of m) ≡ true
+need-ix m h = implied (at_or_below IX m) _ (every-at (λ m. not (at_or_below IX m) || at_or_below IX (need_of m)) refl m) h

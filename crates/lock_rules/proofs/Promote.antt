@@ -1,32 +1,78 @@
 -- What promotions keep, and what they bring about.
-use Rattle.std.proofs.Common.{◌≡◌, ℕ, Bool, true, false, cond, ◌||◌, inl, inr, List, [], ◌∷◌, Some, refl, sym, ◌∙◌, ap}
+use Rattle.std.proofs.Common.{◌≡◌, ℕ, ◌<◌, ◌≤◌, Bool, true, false, cond, eqb, ◌||◌, inl, inr, List, [], ◌∷◌, length, Some, refl, sym, ◌∙◌, ap, arith}
 use Rattle.std.specs.List.{list_any}
+use Rattle.std.proofs.lemmas.Bool.Decides.{nat_tests, Decides-eqb}
 use Rattle.lock_modes.specs.declared.Mode.{Mode}
 use Rattle.lock_modes.specs.Order.{at_or_below}
 use Rattle.lock_tree.specs.Paths.{same_path}
-use Rattle.lock_rules.specs.State.{Claim, Table, held_mode, request_of}
+use Rattle.lock_rules.specs.State.{Claim, Table, held_mode, mode_or_nothing, request_of, claims_but}
 use Rattle.lock_rules.specs.Queue.{queue, fits, granted, granted_front, promoted, promoted_all}
-use Rattle.lock_rules.proofs.Lists.{same_path_tells, same_path-true}
-use Rattle.lock_rules.specs.State.{mode_or_nothing}
+use Rattle.lock_rules.specs.Waits.{waits_for}
+use Rattle.lock_rules.proofs.Lists.{bool_cases, same_path_tells, same_path-true, request_of-claims_but, request_of-claims_but_other}
 use Rattle.lock_rules.proofs.Marks.{below-refl, below-trans}
-use Rattle.lock_rules.proofs.Sound.{Stands, IsSound, UnfitAt, Rises, head-request, queue-rest, unfit_at-alters, none-below, granted-alters, granted-rises, granted-sound}
+use Rattle.lock_rules.proofs.Alters.{NoCircle, beside, circle-alters, circle-alters_beside}
+use Rattle.lock_rules.proofs.Sound.{Stands, IsSound, UnfitAt, Rises, head-request, queue-rest, unfit_at-alters, granted-alters, granted-rises, granted-sound}
 
--- the table stays sound, and nobody holds less
+-- requests that are left
+
+pub length-claims_but : (s : ℕ) (qs : List Claim) → length (claims_but s qs) ≤ length qs
+length-claims_but s [] = omega arith
+length-claims_but s (q ∷ qs) = grind (arith, nat_tests, length-claims_but s qs)
+
+pub length-claims_but_some : (s : ℕ) (qs : List Claim) (q : Claim) → request_of s qs ≡ Some q → length (claims_but s qs) < length qs
+length-claims_but_some s [] q h = absurd (cc)
+length-claims_but_some s (c ∷ qs) q h = grind (arith, nat_tests, length-claims_but_some s qs q, length-claims_but s qs)
+
+pub request-fewer : (s v : ℕ) (qs : List Claim) (q : Claim) → request_of s (claims_but v qs) ≡ Some q → request_of s qs ≡ Some q
+request-fewer s v qs q h = elim (bool_cases (eqb s v)) [
+  | inr n ↦ sym (request_of-claims_but_other s v qs n) ∙ h
+  | inl e ↦ let f = (Decides-eqb s v).0 e in let g = rw f at h in let k = request_of-claims_but v qs in absurd (cc)
+]
+
+-- a promotion leaves no more requests than there were
+front-fewer : (qs : List Claim) (t : Table) → length (granted_front qs t).waits ≤ length t.waits
+front-fewer [] t = omega arith
+front-fewer (q ∷ qs) t = go (fits t q.session q.resource q.mode) (front-fewer qs (granted q.session q.resource q.mode t))
+  where
+    go : (b : Bool) → length (granted_front qs (granted q.session q.resource q.mode t)).waits ≤ length (granted q.session q.resource q.mode t).waits → length (cond b (granted_front qs (granted q.session q.resource q.mode t)) t).waits ≤ length t.waits
+    go true h = omega (arith, h, length-claims_but q.session t.waits)
+    go false h = omega arith
+
+pub all-fewer : (rs : List (List ℕ)) (t : Table) → length (promoted_all rs t).waits ≤ length t.waits
+all-fewer [] t = omega arith
+all-fewer (r ∷ rs) t = omega (arith, all-fewer rs (promoted r t), front-fewer (queue t r) t)
+
+-- the table stays sound, nobody holds less, no circle is new, and no request is new
 pub record Follows (t t' : Table) : Type 0 where
   pub sound : IsSound t'
   pub rises : Rises t t'
+  pub circle : NoCircle (waits_for t) → NoCircle (waits_for t')
+  pub circle_beside : (a : ℕ) → NoCircle (beside a (waits_for t)) → NoCircle (beside a (waits_for t'))
+  pub fewer : length t'.waits ≤ length t.waits
+  pub requests : (s : ℕ) (q : Claim) → request_of s t'.waits ≡ Some q → request_of s t.waits ≡ Some q
 
 pub follows-refl : (t : Table) → IsSound t → Follows t t
-follows-refl t i = record { sound = i; rises = λ s x. below-refl (mode_or_nothing (held_mode t s x)) }
+follows-refl t i = record { sound = i; rises = λ s x. below-refl (mode_or_nothing (held_mode t s x)); circle = λ h. h; circle_beside = λ a h. h; fewer = omega arith; requests = λ s q h. h }
 
 pub follows-trans : (t u w : Table) → Follows t u → Follows u w → Follows t w
 follows-trans t u w a b = record {
   sound = b.sound;
   rises = λ s x. below-trans (mode_or_nothing (held_mode t s x)) (mode_or_nothing (held_mode u s x)) (mode_or_nothing (held_mode w s x)) (a.rises s x) (b.rises s x);
+  circle = λ h. b.circle (a.circle h);
+  circle_beside = λ i h. b.circle_beside i (a.circle_beside i h);
+  fewer = omega (arith, a.fewer, b.fewer);
+  requests = λ s q h. a.requests s q (b.requests s q h);
 }
 
 pub granted-follows : (s : ℕ) (r : List ℕ) (m : Mode) (t : Table) → IsSound t → at_or_below (mode_or_nothing (held_mode t s r)) m ≡ true → Stands t s r m → fits t s r m ≡ true → Follows t (granted s r m t)
-granted-follows s r m t i up under fit = record { sound = granted-sound s r m t i up under fit; rises = granted-rises s r m t up }
+granted-follows s r m t i up under fit = record {
+  sound = granted-sound s r m t i up under fit;
+  rises = granted-rises s r m t up;
+  circle = circle-alters s t (granted s r m t) (granted-alters s r m t);
+  circle_beside = λ a. circle-alters_beside s a t (granted s r m t) (granted-alters s r m t);
+  fewer = length-claims_but s t.waits;
+  requests = λ u q h. request-fewer u s t.waits q h;
+}
 
 abbrev pub Elsewhere : List ℕ → Table → Table → Type 0
 Elsewhere r t t' = (x : List ℕ) → same_path r x ≡ false → UnfitAt t x → UnfitAt t' x
@@ -55,7 +101,7 @@ granted_front-promoted r (q ∷ qs) t i e = go (fits t q.session q.resource q.mo
       there = λ p ps g. let same : q ≡ p = let k = sym e ∙ g in cc in ap (λ (c : Claim). fits t c.session r c.mode) (sym same) ∙ (ap (λ (y : List ℕ). fits t q.session y q.mode) (sym path) ∙ f);
     }
     go true f next =
-        let first = granted-follows q.session q.resource q.mode t i (none-below (held_mode t q.session q.resource) q.mode (i.fresh q.session q request.0)) (i.asked_under q.session q request.0) f in
+        let first = granted-follows q.session q.resource q.mode t i (i.raising q.session q request.0) (i.asked_under q.session q request.0) f in
         let rest = next first.sound (queue-rest t (granted q.session q.resource q.mode t) r q qs i.once e (granted-alters q.session q.resource q.mode t)) in
         record {
           follows = follows-trans t (granted q.session q.resource q.mode t) (granted_front qs (granted q.session q.resource q.mode t)) first rest.follows;

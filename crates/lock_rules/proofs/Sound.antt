@@ -12,9 +12,10 @@ use Rattle.lock_tree.specs.Paths.{same_path, parent_of, has_parent}
 use Rattle.lock_rules.specs.Laws.{IsUnderParent}
 use Rattle.lock_rules.specs.State.{Claim, Table, mode_in, held_mode, mode_or_nothing, request_of, claims_but, holders}
 use Rattle.lock_rules.specs.Queue.{queue, fits, granted}
+use Rattle.lock_rules.specs.Waits.{conflicts, waits_no_more}
 use Rattle.lock_rules.specs.Step.{is_nothing, lacks_parent}
 use Rattle.lock_rules.proofs.Lists.{IsOrdered, ordered-with_lock, seek, seek-after, mode_in-seek, ascend, after, bool_cases, eqb-refl, same_path_tells, mode_in-with_lock, mode_in-with_lock_path, mode_in-with_lock_other, IsOnce, times, times-claims_but, times-append, times-apart, In, In-append, In-filter, In-request}
-use Rattle.lock_rules.proofs.Marks.{need-some, conflicts, below-refl, below-trans, conflicts-raised, nothing-below}
+use Rattle.lock_rules.proofs.Marks.{need-some, below-refl, below-trans, conflicts-raised, nothing-below}
 use Rattle.lock_rules.proofs.Alters.{Alters, queue-alters, request-alters, request-gone, true≢false}
 
 -- one order at least is compatible
@@ -28,12 +29,12 @@ Agree-swap a b h = elim h [ inl k ↦ inr k | inr k ↦ inl k ]
 abbrev pub Stands : Table → ℕ → List ℕ → Mode → Type 0
 Stands t s r m = (lacks_parent t s r m ≡ false) × (is_nothing m ≡ false)
 
--- holders ascend; a session has one request at most, and holds nothing where it waits; requests and locks stand under
--- their parents; holders of one resource go together
+-- holders ascend; a session has one request at most, and holds no more there than the target; requests and locks stand
+-- under their parents; holders of one resource go together
 pub record IsSound (t : Table) : Type 0 where
   pub order : IsOrdered t.held
   pub once : IsOnce t.waits
-  pub fresh : (s : ℕ) (q : Claim) → request_of s t.waits ≡ Some q → held_mode t s q.resource ≡ None
+  pub raising : (s : ℕ) (q : Claim) → request_of s t.waits ≡ Some q → at_or_below (mode_or_nothing (held_mode t s q.resource)) q.mode ≡ true
   pub asked_under : (s : ℕ) (q : Claim) → request_of s t.waits ≡ Some q → Stands t s q.resource q.mode
   pub held_under : (s : ℕ) (r : List ℕ) (k : Mode) → held_mode t s r ≡ Some k → Stands t s r k
   pub agree : (s u : ℕ) (r : List ℕ) (k l : Mode) → eqb s u ≡ false → held_mode t s r ≡ Some k → held_mode t u r ≡ Some l → Agree k l
@@ -54,9 +55,9 @@ pub altered-sound : (v : ℕ) (t t' : Table) → Alters v t t' → IsSound t
 altered-sound v t t' a i under agree = record {
   order = a.order i.order;
   once = λ s. omega (arith, times-claims_but s v t.waits, i.once s, ap (times s) a.waits);
-  fresh = λ s q e. elim (bool_cases (eqb s v)) [
+  raising = λ s q e. elim (bool_cases (eqb s v)) [
     | inl f ↦ absurd (gone s q e ((Decides-eqb s v).0 f))
-    | inr n ↦ a.others s q.resource n ∙ i.fresh s q (sym (request-alters v t t' a s n) ∙ e)
+    | inr n ↦ ap (λ (o : Option Mode). at_or_below (mode_or_nothing o) q.mode) (a.others s q.resource n) ∙ i.raising s q (sym (request-alters v t t' a s n) ∙ e)
   ];
   asked_under = λ s q e. elim (bool_cases (eqb s v)) [
     | inl f ↦ absurd (gone s q e ((Decides-eqb s v).0 f))
@@ -199,6 +200,10 @@ unfit_at-alters v t t' x a up apart i h q qs e =
 pub granted-alters : (s : ℕ) (r : List ℕ) (m : Mode) (t : Table) → Alters s t (granted s r m t)
 granted-alters s r m t = record { waits = refl; others = λ u x n. mode_in-with_lock_other u s x r m t.held n; order = ordered-with_lock s r m t.held }
 
+-- who waits no more alters nothing else
+pub no_more-alters : (s : ℕ) (t : Table) → Alters s t (waits_no_more s t)
+no_more-alters s t = record { waits = refl; others = λ u x n. refl; order = λ o. o }
+
 abbrev pub Rises : Table → Table → Type 0
 Rises t t' = (s : ℕ) (x : List ℕ) → at_or_below (mode_or_nothing (held_mode t s x)) (mode_or_nothing (held_mode t' s x)) ≡ true
 
@@ -247,7 +252,7 @@ granted-sound s r m t i up under fit = altered-sound s t (granted s r m t) (gran
         flip true e = refl
         flip false e = cc
 
--- a request waits where its session holds nothing, so its grant only adds
+-- who holds nothing holds no more than any mode
 pub none-below : (o : Option Mode) (k : Mode) → o ≡ None → at_or_below (mode_or_nothing o) k ≡ true
 none-below o k e = ap (λ (p : Option Mode). at_or_below (mode_or_nothing p) k) e ∙ nothing-below k
 

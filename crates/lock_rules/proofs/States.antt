@@ -1,27 +1,22 @@
 -- The laws of states, in the words of the contracts.
-use Rattle.std.proofs.Common.{◌≡◌, ◌≢◌, ℕ, Bool, true, false, not, eqb, inl, inr, List, Option, Some, None, refl, sym, ◌∙◌, ap}
-use Rattle.std.proofs.lemmas.Bool.Decides.{Decides-eqb}
+use Rattle.std.proofs.Common.{◌≡◌, ◌≢◌, ℕ, Bool, true, false, not, inl, inr, List, Option, Some, None, refl, sym, ◌∙◌, ap}
 use Rattle.lock_modes.specs.declared.Mode.{Mode}
 use Rattle.lock_modes.specs.Compatibility.{IsCompatible, are_compatible}
 use Rattle.lock_modes.proofs.Compatibility.{compatible-from, compatible-tests}
 use Rattle.lock_rules.specs.declared.calls.Entry.{Entry}
-use Rattle.lock_tree.specs.Paths.{same_path}
 use Rattle.lock_rules.specs.State.{Table, State, held_mode}
 use Rattle.lock_rules.specs.Queue.{fits, granted}
 use Rattle.lock_rules.specs.Legal.{state_of}
 use Rattle.lock_rules.specs.Laws.{DoesFitTell, AreHoldersCompatible, IsLawfulState, IsGrantOf}
-use Rattle.lock_rules.proofs.Lists.{bool_cases, same_path_tells, mode_in-with_lock, mode_in-with_lock_path, mode_in-with_lock_other, request_of-claims_but, request_of-claims_but_other}
+use Rattle.lock_rules.proofs.Lists.{bool_cases, other, apart, differs, mode_in-with_lock, mode_in-with_lock_path, mode_in-with_lock_other, request_of-claims_but, request_of-claims_but_other}
 use Rattle.lock_rules.proofs.Alters.{true≢false}
-use Rattle.lock_rules.proofs.Marks.{conflicts}
+use Rattle.lock_rules.specs.Waits.{conflicts}
 use Rattle.lock_rules.proofs.Sound.{IsSound, stands-under, fits-tells, unfit-some}
 use Rattle.lock_rules.proofs.Children.{children-held}
+use Rattle.lock_rules.proofs.Access.{access-compatible}
 use Rattle.lock_rules.proofs.Steps.{state-lawful}
-
-other : (s u : ℕ) → u ≢ s → eqb u s ≡ false
-other s u n = elim (bool_cases (eqb u s)) [ inl e ↦ absurd (n ((Decides-eqb u s).0 e)) | inr e ↦ e ]
-
-apart : (s u : ℕ) → eqb u s ≡ false → u ≢ s
-apart s u e h = true≢false ((Decides-eqb u s).1 h) e
+use Rattle.lock_rules.proofs.Idle.{state-idle}
+use Rattle.lock_rules.proofs.Owners.{state-numbered, owners-open}
 
 flip : (b : Bool) → not b ≡ false → b ≡ true
 flip true e = refl
@@ -46,9 +41,6 @@ fit-tells st i s r m = (told, fit)
 pub holders-compatible : (st : State) → IsSound st.table → AreHoldersCompatible st
 holders-compatible st i s u r k l n e f = elim (i.agree s u r k l (other u s n) e f) [ inl h ↦ inl (compatible-from k l h) | inr h ↦ inr (compatible-from l k h) ]
 
-differs : (a b : List ℕ) → a ≢ b → same_path b a ≡ false
-differs a b n = elim (same_path_tells b a) [ inl p ↦ absurd (n (sym p.1)) | inr e ↦ e ]
-
 pub grant-one : (s : ℕ) (r : List ℕ) (m : Mode) (t : Table) → IsGrantOf s r m t (granted s r m t)
 grant-one s r m t = record {
   held = mode_in-with_lock s r m t.held;
@@ -66,4 +58,10 @@ lawful es = let i = state-lawful es in record {
   locks_under_parents = λ s r m h. stands-under (state_of es).table s r m (i.sound.held_under s r m h);
   requests_under_parents = λ s q h. stands-under (state_of es).table s q.resource q.mode (i.sound.asked_under s q h);
   children_held = children-held (state_of es) i.sound;
+  access_compatible = access-compatible (state_of es) i.sound;
+  no_circle = λ s c. i.no_circle s c.others c.walk;
+  doomed_wait_for_nothing = state-idle es;
+  owners_open = owners-open (state_of es) (state-numbered es);
+  numbers_apart = (state-numbered es).apart;
+  numbers_counted = (state-numbered es).counted;
 }

@@ -2,10 +2,10 @@
 use Rattle.std.specs.Prelude.{ℕ, zero, suc, List, [], ◌∷◌}
 use Rattle.lock_modes.specs.declared.Mode.TheVariants.{NL, IS, IX, S, SIX, X}
 use Rattle.lock_rules.specs.declared.calls.Call.{Call}
-use Rattle.lock_rules.specs.declared.calls.Call.TheVariants.{Begin, Lock, Release, Commit}
+use Rattle.lock_rules.specs.declared.calls.Call.TheVariants.{Begin, Lock, Convert, Poll, Release, Commit, Abort}
 use Rattle.lock_rules.specs.declared.calls.Reply.{Reply}
-use Rattle.lock_rules.specs.declared.calls.Reply.TheVariants.{Began, Granted, Waiting, Released, Committed, Refused}
-use Rattle.lock_rules.specs.declared.calls.Why.TheVariants.{AlreadyOpen, NoTransaction, IsWaiting, NothingAsked, NotHeld, ParentNotHeld, ChildHeld, AlreadyHeld}
+use Rattle.lock_rules.specs.declared.calls.Reply.TheVariants.{Began, Granted, Waiting, Deadlock, Clear, Released, Committed, Aborted, Refused}
+use Rattle.lock_rules.specs.declared.calls.Why.TheVariants.{AlreadyOpen, NoTransaction, IsWaiting, IsDoomed, NothingAsked, NotHeld, ParentNotHeld, ChildHeld}
 use Rattle.lock_rules.specs.declared.calls.Entry.{Entry}
 
 abbrev pub entry : ℕ → Call → Reply → Entry
@@ -31,7 +31,7 @@ queue_in_order =
     ∷ entry 1 Commit (Committed 1) ∷ entry 2 Commit (Committed 1) ∷ entry 3 Commit (Committed 1)
     ∷ []
 
--- A commit promotes the first of the queue and leaves what doesn't fit beside it waiting. Who waits is told so first.
+-- A commit promotes the first of the queue and leaves what doesn't fit beside it waiting.
 abbrev pub promotion_stops : List Entry
 promotion_stops =
     entry 1 Begin (Began 1) ∷ entry 2 Begin (Began 2) ∷ entry 3 Begin (Began 3)
@@ -39,8 +39,8 @@ promotion_stops =
     ∷ entry 2 (Lock (database 1) X) Waiting
     ∷ entry 3 (Lock (database 1) S) Waiting
     ∷ entry 1 Commit (Committed 1)
-    ∷ entry 2 (Lock (database 1) S) (Refused AlreadyHeld)
-    ∷ entry 3 (Lock (database 1) S) (Refused IsWaiting)
+    ∷ entry 2 Poll Clear
+    ∷ entry 3 Poll Waiting
     ∷ entry 3 (Lock (database 1) NL) (Refused IsWaiting)
     ∷ []
 
@@ -52,7 +52,20 @@ readers_together =
     ∷ entry 2 (Lock (database 1) S) Waiting
     ∷ entry 3 (Lock (database 1) IS) Waiting
     ∷ entry 1 Commit (Committed 1)
+    ∷ entry 2 Poll Clear ∷ entry 3 Poll Clear
     ∷ entry 2 Commit (Committed 1) ∷ entry 3 Commit (Committed 1)
+    ∷ []
+
+-- The first request that doesn't fit stops the promotion, also where a later one would fit.
+abbrev pub promotion_in_order : List Entry
+promotion_in_order =
+    entry 1 Begin (Began 1) ∷ entry 2 Begin (Began 2) ∷ entry 3 Begin (Began 3) ∷ entry 4 Begin (Began 4)
+    ∷ entry 1 (Lock (database 1) S) (Granted S)
+    ∷ entry 2 (Lock (database 1) S) (Granted S)
+    ∷ entry 3 (Lock (database 1) X) Waiting
+    ∷ entry 4 (Lock (database 1) S) Waiting
+    ∷ entry 2 Commit (Committed 1)
+    ∷ entry 4 Poll Waiting
     ∷ []
 
 -- IS goes beside SIX, and IX doesn't.
@@ -70,8 +83,8 @@ refusals =
     entry 1 Commit (Refused NoTransaction)
     ∷ entry 1 Begin (Began 1) ∷ entry 1 Begin (Refused AlreadyOpen)
     ∷ entry 1 (Lock (database 1) NL) (Refused NothingAsked)
-    ∷ entry 1 (Lock (database 1) S) (Granted S) ∷ entry 1 (Lock (database 1) X) (Refused AlreadyHeld)
-    ∷ entry 1 (Lock (database 1) NL) (Refused NothingAsked)
+    ∷ entry 1 (Convert (database 1) S) (Refused NotHeld) ∷ entry 1 (Convert (database 1) NL) (Refused NothingAsked)
+    ∷ entry 1 (Lock (database 1) S) (Granted S) ∷ entry 1 Poll Clear
     ∷ entry 1 Commit (Committed 1) ∷ entry 1 Begin (Began 2) ∷ entry 1 Commit (Committed 0)
     ∷ []
 
@@ -112,4 +125,173 @@ release_promotes =
     ∷ entry 1 (Release (database 1)) Released
     ∷ entry 2 (Release (database 1)) Released
     ∷ entry 1 (Release (database 1)) (Refused NotHeld)
+    ∷ []
+
+-- A release takes the lock of its session alone.
+abbrev pub release_of_one : List Entry
+release_of_one =
+    entry 1 Begin (Began 1) ∷ entry 2 Begin (Began 2)
+    ∷ entry 1 (Lock (database 1) S) (Granted S)
+    ∷ entry 2 (Lock (database 1) S) (Granted S)
+    ∷ entry 1 (Release (database 1)) Released
+    ∷ entry 1 Commit (Committed 0)
+    ∷ entry 2 Commit (Committed 1)
+    ∷ []
+
+-- A holder that asks again gets the least mode at or above both; its own lock is not in its way.
+abbrev pub asks_again : List Entry
+asks_again =
+    entry 1 Begin (Began 1)
+    ∷ entry 1 (Lock (database 1) IX) (Granted IX)
+    ∷ entry 1 (Lock (database 1) S) (Granted SIX)
+    ∷ entry 1 (Lock (database 1) IS) (Granted SIX)
+    ∷ entry 1 (Convert (database 2) S) (Refused NotHeld)
+    ∷ entry 1 (Lock (database 1) NL) (Refused NothingAsked)
+    ∷ entry 1 (Convert (database 2) NL) (Refused NothingAsked)
+    ∷ entry 1 Commit (Committed 1)
+    ∷ []
+
+-- A conversion that has to wait goes before the fresh request that came earlier.
+abbrev pub conversion_first : List Entry
+conversion_first =
+    entry 1 Begin (Began 1) ∷ entry 2 Begin (Began 2) ∷ entry 3 Begin (Began 3)
+    ∷ entry 1 (Lock (database 1) S) (Granted S)
+    ∷ entry 2 (Lock (database 1) S) (Granted S)
+    ∷ entry 3 (Lock (database 1) X) Waiting
+    ∷ entry 1 (Lock (database 1) IX) Waiting
+    ∷ entry 2 Commit (Committed 1)
+    ∷ entry 1 Poll Clear
+    ∷ entry 3 Poll Waiting
+    ∷ entry 1 Commit (Committed 1)
+    ∷ entry 3 Poll Clear
+    ∷ []
+
+-- A conversion that fits is granted at once, though a fresh request waits.
+abbrev pub conversion_at_once : List Entry
+conversion_at_once =
+    entry 1 Begin (Began 1) ∷ entry 2 Begin (Began 2) ∷ entry 3 Begin (Began 3)
+    ∷ entry 1 (Lock (database 1) IS) (Granted IS)
+    ∷ entry 2 (Lock (database 1) IX) (Granted IX)
+    ∷ entry 3 (Lock (database 1) X) Waiting
+    ∷ entry 1 (Lock (database 1) IX) (Granted IX)
+    ∷ entry 3 Poll Waiting
+    ∷ []
+
+-- A conversion needs the parent as its target does.
+abbrev pub conversion_under_parent : List Entry
+conversion_under_parent =
+    entry 1 Begin (Began 1)
+    ∷ entry 1 (Lock (database 1) IS) (Granted IS)
+    ∷ entry 1 (Lock (1 ∷ 1 ∷ []) S) (Granted S)
+    ∷ entry 1 (Convert (1 ∷ 1 ∷ []) X) (Refused ParentNotHeld)
+    ∷ entry 1 (Convert (database 1) IX) (Granted IX)
+    ∷ entry 1 (Convert (1 ∷ 1 ∷ []) X) (Granted X)
+    ∷ entry 1 Abort (Aborted 2)
+    ∷ []
+
+-- A session that waits can't commit but can abort: its request goes, and the one behind it is granted.
+abbrev pub abort_while_waiting : List Entry
+abort_while_waiting =
+    entry 1 Begin (Began 1) ∷ entry 2 Begin (Began 2) ∷ entry 3 Begin (Began 3)
+    ∷ entry 1 (Lock (database 1) S) (Granted S)
+    ∷ entry 2 (Lock (database 1) X) Waiting
+    ∷ entry 3 (Lock (database 1) IS) Waiting
+    ∷ entry 2 Commit (Refused IsWaiting)
+    ∷ entry 2 Abort (Aborted 0)
+    ∷ entry 3 Poll Clear
+    ∷ entry 2 Poll (Refused NoTransaction)
+    ∷ []
+
+-- Two readers ask to write what both hold: the second is the younger and is doomed, and keeps its lock until it aborts.
+abbrev pub readers_that_convert : List Entry
+readers_that_convert =
+    entry 1 Begin (Began 1) ∷ entry 2 Begin (Began 2)
+    ∷ entry 1 (Lock (database 1) S) (Granted S)
+    ∷ entry 2 (Lock (database 1) S) (Granted S)
+    ∷ entry 1 (Lock (database 1) X) Waiting
+    ∷ entry 2 (Lock (database 1) X) Deadlock
+    ∷ entry 1 Poll Waiting
+    ∷ entry 2 (Lock (database 2) NL) (Refused IsDoomed)
+    ∷ entry 2 (Release (database 1)) (Refused IsDoomed)
+    ∷ entry 2 Commit (Refused IsDoomed)
+    ∷ entry 2 Poll Deadlock
+    ∷ entry 2 Abort (Aborted 1)
+    ∷ entry 1 Poll Clear
+    ∷ []
+
+-- The victim is the youngest of the circle, not the one who asked last.
+abbrev pub youngest_of_two : List Entry
+youngest_of_two =
+    entry 1 Begin (Began 1) ∷ entry 2 Begin (Began 2)
+    ∷ entry 1 (Lock (database 1) IX) (Granted IX)
+    ∷ entry 1 (Lock (1 ∷ 1 ∷ []) X) (Granted X)
+    ∷ entry 2 (Lock (database 1) IX) (Granted IX)
+    ∷ entry 2 (Lock (1 ∷ 2 ∷ []) X) (Granted X)
+    ∷ entry 2 (Lock (1 ∷ 1 ∷ []) X) Waiting
+    ∷ entry 1 (Lock (1 ∷ 2 ∷ []) X) Waiting
+    ∷ entry 2 Poll Deadlock
+    ∷ entry 2 (Lock (1 ∷ 3 ∷ []) S) (Refused IsDoomed)
+    ∷ entry 2 Abort (Aborted 2)
+    ∷ entry 1 Poll Clear
+    ∷ []
+
+-- The victim stands before the asker in a queue: once its request is gone, the asker is granted.
+abbrev pub victim_in_the_way : List Entry
+victim_in_the_way =
+    entry 1 Begin (Began 1) ∷ entry 2 Begin (Began 2) ∷ entry 3 Begin (Began 3)
+    ∷ entry 1 (Lock (database 2) X) (Granted X)
+    ∷ entry 2 (Lock (database 1) S) (Granted S)
+    ∷ entry 3 (Lock (database 1) X) Waiting
+    ∷ entry 2 (Lock (database 2) S) Waiting
+    ∷ entry 1 (Lock (database 1) S) (Granted S)
+    ∷ entry 3 Poll Deadlock
+    ∷ entry 2 Poll Waiting
+    ∷ []
+
+-- A request that is refused makes nobody wait; two conversions of one resource make a circle.
+abbrev pub conversions_that_meet : List Entry
+conversions_that_meet =
+    entry 1 Begin (Began 1) ∷ entry 2 Begin (Began 2)
+    ∷ entry 1 (Lock (database 1) IS) (Granted IS)
+    ∷ entry 2 (Lock (database 1) IS) (Granted IS)
+    ∷ entry 1 (Lock (1 ∷ 1 ∷ []) S) (Granted S)
+    ∷ entry 2 (Lock (1 ∷ 1 ∷ []) X) (Refused ParentNotHeld)
+    ∷ entry 2 (Lock (database 1) X) Waiting
+    ∷ entry 1 (Lock (database 1) X) Waiting
+    ∷ entry 2 Poll Deadlock
+    ∷ []
+
+-- A circle through a place in the queue: 3 waits for 2 only because 2 stands before it.
+abbrev pub circle_through_the_queue : List Entry
+circle_through_the_queue =
+    entry 1 Begin (Began 1) ∷ entry 2 Begin (Began 2) ∷ entry 3 Begin (Began 3)
+    ∷ entry 1 (Lock (database 1) S) (Granted S)
+    ∷ entry 3 (Lock (database 2) X) (Granted X)
+    ∷ entry 2 (Lock (database 1) X) Waiting
+    ∷ entry 3 (Lock (database 1) S) Waiting
+    ∷ entry 1 (Lock (database 2) S) Waiting
+    ∷ entry 3 Poll Deadlock
+    ∷ entry 2 Poll Waiting
+    ∷ entry 3 Abort (Aborted 1)
+    ∷ entry 1 Poll Clear
+    ∷ entry 1 Commit (Committed 2)
+    ∷ entry 2 Poll Clear
+    ∷ []
+
+-- Two circles go through the asker: the youngest of both is doomed first, and then the other.
+abbrev pub two_victims : List Entry
+two_victims =
+    entry 1 Begin (Began 1) ∷ entry 2 Begin (Began 2) ∷ entry 3 Begin (Began 3)
+    ∷ entry 1 (Lock (database 1) X) (Granted X)
+    ∷ entry 1 (Lock (database 2) X) (Granted X)
+    ∷ entry 2 (Lock (database 3) S) (Granted S)
+    ∷ entry 3 (Lock (database 3) S) (Granted S)
+    ∷ entry 2 (Lock (database 1) S) Waiting
+    ∷ entry 3 (Lock (database 2) S) Waiting
+    ∷ entry 1 (Lock (database 3) X) Waiting
+    ∷ entry 3 Poll Deadlock ∷ entry 2 Poll Deadlock
+    ∷ entry 3 Abort (Aborted 1)
+    ∷ entry 1 Poll Waiting
+    ∷ entry 2 Abort (Aborted 1)
+    ∷ entry 1 Poll Clear
     ∷ []

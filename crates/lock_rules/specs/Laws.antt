@@ -1,15 +1,19 @@
 -- What holds of every history and of every state that one leads to, in plain words.
-use Rattle.std.specs.Prelude.{◌≡◌, ◌≢◌, ℕ, ◌<◌, ◌≤◌, ◌↔◌, true, false, ◌⊎◌, None, List, [], ◌∷◌, ◌++◌, length, Some, slice_get}
+use Rattle.std.specs.Prelude.{◌≡◌, ◌≢◌, ℕ, ◌<◌, ◌≤◌, ◌↔◌, true, false, ◌⊎◌, None, List, [], ◌∷◌, ◌++◌, length, Some, slice_get, All}
 use Rattle.lock_modes.specs.declared.Mode.{Mode}
+use Rattle.lock_modes.specs.declared.Mode.TheVariants.{S, X}
 use Rattle.lock_modes.specs.Order.{IsAtOrBelow, need_of}
 use Rattle.lock_modes.specs.Compatibility.{IsCompatible}
 use Rattle.lock_tree.specs.Paths.{is_ancestor, parent_of, has_parent}
 use Rattle.lock_rules.specs.declared.calls.Call.{Call}
+use Rattle.lock_rules.specs.declared.calls.Call.TheVariants.{Release, Commit, Abort}
 use Rattle.lock_rules.specs.declared.calls.Reply.TheVariants.{Refused}
 use Rattle.lock_rules.specs.declared.calls.Why.{Why}
 use Rattle.lock_rules.specs.declared.calls.Entry.{Entry}
-use Rattle.lock_rules.specs.State.{Claim, Table, State, held_mode, request_of}
-use Rattle.lock_rules.specs.Queue.{queue, fits, granted, promoted}
+use Rattle.waits_for.specs.Walks.{Reaches, AreOnCircle}
+use Rattle.lock_rules.specs.State.{Claim, Table, State, held_mode, request_of, is_open, is_doomed, number_of, with_table}
+use Rattle.lock_rules.specs.Queue.{queue, fits, granted, promoted, with_request}
+use Rattle.lock_rules.specs.Waits.{waits_for, after_victim}
 use Rattle.lock_rules.specs.Step.{tests, first_failing, step}
 use Rattle.lock_rules.specs.Legal.{state_of, Answered}
 
@@ -89,9 +93,13 @@ AreHoldersCompatible st = (s u : ℕ) (r : List ℕ) (k l : Mode) → s ≢ u �
 abbrev pub DoesNobodyWaitNeedlessly : State → Type 0
 DoesNobodyWaitNeedlessly st = (r : List ℕ) (q : Claim) (qs : List Claim) → queue st.table r ≡ q ∷ qs → fits st.table q.session r q.mode ≡ false
 
+-- the session holds the resource outright, in this mode or one above it
+abbrev pub HoldsAtLeast : Table → ℕ → List ℕ → Mode → Type 0
+HoldsAtLeast t s r m = (k : Mode) × (held_mode t s r ≡ Some k) × IsAtOrBelow m k
+
 -- the session holds the parent, if there is one, in a mode at or above what the mode needs
 abbrev pub IsUnderParent : Table → ℕ → List ℕ → Mode → Type 0
-IsUnderParent t s r m = has_parent r ≡ true → (k : Mode) × (held_mode t s (parent_of r) ≡ Some k) × IsAtOrBelow (need_of m) k
+IsUnderParent t s r m = has_parent r ≡ true → HoldsAtLeast t s (parent_of r) (need_of m)
 
 -- each lock stands under a lock of the parent
 abbrev pub AreLocksUnderParents : State → Type 0
@@ -106,6 +114,75 @@ abbrev pub AreChildrenHeld : State → Type 0
 AreChildrenHeld st = (s : ℕ) (r x : List ℕ) (m : Mode) → r ≢ [] → is_ancestor r x ≡ true → held_mode st.table s x ≡ Some m →
     (child : List ℕ) × (k : Mode) × (has_parent child ≡ true) × (parent_of child ≡ r) × (held_mode st.table s child ≡ Some k)
 
+-- the resource itself or an ancestor of it
+abbrev pub IsAtOrOver : List ℕ → List ℕ → Type 0
+IsAtOrOver y x = (y ≢ []) × ((y ≡ x) ⊎ (is_ancestor y x ≡ true))
+
+-- a session reads what it holds in S, SIX or X, and all that is below
+abbrev pub Reads : Table → ℕ → List ℕ → Type 0
+Reads t s x = (y : List ℕ) × IsAtOrOver y x × HoldsAtLeast t s y S
+
+-- a session writes what it holds in X, and all that is below
+abbrev pub Writes : Table → ℕ → List ℕ → Type 0
+Writes t s x = (y : List ℕ) × IsAtOrOver y x × HoldsAtLeast t s y X
+
+-- what a session writes, whether anybody holds it or not, no other session reads or writes
+abbrev pub IsAccessCompatible : State → Type 0
+IsAccessCompatible st = (s u : ℕ) (x : List ℕ) → s ≢ u → Writes st.table s x → Reads st.table u x ⊎ Writes st.table u x → ⊥
+
+-- transactions
+
+-- the session holds a lock or waits for one
+abbrev pub HasClaim : State → ℕ → Type 0
+HasClaim st s = ((r : List ℕ) × (m : Mode) × (held_mode st.table s r ≡ Some m)) ⊎ ((q : Claim) × (request_of s st.table.waits ≡ Some q))
+
+-- whoever holds or waits has a transaction
+abbrev pub AreOwnersOpen : State → Type 0
+AreOwnersOpen st = (s : ℕ) → HasClaim st s → is_open st s ≡ true
+
+-- open transactions have numbers of their own
+abbrev pub AreNumbersApart : State → Type 0
+AreNumbersApart st = (s u : ℕ) → is_open st s ≡ true → is_open st u ≡ true → number_of st s ≡ number_of st u → s ≡ u
+
+-- and these are numbers of transactions that have begun
+abbrev pub AreNumbersCounted : State → Type 0
+AreNumbersCounted st = (s : ℕ) → is_open st s ≡ true → number_of st s ≤ st.count
+
+-- deadlocks
+
+-- no waits form a circle
+abbrev pub HasNoCircle : State → Type 0
+HasNoCircle st = (s : ℕ) → Reaches (waits_for st.table) s s → ⊥
+
+-- who is doomed waits for nothing
+abbrev pub DoDoomedWaitForNothing : State → Type 0
+DoDoomedWaitForNothing st = (s : ℕ) → is_doomed st s ≡ true → request_of s st.table.waits ≡ None
+
+-- of all sessions on a circle with s this one has the youngest transaction
+pub record IsVictim (st : State) (s v : ℕ) : Type 0 where
+  pub on_circle : AreOnCircle (waits_for st.table) s v
+  pub youngest : (u : ℕ) → AreOnCircle (waits_for st.table) s u → number_of st u ≤ number_of st v
+
+-- one victim after another, each in the state that those before it leave, until no circle goes through s
+abbrev pub AreVictims : ℕ → List ℕ → State → State → Type 0
+AreVictims s [] st last = (Reaches (waits_for st.table) s s → ⊥) × (last ≡ st)
+AreVictims s (v ∷ vs) st last = IsVictim st s v × AreVictims s vs (after_victim v st) last
+
+-- the victims of a request that begins to wait, and the state that they lead to, are determined
+abbrev pub AreVictimsDetermined : State → Type 0
+AreVictimsDetermined st = (s : ℕ) (r : List ℕ) (k : Mode) (vs ws : List ℕ) (last end : State) → is_open st s ≡ true
+    → AreVictims s vs (with_table (with_request s r k st.table) st) last → AreVictims s ws (with_table (with_request s r k st.table) st) end → (vs ≡ ws) × (last ≡ end)
+
+-- grants that stand
+
+-- the entry is no commit and no abort of the session, and no release of the resource by it
+abbrev pub DoesKeepLock : ℕ → List ℕ → Entry → Type 0
+DoesKeepLock s r e = e.session ≡ s → (e.call ≢ Commit) × (e.call ≢ Abort) × (e.call ≢ Release r)
+
+-- what a session holds after the front, it holds after the rest too, in the same mode or one above it, where it doesn't give it back in the rest
+abbrev pub DoesGrantStand : List Entry → List Entry → Type 0
+DoesGrantStand front rest = (s : ℕ) (r : List ℕ) (k : Mode) → held_mode (state_of front).table s r ≡ Some k → All (DoesKeepLock s r) rest → HoldsAtLeast (state_of (front ++ rest)).table s r k
+
 -- all laws of a state
 pub record IsLawfulState (st : State) : Type 0 where
   pub fit_tells : DoesFitTell st
@@ -114,3 +191,9 @@ pub record IsLawfulState (st : State) : Type 0 where
   pub locks_under_parents : AreLocksUnderParents st
   pub requests_under_parents : AreRequestsUnderParents st
   pub children_held : AreChildrenHeld st
+  pub access_compatible : IsAccessCompatible st
+  pub no_circle : HasNoCircle st
+  pub doomed_wait_for_nothing : DoDoomedWaitForNothing st
+  pub owners_open : AreOwnersOpen st
+  pub numbers_apart : AreNumbersApart st
+  pub numbers_counted : AreNumbersCounted st

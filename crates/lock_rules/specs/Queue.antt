@@ -6,11 +6,17 @@ use Rattle.lock_modes.specs.Compatibility.{are_compatible}
 use Rattle.lock_tree.specs.Paths.{same_path}
 use Rattle.lock_rules.specs.State.{Claim, Table, held_mode, holders, claims_but}
 
--- the requests on the resource: those of its holders, which ask for more, before the others, each kind in order of arrival
+-- the requests on the resource by sessions that hold it, in order of arrival
+abbrev pub conversions : Table → List ℕ → List Claim
+conversions t r = filter (λ q. same_path q.resource r && is_some (held_mode t q.session r)) t.waits
+
+-- the requests on the resource by sessions that don't hold it, in order of arrival
+abbrev pub fresh_requests : Table → List ℕ → List Claim
+fresh_requests t r = filter (λ q. same_path q.resource r && not (is_some (held_mode t q.session r))) t.waits
+
+-- who waits for the resource: conversions before fresh requests
 abbrev pub queue : Table → List ℕ → List Claim
-queue t r =
-    filter (λ q. same_path q.resource r && is_some (held_mode t q.session r)) t.waits
-    ++ filter (λ q. same_path q.resource r && not (is_some (held_mode t q.session r))) t.waits
+queue t r = conversions t r ++ fresh_requests t r
 
 abbrev pub is_empty : List Claim → Bool
 is_empty [] = true
@@ -37,7 +43,7 @@ locks_but s r cs = filter (λ c. not ((c.session == s) && same_path c.resource r
 abbrev pub granted : ℕ → List ℕ → Mode → Table → Table
 granted s r m t = record { held = with_lock s r m t.held; waits = claims_but s t.waits }
 
--- a fresh request is granted at once where nothing waits on the resource and it fits, one of a holder wherever it fits
+-- a fresh request is granted at once where nothing waits on the resource and it fits, a conversion wherever it fits
 abbrev pub is_granted : Table → ℕ → List ℕ → Mode → Bool
 is_granted t s r m = fits t s r m && (is_some (held_mode t s r) || is_empty (queue t r))
 

@@ -1,5 +1,5 @@
 -- What a lock manager has in mind between two calls, and what can be looked up there.
-use Rattle.std.specs.Prelude.{ℕ, Bool, ◌&&◌, not, if◌then◌else◌, ◌==◌, List, [], ◌∷◌, filter, Option, Some, None, is_some}
+use Rattle.std.specs.Prelude.{ℕ, Bool, false, ◌&&◌, not, if◌then◌else◌, ◌==◌, List, [], ◌∷◌, filter, Option, Some, None, is_some}
 use Rattle.lock_modes.specs.declared.Mode.{Mode}
 use Rattle.lock_modes.specs.declared.Mode.TheVariants.{NL}
 use Rattle.lock_tree.specs.Paths.{same_path}
@@ -15,9 +15,10 @@ pub record Table : Type 0 where
   pub held : List Claim
   pub waits : List Claim
 
--- an open transaction
+-- an open transaction, and whether it was chosen as a deadlock's victim
 pub record Transaction : Type 0 where
   pub number : ℕ
+  pub doomed : Bool
 
 -- how many transactions have begun, the open transaction of each session, and the table
 pub record State : Type 0 where
@@ -69,6 +70,21 @@ is_open st s = is_some (st.begun s)
 
 abbrev pub is_waiting : State → ℕ → Bool
 is_waiting st s = is_some (request_of s st.table.waits)
+
+abbrev pub doomed_in : Option Transaction → Bool
+doomed_in None = false
+doomed_in (Some x) = x.doomed
+
+abbrev pub is_doomed : State → ℕ → Bool
+is_doomed st s = doomed_in (st.begun s)
+
+abbrev pub number_in : Option Transaction → ℕ
+number_in None = 0
+number_in (Some x) = x.number
+
+-- the number of the session's transaction, 0 where it has none
+abbrev pub number_of : State → ℕ → ℕ
+number_of st s = number_in (st.begun s)
 
 -- the same with this transaction of the session, or with none
 abbrev pub with_begun : ℕ → Option Transaction → State → State

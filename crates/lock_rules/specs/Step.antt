@@ -3,16 +3,17 @@ use Rattle.std.specs.Prelude.{ℕ, ◌+◌, Bool, true, false, not, ◌&&◌, if
 use Rattle.std.specs.List.{list_any}
 use Rattle.lock_modes.specs.declared.Mode.{Mode}
 use Rattle.lock_modes.specs.declared.Mode.TheVariants.{NL}
-use Rattle.lock_modes.specs.Order.{at_or_below, need_of}
+use Rattle.lock_modes.specs.Order.{at_or_below, sup_of, need_of}
 use Rattle.lock_tree.specs.Paths.{is_ancestor, parent_of, has_parent}
 use Rattle.lock_rules.specs.declared.calls.Call.{Call}
-use Rattle.lock_rules.specs.declared.calls.Call.TheVariants.{Begin, Lock, Release, Commit}
+use Rattle.lock_rules.specs.declared.calls.Call.TheVariants.{Begin, Lock, Convert, Poll, Release, Commit, Abort}
 use Rattle.lock_rules.specs.declared.calls.Reply.{Reply}
-use Rattle.lock_rules.specs.declared.calls.Reply.TheVariants.{Began, Granted, Waiting, Released, Committed, Refused}
+use Rattle.lock_rules.specs.declared.calls.Reply.TheVariants.{Began, Granted, Waiting, Deadlock, Clear, Released, Committed, Aborted, Refused}
 use Rattle.lock_rules.specs.declared.calls.Why.{Why}
-use Rattle.lock_rules.specs.declared.calls.Why.TheVariants.{AlreadyOpen, NoTransaction, IsWaiting, NothingAsked, NotHeld, ParentNotHeld, ChildHeld, AlreadyHeld, TooManyLocks}
+use Rattle.lock_rules.specs.declared.calls.Why.TheVariants.{AlreadyOpen, NoTransaction, IsWaiting, IsDoomed, NothingAsked, NotHeld, ParentNotHeld, ChildHeld, TooManyLocks}
 use Rattle.lock_rules.specs.declared.calls.TheConstants.{MAX_LOCKS}
-use Rattle.lock_rules.specs.State.{Claim, Table, State, held_mode, mode_or_nothing, request_of, claims_of, claims_but, is_open, is_waiting, with_begun, with_table}
+use Rattle.lock_rules.specs.State.{Table, State, held_mode, mode_or_nothing, request_of, claims_of, claims_but, is_open, is_waiting, is_doomed, with_begun, with_table}
+use Rattle.lock_rules.specs.Waits.{wanted, settled}
 use Rattle.lock_rules.specs.Queue.{locks_but, granted, is_granted, with_request, promoted, promoted_all}
 
 -- a new state and a reply
@@ -23,6 +24,10 @@ pub record Outcome : Type 0 where
 abbrev pub is_nothing : Mode → Bool
 is_nothing NL = true
 is_nothing _ = false
+
+-- what is asked for in the end: the least mode at or above what is held, if anything is, and the mode that was asked
+abbrev pub target_of : Option Mode → Mode → Mode
+target_of o m = sup_of (mode_or_nothing o) m
 
 -- the resource has a parent, and what the session holds on it outright doesn't cover what the mode needs
 abbrev pub lacks_parent : Table → ℕ → List ℕ → Mode → Bool
@@ -38,46 +43,59 @@ tests st s Begin = (is_open st s, AlreadyOpen) ∷ []
 tests st s (Lock r m) =
     (not (is_open st s), NoTransaction)
     ∷ (is_waiting st s, IsWaiting)
+    ∷ (is_doomed st s, IsDoomed)
     ∷ (is_nothing m, NothingAsked)
-    ∷ (is_some (held_mode st.table s r), AlreadyHeld)
-    ∷ (lacks_parent st.table s r m, ParentNotHeld)
-    ∷ (nat_le MAX_LOCKS (length (claims_of s st.table.held)), TooManyLocks)
+    ∷ (lacks_parent st.table s r (target_of (held_mode st.table s r) m), ParentNotHeld)
+    ∷ (not (is_some (held_mode st.table s r)) && nat_le MAX_LOCKS (length (claims_of s st.table.held)), TooManyLocks)
     ∷ []
+tests st s (Convert r m) =
+    (not (is_open st s), NoTransaction)
+    ∷ (is_waiting st s, IsWaiting)
+    ∷ (is_doomed st s, IsDoomed)
+    ∷ (is_nothing m, NothingAsked)
+    ∷ (not (is_some (held_mode st.table s r)), NotHeld)
+    ∷ (lacks_parent st.table s r (target_of (held_mode st.table s r) m), ParentNotHeld)
+    ∷ []
+tests st s Poll = (not (is_open st s), NoTransaction) ∷ []
 tests st s (Release r) =
     (not (is_open st s), NoTransaction)
     ∷ (is_waiting st s, IsWaiting)
+    ∷ (is_doomed st s, IsDoomed)
     ∷ (not (is_some (held_mode st.table s r)), NotHeld)
     ∷ (holds_child st.table s r, ChildHeld)
     ∷ []
-tests st s Commit = (not (is_open st s), NoTransaction) ∷ (is_waiting st s, IsWaiting) ∷ []
+tests st s Commit = (not (is_open st s), NoTransaction) ∷ (is_waiting st s, IsWaiting) ∷ (is_doomed st s, IsDoomed) ∷ []
+tests st s Abort = (not (is_open st s), NoTransaction) ∷ []
 
 -- the refusal of the first test that fails
 abbrev pub first_failing : List (Bool × Why) → Option Why
 first_failing [] = None
 first_failing (t ∷ ts) = if t.0 then Some t.1 else first_failing ts
 
--- a request begins to wait
+-- a request begins to wait, and the deadlocks that it makes are resolved; each victim is a session that waits, so there are enough rounds
 abbrev pub after_wait : State → ℕ → List ℕ → Mode → State
-after_wait st s r m = with_table (with_request s r m st.table) st
+after_wait st s r m = settled (length st.table.waits + 2) s (with_table (with_request s r m st.table) st)
 
--- the state after a session has asked for a mode on a resource
+-- the mode that is held covers this one
+abbrev pub is_held : Option Mode → Mode → Bool
+is_held None m = false
+is_held (Some k) m = at_or_below m k
+
+-- the state after a session has asked for a target on a resource; a target that is held already changes nothing
 abbrev pub asked : State → ℕ → List ℕ → Mode → State
-asked st s r m = if is_granted st.table s r m then with_table (granted s r m st.table) st else after_wait st s r m
+asked st s r m =
+    if is_held (held_mode st.table s r) m then st
+    else (if is_granted st.table s r m then with_table (granted s r m st.table) st else after_wait st s r m)
 
--- where it still waits then, it is told so
+-- the session is told that it became a victim, or that it waits, or that it was granted the target, at once or by the end of a victim's request
 abbrev pub ask : State → ℕ → List ℕ → Mode → Outcome
 ask st s r m =
     let after = asked st s r m in
-    record { state = after; reply = if is_waiting after s then Waiting else Granted m }
+    record { state = after; reply = if is_doomed after s then Deadlock else (if is_waiting after s then Waiting else Granted m) }
 
 -- one lock is taken away, and its resource is promoted
 abbrev pub released : ℕ → List ℕ → Table → Table
 released s r t = promoted r (record { held = locks_but s r t.held; waits = t.waits })
-
--- the resource of a request
-abbrev pub wanted : Option Claim → List (List ℕ)
-wanted None = []
-wanted (Some q) = q.resource ∷ []
 
 -- all that the session holds and waits for is taken away
 abbrev pub left : ℕ → Table → Table
@@ -90,14 +108,20 @@ ended s t = promoted_all (wanted (request_of s t.waits) ++ map (λ c. c.resource
 -- what a call does where no test fails
 abbrev pub act : State → ℕ → Call → Outcome
 act st s Begin = record {
-  state = with_begun s (Some (record { number = st.count + 1 })) (record { count = st.count + 1; begun = st.begun; table = st.table });
+  state = with_begun s (Some (record { number = st.count + 1; doomed = false })) (record { count = st.count + 1; begun = st.begun; table = st.table });
   reply = Began (st.count + 1);
 }
-act st s (Lock r m) = ask st s r m
+act st s (Lock r m) = ask st s r (target_of (held_mode st.table s r) m)
+act st s (Convert r m) = ask st s r (target_of (held_mode st.table s r) m)
+act st s Poll = record { state = st; reply = if is_doomed st s then Deadlock else (if is_waiting st s then Waiting else Clear) }
 act st s (Release r) = record { state = with_table (released s r st.table) st; reply = Released }
 act st s Commit = record {
   state = with_begun s None (with_table (ended s st.table) st);
   reply = Committed (length (claims_of s st.table.held));
+}
+act st s Abort = record {
+  state = with_begun s None (with_table (ended s st.table) st);
+  reply = Aborted (length (claims_of s st.table.held));
 }
 
 abbrev pub outcome_of : Option Why → State → ℕ → Call → Outcome

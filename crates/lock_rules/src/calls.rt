@@ -14,16 +14,23 @@ pub const MAX_LOCKS: usize = 4096;
 pub enum Call {
     /// Begins a transaction. A session has at most one open.
     Begin,
-    /// Asks for a lock on the resource, in the mode or above it.
+    /// Asks for a lock on the resource: in this mode, or, where the session holds the resource already, in the least
+    /// mode at or above what it holds and this one.
     Lock(Resource, Mode),
+    /// The same, of a resource that the session holds. Whoever asks for a conversion where nothing is held is refused.
+    Convert(Resource, Mode),
+    /// Asks how the session stands: whether it waits, or was chosen as a deadlock's victim. It changes nothing.
+    Poll,
     /// Gives back one lock before the end of the transaction. Locks are given back from leaf to root.
     Release(Resource),
     /// Ends the transaction and gives back all its locks.
     Commit,
+    /// Ends the transaction, also one that waits or is doomed: takes away its request and gives back all its locks.
+    Abort,
 }
 
-/// Why a call was refused. The tests of a call are made in the order of these numbers, but that
-/// `AlreadyHeld` comes right after `NothingAsked`; the first that fails gives the reply.
+/// Why a call was refused. The tests of a call are made in the order of these numbers; the first that
+/// fails gives the reply. The number 10 is of no refusal.
 #[derive(Clone, Copy, Debug, PartialEq, Eq, Hash)]
 pub enum Why {
     /// The session has a transaction already.
@@ -32,6 +39,8 @@ pub enum Why {
     NoTransaction = 2,
     /// The session has a request that waits.
     IsWaiting = 3,
+    /// The session's transaction was chosen as a deadlock's victim, and hasn't aborted yet.
+    IsDoomed = 4,
     /// The mode that was asked is NL.
     NothingAsked = 5,
     /// The session doesn't hold the resource outright.
@@ -40,10 +49,8 @@ pub enum Why {
     ParentNotHeld = 7,
     /// The session holds a resource below.
     ChildHeld = 8,
-    /// The transaction holds `MAX_LOCKS` locks.
+    /// One lock more is asked, and the transaction holds `MAX_LOCKS` locks.
     TooManyLocks = 9,
-    /// The session holds the resource.
-    AlreadyHeld = 10,
 }
 
 /// What a session is told.
@@ -55,10 +62,17 @@ pub enum Reply {
     Granted(Mode),
     /// The request waits for other transactions.
     Waiting,
+    /// The transaction was chosen as a deadlock's victim: its request is taken away, it keeps its locks, and all it
+    /// can do is to abort. A session that waited learns it by a poll.
+    Deadlock,
+    /// The session has no request that waits, and is not doomed.
+    Clear,
     /// The lock was given back.
     Released,
     /// The transaction has ended; this many locks were given back.
     Committed(u32),
+    /// The transaction was given up; this many locks were given back.
+    Aborted(u32),
     /// Nothing was done.
     Refused(Why),
 }

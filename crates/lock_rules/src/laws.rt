@@ -2,17 +2,18 @@
 
 ghost use Rattle.std.specs.Prelude.{◌≡◌, ℕ, ◌↔◌, List, [], ◌∷◌, ◌++◌, length, Contains, if◌then◌else◌, ◌==◌};
 ghost use Rattle.lock_modes.specs.declared.Mode.{Mode as ModeValue};
-ghost use Rattle.lock_modes.specs.declared.Mode.TheVariants.{S, IX, X};
+ghost use Rattle.lock_modes.specs.declared.Mode.TheVariants.{IS, IX, S, X};
 ghost use Rattle.lock_rules.specs.declared.calls.Call.{Call as CallValue};
 ghost use Rattle.lock_rules.specs.declared.calls.Entry.{Entry as EntryValue};
-ghost use Rattle.lock_rules.specs.declared.calls.Reply.TheVariants.{Began, Granted, Waiting, Released, Refused};
-ghost use Rattle.lock_rules.specs.declared.calls.Why.TheVariants.{IsWaiting, AlreadyHeld};
+ghost use Rattle.lock_rules.specs.declared.calls.Reply.TheVariants.{Began, Granted, Waiting, Deadlock, Clear, Released, Committed, Aborted, Refused};
+ghost use Rattle.lock_rules.specs.declared.calls.Why.TheVariants.{IsWaiting, NothingAsked, NotHeld, ParentNotHeld};
 ghost use Rattle.lock_rules.specs.State.{State, Table, empty};
 ghost use Rattle.lock_rules.specs.Queue.{granted};
 ghost use Rattle.lock_rules.specs.Step.{step};
 ghost use Rattle.lock_rules.specs.Legal.{Answered, IsLegal, state_of, asked_in, calls_of};
-ghost use Rattle.lock_rules.specs.Laws.{AreRepliesOfSteps, IsEntryOf, ArePlacesRising, IsRefusalExact, DoesRefusalKeep, IsGrantOf, DoesPromotionGrantLongest, DoesFitTell, AreHoldersCompatible, DoesNobodyWaitNeedlessly, AreLocksUnderParents, AreRequestsUnderParents, AreChildrenHeld, IsLawfulState};
-ghost use Rattle.lock_rules.specs.Examples.{with_reply, queue_in_order, promotion_stops, readers_together, intentions, refusals, down_the_tree, up_the_tree, release_promotes};
+ghost use Rattle.lock_rules.specs.Laws.{AreRepliesOfSteps, IsEntryOf, ArePlacesRising, IsRefusalExact, DoesRefusalKeep, IsGrantOf, DoesPromotionGrantLongest, DoesFitTell, AreHoldersCompatible, DoesNobodyWaitNeedlessly, AreLocksUnderParents, AreRequestsUnderParents, AreChildrenHeld, IsAccessCompatible, DoesGrantStand, AreOwnersOpen, AreNumbersApart, AreNumbersCounted, HasNoCircle, DoDoomedWaitForNothing, AreVictimsDetermined, IsLawfulState};
+ghost use Rattle.lock_rules.specs.Effects.{IsLockAnswered, IsConvertAnswered, IsLockOfHeldConvert, IsGrantedHeld, IsConversionHeld, DoVictimsKeepTheirLocks, DoesReleaseTakeOneLock, DoesCommitTakeAllLocks, DoesAbortTakeAllLocks};
+ghost use Rattle.lock_rules.specs.Examples.{with_reply, queue_in_order, promotion_stops, readers_together, promotion_in_order, intentions, refusals, down_the_tree, up_the_tree, release_promotes, release_of_one, asks_again, conversion_first, conversion_at_once, conversion_under_parent, abort_while_waiting, readers_that_convert, youngest_of_two, victim_in_the_way, conversions_that_meet, circle_through_the_queue, two_victims};
 
 /// A history is legal exactly where each reply is the one that the step gives at its place. So each
 /// front of a legal history is legal.
@@ -58,6 +59,23 @@ pub fn grants_change_one_lock()
     ensures { (session : ℕ) (resource : List ℕ) (mode : ModeValue) (t : Table) → IsGrantOf session resource mode t (granted session resource mode t) }
 {}
 
+/// The target of a lock or a conversion that isn't refused is the least mode at or above what is held and
+/// what is asked. A target that is held already changes nothing; one that fits is granted, where the session
+/// holds the resource or nobody waits for it; any other waits, conversions before fresh requests. A request
+/// that begins to wait makes victims, one after another, each the youngest on a circle with the asker, until
+/// no circle goes through the asker. A lock on a resource that the session holds is a conversion.
+pub fn requests_are_granted_or_wait()
+    ensures lock { (st : State) → IsLockAnswered st }
+    ensures convert { (st : State) → IsConvertAnswered st }
+    ensures same { (st : State) → IsLockOfHeldConvert st }
+{}
+
+/// Whoever is told that a lock is granted, at once or because a victim stood in the way, holds it.
+pub fn granted_locks_are_held()
+    ensures lock { (history : List EntryValue) → IsGrantedHeld (state_of history) }
+    ensures convert { (history : List EntryValue) → IsConversionHeld (state_of history) }
+{}
+
 /// A promotion grants the longest front of the queue in which each request fits once those before it
 /// are held, and no other request.
 pub fn promotions_grant_the_longest_front()
@@ -92,6 +110,62 @@ pub fn children_are_held()
     ensures { (history : List EntryValue) → AreChildrenHeld (state_of history) }
 {}
 
+/// No two sessions have incompatible access to a resource, whether anybody holds it or not: what one
+/// writes, outright or through an ancestor, no other reads or writes.
+pub fn no_incompatible_access()
+    ensures { (history : List EntryValue) → IsAccessCompatible (state_of history) }
+{}
+
+/// A release that isn't refused gives back that one lock of that one session. The others hold no less:
+/// requests of theirs for the resource may be granted, and nothing else of them changes.
+pub fn releases_take_one_lock()
+    ensures { (history : List EntryValue) → DoesReleaseTakeOneLock (state_of history) }
+{}
+
+/// A commit or an abort that isn't refused leaves the session no lock and no request, and tells how many
+/// locks it had. The others hold no less: requests of theirs for what it held or waited for may be granted,
+/// and nothing else of them changes.
+pub fn ends_take_all_locks()
+    ensures commit { (history : List EntryValue) → DoesCommitTakeAllLocks (state_of history) }
+    ensures abort { (history : List EntryValue) → DoesAbortTakeAllLocks (state_of history) }
+{}
+
+/// A grant stands: whatever the others call, a session holds on in the same mode or one above it, until
+/// it commits, aborts or releases the resource.
+pub fn grants_stand()
+    ensures { (front rest : List EntryValue) → DoesGrantStand front rest }
+{}
+
+/// Whoever holds a lock or waits for one has a transaction, and the transactions that are open have numbers
+/// of their own, of those that have begun.
+pub fn transactions_are_apart()
+    ensures owners { (history : List EntryValue) → AreOwnersOpen (state_of history) }
+    ensures numbers { (history : List EntryValue) → AreNumbersApart (state_of history) }
+    ensures counted { (history : List EntryValue) → AreNumbersCounted (state_of history) }
+{}
+
+/// No waits form a circle, so no deadlock outlasts the call that made it.
+pub fn no_waits_form_a_circle()
+    ensures { (history : List EntryValue) → HasNoCircle (state_of history) }
+{}
+
+/// A doomed transaction waits for nothing, so no victim is chosen twice.
+pub fn doomed_transactions_wait_for_nothing()
+    ensures { (history : List EntryValue) → DoDoomedWaitForNothing (state_of history) }
+{}
+
+/// There is one list of victims that a request can make where it begins to wait, and one state that they
+/// lead to.
+pub fn victims_are_determined()
+    ensures { (history : List EntryValue) → AreVictimsDetermined (state_of history) }
+{}
+
+/// A victim loses its request and none of its locks, and it is doomed. Of the others nothing changes, but that
+/// requests for what a victim waited for may be granted.
+pub fn victims_keep_their_locks()
+    ensures { (history : List EntryValue) → DoVictimsKeepTheirLocks (state_of history) }
+{}
+
 /// Every state that a history leads to is lawful.
 pub fn states_are_lawful()
     ensures { (history : List EntryValue) → IsLawfulState (state_of history) }
@@ -102,15 +176,18 @@ pub fn examples_are_legal()
     ensures queue_in_order { IsLegal queue_in_order }
     ensures reader_jumps_the_queue { IsLegal (with_reply 5 (Granted S) queue_in_order) → ⊥ }
     ensures promotion_stops { IsLegal promotion_stops }
-    ensures promotion_goes_on { IsLegal (with_reply 8 (Refused AlreadyHeld) promotion_stops) → ⊥ }
-    ensures promotion_left_out { IsLegal (with_reply 7 (Refused IsWaiting) promotion_stops) → ⊥ }
+    ensures promotion_goes_on { IsLegal (with_reply 8 Clear promotion_stops) → ⊥ }
+    ensures promotion_left_out { IsLegal (with_reply 7 Waiting promotion_stops) → ⊥ }
     ensures readers_together { IsLegal readers_together }
-    ensures one_reader_alone { IsLegal (with_reply 8 (Refused IsWaiting) readers_together) → ⊥ }
+    ensures one_reader_alone { IsLegal (with_reply 8 Waiting readers_together) → ⊥ }
+    ensures promotion_in_order { IsLegal promotion_in_order }
+    ensures reader_promoted_past_a_writer { IsLegal (with_reply 9 Clear promotion_in_order) → ⊥ }
     ensures intentions { IsLegal intentions }
     ensures shared_and_intention { IsLegal (with_reply 4 Waiting intentions) → ⊥ }
     ensures intention_jumps { IsLegal (with_reply 5 (Granted IX) intentions) → ⊥ }
     ensures refusals { IsLegal refusals }
-    ensures number_used_again { IsLegal (with_reply 8 (Began 1) refusals) → ⊥ }
+    ensures not_held_before_nothing_asked { IsLegal (with_reply 5 (Refused NotHeld) refusals) → ⊥ }
+    ensures number_used_again { IsLegal (with_reply 9 (Began 1) refusals) → ⊥ }
     ensures down_the_tree { IsLegal down_the_tree }
     ensures parent_left_out { IsLegal (with_reply 1 (Granted S) down_the_tree) → ⊥ }
     ensures need_of_share_for_exclusive { IsLegal (with_reply 3 (Granted X) down_the_tree) → ⊥ }
@@ -120,4 +197,51 @@ pub fn examples_are_legal()
     ensures release_kept { IsLegal (with_reply 7 Released up_the_tree) → ⊥ }
     ensures release_promotes { IsLegal release_promotes }
     ensures release_without_promotion { IsLegal (with_reply 6 (Refused IsWaiting) release_promotes) → ⊥ }
+    ensures release_of_one { IsLegal release_of_one }
+    ensures release_of_both { IsLegal (with_reply 6 (Committed 0) release_of_one) → ⊥ }
+    ensures asks_again { IsLegal asks_again }
+    ensures sup_left_out { IsLegal (with_reply 2 (Granted S) asks_again) → ⊥ }
+    ensures own_lock_in_the_way { IsLegal (with_reply 2 Waiting asks_again) → ⊥ }
+    ensures lowered { IsLegal (with_reply 3 (Granted IS) asks_again) → ⊥ }
+    ensures converted_though_not_held { IsLegal (with_reply 4 (Granted S) asks_again) → ⊥ }
+    ensures conversion_is_one_lock_more { IsLegal (with_reply 7 (Committed 2) asks_again) → ⊥ }
+    ensures conversion_first { IsLegal conversion_first }
+    ensures conversion_behind_fresh_requests { IsLegal (with_reply 8 Waiting conversion_first) → ⊥ }
+    ensures fresh_request_past_a_conversion { IsLegal (with_reply 9 Clear conversion_first) → ⊥ }
+    ensures poll_of_an_old_request { IsLegal (with_reply 11 Waiting conversion_first) → ⊥ }
+    ensures conversion_at_once { IsLegal conversion_at_once }
+    ensures conversion_waits_though_it_fits { IsLegal (with_reply 6 Waiting conversion_at_once) → ⊥ }
+    ensures conversion_under_parent { IsLegal conversion_under_parent }
+    ensures parent_of_the_old_mode { IsLegal (with_reply 3 (Granted X) conversion_under_parent) → ⊥ }
+    ensures parent_not_converted { IsLegal (with_reply 5 (Refused ParentNotHeld) conversion_under_parent) → ⊥ }
+    ensures abort_while_waiting { IsLegal abort_while_waiting }
+    ensures commit_while_waiting { IsLegal (with_reply 6 (Committed 0) abort_while_waiting) → ⊥ }
+    ensures abort_refused { IsLegal (with_reply 7 (Refused IsWaiting) abort_while_waiting) → ⊥ }
+    ensures request_counted_as_a_lock { IsLegal (with_reply 7 (Aborted 1) abort_while_waiting) → ⊥ }
+    ensures abort_leaves_its_request { IsLegal (with_reply 8 Waiting abort_while_waiting) → ⊥ }
+    ensures abort_leaves_its_transaction { IsLegal (with_reply 9 Clear abort_while_waiting) → ⊥ }
+    ensures readers_that_convert { IsLegal readers_that_convert }
+    ensures deadlock_left { IsLegal (with_reply 5 Waiting readers_that_convert) → ⊥ }
+    ensures tested_for_a_mode_before_doom { IsLegal (with_reply 7 (Refused NothingAsked) readers_that_convert) → ⊥ }
+    ensures doomed_session_releases { IsLegal (with_reply 8 Released readers_that_convert) → ⊥ }
+    ensures doomed_session_commits { IsLegal (with_reply 9 (Committed 1) readers_that_convert) → ⊥ }
+    ensures doom_forgotten { IsLegal (with_reply 10 Clear readers_that_convert) → ⊥ }
+    ensures victim_loses_its_locks { IsLegal (with_reply 11 (Aborted 0) readers_that_convert) → ⊥ }
+    ensures youngest_of_two { IsLegal youngest_of_two }
+    ensures asker_doomed { IsLegal (with_reply 7 Deadlock youngest_of_two) → ⊥ }
+    ensures youngest_spared { IsLegal (with_reply 8 Waiting youngest_of_two) → ⊥ }
+    ensures doomed_session_locks { IsLegal (with_reply 9 (Granted S) youngest_of_two) → ⊥ }
+    ensures victim_in_the_way { IsLegal victim_in_the_way }
+    ensures waits_though_the_victim_is_gone { IsLegal (with_reply 7 Waiting victim_in_the_way) → ⊥ }
+    ensures victim_in_the_queue_spared { IsLegal (with_reply 8 Waiting victim_in_the_way) → ⊥ }
+    ensures victim_past_need { IsLegal (with_reply 9 Deadlock victim_in_the_way) → ⊥ }
+    ensures conversions_that_meet { IsLegal conversions_that_meet }
+    ensures refused_request_waits { IsLegal (with_reply 5 Waiting conversions_that_meet) → ⊥ }
+    ensures converting_asker_doomed { IsLegal (with_reply 7 Deadlock conversions_that_meet) → ⊥ }
+    ensures circle_through_the_queue { IsLegal circle_through_the_queue }
+    ensures place_in_the_queue_left_out { IsLegal (with_reply 8 Waiting circle_through_the_queue) → ⊥ }
+    ensures last_of_the_queue_spared { IsLegal (with_reply 9 Deadlock circle_through_the_queue) → ⊥ }
+    ensures two_victims { IsLegal two_victims }
+    ensures one_victim_only { IsLegal (with_reply 11 Waiting two_victims) → ⊥ }
+    ensures first_victim_spared { IsLegal (with_reply 10 Waiting two_victims) → ⊥ }
 {}

@@ -6,12 +6,12 @@ fn refusals_have_their_numbers(rt: HostRuntime) {
     assert_eq!(rt; Why::AlreadyOpen as u8, 1);
     assert_eq!(rt; Why::NoTransaction as u8, 2);
     assert_eq!(rt; Why::IsWaiting as u8, 3);
+    assert_eq!(rt; Why::IsDoomed as u8, 4);
     assert_eq!(rt; Why::NothingAsked as u8, 5);
     assert_eq!(rt; Why::NotHeld as u8, 6);
     assert_eq!(rt; Why::ParentNotHeld as u8, 7);
     assert_eq!(rt; Why::ChildHeld as u8, 8);
     assert_eq!(rt; Why::TooManyLocks as u8, 9);
-    assert_eq!(rt; Why::AlreadyHeld as u8, 10);
 }
 
 #[test]
@@ -40,12 +40,23 @@ fn laws_can_be_cited() {
     laws::calls_are_in_order();
     laws::refusals_keep_the_state();
     laws::grants_change_one_lock();
+    laws::requests_are_granted_or_wait();
+    laws::granted_locks_are_held();
     laws::promotions_grant_the_longest_front();
     laws::fits_is_compatible_with_others();
     laws::holders_are_compatible();
     laws::nobody_waits_needlessly();
     laws::locks_stand_under_parents();
     laws::children_are_held();
+    laws::no_incompatible_access();
+    laws::releases_take_one_lock();
+    laws::ends_take_all_locks();
+    laws::grants_stand();
+    laws::transactions_are_apart();
+    laws::no_waits_form_a_circle();
+    laws::doomed_transactions_wait_for_nothing();
+    laws::victims_are_determined();
+    laws::victims_keep_their_locks();
     laws::states_are_lawful();
     laws::examples_are_legal();
 }

@@ -13,8 +13,7 @@ use Rattle.lock_modes.specs.Codes.{name_of}
 use Rattle.lock_trace.specs.declared.faults.TraceKind.{TraceKind}
 use Rattle.lock_trace.specs.declared.faults.TraceKind.TheVariants as kind
 use Rattle.lock_trace.specs.declared.fields.Op.{Op}
-use Rattle.lock_trace.specs.declared.fields.Op.TheVariants as op
-use Rattle.lock_trace.specs.Fields.{named, word_of, op_in, mode_in}
+use Rattle.lock_trace.specs.Fields.{named, word_of, ops, op_in, mode_in}
 use Rattle.lock_trace.proofs.Numerals.{and_parts}
 
 -- the name of none of them
@@ -47,7 +46,7 @@ named_ok {A} name fault (y ∷ ys) bs x e = cases (bytes_eq bs (name y)) refl (n
     cases false is later found = later found
 
 pub op_is : (bs : List ℕ) (o : Op) → op_in bs ≡ Ok o → bs ≡ word_of o
-op_is bs o e = named_ok word_of kind.Op (op.Begin ∷ op.Lock ∷ op.Release ∷ op.Commit ∷ []) bs o e
+op_is bs o e = named_ok word_of kind.Op ops bs o e
 
 pub mode_is : (bs : List ℕ) (m : Mode) → mode_in bs ≡ Ok m → bs ≡ name_of m
 mode_is bs m e = named_ok name_of kind.Mode (NL ∷ IS ∷ IX ∷ S ∷ SIX ∷ X ∷ []) bs m e

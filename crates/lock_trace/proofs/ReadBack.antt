@@ -52,12 +52,12 @@ why_plain : (w : Why) → is_special (name_of_why w) ≡ false
 why_plain why.AlreadyOpen = refl
 why_plain why.NoTransaction = refl
 why_plain why.IsWaiting = refl
+why_plain why.IsDoomed = refl
 why_plain why.NothingAsked = refl
 why_plain why.NotHeld = refl
 why_plain why.ParentNotHeld = refl
 why_plain why.ChildHeld = refl
 why_plain why.TooManyLocks = refl
-why_plain why.AlreadyHeld = refl
 
 joined_plain : (r : List ℕ) → AllByRecursion (λ n. n < 2 ^ 32) r → is_special (text_of r) ≡ false
 joined_plain [] small = refl
@@ -75,15 +75,21 @@ reply_plain : (r : Reply) → ReplyFits r → ArePlain (fields_of_reply r)
 reply_plain (reply.Began n) fits = (refl, (decimal_plain n fits, tt))
 reply_plain (reply.Granted m) fits = (refl, (mode_plain m, tt))
 reply_plain reply.Waiting fits = (refl, (refl, tt))
+reply_plain reply.Deadlock fits = (refl, (refl, tt))
+reply_plain reply.Clear fits = (refl, (refl, tt))
 reply_plain reply.Released fits = (refl, (refl, tt))
 reply_plain (reply.Committed n) fits = (refl, (decimal_plain n fits, tt))
+reply_plain (reply.Aborted n) fits = (refl, (decimal_plain n fits, tt))
 reply_plain (reply.Refused w) fits = (refl, (why_plain w, tt))
 
 call_plain : (c : Call) (fs : List (List ℕ)) → HasResources c → ArePlain fs → ArePlain (fields_of_call c ++ fs)
 call_plain call.Begin fs has rest = (refl, (refl, (refl, rest)))
 call_plain (call.Lock r m) fs has rest = (refl, (resource_plain r has, (mode_plain m, rest)))
+call_plain (call.Convert r m) fs has rest = (refl, (resource_plain r has, (mode_plain m, rest)))
+call_plain call.Poll fs has rest = (refl, (refl, (refl, rest)))
 call_plain (call.Release r) fs has rest = (refl, (resource_plain r has, (refl, rest)))
 call_plain call.Commit fs has rest = (refl, (refl, (refl, rest)))
+call_plain call.Abort fs has rest = (refl, (refl, (refl, rest)))
 
 entry_plain : (place : ℕ) (e : Entry) → place < 18446744073709551616 → EntryFits e → ArePlain (fields_of_entry place e)
 entry_plain place e lt fits = (decimal_plain place lt, (decimal_plain e.session fits.session, call_plain e.call (fields_of_reply e.reply) fits.resources (reply_plain e.reply fits.reply)))

@@ -2,7 +2,9 @@
 use Rattle.std.proofs.Common.{◌≡◌, ◌↔◌, ℕ, ◌<◌, ◌≤◌, ◌^◌, Bool, true, false, List, [], ◌∷◌, length, Option, Some, Result, Ok, Err, refl, sym, ap, ◌∙◌, subst, arith, ne_eqb}
 use Rattle.std.specs.Prelude.{◌==◌, ◌||◌, not, if◌then◌else◌, decimal, IfOk}
 use Rattle.csv.specs.Records.{field_at}
+use Rattle.lock_modes.specs.declared.Mode.{Mode}
 use Rattle.lock_modes.specs.Codes.{name_of}
+use Rattle.lock_tree.specs.Paths.{IsResource}
 use Rattle.lock_tree.specs.Text.{text_of}
 use Rattle.lock_rules.specs.declared.calls.Call.{Call}
 use Rattle.lock_rules.specs.declared.calls.Call.TheVariants as call
@@ -12,7 +14,7 @@ use Rattle.lock_trace.specs.declared.fields.Op.{Op}
 use Rattle.lock_trace.specs.declared.fields.Op.TheVariants as op
 use Rattle.lock_trace.specs.declared.rows.TraceRow.{TraceRow}
 use Rattle.lock_trace.specs.Fields.{word_of, session_in, op_in, resource_in, mode_in}
-use Rattle.lock_trace.specs.Rows.{fields_of_call, fields_of_row, HasResources, IsRow, ◌>>=◌, bare, call_in, row_in, row_of}
+use Rattle.lock_trace.specs.Rows.{fields_of_call, fields_of_row, HasResources, IsRow, ◌>>=◌, bare, resource_and_mode_in, call_in, row_in, row_of}
 use Rattle.lock_trace.proofs.Names.{op_is, mode_is, mode_by_name}
 use Rattle.lock_trace.proofs.Resources.{resource_iff, resource_back}
 use Rattle.lock_trace.proofs.Sessions.{session_iff, session_back}
@@ -51,22 +53,49 @@ none_after : (b : Bool) (m : List ℕ) (c d : Call) → (length m == 0) ≡ b �
 none_after true m c d no_m e = (empty m no_m, cc)
 none_after false m c d no_m e = absurd cc
 
-read_call : (o : Op) (r m : List ℕ) (c : Call) → call_in o r m ≡ Ok c → HasResources c × ((word_of o ∷ r ∷ m ∷ []) ≡ fields_of_call c)
-read_call op.Begin r m c e =
-    let (no_r, no_m, is) = bare_has call.Begin r m c e in
-    let P : Call → Type 0 = λ d. HasResources d × ((word_of op.Begin ∷ r ∷ m ∷ []) ≡ fields_of_call d) in
-    subst P is (tt, three (word_of op.Begin) r [] m [] no_r no_m)
-read_call op.Commit r m c e =
-    let (no_r, no_m, is) = bare_has call.Commit r m c e in
-    let P : Call → Type 0 = λ d. HasResources d × ((word_of op.Commit ∷ r ∷ m ∷ []) ≡ fields_of_call d) in
-    subst P is (tt, three (word_of op.Commit) r [] m [] no_r no_m)
-read_call op.Lock r m c e =
-    let (resource, read_r, then_mode) = bind_ok (resource_in r) (λ resource. mode_in m >>= (λ mode. Ok (call.Lock resource mode))) c e in
-    let (mode, read_m, is_ok) = bind_ok (mode_in m) (λ mode. Ok (call.Lock resource mode)) c then_mode in
-    let is : call.Lock resource mode ≡ c = cc in
+-- a call without fields is read from empty ones alone
+bare_call : (w : List ℕ) (c : Call) (r m : List ℕ) (d : Call) → HasResources c → (w ∷ [] ∷ [] ∷ []) ≡ fields_of_call c → bare c r m ≡ Ok d → HasResources d × ((w ∷ r ∷ m ∷ []) ≡ fields_of_call d)
+bare_call w c r m d has fields e =
+    let (no_r, no_m, is) = bare_has c r m d e in
+    let P : Call → Type 0 = λ x. HasResources x × ((w ∷ r ∷ m ∷ []) ≡ fields_of_call x) in
+    subst P is (has, three w r [] m [] no_r no_m ∙ fields)
+
+abbrev ok_both : List ℕ × Mode → Result (List ℕ × Mode) TraceKind
+ok_both x = Ok x
+
+same_both : (a b : List ℕ × Mode) → ok_both a ≡ ok_both b → a ≡ b
+same_both a b e = cc
+
+-- both fields are the texts of what is read
+record AreTexts (r m : List ℕ) (asked : List ℕ × Mode) : Type 0 where
+  resource : IsResource asked.0
+  path : r ≡ text_of asked.0
+  mode : m ≡ name_of asked.1
+
+read_both : (r m : List ℕ) (asked : List ℕ × Mode) → resource_and_mode_in r m ≡ Ok asked → AreTexts r m asked
+read_both r m asked e =
+    let (resource, read_r, then_mode) = bind_ok (resource_in r) (λ resource. mode_in m >>= (λ mode. ok_both (resource, mode))) asked e in
+    let (mode, read_m, is_ok) = bind_ok (mode_in m) (λ mode. ok_both (resource, mode)) asked then_mode in
     let at = (resource_iff resource r).0 read_r in
+    subst (AreTexts r m) (same_both (resource, mode) asked is_ok) (record { resource = at.0; path = at.1; mode = mode_is m mode read_m })
+
+read_call : (o : Op) (r m : List ℕ) (c : Call) → call_in o r m ≡ Ok c → HasResources c × ((word_of o ∷ r ∷ m ∷ []) ≡ fields_of_call c)
+read_call op.Begin r m c e = bare_call (word_of op.Begin) call.Begin r m c tt refl e
+read_call op.Poll r m c e = bare_call (word_of op.Poll) call.Poll r m c tt refl e
+read_call op.Commit r m c e = bare_call (word_of op.Commit) call.Commit r m c tt refl e
+read_call op.Abort r m c e = bare_call (word_of op.Abort) call.Abort r m c tt refl e
+read_call op.Lock r m c e =
+    let (asked, read, is_ok) = bind_ok (resource_and_mode_in r m) (λ asked. ok_call (call.Lock asked.0 asked.1)) c e in
+    let is : call.Lock asked.0 asked.1 ≡ c = cc in
+    let are = read_both r m asked read in
     let P : Call → Type 0 = λ d. HasResources d × ((word_of op.Lock ∷ r ∷ m ∷ []) ≡ fields_of_call d) in
-    subst P is (at.0, three (word_of op.Lock) r (text_of resource) m (name_of mode) at.1 (mode_is m mode read_m))
+    subst P is (are.resource, three (word_of op.Lock) r (text_of asked.0) m (name_of asked.1) are.path are.mode)
+read_call op.Convert r m c e =
+    let (asked, read, is_ok) = bind_ok (resource_and_mode_in r m) (λ asked. ok_call (call.Convert asked.0 asked.1)) c e in
+    let is : call.Convert asked.0 asked.1 ≡ c = cc in
+    let are = read_both r m asked read in
+    let P : Call → Type 0 = λ d. HasResources d × ((word_of op.Convert ∷ r ∷ m ∷ []) ≡ fields_of_call d) in
+    subst P is (are.resource, three (word_of op.Convert) r (text_of asked.0) m (name_of asked.1) are.path are.mode)
 read_call op.Release r m c e =
     let (resource, read_r, then_none) = bind_ok (resource_in r) (λ resource. if not (length m == 0) then Err kind.Extra else ok_call (call.Release resource)) c e in
     let (no_m, is) = none_after (length m == 0) m (call.Release resource) c refl then_none in
@@ -106,8 +135,11 @@ row_fields n (s ∷ o ∷ r ∷ m ∷ x ∷ xs) row lt e = absurd cc
 fields_row : (n s : ℕ) (c : Call) → n < 2 ^ 16 → 0 < s → s ≤ n → HasResources c → row_of n (decimal s ∷ fields_of_call c) ≡ Ok (record { session = s; call = c })
 fields_row n s call.Begin lt some le has = rw (session_back n s lt some le) refl
 fields_row n s (call.Lock r m) lt some le has = rw (session_back n s lt some le, resource_back r has, mode_by_name m (name_of m) refl) refl
+fields_row n s (call.Convert r m) lt some le has = rw (session_back n s lt some le, resource_back r has, mode_by_name m (name_of m) refl) refl
+fields_row n s call.Poll lt some le has = rw (session_back n s lt some le) refl
 fields_row n s (call.Release r) lt some le has = rw (session_back n s lt some le, resource_back r has) refl
 fields_row n s call.Commit lt some le has = rw (session_back n s lt some le) refl
+fields_row n s call.Abort lt some le has = rw (session_back n s lt some le) refl
 
 pub row_back : (n : ℕ) (row : TraceRow) → n < 2 ^ 16 → IsRow n row → row_of n (fields_of_row row) ≡ Ok row
 row_back n row lt is = fields_row n row.session row.call lt is.first is.last is.resources

@@ -51,11 +51,18 @@ named name fault (x ∷ xs) bs = if bytes_eq bs (name x) then Ok x else named na
 abbrev pub word_of : Op → List ℕ
 word_of op.Begin = codes "begin"
 word_of op.Lock = codes "lock"
+word_of op.Convert = codes "convert"
+word_of op.Poll = codes "poll"
 word_of op.Release = codes "release"
 word_of op.Commit = codes "commit"
+word_of op.Abort = codes "abort"
+
+-- the operations, each once
+abbrev pub ops : List Op
+ops = op.Begin ∷ op.Lock ∷ op.Convert ∷ op.Poll ∷ op.Release ∷ op.Commit ∷ op.Abort ∷ []
 
 abbrev pub op_in : List ℕ → Result Op TraceKind
-op_in bs = named word_of kind.Op (op.Begin ∷ op.Lock ∷ op.Release ∷ op.Commit ∷ []) bs
+op_in bs = named word_of kind.Op ops bs
 
 abbrev pub mode_in : List ℕ → Result Mode TraceKind
 mode_in bs = named name_of kind.Mode (NL ∷ IS ∷ IX ∷ S ∷ SIX ∷ X ∷ []) bs

@@ -13,20 +13,23 @@ abbrev pub name_of_why : Why → List ℕ
 name_of_why why.AlreadyOpen = codes "AlreadyOpen"
 name_of_why why.NoTransaction = codes "NoTransaction"
 name_of_why why.IsWaiting = codes "IsWaiting"
+name_of_why why.IsDoomed = codes "IsDoomed"
 name_of_why why.NothingAsked = codes "NothingAsked"
 name_of_why why.NotHeld = codes "NotHeld"
 name_of_why why.ParentNotHeld = codes "ParentNotHeld"
 name_of_why why.ChildHeld = codes "ChildHeld"
 name_of_why why.TooManyLocks = codes "TooManyLocks"
-name_of_why why.AlreadyHeld = codes "AlreadyHeld"
 
 -- the fields of a reply: its word and its value
 abbrev pub fields_of_reply : Reply → List (List ℕ)
 fields_of_reply (reply.Began n) = codes "began" ∷ decimal n ∷ []
 fields_of_reply (reply.Granted m) = codes "granted" ∷ name_of m ∷ []
 fields_of_reply reply.Waiting = codes "waiting" ∷ [] ∷ []
+fields_of_reply reply.Deadlock = codes "deadlock" ∷ [] ∷ []
+fields_of_reply reply.Clear = codes "clear" ∷ [] ∷ []
 fields_of_reply reply.Released = codes "released" ∷ [] ∷ []
 fields_of_reply (reply.Committed n) = codes "committed" ∷ decimal n ∷ []
+fields_of_reply (reply.Aborted n) = codes "aborted" ∷ decimal n ∷ []
 fields_of_reply (reply.Refused w) = codes "refused" ∷ name_of_why w ∷ []
 
 -- the row of a trace that the entry answers
@@ -68,8 +71,11 @@ abbrev pub ReplyFits : Reply → Type 0
 ReplyFits (reply.Began n) = n < 2 ^ 64
 ReplyFits (reply.Granted m) = Unit {0}
 ReplyFits reply.Waiting = Unit {0}
+ReplyFits reply.Deadlock = Unit {0}
+ReplyFits reply.Clear = Unit {0}
 ReplyFits reply.Released = Unit {0}
 ReplyFits (reply.Committed n) = n < 2 ^ 64
+ReplyFits (reply.Aborted n) = n < 2 ^ 64
 ReplyFits (reply.Refused w) = Unit {0}
 
 -- an entry that a machine can hold

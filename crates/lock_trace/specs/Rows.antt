@@ -1,5 +1,6 @@
 -- The rows of a trace: their fields, and which fields are a row.
 use Rattle.std.specs.Prelude.{◌==◌, ◌||◌, ◌<◌, ◌≤◌, ℕ, not, if◌then◌else◌, List, [], ◌∷◌, length, Result, Ok, Err, decimal}
+use Rattle.lock_modes.specs.declared.Mode.{Mode}
 use Rattle.lock_modes.specs.Codes.{name_of}
 use Rattle.lock_tree.specs.Paths.{IsResource}
 use Rattle.lock_tree.specs.Text.{text_of}
@@ -16,8 +17,11 @@ use Rattle.lock_trace.specs.Fields.{word_of, session_in, op_in, resource_in, mod
 abbrev pub fields_of_call : Call → List (List ℕ)
 fields_of_call call.Begin = word_of op.Begin ∷ [] ∷ [] ∷ []
 fields_of_call (call.Lock r m) = word_of op.Lock ∷ text_of r ∷ name_of m ∷ []
+fields_of_call (call.Convert r m) = word_of op.Convert ∷ text_of r ∷ name_of m ∷ []
+fields_of_call call.Poll = word_of op.Poll ∷ [] ∷ [] ∷ []
 fields_of_call (call.Release r) = word_of op.Release ∷ text_of r ∷ [] ∷ []
 fields_of_call call.Commit = word_of op.Commit ∷ [] ∷ [] ∷ []
+fields_of_call call.Abort = word_of op.Abort ∷ [] ∷ [] ∷ []
 
 -- the four fields of a row: each is the one text of its part
 abbrev pub fields_of_row : TraceRow → List (List ℕ)
@@ -27,8 +31,11 @@ fields_of_row row = decimal row.session ∷ fields_of_call row.call
 abbrev pub HasResources : Call → Type 0
 HasResources call.Begin = Unit {0}
 HasResources (call.Lock r m) = IsResource r
+HasResources (call.Convert r m) = IsResource r
+HasResources call.Poll = Unit {0}
 HasResources (call.Release r) = IsResource r
 HasResources call.Commit = Unit {0}
+HasResources call.Abort = Unit {0}
 
 -- a row for so many sessions
 pub record IsRow (sessions : ℕ) (row : TraceRow) : Type 0 where
@@ -51,15 +58,26 @@ with_resource c r m = do
   resource ← resource_in r
   if not (length m == 0) then Err kind.Extra else Ok (c resource)
 
+-- the resource and the mode of a call that takes both
+abbrev pub resource_and_mode_in : List ℕ → List ℕ → Result (List ℕ × Mode) TraceKind
+resource_and_mode_in r m = do
+  resource ← resource_in r
+  mode ← mode_in m
+  Ok (resource, mode)
+
 -- the call that an operation and the fields after it are, or the first of their tests that fails
 abbrev pub call_in : Op → List ℕ → List ℕ → Result Call TraceKind
 call_in op.Begin r m = bare call.Begin r m
 call_in op.Lock r m = do
-  resource ← resource_in r
-  mode ← mode_in m
-  Ok (call.Lock resource mode)
+  asked ← resource_and_mode_in r m
+  Ok (call.Lock asked.0 asked.1)
+call_in op.Convert r m = do
+  asked ← resource_and_mode_in r m
+  Ok (call.Convert asked.0 asked.1)
+call_in op.Poll r m = bare call.Poll r m
 call_in op.Release r m = with_resource (λ resource. call.Release resource) r m
 call_in op.Commit r m = bare call.Commit r m
+call_in op.Abort r m = bare call.Abort r m
 
 -- the row that four fields are, or the first test that fails
 abbrev pub row_in : ℕ → List ℕ → List ℕ → List ℕ → List ℕ → Result TraceRow TraceKind

@@ -17,8 +17,11 @@ use std::str;
 pub enum Op {
     Begin,
     Lock,
+    Convert,
+    Poll,
     Release,
     Commit,
+    Abort,
 }
 
 fn starts_with_zero(text: &[u8]) -> bool
@@ -78,11 +81,20 @@ pub(crate) fn op_of(field: &[u8]) -> Result<Op, TraceKind>
     if field == b"lock".as_slice() {
         return Ok(Op::Lock);
     }
+    if field == b"convert".as_slice() {
+        return Ok(Op::Convert);
+    }
+    if field == b"poll".as_slice() {
+        return Ok(Op::Poll);
+    }
     if field == b"release".as_slice() {
         return Ok(Op::Release);
     }
     if field == b"commit".as_slice() {
         return Ok(Op::Commit);
+    }
+    if field == b"abort".as_slice() {
+        return Ok(Op::Abort);
     }
     Err(TraceKind::Op)
 }

@@ -2,12 +2,14 @@
 
 ghost use Rattle.std.specs.Prelude.{◌≡◌, ◌<◌, Some, List, length, IfOk};
 ghost use Rattle.csv.specs.Records.{fields_of, field_at as field_in};
-ghost use Rattle.lock_trace.specs.Rows.{IsRow, HasResources, bare, call_in, row_in, row_of};
+ghost use Rattle.lock_trace.specs.Rows.{IsRow, HasResources, bare, resource_and_mode_in, call_in, row_in, row_of};
 
 use crate::faults::TraceKind;
 use crate::fields::{Op, mode_of, op_of, resource_of, session_of};
 use csv::ByteRecord;
+use lock_modes::Mode;
 use lock_rules::Call;
+use lock_tree::Resource;
 
 /// One row of a trace: a session's call. The rows are in the order in which the calls are made.
 #[derive(Clone, Copy, Debug, PartialEq, Eq)]
@@ -27,16 +29,29 @@ fn bare_call(call: Call, resource: &[u8], mode: &[u8]) -> Result<Call, TraceKind
     Ok(call)
 }
 
+// The resource and the mode of a call that takes both.
+fn resource_and_mode(resource: &[u8], mode: &[u8]) -> Result<(Resource, Mode), TraceKind>
+    ensures { result ≡ resource_and_mode_in resource.now mode.now }
+{
+    let resource = resource_of(resource)?;
+    let mode = mode_of(mode)?;
+    Ok((resource, mode))
+}
+
 fn call_of(op: Op, resource: &[u8], mode: &[u8]) -> Result<Call, TraceKind>
     ensures { result ≡ call_in op resource.now mode.now }
 {
     match op {
         Op::Begin => bare_call(Call::Begin, resource, mode),
         Op::Lock => {
-            let resource = resource_of(resource)?;
-            let mode = mode_of(mode)?;
+            let (resource, mode) = resource_and_mode(resource, mode)?;
             Ok(Call::Lock(resource, mode))
         }
+        Op::Convert => {
+            let (resource, mode) = resource_and_mode(resource, mode)?;
+            Ok(Call::Convert(resource, mode))
+        }
+        Op::Poll => bare_call(Call::Poll, resource, mode),
         Op::Release => {
             let resource = resource_of(resource)?;
             if !mode.is_empty() {
@@ -45,6 +60,7 @@ fn call_of(op: Op, resource: &[u8], mode: &[u8]) -> Result<Call, TraceKind>
             Ok(Call::Release(resource))
         }
         Op::Commit => bare_call(Call::Commit, resource, mode),
+        Op::Abort => bare_call(Call::Abort, resource, mode),
     }
 }
 

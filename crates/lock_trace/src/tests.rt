@@ -31,6 +31,11 @@ fn commit(session: u16) -> TraceRow {
     TraceRow { session, call }
 }
 
+fn record() -> Result<Resource, Fail> {
+    let resource = Resource::from_numbers(&[7, 2, 40, 1]);
+    Ok(resource.ok_or(PathFault::TooDeep)?)
+}
+
 #[test]
 fn reads_rows(rt: HostRuntime) -> Result<(), Fail> {
     let three = [begin(1), lock(1, 7, Mode::S)?, commit(1)];
@@ -47,6 +52,24 @@ fn reads_rows(rt: HostRuntime) -> Result<(), Fail> {
     for text in ["", "\n", "\r\n\n"] {
         let rows = read_trace(rt.alloc(), text.as_bytes(), ALL)?;
         assert!(rt; rows.is_empty(), "at {text}");
+    }
+    Ok(())
+}
+
+#[test]
+fn reads_each_op(rt: HostRuntime) -> Result<(), Fail> {
+    for (text, call) in [
+        ("3,begin,,", Call::Begin),
+        ("3,lock,7/2/40/1,IS", Call::Lock(record()?, Mode::IS)),
+        ("3,convert,7/2/40/1,X", Call::Convert(record()?, Mode::X)),
+        ("3,poll,,", Call::Poll),
+        ("3,release,7/2/40/1,", Call::Release(record()?)),
+        ("3,commit,,", Call::Commit),
+        ("3,abort,,", Call::Abort),
+    ] {
+        let rows = read_trace(rt.alloc(), text.as_bytes(), 3)?;
+        let want = TraceRow { session: 3, call };
+        assert_eq!(rt; rows.as_slice(), [want].as_slice(), "at {text}");
     }
     Ok(())
 }
@@ -95,6 +118,8 @@ fn tells_faults_of_shape_session_and_op_first(rt: HostRuntime) {
         ("99999999999999999999,begin,,\n", TraceKind::Session),
         ("18446744073709551617,begin,,\n", TraceKind::Session),
         ("1,grant,x,y\n", TraceKind::Op),
+        ("1,rollback,,\n", TraceKind::Op),
+        ("1,Poll,,\n", TraceKind::Op),
         ("1,,,\n", TraceKind::Op),
         ("1,LOCK,1,S\n", TraceKind::Op),
         ("1,Begin,,\n", TraceKind::Op),
@@ -118,12 +143,16 @@ fn tells_faults_of_path_mode_and_extra_then(rt: HostRuntime) {
             TraceKind::Path(PathFault::TooLarge),
         ),
         ("1,lock,01,S\n", TraceKind::Path(PathFault::LeadingZero)),
+        ("1,convert,,y\n", TraceKind::Path(PathFault::Empty)),
+        ("1,convert,1,\n", TraceKind::Mode),
         ("1,lock,1,\n", TraceKind::Mode),
         ("1,lock,1,s\n", TraceKind::Mode),
         ("1,lock,1, S\n", TraceKind::Mode),
         ("1,lock,1,SI\n", TraceKind::Mode),
         ("1,begin,1,\n", TraceKind::Extra),
         ("1,begin,,S\n", TraceKind::Extra),
+        ("1,poll,1,\n", TraceKind::Extra),
+        ("1,abort,,S\n", TraceKind::Extra),
         ("1,commit, ,\n", TraceKind::Extra),
         ("1,commit,1,S\n", TraceKind::Extra),
     ] {
@@ -243,7 +272,7 @@ fn entry(session: u16, call: Call, reply: Reply) -> Entry {
     }
 }
 
-fn history() -> Result<[Entry; 9], Fail> {
+fn history() -> Result<[Entry; 15], Fail> {
     Ok([
         entry(1, Call::Begin, Reply::Began(1)),
         entry(256, Call::Begin, Reply::Began(18446744073709551615)),
@@ -258,6 +287,16 @@ fn history() -> Result<[Entry; 9], Fail> {
         entry(1, Call::Commit, Reply::Committed(1)),
         entry(1, Call::Commit, Reply::Refused(Why::NoTransaction)),
         entry(256, Call::Commit, Reply::Committed(4294967295)),
+        entry(
+            1,
+            Call::Convert(record()?, Mode::IX),
+            Reply::Granted(Mode::SIX),
+        ),
+        entry(1, Call::Release(record()?), Reply::Released),
+        entry(1, Call::Poll, Reply::Clear),
+        entry(1, Call::Abort, Reply::Aborted(0)),
+        entry(256, Call::Poll, Reply::Waiting),
+        entry(256, Call::Abort, Reply::Aborted(4294967295)),
     ])
 }
 
@@ -273,6 +312,12 @@ fn writes_histories(rt: HostRuntime) -> Result<(), Fail> {
 6,1,commit,,,committed,1
 7,1,commit,,,refused,NoTransaction
 8,256,commit,,,committed,4294967295
+9,1,convert,7/2/40/1,IX,granted,SIX
+10,1,release,7/2/40/1,,released,
+11,1,poll,,,clear,
+12,1,abort,,,aborted,0
+13,256,poll,,,waiting,
+14,256,abort,,,aborted,4294967295
 ";
     assert_eq!(rt; text.as_slice(), want.as_slice());
     let none = history_text(rt.alloc(), &[])?;

@@ -1,11 +1,13 @@
 //! Histories as bytes.
 
-ghost use Rattle.std.specs.Prelude.{◌≡◌, ◌++◌, List, OnOk, IfOk, decimal};
+ghost use Rattle.std.specs.Prelude.{◌≡◌, ◌∷◌, ◌++◌, List, OnOk, IfOk, decimal};
+ghost use Rattle.lock_modes.specs.Codes.{name_of};
 ghost use Rattle.lock_tree.specs.Text.{text_of};
 ghost use Rattle.lock_trace.specs.Rows.{fields_of_call};
 ghost use Rattle.lock_trace.specs.Histories.{name_of_why, fields_of_reply, fields_of_entry, after_commas, line_of, text_of_history};
 
 use itoa::Buffer;
+use lock_modes::Mode;
 use lock_rules::{Call, Entry, Reply, Why};
 use lock_tree::Resource;
 use std::alloc::{AllocError as NoMemory, Global};
@@ -39,6 +41,14 @@ fn put_resource(out: &mut Vec<u8>, resource: &Resource) -> Result<(), NoMemory>
     Ok(())
 }
 
+fn put_resource_and_mode(out: &mut Vec<u8>, resource: &Resource, mode: Mode) -> Result<(), NoMemory>
+    ensures { OnOk result (out.new.items ≡ out.old.items ++ (text_of resource.now ++ (44 ∷ name_of mode))) }
+{
+    put_resource(out, resource)?;
+    put_text(out, ",")?;
+    put_text(out, mode.name())
+}
+
 #[tactic(auto, unfolding(crate::specs::Histories::after_commas))]
 fn put_call(out: &mut Vec<u8>, call: &Call) -> Result<(), NoMemory>
     ensures { OnOk result (out.new.items ≡ out.old.items ++ after_commas (fields_of_call call.now)) }
@@ -47,16 +57,20 @@ fn put_call(out: &mut Vec<u8>, call: &Call) -> Result<(), NoMemory>
         Call::Begin => put_text(out, ",begin,,"),
         Call::Lock(resource, mode) => {
             put_text(out, ",lock,")?;
-            put_resource(out, resource)?;
-            put_text(out, ",")?;
-            put_text(out, mode.name())
+            put_resource_and_mode(out, resource, *mode)
         }
+        Call::Convert(resource, mode) => {
+            put_text(out, ",convert,")?;
+            put_resource_and_mode(out, resource, *mode)
+        }
+        Call::Poll => put_text(out, ",poll,,"),
         Call::Release(resource) => {
             put_text(out, ",release,")?;
             put_resource(out, resource)?;
             put_text(out, ",")
         }
         Call::Commit => put_text(out, ",commit,,"),
+        Call::Abort => put_text(out, ",abort,,"),
     }
 }
 
@@ -67,12 +81,12 @@ fn why_name(why: Why) -> &'static str
         Why::AlreadyOpen => "AlreadyOpen",
         Why::NoTransaction => "NoTransaction",
         Why::IsWaiting => "IsWaiting",
+        Why::IsDoomed => "IsDoomed",
         Why::NothingAsked => "NothingAsked",
         Why::NotHeld => "NotHeld",
         Why::ParentNotHeld => "ParentNotHeld",
         Why::ChildHeld => "ChildHeld",
         Why::TooManyLocks => "TooManyLocks",
-        Why::AlreadyHeld => "AlreadyHeld",
     }
 }
 
@@ -90,9 +104,15 @@ fn put_reply(out: &mut Vec<u8>, reply: Reply) -> Result<(), NoMemory>
             put_text(out, mode.name())
         }
         Reply::Waiting => put_text(out, ",waiting,"),
+        Reply::Deadlock => put_text(out, ",deadlock,"),
+        Reply::Clear => put_text(out, ",clear,"),
         Reply::Released => put_text(out, ",released,"),
         Reply::Committed(locks) => {
             put_text(out, ",committed,")?;
+            put_number(out, locks as u64)
+        }
+        Reply::Aborted(locks) => {
+            put_text(out, ",aborted,")?;
             put_number(out, locks as u64)
         }
         Reply::Refused(why) => {

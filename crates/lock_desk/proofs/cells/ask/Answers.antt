@@ -1,49 +1,49 @@
-use Rattle.std.proofs.Common.{◌≡◌, ◌∙◌, ap, sym, subst, IfOk, Bool}
-use Rattle.lock_desk.specs.Cells.{View, view_of, cell_view, asked_view, can_grant, IsNew, CellsBecame}
+use Rattle.std.proofs.Common.{◌≡◌, ◌∙◌, ap, sym, subst, IfOk, Bool, Option}
+use Rattle.lock_desk.specs.declared.cells.Cell.{Cell}
+use Rattle.lock_desk.specs.Cells.{View, view_of, Cells, said, cell_view, has_claim, asked_view, can_grant, CellsBecame}
 use Rattle.lock_desk.proofs.Results.{on-ok, on-err, on-err-from}
-use Rattle.lock_desk.proofs.Faces.{view-here, view_at-none, became-same, became-written, became-view}
+use Rattle.lock_desk.proofs.Seen.{found, written, kept-at, became-same, became-view}
 use Rattle.lock_desk.proofs.cells.ask.Goals as goal
 
-pub join-requires-clause-new : goal.join-requires-clause-new
-join-requires-clause-new c =
-    let p = rw c.deref.ensures.value at c.in-Some.ensures.some in
-    subst (IsNew c.args.claim.session) (sym (view-here c.args.resource c.args.cells.now.items c.in-Some.at c.index_mut-cell.result.now p c.index_mut-cell.ensures.value)) c.requires.new
+pub join-requires-clause-kept : goal.join-requires-clause-kept
+join-requires-clause-kept c = kept-at c.args.resource c.args.cells.now.entries c.in-Some.cell.now c.requires.kept (c.in-Some.ensures.value ∙ found _ c.same_path_is_equality.ensures.code c.args.resource c.args.cells.now.entries)
+
+pub join-requires-clause-idle : goal.join-requires-clause-idle
+join-requires-clause-idle c =
+    let there = c.in-Some.ensures.value ∙ found _ c.same_path_is_equality.ensures.code c.args.resource c.args.cells.now.entries in
+    ap (λ (o : Option Cell). has_claim c.args.claim.session (said o).waiting) there ∙ c.requires.idle
 
 pub returns-in-Some-clause-granted : goal.returns-in-Some-clause-granted
 returns-in-Some-clause-granted c =
-    let p = rw c.deref.ensures.value at c.in-Some.ensures.some in
-    subst (λ (v : View). IfOk c.join.result (λ (g : Bool). g ≡ can_grant c.args.claim v)) (view-here c.args.resource c.args.cells.now.items c.in-Some.at c.index_mut-cell.result.now p c.index_mut-cell.ensures.value) c.join.ensures.granted
+    let there = c.in-Some.ensures.value ∙ found _ c.same_path_is_equality.ensures.code c.args.resource c.args.cells.now.entries in
+    subst (λ (v : View). IfOk c.join.result (λ (g : Bool). g ≡ can_grant c.args.claim v)) (ap said there) c.join.ensures.granted
 
 pub returns-in-Some-clause-ok : goal.returns-in-Some-clause-ok
 returns-in-Some-clause-ok c =
-    let cs = c.args.cells.now.items in
-    let x = c.index_mut-cell.result.now in
-    let p = rw c.deref.ensures.value at c.in-Some.ensures.some in
-    let e = view-here c.args.resource cs c.in-Some.at x p c.index_mut-cell.ensures.value in
+    let x = c.in-Some.cell.now in
+    let there = c.in-Some.ensures.value ∙ found _ c.same_path_is_equality.ensures.code c.args.resource c.args.cells.now.entries in
     on-ok c.join.result (λ (g : Bool). view_of c.join.new.cell ≡ asked_view c.args.claim (view_of x)) _ c.join.ensures.view
-    (λ g h. became-written c.args.resource cs c.in-Some.at x c.join.new.cell _ c.requires.kept p c.index_mut-cell.ensures.value c.join.ensures.resource c.join.ensures.kept (h ∙ ap (asked_view c.args.claim) e))
+    (λ g h. written _ c.same_path_is_equality.ensures.code c.args.resource c.args.cells.now _ x c.join.new.cell _ c.requires.kept c.in-Some.ensures.value c.join.ensures.kept (c.get_mut.follows.holds c.join.new.cell) (h ∙ ap (λ (o : Option Cell). asked_view c.args.claim (said o)) there))
 
 pub returns-in-Some-clause-err : goal.returns-in-Some-clause-err
 returns-in-Some-clause-err c =
-    let cs = c.args.cells.now.items in
-    let x = c.index_mut-cell.result.now in
-    let p = rw c.deref.ensures.value at c.in-Some.ensures.some in
-    let e = view-here c.args.resource cs c.in-Some.at x p c.index_mut-cell.ensures.value in
+    let x = c.in-Some.cell.now in
+    let there = c.in-Some.ensures.value ∙ found _ c.same_path_is_equality.ensures.code c.args.resource c.args.cells.now.entries in
     on-err c.join.result (view_of c.join.new.cell ≡ view_of x) _ c.join.ensures.err
-    (λ h. became-written c.args.resource cs c.in-Some.at x c.join.new.cell _ c.requires.kept p c.index_mut-cell.ensures.value c.join.ensures.resource c.join.ensures.kept (h ∙ e))
+    (λ h. written _ c.same_path_is_equality.ensures.code c.args.resource c.args.cells.now _ x c.join.new.cell _ c.requires.kept c.in-Some.ensures.value c.join.ensures.kept (c.get_mut.follows.holds c.join.new.cell) (h ∙ ap said there))
 
 pub returns-in_ok-open-in-None-clause-granted : goal.returns-in_ok-open-in-None-clause-granted
 returns-in_ok-open-in-None-clause-granted c =
-    let none = view_at-none c.args.resource c.args.cells.now.items (rw c.deref.ensures.value at c.in-None.ensures.none) in
-    sym (ap (can_grant c.args.claim) none)
+    let none = c.in-None.ensures.value ∙ found _ c.same_path_is_equality.ensures.code c.args.resource c.args.cells.now.entries in
+    ap (λ (o : Option Cell). can_grant c.args.claim (said o)) none
 
 pub returns-in_ok-open-in-None-clause-ok : goal.returns-in_ok-open-in-None-clause-ok
 returns-in_ok-open-in-None-clause-ok c =
-    let none = view_at-none c.args.resource c.args.cells.now.items (rw c.deref.ensures.value at c.in-None.ensures.none) in
-    became-view c.args.resource _ _ c.args.cells.now.items c.open.new.cells.items (sym (ap (asked_view c.args.claim) none)) c.in_ok-open-in-None.ensures.ok
+    let none = c.in-None.ensures.value ∙ found _ c.same_path_is_equality.ensures.code c.args.resource c.args.cells.now.entries in
+    became-view c.args.resource _ _ c.args.cells.now.entries c.open.new.cells.entries (ap (λ (o : Option Cell). asked_view c.args.claim (said o)) none) (rw c.get_mut.follows.holds-at-none at c.in_ok-open-in-None.ensures.ok)
 
 pub returns-in_err-open-in-None-clause-err : goal.returns-in_err-open-in-None-clause-err
 returns-in_err-open-in-None-clause-err c =
     let r = c.args.resource in
-    let cs = c.args.cells.now.items in
-    on-err-from c.from_residual.result (subst (λ xs. CellsBecame r (cell_view r cs) cs xs) (sym c.in_err-open-in-None.ensures.err) (became-same r cs c.requires.kept))
+    let cs = c.args.cells.now.entries in
+    on-err-from c.from_residual.result (subst (λ (xs : Cells). CellsBecame r (cell_view r cs) cs xs) (sym (c.in_err-open-in-None.ensures.err ∙ ap (λ m. m.entries) c.get_mut.follows.holds-at-none)) (became-same r cs c.requires.kept))

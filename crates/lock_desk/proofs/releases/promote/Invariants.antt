@@ -7,12 +7,11 @@ use Rattle.lock_desk.proofs.releases.promote.Given as goal
 abbrev pub invariant-loop-granted : goal.invariant-loop-granted
 invariant-loop-granted l = record {
   view : promoted_view (view_of l.cell) ≡ promoted_view (view_of l.initial.cell);
-  resource : l.cell.resource ≡ l.initial.cell.resource;
   room : HasRoom l.cell;
   once : IsOnce (view_of l.cell);
-  agree : DoAgree l.initial.cell.resource (view_of l.cell) (map standing_of l.rows.items);
+  agree : DoAgree l.resource (view_of l.cell) (map standing_of l.rows.items);
   rows : All IsKeptRow l.rows.items;
-  granted : AreSameOrAdmitted l.initial.cell.resource (map standing_of l.initial.rows.items) (map standing_of l.rows.items);
+  granted : AreSameOrAdmitted l.resource (map standing_of l.initial.rows.items) (map standing_of l.rows.items);
   len : vec_len l.rows ≡ vec_len l.initial.rows;
 }
 

@@ -1,14 +1,16 @@
-use Rattle.std.proofs.Common.{◌≡◌, arith, ap, length}
-use Rattle.lock_desk.specs.Rows.{requests_in}
-use Rattle.lock_desk.proofs.Standings.{apart-push, requests-some}
+use Rattle.std.proofs.Common.{refl, None, sym, ◌∙◌}
+use Rattle.lock_desk.proofs.Admits.{fresh-standing, fresh-kept, converted-standing, converted-kept}
 use Rattle.lock_desk.proofs.rows.admit.Goals as goal
+use Rattle.lock_desk.proofs.rows.admit.Goals.{then-is_fresh, else-is_fresh}
+
+pub returns-clause-standing : goal.returns-clause-standing
+returns-clause-standing c = elim c.if-is_fresh.branch [
+  | then-is_fresh w ↦ rw w.row-is (fresh-standing c.args.resource c.args.row.now c.requires.kept c.requires.waits (record { transaction = c.args.row.now.transaction; held = w.push_reserved.new.self; wanted = None }) refl refl (sym c.is_fresh.ensures ∙ w.if-is_fresh.true) w.push_reserved.ensures.items)
+  | else-is_fresh w ↦ rw w.row-is (converted-standing c.args.resource c.args.row.now c.requires.kept c.requires.waits (record { transaction = c.args.row.now.transaction; held = c.args.row.now.held; wanted = None }) refl refl (sym c.is_fresh.ensures ∙ w.if-is_fresh.false) refl)
+]
 
 pub returns-clause-kept : goal.returns-clause-kept
-returns-clause-kept c =
-    let one : requests_in c.args.row.now.wanted ≡ 1 = requests-some c.args.resource c.args.row.now.wanted c.requires.waits in
-    let long = ap (λ xs. length xs) c.push_reserved.ensures.items in
-    record {
-      apart = rw c.push_reserved.ensures.items (apart-push c.args.row.now.held.items c.args.resource c.requires.kept.apart c.requires.new);
-      room = omega (arith, c.push_reserved.ensures.len, c.push_reserved.ensures.capacity, c.requires.kept.room, one);
-      few = omega (arith, c.requires.kept.few, one, c.push_reserved.ensures.len, c.push_reserved.new.self.ok.0, c.args.row.now.held.ok.0);
-    }
+returns-clause-kept c = elim c.if-is_fresh.branch [
+  | then-is_fresh w ↦ rw w.row-is (fresh-kept c.args.resource c.args.row.now c.requires.kept c.requires.waits (record { transaction = c.args.row.now.transaction; held = w.push_reserved.new.self; wanted = None }) refl refl (sym c.is_fresh.ensures ∙ w.if-is_fresh.true) w.push_reserved.ensures.items w.push_reserved.ensures.len w.push_reserved.ensures.capacity)
+  | else-is_fresh w ↦ rw w.row-is (converted-kept c.args.resource c.args.row.now c.requires.kept c.requires.waits (record { transaction = c.args.row.now.transaction; held = c.args.row.now.held; wanted = None }) refl refl (sym c.is_fresh.ensures ∙ w.if-is_fresh.false) refl)
+]

@@ -1,14 +1,14 @@
 use Rattle.std.proofs.Common.{◌≡◌, ℕ, List, length, arith, ap, subst, sym, rules}
 use Rattle.std.proofs.lemmas.Fn.{filter_same}
 use Rattle.lock_desk.specs.Cells.{AreApart}
-use Rattle.lock_desk.specs.Rows.{paths_but}
+use Rattle.lock_desk.specs.Rows.{paths_but, wanted_in}
 use Rattle.lock_desk.proofs.Frees.{apart-but, few-but}
 use Rattle.lock_desk.proofs.rows.drop_lock.Goals as goal
 
 pub returns-clause-standing : goal.returns-clause-standing
 returns-clause-standing c =
     let e : c.retain.new.self.items ≡ paths_but c.args.resource c.args.row.now.held.items = filter_same _ _ _ (λ x b f' k. search rules) _ _ c.retain.ensures.filtered in
-    ap (λ (xs : List (List ℕ)). record { transaction = c.args.row.now.transaction; held = xs; wanted = c.args.row.now.wanted }) e
+    ap (λ (xs : List (List ℕ)). record { transaction = c.args.row.now.transaction; held = xs; wanted = wanted_in c.args.row.now.wanted }) e
 
 pub returns-clause-kept : goal.returns-clause-kept
 returns-clause-kept c =
@@ -17,6 +17,7 @@ returns-clause-kept c =
     let f = few-but c.args.resource c.args.row.now.held.items in
     record {
       apart = subst AreApart (sym e) (apart-but c.args.resource c.args.row.now.held.items c.requires.kept.apart);
+      kind = rw c.requires.idle tt;
       room = omega (arith, l, f, c.retain.ensures.capacity, c.requires.kept.room, c.retain.new.self.ok.0, c.args.row.now.held.ok.0);
       few = omega (arith, l, f, c.requires.kept.few);
     }

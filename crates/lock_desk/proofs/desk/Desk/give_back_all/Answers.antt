@@ -1,17 +1,32 @@
-use Rattle.std.proofs.Common.{◌∙◌, ap, arith, length, length-append, [], ◌∷◌}
+use Rattle.std.proofs.Common.{refl, ◌∙◌, ap, arith, length, length-append, [], ◌∷◌}
 use Rattle.lock_desk.specs.Rows.{Standing}
 use Rattle.lock_desk.specs.Changes.{standing}
-use Rattle.lock_desk.proofs.Backs.{back-more}
+use Rattle.lock_desk.proofs.Standings.{standing-here}
+use Rattle.lock_desk.proofs.Asks.{within}
+use Rattle.lock_desk.proofs.Backs.{back-none, back-more}
 use Rattle.lock_desk.proofs.desk.Desk.give_back_all.Goals as goal
+
+pub loop-lock-init : goal.loop-lock-init
+loop-lock-init c =
+    let d = c.args.self.now in
+    let long = ap (λ (x : Standing). length x.held) (standing-here d.rows.items c.args.session c.index-row.result.now (within d c.args.session c.requires.within) c.index-row.ensures) in
+    record {
+      back = back-none c.args.session c.args.self.now c.requires.whole c.requires.idle;
+      whole = c.requires.whole;
+      left = omega (arith, c.len-locks.ensures, long, c.index-row.result.now.held.ok.0);
+      waits = refl;
+      len = refl;
+    }
 
 pub loop-lock-preserved : goal.loop-lock-preserved
 loop-lock-preserved c =
     let k = c.loop-lock.invariant in
     let g = c.give_back.ensures.back in
-    let held = ap (λ (x : Standing). length x.held) g.own in
+    let held = ap length g.held in
     record {
       back = back-more c.args.session c.args.self.now c.loop-lock.self c.give_back.new.self k.whole k.back g;
       whole = c.give_back.ensures.whole;
       left = omega (arith, k.left, held, length-append (standing c.args.session c.give_back.new.self).held (g.resource ∷ []));
+      waits = c.give_back.ensures.waits ∙ k.waits;
       len = c.give_back.ensures.len ∙ k.len;
     }

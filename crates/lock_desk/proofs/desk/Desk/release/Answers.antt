@@ -1,18 +1,25 @@
-use Rattle.std.proofs.Common.{refl}
+use Rattle.std.proofs.Common.{refl, ap, sym, ◌∙◌}
+use Rattle.lock_desk.specs.Rows.{Standing}
+use Rattle.lock_desk.proofs.Standings.{standing-here}
 use Rattle.lock_desk.proofs.Asks.{within}
-use Rattle.lock_desk.proofs.Frees.{let-go-agree, let-go-released, let-go-whole}
+use Rattle.lock_desk.proofs.Frees.{gives-lock, freed-agree, has-freed, freed-whole}
 use Rattle.lock_desk.proofs.desk.Desk.release.Goals as goal
 
-pub release-requires-clause-agree : goal.release-requires-clause-agree
-release-requires-clause-agree c =
-    let-go-agree c.args.self.now c.args.session c.args.resource c.index_mut-row.result.now c.drop_lock.new.row (within c.args.self.now c.args.session c.requires.within) c.index_mut-row.ensures.value c.drop_lock.ensures.standing c.requires.whole
+pub free-requires-clause-agree : goal.free-requires-clause-agree
+free-requires-clause-agree c =
+    freed-agree c.args.self.now _ c.args.session c.args.resource c.index_mut-row.result.now c.drop_lock.new.row (within c.args.self.now c.args.session c.requires.within) c.index_mut-row.ensures.value
+    (gives-lock c.args.resource _ _ c.drop_lock.ensures.standing) c.requires.whole
 
-pub returns-clause-released : goal.returns-clause-released
-returns-clause-released c =
-    let-go-released c.args.self.now c.args.session c.args.resource c.index_mut-row.result.now c.drop_lock.new.row (within c.args.self.now c.args.session c.requires.within) c.index_mut-row.ensures.value c.drop_lock.ensures.standing c.requires.whole
-    _ c.requires.can.idle refl c.release.ensures.cells c.release.ensures.agree c.release.ensures.rows c.release.ensures.granted
+pub returns-clause-freed : goal.returns-clause-freed
+returns-clause-freed c =
+    has-freed c.args.self.now _ c.args.session c.args.resource c.index_mut-row.result.now c.drop_lock.new.row (within c.args.self.now c.args.session c.requires.within) c.index_mut-row.ensures.value
+    (gives-lock c.args.resource _ _ c.drop_lock.ensures.standing) c.requires.whole
+    _ (ap (λ (x : Standing). x.wanted) c.drop_lock.ensures.standing ∙ (ap (λ (x : Standing). x.wanted) (sym (standing-here c.args.self.now.rows.items c.args.session c.index_mut-row.result.now (within c.args.self.now c.args.session c.requires.within) c.index_mut-row.ensures.value)) ∙ c.requires.can.idle))
+    c.free.ensures.cells c.free.ensures.agree c.free.ensures.rows c.free.ensures.granted refl
 
 pub returns-clause-whole : goal.returns-clause-whole
 returns-clause-whole c =
-    let-go-whole c.args.self.now c.args.session c.args.resource c.index_mut-row.result.now c.drop_lock.new.row (within c.args.self.now c.args.session c.requires.within) c.index_mut-row.ensures.value c.drop_lock.ensures.standing c.requires.whole
-    _ c.requires.can.idle refl c.release.ensures.cells c.release.ensures.agree c.release.ensures.rows c.release.ensures.granted
+    freed-whole c.args.self.now _ c.args.session c.args.resource c.index_mut-row.result.now c.drop_lock.new.row (within c.args.self.now c.args.session c.requires.within) c.index_mut-row.ensures.value
+    (gives-lock c.args.resource _ _ c.drop_lock.ensures.standing) c.requires.whole
+    _ (ap (λ (x : Standing). x.wanted) c.drop_lock.ensures.standing ∙ (ap (λ (x : Standing). x.wanted) (sym (standing-here c.args.self.now.rows.items c.args.session c.index_mut-row.result.now (within c.args.self.now c.args.session c.requires.within) c.index_mut-row.ensures.value)) ∙ c.requires.can.idle))
+    c.free.ensures.cells c.free.ensures.agree c.free.ensures.rows c.free.ensures.granted

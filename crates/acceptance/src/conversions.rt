@@ -1,0 +1,302 @@
+//! Conversions, polls and aborts: traces with the histories that were worked out for them by hand.
+
+use crate::running::replay;
+use std::test::Fail;
+
+// The target of a conversion is the least mode at or above what is held and what is asked. One that is held already
+// changes nothing.
+const LEAST_UPPER_BOUNDS: (&str, &str) = (
+    "1,begin,,
+1,lock,1,IX
+1,lock,1,S
+1,lock,1,IS
+1,convert,2,S
+1,lock,1,NL
+1,begin,,
+",
+    "0,1,begin,,,began,1
+1,1,lock,1,IX,granted,IX
+2,1,lock,1,S,granted,SIX
+3,1,lock,1,IS,granted,SIX
+4,1,convert,2,S,refused,NotHeld
+5,1,lock,1,NL,refused,NothingAsked
+6,1,begin,,,refused,AlreadyOpen
+",
+);
+
+const PARENTS_OF_CONVERSIONS: (&str, &str) = (
+    "1,begin,,
+1,lock,1,IS
+1,lock,1/1,S
+1,convert,1/1,X
+1,convert,1,IX
+1,convert,1/1,X
+1,convert,1,NL
+1,abort,,
+",
+    "0,1,begin,,,began,1
+1,1,lock,1,IS,granted,IS
+2,1,lock,1/1,S,granted,S
+3,1,convert,1/1,X,refused,ParentNotHeld
+4,1,convert,1,IX,granted,IX
+5,1,convert,1/1,X,granted,X
+6,1,convert,1,NL,refused,NothingAsked
+7,1,abort,,,aborted,2
+",
+);
+
+// A conversion is granted wherever it fits, whatever waits.
+const CONVERSION_PAST_A_WRITER: (&str, &str) = (
+    "1,begin,,
+2,begin,,
+1,lock,1,S
+2,lock,1,X
+1,lock,1,X
+2,poll,,
+1,commit,,
+2,poll,,
+",
+    "0,1,begin,,,began,1
+1,2,begin,,,began,2
+2,1,lock,1,S,granted,S
+3,2,lock,1,X,waiting,
+4,1,lock,1,X,granted,X
+5,2,poll,,,waiting,
+6,1,commit,,,committed,1
+7,2,poll,,,clear,
+",
+);
+
+// A conversion that doesn't fit waits ahead of a writer that came before it. In the end session 1 holds SIX.
+const CONVERSION_AHEAD_OF_A_WRITER: (&str, &str) = (
+    "1,begin,,
+2,begin,,
+3,begin,,
+1,lock,1,S
+2,lock,1,S
+3,lock,1,X
+1,lock,1,IX
+2,commit,,
+1,poll,,
+3,poll,,
+1,lock,1,IS
+",
+    "0,1,begin,,,began,1
+1,2,begin,,,began,2
+2,3,begin,,,began,3
+3,1,lock,1,S,granted,S
+4,2,lock,1,S,granted,S
+5,3,lock,1,X,waiting,
+6,1,lock,1,IX,waiting,
+7,2,commit,,,committed,1
+8,1,poll,,,clear,
+9,3,poll,,,waiting,
+10,1,lock,1,IS,granted,SIX
+",
+);
+
+// Session 4 waits first, and then 2 and 1 for conversions. SIX of 2 fits beside IS of 1, and S of 1 not beside SIX.
+const CONVERSIONS_BY_ARRIVAL: (&str, &str) = (
+    "1,begin,,
+2,begin,,
+3,begin,,
+4,begin,,
+1,lock,1,IS
+2,lock,1,IS
+3,lock,1,IX
+4,lock,1,S
+2,convert,1,SIX
+1,convert,1,S
+3,commit,,
+2,poll,,
+1,poll,,
+4,poll,,
+2,commit,,
+1,poll,,
+4,poll,,
+",
+    "0,1,begin,,,began,1
+1,2,begin,,,began,2
+2,3,begin,,,began,3
+3,4,begin,,,began,4
+4,1,lock,1,IS,granted,IS
+5,2,lock,1,IS,granted,IS
+6,3,lock,1,IX,granted,IX
+7,4,lock,1,S,waiting,
+8,2,convert,1,SIX,waiting,
+9,1,convert,1,S,waiting,
+10,3,commit,,,committed,1
+11,2,poll,,,clear,
+12,1,poll,,,waiting,
+13,4,poll,,,waiting,
+14,2,commit,,,committed,1
+15,1,poll,,,clear,
+16,4,poll,,,clear,
+",
+);
+
+const WRITER_AFTER_A_READER: (&str, &str) = (
+    "1,begin,,
+2,begin,,
+1,lock,1,S
+2,lock,1,IX
+1,commit,,
+2,poll,,
+",
+    "0,1,begin,,,began,1
+1,2,begin,,,began,2
+2,1,lock,1,S,granted,S
+3,2,lock,1,IX,waiting,
+4,1,commit,,,committed,1
+5,2,poll,,,clear,
+",
+);
+
+const READER_BEHIND_A_WRITER: (&str, &str) = (
+    "1,begin,,
+2,begin,,
+3,begin,,
+1,lock,1,S
+2,lock,1,X
+3,lock,1,S
+1,commit,,
+2,poll,,
+3,poll,,
+",
+    "0,1,begin,,,began,1
+1,2,begin,,,began,2
+2,3,begin,,,began,3
+3,1,lock,1,S,granted,S
+4,2,lock,1,X,waiting,
+5,3,lock,1,S,waiting,
+6,1,commit,,,committed,1
+7,2,poll,,,clear,
+8,3,poll,,,waiting,
+",
+);
+
+// A session that waits can't commit, but it can abort. What waited behind it is promoted.
+const ABORT_OF_A_WAITING_WRITER: (&str, &str) = (
+    "1,begin,,
+2,begin,,
+3,begin,,
+1,lock,1,S
+2,lock,1,X
+3,lock,1,IS
+2,commit,,
+2,abort,,
+3,poll,,
+",
+    "0,1,begin,,,began,1
+1,2,begin,,,began,2
+2,3,begin,,,began,3
+3,1,lock,1,S,granted,S
+4,2,lock,1,X,waiting,
+5,3,lock,1,IS,waiting,
+6,2,commit,,,refused,IsWaiting
+7,2,abort,,,aborted,0
+8,3,poll,,,clear,
+",
+);
+
+// The first test that a call fails is told.
+const REFUSED_IN_ORDER: (&str, &str) = (
+    "1,convert,1,NL
+1,poll,,
+1,abort,,
+1,begin,,
+1,convert,1/2,NL
+1,convert,1/2,X
+1,lock,1,X
+2,begin,,
+2,lock,1,S
+2,convert,1,NL
+2,poll,,
+2,abort,,
+2,poll,,
+1,abort,,
+",
+    "0,1,convert,1,NL,refused,NoTransaction
+1,1,poll,,,refused,NoTransaction
+2,1,abort,,,refused,NoTransaction
+3,1,begin,,,began,1
+4,1,convert,1/2,NL,refused,NothingAsked
+5,1,convert,1/2,X,refused,NotHeld
+6,1,lock,1,X,granted,X
+7,2,begin,,,began,2
+8,2,lock,1,S,waiting,
+9,2,convert,1,NL,refused,IsWaiting
+10,2,poll,,,waiting,
+11,2,abort,,,aborted,0
+12,2,poll,,,refused,NoTransaction
+13,1,abort,,,aborted,1
+",
+);
+
+// This pair is also the example `conversions.csv`.
+const EXAMPLE: (&str, &str) = (
+    "1,begin,,
+2,begin,,
+3,begin,,
+1,lock,1,S
+2,lock,1,S
+3,lock,1,X
+1,convert,1,IX
+2,commit,,
+1,poll,,
+3,poll,,
+1,lock,1/2,X
+1,abort,,
+3,poll,,
+3,commit,,
+",
+    "0,1,begin,,,began,1
+1,2,begin,,,began,2
+2,3,begin,,,began,3
+3,1,lock,1,S,granted,S
+4,2,lock,1,S,granted,S
+5,3,lock,1,X,waiting,
+6,1,convert,1,IX,waiting,
+7,2,commit,,,committed,1
+8,1,poll,,,clear,
+9,3,poll,,,waiting,
+10,1,lock,1/2,X,granted,X
+11,1,abort,,,aborted,2
+12,3,poll,,,clear,
+13,3,commit,,,committed,1
+",
+);
+
+#[test]
+fn conversions_give_their_histories(rt: HostRuntime) -> Result<(), Fail> {
+    for (trace, history) in [
+        LEAST_UPPER_BOUNDS,
+        PARENTS_OF_CONVERSIONS,
+        CONVERSION_PAST_A_WRITER,
+        CONVERSION_AHEAD_OF_A_WRITER,
+        CONVERSIONS_BY_ARRIVAL,
+        EXAMPLE,
+    ] {
+        let ran = replay(&rt, trace)?;
+        assert_eq!(rt; ran.status, 0, "{trace}");
+        assert_eq!(rt; ran.output.as_slice(), history.as_bytes(), "{trace}");
+        assert!(rt; ran.errors.is_empty(), "{trace}");
+    }
+    Ok(())
+}
+
+#[test]
+fn polls_and_aborts_give_their_histories(rt: HostRuntime) -> Result<(), Fail> {
+    for (trace, history) in [
+        WRITER_AFTER_A_READER,
+        READER_BEHIND_A_WRITER,
+        ABORT_OF_A_WAITING_WRITER,
+        REFUSED_IN_ORDER,
+    ] {
+        let ran = replay(&rt, trace)?;
+        assert_eq!(rt; ran.status, 0, "{trace}");
+        assert_eq!(rt; ran.output.as_slice(), history.as_bytes(), "{trace}");
+        assert!(rt; ran.errors.is_empty(), "{trace}");
+    }
+    Ok(())
+}

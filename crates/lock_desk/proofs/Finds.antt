@@ -1,0 +1,212 @@
+-- The pairs that are written down are the waits of the state that the desk shows.
+use Rattle.std.proofs.Common.{◌≡◌, ℕ, ◌+◌, ◌≤◌, Bool, true, false, cond, not, eqb, ◌&&◌, ◌||◌, ◌⊎◌, inl, inr, List, [], ◌∷◌, ◌++◌, map, Option, Some, None, is_some, refl, sym, ◌∙◌, ap, arith, subst}
+use Rattle.std.specs.Prelude.{filter}
+use Rattle.std.proofs.lemmas.Bool.Decides.{nat_tests, Decides-eqb}
+use Rattle.std.proofs.lemmas.Bool.{and_parts, and_from}
+use Rattle.lock_modes.specs.declared.Mode.{Mode}
+use Rattle.lock_modes.specs.Compatibility.{are_compatible}
+use Rattle.lock_tree.specs.Paths.{same_path}
+use Rattle.lock_rules.specs.State as rules
+use Rattle.lock_rules.specs.Queue.{queue}
+use Rattle.lock_rules.specs.Waits.{conflicts, stands_before, keeps_waiting, waits_for, wanted}
+use Rattle.lock_rules.proofs.Lists.{bool_cases, same_path-refl, same_path-true, request_of-session, times, after, ascend}
+use Rattle.lock_rules.proofs.Sound.{IsSound}
+use Rattle.lock_desk.specs.declared.cells.Claim.{Claim}
+use Rattle.lock_desk.specs.declared.desk.Desk.{Desk}
+use Rattle.lock_desk.specs.Cells.{View, has_claim, mode_of, pair_of, has_path}
+use Rattle.lock_desk.specs.Rows.{is_wanted}
+use Rattle.lock_desk.specs.Changes.{standings, standing, IsWhole}
+use Rattle.lock_desk.specs.Finding.{holder_blocks, stands_first, target_blocks, view_blocks, blocks_at, blocks}
+use Rattle.lock_desk.specs.Shows.{short, claims_on, view, Shows}
+use Rattle.lock_desk.proofs.Tables.{mode-seen}
+use Rattle.lock_desk.proofs.Counts.{queue-has, waits_on-once, waits-told}
+use Rattle.lock_desk.proofs.Leaves.{Ascends}
+use Rattle.lock_desk.proofs.Steps.{ascends-seen}
+
+-- the queue
+
+stands-seen : (u s : ℕ) (qs : List rules.Claim) → stands_first u s (map short qs) ≡ stands_before u s qs
+stands-seen u s [] = refl
+stands-seen u s (q ∷ qs) = ap (λ (b : Bool). cond (eqb q.session s) false (eqb q.session u || b)) (stands-seen u s qs)
+
+-- nobody stands before itself
+stands-self : (s : ℕ) (qs : List rules.Claim) → stands_before s s qs ≡ false
+stands-self s [] = refl
+stands-self s (q ∷ qs) = go (eqb q.session s) (stands-self s qs)
+  where
+    go : (b : Bool) → stands_before s s qs ≡ false → cond b false (b || stands_before s s qs) ≡ false
+    go true n = refl
+    go false n = n
+
+mode-short : (s : ℕ) (qs : List rules.Claim) (q : rules.Claim) → rules.request_of s qs ≡ Some q → mode_of s (map short qs) ≡ Some q.mode
+mode-short s [] q h = absurd (cc)
+mode-short s (p ∷ qs) q h = go (eqb p.session s) h (mode-short s qs q)
+  where
+    go : (b : Bool) → cond b (Some p) (rules.request_of s qs) ≡ Some q → (rules.request_of s qs ≡ Some q → mode_of s (map short qs) ≡ Some q.mode) → cond b (Some p.mode) (mode_of s (map short qs)) ≡ Some q.mode
+    go true h next = let same : p ≡ q = cc in ap (λ (c : rules.Claim). Some c.mode) same
+    go false h next = next h
+
+kept-request : (s : ℕ) (p : rules.Claim → Bool) (qs : List rules.Claim) (q : rules.Claim) → rules.request_of s qs ≡ Some q → p q ≡ true → rules.request_of s (filter p qs) ≡ Some q
+kept-request s p [] q h e = absurd (cc)
+kept-request s p (c ∷ qs) q h e = go (eqb c.session s) (p c) refl refl h (kept-request s p qs q)
+  where
+    go : (b k : Bool) → eqb c.session s ≡ b → p c ≡ k → cond b (Some c) (rules.request_of s qs) ≡ Some q → (rules.request_of s qs ≡ Some q → p q ≡ true → rules.request_of s (filter p qs) ≡ Some q) → rules.request_of s (cond k (c ∷ filter p qs) (filter p qs)) ≡ Some q
+    go true true f g h next = ap (λ (b : Bool). cond b (Some c) (rules.request_of s (filter p qs))) f ∙ h
+    go true false f g h next = let same : c ≡ q = cc in absurd (no (sym (ap p same) ∙ g) e)
+      where
+        no : {x : Bool} → x ≡ false → x ≡ true → ⊥
+        no a b = cc
+    go false true f g h next = ap (λ (b : Bool). cond b (Some c) (rules.request_of s (filter p qs))) f ∙ next h e
+    go false false f g h next = next h e
+
+none-kept : (s : ℕ) (p : rules.Claim → Bool) (qs : List rules.Claim) → times s qs ≡ 0 → rules.request_of s (filter p qs) ≡ None
+none-kept s p [] h = refl
+none-kept s p (c ∷ qs) h = grind (arith, nat_tests, bool_cases (p c), none-kept s p qs)
+
+lost-request : (s : ℕ) (p : rules.Claim → Bool) (qs : List rules.Claim) (q : rules.Claim) → times s qs ≤ 1 → rules.request_of s qs ≡ Some q → p q ≡ false → rules.request_of s (filter p qs) ≡ None
+lost-request s p [] q o h e = refl
+lost-request s p (c ∷ qs) q o h e = go (eqb c.session s) (p c) refl refl o h (lost-request s p qs q) (none-kept s p qs)
+  where
+    go : (b k : Bool) → eqb c.session s ≡ b → p c ≡ k → cond b 1 0 + times s qs ≤ 1 → cond b (Some c) (rules.request_of s qs) ≡ Some q
+        → (times s qs ≤ 1 → rules.request_of s qs ≡ Some q → p q ≡ false → rules.request_of s (filter p qs) ≡ None) → (times s qs ≡ 0 → rules.request_of s (filter p qs) ≡ None)
+        → rules.request_of s (cond k (c ∷ filter p qs) (filter p qs)) ≡ None
+    go true true f g o h next none = let same : c ≡ q = cc in absurd (no (sym (ap p same) ∙ g) e)
+      where
+        no : {x : Bool} → x ≡ true → x ≡ false → ⊥
+        no a b = cc
+    go true false f g o h next none = none (omega (arith, o))
+    go false true f g o h next none = ap (λ (b : Bool). cond b (Some c) (rules.request_of s (filter p qs))) f ∙ next (omega (arith, o)) h e
+    go false false f g o h next none = next (omega (arith, o)) h e
+
+append-first : (s : ℕ) (xs ys : List rules.Claim) (q : rules.Claim) → rules.request_of s xs ≡ Some q → rules.request_of s (xs ++ ys) ≡ Some q
+append-first s [] ys q h = absurd (cc)
+append-first s (x ∷ xs) ys q h = go (eqb x.session s) h (append-first s xs ys q)
+  where
+    go : (b : Bool) → cond b (Some x) (rules.request_of s xs) ≡ Some q → (rules.request_of s xs ≡ Some q → rules.request_of s (xs ++ ys) ≡ Some q) → cond b (Some x) (rules.request_of s (xs ++ ys)) ≡ Some q
+    go true h next = h
+    go false h next = next h
+
+append-second : (s : ℕ) (xs ys : List rules.Claim) → rules.request_of s xs ≡ None → rules.request_of s (xs ++ ys) ≡ rules.request_of s ys
+append-second s [] ys h = refl
+append-second s (x ∷ xs) ys h = go (eqb x.session s) h (append-second s xs ys)
+  where
+    go : (b : Bool) → cond b (Some x) (rules.request_of s xs) ≡ None → (rules.request_of s xs ≡ None → rules.request_of s (xs ++ ys) ≡ rules.request_of s ys) → cond b (Some x) (rules.request_of s (xs ++ ys)) ≡ rules.request_of s ys
+    go true h next = absurd (cc)
+    go false h next = next h
+
+-- a session's request stands in the queue of its resource
+request-queued : (s : ℕ) (t : rules.Table) (q : rules.Claim) → times s t.waits ≤ 1 → rules.request_of s t.waits ≡ Some q → rules.request_of s (queue t q.resource) ≡ Some q
+request-queued s t q o h = go (is_some (rules.held_mode t q.session q.resource)) refl
+  where
+    r : List ℕ
+    r = q.resource
+
+    p : rules.Claim → Bool
+    p c = same_path c.resource r && is_some (rules.held_mode t c.session r)
+
+    p' : rules.Claim → Bool
+    p' c = same_path c.resource r && not (is_some (rules.held_mode t c.session r))
+
+    go : (b : Bool) → is_some (rules.held_mode t q.session r) ≡ b → rules.request_of s (filter p t.waits ++ filter p' t.waits) ≡ Some q
+    go true e = append-first s (filter p t.waits) (filter p' t.waits) q (kept-request s p t.waits q h (and_from (same_path r r) (is_some (rules.held_mode t q.session r)) (same_path-refl r) e))
+    go false e =
+        append-second s (filter p t.waits) (filter p' t.waits) (lost-request s p t.waits q o h (ap (λ (b : Bool). same_path r r && b) e ∙ and-none (same_path r r)))
+        ∙ kept-request s p' t.waits q h (and_from (same_path r r) (not (is_some (rules.held_mode t q.session r))) (same_path-refl r) (ap not e))
+      where
+        and-none : (b : Bool) → (b && false) ≡ false
+        and-none true = refl
+        and-none false = refl
+
+-- the holders
+
+none-after : (s u : ℕ) (m : Mode) (hs : List Claim) → after u (map pair_of hs) ≡ true → holder_blocks s m u hs ≡ false
+none-after s u m [] h = refl
+none-after s u m (k ∷ hs) h = grind (arith, nat_tests, none-after s u m hs)
+
+-- of holders in order the one of the session decides
+holder-seen : (s u : ℕ) (m : Mode) (hs : List Claim) → Ascends hs → holder_blocks s m u hs ≡ (not (eqb u s) && conflicts m (mode_of u hs))
+holder-seen s u m [] h = sym (and-none (not (eqb u s)))
+  where
+    and-none : (b : Bool) → (b && false) ≡ false
+    and-none true = refl
+    and-none false = refl
+holder-seen s u m (k ∷ hs) h =
+    let p = and_parts (after k.session (map pair_of hs)) (ascend (map pair_of hs)) h in
+    go (bool_cases (eqb k.session u)) p.0 (holder-seen s u m hs p.1)
+  where
+    go : (eqb k.session u ≡ true) ⊎ (eqb k.session u ≡ false) → after k.session (map pair_of hs) ≡ true → holder_blocks s m u hs ≡ (not (eqb u s) && conflicts m (mode_of u hs))
+        → holder_blocks s m u (k ∷ hs) ≡ (not (eqb u s) && conflicts m (mode_of u (k ∷ hs)))
+    go (inl e) f next =
+        let g = (Decides-eqb k.session u).0 e in
+        let none = none-after s u m hs (subst (λ (i : ℕ). after i (map pair_of hs) ≡ true) g f) in
+        (λ i. (e i && (not (eqb (g i) s) && not (are_compatible m k.mode))) || none i)
+        ∙ (or-none (not (eqb u s) && not (are_compatible m k.mode)) ∙ sym (ap (λ (b : Bool). not (eqb u s) && conflicts m (cond b (Some k.mode) (mode_of u hs))) e))
+      where
+        or-none : (b : Bool) → (b || false) ≡ b
+        or-none true = refl
+        or-none false = refl
+    go (inr e) f next =
+        ap (λ (b : Bool). (b && (not (eqb k.session s) && not (are_compatible m k.mode))) || holder_blocks s m u hs) e
+        ∙ (next ∙ sym (ap (λ (b : Bool). not (eqb u s) && conflicts m (cond b (Some k.mode) (mode_of u hs))) e))
+
+-- together
+
+module _ (d : Desk) (st : rules.State) (w : IsWhole d) (i : IsSound st.table) (h : Shows d st) where
+  -- who keeps a request waiting
+  blocks-request : (s u : ℕ) (q : rules.Claim) → rules.request_of s st.table.waits ≡ Some q → view_blocks s u (view q.resource st.table) ≡ (not (eqb u s) && keeps_waiting st.table u (Some q))
+  blocks-request s u q e =
+      let m = mode-short s (queue st.table q.resource) q (request-queued s st.table q (i.once s) e) in
+      let a = holder-seen s u q.mode (claims_on q.resource st.table.held) (ascends-seen st.table i q.resource) in
+      let b = stands-seen u s (queue st.table q.resource) in
+      ap (target_blocks s u (view q.resource st.table)) m
+      ∙ ((λ j. a j || b j)
+      ∙ (ap (λ (o : Option Mode). (not (eqb u s) && conflicts q.mode o) || stands_before u s (queue st.table q.resource)) (sym (mode-seen u q.resource st.table.held))
+      ∙ (both (eqb u s) refl (conflicts q.mode (rules.held_mode st.table u q.resource))
+      ∙ ap (λ (j : ℕ). not (eqb u s) && (conflicts q.mode (rules.held_mode st.table u q.resource) || stands_before u j (queue st.table q.resource))) (sym (request_of-session s st.table.waits q e)))))
+    where
+      both : (x : Bool) → eqb u s ≡ x → (c : Bool) → ((not x && c) || stands_before u s (queue st.table q.resource)) ≡ (not x && (c || stands_before u s (queue st.table q.resource)))
+      both true f c = let g = (Decides-eqb u s).0 f in ap (λ (j : ℕ). stands_before j s (queue st.table q.resource)) g ∙ stands-self s (queue st.table q.resource)
+      both false f c = refl
+
+  waits-where : (s : ℕ) (r : List ℕ) → (standing s d).wanted ≡ Some r → (q : rules.Claim) × (rules.request_of s st.table.waits ≡ Some q) × (q.resource ≡ r)
+  waits-where s r e = go (rules.request_of s st.table.waits) refl there
+    where
+      there : has_path r (wanted (rules.request_of s st.table.waits)) ≡ true
+      there =
+          sym (waits_on-once s r st.table.waits (i.once s)) ∙ (sym (queue-has s r st.table)
+          ∙ (sym (ap (λ (v : View). has_claim s v.waiting) (h.views r)) ∙ (sym ((w.agree r).wanted s) ∙ (ap (is_wanted r) e ∙ same_path-refl r))))
+
+      go : (o : Option rules.Claim) → rules.request_of s st.table.waits ≡ o → has_path r (wanted o) ≡ true → (q : rules.Claim) × (rules.request_of s st.table.waits ≡ Some q) × (q.resource ≡ r)
+      go None f k = absurd (cc)
+      go (Some q) f k = (q, f, same_path-true q.resource r (or-none (same_path q.resource r) k))
+        where
+          or-none : (b : Bool) → (b || false) ≡ true → b ≡ true
+          or-none true k = refl
+          or-none false k = k
+
+  -- who waits for whom in the desk does so in the state
+  pub pairs-shown : (s u : ℕ) → blocks d.cells.entries (standings d) s u ≡ waits_for st.table s u
+  pairs-shown s u = go (standing s d).wanted refl
+    where
+      none-found : rules.request_of s st.table.waits ≡ None → waits_for st.table s u ≡ false
+      none-found e = ap (λ (o : Option rules.Claim). not (eqb u s) && keeps_waiting st.table u o) e ∙ and-none (not (eqb u s))
+        where
+          and-none : (b : Bool) → (b && false) ≡ false
+          and-none true = refl
+          and-none false = refl
+
+      idle : (standing s d).wanted ≡ None → rules.request_of s st.table.waits ≡ None
+      idle e = none (rules.request_of s st.table.waits) (sym (waits-told s st.table (standing s d).wanted (λ x. (w.agree x).wanted s ∙ ap (λ (v : View). has_claim s v.waiting) (h.views x))) ∙ ap is_some e)
+        where
+          none : (o : Option rules.Claim) → is_some o ≡ false → o ≡ None
+          none None k = refl
+          none (Some q) k = absurd (cc)
+
+      go : (o : Option (List ℕ)) → (standing s d).wanted ≡ o → blocks d.cells.entries (standings d) s u ≡ waits_for st.table s u
+      go None e = ap (blocks_at s u d.cells.entries) e ∙ sym (none-found (idle e))
+      go (Some r) e =
+          let q = waits-where s r e in
+          ap (blocks_at s u d.cells.entries) e
+          ∙ (ap (view_blocks s u) (h.views r)
+          ∙ (ap (λ (x : List ℕ). view_blocks s u (view x st.table)) (sym q.2)
+          ∙ (blocks-request s u q.0 q.1 ∙ ap (λ (o : Option rules.Claim). not (eqb u s) && keeps_waiting st.table u o) (sym q.1))))

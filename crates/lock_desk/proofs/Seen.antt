@@ -1,0 +1,88 @@
+-- What the cells say after a change of one of them.
+use Rattle.std.proofs.Common.{◌≡◌, ℕ, zero, suc, ◌<◌, Bool, true, false, cond, not, ◌&&◌, inl, inr, List, [], ◌∷◌, length, map, get_or, set, Option, Some, IfSome, IsSome, refl, sym, ◌∙◌, ap, arith, subst}
+use Rattle.std.specs.Map.{lookup}
+use Rattle.std.specs.HashMap.{HashMap, get, WritesThrough}
+use Rattle.lock_tree.specs.Paths.{same_path}
+use Rattle.lock_rules.proofs.Lists.{same_path_tells}
+use Rattle.lock_desk.specs.declared.cells.Claim.{Claim}
+use Rattle.lock_desk.specs.declared.cells.Cell.{Cell}
+use Rattle.lock_desk.specs.Cells.{View, no_view, view_of, Cells, cell_at, said, cell_view, IsKeptCell, AreKeptCells, CellsBecame, is_nobody, is_busy}
+
+-- lists
+
+-- within a list the default is of no matter
+pub get_or-any : {A : Type 0} (xs : List A) (i : ℕ) (d e : A) → i < length xs → get_or xs i d ≡ get_or xs i e
+get_or-any [] i d e lt = absurd (omega arith)
+get_or-any (x ∷ xs) zero d e lt = refl
+get_or-any (x ∷ xs) (suc i) d e lt = get_or-any xs i d e (omega arith)
+
+-- writing what maps to the same leaves the map
+pub map-set_same : {A B : Type 0} (f : A → B) (xs : List A) (i : ℕ) (y : A) → f y ≡ f (get_or xs i y) → map f (set xs i y) ≡ map f xs
+map-set_same f [] i y h = refl
+map-set_same f (x ∷ xs) zero y h = ap (λ z. z ∷ map f xs) h
+map-set_same f (x ∷ xs) (suc i) y h = ap (λ zs. f x ∷ zs) (map-set_same f xs i y h)
+
+-- no cell has changed
+
+-- a choice of the same view
+pub same-view : (r q : List ℕ) (cs : Cells) → cell_view q cs ≡ cond (same_path r q) (cell_view r cs) (cell_view q cs)
+same-view r q cs = elim (same_path_tells r q) [
+  | inl h ↦ sym (ap (λ (b : Bool). cond b (cell_view r cs) (cell_view q cs)) h.0 ∙ ap (λ (p : List ℕ). cell_view p cs) h.1)
+  | inr h ↦ sym (ap (λ (b : Bool). cond b (cell_view r cs) (cell_view q cs)) h)
+]
+
+pub became-same : (r : List ℕ) (cs : Cells) → AreKeptCells cs → CellsBecame r (cell_view r cs) cs cs
+became-same r cs k = record { views = λ q. same-view r q cs; kept = k }
+
+-- the same under an equal view
+pub became-view : (r : List ℕ) (v w : View) (cs new : Cells) → v ≡ w → CellsBecame r v cs new → CellsBecame r w cs new
+became-view r v w cs new e h = subst (λ (x : View). CellsBecame r x cs new) e h
+
+-- one cell was written, or it came, or it went
+
+module _ (eq : List ℕ → List ℕ → Bool) (same : (a b : List ℕ) → eq a b ≡ same_path a b) where
+  -- the cell that an equal test finds
+  pub found : (r : List ℕ) (cs : Cells) → lookup (eq r) cs ≡ cell_at r cs
+  found r cs = ap (λ (test : List ℕ → Bool). lookup test cs) (λ i q. same r q i)
+
+  pub became : (r : List ℕ) (now : Option Cell) (cs new : Cells) → AreKeptCells cs → IfSome now IsKeptCell
+      → ((q : List ℕ) → lookup (eq q) new ≡ cond (eq r q) now (lookup (eq q) cs)) → CellsBecame r (said now) cs new
+  became r now cs new k kept updates = record {
+    views = λ q. ap said (at q) ∙ said-cond (same_path r q) (cell_at q cs);
+    kept = λ q. subst (λ (o : Option Cell). IfSome o IsKeptCell) (sym (at q)) (kept-cond (same_path r q) (cell_at q cs) (k q));
+  }
+    where
+      at : (q : List ℕ) → cell_at q new ≡ cond (same_path r q) now (cell_at q cs)
+      at q = sym (found q new) ∙ (updates q ∙ (λ i. cond (same r q i) now (found q cs i)))
+
+      said-cond : (b : Bool) (o : Option Cell) → said (cond b now o) ≡ cond b (said now) (said o)
+      said-cond true o = refl
+      said-cond false o = refl
+
+      kept-cond : (b : Bool) (o : Option Cell) → IfSome o IsKeptCell → IfSome (cond b now o) IsKeptCell
+      kept-cond true o h = kept
+      kept-cond false o h = h
+
+  -- the cell was written through what was lent
+  pub written : (r : List ℕ) {S : Type 0} (old new : HashMap (List ℕ) Cell S) (x c : Cell) (v : View) → AreKeptCells old.entries → Some x ≡ get eq old r → IsKeptCell c → WritesThrough eq (eq r) old c new → view_of c ≡ v
+      → CellsBecame r v old.entries new.entries
+  written r old new x c v k there kept lent e =
+      became-view r (view_of c) v old.entries new.entries e
+      (became r (Some c) old.entries new.entries k kept (lent.3 (subst IsSome there refl)).0)
+
+-- nobody holds what is idle, and nobody waits for it
+pub idle-view : (v : View) → is_busy v ≡ false → v ≡ no_view
+idle-view v h = λ i. record { holders = no-holders v.holders v.waiting h i; waiting = no-waiting v.holders v.waiting h i }
+  where
+    no-holders : (hs ws : List Claim) → not (is_nobody hs && is_nobody ws) ≡ false → hs ≡ []
+    no-holders [] ws h = refl
+    no-holders (x ∷ hs) ws h = absurd (cc)
+
+    no-waiting : (hs ws : List Claim) → not (is_nobody hs && is_nobody ws) ≡ false → ws ≡ []
+    no-waiting hs [] h = refl
+    no-waiting [] (x ∷ ws) h = absurd (cc)
+    no-waiting (y ∷ hs) (x ∷ ws) h = absurd (cc)
+
+-- the kept cell of a resource
+pub kept-at : (r : List ℕ) (cs : Cells) (c : Cell) → AreKeptCells cs → Some c ≡ cell_at r cs → IsKeptCell c
+kept-at r cs c k e = subst (λ (o : Option Cell). IfSome o IsKeptCell) (sym e) (k r)

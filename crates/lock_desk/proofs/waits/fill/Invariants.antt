@@ -1,0 +1,13 @@
+use Rattle.std.proofs.Common.{◌≡◌, ℕ, ◌+◌, ◌<◌, map, get_or}
+use Rattle.waits_for.specs.Pairs.{pairs_of}
+use Rattle.lock_desk.specs.Rows.{standing_of, standing_at, number_in}
+use Rattle.lock_desk.specs.Finding.{blocks, IsReady}
+use Rattle.lock_desk.proofs.waits.fill.Given as goal
+
+abbrev pub invariant-loop-session : goal.invariant-loop-session
+invariant-loop-session l = record {
+  sessions : l.waits.rows.sessions ≡ l.initial.waits.rows.sessions;
+  ready : IsReady l.initial.waits.rows.sessions l.waits;
+  pairs : (a b : ℕ) → a + 1 < l.session → pairs_of l.waits.rows a b ≡ blocks l.cells.entries (map standing_of l.rows) (a + 1) (b + 1);
+  numbers : (a : ℕ) → a + 1 < l.session → get_or l.waits.numbers.items a 0 ≡ number_in (standing_at (a + 1) (map standing_of l.rows)).transaction;
+}

@@ -1,0 +1,62 @@
+-- Who waits for whom, by what cells and rows say.
+use Rattle.std.specs.Prelude.{◌≡◌, ℕ, ◌+◌, ◌≤◌, Bool, false, not, ◌&&◌, ◌||◌, if◌then◌else◌, ◌==◌, List, [], ◌∷◌, Option, Some, None, slice_index_or, vec_len}
+use Rattle.std.specs.List.{All, list_any}
+use Rattle.waits_for.specs.Pairs.{pairs_of}
+use Rattle.lock_modes.specs.declared.Mode.{Mode}
+use Rattle.lock_modes.specs.Compatibility.{are_compatible}
+use Rattle.lock_desk.specs.declared.cells.Claim.{Claim}
+use Rattle.lock_desk.specs.declared.cells.Cell.{Cell}
+use Rattle.lock_desk.specs.declared.waits.Waits.{Waits}
+use Rattle.lock_desk.specs.Cells.{Cells, View, mode_of, view_of, cell_view}
+use Rattle.lock_desk.specs.Rows.{Standing, standing_at, number_in}
+
+-- u holds here, is another session, and holds a mode that conflicts with this one
+abbrev pub holder_blocks : ℕ → Mode → ℕ → List Claim → Bool
+holder_blocks s m u hs = list_any (λ h. (h.session == u) && (not (h.session == s) && not (are_compatible m h.mode))) hs
+
+-- the request of u stands before that of s
+abbrev pub stands_first : ℕ → ℕ → List Claim → Bool
+stands_first u s [] = false
+stands_first u s (q ∷ qs) = if q.session == s then false else ((q.session == u) || stands_first u s qs)
+
+-- s waits here with this target, and u keeps it waiting
+abbrev pub target_blocks : ℕ → ℕ → View → Option Mode → Bool
+target_blocks s u v None = false
+target_blocks s u v (Some m) = holder_blocks s m u v.holders || stands_first u s v.waiting
+
+abbrev pub view_blocks : ℕ → ℕ → View → Bool
+view_blocks s u v = target_blocks s u v (mode_of s v.waiting)
+
+abbrev pub cell_blocks : ℕ → ℕ → Cell → Bool
+cell_blocks s u c = view_blocks s u (view_of c)
+
+-- where it waits
+abbrev pub blocks_at : ℕ → ℕ → Cells → Option (List ℕ) → Bool
+blocks_at s u cs None = false
+blocks_at s u cs (Some r) = view_blocks s u (cell_view r cs)
+
+-- s waits, and u keeps it waiting
+abbrev pub blocks : Cells → List Standing → ℕ → ℕ → Bool
+blocks cs ss s u = blocks_at s u cs (standing_at s ss).wanted
+
+-- the number of each session's transaction is written down, and who waits for whom
+pub record IsFilled (cs : Cells) (ss : List Standing) (w : Waits) : Type 0 where
+  pub pairs : (a b : ℕ) → pairs_of w.rows a b ≡ blocks cs ss (a + 1) (b + 1)
+  pub numbers : (a : ℕ) → slice_index_or w.numbers.items a 0 ≡ number_in (standing_at (a + 1) ss).transaction
+
+-- each session of the claims is one of so many
+abbrev pub AreNumbered : ℕ → List Claim → Type 0
+AreNumbered n cs = All (λ c. (1 ≤ c.session) × (c.session ≤ n)) cs
+
+-- and so is each that holds a resource or waits for it
+pub record IsNumbered (n : ℕ) (v : View) : Type 0 where
+  pub holders : AreNumbered n v.holders
+  pub waiting : AreNumbered n v.waiting
+
+-- there is room for so many sessions, and nothing stands in a row that is not marked
+pub record IsReady (n : ℕ) (w : Waits) : Type 0 where
+  pub few : n ≤ 256
+  pub sessions : w.rows.sessions ≡ n
+  pub numbers : vec_len w.numbers ≡ n
+  pub filled : vec_len w.filled ≡ n
+  pub empty : (a b : ℕ) → slice_index_or w.filled.items a false ≡ false → pairs_of w.rows a b ≡ false

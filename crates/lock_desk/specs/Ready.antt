@@ -1,0 +1,9 @@
+-- When a desk is ready to look for deadlocks.
+use Rattle.std.specs.Prelude.{◌≡◌, ◌+◌, vec_len}
+use Rattle.lock_desk.specs.declared.desk.Desk.{Desk}
+use Rattle.lock_desk.specs.Finding.{IsReady}
+
+-- there is a row for each session, and room to write down who waits for whom
+pub record IsReadyDesk (d : Desk) : Type 0 where
+  pub long : d.waits.rows.sessions + 1 ≡ vec_len d.rows
+  pub ready : IsReady d.waits.rows.sessions d.waits

@@ -1,0 +1,161 @@
+//! The tests of each call: the first that fails gives the refusal.
+
+ghost use Rattle.std.specs.Prelude.{◌≡◌, ◌<◌, vec_len};
+ghost use Rattle.lock_rules.specs.Step.{is_nothing, target_of, first_failing};
+ghost use Rattle.lock_desk.specs.Changes.{lacks_seen, open_tests, idle_tests, standing_tests, lock_tests, convert_tests, release_tests, request_tests, desk_tests};
+
+use crate::desk::Desk;
+use crate::rows::{holds_below, is_doomed};
+use lock_modes::Mode;
+use lock_rules::{Call, MAX_LOCKS, Why};
+use lock_tree::Resource;
+
+impl Desk {
+    /// Whether what the session holds on the parent doesn't cover what the mode needs there.
+    fn lacks_parent(&self, session: u16, resource: Resource, mode: Mode) -> bool
+        ensures { result ≡ lacks_seen self.now session resource mode }
+    {
+        let Some(parent) = resource.parent() else {
+            return false;
+        };
+        let held = match self.held(session, parent) {
+            Some(held) => held,
+            None => Mode::NL,
+        };
+        !held.covers(mode.parent_need())
+    }
+
+    /// The refusal of a session that has no transaction.
+    fn open_refusal(&self, session: u16) -> Option<Why>
+        requires { session < vec_len self.now.rows }
+        ensures { result ≡ first_failing (open_tests self.now session) }
+    {
+        if self.rows[session as usize].transaction.is_none() {
+            return Some(Why::NoTransaction);
+        }
+        None
+    }
+
+    /// The refusal of a session that has no transaction, or waits, or is doomed.
+    fn idle_refusal(&self, session: u16) -> Option<Why>
+        requires { session < vec_len self.now.rows }
+        ensures { result ≡ first_failing (idle_tests self.now session) }
+    {
+        if let Some(why) = self.open_refusal(session) {
+            return Some(why);
+        }
+        let row = &self.rows[session as usize];
+        if row.wanted.is_some() {
+            return Some(Why::IsWaiting);
+        }
+        if is_doomed(row.transaction) {
+            return Some(Why::IsDoomed);
+        }
+        None
+    }
+
+    fn lock_refusal(&self, session: u16, resource: Resource, mode: Mode) -> Option<Why>
+        requires { session < vec_len self.now.rows }
+        ensures { result ≡ first_failing (lock_tests self.now session resource mode) }
+    {
+        if is_nothing(mode) {
+            return Some(Why::NothingAsked);
+        }
+        let held = self.held(session, resource);
+        if self.lacks_parent(session, resource, target_of(held, mode)) {
+            return Some(Why::ParentNotHeld);
+        }
+        let row = &self.rows[session as usize];
+        if held.is_none() && row.held.len() >= MAX_LOCKS {
+            return Some(Why::TooManyLocks);
+        }
+        None
+    }
+
+    fn convert_refusal(&self, session: u16, resource: Resource, mode: Mode) -> Option<Why>
+        ensures { result ≡ first_failing (convert_tests self.now session resource mode) }
+    {
+        if is_nothing(mode) {
+            return Some(Why::NothingAsked);
+        }
+        let held = self.held(session, resource);
+        if held.is_none() {
+            return Some(Why::NotHeld);
+        }
+        if self.lacks_parent(session, resource, target_of(held, mode)) {
+            return Some(Why::ParentNotHeld);
+        }
+        None
+    }
+
+    fn release_refusal(&self, session: u16, resource: Resource) -> Option<Why>
+        requires { session < vec_len self.now.rows }
+        ensures { result ≡ first_failing (release_tests self.now session resource) }
+    {
+        if self.held(session, resource).is_none() {
+            return Some(Why::NotHeld);
+        }
+        if holds_below(&self.rows[session as usize], resource) {
+            return Some(Why::ChildHeld);
+        }
+        None
+    }
+
+    /// The refusal by the tests of a call that ask what it is for.
+    fn request_refusal(&self, session: u16, call: Call) -> Option<Why>
+        requires { session < vec_len self.now.rows }
+        ensures { result ≡ first_failing (request_tests self.now session call) }
+    {
+        match call {
+            Call::Lock(resource, mode) => self.lock_refusal(session, resource, mode),
+            Call::Convert(resource, mode) => self.convert_refusal(session, resource, mode),
+            Call::Release(resource) => self.release_refusal(session, resource),
+            Call::Begin | Call::Poll | Call::Commit | Call::Abort => None,
+        }
+    }
+
+    /// The refusal by the tests of a call that ask how the session stands.
+    fn standing_refusal(&self, session: u16, call: Call) -> Option<Why>
+        requires { session < vec_len self.now.rows }
+        ensures { result ≡ first_failing (standing_tests self.now session call) }
+    {
+        match call {
+            Call::Begin if self.rows[session as usize].transaction.is_some() => {
+                Some(Why::AlreadyOpen)
+            }
+            Call::Begin => None,
+            Call::Poll | Call::Abort => self.open_refusal(session),
+            Call::Lock(_, _) | Call::Convert(_, _) | Call::Release(_) | Call::Commit => {
+                self.idle_refusal(session)
+            }
+        }
+    }
+
+    /// The refusal of the first test of the call that fails.
+    pub(crate) fn refusal(&self, session: u16, call: Call) -> Option<Why>
+        requires { session < vec_len self.now.rows }
+        ensures { result ≡ first_failing (desk_tests self.now session call) }
+    {
+        let asked = call;
+        match self.standing_refusal(session, asked) {
+            Some(why) => Some(why),
+            None => self.request_refusal(session, call),
+        }
+    }
+}
+
+fn is_nothing(mode: Mode) -> bool
+    ensures { result ≡ is_nothing mode }
+{
+    matches!(mode, Mode::NL)
+}
+
+/// The least mode at or above what is held, if anything is, and the mode that was asked.
+pub(crate) fn target_of(held: Option<Mode>, mode: Mode) -> Mode
+    ensures { result ≡ target_of held mode }
+{
+    match held {
+        Some(held) => held.sup(mode),
+        None => mode,
+    }
+}

@@ -1,0 +1,168 @@
+//! Who waits for whom: written down anew from the cells and rows when a deadlock is looked for.
+
+ghost use Rattle.std.specs.Prelude.{◌≡◌, ℕ, ◌+◌, ◌-◌, ◌<◌, ◌≤◌, ◌&&◌, ◌||◌, ◌==◌, if◌then◌else◌, List, not, true, length, IfOk, IfNone, IfSome, slice_index, slice_index_or, vec_len};
+ghost use Rattle.waits_for.specs.Pairs.{pairs_of};
+ghost use Rattle.waits_for.specs.Walks.{Reaches, IsYoungestOnCircle};
+ghost use Rattle.lock_desk.specs.Cells.{has_claim, cell_view};
+ghost use Rattle.lock_desk.specs.Rows.{standings_of, standing_at, number_in};
+ghost use Rattle.lock_desk.specs.Finding.{holder_blocks, stands_first, cell_blocks, blocks, IsReady, IsFilled, AreNumbered, IsNumbered};
+
+use crate::cells::{Cell, Claim, cell_of, mode_among};
+use crate::rows::{Row, number_of, resource_of};
+use indexmap::IndexMap;
+use lock_modes::Mode;
+use lock_tree::Resource;
+use std::alloc::{AllocError, Global};
+use waits_for::Rows;
+
+/// Which session waits for which, and the number of each session's transaction, by positions: session 1 has
+/// position 0. A row of a session that is not marked as filled is empty.
+#[derive(Drop)]
+pub struct Waits {
+    pub rows: Rows,
+    pub numbers: Vec<u64>,
+    pub filled: Vec<bool>,
+}
+
+/// Room for so many sessions.
+pub(crate) fn new_waits(alloc: Global, sessions: u16) -> Result<Waits, AllocError>
+    requires some { 1 ≤ sessions }
+    requires few { sessions ≤ 256 }
+    ensures ready { IfOk result (IsReady sessions) }
+{
+    let rows = Rows::new(alloc, sessions)?;
+    let mut numbers = Vec::new(alloc);
+    let mut filled = Vec::new(alloc);
+    for _session in 0..sessions {
+        numbers.push(0)?;
+        filled.push(false)?;
+    }
+    Ok(Waits {
+        rows,
+        numbers,
+        filled,
+    })
+}
+
+/// Writes down the holders that the session waits for: those whose mode conflicts with its target.
+fn fill_holders(rows: &mut Rows, holders: &[Claim], session: u16, target: Mode)
+    requires some { 1 ≤ session }
+    requires within { session ≤ rows.old.sessions }
+    requires numbered { AreNumbered rows.old.sessions holders.now }
+    ensures sessions { rows.new.sessions ≡ rows.old.sessions }
+    ensures pairs { (a b : ℕ) → pairs_of rows.new a b
+        ≡ (pairs_of rows.old a b || ((a + 1 == session) && holder_blocks session target (b + 1) holders.now)) }
+{
+    for holder in holders {
+        if holder.session != session && !Mode::compatible(target, holder.mode) {
+            rows.set(session as usize - 1, holder.session as usize - 1);
+        }
+    }
+}
+
+/// Writes down the sessions whose requests stand before that of the session.
+fn fill_queue(rows: &mut Rows, waiting: &[Claim], session: u16)
+    requires some { 1 ≤ session }
+    requires within { session ≤ rows.old.sessions }
+    requires numbered { AreNumbered rows.old.sessions waiting.now }
+    ensures sessions { rows.new.sessions ≡ rows.old.sessions }
+    ensures pairs { (a b : ℕ) → pairs_of rows.new a b
+        ≡ (pairs_of rows.old a b || ((a + 1 == session) && stands_first (b + 1) session waiting.now)) }
+{
+    for request in waiting {
+        if request.session == session {
+            return;
+        }
+        rows.set(session as usize - 1, request.session as usize - 1);
+    }
+}
+
+/// Writes down for whom the session waits in this cell.
+fn fill_cell(rows: &mut Rows, cell: &Cell, session: u16)
+    requires some { 1 ≤ session }
+    requires within { session ≤ rows.old.sessions }
+    requires holders { AreNumbered rows.old.sessions cell.now.holders.items }
+    requires waiting { AreNumbered rows.old.sessions cell.now.waiting.items }
+    ensures sessions { rows.new.sessions ≡ rows.old.sessions }
+    ensures pairs { (a b : ℕ) → pairs_of rows.new a b
+        ≡ (pairs_of rows.old a b || ((a + 1 == session) && cell_blocks session (b + 1) cell.now)) }
+{
+    if let Some(target) = mode_among(&cell.waiting, session) {
+        fill_holders(rows, &cell.holders, session, target);
+        fill_queue(rows, &cell.waiting, session);
+    }
+}
+
+/// The row of the session at this position is emptied, if it was filled.
+fn clear(waits: &mut Waits, place: usize)
+    requires within { place < waits.old.rows.sessions }
+    requires ready { IsReady waits.old.rows.sessions waits.old }
+    ensures sessions { waits.new.rows.sessions ≡ waits.old.rows.sessions }
+    ensures ready { IsReady waits.old.rows.sessions waits.new }
+    ensures pairs { (a b : ℕ) → pairs_of waits.new.rows a b ≡ (pairs_of waits.old.rows a b && not (a == place)) }
+    ensures numbers { waits.new.numbers ≡ waits.old.numbers }
+{
+    if waits.filled[place] {
+        waits.rows.clear_row(place);
+        waits.filled[place] = false;
+    }
+}
+
+/// Writes down for whom one session waits, and the number of its transaction.
+fn fill_session(waits: &mut Waits, rows: &[Row], cells: &IndexMap<Resource, Cell>, session: u16)
+    requires some { 1 ≤ session }
+    requires within { session < length rows.now }
+    requires long { waits.old.rows.sessions + 1 ≡ length rows.now }
+    requires ready { IsReady waits.old.rows.sessions waits.old }
+    requires numbered { (r : List ℕ) → IsNumbered waits.old.rows.sessions (cell_view r cells.now.entries) }
+    ensures sessions { waits.new.rows.sessions ≡ waits.old.rows.sessions }
+    ensures ready { IsReady waits.old.rows.sessions waits.new }
+    ensures pairs { let standings = standings_of rows.now in (a b : ℕ) → pairs_of waits.new.rows a b
+        ≡ (if a + 1 == session then blocks cells.now.entries standings session (b + 1) else pairs_of waits.old.rows a b) }
+    ensures numbers { let standings = standings_of rows.now in (a : ℕ) → slice_index_or waits.new.numbers.items a 0
+        ≡ (if a + 1 == session then number_in (standing_at session standings).transaction
+        else slice_index_or waits.old.numbers.items a 0) }
+{
+    let place = session as usize - 1;
+    clear(waits, place);
+    let row = &rows[session as usize];
+    waits.numbers[place] = number_of(row.transaction);
+    if let Some(request) = row.wanted {
+        let resource = resource_of(request);
+        if let Some(cell) = cell_of(cells, resource) {
+            waits.filled[place] = true;
+            fill_cell(&mut waits.rows, cell, session);
+        }
+    }
+}
+
+/// Writes down for whom each session waits, and the numbers of the transactions.
+pub(crate) fn fill(waits: &mut Waits, rows: &[Row], cells: &IndexMap<Resource, Cell>)
+    requires long { waits.old.rows.sessions + 1 ≡ length rows.now }
+    requires ready { IsReady waits.old.rows.sessions waits.old }
+    requires numbered { (r : List ℕ) → IsNumbered waits.old.rows.sessions (cell_view r cells.now.entries) }
+    ensures sessions { waits.new.rows.sessions ≡ waits.old.rows.sessions }
+    ensures ready { IsReady waits.old.rows.sessions waits.new }
+    ensures filled { IsFilled cells.now.entries (standings_of rows.now) waits.new }
+{
+    let sessions = waits.rows.sessions();
+    for session in 1..sessions + 1 {
+        fill_session(waits, rows, cells, session);
+    }
+}
+
+/// The victim that breaks a circle of the session, if there is one.
+pub(crate) fn victim(waits: &mut Waits, session: u16) -> Option<u16>
+    requires some { 1 ≤ session }
+    requires within { session ≤ waits.old.rows.sessions }
+    requires ready { IsReady waits.old.rows.sessions waits.old }
+    ensures none { IfNone result (Reaches (pairs_of waits.old.rows) (session - 1) (session - 1) → ⊥) }
+    ensures some { IfSome result (λ v. (1 ≤ v) × (v ≤ waits.old.rows.sessions)
+        × IsYoungestOnCircle (pairs_of waits.old.rows) waits.old.numbers.items (session - 1) (v - 1)) }
+    ensures same { waits.new ≡ waits.old }
+{
+    let place = waits
+        .rows
+        .youngest_on_circle(session as usize - 1, &waits.numbers)?;
+    Some(place as u16 + 1)
+}

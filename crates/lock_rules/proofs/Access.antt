@@ -1,0 +1,99 @@
+-- No two sessions have incompatible access, outright or through an ancestor.
+use Rattle.std.proofs.Common.{◌≡◌, ◌≢◌, ℕ, zero, suc, ◌≤◌, true, false, ◌⊎◌, inl, inr, eqb, List, [], ◌∷◌, length, Some, refl, arith}
+use Rattle.std.proofs.lemmas.Bool.Decides.{Decides-eqb}
+use Rattle.std.proofs.lemmas.Bool.{and_parts, and_from}
+use Rattle.lock_modes.specs.declared.Mode.{Mode}
+use Rattle.lock_modes.specs.declared.Mode.TheVariants.{IS, IX, S, X}
+use Rattle.lock_modes.specs.Order.{at_or_below, need_of}
+use Rattle.lock_modes.specs.Compatibility.{are_compatible}
+use Rattle.lock_modes.proofs.Order.{order-tests}
+use Rattle.lock_tree.specs.Paths.{is_ancestor, parent_of}
+use Rattle.lock_rules.specs.State.{Table, State, held_mode}
+use Rattle.lock_rules.specs.Laws.{HoldsAtLeast, IsAtOrOver, IsAccessCompatible}
+use Rattle.lock_rules.proofs.Lists.{bool_cases}
+use Rattle.lock_rules.proofs.Alters.{true≢false}
+use Rattle.lock_rules.proofs.Marks.{below-trans, no_ix_s, no_x_is, need-is, need-ix}
+use Rattle.lock_rules.proofs.Sound.{IsSound, Agree, stands-under}
+use Rattle.lock_rules.proofs.Children.{ancestor-parent, length-parent}
+
+-- the session holds the resource in a mode that passes the test of the mode
+abbrev Has : Table → ℕ → Mode → List ℕ → Type 0
+Has t s f y = (k : Mode) × (held_mode t s y ≡ Some k) × (at_or_below f k ≡ true)
+
+-- what is held somewhere in at least this mode is held so on each ancestor
+module _ (f : Mode) (needs : (m : Mode) → at_or_below f m ≡ true → at_or_below f (need_of m) ≡ true) (t : Table) (i : IsSound t) (s : ℕ) where
+  at-parent : (b c : ℕ) (zs : List ℕ) → Has t s f (b ∷ c ∷ zs) → Has t s f (parent_of (b ∷ c ∷ zs))
+  at-parent b c zs h =
+      let up = stands-under t s (b ∷ c ∷ zs) h.0 (i.held_under s (b ∷ c ∷ zs) h.0 h.1) refl in
+      (up.0, up.1, below-trans f (need_of h.0) up.0 (needs h.0 h.2) (order-tests up.2))
+
+  at-ancestor : (n : ℕ) (z : List ℕ) → length z ≤ n → (y : List ℕ) → y ≢ [] → is_ancestor y z ≡ true → Has t s f z → Has t s f y
+  at-ancestor n [] le [] some a h = absurd (some refl)
+  at-ancestor n [] le (x ∷ y) some a h = absurd (cc)
+  at-ancestor n (b ∷ []) le y some a h = elim (ancestor-parent y (b ∷ []) a) [ inl e ↦ absurd (some e) | inr m ↦ absurd (none y m) ]
+    where
+      none : (y : List ℕ) → is_ancestor y [] ≡ true → ⊥
+      none [] m = cc
+      none (x ∷ y) m = cc
+  at-ancestor zero (b ∷ c ∷ zs) le y some a h = absurd (omega arith)
+  at-ancestor (suc n) (b ∷ c ∷ zs) le y some a h = elim (ancestor-parent y (b ∷ c ∷ zs) a) [
+    | inl e ↦ rw e (at-parent b c zs h)
+    | inr m ↦ at-ancestor n (parent_of (b ∷ c ∷ zs)) (omega (arith, length-parent b c zs)) y some m (at-parent b c zs h)
+  ]
+
+-- of two that are at or over one resource, one is the other or an ancestor of it
+
+both-over : (y z x : List ℕ) → is_ancestor y x ≡ true → is_ancestor z x ≡ true → (y ≡ z) ⊎ ((is_ancestor y z ≡ true) ⊎ (is_ancestor z y ≡ true))
+both-over [] [] x h k = inl refl
+both-over [] (c ∷ zs) x h k = inr (inl refl)
+both-over (b ∷ ys) [] x h k = inr (inr refl)
+both-over (b ∷ ys) (c ∷ zs) [] h k = absurd (cc)
+both-over (b ∷ ys) (c ∷ zs) (d ∷ xs) h k =
+    let p = and_parts (eqb b d) (is_ancestor ys xs) h in
+    let q = and_parts (eqb c d) (is_ancestor zs xs) k in
+    let e = (Decides-eqb b d).0 p.0 in
+    let f = (Decides-eqb c d).0 q.0 in
+    elim (both-over ys zs xs p.1 q.1) [
+      | inl g ↦ inl (cc)
+      | inr g ↦ inr (elim g [
+        | inl m ↦ inl (and_from (eqb b c) (is_ancestor ys zs) ((Decides-eqb b c).1 (cc)) m)
+        | inr m ↦ inr (and_from (eqb c b) (is_ancestor zs ys) ((Decides-eqb c b).1 (cc)) m)
+      ])
+    ]
+
+comparable : (y z x : List ℕ) → (y ≡ x) ⊎ (is_ancestor y x ≡ true) → (z ≡ x) ⊎ (is_ancestor z x ≡ true) → (y ≡ z) ⊎ ((is_ancestor y z ≡ true) ⊎ (is_ancestor z y ≡ true))
+comparable y z x (inl e) (inl f) = inl (cc)
+comparable y z x (inl e) (inr k) = inr (inr (rw e k))
+comparable y z x (inr h) (inl f) = inr (inl (rw f h))
+comparable y z x (inr h) (inr k) = both-over y z x h k
+
+-- modes that go together in one order at least don't conflict in both
+clash : (k l : Mode) → Agree k l → (are_compatible k l ≡ false) × (are_compatible l k ≡ false) → ⊥
+clash k l a n = elim a [ inl h ↦ true≢false h n.0 | inr h ↦ true≢false h n.1 ]
+
+module _ (t : Table) (i : IsSound t) (s u : ℕ) (n : eqb s u ≡ false) where
+  -- on one resource
+  outright : (y : List ℕ) (f g : Mode) → ((a b : Mode) → at_or_below f a ≡ true → at_or_below g b ≡ true → (are_compatible a b ≡ false) × (are_compatible b a ≡ false)) → Has t s f y → Has t u g y → ⊥
+  outright y f g apart h k = clash h.0 k.0 (i.agree s u y h.0 k.0 n h.1 k.1) (apart h.0 k.0 h.2 k.2)
+
+  -- who writes through y and who reads through z
+  write-read : (y z x : List ℕ) → IsAtOrOver y x → IsAtOrOver z x → Has t s X y → Has t u S z → ⊥
+  write-read y z x oy oz h k = elim (comparable y z x oy.1 oz.1) [
+    | inl e ↦ outright y X S (λ a b p q. no_ix_s a b (below-trans IX X a refl p) q) h (rw e k)
+    | inr m ↦ elim m [
+      | inl up ↦ outright y X IS no_x_is h (at-ancestor IS need-is t i u (length z) z (omega arith) y oy.0 up (k.0, k.1, below-trans IS S k.0 refl k.2))
+      | inr up ↦ outright z IX S no_ix_s (at-ancestor IX need-ix t i s (length y) y (omega arith) z oz.0 up (h.0, h.1, below-trans IX X h.0 refl h.2)) k
+    ]
+  ]
+
+has : (t : Table) (s : ℕ) (f : Mode) (y : List ℕ) → HoldsAtLeast t s y f → Has t s f y
+has t s f y h = (h.0, h.1, order-tests h.2)
+
+pub access-compatible : (st : State) → IsSound st.table → IsAccessCompatible st
+access-compatible st i s u x n w r = elim (bool_cases (eqb s u)) [
+  | inl e ↦ n ((Decides-eqb s u).0 e)
+  | inr e ↦ elim r [
+    | inl k ↦ write-read st.table i s u e w.0 k.0 x w.1 k.1 (has st.table s X w.0 w.2) (has st.table u S k.0 k.2)
+    | inr k ↦ let h = has st.table u X k.0 k.2 in write-read st.table i s u e w.0 k.0 x w.1 k.1 (has st.table s X w.0 w.2) (h.0, h.1, below-trans S X h.0 refl h.2)
+  ]
+]

@@ -1,0 +1,134 @@
+-- What comes of the victims: they keep their locks, and requests for what they waited for may be granted.
+use Rattle.std.proofs.Common.{◌≡◌, ℕ, Bool, true, false, cond, eqb, ◌||◌, ◌⊎◌, inl, inr, List, [], ◌∷◌, Option, Some, None, refl, sym, ◌∙◌, ap, arith}
+use Rattle.std.proofs.lemmas.Bool.Decides.{Decides-eqb}
+use Rattle.lock_tree.specs.Paths.{same_path}
+use Rattle.lock_rules.specs.State.{Claim, Table, State, request_of, with_table}
+use Rattle.lock_rules.specs.Queue.{with_request}
+use Rattle.lock_rules.specs.Waits.{wanted, waits_no_more, cancelled, doom, after_victim}
+use Rattle.lock_rules.specs.Laws.{AreVictims}
+use Rattle.lock_rules.specs.Effects.{IsAsBefore, IsAmong, IsWantedBy, IsDoomOf, DoVictimsKeepLocks, DoVictimsKeepTheirLocks}
+use Rattle.lock_rules.proofs.Lists.{IsOnce, bool_cases, eqb-refl, other, same_path-true, times-claims_but, request_of-claims_but, request_of-claims_but_other}
+use Rattle.lock_rules.proofs.Promote.{among}
+use Rattle.lock_rules.proofs.Begins.{once-push}
+use Rattle.lock_rules.proofs.Settle.{walk-waits, has-waits}
+use Rattle.lock_rules.proofs.Steps.{is-none}
+use Rattle.lock_rules.proofs.Taken.{IsServed, refl-same, same-same, same-promotion, promotion-same, after-same, none, unserved, all-once, all-served}
+
+-- one victim
+
+cut-once : (v : ℕ) (t : Table) → IsOnce t.waits → IsOnce (waits_no_more v t).waits
+cut-once v t o u = omega (arith, times-claims_but u v t.waits, o u)
+
+cancelled-once : (v : ℕ) (t : Table) → IsOnce t.waits → IsOnce (cancelled v t).waits
+cancelled-once v t o = all-once (wanted (request_of v t.waits)) (waits_no_more v t) (cut-once v t o)
+
+cancelled-own : (v : ℕ) (t : Table) → IsOnce t.waits → IsAsBefore v (waits_no_more v t) (cancelled v t)
+cancelled-own v t o =
+    unserved v (λ x. among (wanted (request_of v t.waits)) x ≡ true) (waits_no_more v t) (cancelled v t) (request_of-claims_but v t.waits)
+    (all-served (wanted (request_of v t.waits)) (waits_no_more v t) (cut-once v t o) v)
+
+cancelled-others : (v : ℕ) (t : Table) → IsOnce t.waits → (u : ℕ) → eqb u v ≡ false → IsServed u (λ x. among (wanted (request_of v t.waits)) x ≡ true) t (cancelled v t)
+cancelled-others v t o u n =
+    after-same u (λ x. among (wanted (request_of v t.waits)) x ≡ true) t (waits_no_more v t) (cancelled v t)
+    (record { held = λ x. refl; waits = request_of-claims_but_other u v t.waits n })
+    (all-served (wanted (request_of v t.waits)) (waits_no_more v t) (cut-once v t o) u)
+
+-- what is wanted is the resource of the request
+wanted-is : (o : Option Claim) (p : Claim) (x : List ℕ) → o ≡ Some p → among (wanted o) x ≡ true → p.resource ≡ x
+wanted-is None p x e h = absurd (cc)
+wanted-is (Some q) p x e h = let same : q ≡ p = cc in ap (λ (c : Claim). c.resource) (sym same) ∙ same_path-true q.resource x (or-false (same_path q.resource x) h)
+  where
+    or-false : (b : Bool) → (b || false) ≡ true → b ≡ true
+    or-false true h = refl
+    or-false false h = h
+
+-- a victim and those after it
+
+module _ (v : ℕ) (vs : List ℕ) (st last : State) (p : Claim) (e : request_of v st.table.waits ≡ Some p) (o : IsOnce st.table.waits) (next : DoVictimsKeepLocks vs (after_victim v st) last) where
+  gone : request_of v (cancelled v st.table).waits ≡ None
+  gone = (cancelled-own v st.table o).waits ∙ request_of-claims_but v st.table.waits
+
+  not-again : IsAmong v vs → ⊥
+  not-again i = none gone (next.victims v i).waited.1
+
+  apart-from : (u : ℕ) → IsAmong u vs → eqb u v ≡ false
+  apart-from u i = elim (bool_cases (eqb u v)) [ inl y ↦ let f = (Decides-eqb u v).0 y in absurd (not-again (rw f at i)) | inr n ↦ n ]
+
+  own : IsAsBefore v (cancelled v st.table) last.table
+  own = elim (next.others v not-again) [ inl a ↦ a | inr q ↦ absurd (none gone q.1.waited) ]
+
+  begun-other : (u : ℕ) → eqb u v ≡ false → (after_victim v st).begun u ≡ st.begun u
+  begun-other u n = ap (λ (b : Bool). cond b (doom (st.begun v)) (st.begun u)) n
+
+  first-doomed : IsDoomOf v st last
+  first-doomed = record {
+    waited = (p, e);
+    waits_no_more = own.waits ∙ gone;
+    doomed = next.others_begun v not-again ∙ ap (λ (b : Bool). cond b (doom (st.begun v)) (st.begun v)) (eqb-refl v);
+    held = λ x. own.held x ∙ (cancelled-own v st.table o).held x;
+  }
+
+  -- who waits in the middle waited before, for the same
+  before : (u : ℕ) (q : Claim) → IsAmong u vs → request_of u (cancelled v st.table).waits ≡ Some q → IsAsBefore u st.table (cancelled v st.table)
+  before u q i w = elim (cancelled-others v st.table o u (apart-from u i)) [ inl a ↦ a | inr z ↦ absurd (none z.1.waits_no_more w) ]
+
+  later-doomed : (u : ℕ) → IsAmong u vs → IsDoomOf u st last
+  later-doomed u i =
+      let d = next.victims u i in
+      let a = before u d.waited.0 i d.waited.1 in
+      record {
+        waited = (d.waited.0, sym a.waits ∙ d.waited.1);
+        waits_no_more = d.waits_no_more;
+        doomed = d.doomed ∙ ap doom (begun-other u (apart-from u i));
+        held = λ x. d.held x ∙ a.held x;
+      }
+
+  wanted-before : (x : List ℕ) → IsWantedBy vs (cancelled v st.table) x → IsWantedBy (v ∷ vs) st.table x
+  wanted-before x w = let a = before w.0 w.1 w.2 w.3 in (w.0, w.1, inr w.2, sym a.waits ∙ w.3, w.4)
+
+  both-others : (u : ℕ) → (IsAmong u (v ∷ vs) → ⊥) → IsServed u (λ x. IsWantedBy (v ∷ vs) st.table x) st.table last.table
+  both-others u h = elim (cancelled-others v st.table o u (other v u (λ f. h (inl f)))) [
+    | inl a ↦ elim (next.others u (λ i. h (inr i))) [
+      | inl b ↦ inl (same-same u st.table (cancelled v st.table) last.table a b)
+      | inr q ↦ inr (q.0, same-promotion u q.0 st.table (cancelled v st.table) last.table a q.1, wanted-before q.0.resource q.2)
+    ]
+    | inr q ↦ elim (next.others u (λ i. h (inr i))) [
+      | inl b ↦ inr (q.0, promotion-same u q.0 st.table (cancelled v st.table) last.table q.1 b, (v, p, inl refl, e, wanted-is (request_of v st.table.waits) p q.0.resource e q.2))
+      | inr z ↦ absurd (none q.1.waits_no_more z.1.waited)
+    ]
+  ]
+
+  keep-both : DoVictimsKeepLocks (v ∷ vs) st last
+  keep-both = record {
+    victims = λ u h. elim h [ inl f ↦ rw f first-doomed | inr i ↦ later-doomed u i ];
+    others = both-others;
+    others_begun = λ u h. next.others_begun u (λ i. h (inr i)) ∙ begun-other u (other v u (λ f. h (inl f)));
+    count = next.count;
+  }
+
+pub victims-keep : (s : ℕ) (vs : List ℕ) (st last : State) → IsOnce st.table.waits → AreVictims s vs st last → DoVictimsKeepLocks vs st last
+victims-keep s [] st last o a = record {
+  victims = λ v h. absurd h;
+  others = λ u h. inl (rw a.1 (refl-same u st.table));
+  others_begun = λ u h. ap (λ (x : State). x.begun u) a.1;
+  count = ap (λ (x : State). x.count) a.1;
+}
+victims-keep s (v ∷ vs) st last o a =
+    let c = a.0.on_circle.back in
+    let w = has-waits v st.table.waits (walk-waits st.table v c.others s c.walk) in
+    keep-both v vs st last w.0 w.1 o (victims-keep s vs (after_victim v st) last (cancelled-once v st.table o) a.1)
+
+pub keep-theirs : (st : State) → IsOnce st.table.waits → DoVictimsKeepTheirLocks st
+keep-theirs st o s r k vs last w a = victims-keep s vs (with_table (with_request s r k st.table) st) last (once-push s r k st.table.waits o (is-none (request_of s st.table.waits) w)) a
+
+-- among these or not
+pub among-or-not : (u : ℕ) (vs : List ℕ) → IsAmong u vs ⊎ (IsAmong u vs → ⊥)
+among-or-not u [] = inr (λ h. h)
+among-or-not u (v ∷ vs) = elim (bool_cases (eqb u v)) [
+  | inl y ↦ inl (inl ((Decides-eqb u v).0 y))
+  | inr n ↦ elim (among-or-not u vs) [ inl i ↦ inl (inr i) | inr m ↦ inr (λ h. neither n m h) ]
+]
+  where
+    neither : eqb u v ≡ false → (IsAmong u vs → ⊥) → IsAmong u (v ∷ vs) → ⊥
+    neither n m (inl f) = let y = (Decides-eqb u v).1 f in cc
+    neither n m (inr i) = m i

@@ -1,0 +1,246 @@
+-- What comes of a lock or a conversion that is asked and not refused.
+use Rattle.std.proofs.Common.{◌≡◌, ◌≢◌, ℕ, ◌+◌, ◌<◌, Bool, true, false, cond, not, ◌&&◌, ◌||◌, ◌⊎◌, inl, inr, List, [], ◌∷◌, ◌++◌, length, Option, Some, None, is_some, refl, sym, ◌∙◌, ap, arith, subst, length-append}
+use Rattle.std.proofs.lemmas.Bool.{and_parts, and_from}
+use Rattle.lock_modes.specs.declared.Mode.{Mode}
+use Rattle.lock_modes.specs.Order.{at_or_below}
+use Rattle.lock_modes.proofs.Order.{at_or_below-antisym, sup_least}
+use Rattle.lock_rules.specs.declared.calls.Call.TheVariants.{Lock, Convert}
+use Rattle.lock_rules.specs.declared.calls.Reply.{Reply}
+use Rattle.lock_rules.specs.declared.calls.Reply.TheVariants.{Granted, Waiting, Deadlock, Refused}
+use Rattle.lock_rules.specs.declared.calls.Why.{Why}
+use Rattle.lock_rules.specs.declared.calls.Why.TheVariants.{NoTransaction, IsWaiting, IsDoomed, NothingAsked, NotHeld, ParentNotHeld, TooManyLocks}
+use Rattle.lock_rules.specs.State.{Claim, Transaction, Table, State, held_mode, mode_or_nothing, request_of, is_open, is_waiting, is_doomed, doomed_in, with_table}
+use Rattle.lock_rules.specs.Waits.{doom}
+use Rattle.lock_rules.specs.Queue.{queue, is_empty, fits, granted, is_granted, with_request}
+use Rattle.lock_rules.specs.Step.{Outcome, target_of, is_nothing, tests, first_failing, after_wait, is_held, asked, ask, outcome_of}
+use Rattle.lock_rules.specs.Effects.{IsPromotionOf, IsTarget, IsFree, IsWaitOf, IsTold, IsWaitSettled, IsAnswerTo, IsLockAnswered, IsConvertAnswered, IsLockOfHeldConvert, IsGrantedHeld, IsConversionHeld}
+use Rattle.lock_rules.proofs.Lists.{IsOnce, bool_cases, other, differs, request_of-claims_but, request_of-push}
+use Rattle.lock_rules.proofs.Alters.{request-alters, true≢false}
+use Rattle.lock_rules.proofs.Marks.{below-refl, below-sup}
+use Rattle.lock_rules.proofs.Begins.{new, back, once-push, queue-fresh, queue-converted, queue-beside}
+use Rattle.lock_rules.proofs.Steps.{all-pass, is-none}
+use Rattle.lock_rules.proofs.States.{grant-one}
+use Rattle.lock_rules.proofs.Taken.{none, passes, step-acts}
+use Rattle.lock_rules.proofs.Victims.{settled-victims}
+use Rattle.lock_rules.proofs.Doomed.{victims-keep, among-or-not}
+
+-- the target
+
+target : (o : Option Mode) (m : Mode) → IsTarget o m (target_of o m)
+target None m = refl
+target (Some h) m = sup_least h m (target_of (Some h) m) refl
+
+-- a target that what is held covers is what is held
+covered : (o : Option Mode) (k : Mode) → at_or_below (mode_or_nothing o) k ≡ true → is_held o k ≡ true → o ≡ Some k
+covered None k h e = absurd (cc)
+covered (Some a) k h e = ap (λ (c : Mode). Some c) (at_or_below-antisym a k h e)
+
+covers : (o : Option Mode) (k : Mode) → o ≡ Some k → is_held o k ≡ true
+covers o k e = ap (λ (p : Option Mode). is_held p k) e ∙ below-refl k
+
+not-covered : (o : Option Mode) (k : Mode) → at_or_below (mode_or_nothing o) k ≡ true → o ≢ Some k → is_held o k ≡ false
+not-covered o k h n = elim (bool_cases (is_held o k)) [ inl e ↦ absurd (n (covered o k h e)) | inr e ↦ e ]
+
+-- what is free
+
+some : (o : Option Mode) → o ≢ None → is_some o ≡ true
+some None n = absurd (n refl)
+some (Some k) n = refl
+
+none-empty : (qs : List Claim) → qs ≡ [] → is_empty qs ≡ true
+none-empty [] e = refl
+none-empty (q ∷ qs) e = cc
+
+free-granted : (t : Table) (s : ℕ) (r : List ℕ) (k : Mode) → IsFree t s r k → is_granted t s r k ≡ true
+free-granted t s r k f = and_from (fits t s r k) (is_some (held_mode t s r) || is_empty (queue t r)) f.0 (elim f.1 [
+  | inl n ↦ ap (λ (b : Bool). b || is_empty (queue t r)) (some (held_mode t s r) n)
+  | inr e ↦ or-true (is_some (held_mode t s r)) (is_empty (queue t r)) (none-empty (queue t r) e)
+])
+  where
+    or-true : (b c : Bool) → c ≡ true → (b || c) ≡ true
+    or-true true c e = refl
+    or-true false c e = e
+
+granted-free : (t : Table) (s : ℕ) (r : List ℕ) (k : Mode) → is_granted t s r k ≡ true → IsFree t s r k
+granted-free t s r k h =
+    let p = and_parts (fits t s r k) (is_some (held_mode t s r) || is_empty (queue t r)) h in
+    (p.0, either (held_mode t s r) (queue t r) p.1)
+  where
+    either : (o : Option Mode) (qs : List Claim) → (is_some o || is_empty qs) ≡ true → (o ≢ None) ⊎ (qs ≡ [])
+    either (Some a) qs e = inl (λ f. cc)
+    either None [] e = inr refl
+    either None (q ∷ qs) e = absurd (cc)
+
+not-free : (t : Table) (s : ℕ) (r : List ℕ) (k : Mode) → (IsFree t s r k → ⊥) → is_granted t s r k ≡ false
+not-free t s r k n = elim (bool_cases (is_granted t s r k)) [ inl e ↦ absurd (n (granted-free t s r k e)) | inr e ↦ e ]
+
+-- the three cases
+
+waits-behind : (s : ℕ) (r : List ℕ) (k : Mode) (t : Table) → request_of s t.waits ≡ None → IsWaitOf s r k t (with_request s r k t)
+waits-behind s r k t n = record {
+  held = λ u x. refl;
+  waits = request_of-push s t.waits (new s r k) n refl;
+  others_wait = λ u m. sym (request-alters s (with_request s r k t) t (back s r k t n) u (other s u m));
+  conversion = λ m. queue-converted s r k t (some (held_mode t s r) m);
+  fresh = λ e. queue-fresh s r k t (ap (λ (o : Option Mode). is_some o) e);
+  elsewhere = λ x m. queue-beside s r x k t (differs x r m);
+}
+
+module _ (st : State) (s : ℕ) (r : List ℕ) (k : Mode) where
+  abbrev later : Bool → State
+  later g = cond g (with_table (granted s r k st.table) st) (after_wait st s r k)
+
+  abbrev waiting : State
+  waiting = with_table (with_request s r k st.table) st
+
+  abbrev answer : State → Reply
+  answer after = cond (is_doomed after s) Deadlock (cond (is_waiting after s) Waiting (Granted k))
+
+  abbrev outcome : State → Outcome
+  outcome after = record { state = after; reply = answer after }
+
+  same-state : is_held (held_mode st.table s r) k ≡ true → asked st s r k ≡ st
+  same-state e = ap (λ (b : Bool). cond b st (later (is_granted st.table s r k))) e
+
+  later-state : (g : Bool) → is_held (held_mode st.table s r) k ≡ false → is_granted st.table s r k ≡ g → asked st s r k ≡ later g
+  later-state g e f = ap (λ (b : Bool). cond b st (later (is_granted st.table s r k))) e ∙ ap later f
+
+  granted-answer : (after : State) → is_doomed after s ≡ false → request_of s after.table.waits ≡ None → answer after ≡ Granted k
+  granted-answer after d n =
+      ap (λ (b : Bool). cond b Deadlock (cond (is_waiting after s) Waiting (Granted k))) d
+      ∙ ap (λ (o : Option Claim). cond (is_some o) Waiting (Granted k)) n
+
+  told : (after : State) → IsTold s k (outcome after)
+  told after = record {
+    deadlock = λ d. ap (λ (b : Bool). cond b Deadlock (cond (is_waiting after s) Waiting (Granted k))) d;
+    waiting = λ d n. ap (λ (b : Bool). cond b Deadlock (cond (is_waiting after s) Waiting (Granted k))) d ∙ ap (λ (b : Bool). cond b Waiting (Granted k)) (requested (request_of s after.table.waits) n);
+    granted = granted-answer after;
+  }
+    where
+      requested : (o : Option Claim) → o ≢ None → is_some o ≡ true
+      requested None n = absurd (n refl)
+      requested (Some q) n = refl
+
+  few : length (st.table.waits ++ new s r k ∷ []) < length st.table.waits + 2
+  few = omega (arith, length-append st.table.waits (new s r k ∷ []))
+
+  settles : request_of s st.table.waits ≡ None → IsWaitSettled s r k st (outcome (after_wait st s r k))
+  settles n =
+      let v = settled-victims (length st.table.waits + 2) s waiting few in
+      record { waiting = waiting; wait = waits-behind s r k st.table n; transactions = (refl, refl); victims = v.0; one_after_another = v.1; told = told (after_wait st s r k) }
+
+  ask-answers : request_of s st.table.waits ≡ None → is_doomed st s ≡ false → at_or_below (mode_or_nothing (held_mode st.table s r)) k ≡ true → IsAnswerTo s r k st (ask st s r k)
+  ask-answers n d up = record {
+    held_already = λ e.
+        let f = same-state (covers (held_mode st.table s r) k e) in
+        (ap answer f ∙ granted-answer st d n, f);
+    at_once = λ m free.
+        let f = later-state true (not-covered (held_mode st.table s r) k up m) (free-granted st.table s r k free) in
+        (ap answer f ∙ granted-answer (later true) d (request_of-claims_but s st.table.waits), rw f (grant-one s r k st.table), ap (λ (x : State). x.begun) f, ap (λ (x : State). x.count) f);
+    later = λ m busy.
+        let f = later-state false (not-covered (held_mode st.table s r) k up m) (not-free st.table s r k busy) in
+        subst (λ (x : State). IsWaitSettled s r k st (outcome x)) (sym f) (settles n);
+  }
+
+  -- who is neither doomed nor waits after it has asked holds the target
+  module _ (once : IsOnce st.table.waits) (n : request_of s st.table.waits ≡ None) (opened : is_open st s ≡ true) (up : at_or_below (mode_or_nothing (held_mode st.table s r)) k ≡ true) where
+    doomed-is : (o : Option Transaction) → is_some o ≡ true → doomed_in (doom o) ≡ true
+    doomed-is None e = absurd (cc)
+    doomed-is (Some x) e = refl
+
+    own-request : request_of s (st.table.waits ++ new s r k ∷ []) ≡ Some (new s r k)
+    own-request = request_of-push s st.table.waits (new s r k) n refl
+
+    promoted-held : (last : Table) (q : Claim) → IsPromotionOf s q waiting.table last → held_mode last s r ≡ Some k
+    promoted-held last q p =
+        let same : new s r k ≡ q = let e = p.waited in let f = own-request in cc in
+        subst (λ (c : Claim). held_mode last s c.resource ≡ Some c.mode) (sym same) p.held
+
+    settled-held : is_doomed (after_wait st s r k) s ≡ false → is_waiting (after_wait st s r k) s ≡ false → held_mode (after_wait st s r k).table s r ≡ Some k
+    settled-held d w =
+        let v = settled-victims (length st.table.waits + 2) s waiting few in
+        let kept = victims-keep s v.0 waiting (after_wait st s r k) (once-push s r k st.table.waits once n) v.1 in
+        elim (among-or-not s v.0) [
+          | inl i ↦ absurd (true≢false (ap doomed_in (kept.victims s i).doomed ∙ doomed-is (st.begun s) opened) d)
+          | inr m ↦ elim (kept.others s m) [
+            | inl a ↦ absurd (none (is-none (request_of s (after_wait st s r k).table.waits) w) (a.waits ∙ own-request))
+            | inr p ↦ promoted-held (after_wait st s r k).table p.0 p.1
+          ]
+        ]
+
+    asked-held : (h g : Bool) → is_held (held_mode st.table s r) k ≡ h → is_doomed (cond h st (later g)) s ≡ false → is_waiting (cond h st (later g)) s ≡ false → held_mode (cond h st (later g)).table s r ≡ Some k
+    asked-held true g e d w = covered (held_mode st.table s r) k up e
+    asked-held false true e d w = (grant-one s r k st.table).held
+    asked-held false false e d w = settled-held d w
+
+    ask-held : (j : Mode) → (ask st s r k).reply ≡ Granted j → held_mode (asked st s r k).table s r ≡ Some j
+    ask-held j e =
+        let p = parts (is_doomed (asked st s r k) s) (is_waiting (asked st s r k) s) e in
+        asked-held (is_held (held_mode st.table s r) k) (is_granted st.table s r k) refl p.0 p.1 ∙ ap (λ (m : Mode). Some m) p.2
+      where
+        parts : (d w : Bool) → cond d Deadlock (cond w Waiting (Granted k)) ≡ Granted j → (d ≡ false) × (w ≡ false) × (k ≡ j)
+        parts true w e = absurd (cc)
+        parts false true e = absurd (cc)
+        parts false false e = (refl, refl, cc)
+
+pub lock-asks : (st : State) → IsLockAnswered st
+lock-asks st s r m h =
+    let p = all-pass (tests st s (Lock r m)) (passes st s (Lock r m) h) in (
+      target_of (held_mode st.table s r) m,
+      target (held_mode st.table s r) m,
+      subst (λ (o : Outcome). IsAnswerTo s r (target_of (held_mode st.table s r) m) st o) (sym (step-acts st s (Lock r m) h))
+          (ask-answers st s r (target_of (held_mode st.table s r) m) (is-none (request_of s st.table.waits) p.1.0) p.1.1.0 (below-sup (mode_or_nothing (held_mode st.table s r)) m)),
+    )
+
+pub convert-asks : (st : State) → IsConvertAnswered st
+convert-asks st s r m h =
+    let p = all-pass (tests st s (Convert r m)) (passes st s (Convert r m) h) in (
+      target_of (held_mode st.table s r) m,
+      target (held_mode st.table s r) m,
+      subst (λ (o : Outcome). IsAnswerTo s r (target_of (held_mode st.table s r) m) st o) (sym (step-acts st s (Convert r m) h))
+          (ask-answers st s r (target_of (held_mode st.table s r) m) (is-none (request_of s st.table.waits) p.1.0) p.1.1.0 (below-sup (mode_or_nothing (held_mode st.table s r)) m)),
+    )
+
+-- what is told is held
+
+opens : (b : Bool) → not b ≡ false → b ≡ true
+opens true e = refl
+opens false e = cc
+
+unlike : (w : Why) (j : Mode) → Refused w ≡ Granted j → ⊥
+unlike w j e = cc
+
+pub lock-holds : (st : State) → IsOnce st.table.waits → IsGrantedHeld st
+lock-holds st once s r m j = go (first_failing (tests st s (Lock r m))) refl
+  where
+    go : (o : Option Why) → first_failing (tests st s (Lock r m)) ≡ o → (outcome_of o st s (Lock r m)).reply ≡ Granted j → held_mode (outcome_of o st s (Lock r m)).state.table s r ≡ Some j
+    go (Some w) e g = absurd (unlike w j g)
+    go None e g =
+        let p = all-pass (tests st s (Lock r m)) e in
+        ask-held st s r (target_of (held_mode st.table s r) m) once (is-none (request_of s st.table.waits) p.1.0) (opens (is_open st s) p.0) (below-sup (mode_or_nothing (held_mode st.table s r)) m) j g
+
+pub convert-holds : (st : State) → IsOnce st.table.waits → IsConversionHeld st
+convert-holds st once s r m j = go (first_failing (tests st s (Convert r m))) refl
+  where
+    go : (o : Option Why) → first_failing (tests st s (Convert r m)) ≡ o → (outcome_of o st s (Convert r m)).reply ≡ Granted j → held_mode (outcome_of o st s (Convert r m)).state.table s r ≡ Some j
+    go (Some w) e g = absurd (unlike w j g)
+    go None e g =
+        let p = all-pass (tests st s (Convert r m)) e in
+        ask-held st s r (target_of (held_mode st.table s r) m) once (is-none (request_of s st.table.waits) p.1.0) (opens (is_open st s) p.0) (below-sup (mode_or_nothing (held_mode st.table s r)) m) j g
+
+-- a lock on what is held
+
+held-converts : (st : State) (s : ℕ) (r : List ℕ) (m k : Mode) → (o : Option Mode) → o ≡ Some k → (lacks full : Bool) →
+    first_failing ((not (is_open st s), NoTransaction) ∷ (is_waiting st s, IsWaiting) ∷ (is_doomed st s, IsDoomed) ∷ (is_nothing m, NothingAsked) ∷ (lacks, ParentNotHeld) ∷ (not (is_some o) && full, TooManyLocks) ∷ [])
+    ≡ first_failing ((not (is_open st s), NoTransaction) ∷ (is_waiting st s, IsWaiting) ∷ (is_doomed st s, IsDoomed) ∷ (is_nothing m, NothingAsked) ∷ (not (is_some o), NotHeld) ∷ (lacks, ParentNotHeld) ∷ [])
+held-converts st s r m k None e lacks full = absurd (cc)
+held-converts st s r m k (Some h) e lacks full = refl
+
+pub lock-converts : (st : State) → IsLockOfHeldConvert st
+lock-converts st s r m k e =
+    ap (λ (o : Option Why). outcome_of o st s (Lock r m)) (held-converts st s r m k (held_mode st.table s r) e _ _)
+    ∙ same-outcome (first_failing (tests st s (Convert r m)))
+  where
+    same-outcome : (o : Option Why) → outcome_of o st s (Lock r m) ≡ outcome_of o st s (Convert r m)
+    same-outcome None = refl
+    same-outcome (Some w) = refl

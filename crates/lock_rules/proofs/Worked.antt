@@ -1,0 +1,68 @@
+-- The worked histories are legal: the checker serves their calls.
+use Rattle.std.proofs.Common.{refl}
+use Rattle.lock_rules.specs.Legal.{IsLegal}
+use Rattle.lock_rules.specs.Examples.{queue_in_order, promotion_stops, readers_together, promotion_in_order, intentions, refusals, down_the_tree, up_the_tree, release_promotes, release_of_one, asks_again, conversion_first, conversion_at_once, conversion_under_parent, abort_while_waiting, readers_that_convert, youngest_of_two, victim_in_the_way, conversions_that_meet, circle_through_the_queue, two_victims}
+use Rattle.lock_rules.proofs.Histories.{legal-served}
+
+pub legal-queue_in_order : IsLegal queue_in_order
+legal-queue_in_order = legal-served queue_in_order refl
+
+pub legal-promotion_stops : IsLegal promotion_stops
+legal-promotion_stops = legal-served promotion_stops refl
+
+pub legal-readers_together : IsLegal readers_together
+legal-readers_together = legal-served readers_together refl
+
+pub legal-promotion_in_order : IsLegal promotion_in_order
+legal-promotion_in_order = legal-served promotion_in_order refl
+
+pub legal-intentions : IsLegal intentions
+legal-intentions = legal-served intentions refl
+
+pub legal-refusals : IsLegal refusals
+legal-refusals = legal-served refusals refl
+
+pub legal-down_the_tree : IsLegal down_the_tree
+legal-down_the_tree = legal-served down_the_tree refl
+
+pub legal-up_the_tree : IsLegal up_the_tree
+legal-up_the_tree = legal-served up_the_tree refl
+
+pub legal-release_promotes : IsLegal release_promotes
+legal-release_promotes = legal-served release_promotes refl
+
+pub legal-release_of_one : IsLegal release_of_one
+legal-release_of_one = legal-served release_of_one refl
+
+pub legal-asks_again : IsLegal asks_again
+legal-asks_again = legal-served asks_again refl
+
+pub legal-conversion_first : IsLegal conversion_first
+legal-conversion_first = legal-served conversion_first refl
+
+pub legal-conversion_at_once : IsLegal conversion_at_once
+legal-conversion_at_once = legal-served conversion_at_once refl
+
+pub legal-conversion_under_parent : IsLegal conversion_under_parent
+legal-conversion_under_parent = legal-served conversion_under_parent refl
+
+pub legal-abort_while_waiting : IsLegal abort_while_waiting
+legal-abort_while_waiting = legal-served abort_while_waiting refl
+
+pub legal-readers_that_convert : IsLegal readers_that_convert
+legal-readers_that_convert = legal-served readers_that_convert refl
+
+pub legal-youngest_of_two : IsLegal youngest_of_two
+legal-youngest_of_two = legal-served youngest_of_two refl
+
+pub legal-victim_in_the_way : IsLegal victim_in_the_way
+legal-victim_in_the_way = legal-served victim_in_the_way refl
+
+pub legal-conversions_that_meet : IsLegal conversions_that_meet
+legal-conversions_that_meet = legal-served conversions_that_meet refl
+
+pub legal-circle_through_the_queue : IsLegal circle_through_the_queue
+legal-circle_through_the_queue = legal-served circle_through_the_queue refl
+
+pub legal-two_victims : IsLegal two_victims
+legal-two_victims = legal-served two_victims refl

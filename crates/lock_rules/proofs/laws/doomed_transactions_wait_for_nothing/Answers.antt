@@ -1,0 +1,5 @@
+use Rattle.lock_rules.proofs.States.{lawful}
+use Rattle.lock_rules.proofs.laws.doomed_transactions_wait_for_nothing.Goals as goal
+
+pub returns : goal.returns
+returns c = λ es. (lawful es).doomed_wait_for_nothing

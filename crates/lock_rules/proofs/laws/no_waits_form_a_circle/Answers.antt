@@ -1,0 +1,5 @@
+use Rattle.lock_rules.proofs.States.{lawful}
+use Rattle.lock_rules.proofs.laws.no_waits_form_a_circle.Goals as goal
+
+pub returns : goal.returns
+returns c = λ es. (lawful es).no_circle

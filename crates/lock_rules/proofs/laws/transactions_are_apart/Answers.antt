@@ -1,0 +1,11 @@
+use Rattle.lock_rules.proofs.States.{lawful}
+use Rattle.lock_rules.proofs.laws.transactions_are_apart.Goals as goal
+
+pub returns-clause-owners : goal.returns-clause-owners
+returns-clause-owners c = λ es. (lawful es).owners_open
+
+pub returns-clause-numbers : goal.returns-clause-numbers
+returns-clause-numbers c = λ es. (lawful es).numbers_apart
+
+pub returns-clause-counted : goal.returns-clause-counted
+returns-clause-counted c = λ es. (lawful es).numbers_counted

@@ -1,0 +1,160 @@
+-- What a call that is not refused brings about, in plain words.
+use Rattle.std.specs.Prelude.{◌≡◌, ◌≢◌, ℕ, true, false, ◌⊎◌, List, [], ◌∷◌, ◌++◌, length, Option, Some, None}
+use Rattle.lock_modes.specs.declared.Mode.{Mode}
+use Rattle.lock_modes.specs.Order.{IsLeastUpperBound}
+use Rattle.lock_rules.specs.declared.calls.Call.{Call}
+use Rattle.lock_rules.specs.declared.calls.Call.TheVariants.{Lock, Convert, Release, Commit, Abort}
+use Rattle.lock_rules.specs.declared.calls.Reply.TheVariants.{Granted, Waiting, Deadlock, Released, Committed, Aborted, Refused}
+use Rattle.lock_rules.specs.declared.calls.Why.{Why}
+use Rattle.lock_rules.specs.State.{Claim, Table, State, held_mode, request_of, claims_of, is_open, is_waiting, is_doomed, with_table}
+use Rattle.lock_rules.specs.Queue.{conversions, fresh_requests, queue, fits, with_request}
+use Rattle.lock_rules.specs.Waits.{doom}
+use Rattle.lock_rules.specs.Step.{Outcome, step}
+use Rattle.lock_rules.specs.Laws.{IsGrantOf, HoldsAtLeast, AreVictims}
+
+-- the call is not refused
+abbrev pub IsNotRefused : State → ℕ → Call → Type 0
+IsNotRefused st s c = (why : Why) → (step st s c).reply ≢ Refused why
+
+-- what the session holds and what it waits for stay
+pub record IsAsBefore (u : ℕ) (t t' : Table) : Type 0 where
+  pub held : (x : List ℕ) → held_mode t' u x ≡ held_mode t u x
+  pub waits : request_of u t'.waits ≡ request_of u t.waits
+
+-- the request of the session is granted, and nothing else of the session changes
+pub record IsPromotionOf (u : ℕ) (q : Claim) (t t' : Table) : Type 0 where
+  pub waited : request_of u t.waits ≡ Some q
+  pub waits_no_more : request_of u t'.waits ≡ None
+  pub held : held_mode t' u q.resource ≡ Some q.mode
+  pub elsewhere : (x : List ℕ) → x ≢ q.resource → held_mode t' u x ≡ held_mode t u x
+
+-- the session gives back this lock and no other; each other session is as before, or its request for the resource is granted
+pub record IsReleaseOf (s : ℕ) (r : List ℕ) (st st' : State) : Type 0 where
+  pub given_back : held_mode st'.table s r ≡ None
+  pub waits : request_of s st'.table.waits ≡ None
+  pub elsewhere : (u : ℕ) (x : List ℕ) → x ≢ r → held_mode st'.table u x ≡ held_mode st.table u x
+  pub others_hold : (u : ℕ) (k : Mode) → u ≢ s → held_mode st.table u r ≡ Some k → HoldsAtLeast st'.table u r k
+  pub others : (u : ℕ) → u ≢ s → IsAsBefore u st.table st'.table ⊎ ((q : Claim) × IsPromotionOf u q st.table st'.table × (q.resource ≡ r))
+  pub transactions : (st'.begun ≡ st.begun) × (st'.count ≡ st.count)
+
+-- a release takes one lock
+abbrev pub DoesReleaseTakeOneLock : State → Type 0
+DoesReleaseTakeOneLock st = (s : ℕ) (r : List ℕ) → IsNotRefused st s (Release r) →
+    ((step st s (Release r)).reply ≡ Released) × IsReleaseOf s r st (step st s (Release r)).state
+
+-- the session neither holds the resource nor waits for it
+abbrev pub IsApart : Table → ℕ → List ℕ → Type 0
+IsApart t s x = (held_mode t s x ≡ None) × ((q : Claim) → request_of s t.waits ≡ Some q → q.resource ≢ x)
+
+-- the session has no transaction, no lock and no request; each other session is as before, or its request for what the session held or waited for is granted
+pub record IsEndOf (s : ℕ) (st st' : State) : Type 0 where
+  pub closed : is_open st' s ≡ false
+  pub holds_nothing : (x : List ℕ) → held_mode st'.table s x ≡ None
+  pub waits_no_more : request_of s st'.table.waits ≡ None
+  pub others_hold : (u : ℕ) (x : List ℕ) (k : Mode) → u ≢ s → held_mode st.table u x ≡ Some k → HoldsAtLeast st'.table u x k
+  pub others : (u : ℕ) → u ≢ s → IsAsBefore u st.table st'.table ⊎ ((q : Claim) × IsPromotionOf u q st.table st'.table × (IsApart st.table s q.resource → ⊥))
+  pub others_open : (u : ℕ) → u ≢ s → st'.begun u ≡ st.begun u
+  pub count : st'.count ≡ st.count
+
+-- a commit takes all locks of its session, and tells how many they were
+abbrev pub DoesCommitTakeAllLocks : State → Type 0
+DoesCommitTakeAllLocks st = (s : ℕ) → IsNotRefused st s Commit →
+    ((step st s Commit).reply ≡ Committed (length (claims_of s st.table.held))) × IsEndOf s st (step st s Commit).state
+
+-- and so does an abort
+abbrev pub DoesAbortTakeAllLocks : State → Type 0
+DoesAbortTakeAllLocks st = (s : ℕ) → IsNotRefused st s Abort →
+    ((step st s Abort).reply ≡ Aborted (length (claims_of s st.table.held))) × IsEndOf s st (step st s Abort).state
+
+-- what is asked for in the end: the mode asked, or the least one at or above it and what is held
+abbrev pub IsTarget : Option Mode → Mode → Mode → Type 0
+IsTarget None m k = k ≡ m
+IsTarget (Some h) m k = IsLeastUpperBound h m k
+
+-- it fits, and the session holds the resource or nobody waits for it
+abbrev pub IsFree : Table → ℕ → List ℕ → Mode → Type 0
+IsFree t s r k = (fits t s r k ≡ true) × ((held_mode t s r ≢ None) ⊎ (queue t r ≡ []))
+
+-- the request of a session for a resource in a mode
+abbrev pub request : ℕ → List ℕ → Mode → Claim
+request s r k = record { session = s; resource = r; mode = k }
+
+-- no lock changes, and the session waits: behind the conversions where it holds the resource, else behind all
+pub record IsWaitOf (s : ℕ) (r : List ℕ) (k : Mode) (t t' : Table) : Type 0 where
+  pub held : (u : ℕ) (x : List ℕ) → held_mode t' u x ≡ held_mode t u x
+  pub waits : request_of s t'.waits ≡ Some (request s r k)
+  pub others_wait : (u : ℕ) → u ≢ s → request_of u t'.waits ≡ request_of u t.waits
+  pub conversion : held_mode t s r ≢ None → queue t' r ≡ conversions t r ++ request s r k ∷ fresh_requests t r
+  pub fresh : held_mode t s r ≡ None → queue t' r ≡ queue t r ++ request s r k ∷ []
+  pub elsewhere : (x : List ℕ) → x ≢ r → queue t' x ≡ queue t x
+
+-- the session is among these
+abbrev pub IsAmong : ℕ → List ℕ → Type 0
+IsAmong u [] = ⊥
+IsAmong u (v ∷ vs) = (u ≡ v) ⊎ IsAmong u vs
+
+-- one of these sessions waits for the resource
+abbrev pub IsWantedBy : List ℕ → Table → List ℕ → Type 0
+IsWantedBy vs t x = (v : ℕ) × (p : Claim) × IsAmong v vs × (request_of v t.waits ≡ Some p) × (p.resource ≡ x)
+
+-- the session waited and waits no more, its transaction is doomed, and it holds what it held
+pub record IsDoomOf (v : ℕ) (st st' : State) : Type 0 where
+  pub waited : (p : Claim) × (request_of v st.table.waits ≡ Some p)
+  pub waits_no_more : request_of v st'.table.waits ≡ None
+  pub doomed : st'.begun v ≡ doom (st.begun v)
+  pub held : (x : List ℕ) → held_mode st'.table v x ≡ held_mode st.table v x
+
+-- no victim loses a lock; each other session is as before, or its request for what a victim waited for is granted
+pub record DoVictimsKeepLocks (vs : List ℕ) (st st' : State) : Type 0 where
+  pub victims : (v : ℕ) → IsAmong v vs → IsDoomOf v st st'
+  pub others : (u : ℕ) → (IsAmong u vs → ⊥) → IsAsBefore u st.table st'.table ⊎ ((q : Claim) × IsPromotionOf u q st.table st'.table × IsWantedBy vs st.table q.resource)
+  pub others_begun : (u : ℕ) → (IsAmong u vs → ⊥) → st'.begun u ≡ st.begun u
+  pub count : st'.count ≡ st.count
+
+-- so for the victims of every request that could begin to wait
+abbrev pub DoVictimsKeepTheirLocks : State → Type 0
+DoVictimsKeepTheirLocks st = (s : ℕ) (r : List ℕ) (k : Mode) (vs : List ℕ) (last : State) → is_waiting st s ≡ false
+    → AreVictims s vs (with_table (with_request s r k st.table) st) last → DoVictimsKeepLocks vs (with_table (with_request s r k st.table) st) last
+
+-- the asker is told that it is doomed, or else that it waits, or else that its request was granted
+pub record IsTold (s : ℕ) (k : Mode) (o : Outcome) : Type 0 where
+  pub deadlock : is_doomed o.state s ≡ true → o.reply ≡ Deadlock
+  pub waiting : is_doomed o.state s ≡ false → request_of s o.state.table.waits ≢ None → o.reply ≡ Waiting
+  pub granted : is_doomed o.state s ≡ false → request_of s o.state.table.waits ≡ None → o.reply ≡ Granted k
+
+-- the request begins to wait, and the victims that it makes, one after another, lead to the state after the call
+pub record IsWaitSettled (s : ℕ) (r : List ℕ) (k : Mode) (st : State) (o : Outcome) : Type 0 where
+  pub waiting : State
+  pub wait : IsWaitOf s r k st.table waiting.table
+  pub transactions : (waiting.begun ≡ st.begun) × (waiting.count ≡ st.count)
+  pub victims : List ℕ
+  pub one_after_another : AreVictims s victims waiting o.state
+  pub told : IsTold s k o
+
+-- a target that is held already changes nothing, one that is free is granted, and any other waits, with what comes of that
+pub record IsAnswerTo (s : ℕ) (r : List ℕ) (k : Mode) (st : State) (o : Outcome) : Type 0 where
+  pub held_already : held_mode st.table s r ≡ Some k → (o.reply ≡ Granted k) × (o.state ≡ st)
+  pub at_once : held_mode st.table s r ≢ Some k → IsFree st.table s r k → (o.reply ≡ Granted k) × IsGrantOf s r k st.table o.state.table × (o.state.begun ≡ st.begun) × (o.state.count ≡ st.count)
+  pub later : held_mode st.table s r ≢ Some k → (IsFree st.table s r k → ⊥) → IsWaitSettled s r k st o
+
+-- a lock that is not refused is answered so, for its target
+abbrev pub IsLockAnswered : State → Type 0
+IsLockAnswered st = (s : ℕ) (r : List ℕ) (m : Mode) → IsNotRefused st s (Lock r m) →
+    (k : Mode) × IsTarget (held_mode st.table s r) m k × IsAnswerTo s r k st (step st s (Lock r m))
+
+-- and so is a conversion
+abbrev pub IsConvertAnswered : State → Type 0
+IsConvertAnswered st = (s : ℕ) (r : List ℕ) (m : Mode) → IsNotRefused st s (Convert r m) →
+    (k : Mode) × IsTarget (held_mode st.table s r) m k × IsAnswerTo s r k st (step st s (Convert r m))
+
+-- a lock on a resource that the session holds is a conversion
+abbrev pub IsLockOfHeldConvert : State → Type 0
+IsLockOfHeldConvert st = (s : ℕ) (r : List ℕ) (m k : Mode) → held_mode st.table s r ≡ Some k → step st s (Lock r m) ≡ step st s (Convert r m)
+
+-- whoever is told that a lock is granted holds the resource in that mode
+abbrev pub IsGrantedHeld : State → Type 0
+IsGrantedHeld st = (s : ℕ) (r : List ℕ) (m k : Mode) → (step st s (Lock r m)).reply ≡ Granted k → held_mode (step st s (Lock r m)).state.table s r ≡ Some k
+
+-- and so for a conversion
+abbrev pub IsConversionHeld : State → Type 0
+IsConversionHeld st = (s : ℕ) (r : List ℕ) (m k : Mode) → (step st s (Convert r m)).reply ≡ Granted k → held_mode (step st s (Convert r m)).state.table s r ≡ Some k

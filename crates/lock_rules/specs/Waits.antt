@@ -1,0 +1,73 @@
+-- Who waits for whom, and how a deadlock ends.
+use Rattle.std.specs.Prelude.{ℕ, zero, suc, Bool, true, false, not, ◌&&◌, ◌||◌, if◌then◌else◌, ◌==◌, nat_lt, List, [], ◌∷◌, length, map, filter, Option, Some, None}
+use Rattle.std.specs.List.{list_any}
+use Rattle.lock_modes.specs.declared.Mode.{Mode}
+use Rattle.lock_modes.specs.Compatibility.{are_compatible}
+use Rattle.lock_rules.specs.State.{Claim, Transaction, Table, State, held_mode, request_of, claims_but, number_of, with_begun, with_table}
+use Rattle.lock_rules.specs.Queue.{queue, promoted_all}
+
+-- the mode asked conflicts with what is held, if anything is
+abbrev pub conflicts : Mode → Option Mode → Bool
+conflicts m None = false
+conflicts m (Some k) = not (are_compatible m k)
+
+-- the request of u stands before that of s
+abbrev pub stands_before : ℕ → ℕ → List Claim → Bool
+stands_before u s [] = false
+stands_before u s (q ∷ qs) = if q.session == s then false else ((q.session == u) || stands_before u s qs)
+
+-- u holds the resource of the request in a mode that conflicts with its target, or stands before it in the queue
+abbrev pub keeps_waiting : Table → ℕ → Option Claim → Bool
+keeps_waiting t u None = false
+keeps_waiting t u (Some q) = conflicts q.mode (held_mode t u q.resource) || stands_before u q.session (queue t q.resource)
+
+-- s waits for u, who is another session
+abbrev pub waits_for : Table → ℕ → ℕ → Bool
+waits_for t s u = not (u == s) && keeps_waiting t u (request_of s t.waits)
+
+abbrev pub waiting_sessions : Table → List ℕ
+waiting_sessions t = map (λ q. q.session) t.waits
+
+-- a walk of at most so many steps leads from t to u, through these sessions
+abbrev pub walks_within : (ℕ → ℕ → Bool) → List ℕ → ℕ → ℕ → ℕ → Bool
+walks_within pairs vs zero t u = false
+walks_within pairs vs (suc n) t u = pairs t u || list_any (λ v. pairs t v && walks_within pairs vs n v u) vs
+
+-- s waits for u, at once or by way of others; only who waits has a place on such a walk but its end
+abbrev pub reaches : Table → ℕ → ℕ → Bool
+reaches t s u = walks_within (waits_for t) (waiting_sessions t) (suc (length (waiting_sessions t))) s u
+
+-- of these sessions the one with the greatest age
+abbrev pub youngest_of : (ℕ → ℕ) → ℕ → List ℕ → ℕ
+youngest_of age best [] = best
+youngest_of age best (v ∷ vs) = youngest_of age (if nat_lt (age best) (age v) then v else best) vs
+
+-- of the sessions on a circle with s the one whose transaction is the youngest
+abbrev pub victim_of : State → ℕ → ℕ
+victim_of st s = youngest_of (number_of st) s (filter (λ v. reaches st.table s v && reaches st.table v s) (waiting_sessions st.table))
+
+abbrev pub doom : Option Transaction → Option Transaction
+doom None = None
+doom (Some x) = Some (record { number = x.number; doomed = true })
+
+-- the resource of a request
+abbrev pub wanted : Option Claim → List (List ℕ)
+wanted None = []
+wanted (Some q) = q.resource ∷ []
+
+-- the session waits no more
+abbrev pub waits_no_more : ℕ → Table → Table
+waits_no_more s t = record { held = t.held; waits = claims_but s t.waits }
+
+-- and the resource of its request is promoted
+abbrev pub cancelled : ℕ → Table → Table
+cancelled s t = promoted_all (wanted (request_of s t.waits)) (waits_no_more s t)
+
+-- a victim is doomed, waits no more, and keeps its locks
+abbrev pub after_victim : ℕ → State → State
+after_victim v st = with_begun v (doom (st.begun v)) (with_table (cancelled v st.table) st)
+
+-- while s lies on a circle the youngest on one becomes a victim
+abbrev pub settled : ℕ → ℕ → State → State
+settled zero s st = st
+settled (suc n) s st = if reaches st.table s s then settled n s (after_victim (victim_of st s) st) else st
