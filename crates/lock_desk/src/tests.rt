@@ -348,7 +348,6 @@ fn a_victim_keeps_its_locks_until_it_aborts(rt: HostRuntime) -> Result<(), Fail>
         entry(2, Call::Begin, Reply::Began(3)),
         entry(2, Call::Lock(one, Mode::S), Reply::Waiting),
         entry(1, Call::Commit, Reply::Committed(1)),
-        entry(2, Call::Commit, Reply::Committed(1)),
     ];
     let mut book = new_book(&rt, rt.alloc(), 2)?;
     serve_all(&rt, &mut book, &before)?;
