@@ -1,7 +1,7 @@
 //! The desk: all cells and rows, and what each call does to them.
 
 ghost use Rattle.std.specs.Prelude.{◌≡◌, ℕ, ◌+◌, ◌<◌, ◌≤◌, true, false, None, is_some, if◌then◌else◌, map, length, IfOk, OnOk, OnErr, vec_len};
-ghost use Rattle.lock_rules.specs.declared.calls.Reply.TheVariants.{Granted, Waiting, Deadlock, Clear};
+ghost use Rattle.lock_rules.specs.declared.calls.Reply.TheVariants.{Waiting, Deadlock};
 ghost use Rattle.lock_rules.specs.State.{State, held_mode};
 ghost use Rattle.lock_rules.specs.Step.{target_of, is_held, first_failing, ask, act, step};
 ghost use Rattle.lock_rules.specs.Waits.{settled};
@@ -310,11 +310,11 @@ impl Desk {
         }
     }
 
-    /// What a session is told whose request has begun to wait, once no circle goes through it.
-    fn told(&self, session: u16, target: Mode) -> Reply
+    /// What a session is told of its transaction: that it is a deadlock's victim, or that it waits, or else this.
+    fn told(&self, session: u16, otherwise: Reply) -> Reply
         requires { session < vec_len self.now.rows }
         ensures { let x = standing session self.now in result ≡ (if doomed_in x.transaction then Deadlock
-            else (if is_some x.wanted then Waiting else Granted target)) }
+            else (if is_some x.wanted then Waiting else otherwise)) }
     {
         let row = &self.rows[session as usize];
         if is_doomed(row.transaction) {
@@ -323,7 +323,7 @@ impl Desk {
         if row.wanted.is_some() {
             return Reply::Waiting;
         }
-        Reply::Granted(target)
+        otherwise
     }
 
     /// Asks for a mode on the resource, or for what covers it and what is held there.
@@ -347,23 +347,7 @@ impl Desk {
             return Ok(Reply::Granted(target));
         }
         self.settle(session);
-        Ok(self.told(session, target))
-    }
-
-    /// Whether the session waits, or was chosen as a deadlock's victim.
-    fn poll(&self, session: u16) -> Reply
-        requires { session < vec_len self.now.rows }
-        ensures { let x = standing session self.now in result ≡ (if doomed_in x.transaction then Deadlock
-            else (if is_some x.wanted then Waiting else Clear)) }
-    {
-        let row = &self.rows[session as usize];
-        if is_doomed(row.transaction) {
-            return Reply::Deadlock;
-        }
-        if row.wanted.is_some() {
-            return Reply::Waiting;
-        }
-        Reply::Clear
+        Ok(self.told(session, Reply::Granted(target)))
     }
 
     /// What the call does where no test fails.
@@ -387,7 +371,7 @@ impl Desk {
             Call::Lock(resource, mode) | Call::Convert(resource, mode) => {
                 self.ask(session, resource, mode)
             }
-            Call::Poll => Ok(self.poll(session)),
+            Call::Poll => Ok(self.told(session, Reply::Clear)),
             Call::Release(resource) => {
                 self.release(session, resource);
                 Ok(Reply::Released)
