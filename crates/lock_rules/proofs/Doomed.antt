@@ -1,14 +1,15 @@
 -- What comes of the victims: they keep their locks, and requests for what they waited for may be granted.
-use Rattle.std.proofs.Common.{◌≡◌, ℕ, Bool, true, false, cond, eqb, ◌||◌, ◌⊎◌, inl, inr, List, [], ◌∷◌, Option, Some, None, refl, sym, ◌∙◌, ap, arith}
+use Rattle.std.proofs.Common.{◌≡◌, ℕ, Bool, true, false, cond, eqb, ◌||◌, ◌⊎◌, inl, inr, List, [], ◌∷◌, Option, Some, None, refl, sym, ◌∙◌, ap, arith, subst}
 use Rattle.std.proofs.lemmas.Bool.Decides.{Decides-eqb}
 use Rattle.lock_tree.specs.Paths.{same_path}
 use Rattle.lock_rules.specs.State.{Claim, Table, State, request_of, with_table}
-use Rattle.lock_rules.specs.Queue.{with_request}
+use Rattle.lock_rules.specs.Queue.{with_request, promoted_all}
 use Rattle.lock_rules.specs.Waits.{wanted, waits_no_more, cancelled, doom, after_victim}
-use Rattle.lock_rules.specs.Laws.{AreVictims}
-use Rattle.lock_rules.specs.Effects.{IsAsBefore, IsAmong, IsWantedBy, IsDoomOf, DoVictimsKeepLocks, DoVictimsKeepTheirLocks}
+use Rattle.lock_rules.specs.Laws.{AreVictims, ArePromotionsLongest}
+use Rattle.lock_rules.specs.Effects.{IsAsBefore, IsAmong, IsWantedBy, IsDoomOf, DoVictimsKeepLocks, DoVictimsKeepTheirLocks, DoesDoomPromote}
 use Rattle.lock_rules.proofs.Lists.{IsOnce, bool_cases, eqb-refl, other, same_path-true, times-claims_but, request_of-claims_but, request_of-claims_but_other}
 use Rattle.lock_rules.proofs.Promote.{among}
+use Rattle.lock_rules.proofs.Fronts.{promotions-longest}
 use Rattle.lock_rules.proofs.Begins.{once-push}
 use Rattle.lock_rules.proofs.Settle.{walk-waits, has-waits}
 use Rattle.lock_rules.proofs.Steps.{is-none}
@@ -132,3 +133,8 @@ among-or-not u (v ∷ vs) = elim (bool_cases (eqb u v)) [
     neither : eqb u v ≡ false → (IsAmong u vs → ⊥) → IsAmong u (v ∷ vs) → ⊥
     neither n m (inl f) = let y = (Decides-eqb u v).1 f in cc
     neither n m (inr i) = m i
+
+pub doom-promotes : (st : State) → DoesDoomPromote st
+doom-promotes st v q e =
+    let t = waits_no_more v st.table in
+    subst (λ (o : Option Claim). ArePromotionsLongest (q.resource ∷ []) t (promoted_all (wanted o) t)) (sym e) (promotions-longest (q.resource ∷ []) t)

@@ -1,8 +1,8 @@
 -- A promotion grants the longest front of the queue in which each request fits once those before it are held.
-use Rattle.std.proofs.Common.{◌≡◌, ◌≤◌, Bool, true, false, cond, List, [], ◌∷◌, ◌++◌, length, refl, sym, ◌∙◌, ap, arith}
+use Rattle.std.proofs.Common.{◌≡◌, ℕ, ◌≤◌, Bool, true, false, cond, List, [], ◌∷◌, ◌++◌, length, refl, sym, ◌∙◌, ap, arith, subst}
 use Rattle.lock_rules.specs.State.{Claim, Table}
-use Rattle.lock_rules.specs.Queue.{queue, fits, granted, granted_front}
-use Rattle.lock_rules.specs.Laws.{grants, IsFront, EachFits, DoesPromotionGrantLongest}
+use Rattle.lock_rules.specs.Queue.{queue, fits, granted, granted_front, promoted, promoted_all}
+use Rattle.lock_rules.specs.Laws.{grants, IsFront, EachFits, DoesPromotionGrantLongest, ArePromotionsLongest}
 use Rattle.lock_rules.proofs.Alters.{true≢false}
 
 -- what granting one after another up to the first that doesn't fit comes to
@@ -74,3 +74,9 @@ pub promotion-longest : (t : Table) → DoesPromotionGrantLongest t
 promotion-longest t r =
     let g = granted_front-granted (queue t r) t in
     (g.front, (record { front_of_queue = g.front_of_all; each_fits = g.each_fits; longest = g.longest }, g.grants_these))
+
+pub promotions-longest : (rs : List (List ℕ)) (t : Table) → ArePromotionsLongest rs t (promoted_all rs t)
+promotions-longest [] t = refl
+promotions-longest (r ∷ rs) t =
+    let p = promotion-longest t r in
+    (p.0, p.1.0, subst (λ (x : Table). ArePromotionsLongest rs x (promoted_all rs (promoted r t))) p.1.1 (promotions-longest rs (promoted r t)))

@@ -127,7 +127,7 @@ module _ (st : State) (s : ℕ) (r : List ℕ) (k : Mode) where
   settles : request_of s st.table.waits ≡ None → IsWaitSettled s r k st (outcome (after_wait st s r k))
   settles n =
       let v = settled-victims (length st.table.waits + 2) s waiting few in
-      record { waiting = waiting; wait = waits-behind s r k st.table n; transactions = (refl, refl); victims = v.0; one_after_another = v.1; told = told (after_wait st s r k) }
+      record { wait = waits-behind s r k st.table n; victims = v.0; one_after_another = v.1; told = told (after_wait st s r k) }
 
   ask-answers : request_of s st.table.waits ≡ None → is_doomed st s ≡ false → at_or_below (mode_or_nothing (held_mode st.table s r)) k ≡ true → IsAnswerTo s r k st (ask st s r k)
   ask-answers n d up = record {

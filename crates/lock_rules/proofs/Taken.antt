@@ -14,9 +14,10 @@ use Rattle.lock_rules.specs.Queue.{queue, fits, granted, granted_front, promoted
 use Rattle.lock_rules.specs.Waits.{wanted}
 use Rattle.lock_rules.specs.Step.{Outcome, tests, first_failing, act, outcome_of, step, left, ended, released, holds_child}
 use Rattle.lock_rules.specs.Laws.{HoldsAtLeast}
-use Rattle.lock_rules.specs.Effects.{IsNotRefused, IsAsBefore, IsPromotionOf, IsReleaseOf, DoesReleaseTakeOneLock, IsApart, IsEndOf, DoesCommitTakeAllLocks, DoesAbortTakeAllLocks}
+use Rattle.lock_rules.specs.Effects.{IsNotRefused, IsAsBefore, IsPromotionOf, IsReleaseOf, DoesReleaseTakeOneLock, IsApart, touched, IsEndOf, DoesCommitTakeAllLocks, DoesAbortTakeAllLocks}
 use Rattle.lock_rules.proofs.Lists.{IsOnce, times-claims_but, bool_cases, eqb-refl, same_path-refl, same_path-true, other, differs, mode_in-with_lock, mode_in-with_lock_path, mode_in-with_lock_other, mode_in-locks_but, mode_in-locks_but_path, mode_in-locks_but_other, mode_in-claims_but, mode_in-claims_but_other, request_of-claims_but, request_of-claims_but_other}
 use Rattle.lock_rules.proofs.Alters.{true≢false}
+use Rattle.lock_rules.proofs.Fronts.{promotions-longest}
 use Rattle.lock_rules.proofs.Sound.{IsSound, head-request, queue-rest, granted-alters}
 use Rattle.lock_rules.proofs.Promote.{among}
 use Rattle.lock_rules.proofs.Cuts.{IsLawful, one_less, left-sound, released-rises, ended-rises}
@@ -143,6 +144,7 @@ released-takes s r st i n c = record {
   ];
   others_hold = λ u k m e. risen st.table (released s r st.table) u r k i e (released-rises s r st.table i n c u r (inl (other s u m)));
   others = λ u m. after-same u (λ x. x ≡ r) st.table (one_less s r st.table) (released s r st.table) (before u (other s u m)) (served u);
+  promotion = promotions-longest (r ∷ []) (one_less s r st.table);
   transactions = (refl, refl);
 }
   where
@@ -156,9 +158,6 @@ released-takes s r st i n c = record {
     before u m = record { held = λ x. mode_in-locks_but_other u s x r st.table.held m; waits = refl }
 
 -- the end of a transaction
-
-abbrev touched : ℕ → Table → List (List ℕ)
-touched s t = wanted (request_of s t.waits) ++ map (λ (c : Claim). c.resource) (claims_of s t.held)
 
 among-both : (xs ys : List (List ℕ)) (x : List ℕ) → among xs x ≡ false → among ys x ≡ false → among (xs ++ ys) x ≡ false
 among-both [] ys x h k = k
@@ -189,6 +188,7 @@ ended-takes s st i = record {
     | inl a ↦ inl a
     | inr p ↦ inr (p.0, p.1, λ h. true≢false p.2 (apart-untouched s st.table p.0.resource h))
   ];
+  promotion = promotions-longest (touched s st.table) (left s st.table);
   others_open = λ u m. ap (λ (b : Bool). cond b None (st.begun u)) (other s u m);
   count = refl;
 }

@@ -1,16 +1,16 @@
 -- What a call that is not refused brings about, in plain words.
-use Rattle.std.specs.Prelude.{◌≡◌, ◌≢◌, ℕ, true, false, ◌⊎◌, List, [], ◌∷◌, ◌++◌, length, Option, Some, None}
+use Rattle.std.specs.Prelude.{◌≡◌, ◌≢◌, ℕ, true, false, ◌⊎◌, List, [], ◌∷◌, ◌++◌, length, map, Option, Some, None}
 use Rattle.lock_modes.specs.declared.Mode.{Mode}
 use Rattle.lock_modes.specs.Order.{IsLeastUpperBound}
 use Rattle.lock_rules.specs.declared.calls.Call.{Call}
 use Rattle.lock_rules.specs.declared.calls.Call.TheVariants.{Lock, Convert, Release, Commit, Abort}
 use Rattle.lock_rules.specs.declared.calls.Reply.TheVariants.{Granted, Waiting, Deadlock, Released, Committed, Aborted, Refused}
 use Rattle.lock_rules.specs.declared.calls.Why.{Why}
-use Rattle.lock_rules.specs.State.{Claim, Table, State, held_mode, request_of, claims_of, is_open, is_waiting, is_doomed, with_table}
-use Rattle.lock_rules.specs.Queue.{conversions, fresh_requests, queue, fits, with_request}
-use Rattle.lock_rules.specs.Waits.{doom}
+use Rattle.lock_rules.specs.State.{Claim, Table, State, held_mode, request_of, claims_of, claims_but, is_open, is_waiting, is_doomed, with_table}
+use Rattle.lock_rules.specs.Queue.{conversions, fresh_requests, queue, fits, locks_but, with_request}
+use Rattle.lock_rules.specs.Waits.{doom, wanted, after_victim}
 use Rattle.lock_rules.specs.Step.{Outcome, step}
-use Rattle.lock_rules.specs.Laws.{IsGrantOf, HoldsAtLeast, AreVictims}
+use Rattle.lock_rules.specs.Laws.{IsGrantOf, HoldsAtLeast, ArePromotionsLongest, AreVictims}
 
 -- the call is not refused
 abbrev pub IsNotRefused : State → ℕ → Call → Type 0
@@ -28,13 +28,14 @@ pub record IsPromotionOf (u : ℕ) (q : Claim) (t t' : Table) : Type 0 where
   pub held : held_mode t' u q.resource ≡ Some q.mode
   pub elsewhere : (x : List ℕ) → x ≢ q.resource → held_mode t' u x ≡ held_mode t u x
 
--- the session gives back this lock and no other; each other session is as before, or its request for the resource is granted
+-- the session gives back this lock and no other, and the resource is promoted; each other session is as before, or its request for the resource is granted
 pub record IsReleaseOf (s : ℕ) (r : List ℕ) (st st' : State) : Type 0 where
   pub given_back : held_mode st'.table s r ≡ None
   pub waits : request_of s st'.table.waits ≡ None
   pub elsewhere : (u : ℕ) (x : List ℕ) → x ≢ r → held_mode st'.table u x ≡ held_mode st.table u x
   pub others_hold : (u : ℕ) (k : Mode) → u ≢ s → held_mode st.table u r ≡ Some k → HoldsAtLeast st'.table u r k
   pub others : (u : ℕ) → u ≢ s → IsAsBefore u st.table st'.table ⊎ ((q : Claim) × IsPromotionOf u q st.table st'.table × (q.resource ≡ r))
+  pub promotion : ArePromotionsLongest (r ∷ []) (record { held = locks_but s r st.table.held; waits = st.table.waits }) st'.table
   pub transactions : (st'.begun ≡ st.begun) × (st'.count ≡ st.count)
 
 -- a release takes one lock
@@ -46,13 +47,18 @@ DoesReleaseTakeOneLock st = (s : ℕ) (r : List ℕ) → IsNotRefused st s (Rele
 abbrev pub IsApart : Table → ℕ → List ℕ → Type 0
 IsApart t s x = (held_mode t s x ≡ None) × ((q : Claim) → request_of s t.waits ≡ Some q → q.resource ≢ x)
 
--- the session has no transaction, no lock and no request; each other session is as before, or its request for what the session held or waited for is granted
+-- what the session waits for, and what it holds
+abbrev pub touched : ℕ → Table → List (List ℕ)
+touched s t = wanted (request_of s t.waits) ++ map (λ c. c.resource) (claims_of s t.held)
+
+-- the session has no transaction, no lock and no request, and what it held and waited for is promoted; each other session is as before, or its request for one of these is granted
 pub record IsEndOf (s : ℕ) (st st' : State) : Type 0 where
   pub closed : is_open st' s ≡ false
   pub holds_nothing : (x : List ℕ) → held_mode st'.table s x ≡ None
   pub waits_no_more : request_of s st'.table.waits ≡ None
   pub others_hold : (u : ℕ) (x : List ℕ) (k : Mode) → u ≢ s → held_mode st.table u x ≡ Some k → HoldsAtLeast st'.table u x k
   pub others : (u : ℕ) → u ≢ s → IsAsBefore u st.table st'.table ⊎ ((q : Claim) × IsPromotionOf u q st.table st'.table × (IsApart st.table s q.resource → ⊥))
+  pub promotion : ArePromotionsLongest (touched s st.table) (record { held = claims_but s st.table.held; waits = claims_but s st.table.waits }) st'.table
   pub others_open : (u : ℕ) → u ≢ s → st'.begun u ≡ st.begun u
   pub count : st'.count ≡ st.count
 
@@ -116,6 +122,11 @@ abbrev pub DoVictimsKeepTheirLocks : State → Type 0
 DoVictimsKeepTheirLocks st = (s : ℕ) (r : List ℕ) (k : Mode) (vs : List ℕ) (last : State) → is_waiting st s ≡ false
     → AreVictims s vs (with_table (with_request s r k st.table) st) last → DoVictimsKeepLocks vs (with_table (with_request s r k st.table) st) last
 
+-- the resource that a victim waited for is promoted, once its request is gone
+abbrev pub DoesDoomPromote : State → Type 0
+DoesDoomPromote st = (v : ℕ) (q : Claim) → request_of v st.table.waits ≡ Some q
+    → ArePromotionsLongest (q.resource ∷ []) (record { held = st.table.held; waits = claims_but v st.table.waits }) (after_victim v st).table
+
 -- the asker is told that it is doomed, or else that it waits, or else that its request was granted
 pub record IsTold (s : ℕ) (k : Mode) (o : Outcome) : Type 0 where
   pub deadlock : is_doomed o.state s ≡ true → o.reply ≡ Deadlock
@@ -124,11 +135,9 @@ pub record IsTold (s : ℕ) (k : Mode) (o : Outcome) : Type 0 where
 
 -- the request begins to wait, and the victims that it makes, one after another, lead to the state after the call
 pub record IsWaitSettled (s : ℕ) (r : List ℕ) (k : Mode) (st : State) (o : Outcome) : Type 0 where
-  pub waiting : State
-  pub wait : IsWaitOf s r k st.table waiting.table
-  pub transactions : (waiting.begun ≡ st.begun) × (waiting.count ≡ st.count)
+  pub wait : IsWaitOf s r k st.table (with_request s r k st.table)
   pub victims : List ℕ
-  pub one_after_another : AreVictims s victims waiting o.state
+  pub one_after_another : AreVictims s victims (with_table (with_request s r k st.table) st) o.state
   pub told : IsTold s k o
 
 -- a target that is held already changes nothing, one that is free is granted, and any other waits, with what comes of that

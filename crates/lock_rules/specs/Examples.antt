@@ -86,6 +86,11 @@ refusals =
     ∷ entry 1 (Convert (database 1) S) (Refused NotHeld) ∷ entry 1 (Convert (database 1) NL) (Refused NothingAsked)
     ∷ entry 1 (Lock (database 1) S) (Granted S) ∷ entry 1 Poll Clear
     ∷ entry 1 Commit (Committed 1) ∷ entry 1 Begin (Began 2) ∷ entry 1 Commit (Committed 0)
+    ∷ entry 1 (Lock (database 1) S) (Refused NoTransaction)
+    ∷ entry 1 (Convert (database 1) S) (Refused NoTransaction) ∷ entry 1 Poll (Refused NoTransaction)
+    ∷ entry 1 (Release (database 1)) (Refused NoTransaction) ∷ entry 1 Abort (Refused NoTransaction)
+    ∷ entry 1 Begin (Began 3) ∷ entry 1 (Convert (1 ∷ 2 ∷ []) X) (Refused NotHeld)
+    ∷ entry 1 (Lock (1 ∷ 2 ∷ []) NL) (Refused NothingAsked)
     ∷ []
 
 -- A lock needs its parent: IS or above for S, IX or above for X; the parent's parent doesn't serve.

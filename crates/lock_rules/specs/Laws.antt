@@ -74,6 +74,11 @@ pub record IsLongestFront (t : Table) (r : List ℕ) (front : List Claim) : Type
 abbrev pub DoesPromotionGrantLongest : Table → Type 0
 DoesPromotionGrantLongest t = (r : List ℕ) → (front : List Claim) × (IsLongestFront t r front × (promoted r t ≡ grants front t))
 
+-- of each of these resources, one after another, the requests of the longest such front are granted, and no others
+abbrev pub ArePromotionsLongest : List (List ℕ) → Table → Table → Type 0
+ArePromotionsLongest [] t t' = t' ≡ t
+ArePromotionsLongest (r ∷ rs) t t' = (front : List Claim) × IsLongestFront t r front × ArePromotionsLongest rs (grants front t) t'
+
 -- states
 
 -- a mode fits exactly where it is compatible with each mode that another session holds there

@@ -12,7 +12,7 @@ ghost use Rattle.lock_rules.specs.Queue.{granted};
 ghost use Rattle.lock_rules.specs.Step.{step};
 ghost use Rattle.lock_rules.specs.Legal.{Answered, IsLegal, state_of, asked_in, calls_of};
 ghost use Rattle.lock_rules.specs.Laws.{AreRepliesOfSteps, IsEntryOf, ArePlacesRising, IsRefusalExact, DoesRefusalKeep, IsGrantOf, DoesPromotionGrantLongest, DoesFitTell, AreHoldersCompatible, DoesNobodyWaitNeedlessly, AreLocksUnderParents, AreRequestsUnderParents, AreChildrenHeld, IsAccessCompatible, DoesGrantStand, AreOwnersOpen, AreNumbersApart, AreNumbersCounted, HasNoCircle, DoDoomedWaitForNothing, AreVictimsDetermined, IsLawfulState};
-ghost use Rattle.lock_rules.specs.Effects.{IsLockAnswered, IsConvertAnswered, IsLockOfHeldConvert, IsGrantedHeld, IsConversionHeld, DoVictimsKeepTheirLocks, DoesReleaseTakeOneLock, DoesCommitTakeAllLocks, DoesAbortTakeAllLocks};
+ghost use Rattle.lock_rules.specs.Effects.{IsLockAnswered, IsConvertAnswered, IsLockOfHeldConvert, IsGrantedHeld, IsConversionHeld, DoVictimsKeepTheirLocks, DoesDoomPromote, DoesReleaseTakeOneLock, DoesCommitTakeAllLocks, DoesAbortTakeAllLocks};
 ghost use Rattle.lock_rules.specs.Examples.{with_reply, queue_in_order, promotion_stops, readers_together, promotion_in_order, intentions, refusals, down_the_tree, up_the_tree, release_promotes, release_of_one, asks_again, conversion_first, conversion_at_once, conversion_under_parent, abort_while_waiting, readers_that_convert, youngest_of_two, victim_in_the_way, conversions_that_meet, circle_through_the_queue, two_victims};
 
 /// A history is legal exactly where each reply is the one that the step gives at its place. So each
@@ -116,14 +116,15 @@ pub fn no_incompatible_access()
     ensures { (history : List EntryValue) → IsAccessCompatible (state_of history) }
 {}
 
-/// A release that isn't refused gives back that one lock of that one session. The others hold no less:
+/// A release that isn't refused gives back that one lock of that one session, and promotes its resource. The others
+/// hold no less:
 /// requests of theirs for the resource may be granted, and nothing else of them changes.
 pub fn releases_take_one_lock()
     ensures { (history : List EntryValue) → DoesReleaseTakeOneLock (state_of history) }
 {}
 
-/// A commit or an abort that isn't refused leaves the session no lock and no request, and tells how many
-/// locks it had. The others hold no less: requests of theirs for what it held or waited for may be granted,
+/// A commit or an abort that isn't refused leaves the session no lock and no request, tells how many locks it
+/// had, and promotes what it held and waited for, one after another. The others hold no less: requests of theirs for what it held or waited for may be granted,
 /// and nothing else of them changes.
 pub fn ends_take_all_locks()
     ensures commit { (history : List EntryValue) → DoesCommitTakeAllLocks (state_of history) }
@@ -160,10 +161,11 @@ pub fn victims_are_determined()
     ensures { (history : List EntryValue) → AreVictimsDetermined (state_of history) }
 {}
 
-/// A victim loses its request and none of its locks, and it is doomed. Of the others nothing changes, but that
-/// requests for what a victim waited for may be granted.
+/// A victim loses its request and none of its locks, and it is doomed. What it waited for is promoted: of the
+/// others nothing changes, but that requests for that may be granted.
 pub fn victims_keep_their_locks()
-    ensures { (history : List EntryValue) → DoVictimsKeepTheirLocks (state_of history) }
+    ensures keep { (history : List EntryValue) → DoVictimsKeepTheirLocks (state_of history) }
+    ensures promotion { (st : State) → DoesDoomPromote st }
 {}
 
 /// Every state that a history leads to is lawful.
@@ -188,6 +190,11 @@ pub fn examples_are_legal()
     ensures refusals { IsLegal refusals }
     ensures not_held_before_nothing_asked { IsLegal (with_reply 5 (Refused NotHeld) refusals) → ⊥ }
     ensures number_used_again { IsLegal (with_reply 9 (Began 1) refusals) → ⊥ }
+    ensures converts_with_no_transaction { IsLegal (with_reply 12 (Refused NotHeld) refusals) → ⊥ }
+    ensures releases_with_no_transaction { IsLegal (with_reply 14 (Refused NotHeld) refusals) → ⊥ }
+    ensures aborts_no_transaction { IsLegal (with_reply 15 (Aborted 0) refusals) → ⊥ }
+    ensures parent_before_not_held { IsLegal (with_reply 17 (Refused ParentNotHeld) refusals) → ⊥ }
+    ensures parent_before_nothing_asked { IsLegal (with_reply 18 (Refused ParentNotHeld) refusals) → ⊥ }
     ensures down_the_tree { IsLegal down_the_tree }
     ensures parent_left_out { IsLegal (with_reply 1 (Granted S) down_the_tree) → ⊥ }
     ensures need_of_share_for_exclusive { IsLegal (with_reply 3 (Granted X) down_the_tree) → ⊥ }

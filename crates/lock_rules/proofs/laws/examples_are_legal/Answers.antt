@@ -52,6 +52,21 @@ returns-clause-not_held_before_nothing_asked c = wrong 5 (Refused NotHeld) refus
 pub returns-clause-number_used_again : goal.returns-clause-number_used_again
 returns-clause-number_used_again c = wrong 9 (Began 1) refusals refl legal-refusals
 
+pub returns-clause-converts_with_no_transaction : goal.returns-clause-converts_with_no_transaction
+returns-clause-converts_with_no_transaction c = wrong 12 (Refused NotHeld) refusals refl legal-refusals
+
+pub returns-clause-releases_with_no_transaction : goal.returns-clause-releases_with_no_transaction
+returns-clause-releases_with_no_transaction c = wrong 14 (Refused NotHeld) refusals refl legal-refusals
+
+pub returns-clause-aborts_no_transaction : goal.returns-clause-aborts_no_transaction
+returns-clause-aborts_no_transaction c = wrong 15 (Aborted 0) refusals refl legal-refusals
+
+pub returns-clause-parent_before_not_held : goal.returns-clause-parent_before_not_held
+returns-clause-parent_before_not_held c = wrong 17 (Refused ParentNotHeld) refusals refl legal-refusals
+
+pub returns-clause-parent_before_nothing_asked : goal.returns-clause-parent_before_nothing_asked
+returns-clause-parent_before_nothing_asked c = wrong 18 (Refused ParentNotHeld) refusals refl legal-refusals
+
 pub returns-clause-down_the_tree : goal.returns-clause-down_the_tree
 returns-clause-down_the_tree c = legal-down_the_tree
 
