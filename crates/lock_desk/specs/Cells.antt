@@ -83,11 +83,11 @@ given_up part.Request s v = record { holders = v.holders; waiting = without s v.
 abbrev pub freed_view : Part → ℕ → View → View
 freed_view p s v = promoted_view (given_up p s v)
 
--- a conversion is granted at once where it fits, a fresh request where nothing waits besides
 abbrev pub is_nobody : List Claim → Bool
 is_nobody [] = true
 is_nobody (c ∷ cs) = false
 
+-- a claim is granted at once where it fits, and its session is a holder or nobody waits
 abbrev pub can_grant : Claim → View → Bool
 can_grant c v = fits_among c v.holders && (has_claim c.session v.holders || is_nobody v.waiting)
 

@@ -1,6 +1,7 @@
 -- Who waits for whom, by what cells and rows say.
 use Rattle.std.specs.Prelude.{◌≡◌, ℕ, ◌+◌, ◌≤◌, Bool, false, not, ◌&&◌, ◌||◌, if◌then◌else◌, ◌==◌, List, [], ◌∷◌, Option, Some, None, slice_index_or, vec_len}
 use Rattle.std.specs.List.{All, list_any}
+use Rattle.waits_for.specs.declared.TheConstants.{MAX_SESSIONS}
 use Rattle.waits_for.specs.Pairs.{pairs_of}
 use Rattle.lock_modes.specs.declared.Mode.{Mode}
 use Rattle.lock_modes.specs.Compatibility.{are_compatible}
@@ -55,7 +56,7 @@ pub record IsNumbered (n : ℕ) (v : View) : Type 0 where
 
 -- there is room for so many sessions, and nothing stands in a row that is not marked
 pub record IsReady (n : ℕ) (w : Waits) : Type 0 where
-  pub few : n ≤ 256
+  pub few : n ≤ MAX_SESSIONS
   pub sessions : w.rows.sessions ≡ n
   pub numbers : vec_len w.numbers ≡ n
   pub filled : vec_len w.filled ≡ n

@@ -83,17 +83,16 @@ impl Book {
         ensures legal { IsLegal self.now.history }
         ensures within { All (IsEntryWithin self.now.sessions) self.now.history }
         ensures lawful { (front rest : List EntryValue) → self.now.history ≡ front ++ rest → IsLawfulState (state_of front) }
-        ensures grants { (front rest : List EntryValue) → self.now.history ≡ front ++ rest → DoesGrantStand front rest }
+        ensures grants { (front later rest : List EntryValue) → self.now.history ≡ front ++ later ++ rest → DoesGrantStand front later }
     {
         laws::states_are_lawful();
         laws::grants_stand();
         &self.history
     }
 
-    /// The mode that the session holds on the resource outright; what a request waits for is not held.
+    /// The mode that the session holds on the resource outright; what a request waits for is not held. A session that
+    /// the book doesn't have holds nothing.
     pub fn held(&self, session: u16, resource: Resource) -> Option<Mode>
-        requires some { 1 ≤ session }
-        requires within { session ≤ self.now.sessions }
         ensures { result ≡ held_mode (state_of self.now.history).table session resource }
     {
         self.desk.held(session, resource)

@@ -66,7 +66,8 @@ pub(crate) fn list_claims(claims: &[Claim], list: &mut Vec<(u16, Mode)>) -> Resu
     ensures ok { OnOk result (list.new.items ≡ map pair_of claims.now) }
     ensures err { OnErr result (list.new.items ≡ list.old.items) }
 {
-    list.reserve(claims.len())?;
+    let more = claims.len().saturating_sub(list.len());
+    list.reserve(more)?;
     list.clear();
     for claim in claims {
         list.push_reserved((claim.session, claim.mode));
@@ -203,12 +204,12 @@ fn join(cell: &mut Cell, claim: Claim) -> Result<bool, AllocError>
 {
     let waiting = cell.waiting.len();
     cell.holders.reserve(waiting + 1)?;
-    cell.waiting.reserve(1)?;
     let unhindered = is_among(&cell.holders, claim.session) || cell.waiting.is_empty();
     if unhindered && fits(&cell.holders, claim) {
         put(&mut cell.holders, claim);
         Ok(true)
     } else {
+        cell.waiting.reserve(1)?;
         enqueue(cell, claim);
         Ok(false)
     }

@@ -288,7 +288,8 @@ impl Desk {
         row.transaction = doom(row.transaction);
     }
 
-    /// While the session lies on a circle of waits, the youngest transaction on one becomes a victim.
+    /// While the session lies on a circle of waits, the youngest transaction on one becomes a victim. A victim waited,
+    /// and waits no more, so there are fewer victims than sessions.
     fn settle(&mut self, session: u16)
         requires some { 1 ≤ session }
         requires within { session < vec_len self.old.rows }

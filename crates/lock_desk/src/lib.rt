@@ -1,8 +1,8 @@
-//! The lock table for databases: transactions begin, lock and release resources and commit, and each call is in
-//! the history.
+//! The lock table: transactions lock, convert and release resources of the tree, wait, poll, commit and abort,
+//! deadlocks end with their victims, and each call is in the history with its reply.
 //!
-//! Three layers, each of which knows only the contracts of the one below: the cells and rows, which are lists of
-//! holders, waiting requests and locks; the desk, which does what each call does to all of them; and the book, which is
+//! Three layers, each of which knows only the contracts of the one below: the cells, by resource, and the rows, by
+//! session, with who waits for whom; the desk, which does what each call does to all of them; and the book, which is
 //! the desk with its history, and what callers see.
 #![tactic(auto)]
 

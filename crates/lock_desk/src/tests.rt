@@ -57,12 +57,6 @@ fn serve_all(rt: &impl Abort, book: &mut Book, entries: &[Entry]) -> Result<(), 
     Ok(())
 }
 
-fn held(rt: &impl Abort, book: &Book, session: u16, resource: Resource) -> Option<Mode> {
-    assert!(rt; session >= 1);
-    assert!(rt; session <= book.sessions());
-    book.held(session, resource)
-}
-
 /// Asks for the holders, and once more where memory was refused.
 fn holders(book: &Book, resource: Resource, list: &mut Vec<(u16, Mode)>) -> Result<(), NoMemory> {
     match book.holders(resource, list) {
@@ -221,10 +215,10 @@ fn conversions_wait_ahead_of_fresh_requests(rt: HostRuntime) -> Result<(), Fail>
     ];
     let mut book = new_book(&rt, rt.alloc(), 3)?;
     serve_all(&rt, &mut book, &before)?;
-    assert_eq!(rt; held(&rt, &book, 1, one), Some(Mode::S));
+    assert_eq!(rt; book.held(1, one), Some(Mode::S));
     serve_all(&rt, &mut book, &after)?;
-    assert_eq!(rt; held(&rt, &book, 1, one), Some(Mode::SIX));
-    assert_eq!(rt; held(&rt, &book, 3, one), None);
+    assert_eq!(rt; book.held(1, one), Some(Mode::SIX));
+    assert_eq!(rt; book.held(3, one), None);
     Ok(())
 }
 
@@ -315,13 +309,13 @@ fn a_release_promotes_and_holders_are_told(rt: HostRuntime) -> Result<(), Fail> 
     serve_all(&rt, &mut book, &before)?;
     holders(&book, one, &mut list)?;
     assert_eq!(rt; list.as_slice(), [(1, Mode::X)].as_slice());
-    assert_eq!(rt; held(&rt, &book, 1, one), Some(Mode::X));
-    assert_eq!(rt; held(&rt, &book, 2, one), None);
+    assert_eq!(rt; book.held(1, one), Some(Mode::X));
+    assert_eq!(rt; book.held(2, one), None);
     serve_all(&rt, &mut book, &after)?;
     holders(&book, one, &mut list)?;
     assert_eq!(rt; list.as_slice(), [(2, Mode::S), (3, Mode::S)].as_slice());
-    assert_eq!(rt; held(&rt, &book, 1, one), None);
-    assert_eq!(rt; held(&rt, &book, 3, one), Some(Mode::S));
+    assert_eq!(rt; book.held(1, one), None);
+    assert_eq!(rt; book.held(3, one), Some(Mode::S));
     Ok(())
 }
 
@@ -351,8 +345,8 @@ fn a_victim_keeps_its_locks_until_it_aborts(rt: HostRuntime) -> Result<(), Fail>
     ];
     let mut book = new_book(&rt, rt.alloc(), 2)?;
     serve_all(&rt, &mut book, &before)?;
-    assert_eq!(rt; held(&rt, &book, 2, one), Some(Mode::S));
+    assert_eq!(rt; book.held(2, one), Some(Mode::S));
     serve_all(&rt, &mut book, &after)?;
-    assert_eq!(rt; held(&rt, &book, 2, one), Some(Mode::S));
+    assert_eq!(rt; book.held(2, one), Some(Mode::S));
     Ok(())
 }

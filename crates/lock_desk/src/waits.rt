@@ -13,7 +13,7 @@ use indexmap::IndexMap;
 use lock_modes::Mode;
 use lock_tree::Resource;
 use std::alloc::{AllocError, Global};
-use waits_for::Rows;
+use waits_for::{MAX_SESSIONS, Rows};
 
 /// Which session waits for which, and the number of each session's transaction, by positions: session 1 has
 /// position 0. A row of a session that is not marked as filled is empty.
@@ -27,7 +27,7 @@ pub struct Waits {
 /// Room for so many sessions.
 pub(crate) fn new_waits(alloc: Global, sessions: u16) -> Result<Waits, AllocError>
     requires some { 1 ≤ sessions }
-    requires few { sessions ≤ 256 }
+    requires few { sessions ≤ MAX_SESSIONS }
     ensures ready { IfOk result (IsReady sessions) }
 {
     let rows = Rows::new(alloc, sessions)?;

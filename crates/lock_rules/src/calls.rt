@@ -80,7 +80,10 @@ pub enum Reply {
 /// One call of one session, with its reply. A list of these, oldest first, is a history.
 #[derive(Clone, Copy, Debug, PartialEq, Eq, Hash)]
 pub struct Entry {
+    /// From 1 to the number of sessions.
     pub session: u16,
+    /// What it asked.
     pub call: Call,
+    /// What it was told.
     pub reply: Reply,
 }

@@ -16,6 +16,7 @@ use lock_tree::Resource;
 pub struct TraceRow {
     /// From 1 to the number of sessions.
     pub session: u16,
+    /// What it asks.
     pub call: Call,
 }
 

@@ -1,3 +1,5 @@
+//! The rows: who waits for whom, and the questions about it.
+
 ghost use Rattle.std.specs.Prelude.{◌≡◌, ℕ, ◌<◌, ◌≤◌, ◌↔◌, ◌&&◌, ◌||◌, not, ◌==◌, false, true, IfOk, IfSome, IsSome, IsTrue, length};
 ghost use Rattle.waits_for.specs.Pairs.{pairs_of};
 ghost use Rattle.waits_for.specs.Walks.{Reaches, IsYoungestOnCircle};
@@ -104,7 +106,7 @@ impl Rows {
     /// one of least position where two are of one age. `None` where `t` is on no circle.
     ///
     /// Ages are transaction numbers, 0 for no transaction, so the greatest age is the youngest. That
-    /// the youngest is the victim is this project's own choice: it has the least work to lose.
+    /// the youngest is the victim is this project's own choice: it began last.
     pub fn youngest_on_circle(&mut self, t: usize, ages: &[u64]) -> Option<usize>
         requires t_below { t < self.old.sessions }
         requires an_age_each { length ages.now ≡ self.old.sessions }

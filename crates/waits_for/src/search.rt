@@ -1,3 +1,5 @@
+//! The search for all that a walk leads to, forward or backward.
+
 ghost use Rattle.std.specs.Prelude.{◌≡◌, ℕ, ◌+◌, ◌<◌, ◌↔◌, false, true, ◌&&◌, ◌==◌, IfOk, IsTrue, length};
 ghost use Rattle.std.specs.Option.{ForSome};
 ghost use Rattle.waits_for.specs.Pairs.{pairs_of};

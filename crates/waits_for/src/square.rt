@@ -1,3 +1,5 @@
+//! The pairs, kept as a square of bytes.
+
 ghost use Rattle.std.specs.Prelude.{◌≡◌, ℕ, ◌+◌, ◌-◌, ◌*◌, ◌<◌, ◌≤◌, false, ◌&&◌, ◌||◌, not, ◌==◌, nat_le, nat_lt, IfOk, length, slice_index_or, vec_len};
 ghost use Rattle.waits_for.specs.Pairs.{pairs_of, seen_by};
 

@@ -3,8 +3,8 @@ use Rattle.lock_desk.specs.Cells.{view_of, with_claim, queued}
 use Rattle.lock_desk.proofs.Grants.{kept-view, once-put, once-queued, busy-put, busy-queued}
 use Rattle.lock_desk.proofs.cells.join.Goals as goal
 
-pub returns-else-unhindered-clause-kept : goal.returns-else-unhindered-clause-kept
-returns-else-unhindered-clause-kept c =
+pub returns-in_ok-reserve-2-clause-kept : goal.returns-in_ok-reserve-2-clause-kept
+returns-in_ok-reserve-2-clause-kept c =
     let v = view_of c.args.cell.now in
     let hs = c.in_ok-reserve.ensures.items in
     let ws = c.in_ok-reserve-2.ensures.items in
@@ -16,7 +16,6 @@ pub returns-then-fits-clause-kept : goal.returns-then-fits-clause-kept
 returns-then-fits-clause-kept c =
     let v = view_of c.args.cell.now in
     let hs = c.put.ensures.items ∙ ap (with_claim c.args.claim) c.in_ok-reserve.ensures.items in
-    let ws = c.in_ok-reserve-2.ensures.items in
-    kept-view _ (record { holders = with_claim c.args.claim v.holders; waiting = v.waiting }) (λ i. record { holders = hs i; waiting = ws i })
-    (omega (arith, c.put.ensures.len, c.put.ensures.capacity, c.in_ok-reserve.ensures.ok, c.in_ok-reserve-2.ensures.len, c.in_ok-reserve.ensures.len, c.len-waiting.ensures))
+    kept-view _ (record { holders = with_claim c.args.claim v.holders; waiting = v.waiting }) (λ i. record { holders = hs i; waiting = v.waiting })
+    (omega (arith, c.put.ensures.len, c.put.ensures.capacity, c.in_ok-reserve.ensures.ok, c.in_ok-reserve.ensures.len, c.len-waiting.ensures))
     (once-put c.args.claim v c.requires.some c.requires.kept.once) (busy-put c.args.claim v)

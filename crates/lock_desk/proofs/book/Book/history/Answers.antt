@@ -4,4 +4,4 @@ pub returns-clause-lawful : goal.returns-clause-lawful
 returns-clause-lawful c = λ front rest e. c.states_are_lawful.ensures front
 
 pub returns-clause-grants : goal.returns-clause-grants
-returns-clause-grants c = λ front rest e. c.grants_stand.ensures front rest
+returns-clause-grants c = λ front later rest e. c.grants_stand.ensures front later
