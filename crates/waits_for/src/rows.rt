@@ -115,6 +115,9 @@ impl Rows {
         ensures same { self.new ≡ self.old }
     {
         self.forward.search(&self.square, Direction::Forward, t);
+        if !self.forward.marks[t] {
+            return None;
+        }
         self.backward.search(&self.square, Direction::Backward, t);
         youngest_in_both(&self.forward, &self.backward, ages)
     }
