@@ -10,6 +10,7 @@ pub mod Settle
 pub mod Steps
 pub mod Owners
 pub mod Victims
+pub mod Waiting
 pub mod Idle
 pub mod Histories
 pub mod Grants

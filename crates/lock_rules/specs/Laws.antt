@@ -155,6 +155,22 @@ AreNumbersCounted st = (s : ℕ) → is_open st s ≡ true → number_of st s �
 
 -- deadlocks
 
+-- u holds the resource of the request in a mode that isn't compatible with its target
+abbrev pub HoldsInConflict : Table → ℕ → Claim → Type 0
+HoldsInConflict t u q = (k : Mode) × (held_mode t u q.resource ≡ Some k) × (IsCompatible q.mode k → ⊥)
+
+-- a request of u stands before the first of s
+abbrev pub StandsBefore : ℕ → ℕ → List Claim → Type 0
+StandsBefore u s qs = (before after : List Claim) × (q p : Claim) × (qs ≡ before ++ q ∷ after) × (q.session ≡ s) × (request_of s before ≡ None) × (request_of u before ≡ Some p)
+
+-- s has a request, and u, another session, holds its resource in conflict or stands before it in the queue
+abbrev pub WaitsFor : Table → ℕ → ℕ → Type 0
+WaitsFor t s u = (u ≢ s) × (q : Claim) × (request_of s t.waits ≡ Some q) × (HoldsInConflict t u q ⊎ StandsBefore u s (queue t q.resource))
+
+-- one session waits for another exactly where a lock or an earlier request of the other is in its way
+abbrev pub DoWaitsTell : Table → Type 0
+DoWaitsTell t = (s u : ℕ) → (waits_for t s u ≡ true) ↔ WaitsFor t s u
+
 -- no waits form a circle
 abbrev pub HasNoCircle : State → Type 0
 HasNoCircle st = (s : ℕ) → Reaches (waits_for st.table) s s → ⊥

@@ -11,7 +11,7 @@ ghost use Rattle.lock_rules.specs.State.{State, Table, empty};
 ghost use Rattle.lock_rules.specs.Queue.{granted};
 ghost use Rattle.lock_rules.specs.Step.{step};
 ghost use Rattle.lock_rules.specs.Legal.{Answered, IsLegal, state_of, asked_in, calls_of};
-ghost use Rattle.lock_rules.specs.Laws.{AreRepliesOfSteps, IsEntryOf, ArePlacesRising, IsRefusalExact, DoesRefusalKeep, IsGrantOf, DoesPromotionGrantLongest, DoesFitTell, AreHoldersCompatible, DoesNobodyWaitNeedlessly, AreLocksUnderParents, AreRequestsUnderParents, AreChildrenHeld, IsAccessCompatible, DoesGrantStand, AreOwnersOpen, AreNumbersApart, AreNumbersCounted, HasNoCircle, DoDoomedWaitForNothing, AreVictimsDetermined, IsLawfulState};
+ghost use Rattle.lock_rules.specs.Laws.{AreRepliesOfSteps, IsEntryOf, ArePlacesRising, IsRefusalExact, DoesRefusalKeep, IsGrantOf, DoesPromotionGrantLongest, DoesFitTell, AreHoldersCompatible, DoesNobodyWaitNeedlessly, AreLocksUnderParents, AreRequestsUnderParents, AreChildrenHeld, IsAccessCompatible, DoesGrantStand, AreOwnersOpen, AreNumbersApart, AreNumbersCounted, DoWaitsTell, HasNoCircle, DoDoomedWaitForNothing, AreVictimsDetermined, IsLawfulState};
 ghost use Rattle.lock_rules.specs.Effects.{IsLockAnswered, IsConvertAnswered, IsLockOfHeldConvert, IsGrantedHeld, IsConversionHeld, DoVictimsKeepTheirLocks, DoesDoomPromote, DoesReleaseTakeOneLock, DoesCommitTakeAllLocks, DoesAbortTakeAllLocks};
 ghost use Rattle.lock_rules.specs.Examples.{with_reply, queue_in_order, promotion_stops, readers_together, promotion_in_order, intentions, refusals, down_the_tree, up_the_tree, release_promotes, release_of_one, asks_again, conversion_first, conversion_at_once, conversion_under_parent, abort_while_waiting, readers_that_convert, youngest_of_two, victim_in_the_way, conversions_that_meet, circle_through_the_queue, two_victims};
 
@@ -143,6 +143,13 @@ pub fn transactions_are_apart()
     ensures owners { (history : List EntryValue) → AreOwnersOpen (state_of history) }
     ensures numbers { (history : List EntryValue) → AreNumbersApart (state_of history) }
     ensures counted { (history : List EntryValue) → AreNumbersCounted (state_of history) }
+{}
+
+/// A session waits for each other session that holds the resource of its request in a mode that
+/// conflicts with the target, and for each whose request stands before its own in the queue; for nobody
+/// else.
+pub fn waits_are_for_holders_and_earlier_requests()
+    ensures { (t : Table) → DoWaitsTell t }
 {}
 
 /// No waits form a circle, so no deadlock outlasts the call that made it.
