@@ -112,10 +112,18 @@ impl Desk {
         Ok(granted)
     }
 
-    /// Asks for a target: whether the session holds it then. Otherwise it waits.
-    fn seek(&mut self, session: u16, resource: Resource, target: Mode) -> Result<bool, AllocError>
+    /// Asks for a target, where the session holds the resource in this mode, or not at all: whether it holds the target
+    /// then. Otherwise it waits.
+    fn seek(
+        &mut self,
+        session: u16,
+        resource: Resource,
+        held: Option<Mode>,
+        target: Mode,
+    ) -> Result<bool, AllocError>
         requires some { 1 ≤ session }
         requires within { session < vec_len self.old.rows }
+        requires seen { held ≡ held_seen self.old session resource }
         requires whole { IsWhole self.old }
         requires can { CanAsk session resource self.old }
         ensures held { is_held (held_seen self.old session resource) target ≡ true
@@ -127,7 +135,7 @@ impl Desk {
         ensures whole { IsWhole self.new }
         ensures len { vec_len self.new.rows ≡ vec_len self.old.rows }
     {
-        match self.held(session, resource) {
+        match held {
             Some(held) if held.covers(target) => Ok(true),
             Some(_) => self.convert(session, resource, target),
             None => self.lock(session, resource, target),
@@ -343,8 +351,9 @@ impl Desk {
         ensures ready { IsReadyDesk self.new }
         ensures len { vec_len self.new.rows ≡ vec_len self.old.rows }
     {
-        let target = target_of(self.held(session, resource), mode);
-        if self.seek(session, resource, target)? {
+        let held = self.held(session, resource);
+        let target = target_of(held, mode);
+        if self.seek(session, resource, held, target)? {
             return Ok(Reply::Granted(target));
         }
         self.settle(session);

@@ -13,7 +13,7 @@ returns-then-branch-clause-ask c = λ st i j h.
     let s = c.args.session in
     let r = c.args.resource in
     let m = c.target_of-target.result in
-    granted-answer d c.seek.new.self st s r c.args.mode m c.requires.whole i h c.requires.may (c.target_of-target.ensures ∙ ap (λ o. target_of o c.args.mode) c.held.ensures)
+    granted-answer d c.seek.new.self st s r c.args.mode m c.requires.whole i h c.requires.may (c.target_of-target.ensures ∙ ap (λ o. target_of o c.args.mode) c.held-held.ensures)
     (λ y. (c.in_ok-seek.ensures.held y).1)
     (λ n. subst (λ (b : Bool). HasAsked s r c.target_of-target.result b c.args.self.now c.seek.new.self) c.if-branch.true (c.in_ok-seek.ensures.asked n))
 
@@ -23,7 +23,7 @@ returns-clause-ask c = λ st i j h.
     let s = c.args.session in
     let r = c.args.resource in
     let m = c.target_of-target.result in
-    let target = c.target_of-target.ensures ∙ ap (λ o. target_of o c.args.mode) c.held.ensures in
+    let target = c.target_of-target.ensures ∙ ap (λ o. target_of o c.args.mode) c.held-held.ensures in
     elim (bool_cases (is_held (held_seen c.args.self.now c.args.session c.args.resource) c.target_of-target.result)) [
       | inl y ↦ absurd (let a = (c.in_ok-seek.ensures.held y).0 in let b = c.if-branch.false in cc)
       | inr n ↦
