@@ -6,7 +6,8 @@ ghost use Rattle.lock_rules.specs.State.{held_mode, holders};
 ghost use Rattle.lock_rules.specs.Step.{step};
 ghost use Rattle.lock_rules.specs.declared.calls.Entry.{Entry as EntryValue};
 ghost use Rattle.lock_rules.specs.Legal.{state_of, IsLegal};
-ghost use Rattle.lock_rules.specs.Laws.{DoesGrantStand, IsLawfulState};
+ghost use Rattle.lock_rules.specs.Laws.{DoesGrantStand};
+ghost use Rattle.lock_rules.specs.Lawful.{IsLawfulState};
 ghost use Rattle.lock_desk.specs.Kept.{IsEntryWithin};
 
 use crate::desk::Desk;

@@ -1,4 +1,5 @@
 pub mod Lists
+pub mod Members
 pub mod Marks
 pub mod Walks
 pub mod Alters
@@ -20,7 +21,10 @@ pub mod Taken
 pub mod Doomed
 pub mod Children
 pub mod Access
+pub mod Once
+pub mod Few
 pub mod States
 pub mod Requests
+pub mod Lawful
 pub mod WrongReplies
 pub mod Worked

@@ -204,7 +204,7 @@ after-lock_in : (i s : ℕ) (m : Mode) (hs : List (ℕ × Mode)) → i < s → a
 after-lock_in i s m [] l h = grind (arith, nat_tests)
 after-lock_in i s m (k ∷ hs) l h = grind (arith, nat_tests, after-lock_in i s m hs l)
 
-after-trans : (i s : ℕ) (hs : List (ℕ × Mode)) → i < s → after s hs ≡ true → after i hs ≡ true
+pub after-trans : (i s : ℕ) (hs : List (ℕ × Mode)) → i < s → after s hs ≡ true → after i hs ≡ true
 after-trans i s [] l h = refl
 after-trans i s (k ∷ hs) l h = grind (arith, nat_tests, after-trans i s hs l)
 

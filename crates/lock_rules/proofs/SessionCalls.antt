@@ -1,9 +1,10 @@
 -- The calls of one session in a history.
-use Rattle.std.proofs.Common.{◌≡◌, ℕ, zero, suc, ◌+◌, ◌<◌, ◌≤◌, Bool, true, false, cond, eqb, ◌⊎◌, inl, inr, List, [], ◌∷◌, ◌++◌, length, Some, refl, ◌∙◌, ap, arith, slice_get, slice_index_or, Contains}
+use Rattle.std.proofs.Common.{◌≡◌, ℕ, zero, suc, ◌+◌, ◌≤◌, Bool, true, false, cond, eqb, inl, inr, List, [], ◌∷◌, ◌++◌, length, Some, refl, ◌∙◌, ap, arith, slice_get, Contains}
 use Rattle.std.proofs.lemmas.Bool.Decides.{Decides-eqb}
 use Rattle.lock_rules.specs.declared.calls.Entry.{Entry}
 use Rattle.lock_rules.specs.Legal.{Answered, calls_from, calls_of}
 use Rattle.lock_rules.specs.Laws.{IsEntryOf, ArePlacesRising}
+use Rattle.lock_rules.proofs.Members.{Member, contains-member, member-contains}
 
 abbrev answer : ℕ → Entry → Answered
 answer place e = record { place = place; call = e.call; reply = e.reply }
@@ -64,25 +65,6 @@ rising s es = rising-from s 0 es
 
 -- the members are the entries of the session
 
-abbrev In : Answered → List Answered → Type 0
-In a [] = ⊥
-In a (x ∷ xs) = (x ≡ a) ⊎ In a xs
-
-contains-in : (a : Answered) (xs : List Answered) → Contains xs a → In a xs
-contains-in a [] h = let n = h.1 in absurd (omega (arith, n))
-contains-in a (x ∷ xs) h = at (contains-in a xs) h.0 h.1 h.2
-  where
-    at : (Contains xs a → In a xs) → (k : ℕ) → k < length (x ∷ xs) → slice_index_or (x ∷ xs) k a ≡ a → In a (x ∷ xs)
-    at next zero l e = inl e
-    at next (suc k) l e = inr (next (k, omega (arith, l), e))
-
-in-contains : (a : Answered) (xs : List Answered) → In a xs → Contains xs a
-in-contains a [] h = absurd h
-in-contains a (x ∷ xs) h = elim h [
-  | inl e ↦ (0, omega arith, e)
-  | inr i ↦ let r = in-contains a xs i in (suc r.0, omega (arith, r.1), r.2)
-]
-
 abbrev entry_of : ℕ → Answered → Entry
 entry_of s a = record { session = s; call = a.call; reply = a.reply }
 
@@ -90,7 +72,7 @@ entry_of s a = record { session = s; call = a.call; reply = a.reply }
 abbrev IsAfter : ℕ → ℕ → List Entry → Answered → Type 0
 IsAfter s place es a = (k : ℕ) × (a.place ≡ place + k) × (slice_get es k ≡ Some (entry_of s a))
 
-in-entry : (s place : ℕ) (es : List Entry) (a : Answered) → In a (calls_from s place es) → IsAfter s place es a
+in-entry : (s place : ℕ) (es : List Entry) (a : Answered) → Member a (calls_from s place es) → IsAfter s place es a
 in-entry s place [] a h = absurd h
 in-entry s place (e ∷ es) a h = go (λ i. later (in-entry s (place + 1) es a i)) (eqb e.session s) refl h
   where
@@ -102,21 +84,21 @@ in-entry s place (e ∷ es) a h = go (λ i. later (in-entry s (place + 1) es a i
         let p : place ≡ a.place = ap (λ (x : Answered). x.place) g in
         (0, omega (arith, p), ap Some (ap (λ (n : ℕ). entry_of n (answer place e)) f ∙ ap (entry_of s) g))
 
-    go : (In a (calls_from s (place + 1) es) → IsAfter s place (e ∷ es) a) → (b : Bool) → eqb e.session s ≡ b
-        → In a (cond b (answer place e ∷ calls_from s (place + 1) es) (calls_from s (place + 1) es)) → IsAfter s place (e ∷ es) a
+    go : (Member a (calls_from s (place + 1) es) → IsAfter s place (e ∷ es) a) → (b : Bool) → eqb e.session s ≡ b
+        → Member a (cond b (answer place e ∷ calls_from s (place + 1) es) (calls_from s (place + 1) es)) → IsAfter s place (e ∷ es) a
     go next true f (inl g) = here ((Decides-eqb e.session s).0 f) g
     go next true f (inr i) = next i
     go next false f i = next i
 
-in-later : (b : Bool) (x a : Answered) (xs : List Answered) → In a xs → In a (cond b (x ∷ xs) xs)
+in-later : (b : Bool) (x a : Answered) (xs : List Answered) → Member a xs → Member a (cond b (x ∷ xs) xs)
 in-later true x a xs h = inr h
 in-later false x a xs h = h
 
-in-here : (b : Bool) (x a : Answered) (xs : List Answered) → b ≡ true → x ≡ a → In a (cond b (x ∷ xs) xs)
+in-here : (b : Bool) (x a : Answered) (xs : List Answered) → b ≡ true → x ≡ a → Member a (cond b (x ∷ xs) xs)
 in-here true x a xs h e = inl e
 in-here false x a xs h e = absurd (cc)
 
-entry-in : (s place : ℕ) (es : List Entry) (a : Answered) (k : ℕ) → a.place ≡ place + k → slice_get es k ≡ Some (entry_of s a) → In a (calls_from s place es)
+entry-in : (s place : ℕ) (es : List Entry) (a : Answered) (k : ℕ) → a.place ≡ place + k → slice_get es k ≡ Some (entry_of s a) → Member a (calls_from s place es)
 entry-in s place [] a k p h = absurd (cc)
 entry-in s place (e ∷ es) a zero p h =
     let same : e ≡ entry_of s a = cc in
@@ -128,9 +110,9 @@ entry-in s place (e ∷ es) a (suc k) p h =
 
 pub contains-entry : (s : ℕ) (es : List Entry) (a : Answered) → Contains (calls_of s es) a → IsEntryOf s es a
 contains-entry s es a h =
-    let r = in-entry s 0 es a (contains-in a (calls_of s es) h) in
+    let r = in-entry s 0 es a (contains-member a (calls_of s es) h) in
     let p : a.place ≡ r.0 = omega (arith, r.1) in
     ap (slice_get es) p ∙ r.2
 
 pub entry-contains : (s : ℕ) (es : List Entry) (a : Answered) → IsEntryOf s es a → Contains (calls_of s es) a
-entry-contains s es a h = let p : a.place ≡ 0 + a.place = omega arith in in-contains a (calls_of s es) (entry-in s 0 es a a.place p h)
+entry-contains s es a h = let p : a.place ≡ 0 + a.place = omega arith in member-contains a (calls_of s es) (entry-in s 0 es a a.place p h)

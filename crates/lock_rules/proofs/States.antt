@@ -1,22 +1,15 @@
--- The laws of states, in the words of the contracts.
+-- What fits, who holds, and what a grant is, in the words of the contracts.
 use Rattle.std.proofs.Common.{◌≡◌, ◌≢◌, ℕ, Bool, true, false, not, inl, inr, List, Option, Some, None, refl, sym, ◌∙◌, ap}
 use Rattle.lock_modes.specs.declared.Mode.{Mode}
 use Rattle.lock_modes.specs.Compatibility.{IsCompatible, are_compatible}
 use Rattle.lock_modes.proofs.Compatibility.{compatible-from, compatible-tests}
-use Rattle.lock_rules.specs.declared.calls.Entry.{Entry}
 use Rattle.lock_rules.specs.State.{Table, State, held_mode}
 use Rattle.lock_rules.specs.Queue.{fits, granted}
-use Rattle.lock_rules.specs.Legal.{state_of}
-use Rattle.lock_rules.specs.Laws.{DoesFitTell, AreHoldersCompatible, IsLawfulState, IsGrantOf}
+use Rattle.lock_rules.specs.Laws.{DoesFitTell, AreHoldersCompatible, IsGrantOf}
 use Rattle.lock_rules.proofs.Lists.{bool_cases, other, apart, differs, mode_in-with_lock, mode_in-with_lock_path, mode_in-with_lock_other, request_of-claims_but, request_of-claims_but_other}
 use Rattle.lock_rules.proofs.Alters.{true≢false}
 use Rattle.lock_rules.specs.Waits.{conflicts}
-use Rattle.lock_rules.proofs.Sound.{IsSound, stands-under, fits-tells, unfit-some}
-use Rattle.lock_rules.proofs.Children.{children-held}
-use Rattle.lock_rules.proofs.Access.{access-compatible}
-use Rattle.lock_rules.proofs.Steps.{state-lawful}
-use Rattle.lock_rules.proofs.Idle.{state-idle}
-use Rattle.lock_rules.proofs.Owners.{state-numbered, owners-open}
+use Rattle.lock_rules.proofs.Sound.{IsSound, fits-tells, unfit-some}
 
 flip : (b : Bool) → not b ≡ false → b ≡ true
 flip true e = refl
@@ -48,20 +41,5 @@ grant-one s r m t = record {
   others_hold = λ u x n. mode_in-with_lock_other u s x r m t.held (other s u n);
   waits_no_more = request_of-claims_but s t.waits;
   others_wait = λ u n. request_of-claims_but_other u s t.waits (other s u n);
-}
-
-pub lawful : (es : List Entry) → IsLawfulState (state_of es)
-lawful es = let i = state-lawful es in record {
-  fit_tells = fit-tells (state_of es) i.sound;
-  holders_compatible = holders-compatible (state_of es) i.sound;
-  nobody_waits_needlessly = i.unfit;
-  locks_under_parents = λ s r m h. stands-under (state_of es).table s r m (i.sound.held_under s r m h);
-  requests_under_parents = λ s q h. stands-under (state_of es).table s q.resource q.mode (i.sound.asked_under s q h);
-  children_held = children-held (state_of es) i.sound;
-  access_compatible = access-compatible (state_of es) i.sound;
-  no_circle = λ s c. i.no_circle s c.others c.walk;
-  doomed_wait_for_nothing = state-idle es;
-  owners_open = owners-open (state_of es) (state-numbered es);
-  numbers_apart = (state-numbered es).apart;
-  numbers_counted = (state-numbered es).counted;
+  in_order = refl;
 }

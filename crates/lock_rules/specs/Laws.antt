@@ -1,5 +1,5 @@
 -- What holds of every history and of every state that one leads to, in plain words.
-use Rattle.std.specs.Prelude.{◌≡◌, ◌≢◌, ℕ, ◌<◌, ◌≤◌, ◌↔◌, true, false, ◌⊎◌, None, List, [], ◌∷◌, ◌++◌, length, Some, slice_get, All}
+use Rattle.std.specs.Prelude.{◌≡◌, ◌≢◌, ℕ, ◌<◌, ◌≤◌, ◌↔◌, true, false, ◌⊎◌, None, List, [], ◌∷◌, ◌++◌, length, Some, slice_get, All, Contains}
 use Rattle.lock_modes.specs.declared.Mode.{Mode}
 use Rattle.lock_modes.specs.declared.Mode.TheVariants.{S, X}
 use Rattle.lock_modes.specs.Order.{IsAtOrBelow, need_of}
@@ -10,8 +10,9 @@ use Rattle.lock_rules.specs.declared.calls.Call.TheVariants.{Release, Commit, Ab
 use Rattle.lock_rules.specs.declared.calls.Reply.TheVariants.{Refused}
 use Rattle.lock_rules.specs.declared.calls.Why.{Why}
 use Rattle.lock_rules.specs.declared.calls.Entry.{Entry}
+use Rattle.lock_rules.specs.declared.calls.TheConstants.{MAX_LOCKS}
 use Rattle.waits_for.specs.Walks.{Reaches, AreOnCircle}
-use Rattle.lock_rules.specs.State.{Claim, Table, State, held_mode, request_of, is_open, is_doomed, number_of, with_table}
+use Rattle.lock_rules.specs.State.{Claim, Table, State, claims_but, held_mode, request_of, holders, claims_of, is_open, is_doomed, number_of, with_table}
 use Rattle.lock_rules.specs.Queue.{queue, fits, granted, promoted, with_request}
 use Rattle.lock_rules.specs.Waits.{waits_for, after_victim}
 use Rattle.lock_rules.specs.Step.{tests, first_failing, step}
@@ -44,13 +45,14 @@ DoesRefusalKeep st = (s : ℕ) (c : Call) (why : Why) → (step st s c).reply �
 
 -- grants and promotions
 
--- the session holds the resource in this mode and waits no more; what it holds elsewhere, and all of the others, stays
+-- the session holds the resource in this mode and waits no more; what it holds elsewhere, and all of the others, stays, in its order
 pub record IsGrantOf (s : ℕ) (r : List ℕ) (m : Mode) (t t' : Table) : Type 0 where
   pub held : held_mode t' s r ≡ Some m
   pub elsewhere : (x : List ℕ) → x ≢ r → held_mode t' s x ≡ held_mode t s x
   pub others_hold : (u : ℕ) (x : List ℕ) → u ≢ s → held_mode t' u x ≡ held_mode t u x
   pub waits_no_more : request_of s t'.waits ≡ None
   pub others_wait : (u : ℕ) → u ≢ s → request_of u t'.waits ≡ request_of u t.waits
+  pub in_order : t'.waits ≡ claims_but s t.waits
 
 -- each of these requests is granted, one after another
 abbrev pub grants : List Claim → Table → Table
@@ -80,6 +82,30 @@ ArePromotionsLongest [] t t' = t' ≡ t
 ArePromotionsLongest (r ∷ rs) t t' = (front : List Claim) × IsLongestFront t r front × ArePromotionsLongest rs (grants front t) t'
 
 -- states
+
+-- the numbers of the sessions rise
+abbrev pub AreSessionsRising : List (ℕ × Mode) → Type 0
+AreSessionsRising [] = Unit {0}
+AreSessionsRising (a ∷ []) = Unit {0}
+AreSessionsRising (a ∷ b ∷ rest) = (a.0 < b.0) × AreSessionsRising (b ∷ rest)
+
+-- the holders of a resource are the sessions that hold it, each with its mode, and stand by session number
+pub record AreHoldersListed (st : State) : Type 0 where
+  pub rising : (r : List ℕ) → AreSessionsRising (holders r st.table.held)
+  pub listed : (s : ℕ) (r : List ℕ) (m : Mode) → Contains (holders r st.table.held) (s, m) ↔ (held_mode st.table s r ≡ Some m)
+
+-- the locks of a session are what it holds, and no two of them are of one resource
+pub record AreLocksOnce (st : State) : Type 0 where
+  pub once : (s : ℕ) (front rest : List Claim) (c : Claim) → claims_of s st.table.held ≡ front ++ c ∷ rest → All (λ d. d.resource ≢ c.resource) (front ++ rest)
+  pub listed : (s : ℕ) (c : Claim) → Contains (claims_of s st.table.held) c ↔ ((c.session ≡ s) × (held_mode st.table s c.resource ≡ Some c.mode))
+
+-- beside a session's request it has no other
+abbrev pub IsOneRequestEach : State → Type 0
+IsOneRequestEach st = (front rest : List Claim) (q : Claim) → st.table.waits ≡ front ++ q ∷ rest → request_of q.session (front ++ rest) ≡ None
+
+-- no session holds more locks than one may
+abbrev pub AreLocksFew : State → Type 0
+AreLocksFew st = (s : ℕ) → length (claims_of s st.table.held) ≤ MAX_LOCKS
 
 -- a mode fits exactly where it is compatible with each mode that another session holds there
 abbrev pub DoesFitTell : State → Type 0
@@ -203,18 +229,3 @@ DoesKeepLock s r e = e.session ≡ s → (e.call ≢ Commit) × (e.call ≢ Abor
 -- what a session holds after the front, it holds after the rest too, in the same mode or one above it, where it doesn't give it back in the rest
 abbrev pub DoesGrantStand : List Entry → List Entry → Type 0
 DoesGrantStand front rest = (s : ℕ) (r : List ℕ) (k : Mode) → held_mode (state_of front).table s r ≡ Some k → All (DoesKeepLock s r) rest → HoldsAtLeast (state_of (front ++ rest)).table s r k
-
--- all laws of a state
-pub record IsLawfulState (st : State) : Type 0 where
-  pub fit_tells : DoesFitTell st
-  pub holders_compatible : AreHoldersCompatible st
-  pub nobody_waits_needlessly : DoesNobodyWaitNeedlessly st
-  pub locks_under_parents : AreLocksUnderParents st
-  pub requests_under_parents : AreRequestsUnderParents st
-  pub children_held : AreChildrenHeld st
-  pub access_compatible : IsAccessCompatible st
-  pub no_circle : HasNoCircle st
-  pub doomed_wait_for_nothing : DoDoomedWaitForNothing st
-  pub owners_open : AreOwnersOpen st
-  pub numbers_apart : AreNumbersApart st
-  pub numbers_counted : AreNumbersCounted st

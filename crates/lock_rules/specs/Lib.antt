@@ -5,4 +5,5 @@ pub mod Step
 pub mod Legal
 pub mod Laws
 pub mod Effects
+pub mod Lawful
 pub mod Examples

@@ -11,8 +11,9 @@ ghost use Rattle.lock_rules.specs.State.{State, Table, empty};
 ghost use Rattle.lock_rules.specs.Queue.{granted};
 ghost use Rattle.lock_rules.specs.Step.{step};
 ghost use Rattle.lock_rules.specs.Legal.{Answered, IsLegal, state_of, asked_in, calls_of};
-ghost use Rattle.lock_rules.specs.Laws.{AreRepliesOfSteps, IsEntryOf, ArePlacesRising, IsRefusalExact, DoesRefusalKeep, IsGrantOf, DoesPromotionGrantLongest, DoesFitTell, AreHoldersCompatible, DoesNobodyWaitNeedlessly, AreLocksUnderParents, AreRequestsUnderParents, AreChildrenHeld, IsAccessCompatible, DoesGrantStand, AreOwnersOpen, AreNumbersApart, AreNumbersCounted, DoWaitsTell, HasNoCircle, DoDoomedWaitForNothing, AreVictimsDetermined, IsLawfulState};
+ghost use Rattle.lock_rules.specs.Laws.{AreRepliesOfSteps, IsEntryOf, ArePlacesRising, IsRefusalExact, DoesRefusalKeep, IsGrantOf, DoesPromotionGrantLongest, DoesFitTell, AreHoldersCompatible, DoesNobodyWaitNeedlessly, AreLocksUnderParents, AreRequestsUnderParents, AreChildrenHeld, IsAccessCompatible, DoesGrantStand, AreOwnersOpen, AreNumbersApart, AreNumbersCounted, DoWaitsTell, HasNoCircle, DoDoomedWaitForNothing, AreVictimsDetermined, AreHoldersListed, AreLocksOnce, IsOneRequestEach, AreLocksFew};
 ghost use Rattle.lock_rules.specs.Effects.{IsLockAnswered, IsConvertAnswered, IsLockOfHeldConvert, IsGrantedHeld, IsConversionHeld, DoVictimsKeepTheirLocks, DoesDoomPromote, DoesReleaseTakeOneLock, DoesCommitTakeAllLocks, DoesAbortTakeAllLocks};
+ghost use Rattle.lock_rules.specs.Lawful.{IsLawfulState};
 ghost use Rattle.lock_rules.specs.Examples.{with_reply, queue_in_order, promotion_stops, readers_together, promotion_in_order, intentions, refusals, down_the_tree, up_the_tree, release_promotes, release_of_one, asks_again, conversion_first, conversion_at_once, conversion_under_parent, abort_while_waiting, readers_that_convert, youngest_of_two, victim_in_the_way, conversions_that_meet, circle_through_the_queue, two_victims};
 
 /// A history is legal exactly where each reply is the one that the step gives at its place. So each
@@ -54,7 +55,8 @@ pub fn refusals_keep_the_state()
     ensures keeps { (st : State) → DoesRefusalKeep st }
 {}
 
-/// A grant changes one lock of one session, which waits no more, and nothing else.
+/// A grant changes one lock of one session, which waits no more. What others hold stays, and who waits still
+/// stands in the order of before.
 pub fn grants_change_one_lock()
     ensures { (session : ℕ) (resource : List ℕ) (mode : ModeValue) (t : Table) → IsGrantOf session resource mode t (granted session resource mode t) }
 {}
@@ -80,6 +82,27 @@ pub fn granted_locks_are_held()
 /// are held, and no other request.
 pub fn promotions_grant_the_longest_front()
     ensures { (t : Table) → DoesPromotionGrantLongest t }
+{}
+
+/// The holders of a resource are the sessions that hold it, each with its mode, and stand by session number.
+pub fn holders_are_listed_by_session()
+    ensures { (history : List EntryValue) → AreHoldersListed (state_of history) }
+{}
+
+/// The locks of a session are what it holds, and no two of them are of one resource. So a commit and an abort
+/// count different locks.
+pub fn locks_stand_once()
+    ensures { (history : List EntryValue) → AreLocksOnce (state_of history) }
+{}
+
+/// A session has one request at most.
+pub fn sessions_have_one_request()
+    ensures { (history : List EntryValue) → IsOneRequestEach (state_of history) }
+{}
+
+/// No session holds more than `MAX_LOCKS` locks.
+pub fn locks_are_few()
+    ensures { (history : List EntryValue) → AreLocksFew (state_of history) }
 {}
 
 /// A mode fits exactly where it is compatible with what each other session holds there.
@@ -138,7 +161,7 @@ pub fn grants_stand()
 {}
 
 /// Whoever holds a lock or waits for one has a transaction, and the transactions that are open have numbers
-/// of their own, of those that have begun.
+/// of their own, none above how many have begun.
 pub fn transactions_are_apart()
     ensures owners { (history : List EntryValue) → AreOwnersOpen (state_of history) }
     ensures numbers { (history : List EntryValue) → AreNumbersApart (state_of history) }
@@ -162,8 +185,8 @@ pub fn doomed_transactions_wait_for_nothing()
     ensures { (history : List EntryValue) → DoDoomedWaitForNothing (state_of history) }
 {}
 
-/// There is one list of victims that a request can make where it begins to wait, and one state that they
-/// lead to.
+/// There is one list of victims at most that a request can make where it begins to wait, and one state that
+/// they lead to. That there is one is said with the answers of requests.
 pub fn victims_are_determined()
     ensures { (history : List EntryValue) → AreVictimsDetermined (state_of history) }
 {}
@@ -175,7 +198,8 @@ pub fn victims_keep_their_locks()
     ensures promotion { (st : State) → DoesDoomPromote st }
 {}
 
-/// Every state that a history leads to is lawful.
+/// Every state that a history leads to is lawful: all laws of states hold there, and those of the calls that
+/// are answered in it.
 pub fn states_are_lawful()
     ensures { (history : List EntryValue) → IsLawfulState (state_of history) }
 {}

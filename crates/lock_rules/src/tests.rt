@@ -43,6 +43,10 @@ fn laws_can_be_cited() {
     laws::requests_are_granted_or_wait();
     laws::granted_locks_are_held();
     laws::promotions_grant_the_longest_front();
+    laws::holders_are_listed_by_session();
+    laws::locks_stand_once();
+    laws::sessions_have_one_request();
+    laws::locks_are_few();
     laws::fits_is_compatible_with_others();
     laws::holders_are_compatible();
     laws::nobody_waits_needlessly();

@@ -1,4 +1,4 @@
-use Rattle.lock_rules.proofs.States.{lawful}
+use Rattle.lock_rules.proofs.Lawful.{lawful}
 use Rattle.lock_rules.proofs.laws.children_are_held.Goals as goal
 
 pub returns : goal.returns

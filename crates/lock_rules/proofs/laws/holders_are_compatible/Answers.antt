@@ -1,4 +1,4 @@
-use Rattle.lock_rules.proofs.States.{lawful}
+use Rattle.lock_rules.proofs.Lawful.{lawful}
 use Rattle.lock_rules.proofs.laws.holders_are_compatible.Goals as goal
 
 pub returns : goal.returns

@@ -1,4 +1,4 @@
-use Rattle.lock_rules.proofs.States.{lawful}
+use Rattle.lock_rules.proofs.Lawful.{lawful}
 use Rattle.lock_rules.proofs.laws.locks_stand_under_parents.Goals as goal
 
 pub returns-clause-locks : goal.returns-clause-locks

@@ -1,4 +1,4 @@
-use Rattle.lock_rules.proofs.States.{lawful}
+use Rattle.lock_rules.proofs.Lawful.{lawful}
 use Rattle.lock_rules.proofs.laws.no_incompatible_access.Goals as goal
 
 pub returns : goal.returns

@@ -1,4 +1,4 @@
-use Rattle.lock_rules.proofs.States.{lawful}
+use Rattle.lock_rules.proofs.Lawful.{lawful}
 use Rattle.lock_rules.proofs.laws.states_are_lawful.Goals as goal
 
 pub returns : goal.returns

@@ -1,4 +1,4 @@
-use Rattle.lock_rules.proofs.States.{lawful}
+use Rattle.lock_rules.proofs.Lawful.{lawful}
 use Rattle.lock_rules.proofs.laws.transactions_are_apart.Goals as goal
 
 pub returns-clause-owners : goal.returns-clause-owners

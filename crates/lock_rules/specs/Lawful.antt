@@ -1,0 +1,33 @@
+-- All laws of a state that a history leads to: of its table, of its transactions, and of what calls bring about in it.
+use Rattle.lock_rules.specs.State.{State}
+use Rattle.lock_rules.specs.Laws.{AreHoldersListed, AreLocksOnce, IsOneRequestEach, AreLocksFew, DoesFitTell, AreHoldersCompatible, DoesNobodyWaitNeedlessly, AreLocksUnderParents, AreRequestsUnderParents, AreChildrenHeld, IsAccessCompatible, HasNoCircle, DoDoomedWaitForNothing, AreOwnersOpen, AreNumbersApart, AreNumbersCounted, AreVictimsDetermined}
+use Rattle.lock_rules.specs.Effects.{DoVictimsKeepTheirLocks, DoesDoomPromote, IsLockAnswered, IsConvertAnswered, IsLockOfHeldConvert, IsGrantedHeld, IsConversionHeld, DoesReleaseTakeOneLock, DoesCommitTakeAllLocks, DoesAbortTakeAllLocks}
+
+pub record IsLawfulState (st : State) : Type 0 where
+  pub holders_listed : AreHoldersListed st
+  pub locks_once : AreLocksOnce st
+  pub one_request : IsOneRequestEach st
+  pub locks_few : AreLocksFew st
+  pub fit_tells : DoesFitTell st
+  pub holders_compatible : AreHoldersCompatible st
+  pub nobody_waits_needlessly : DoesNobodyWaitNeedlessly st
+  pub locks_under_parents : AreLocksUnderParents st
+  pub requests_under_parents : AreRequestsUnderParents st
+  pub children_held : AreChildrenHeld st
+  pub access_compatible : IsAccessCompatible st
+  pub no_circle : HasNoCircle st
+  pub doomed_wait_for_nothing : DoDoomedWaitForNothing st
+  pub owners_open : AreOwnersOpen st
+  pub numbers_apart : AreNumbersApart st
+  pub numbers_counted : AreNumbersCounted st
+  pub victims_determined : AreVictimsDetermined st
+  pub victims_keep_their_locks : DoVictimsKeepTheirLocks st
+  pub dooms_promote : DoesDoomPromote st
+  pub locks_answered : IsLockAnswered st
+  pub conversions_answered : IsConvertAnswered st
+  pub held_is_converted : IsLockOfHeldConvert st
+  pub granted_is_held : IsGrantedHeld st
+  pub converted_is_held : IsConversionHeld st
+  pub release_takes_one_lock : DoesReleaseTakeOneLock st
+  pub commit_takes_all_locks : DoesCommitTakeAllLocks st
+  pub abort_takes_all_locks : DoesAbortTakeAllLocks st
