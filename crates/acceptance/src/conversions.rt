@@ -1,6 +1,6 @@
 //! Conversions, polls and aborts: traces with the histories that were worked out for them by hand.
 
-use crate::running::replay;
+use crate::running::want_histories;
 use std::test::Fail;
 
 // The target of a conversion is the least mode at or above what is held and what is asked. One that is held already
@@ -269,34 +269,30 @@ const EXAMPLE: (&str, &str) = (
 
 #[test]
 fn conversions_give_their_histories(rt: HostRuntime) -> Result<(), Fail> {
-    for (trace, history) in [
-        LEAST_UPPER_BOUNDS,
-        PARENTS_OF_CONVERSIONS,
-        CONVERSION_PAST_A_WRITER,
-        CONVERSION_AHEAD_OF_A_WRITER,
-        CONVERSIONS_BY_ARRIVAL,
-        EXAMPLE,
-    ] {
-        let ran = replay(&rt, trace)?;
-        assert_eq!(rt; ran.status, 0, "{trace}");
-        assert_eq!(rt; ran.output.as_slice(), history.as_bytes(), "{trace}");
-        assert!(rt; ran.errors.is_empty(), "{trace}");
-    }
-    Ok(())
+    want_histories(
+        &rt,
+        &rt,
+        &[
+            LEAST_UPPER_BOUNDS,
+            PARENTS_OF_CONVERSIONS,
+            CONVERSION_PAST_A_WRITER,
+            CONVERSION_AHEAD_OF_A_WRITER,
+            CONVERSIONS_BY_ARRIVAL,
+            EXAMPLE,
+        ],
+    )
 }
 
 #[test]
 fn polls_and_aborts_give_their_histories(rt: HostRuntime) -> Result<(), Fail> {
-    for (trace, history) in [
-        WRITER_AFTER_A_READER,
-        READER_BEHIND_A_WRITER,
-        ABORT_OF_A_WAITING_WRITER,
-        REFUSED_IN_ORDER,
-    ] {
-        let ran = replay(&rt, trace)?;
-        assert_eq!(rt; ran.status, 0, "{trace}");
-        assert_eq!(rt; ran.output.as_slice(), history.as_bytes(), "{trace}");
-        assert!(rt; ran.errors.is_empty(), "{trace}");
-    }
-    Ok(())
+    want_histories(
+        &rt,
+        &rt,
+        &[
+            WRITER_AFTER_A_READER,
+            READER_BEHIND_A_WRITER,
+            ABORT_OF_A_WAITING_WRITER,
+            REFUSED_IN_ORDER,
+        ],
+    )
 }

@@ -1,6 +1,6 @@
 //! Deadlocks: traces with the histories that were worked out for them by hand.
 
-use crate::running::replay;
+use crate::running::want_histories;
 use std::test::Fail;
 
 // Two readers want to write: the younger one is told at once, and the older one goes on once it has aborted.
@@ -193,17 +193,16 @@ const CIRCLE_THROUGH_A_PLACE: (&str, &str) = (
 
 #[test]
 fn deadlocks_give_their_histories(rt: HostRuntime) -> Result<(), Fail> {
-    for (trace, history) in [
-        CONVERSIONS_AGAINST_EACH_OTHER,
-        VICTIM_IS_NOT_THE_ASKER,
-        TWO_VICTIMS,
-        VICTIM_MAKES_ROOM,
-        PARENTS_IN_A_CIRCLE,
-        CIRCLE_THROUGH_A_PLACE,
-    ] {
-        let ran = replay(&rt, trace)?;
-        assert_eq!(rt; ran.status, 0, "{trace}");
-        assert_eq!(rt; ran.output.as_slice(), history.as_bytes(), "{trace}");
-    }
-    Ok(())
+    want_histories(
+        &rt,
+        &rt,
+        &[
+            CONVERSIONS_AGAINST_EACH_OTHER,
+            VICTIM_IS_NOT_THE_ASKER,
+            TWO_VICTIMS,
+            VICTIM_MAKES_ROOM,
+            PARENTS_IN_A_CIRCLE,
+            CIRCLE_THROUGH_A_PLACE,
+        ],
+    )
 }

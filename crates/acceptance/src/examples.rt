@@ -1,6 +1,6 @@
 //! Traces with the histories that were worked out for them by hand.
 
-use crate::running::{replay, run_words};
+use crate::running::{run_words, want_histories};
 use std::test::Fail;
 
 const QUEUE: (&str, &str) = (
@@ -55,36 +55,33 @@ const PARENTS_OUTRIGHT: (&str, &str) = (
 
 #[test]
 fn traces_give_their_histories(rt: HostRuntime) -> Result<(), Fail> {
-    for (trace, history) in [
-        QUEUE,
-        READERS,
-        REFUSALS,
-        INTENTIONS_BESIDE_SIX,
-        LOCKED_AGAIN,
-        ("", ""),
-    ] {
-        let ran = replay(&rt, trace)?;
-        assert_eq!(rt; ran.status, 0, "{trace}");
-        assert_eq!(rt; ran.output.as_slice(), history.as_bytes(), "{trace}");
-        assert!(rt; ran.errors.is_empty(), "{trace}");
-    }
-    Ok(())
+    want_histories(
+        &rt,
+        &rt,
+        &[
+            QUEUE,
+            READERS,
+            REFUSALS,
+            INTENTIONS_BESIDE_SIX,
+            LOCKED_AGAIN,
+            ("", ""),
+        ],
+    )
 }
 
 #[test]
 fn traces_of_the_tree_give_their_histories(rt: HostRuntime) -> Result<(), Fail> {
-    for (trace, history) in [
-        TREE,
-        DOWN_THE_TREE,
-        PARENTS_FIRST,
-        LEAVES_FIRST,
-        PARENTS_OUTRIGHT,
-    ] {
-        let ran = replay(&rt, trace)?;
-        assert_eq!(rt; ran.status, 0, "{trace}");
-        assert_eq!(rt; ran.output.as_slice(), history.as_bytes(), "{trace}");
-    }
-    Ok(())
+    want_histories(
+        &rt,
+        &rt,
+        &[
+            TREE,
+            DOWN_THE_TREE,
+            PARENTS_FIRST,
+            LEAVES_FIRST,
+            PARENTS_OUTRIGHT,
+        ],
+    )
 }
 
 #[test]

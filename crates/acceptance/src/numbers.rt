@@ -1,6 +1,7 @@
 //! Traces of many sessions and many locks.
 
 use crate::running::{Ran, run_words};
+use std::fmt::Display;
 use std::io::Write;
 use std::test::Fail;
 
@@ -21,7 +22,12 @@ fn empty(rt: &HostRuntime) -> Worked {
 }
 
 /// One row more: what is called, and what is told.
-fn row(worked: &mut Worked, session: u32, call: &str, reply: &str) -> Result<(), Fail> {
+fn row(
+    worked: &mut Worked,
+    session: u32,
+    call: impl Display + Drop,
+    reply: impl Display + Drop,
+) -> Result<(), Fail> {
     writeln!(worked.trace, "{session},{call}")?;
     writeln!(worked.history, "{},{session},{call},{reply}", worked.rows)?;
     worked.rows = worked.rows.saturating_add(1);
@@ -29,26 +35,12 @@ fn row(worked: &mut Worked, session: u32, call: &str, reply: &str) -> Result<(),
 }
 
 fn begin(worked: &mut Worked, session: u32) -> Result<(), Fail> {
-    writeln!(worked.trace, "{session},begin,,")?;
-    writeln!(
-        worked.history,
-        "{},{session},begin,,,began,{session}",
-        worked.rows
-    )?;
-    worked.rows = worked.rows.saturating_add(1);
-    Ok(())
+    row(worked, session, "begin,,", format_args!("began,{session}"))
 }
 
 /// Asks for a database in X.
 fn ask(worked: &mut Worked, session: u32, database: u32, reply: &str) -> Result<(), Fail> {
-    writeln!(worked.trace, "{session},lock,{database},X")?;
-    writeln!(
-        worked.history,
-        "{},{session},lock,{database},X,{reply}",
-        worked.rows
-    )?;
-    worked.rows = worked.rows.saturating_add(1);
-    Ok(())
+    row(worked, session, format_args!("lock,{database},X"), reply)
 }
 
 fn replay(rt: &HostRuntime, worked: &Worked) -> Result<Ran, Fail> {
@@ -86,15 +78,16 @@ fn a_transaction_has_4096_locks_at_most(rt: HostRuntime) -> Result<(), Fail> {
     begin(&mut worked, 1)?;
     row(&mut worked, 1, "lock,1,IX", "granted,IX")?;
     for file in 0..4095 {
-        writeln!(worked.trace, "1,lock,1/{file},X")?;
-        writeln!(
-            worked.history,
-            "{},1,lock,1/{file},X,granted,X",
-            worked.rows
+        row(
+            &mut worked,
+            1,
+            format_args!("lock,1/{file},X"),
+            "granted,X",
         )?;
-        worked.rows = worked.rows.saturating_add(1);
     }
     row(&mut worked, 1, "lock,1/4095,X", "refused,TooManyLocks")?;
+    row(&mut worked, 1, "lock,2/1,S", "refused,ParentNotHeld")?;
+    row(&mut worked, 1, "lock,2,S", "refused,TooManyLocks")?;
     row(&mut worked, 1, "lock,1,S", "granted,SIX")?;
     row(&mut worked, 1, "commit,,", "committed,4096")?;
     let ran = replay(&rt, &worked)?;

@@ -1,6 +1,7 @@
 //! One run of the program, in memory.
 
 use glm::program;
+use std::process::Abort;
 use std::test::Fail;
 
 /// The status of a run, and what it wrote.
@@ -30,4 +31,19 @@ pub(crate) fn run_words(rt: &HostRuntime, words: &[&str], input: &[u8]) -> Resul
 /// Replays a trace.
 pub(crate) fn replay(rt: &HostRuntime, trace: &str) -> Result<Ran, Fail> {
     run_words(rt, ["replay"].as_slice(), trace.as_bytes())
+}
+
+/// Replays each trace, and wants the history beside it.
+pub(crate) fn want_histories(
+    rt: &HostRuntime,
+    abort: &impl Abort,
+    worked: &[(&str, &str)],
+) -> Result<(), Fail> {
+    for (trace, history) in worked {
+        let ran = replay(rt, trace)?;
+        assert_eq!(abort; ran.status, 0, "{trace}");
+        assert_eq!(abort; ran.output.as_slice(), history.as_bytes(), "{trace}");
+        assert!(abort; ran.errors.is_empty(), "{trace}");
+    }
+    Ok(())
 }

@@ -32,7 +32,7 @@ fn parsed<'a>(alloc: Global, words: &'a [&'a str]) -> Result<ArgMatches<'a>, Err
     let sessions = Arg::new(alloc, "sessions")
         .long("sessions")
         .value_name("N")
-        .help("How many sessions the trace has")
+        .help("How many sessions the trace has, 1 to 256")
         .value_parser(value_parser!(u16).range(1..257))
         .default_value("256");
     let replay = Command::new(alloc, "replay")

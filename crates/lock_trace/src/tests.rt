@@ -272,7 +272,7 @@ fn entry(session: u16, call: Call, reply: Reply) -> Entry {
     }
 }
 
-fn history() -> Result<[Entry; 15], Fail> {
+fn history() -> Result<[Entry; 18], Fail> {
     Ok([
         entry(1, Call::Begin, Reply::Began(1)),
         entry(256, Call::Begin, Reply::Began(18446744073709551615)),
@@ -297,6 +297,9 @@ fn history() -> Result<[Entry; 15], Fail> {
         entry(1, Call::Abort, Reply::Aborted(0)),
         entry(256, Call::Poll, Reply::Waiting),
         entry(256, Call::Abort, Reply::Aborted(4294967295)),
+        entry(1, lock(1, 7, Mode::S)?.call, Reply::Deadlock),
+        entry(1, Call::Commit, Reply::Refused(Why::IsDoomed)),
+        entry(1, Call::Poll, Reply::Deadlock),
     ])
 }
 
@@ -318,6 +321,9 @@ fn writes_histories(rt: HostRuntime) -> Result<(), Fail> {
 12,1,abort,,,aborted,0
 13,256,poll,,,waiting,
 14,256,abort,,,aborted,4294967295
+15,1,lock,7,S,deadlock,
+16,1,commit,,,refused,IsDoomed
+17,1,poll,,,deadlock,
 ";
     assert_eq!(rt; text.as_slice(), want.as_slice());
     let none = history_text(rt.alloc(), &[])?;
