@@ -1,5 +1,5 @@
 #!/usr/bin/env python3
-"""Times ./glm replay on two kinds of trace, and tells its peak memory.
+"""Times ./glm replay on three kinds of trace, and tells its peak memory.
 
 Usage: bench/replay.py [ROWS..]     (default: 100000 1000000)
 
@@ -10,9 +10,12 @@ Waits: of 256 sessions 252 hold databases of their own, few or many. Then, a thi
 session begins, waits for a database behind a writer and another session, and aborts. A line for each
 number of rows and of databases held: what the rows with waits cost beyond the rows before them.
 
+One queue: 254 sessions wait for one database, and 10,000 times one more begins, waits behind them, and
+aborts.
+
 The traces and the histories are files of a temporary folder.
 """
-import resource
+import os
 import subprocess
 import sys
 import tempfile
@@ -22,6 +25,7 @@ from pathlib import Path
 SESSIONS = 8
 LOCKS = 12
 HELD = [252, 252_000]
+QUEUED = 10_000
 TOP = Path(__file__).resolve().parent.parent
 
 
@@ -49,9 +53,15 @@ def holders(held):
     yield from ["1,begin,,\n", "1,lock,1,X\n", "2,begin,,\n", "2,lock,1,S\n"]
 
 
-def waits(count):
+def one_queue():
+    """Yields the rows by which session 1 holds a database, and 2 to 255 wait for it."""
+    for session in range(1, 256):
+        yield from [f"{session},begin,,\n", f"{session},lock,1,X\n"]
+
+
+def waits(session, count):
     for _ in range(count):
-        yield from ["3,begin,,\n", "3,lock,1,X\n", "3,abort,,\n"]
+        yield from [f"{session},begin,,\n", f"{session},lock,1,X\n", f"{session},abort,,\n"]
 
 
 def replayed(rows, folder):
@@ -61,13 +71,16 @@ def replayed(rows, folder):
         out.writelines(rows)
     with trace.open() as given, history.open("w") as out:
         start = time.monotonic()
-        subprocess.run([TOP / "glm", "replay"], stdin=given, stdout=out, check=True)
+        ran = subprocess.Popen([TOP / "glm", "replay"], stdin=given, stdout=out)
+        _, status, used = os.wait4(ran.pid, 0)
         seconds = time.monotonic() - start
+    if status:
+        sys.exit("the replay failed")
     with history.open() as made, trace.open() as given:
         answers, asked = sum(1 for _ in made), sum(1 for _ in given)
     if answers != asked:
         sys.exit(f"{asked} rows gave {answers} entries")
-    return seconds, resource.getrusage(resource.RUSAGE_CHILDREN).ru_maxrss / 1024
+    return seconds, used.ru_maxrss / 1024
 
 
 def main():
@@ -81,9 +94,13 @@ def main():
         for held in HELD:
             before, _ = replayed(holders(held), folder)
             for count in counts:
-                seconds, _ = replayed(list(holders(held)) + list(waits(count // 3)), folder)
+                seconds, _ = replayed(list(holders(held)) + list(waits(3, count // 3)), folder)
                 each = (seconds - before) * 1e6 / (count // 3)
                 print(f"{count // 3} waits beside {held} databases: {seconds - before:.2f} s, {each:.1f} microseconds a wait")
+        before, _ = replayed(one_queue(), folder)
+        seconds, _ = replayed(list(one_queue()) + list(waits(256, QUEUED)), folder)
+        each = (seconds - before) * 1e6 / QUEUED
+        print(f"{QUEUED} waits behind 254 others: {seconds - before:.2f} s, {each:.0f} microseconds a wait")
 
 
 main()
