@@ -8,7 +8,7 @@ use Rattle.lock_desk.specs.declared.desk.Desk.{Desk}
 use Rattle.lock_desk.specs.Cells.{Cells, cell_at, said, cell_view, has_claim, has_path, IsOnce, IsKeptCell, AreKeptCells}
 use Rattle.lock_desk.specs.Rows.{Standing, standing_at}
 use Rattle.lock_desk.specs.Changes.{seen, standings, IsWhole}
-use Rattle.lock_desk.specs.Finding.{AreNumbered, IsNumbered}
+use Rattle.lock_desk.specs.Finding.{AreOfSessions, IsOfSessions}
 use Rattle.lock_desk.proofs.Grants.{once-nobody}
 use Rattle.lock_desk.proofs.Standings.{waits-within, length-standings}
 
@@ -26,7 +26,7 @@ holds-within [] r s h = absurd (cc)
 holds-within (x ∷ ss) r zero h = omega arith
 holds-within (x ∷ ss) r (suc s) h = omega (arith, holds-within ss r s h)
 
-all-numbered : (n : ℕ) (cs : List Claim) → has_claim 0 cs ≡ false → ((u : ℕ) → has_claim u cs ≡ true → u ≤ n) → AreNumbered n cs
+all-numbered : (n : ℕ) (cs : List Claim) → has_claim 0 cs ≡ false → ((u : ℕ) → has_claim u cs ≡ true → u ≤ n) → AreOfSessions n cs
 all-numbered n [] h k = All-nil (λ c. (1 ≤ c.session) × (c.session ≤ n))
 all-numbered n (c ∷ cs) h k =
     All-cons (λ c. (1 ≤ c.session) × (c.session ≤ n)) c cs (first (eqb c.session 0) refl h, k c.session (ap (λ (b : Bool). b || has_claim c.session cs) ((Decides-eqb c.session c.session).1 refl)))
@@ -45,7 +45,7 @@ all-numbered n (c ∷ cs) h k =
     more u false e = e
 
 -- each claim that is seen is of a session that has a row
-pub numbered-whole : (d : Desk) (n : ℕ) → n + 1 ≡ length d.rows.items → IsWhole d → (r : List ℕ) → IsNumbered n (seen r d)
+pub numbered-whole : (d : Desk) (n : ℕ) → n + 1 ≡ length d.rows.items → IsWhole d → (r : List ℕ) → IsOfSessions n (seen r d)
 numbered-whole d n long w r =
     let o = once-at r d.cells.entries w.cells in
     record {

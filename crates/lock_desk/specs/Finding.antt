@@ -46,13 +46,13 @@ pub record IsFilled (cs : Cells) (ss : List Standing) (w : Waits) : Type 0 where
   pub numbers : (a : ℕ) → slice_index_or w.numbers.items a 0 ≡ number_in (standing_at (a + 1) ss).transaction
 
 -- each session of the claims is one of so many
-abbrev pub AreNumbered : ℕ → List Claim → Type 0
-AreNumbered n cs = All (λ c. (1 ≤ c.session) × (c.session ≤ n)) cs
+abbrev pub AreOfSessions : ℕ → List Claim → Type 0
+AreOfSessions n cs = All (λ c. (1 ≤ c.session) × (c.session ≤ n)) cs
 
 -- and so is each that holds a resource or waits for it
-pub record IsNumbered (n : ℕ) (v : View) : Type 0 where
-  pub holders : AreNumbered n v.holders
-  pub waiting : AreNumbered n v.waiting
+pub record IsOfSessions (n : ℕ) (v : View) : Type 0 where
+  pub holders : AreOfSessions n v.holders
+  pub waiting : AreOfSessions n v.waiting
 
 -- there is room for so many sessions, and nothing stands in a row that is not marked
 pub record IsReady (n : ℕ) (w : Waits) : Type 0 where

@@ -5,7 +5,7 @@ ghost use Rattle.waits_for.specs.Pairs.{pairs_of};
 ghost use Rattle.waits_for.specs.Walks.{Reaches, IsYoungestOnCircle};
 ghost use Rattle.lock_desk.specs.Cells.{has_claim, cell_view};
 ghost use Rattle.lock_desk.specs.Rows.{standings_of, standing_at, number_in};
-ghost use Rattle.lock_desk.specs.Finding.{holder_blocks, stands_first, cell_blocks, blocks, IsReady, IsFilled, AreNumbered, IsNumbered};
+ghost use Rattle.lock_desk.specs.Finding.{holder_blocks, stands_first, cell_blocks, blocks, IsReady, IsFilled, AreOfSessions, IsOfSessions};
 
 use crate::cells::{Cell, Claim, cell_of, mode_among};
 use crate::rows::{Row, number_of, resource_of};
@@ -48,7 +48,7 @@ pub(crate) fn new_waits(alloc: Global, sessions: u16) -> Result<Waits, AllocErro
 fn fill_holders(rows: &mut Rows, holders: &[Claim], session: u16, target: Mode)
     requires some { 1 ≤ session }
     requires within { session ≤ rows.old.sessions }
-    requires numbered { AreNumbered rows.old.sessions holders.now }
+    requires numbered { AreOfSessions rows.old.sessions holders.now }
     ensures sessions { rows.new.sessions ≡ rows.old.sessions }
     ensures pairs { (a b : ℕ) → pairs_of rows.new a b
         ≡ (pairs_of rows.old a b || ((a + 1 == session) && holder_blocks session target (b + 1) holders.now)) }
@@ -64,7 +64,7 @@ fn fill_holders(rows: &mut Rows, holders: &[Claim], session: u16, target: Mode)
 fn fill_queue(rows: &mut Rows, waiting: &[Claim], session: u16)
     requires some { 1 ≤ session }
     requires within { session ≤ rows.old.sessions }
-    requires numbered { AreNumbered rows.old.sessions waiting.now }
+    requires numbered { AreOfSessions rows.old.sessions waiting.now }
     ensures sessions { rows.new.sessions ≡ rows.old.sessions }
     ensures pairs { (a b : ℕ) → pairs_of rows.new a b
         ≡ (pairs_of rows.old a b || ((a + 1 == session) && stands_first (b + 1) session waiting.now)) }
@@ -81,8 +81,8 @@ fn fill_queue(rows: &mut Rows, waiting: &[Claim], session: u16)
 fn fill_cell(rows: &mut Rows, cell: &Cell, session: u16)
     requires some { 1 ≤ session }
     requires within { session ≤ rows.old.sessions }
-    requires holders { AreNumbered rows.old.sessions cell.now.holders.items }
-    requires waiting { AreNumbered rows.old.sessions cell.now.waiting.items }
+    requires holders { AreOfSessions rows.old.sessions cell.now.holders.items }
+    requires waiting { AreOfSessions rows.old.sessions cell.now.waiting.items }
     ensures sessions { rows.new.sessions ≡ rows.old.sessions }
     ensures pairs { (a b : ℕ) → pairs_of rows.new a b
         ≡ (pairs_of rows.old a b || ((a + 1 == session) && cell_blocks session (b + 1) cell.now)) }
@@ -114,7 +114,7 @@ fn fill_session(waits: &mut Waits, rows: &[Row], cells: &IndexMap<Resource, Cell
     requires within { session < length rows.now }
     requires long { waits.old.rows.sessions + 1 ≡ length rows.now }
     requires ready { IsReady waits.old.rows.sessions waits.old }
-    requires numbered { (r : List ℕ) → IsNumbered waits.old.rows.sessions (cell_view r cells.now.entries) }
+    requires numbered { (r : List ℕ) → IsOfSessions waits.old.rows.sessions (cell_view r cells.now.entries) }
     ensures sessions { waits.new.rows.sessions ≡ waits.old.rows.sessions }
     ensures ready { IsReady waits.old.rows.sessions waits.new }
     ensures pairs { let standings = standings_of rows.now in (a b : ℕ) → pairs_of waits.new.rows a b
@@ -140,7 +140,7 @@ fn fill_session(waits: &mut Waits, rows: &[Row], cells: &IndexMap<Resource, Cell
 pub(crate) fn fill(waits: &mut Waits, rows: &[Row], cells: &IndexMap<Resource, Cell>)
     requires long { waits.old.rows.sessions + 1 ≡ length rows.now }
     requires ready { IsReady waits.old.rows.sessions waits.old }
-    requires numbered { (r : List ℕ) → IsNumbered waits.old.rows.sessions (cell_view r cells.now.entries) }
+    requires numbered { (r : List ℕ) → IsOfSessions waits.old.rows.sessions (cell_view r cells.now.entries) }
     ensures sessions { waits.new.rows.sessions ≡ waits.old.rows.sessions }
     ensures ready { IsReady waits.old.rows.sessions waits.new }
     ensures filled { IsFilled cells.now.entries (standings_of rows.now) waits.new }

@@ -2,7 +2,7 @@ use Rattle.std.proofs.Common.{◌≡◌, ◌+◌, ◌-◌, Bool, true, false, �
 use Rattle.waits_for.specs.Pairs.{pairs_of}
 use Rattle.lock_desk.specs.Cells.{View, said, cell_view}
 use Rattle.lock_desk.specs.Rows.{Standing, standing_of, standing_at, wanted_in}
-use Rattle.lock_desk.specs.Finding.{AreNumbered, view_blocks, blocks}
+use Rattle.lock_desk.specs.Finding.{AreOfSessions, view_blocks, blocks}
 use Rattle.lock_desk.proofs.Standings.{standing-here}
 use Rattle.lock_desk.proofs.Fills.{written, blocks-there, blocks-nowhere}
 use Rattle.lock_desk.proofs.waits.fill_session.Goals as goal
@@ -10,12 +10,12 @@ use Rattle.lock_desk.proofs.waits.fill_session.Goals as goal
 pub fill_cell-requires-clause-holders : goal.fill_cell-requires-clause-holders
 fill_cell-requires-clause-holders c =
     let r = c.resource_of-resource.result in
-    rw c.clear.ensures.sessions (subst (λ (v : View). AreNumbered c.args.waits.now.rows.sessions v.holders) (sym (ap said c.in-Some-cell_of.ensures)) (c.requires.numbered r).holders)
+    rw c.clear.ensures.sessions (subst (λ (v : View). AreOfSessions c.args.waits.now.rows.sessions v.holders) (sym (ap said c.in-Some-cell_of.ensures)) (c.requires.numbered r).holders)
 
 pub fill_cell-requires-clause-waiting : goal.fill_cell-requires-clause-waiting
 fill_cell-requires-clause-waiting c =
     let r = c.resource_of-resource.result in
-    rw c.clear.ensures.sessions (subst (λ (v : View). AreNumbered c.args.waits.now.rows.sessions v.waiting) (sym (ap said c.in-Some-cell_of.ensures)) (c.requires.numbered r).waiting)
+    rw c.clear.ensures.sessions (subst (λ (v : View). AreOfSessions c.args.waits.now.rows.sessions v.waiting) (sym (ap said c.in-Some-cell_of.ensures)) (c.requires.numbered r).waiting)
 
 pub returns-in-Some-cell_of-clause-pairs : goal.returns-in-Some-cell_of-clause-pairs
 returns-in-Some-cell_of-clause-pairs c = λ a b.
