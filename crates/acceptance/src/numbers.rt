@@ -78,12 +78,7 @@ fn a_transaction_has_4096_locks_at_most(rt: HostRuntime) -> Result<(), Fail> {
     begin(&mut worked, 1)?;
     row(&mut worked, 1, "lock,1,IX", "granted,IX")?;
     for file in 0..4095 {
-        row(
-            &mut worked,
-            1,
-            format_args!("lock,1/{file},X"),
-            "granted,X",
-        )?;
+        row(&mut worked, 1, format_args!("lock,1/{file},X"), "granted,X")?;
     }
     row(&mut worked, 1, "lock,1/4095,X", "refused,TooManyLocks")?;
     row(&mut worked, 1, "lock,2/1,S", "refused,ParentNotHeld")?;
