@@ -57,6 +57,7 @@ fn laws_can_be_cited() {
     laws::ends_take_all_locks();
     laws::grants_stand();
     laws::transactions_are_apart();
+    laws::waits_are_for_holders_and_earlier_requests();
     laws::no_waits_form_a_circle();
     laws::doomed_transactions_wait_for_nothing();
     laws::victims_are_determined();
