@@ -2,8 +2,7 @@
 use Rattle.std.proofs.Common.{◌≡◌, ℕ, zero, suc, ◌+◌, ◌-◌, ◌<◌, ◌≤◌, Bool, true, false, cond, not, eqb, ◌&&◌, ◌||◌, List, [], ◌∷◌, length, get_or, take, Some, None, refl, sym, ◌∙◌, ap, arith}
 use Rattle.std.proofs.lemmas.Bool.Decides.{nat_tests, Decides-eqb}
 use Rattle.lock_desk.specs.declared.cells.Claim.{Claim}
-use Rattle.lock_desk.specs.declared.cells.Cell.{Cell}
-use Rattle.lock_desk.specs.Cells.{Cells, has_claim, view_of, cell_at, said, cell_view}
+use Rattle.lock_desk.specs.Cells.{Cells, has_claim, cell_at, said, cell_view}
 use Rattle.lock_desk.specs.Rows.{Standing, standing_at}
 use Rattle.lock_desk.specs.Finding.{stands_first, view_blocks, blocks_at, blocks}
 
@@ -44,10 +43,6 @@ written s a false false h = grind (arith, nat_tests)
 -- where the session waits
 pub blocks-there : (cs : Cells) (ss : List Standing) (s u : ℕ) (r : List ℕ) → (standing_at s ss).wanted ≡ Some r → blocks cs ss s u ≡ view_blocks s u (cell_view r cs)
 blocks-there cs ss s u r h = ap (blocks_at s u cs) h
-
--- what the cell of a resource says
-pub view-there : (r : List ℕ) (cs : Cells) (c : Cell) → Some c ≡ cell_at r cs → view_of c ≡ cell_view r cs
-view-there r cs c e = ap said e
 
 -- a row that waits for a resource of no cell
 pub blocks-nowhere : (cs : Cells) (ss : List Standing) (s u : ℕ) (r : List ℕ) → (standing_at s ss).wanted ≡ Some r → None ≡ cell_at r cs → blocks cs ss s u ≡ false

@@ -177,9 +177,3 @@ last-round n k s st d r off = subst (Shows d) (sym (r.same ∙ go (n - k))) r.sh
     go : (m : ℕ) → settled m s r.state ≡ r.state
     go zero = refl
     go (suc m) = ap (λ (b : Bool). cond b (settled m s (after_victim (victim_of r.state s) r.state)) r.state) off
-
--- all rounds were made
-pub all-rounds : (n s : ℕ) (st : rules.State) (d : Desk) (k : ℕ) → n ≤ k → IsRound n k s st d → Shows d (settled n s st)
-all-rounds n s st d k le r =
-    let z : n - k ≡ 0 = omega (arith, le) in
-    subst (Shows d) (sym (r.same ∙ ap (λ (x : ℕ). settled x s r.state) z)) r.shows

@@ -121,10 +121,6 @@ turned : (b : Bool) → not b ≡ false → b ≡ true
 turned true e = refl
 turned false e = absurd (cc)
 
--- who may commit waits for nothing
-pub commit-can : (d : Desk) (s : ℕ) → first_failing (desk_tests d s Commit) ≡ None → (standing s d).wanted ≡ None
-commit-can d s h = is-none (standing s d).wanted (all-pass (desk_tests d s Commit) h).1.0
-
 -- who may lock is open and sound, waits for nothing, stands under the parent, and has room where it holds nothing there
 pub lock-may : (d : Desk) (s : ℕ) (r : List ℕ) (m : Mode) → first_failing (desk_tests d s (Lock r m)) ≡ None → MayAsk s r m d
 lock-may d s r m h =
