@@ -11,6 +11,7 @@ use Rattle.lock_rules.specs.Queue.{queue}
 use Rattle.lock_rules.specs.Waits.{conflicts, stands_before, keeps_waiting, waits_for, wanted}
 use Rattle.lock_rules.proofs.Lists.{bool_cases, same_path-refl, same_path-true, request_of-session, times, after, ascend}
 use Rattle.lock_rules.proofs.Sound.{IsSound}
+use Rattle.lock_rules.proofs.Waiting.{request_of-filter, request_of-front, request_of-rest}
 use Rattle.lock_desk.specs.declared.cells.Claim.{Claim}
 use Rattle.lock_desk.specs.declared.desk.Desk.{Desk}
 use Rattle.lock_desk.specs.Cells.{View, has_claim, mode_of, pair_of, has_path}
@@ -46,19 +47,6 @@ mode-short s (p ∷ qs) q h = go (eqb p.session s) h (mode-short s qs q)
     go true h next = let same : p ≡ q = cc in ap (λ (c : rules.Claim). Some c.mode) same
     go false h next = next h
 
-kept-request : (s : ℕ) (p : rules.Claim → Bool) (qs : List rules.Claim) (q : rules.Claim) → rules.request_of s qs ≡ Some q → p q ≡ true → rules.request_of s (filter p qs) ≡ Some q
-kept-request s p [] q h e = absurd (cc)
-kept-request s p (c ∷ qs) q h e = go (eqb c.session s) (p c) refl refl h (kept-request s p qs q)
-  where
-    go : (b k : Bool) → eqb c.session s ≡ b → p c ≡ k → cond b (Some c) (rules.request_of s qs) ≡ Some q → (rules.request_of s qs ≡ Some q → p q ≡ true → rules.request_of s (filter p qs) ≡ Some q) → rules.request_of s (cond k (c ∷ filter p qs) (filter p qs)) ≡ Some q
-    go true true f g h next = ap (λ (b : Bool). cond b (Some c) (rules.request_of s (filter p qs))) f ∙ h
-    go true false f g h next = let same : c ≡ q = cc in absurd (no (sym (ap p same) ∙ g) e)
-      where
-        no : {x : Bool} → x ≡ false → x ≡ true → ⊥
-        no a b = cc
-    go false true f g h next = ap (λ (b : Bool). cond b (Some c) (rules.request_of s (filter p qs))) f ∙ next h e
-    go false false f g h next = next h e
-
 none-kept : (s : ℕ) (p : rules.Claim → Bool) (qs : List rules.Claim) → times s qs ≡ 0 → rules.request_of s (filter p qs) ≡ None
 none-kept s p [] h = refl
 none-kept s p (c ∷ qs) h = grind (arith, nat_tests, bool_cases (p c), none-kept s p qs)
@@ -78,22 +66,6 @@ lost-request s p (c ∷ qs) q o h e = go (eqb c.session s) (p c) refl refl o h (
     go false true f g o h next none = ap (λ (b : Bool). cond b (Some c) (rules.request_of s (filter p qs))) f ∙ next (omega (arith, o)) h e
     go false false f g o h next none = next (omega (arith, o)) h e
 
-append-first : (s : ℕ) (xs ys : List rules.Claim) (q : rules.Claim) → rules.request_of s xs ≡ Some q → rules.request_of s (xs ++ ys) ≡ Some q
-append-first s [] ys q h = absurd (cc)
-append-first s (x ∷ xs) ys q h = go (eqb x.session s) h (append-first s xs ys q)
-  where
-    go : (b : Bool) → cond b (Some x) (rules.request_of s xs) ≡ Some q → (rules.request_of s xs ≡ Some q → rules.request_of s (xs ++ ys) ≡ Some q) → cond b (Some x) (rules.request_of s (xs ++ ys)) ≡ Some q
-    go true h next = h
-    go false h next = next h
-
-append-second : (s : ℕ) (xs ys : List rules.Claim) → rules.request_of s xs ≡ None → rules.request_of s (xs ++ ys) ≡ rules.request_of s ys
-append-second s [] ys h = refl
-append-second s (x ∷ xs) ys h = go (eqb x.session s) h (append-second s xs ys)
-  where
-    go : (b : Bool) → cond b (Some x) (rules.request_of s xs) ≡ None → (rules.request_of s xs ≡ None → rules.request_of s (xs ++ ys) ≡ rules.request_of s ys) → cond b (Some x) (rules.request_of s (xs ++ ys)) ≡ rules.request_of s ys
-    go true h next = absurd (cc)
-    go false h next = next h
-
 -- a session's request stands in the queue of its resource
 request-queued : (s : ℕ) (t : rules.Table) (q : rules.Claim) → times s t.waits ≤ 1 → rules.request_of s t.waits ≡ Some q → rules.request_of s (queue t q.resource) ≡ Some q
 request-queued s t q o h = go (is_some (rules.held_mode t q.session q.resource)) refl
@@ -108,10 +80,10 @@ request-queued s t q o h = go (is_some (rules.held_mode t q.session q.resource))
     p' c = same_path c.resource r && not (is_some (rules.held_mode t c.session r))
 
     go : (b : Bool) → is_some (rules.held_mode t q.session r) ≡ b → rules.request_of s (filter p t.waits ++ filter p' t.waits) ≡ Some q
-    go true e = append-first s (filter p t.waits) (filter p' t.waits) q (kept-request s p t.waits q h (and_from (same_path r r) (is_some (rules.held_mode t q.session r)) (same_path-refl r) e))
+    go true e = request_of-front s (filter p t.waits) (filter p' t.waits) q (request_of-filter s p t.waits q h (and_from (same_path r r) (is_some (rules.held_mode t q.session r)) (same_path-refl r) e))
     go false e =
-        append-second s (filter p t.waits) (filter p' t.waits) (lost-request s p t.waits q o h (ap (λ (b : Bool). same_path r r && b) e ∙ and-none (same_path r r)))
-        ∙ kept-request s p' t.waits q h (and_from (same_path r r) (not (is_some (rules.held_mode t q.session r))) (same_path-refl r) (ap not e))
+        request_of-rest s (filter p t.waits) (filter p' t.waits) (lost-request s p t.waits q o h (ap (λ (b : Bool). same_path r r && b) e ∙ and-none (same_path r r)))
+        ∙ request_of-filter s p' t.waits q h (and_from (same_path r r) (not (is_some (rules.held_mode t q.session r))) (same_path-refl r) (ap not e))
       where
         and-none : (b : Bool) → (b && false) ≡ false
         and-none true = refl

@@ -3,7 +3,7 @@ use Rattle.std.proofs.Common.{◌≡◌, ℕ, ◌<◌, Bool, true, false, cond, 
 use Rattle.std.proofs.lemmas.Bool.Decides.{nat_tests}
 use Rattle.std.proofs.lemmas.Bool.{and_parts}
 use Rattle.lock_modes.specs.Compatibility.{are_compatible}
-use Rattle.lock_rules.proofs.Lists.{bool_cases, after, ascend}
+use Rattle.lock_rules.proofs.Lists.{bool_cases, after, after-trans, ascend}
 use Rattle.lock_desk.specs.declared.cells.Claim.{Claim}
 use Rattle.lock_desk.specs.declared.cells.Part.TheVariants as part
 use Rattle.lock_desk.specs.Cells.{View, has_claim, pair_of, with_claim, without, fits_among, front_granted, promoted_view, freed_view}
@@ -17,17 +17,13 @@ Ascends hs = ascend (map pair_of hs) ≡ true
 abbrev IsAfter : ℕ → List Claim → Type 0
 IsAfter s hs = after s (map pair_of hs) ≡ true
 
-after-trans : (i s : ℕ) (hs : List Claim) → i < s → IsAfter s hs → IsAfter i hs
-after-trans i s [] l h = refl
-after-trans i s (k ∷ hs) l h = grind (arith, nat_tests, after-trans i s hs l)
-
 after-with : (i : ℕ) (c : Claim) (hs : List Claim) → i < c.session → IsAfter i hs → IsAfter i (with_claim c hs)
 after-with i c [] l h = grind (arith, nat_tests)
 after-with i c (k ∷ hs) l h = grind (arith, nat_tests, after-with i c hs l)
 
 ascends-with : (c : Claim) (hs : List Claim) → Ascends hs → Ascends (with_claim c hs)
 ascends-with c [] h = refl
-ascends-with c (k ∷ hs) h = let n = after-with k.session c hs in let a = after-trans c.session k.session hs in grind (arith, nat_tests, ascends-with c hs, n, a)
+ascends-with c (k ∷ hs) h = let n = after-with k.session c hs in let a = after-trans c.session k.session (map pair_of hs) in grind (arith, nat_tests, ascends-with c hs, n, a)
 
 after-without : (i s : ℕ) (hs : List Claim) → IsAfter i hs → IsAfter i (without s hs)
 after-without i s [] h = h
@@ -42,7 +38,7 @@ without-with : (s : ℕ) (c : Claim) (hs : List Claim) → eqb c.session s ≡ f
 without-with s c [] n h = grind (arith, nat_tests)
 without-with s c (k ∷ hs) n h =
     let p = and_parts (after k.session (map pair_of hs)) (ascend (map pair_of hs)) h in
-    let a = after-trans c.session k.session hs in
+    let a = after-trans c.session k.session (map pair_of hs) in
     let b = after-without c.session s hs in
     let f = with-first c (without s hs) in
     grind (arith, nat_tests, p.0, a, b, f, without-with s c hs n p.1)

@@ -25,15 +25,15 @@ conflict-tests m k n = elim (bool_cases (are_compatible m k)) [ inl e ↦ absurd
 
 -- the request of a session is in the queue of its resource
 
-request_of-filter : (s : ℕ) (p : Claim → Bool) (qs : List Claim) (q : Claim) → request_of s qs ≡ Some q → p q ≡ true → request_of s (filter p qs) ≡ Some q
+pub request_of-filter : (s : ℕ) (p : Claim → Bool) (qs : List Claim) (q : Claim) → request_of s qs ≡ Some q → p q ≡ true → request_of s (filter p qs) ≡ Some q
 request_of-filter s p [] q h e = absurd (cc)
 request_of-filter s p (c ∷ qs) q h e = grind (arith, nat_tests, bool_cases (p c), request_of-filter s p qs q)
 
-request_of-front : (s : ℕ) (xs ys : List Claim) (q : Claim) → request_of s xs ≡ Some q → request_of s (xs ++ ys) ≡ Some q
+pub request_of-front : (s : ℕ) (xs ys : List Claim) (q : Claim) → request_of s xs ≡ Some q → request_of s (xs ++ ys) ≡ Some q
 request_of-front s [] ys q h = absurd (cc)
 request_of-front s (x ∷ xs) ys q h = grind (arith, nat_tests, request_of-front s xs ys q)
 
-request_of-rest : (s : ℕ) (xs ys : List Claim) → request_of s xs ≡ None → request_of s (xs ++ ys) ≡ request_of s ys
+pub request_of-rest : (s : ℕ) (xs ys : List Claim) → request_of s xs ≡ None → request_of s (xs ++ ys) ≡ request_of s ys
 request_of-rest s [] ys h = refl
 request_of-rest s (x ∷ xs) ys h = grind (arith, nat_tests, request_of-rest s xs ys)
 
