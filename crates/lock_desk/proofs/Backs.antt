@@ -1,5 +1,6 @@
 -- A session gives back all its locks, the last one first.
 use Rattle.std.proofs.Common.{◌≡◌, ℕ, ◌+◌, ◌<◌, Bool, true, false, cond, ◌||◌, inl, inr, List, [], ◌∷◌, ◌++◌, length, map, get_or, set, Option, Some, None, refl, sym, ◌∙◌, ap, arith, subst}
+use Rattle.std.proofs.lemmas.Bool.{or_right}
 use Rattle.std.specs.List.{All}
 use Rattle.std.specs.Prelude.{vec_len, vec_capacity}
 use Rattle.std.proofs.lemmas.List.Elements.{All-set, All-get_or}
@@ -13,7 +14,7 @@ use Rattle.lock_desk.specs.Cells.{View, has_claim, given_up, freed_view, has_pat
 use Rattle.lock_desk.specs.Rows.{Standing, wanted_in, standing_of, locks_to_come, IsKeptRow, AreSameOrAdmitted, DoAgree}
 use Rattle.lock_desk.specs.Changes.{seen, standings, standing, unlocked_view, IsWhole, HasGivenBack, HasGivenBackAll}
 use Rattle.lock_desk.proofs.Standings.{standing-here, apart-pop, has_path-push}
-use Rattle.lock_desk.proofs.Wholes.{apart-at, or-true, GivesUp}
+use Rattle.lock_desk.proofs.Wholes.{apart-at, GivesUp}
 use Rattle.lock_desk.proofs.Frees.{gives-last, freed-agree, freed-own, has-freed, freed-whole}
 
 -- no request is none
@@ -105,7 +106,7 @@ back-more s d e f w h g = record {
     gone = (apart-pop (standing s f).held g.resource (subst AreApart g.held (apart-at e.rows.items s w.rows))).1
 
     had : has_path g.resource (standing s e).held ≡ true
-    had = ap (has_path g.resource) g.held ∙ (has_path-push g.resource g.resource (standing s f).held ∙ or-true (has_path g.resource (standing s f).held) (same_path g.resource g.resource) (same_path-refl g.resource))
+    had = ap (has_path g.resource) g.held ∙ (has_path-push g.resource g.resource (standing s f).held ∙ or_right (has_path g.resource (standing s f).held) (same_path g.resource g.resource) (same_path-refl g.resource))
 
     before : seen g.resource e ≡ seen g.resource d
     before = h.views g.resource ∙ ap (λ (b : Bool). cond b (seen g.resource d) (unlocked_view s (seen g.resource d))) had

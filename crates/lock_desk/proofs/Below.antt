@@ -1,7 +1,7 @@
 -- Whether a session holds a resource below another: its own list tells what the table tells.
 use Rattle.std.proofs.Common.{◌≡◌, ℕ, Bool, true, false, cond, eqb, ◌&&◌, ◌||◌, List, [], ◌∷◌, Option, Some, is_some, refl, sym, ap, arith}
 use Rattle.std.specs.List.{list_any}
-use Rattle.std.proofs.lemmas.Bool.{and_parts, and_from}
+use Rattle.std.proofs.lemmas.Bool.{and_parts, and_from, or_right}
 use Rattle.std.proofs.lemmas.Bool.Decides.{nat_tests}
 use Rattle.lock_modes.specs.declared.Mode.{Mode}
 use Rattle.lock_tree.specs.Paths.{is_ancestor, same_path}
@@ -9,7 +9,6 @@ use Rattle.lock_rules.specs.State as rules
 use Rattle.lock_rules.proofs.Lists.{same_path-refl, same_path_tells}
 use Rattle.lock_desk.specs.Cells.{has_path}
 use Rattle.lock_desk.specs.Rows.{has_below}
-use Rattle.lock_desk.proofs.Wholes.{or-true}
 
 -- a resource below, of those that are told
 pub record Below (r : List ℕ) (has : List ℕ → Bool) : Type 0 where
@@ -24,7 +23,7 @@ path-below r (p ∷ rs) h = go (is_ancestor r p) refl h (path-below r rs)
   where
     go : (b : Bool) → is_ancestor r p ≡ b → (b || has_below r rs) ≡ true → (has_below r rs ≡ true → Below r (λ q. has_path q rs)) → Below r (λ q. has_path q (p ∷ rs))
     go true e h next = record { path = p; below = e; there = ap (λ (b : Bool). b || has_path p rs) (same_path-refl p) }
-    go false e h next = let w = next h in record { path = w.path; below = w.below; there = or-true (same_path p w.path) (has_path w.path rs) w.there }
+    go false e h next = let w = next h in record { path = w.path; below = w.below; there = or_right (same_path p w.path) (has_path w.path rs) w.there }
 
 -- and the other way round
 pub below-path : (r q : List ℕ) (rs : List (List ℕ)) → has_path q rs ≡ true → is_ancestor r q ≡ true → has_below r rs ≡ true

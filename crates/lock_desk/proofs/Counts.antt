@@ -1,5 +1,6 @@
 -- The rows tell how many locks a session holds, and whether it waits.
 use Rattle.std.proofs.Common.{◌≡◌, ℕ, ◌+◌, ◌≤◌, Bool, true, false, cond, not, eqb, ◌&&◌, ◌||◌, inl, inr, List, [], ◌∷◌, ◌++◌, length, map, Option, Some, None, is_some, refl, sym, ◌∙◌, ap, arith, subst}
+use Rattle.lock_rules.proofs.Once.{none-behind}
 use Rattle.std.specs.List.{list_any}
 use Rattle.std.specs.Prelude.{filter}
 use Rattle.std.proofs.lemmas.Bool.Decides.{nat_tests, Decides-eqb}
@@ -8,7 +9,7 @@ use Rattle.lock_tree.specs.Paths.{same_path}
 use Rattle.lock_rules.specs.State as rules
 use Rattle.lock_rules.specs.Queue.{queue, conversions, fresh_requests}
 use Rattle.lock_rules.specs.Waits.{wanted}
-use Rattle.lock_rules.proofs.Lists.{bool_cases, same_path-refl, same_path_tells, times, IsOrdered, after, ascend, seek-after, mode_in-seek}
+use Rattle.lock_rules.proofs.Lists.{bool_cases, same_path-refl, same_path_tells, times, IsOrdered, after, ascend}
 use Rattle.lock_rules.proofs.Sound.{IsSound}
 use Rattle.lock_desk.specs.Cells.{has_claim, has_path, AreApart}
 use Rattle.lock_desk.specs.Rows.{is_wanted, paths_but}
@@ -125,18 +126,13 @@ rest-ordered c cs o r = go (same_path c.resource r) (o r)
     go true h = (and_parts (after c.session (rules.holders r cs)) (ascend (rules.holders r cs)) h).1
     go false h = h
 
-first-alone : (c : rules.Claim) (cs : List rules.Claim) → IsOrdered (c ∷ cs) → rules.mode_in c.session c.resource cs ≡ None
-first-alone c cs o =
-    let h : ascend ((c.session, c.mode) ∷ rules.holders c.resource cs) ≡ true = sym (ap (λ (b : Bool). ascend (cond b ((c.session, c.mode) ∷ rules.holders c.resource cs) (rules.holders c.resource cs))) (same_path-refl c.resource)) ∙ o c.resource in
-    mode_in-seek c.session c.resource cs ∙ seek-after c.session (rules.holders c.resource cs) (and_parts (after c.session (rules.holders c.resource cs)) (ascend (rules.holders c.resource cs)) h).0
-
 -- none stands twice
 locks-apart : (s : ℕ) (cs : List rules.Claim) → IsOrdered cs → AreApart (locks_in s cs)
 locks-apart s [] o = tt
 locks-apart s (c ∷ cs) o = go (eqb c.session s) refl (locks-apart s cs (rest-ordered c cs o))
   where
     none : c.session ≡ s → has_path c.resource (locks_in s cs) ≡ false
-    none e = listed s c.resource cs ∙ (sym (held-seen s c.resource cs) ∙ ap is_some (subst (λ (i : ℕ). rules.mode_in i c.resource cs ≡ None) e (first-alone c cs o)))
+    none e = listed s c.resource cs ∙ (sym (held-seen s c.resource cs) ∙ ap is_some (subst (λ (i : ℕ). rules.mode_in i c.resource cs ≡ None) e (none-behind c cs o)))
 
     go : (b : Bool) → eqb c.session s ≡ b → AreApart (locks_in s cs) → AreApart (map (λ (c : rules.Claim). c.resource) (cond b (c ∷ rules.claims_of s cs) (rules.claims_of s cs)))
     go true e rest = (none ((Decides-eqb c.session s).0 e), rest)

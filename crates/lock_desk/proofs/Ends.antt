@@ -1,5 +1,6 @@
 -- A transaction begins or ends: its row is told.
 use Rattle.std.proofs.Common.{◌≡◌, ℕ, zero, suc, ◌+◌, ◌<◌, ◌≤◌, Bool, true, false, cond, eqb, inl, inr, List, [], ◌∷◌, length, map, get_or, set, Option, Some, None, refl, sym, ◌∙◌, ap, arith, subst}
+use Rattle.lock_rules.proofs.Sound.{eqb-swap}
 use Rattle.std.specs.List.{All}
 use Rattle.std.specs.Prelude.{vec_len, vec_capacity}
 use Rattle.std.proofs.lemmas.Bool.Decides.{Decides-eqb}
@@ -16,7 +17,7 @@ use Rattle.lock_desk.specs.Cells.{View, has_claim, given_up, freed_view, cell_vi
 use Rattle.lock_desk.specs.Rows.{Standing, doomed, resource_asked, wanted_in, standing_of, standing_at, is_wanted, locks_to_come, IsOfKind, IsKeptRow, AreSameOrAdmitted, DoAgree}
 use Rattle.lock_desk.specs.Changes.{seen, standings, standing, unlocked_view, cancelled_view, IsWhole, HasFreed, HasGivenBackAll, HasCancelled, HasDoomed, HasBegun, HasEnded}
 use Rattle.lock_desk.proofs.Standings.{standings-set, standing-here, length-standings}
-use Rattle.lock_desk.proofs.Wholes.{own-standing, other-standing, eqb-swap, GivesUp}
+use Rattle.lock_desk.proofs.Wholes.{own-standing, other-standing, GivesUp}
 use Rattle.lock_desk.proofs.Asks.{idle-there}
 use Rattle.lock_desk.proofs.Frees.{gives-request, freed-agree, freed-own, has-freed, freed-whole}
 

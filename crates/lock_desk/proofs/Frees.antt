@@ -1,5 +1,6 @@
 -- A session gives up one lock, wherever it stands in its list, or its request.
 use Rattle.std.proofs.Common.{◌≡◌, ℕ, ◌+◌, ◌<◌, ◌≤◌, Bool, true, false, cond, not, eqb, ◌||◌, ◌⊎◌, inl, inr, List, [], ◌∷◌, ◌++◌, length, map, get_or, set, Some, None, refl, sym, ◌∙◌, ap, arith, subst}
+use Rattle.std.proofs.lemmas.Bool.{or_parts}
 use Rattle.std.specs.List.{All}
 use Rattle.std.proofs.lemmas.Bool.Decides.{Decides-eqb}
 use Rattle.lock_tree.specs.Paths.{same_path}
@@ -11,7 +12,7 @@ use Rattle.lock_desk.specs.declared.desk.Desk.{Desk}
 use Rattle.lock_desk.specs.Cells.{given_up, freed_view, has_path, AreApart, CellsBecame}
 use Rattle.lock_desk.specs.Rows.{Standing, standing_of, standing_at, is_wanted, paths_but, let_go, IsKeptRow, IsSameOrAdmitted, AreSameOrAdmitted, DoAgree}
 use Rattle.lock_desk.specs.Changes.{seen, standings, standing, IsWhole, HasFreed}
-use Rattle.lock_desk.proofs.Standings.{standings-set, standing-here, length-standings, or_false, apart-pop, has_path-push}
+use Rattle.lock_desk.proofs.Standings.{standings-set, standing-here, length-standings, apart-pop, has_path-push}
 use Rattle.lock_desk.proofs.Wholes.{own-standing, other-standing, all-agree, GivesUp, given-agree, given-other, admitted-other, not-admitted}
 
 -- a session that is admitted has its transaction
@@ -33,7 +34,7 @@ other-but r x (p ∷ rs) h = grind (arith, same_path_tells p r, bool_cases (same
 
 none-but : (x r : List ℕ) (rs : List (List ℕ)) → has_path x rs ≡ false → has_path x (paths_but r rs) ≡ false
 none-but x r [] h = refl
-none-but x r (p ∷ rs) h = let k = or_false (same_path p x) (has_path x rs) h in grind (arith, bool_cases (same_path p r), none-but x r rs k.1)
+none-but x r (p ∷ rs) h = let k = or_parts (same_path p x) (has_path x rs) h in grind (arith, bool_cases (same_path p r), none-but x r rs k.1)
 
 -- they stand only once
 pub apart-but : (r : List ℕ) (rs : List (List ℕ)) → AreApart rs → AreApart (paths_but r rs)
@@ -51,7 +52,7 @@ few-but r (p ∷ rs) = grind (arith, bool_cases (same_path p r), few-but r rs)
 
 same-but : (r : List ℕ) (rs : List (List ℕ)) → has_path r rs ≡ false → paths_but r rs ≡ rs
 same-but r [] h = refl
-same-but r (p ∷ rs) h = let k = or_false (same_path p r) (has_path r rs) h in grind (arith, same-but r rs k.1)
+same-but r (p ∷ rs) h = let k = or_parts (same_path p r) (has_path r rs) h in grind (arith, same-but r rs k.1)
 
 -- where it was there, it is one less
 pub less-but : (r : List ℕ) (rs : List (List ℕ)) → AreApart rs → has_path r rs ≡ true → length (paths_but r rs) + 1 ≡ length rs

@@ -1,5 +1,5 @@
 -- A session gives up its lock on a resource, or its request.
-use Rattle.std.proofs.Common.{◌≡◌, ℕ, Bool, true, false, cond, not, List, Option, Some, None, refl, sym, ◌∙◌, ap, subst}
+use Rattle.std.proofs.Common.{◌≡◌, ℕ, Bool, true, false, cond, List, Option, Some, None, refl, sym, ◌∙◌, ap, subst}
 use Rattle.std.specs.Map.{lookup}
 use Rattle.lock_tree.specs.Paths.{same_path}
 use Rattle.lock_desk.specs.declared.cells.Cell.{Cell}
@@ -72,13 +72,3 @@ module _ (g : Part) (r : List ℕ) (s : ℕ) (cs : Cells) (x l : Cell) (there : 
           twice false x y z = refl
 
 -- a cell is idle, or busy
-
--- a test that fails turned round
-pub idle-told : (b : Bool) → not b ≡ true → b ≡ false
-idle-told true h = cc
-idle-told false h = refl
-
--- a test that holds turned round
-pub busy-told : (b : Bool) → not b ≡ false → b ≡ true
-busy-told true h = refl
-busy-told false h = cc

@@ -1,5 +1,6 @@
 -- What a grant, a request and a release do to the claims on one resource.
 use Rattle.std.proofs.Common.{◌≡◌, ℕ, ◌≤◌, Bool, true, false, cond, not, eqb, ◌&&◌, ◌||◌, inl, inr, List, [], ◌∷◌, Some, None, refl, sym, ◌∙◌, ap, arith, subst}
+use Rattle.std.proofs.lemmas.Bool.{or_from}
 use Rattle.std.proofs.lemmas.Bool.Decides.{nat_tests, Decides-eqb}
 use Rattle.lock_desk.specs.declared.cells.Claim.{Claim}
 use Rattle.lock_desk.specs.declared.cells.Cell.{Cell}
@@ -50,16 +51,12 @@ next-waits v c w n = ap (has_claim c.session) n.first ∙ ap (λ (b : Bool). b |
 pub once-next : (v : View) (c : Claim) (w : View) → IsNext v c w → IsOnce v → IsOnce w
 once-next v c w n o = record {
   once = λ s. let f = ap (times s) n.first in let k = o.once s in grind (arith, nat_tests);
-  holders = ap (has_claim 0) n.holders ∙ (has_claim-with_claim 0 c v.holders ∙ neither (eqb c.session 0) (has_claim 0 v.holders) (first (eqb c.session 0) (has_claim 0 w.waiting) waits) o.holders);
+  holders = ap (has_claim 0) n.holders ∙ (has_claim-with_claim 0 c v.holders ∙ or_from (eqb c.session 0) (has_claim 0 v.holders) (first (eqb c.session 0) (has_claim 0 w.waiting) waits) o.holders);
   waiting = second (eqb c.session 0) (has_claim 0 w.waiting) waits;
 }
   where
     waits : (eqb c.session 0 || has_claim 0 w.waiting) ≡ false
     waits = sym (ap (has_claim 0) n.first) ∙ o.waiting
-
-    neither : (a b : Bool) → a ≡ false → b ≡ false → (a || b) ≡ false
-    neither true b h k = h
-    neither false b h k = k
 
     first : (a b : Bool) → (a || b) ≡ false → a ≡ false
     first true b h = h

@@ -1,5 +1,6 @@
 -- A desk that shows a state makes its tests, and shows the next state after each act.
 use Rattle.std.proofs.Common.{◌≡◌, ℕ, ◌+◌, ◌<◌, Bool, true, false, cond, not, eqb, ◌&&◌, leb, inl, inr, List, [], ◌∷◌, ◌++◌, length, length-append, map, Option, Some, None, is_some, refl, sym, ◌∙◌, ap, arith, subst}
+use Rattle.std.proofs.lemmas.Bool.{not-false}
 use Rattle.lock_modes.specs.declared.Mode.{Mode}
 use Rattle.lock_modes.specs.Order.{at_or_below, need_of}
 use Rattle.lock_tree.specs.Paths.{same_path, parent_of, has_parent}
@@ -117,17 +118,13 @@ module _ (d : Desk) (st : rules.State) (s : ℕ) (w : IsWhole d) (i : IsSound st
 
 -- a call that passes its tests may be done
 
-turned : (b : Bool) → not b ≡ false → b ≡ true
-turned true e = refl
-turned false e = absurd (cc)
-
 -- who may lock is open and sound, waits for nothing, stands under the parent, and has room where it holds nothing there
 pub lock-may : (d : Desk) (s : ℕ) (r : List ℕ) (m : Mode) → first_failing (desk_tests d s (Lock r m)) ≡ None → MayAsk s r m d
 lock-may d s r m h =
     let p = all-pass (desk_tests d s (Lock r m)) h in
     record {
       can = record { idle = is-none (standing s d).wanted p.1.0; few = p.1.1.1.1.1.0 };
-      opened = turned (is_some (standing s d).transaction) p.0;
+      opened = not-false (is_some (standing s d).transaction) p.0;
       sound = p.1.1.0;
       something = p.1.1.1.0;
       under = p.1.1.1.1.0;
@@ -139,7 +136,7 @@ convert-may d s r m h =
     let p = all-pass (desk_tests d s (Convert r m)) h in
     record {
       can = record { idle = is-none (standing s d).wanted p.1.0; few = held (is_some (held_seen d s r)) p.1.1.1.1.0 };
-      opened = turned (is_some (standing s d).transaction) p.0;
+      opened = not-false (is_some (standing s d).transaction) p.0;
       sound = p.1.1.0;
       something = p.1.1.1.0;
       under = p.1.1.1.1.1.0;
@@ -155,7 +152,7 @@ release-can d s r h =
     let p = all-pass (desk_tests d s (Release r)) h in
     record {
       idle = is-none (standing s d).wanted p.1.0;
-      held = turned (is_some (held_seen d s r)) p.1.1.1.0;
+      held = not-false (is_some (held_seen d s r)) p.1.1.1.0;
       free = p.1.1.1.1.0;
     }
 

@@ -1,5 +1,6 @@
 -- What a grant does to the rows.
 use Rattle.std.proofs.Common.{◌≡◌, ℕ, zero, suc, ◌<◌, Bool, true, false, cond, eqb, ◌||◌, inl, inr, List, [], ◌∷◌, ◌++◌, length, map, get_or, set, refl, sym, ◌∙◌, ap, arith}
+use Rattle.std.proofs.lemmas.Bool.{or_right, or_parts}
 use Rattle.std.proofs.lemmas.Bool.Decides.{nat_tests, Decides-eqb}
 use Rattle.std.proofs.lemmas.List.{get_or-set_same, get_or-set_other}
 use Rattle.lock_tree.specs.Paths.{same_path}
@@ -27,11 +28,6 @@ has_path-push r q (p ∷ rs) = ap (λ (b : Bool). same_path p r || b) (has_path-
     or-assoc true b c = refl
     or-assoc false b c = refl
 
--- neither test holds
-pub or_false : (x y : Bool) → (x || y) ≡ false → (x ≡ false) × (y ≡ false)
-or_false true y h = (h, cc)
-or_false false y h = (refl, h)
-
 -- two resources are apart both ways
 pub same_path-swap : (a b : List ℕ) → same_path a b ≡ false → same_path b a ≡ false
 same_path-swap a b h = elim (same_path_tells b a) [ inl k ↦ absurd (contra k.1) | inr k ↦ k ]
@@ -43,14 +39,14 @@ same_path-swap a b h = elim (same_path_tells b a) [ inl k ↦ absurd (contra k.1
 pub apart-push : (rs : List (List ℕ)) (q : List ℕ) → AreApart rs → has_path q rs ≡ false → AreApart (rs ++ q ∷ [])
 apart-push [] q a h = (refl, tt)
 apart-push (r ∷ rs) q a h =
-    let p = or_false (same_path r q) (has_path q rs) h in
+    let p = or_parts (same_path r q) (has_path q rs) h in
     (has_path-push r q rs ∙ (ap (λ (b : Bool). b || same_path q r) a.0 ∙ same_path-swap r q p.0), apart-push rs q a.1 p.1)
 
 -- the last resource stands only there
 pub apart-pop : (rs : List (List ℕ)) (q : List ℕ) → AreApart (rs ++ q ∷ []) → AreApart rs × (has_path q rs ≡ false)
 apart-pop [] q a = (tt, refl)
 apart-pop (r ∷ rs) q a =
-    let k = or_false (has_path r rs) (same_path q r) (sym (has_path-push r q rs) ∙ a.0) in
+    let k = or_parts (has_path r rs) (same_path q r) (sym (has_path-push r q rs) ∙ a.0) in
     let p = apart-pop rs q a.1 in
     ((k.0, p.0), ap (λ (b : Bool). b || has_path q rs) (same_path-swap q r k.1) ∙ p.1)
 
@@ -79,13 +75,9 @@ length-standings (w ∷ ws) = omega (arith, length-standings ws)
 pub has_path-with : (r : List ℕ) (rs : List (List ℕ)) → has_path r (with_path r rs) ≡ true
 has_path-with r rs = go (has_path r rs) refl
   where
-    or-true : (b c : Bool) → c ≡ true → (b || c) ≡ true
-    or-true true c e = refl
-    or-true false c e = e
-
     go : (b : Bool) → has_path r rs ≡ b → has_path r (cond b rs (rs ++ r ∷ [])) ≡ true
     go true e = e
-    go false e = has_path-push r r rs ∙ or-true (has_path r rs) (same_path r r) (same_path-refl r)
+    go false e = has_path-push r r rs ∙ or_right (has_path r rs) (same_path r r) (same_path-refl r)
 
 -- and each other one as before
 pub has_path-with_other : (x r : List ℕ) (rs : List (List ℕ)) → same_path r x ≡ false → has_path x (with_path r rs) ≡ has_path x rs

@@ -1,7 +1,7 @@
 -- What is seen after a request, and after the end of a transaction.
 use Rattle.std.proofs.Common.{◌≡◌, ℕ, Bool, true, false, cond, not, ◌&&◌, ◌||◌, inl, inr, List, [], ◌∷◌, ◌++◌, map, None, is_some, refl, sym, ◌∙◌, ap}
 use Rattle.std.specs.Prelude.{filter}
-use Rattle.std.proofs.lemmas.Bool.{and_parts}
+use Rattle.std.proofs.lemmas.Bool.{and_parts, not-true}
 use Rattle.lock_modes.specs.declared.Mode.{Mode}
 use Rattle.lock_tree.specs.Paths.{same_path}
 use Rattle.lock_rules.specs.State as rules
@@ -96,11 +96,7 @@ queued-seen s r m t = go (is_some (rules.held_mode t s r)) refl
     seen-as b e = ap (λ (c : Bool). cond c (behind_conversions (claim s m) (claims_on r t.held) (map short (queue t r))) (map short (queue t r) ++ claim s m ∷ [])) (sym (held-seen s r t.held) ∙ e)
 
     flip : (a b : Bool) → (a && not b) ≡ true → b ≡ false
-    flip a b h = let p = and_parts a (not b) h in turned b p.1
-      where
-        turned : (b : Bool) → not b ≡ true → b ≡ false
-        turned true e = cc
-        turned false e = refl
+    flip a b h = let p = and_parts a (not b) h in not-true b p.1
 
     go : (b : Bool) → is_some (rules.held_mode t s r) ≡ b → map short (queue (with_request s r m t) r) ≡ queued (claim s m) (claims_on r t.held) (map short (queue t r))
     go true e =

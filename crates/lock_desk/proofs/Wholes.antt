@@ -1,5 +1,6 @@
 -- The rows say what the cells say, after each change.
 use Rattle.std.proofs.Common.{◌≡◌, ℕ, zero, suc, ◌<◌, Bool, true, false, cond, not, eqb, ◌&&◌, ◌||◌, inl, inr, List, [], ◌∷◌, length, map, get_or, set, Option, Some, None, refl, sym, ◌∙◌, ap, arith, subst}
+use Rattle.lock_rules.proofs.Sound.{eqb-swap}
 use Rattle.std.specs.List.{All}
 use Rattle.std.proofs.lemmas.Bool.Decides.{nat_tests, Decides-eqb}
 use Rattle.std.proofs.lemmas.List.{get_or-set_same, get_or-set_other}
@@ -45,15 +46,6 @@ all-agree r v d e views here there x = elim (same_path_tells r x) [
   | inl h ↦ subst (λ (w : View). DoAgree x w (standings e)) (sym (views x ∙ ap (λ (b : Bool). cond b v (seen x d)) h.0)) (subst (λ (p : List ℕ). DoAgree p v (standings e)) h.1 here)
   | inr h ↦ subst (λ (w : View). DoAgree x w (standings e)) (sym (views x ∙ ap (λ (b : Bool). cond b v (seen x d)) h)) (there x h)
 ]
-
--- where the second test holds
-pub or-true : (b c : Bool) → c ≡ true → (b || c) ≡ true
-or-true true c e = refl
-or-true false c e = e
-
--- two numbers differ both ways
-pub eqb-swap : (s u : ℕ) → eqb s u ≡ false → eqb u s ≡ false
-eqb-swap s u h = grind (arith, nat_tests)
 
 -- a lock or a request is given up
 

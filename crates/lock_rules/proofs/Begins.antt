@@ -2,7 +2,7 @@
 use Rattle.std.proofs.Common.{◌≡◌, ℕ, Bool, true, false, cond, not, eqb, ◌&&◌, ◌||◌, inl, inr, List, [], ◌∷◌, ◌++◌, Some, None, refl, sym, ◌∙◌, ap, arith, append_assoc}
 use Rattle.std.specs.Prelude.{filter, is_some}
 use Rattle.std.proofs.lemmas.Bool.Decides.{nat_tests, Decides-eqb}
-use Rattle.std.proofs.lemmas.Bool.{and_parts, and_from}
+use Rattle.std.proofs.lemmas.Bool.{and_parts, and_from, not-true}
 use Rattle.lock_modes.specs.declared.Mode.{Mode}
 use Rattle.lock_tree.specs.Paths.{same_path}
 use Rattle.lock_modes.specs.Order.{at_or_below}
@@ -48,15 +48,11 @@ begins-sound s r m t i n up under = record {
 pub begins-beside : (s : ℕ) (r : List ℕ) (m : Mode) (t : Table) → request_of s t.waits ≡ None → NoCircle (waits_for t) → NoCircle (beside s (waits_for (with_request s r m t)))
 begins-beside s r m t n none a ws walk = none a ws (walk-wider (beside s (waits_for (with_request s r m t))) (waits_for t) old a ws a walk)
   where
-    flip : (b : Bool) → not b ≡ true → b ≡ false
-    flip true e = cc
-    flip false e = refl
-
     old : (i u : ℕ) → beside s (waits_for (with_request s r m t)) i u ≡ true → waits_for t i u ≡ true
     old i u h =
         let p = and_parts (waits_for (with_request s r m t) i u) (not (eqb i s) && not (eqb u s)) h in
         let d = and_parts (not (eqb i s)) (not (eqb u s)) p.1 in
-        waits_for-alters s (with_request s r m t) t (back s r m t n) i u (flip (eqb i s) d.0) (flip (eqb u s) d.1) ∙ p.0
+        waits_for-alters s (with_request s r m t) t (back s r m t n) i u (not-true (eqb i s) d.0) (not-true (eqb u s) d.1) ∙ p.0
 
 filter-in : (p : Claim → Bool) (xs : List Claim) (x : Claim) → p x ≡ true → filter p (xs ++ x ∷ []) ≡ filter p xs ++ x ∷ []
 filter-in p [] x h = ap (λ (b : Bool). cond b (x ∷ []) []) h

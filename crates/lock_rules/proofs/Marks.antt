@@ -1,5 +1,6 @@
 -- Facts of the modes that the laws of states need, computed over whole tables.
 use Rattle.std.proofs.Common.{◌≡◌, Bool, true, false, not, ◌||◌, Option, Some, None, refl, ap}
+use Rattle.std.proofs.lemmas.Bool.{not-true}
 use Rattle.lock_modes.specs.declared.Mode.{Mode}
 use Rattle.lock_modes.specs.declared.Mode.TheVariants.{NL, IS, IX, S, X}
 use Rattle.lock_modes.specs.Order.{at_or_below, sup_of, need_of}
@@ -37,19 +38,11 @@ conflicts-raised m (Some a) None h k = let r = raised m a NL h k in let e = any-
 
 -- a mode that is something needs something
 pub need-some : (m : Mode) → is_nothing m ≡ false → at_or_below (need_of m) NL ≡ false
-need-some m h = flip _ (implied (not (is_nothing m)) _ (every-at (λ m. not (not (is_nothing m)) || not (at_or_below (need_of m) NL)) refl m) (ap not h))
-  where
-    flip : (b : Bool) → not b ≡ true → b ≡ false
-    flip true e = cc
-    flip false e = refl
+need-some m h = not-true _ (implied (not (is_nothing m)) _ (every-at (λ m. not (not (is_nothing m)) || not (at_or_below (need_of m) NL)) refl m) (ap not h))
 
 -- nothing is at or above a mode that is something
 pub some-above : (m : Mode) → is_nothing m ≡ false → at_or_below m NL ≡ false
-some-above m h = flip _ (implied (not (is_nothing m)) _ (every-at (λ m. not (not (is_nothing m)) || not (at_or_below m NL)) refl m) (ap not h))
-  where
-    flip : (b : Bool) → not b ≡ true → b ≡ false
-    flip true e = cc
-    flip false e = refl
+some-above m h = not-true _ (implied (not (is_nothing m)) _ (every-at (λ m. not (not (is_nothing m)) || not (at_or_below m NL)) refl m) (ap not h))
 
 -- the target of a request is at or above what is held
 pub below-sup : (a b : Mode) → at_or_below a (sup_of a b) ≡ true
@@ -57,33 +50,21 @@ below-sup = every2-at (λ a b. at_or_below a (sup_of a b)) refl
 
 -- and is something where something is asked
 pub sup-some : (k m : Mode) → is_nothing m ≡ false → is_nothing (sup_of k m) ≡ false
-sup-some k m h = flip _ (implied (not (is_nothing m)) _ (every2-at (λ k m. not (not (is_nothing m)) || not (is_nothing (sup_of k m))) refl k m) (ap not h))
-  where
-    flip : (b : Bool) → not b ≡ true → b ≡ false
-    flip true e = cc
-    flip false e = refl
+sup-some k m h = not-true _ (implied (not (is_nothing m)) _ (every2-at (λ k m. not (not (is_nothing m)) || not (is_nothing (sup_of k m))) refl k m) (ap not h))
 
 -- IX or above goes with no S or above, in either order
 pub no_ix_s : (a b : Mode) → at_or_below IX a ≡ true → at_or_below S b ≡ true → (are_compatible a b ≡ false) × (are_compatible b a ≡ false)
 no_ix_s a b h k = (
-  flip _ (implied (at_or_below S b) _ (implied (at_or_below IX a) _ (every2-at (λ a b. not (at_or_below IX a) || (not (at_or_below S b) || not (are_compatible a b))) refl a b) h) k),
-  flip _ (implied (at_or_below S b) _ (implied (at_or_below IX a) _ (every2-at (λ a b. not (at_or_below IX a) || (not (at_or_below S b) || not (are_compatible b a))) refl a b) h) k),
+  not-true _ (implied (at_or_below S b) _ (implied (at_or_below IX a) _ (every2-at (λ a b. not (at_or_below IX a) || (not (at_or_below S b) || not (are_compatible a b))) refl a b) h) k),
+  not-true _ (implied (at_or_below S b) _ (implied (at_or_below IX a) _ (every2-at (λ a b. not (at_or_below IX a) || (not (at_or_below S b) || not (are_compatible b a))) refl a b) h) k),
 )
-  where
-    flip : (b : Bool) → not b ≡ true → b ≡ false
-    flip true e = cc
-    flip false e = refl
 
 -- X goes with no IS or above, in either order
 pub no_x_is : (a b : Mode) → at_or_below X a ≡ true → at_or_below IS b ≡ true → (are_compatible a b ≡ false) × (are_compatible b a ≡ false)
 no_x_is a b h k = (
-  flip _ (implied (at_or_below IS b) _ (implied (at_or_below X a) _ (every2-at (λ a b. not (at_or_below X a) || (not (at_or_below IS b) || not (are_compatible a b))) refl a b) h) k),
-  flip _ (implied (at_or_below IS b) _ (implied (at_or_below X a) _ (every2-at (λ a b. not (at_or_below X a) || (not (at_or_below IS b) || not (are_compatible b a))) refl a b) h) k),
+  not-true _ (implied (at_or_below IS b) _ (implied (at_or_below X a) _ (every2-at (λ a b. not (at_or_below X a) || (not (at_or_below IS b) || not (are_compatible a b))) refl a b) h) k),
+  not-true _ (implied (at_or_below IS b) _ (implied (at_or_below X a) _ (every2-at (λ a b. not (at_or_below X a) || (not (at_or_below IS b) || not (are_compatible b a))) refl a b) h) k),
 )
-  where
-    flip : (b : Bool) → not b ≡ true → b ≡ false
-    flip true e = cc
-    flip false e = refl
 
 -- a mode at or above IS needs the parent so, and so does one at or above IX
 pub need-is : (m : Mode) → at_or_below IS m ≡ true → at_or_below IS (need_of m) ≡ true

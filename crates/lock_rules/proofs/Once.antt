@@ -68,7 +68,7 @@ later-behind r c cs o p =
     (and_parts (after c.session (holders r cs)) (ascend (holders r cs)) h).0
 
 -- so its session holds no more of the resource
-none-behind : (c : Claim) (cs : List Claim) → IsOrdered (c ∷ cs) → mode_in c.session c.resource cs ≡ None
+pub none-behind : (c : Claim) (cs : List Claim) → IsOrdered (c ∷ cs) → mode_in c.session c.resource cs ≡ None
 none-behind c cs o = mode_in-seek c.session c.resource cs ∙ seek-after c.session (holders c.resource cs) (later-behind c.resource c cs o (same_path-refl c.resource))
 
 -- the claim is the session's, and what it holds

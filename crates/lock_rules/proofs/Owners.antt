@@ -1,5 +1,6 @@
 -- Whoever holds or waits has a transaction, and open transactions have numbers of their own.
-use Rattle.std.proofs.Common.{◌≡◌, ℕ, zero, suc, ◌+◌, ◌≤◌, Bool, true, false, cond, not, eqb, ◌⊎◌, inl, inr, List, [], ◌∷◌, ◌++◌, length, Option, Some, None, refl, sym, ◌∙◌, ap, arith, map}
+use Rattle.std.proofs.Common.{◌≡◌, ℕ, zero, suc, ◌+◌, ◌≤◌, Bool, true, false, cond, eqb, ◌⊎◌, inl, inr, List, [], ◌∷◌, ◌++◌, length, Option, Some, None, refl, sym, ◌∙◌, ap, arith, map}
+use Rattle.std.proofs.lemmas.Bool.{not-false}
 use Rattle.std.specs.Prelude.{is_some}
 use Rattle.std.proofs.lemmas.Bool.Decides.{Decides-eqb}
 use Rattle.lock_modes.specs.declared.Mode.{Mode}
@@ -143,10 +144,6 @@ asked-numbered st s r m i h = go (is_held (held_mode st.table s r) m) (is_grante
     go false true = retabled st (granted s r m st.table) i (granted-open (is_open st) s r m st.table i.owners h)
     go false false = settled-numbered (length st.table.waits + 2) s (with_table (with_request s r m st.table) st) (retabled st (with_request s r m st.table) i (begins-open (is_open st) s r m st.table i.owners h))
 
-opens : (b : Bool) → not b ≡ false → b ≡ true
-opens true e = refl
-opens false e = cc
-
 ended-numbered : (st : State) (s : ℕ) → IsNumbered st → IsNumbered (with_begun s None (with_table (ended s st.table) st))
 ended-numbered st s i =
     let p : ℕ → Bool = λ (u : ℕ). is_some (cond (eqb u s) None (st.begun u)) in
@@ -211,8 +208,8 @@ released-numbered st s r i n =
 
 act-numbered : (st : State) (s : ℕ) (c : Call) → IsNumbered st → first_failing (tests st s c) ≡ None → IsNumbered (act st s c).state
 act-numbered st s Begin i h = let p = all-pass (tests st s Begin) h in begin-numbered st s i p.0
-act-numbered st s (Lock r m) i h = let p = all-pass (tests st s (Lock r m)) h in asked-numbered st s r (target_of (held_mode st.table s r) m) i (opens _ p.0)
-act-numbered st s (Convert r m) i h = let p = all-pass (tests st s (Convert r m)) h in asked-numbered st s r (target_of (held_mode st.table s r) m) i (opens _ p.0)
+act-numbered st s (Lock r m) i h = let p = all-pass (tests st s (Lock r m)) h in asked-numbered st s r (target_of (held_mode st.table s r) m) i (not-false _ p.0)
+act-numbered st s (Convert r m) i h = let p = all-pass (tests st s (Convert r m)) h in asked-numbered st s r (target_of (held_mode st.table s r) m) i (not-false _ p.0)
 act-numbered st s Poll i h = i
 act-numbered st s (Release r) i h = let p = all-pass (tests st s (Release r)) h in released-numbered st s r i (is-none _ p.1.0)
 act-numbered st s Commit i h = ended-numbered st s i

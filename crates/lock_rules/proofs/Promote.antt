@@ -1,5 +1,6 @@
 -- What promotions keep, and what they bring about.
-use Rattle.std.proofs.Common.{◌≡◌, ℕ, ◌<◌, ◌≤◌, Bool, true, false, cond, eqb, ◌||◌, inl, inr, List, [], ◌∷◌, length, Some, refl, sym, ◌∙◌, ap, arith}
+use Rattle.std.proofs.Common.{◌≡◌, ℕ, ◌<◌, ◌≤◌, Bool, true, false, cond, eqb, inl, inr, List, [], ◌∷◌, length, Some, refl, sym, ◌∙◌, ap, arith}
+use Rattle.std.proofs.lemmas.Bool.{or_from}
 use Rattle.std.specs.List.{list_any}
 use Rattle.std.proofs.lemmas.Bool.Decides.{nat_tests, Decides-eqb}
 use Rattle.lock_modes.specs.declared.Mode.{Mode}
@@ -130,10 +131,6 @@ all-promoted (r ∷ rs) t i =
       follows = follows-trans t (promoted r t) (promoted_all rs (promoted r t)) first.follows rest.follows;
       unfit = λ h. rest.unfit (λ x n. elim (same_path_tells r x) [
         | inl p ↦ rw (← p.1) first.there
-        | inr m ↦ first.elsewhere x m (h x (neither (same_path r x) (among rs x) m n))
+        | inr m ↦ first.elsewhere x m (h x (or_from (same_path r x) (among rs x) m n))
       ]);
     }
-  where
-    neither : (a b : Bool) → a ≡ false → b ≡ false → (a || b) ≡ false
-    neither true b h k = h
-    neither false b h k = k

@@ -1,6 +1,6 @@
 -- What comes of a lock or a conversion that is asked and not refused.
 use Rattle.std.proofs.Common.{◌≡◌, ◌≢◌, ℕ, ◌+◌, ◌<◌, Bool, true, false, cond, not, ◌&&◌, ◌||◌, ◌⊎◌, inl, inr, List, [], ◌∷◌, ◌++◌, length, Option, Some, None, is_some, refl, sym, ◌∙◌, ap, arith, subst, length-append}
-use Rattle.std.proofs.lemmas.Bool.{and_parts, and_from}
+use Rattle.std.proofs.lemmas.Bool.{and_parts, and_from, or_right, not-false}
 use Rattle.lock_modes.specs.declared.Mode.{Mode}
 use Rattle.lock_modes.specs.Order.{at_or_below}
 use Rattle.lock_modes.proofs.Order.{at_or_below-antisym, sup_least}
@@ -54,12 +54,8 @@ none-empty (q ∷ qs) e = cc
 free-granted : (t : Table) (s : ℕ) (r : List ℕ) (k : Mode) → IsFree t s r k → is_granted t s r k ≡ true
 free-granted t s r k f = and_from (fits t s r k) (is_some (held_mode t s r) || is_empty (queue t r)) f.0 (elim f.1 [
   | inl n ↦ ap (λ (b : Bool). b || is_empty (queue t r)) (some (held_mode t s r) n)
-  | inr e ↦ or-true (is_some (held_mode t s r)) (is_empty (queue t r)) (none-empty (queue t r) e)
+  | inr e ↦ or_right (is_some (held_mode t s r)) (is_empty (queue t r)) (none-empty (queue t r) e)
 ])
-  where
-    or-true : (b c : Bool) → c ≡ true → (b || c) ≡ true
-    or-true true c e = refl
-    or-true false c e = e
 
 granted-free : (t : Table) (s : ℕ) (r : List ℕ) (k : Mode) → is_granted t s r k ≡ true → IsFree t s r k
 granted-free t s r k h =
@@ -203,10 +199,6 @@ convert-asks st s r m h =
 
 -- what is told is held
 
-opens : (b : Bool) → not b ≡ false → b ≡ true
-opens true e = refl
-opens false e = cc
-
 unlike : (w : Why) (j : Mode) → Refused w ≡ Granted j → ⊥
 unlike w j e = cc
 
@@ -217,7 +209,7 @@ lock-holds st once s r m j = go (first_failing (tests st s (Lock r m))) refl
     go (Some w) e g = absurd (unlike w j g)
     go None e g =
         let p = all-pass (tests st s (Lock r m)) e in
-        ask-held st s r (target_of (held_mode st.table s r) m) once (is-none (request_of s st.table.waits) p.1.0) (opens (is_open st s) p.0) (below-sup (mode_or_nothing (held_mode st.table s r)) m) j g
+        ask-held st s r (target_of (held_mode st.table s r) m) once (is-none (request_of s st.table.waits) p.1.0) (not-false (is_open st s) p.0) (below-sup (mode_or_nothing (held_mode st.table s r)) m) j g
 
 pub convert-holds : (st : State) → IsOnce st.table.waits → IsConversionHeld st
 convert-holds st once s r m j = go (first_failing (tests st s (Convert r m))) refl
@@ -226,7 +218,7 @@ convert-holds st once s r m j = go (first_failing (tests st s (Convert r m))) re
     go (Some w) e g = absurd (unlike w j g)
     go None e g =
         let p = all-pass (tests st s (Convert r m)) e in
-        ask-held st s r (target_of (held_mode st.table s r) m) once (is-none (request_of s st.table.waits) p.1.0) (opens (is_open st s) p.0) (below-sup (mode_or_nothing (held_mode st.table s r)) m) j g
+        ask-held st s r (target_of (held_mode st.table s r) m) once (is-none (request_of s st.table.waits) p.1.0) (not-false (is_open st s) p.0) (below-sup (mode_or_nothing (held_mode st.table s r)) m) j g
 
 -- a lock on what is held
 

@@ -3,7 +3,7 @@ use Rattle.std.proofs.Common.{◌≡◌, ℕ, ◌≤◌, Bool, true, false, cond
 use Rattle.std.specs.Prelude.{filter, is_some}
 use Rattle.std.specs.List.{list_all}
 use Rattle.std.proofs.lemmas.Bool.Decides.{nat_tests, Decides-eqb}
-use Rattle.std.proofs.lemmas.Bool.{and_parts}
+use Rattle.std.proofs.lemmas.Bool.{and_parts, not-false, or_parts}
 use Rattle.lock_modes.specs.declared.Mode.{Mode}
 use Rattle.lock_modes.specs.Order.{IsAtOrBelow, at_or_below, need_of}
 use Rattle.lock_modes.proofs.Order.{order-from}
@@ -100,7 +100,7 @@ unfit-each s m (c ∷ hs) h a = elim (bool_cases (eqb c.0 s || are_compatible m 
   | inl e ↦
       let w = unfit-each s m hs (later _ _ e h) p.1 in
       (w.0, w.1, beyond w.0 w.2 (bool_cases (eqb c.0 w.0)))
-  | inr e ↦ let q = neither (eqb c.0 s) (are_compatible m c.1) e in (c.0, q.0, ap (λ (b : Bool). conflicts m (cond b (Some c.1) (seek c.0 hs))) (eqb-refl c.0) ∙ ap not q.1)
+  | inr e ↦ let q = or_parts (eqb c.0 s) (are_compatible m c.1) e in (c.0, q.0, ap (λ (b : Bool). conflicts m (cond b (Some c.1) (seek c.0 hs))) (eqb-refl c.0) ∙ ap not q.1)
 ]
   where
     p : (after c.0 hs ≡ true) × (ascend hs ≡ true)
@@ -109,11 +109,6 @@ unfit-each s m (c ∷ hs) h a = elim (bool_cases (eqb c.0 s || are_compatible m 
     later : (x y : Bool) → x ≡ true → (x && y) ≡ false → y ≡ false
     later true y e h = h
     later false y e h = cc
-
-    neither : (x y : Bool) → (x || y) ≡ false → (x ≡ false) × (y ≡ false)
-    neither true y e = cc
-    neither false true e = cc
-    neither false false e = (refl, refl)
 
     beyond : (u : ℕ) → conflicts m (seek u hs) ≡ true → (eqb c.0 u ≡ true) ⊎ (eqb c.0 u ≡ false) → conflicts m (cond (eqb c.0 u) (Some c.1) (seek u hs)) ≡ true
     beyond u k (inl e) = let f = ap (λ (i : ℕ). conflicts m (seek i hs)) (sym ((Decides-eqb c.0 u).0 e)) ∙ ap (conflicts m) (seek-after c.0 hs p.0) in absurd (true≢false k f)
@@ -221,11 +216,7 @@ granted-rises s r m t h u x = elim (bool_cases (eqb u s)) [
 
 lacks-at : (b : Bool) (n a c : Mode) → at_or_below a c ≡ true → (b && not (at_or_below n a)) ≡ false → (b && not (at_or_below n c)) ≡ false
 lacks-at false n a c h k = refl
-lacks-at true n a c h k = ap not (below-trans n a c (flip _ k) h)
-  where
-    flip : (x : Bool) → not x ≡ false → x ≡ true
-    flip true e = refl
-    flip false e = cc
+lacks-at true n a c h k = ap not (below-trans n a c (not-false _ k) h)
 
 pub lacks-raised : (t t' : Table) (s : ℕ) (r : List ℕ) (m : Mode) → at_or_below (mode_or_nothing (held_mode t s (parent_of r))) (mode_or_nothing (held_mode t' s (parent_of r))) ≡ true → lacks_parent t s r m ≡ false → lacks_parent t' s r m ≡ false
 lacks-raised t t' s r m up h = lacks-at (has_parent r) (need_of m) (mode_or_nothing (held_mode t s (parent_of r))) (mode_or_nothing (held_mode t' s (parent_of r))) up h
@@ -246,11 +237,7 @@ granted-sound s r m t i up under fit = altered-sound s t (granted s r m t) (gran
     ])
   where
     compatible : (m l : Mode) → not (are_compatible m l) ≡ false → are_compatible m l ≡ true
-    compatible m l h = flip (are_compatible m l) h
-      where
-        flip : (x : Bool) → not x ≡ false → x ≡ true
-        flip true e = refl
-        flip false e = cc
+    compatible m l h = not-false (are_compatible m l) h
 
 -- who holds nothing holds no more than any mode
 pub none-below : (o : Option Mode) (k : Mode) → o ≡ None → at_or_below (mode_or_nothing o) k ≡ true
@@ -260,16 +247,8 @@ none-below o k e = ap (λ (p : Option Mode). at_or_below (mode_or_nothing p) k) 
 
 under-parent : (b : Bool) (m : Mode) (o : Option Mode) → is_nothing m ≡ false → (b && not (at_or_below (need_of m) (mode_or_nothing o))) ≡ false → b ≡ true → (k : Mode) × (o ≡ Some k) × IsAtOrBelow (need_of m) k
 under-parent false m o n h e = absurd (cc)
-under-parent true m None n h e = absurd (true≢false (flip _ h) (need-some m n))
-  where
-    flip : (x : Bool) → not x ≡ false → x ≡ true
-    flip true e = refl
-    flip false e = cc
-under-parent true m (Some k) n h e = (k, refl, order-from (need_of m) k (flip _ h))
-  where
-    flip : (x : Bool) → not x ≡ false → x ≡ true
-    flip true e = refl
-    flip false e = cc
+under-parent true m None n h e = absurd (true≢false (not-false _ h) (need-some m n))
+under-parent true m (Some k) n h e = (k, refl, order-from (need_of m) k (not-false _ h))
 
 pub stands-under : (t : Table) (s : ℕ) (r : List ℕ) (m : Mode) → Stands t s r m → IsUnderParent t s r m
 stands-under t s r m h p = under-parent (has_parent r) m (held_mode t s (parent_of r)) h.1 h.0 p

@@ -1,5 +1,6 @@
 -- What fits, who holds, and what a grant is, in the words of the contracts.
-use Rattle.std.proofs.Common.{◌≡◌, ◌≢◌, ℕ, Bool, true, false, not, inl, inr, List, Option, Some, None, refl, sym, ◌∙◌, ap}
+use Rattle.std.proofs.Common.{◌≡◌, ◌≢◌, ℕ, true, not, inl, inr, List, Option, Some, None, refl, sym, ◌∙◌, ap}
+use Rattle.std.proofs.lemmas.Bool.{not-false}
 use Rattle.lock_modes.specs.declared.Mode.{Mode}
 use Rattle.lock_modes.specs.Compatibility.{IsCompatible, are_compatible}
 use Rattle.lock_modes.proofs.Compatibility.{compatible-from, compatible-tests}
@@ -11,15 +12,11 @@ use Rattle.lock_rules.proofs.Alters.{true≢false}
 use Rattle.lock_rules.specs.Waits.{conflicts}
 use Rattle.lock_rules.proofs.Sound.{IsSound, fits-tells, unfit-some}
 
-flip : (b : Bool) → not b ≡ false → b ≡ true
-flip true e = refl
-flip false e = cc
-
 pub fit-tells : (st : State) → IsSound st.table → DoesFitTell st
 fit-tells st i s r m = (told, fit)
   where
     told : fits st.table s r m ≡ true → (u : ℕ) (k : Mode) → u ≢ s → held_mode st.table u r ≡ Some k → IsCompatible m k
-    told h u k n e = compatible-from m k (flip (are_compatible m k) (ap (conflicts m) (sym e) ∙ fits-tells st.table s r m h u (other s u n)))
+    told h u k n e = compatible-from m k (not-false (are_compatible m k) (ap (conflicts m) (sym e) ∙ fits-tells st.table s r m h u (other s u n)))
 
     clash : (o : Option Mode) → conflicts m o ≡ true → ((k : Mode) → o ≡ Some k → IsCompatible m k) → ⊥
     clash None c h = absurd (cc)

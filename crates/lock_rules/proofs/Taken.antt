@@ -1,7 +1,7 @@
 -- What a release and the end of a transaction take away, and what the others have then.
 use Rattle.std.proofs.Common.{◌≡◌, ◌≢◌, ℕ, Bool, true, false, cond, eqb, ◌||◌, ◌⊎◌, inl, inr, List, [], ◌∷◌, ◌++◌, length, Option, Some, None, map, refl, sym, ◌∙◌, ap, arith, subst, is_some}
 use Rattle.std.proofs.lemmas.Bool.Decides.{nat_tests, Decides-eqb}
-use Rattle.std.proofs.lemmas.Bool.{or_left}
+use Rattle.std.proofs.lemmas.Bool.{or_left, or_right}
 use Rattle.lock_modes.specs.declared.Mode.{Mode}
 use Rattle.lock_modes.specs.Order.{at_or_below}
 use Rattle.lock_modes.proofs.Order.{order-from}
@@ -107,10 +107,6 @@ front-served r (q ∷ qs) t o e u = go (fits t q.session q.resource q.mode) (fro
 promoted-served : (r : List ℕ) (t : Table) → IsOnce t.waits → (u : ℕ) → IsServed u (λ x. x ≡ r) t (promoted r t)
 promoted-served r t o u = front-served r (queue t r) t o refl u
 
-or-right : (b c : Bool) → c ≡ true → (b || c) ≡ true
-or-right true c e = refl
-or-right false c e = e
-
 pub all-served : (rs : List (List ℕ)) (t : Table) → IsOnce t.waits → (u : ℕ) → IsServed u (λ x. among rs x ≡ true) t (promoted_all rs t)
 all-served [] t o u = inl (refl-same u t)
 all-served (r ∷ rs) t o u =
@@ -118,7 +114,7 @@ all-served (r ∷ rs) t o u =
     elim (promoted-served r t o u) [
       | inl a ↦ elim (after-same u (λ x. among rs x ≡ true) t (promoted r t) (promoted_all rs (promoted r t)) a rest) [
         | inl b ↦ inl b
-        | inr p ↦ inr (p.0, p.1, or-right (same_path r p.0.resource) (among rs p.0.resource) p.2)
+        | inr p ↦ inr (p.0, p.1, or_right (same_path r p.0.resource) (among rs p.0.resource) p.2)
       ]
       | inr p ↦ after-promotion u p.0 (λ x. among rs x ≡ true) (λ x. among (r ∷ rs) x ≡ true) t (promoted r t) (promoted_all rs (promoted r t)) p.1 (or_left (same_path r p.0.resource) (among rs p.0.resource) (rw p.2 (same_path-refl r))) rest
     ]

@@ -1,8 +1,9 @@
 use Rattle.std.proofs.Common.{◌∙◌, sym, subst, refl, IsSome}
+use Rattle.std.proofs.lemmas.Bool.{not-true, not-false}
 use Rattle.lock_desk.specs.Cells.{View, view_of, is_busy}
 use Rattle.lock_desk.specs.Rows.{standings_of, DoAgree}
 use Rattle.lock_desk.proofs.Seen.{found, kept-at}
-use Rattle.lock_desk.proofs.GivenBack.{free-absent, agree-absent, view-left, once-there, free-kept, free-idle, agree-there, idle-told, busy-told}
+use Rattle.lock_desk.proofs.GivenBack.{free-absent, agree-absent, view-left, once-there, free-kept, free-idle, agree-there}
 use Rattle.lock_desk.proofs.releases.free.Goals as goal
 
 pub returns-in_default-clause-cells : goal.returns-in_default-clause-cells
@@ -38,7 +39,7 @@ returns-then-is_idle-clause-cells c =
     let there = c.in-Some.ensures.value ∙ found _ c.same_path_is_equality.ensures.code c.args.resource c.args.cells.now.entries in
     let lent = ((c.get_mut.follows.holds new).3 (subst IsSome c.in-Some.ensures.value refl)).0 in
     free-idle c.args.part c.args.resource c.args.session c.args.cells.now.entries c.in-Some.cell.now c.give_up.new.cell there c.give_up.ensures.view
-    new c.promote.ensures.view _ c.same_path_is_equality.ensures.code c.requires.cells c.swap_remove.new.self.entries _ (idle-told (is_busy (view_of new)) (sym c.is_idle.ensures ∙ c.if-is_idle.true)) lent c.swap_remove.ensures.updates.0
+    new c.promote.ensures.view _ c.same_path_is_equality.ensures.code c.requires.cells c.swap_remove.new.self.entries _ (not-true (is_busy (view_of new)) (sym c.is_idle.ensures ∙ c.if-is_idle.true)) lent c.swap_remove.ensures.updates.0
 
 pub returns-else-is_idle-clause-cells : goal.returns-else-is_idle-clause-cells
 returns-else-is_idle-clause-cells c =
@@ -46,7 +47,7 @@ returns-else-is_idle-clause-cells c =
     let there = c.in-Some.ensures.value ∙ found _ c.same_path_is_equality.ensures.code c.args.resource c.args.cells.now.entries in
     let lent = ((c.get_mut.follows.holds new).3 (subst IsSome c.in-Some.ensures.value refl)).0 in
     free-kept c.args.part c.args.resource c.args.session c.args.cells.now.entries c.in-Some.cell.now c.give_up.new.cell there c.give_up.ensures.view
-    new c.promote.ensures.view _ c.same_path_is_equality.ensures.code c.requires.cells _ c.promote.ensures.room c.promote.ensures.once (busy-told (is_busy (view_of new)) (sym c.is_idle.ensures ∙ c.if-is_idle.false)) lent
+    new c.promote.ensures.view _ c.same_path_is_equality.ensures.code c.requires.cells _ c.promote.ensures.room c.promote.ensures.once (not-false (is_busy (view_of new)) (sym c.is_idle.ensures ∙ c.if-is_idle.false)) lent
 
 pub returns-then-is_idle-clause-agree : goal.returns-then-is_idle-clause-agree
 returns-then-is_idle-clause-agree c =
