@@ -8,9 +8,9 @@ use Rattle.std.proofs.lemmas.Bool.{and_parts}
 use Rattle.lock_tree.specs.Paths.{same_path}
 use Rattle.lock_rules.specs.State as rules
 use Rattle.lock_rules.specs.Queue.{queue, conversions, fresh_requests}
-use Rattle.lock_rules.specs.Waits.{wanted}
-use Rattle.lock_rules.proofs.Lists.{bool_cases, same_path-refl, same_path_tells, times, IsOrdered, after, ascend}
-use Rattle.lock_rules.proofs.Sound.{IsSound}
+use Rattle.lock_rules.specs.Waits.{resource_of_request}
+use Rattle.lock_rules.specs.Sound.{IsOrdered, IsSound, after, ascend, times}
+use Rattle.lock_rules.proofs.Lists.{bool_cases, same_path-refl, same_path_tells}
 use Rattle.lock_desk.specs.Cells.{has_claim, has_path, AreApart}
 use Rattle.lock_desk.specs.Rows.{is_wanted, paths_but}
 use Rattle.lock_desk.specs.Shows.{short, claims_on}
@@ -37,10 +37,10 @@ two-kinds u x p [] = refl
 two-kinds u x p (q ∷ ws) = grind (arith, bool_cases (eqb q.session u), bool_cases (same_path q.resource x), bool_cases (p q), two-kinds u x p ws)
 
 -- who waits for a resource stands in its queue
-pub queue-has : (u : ℕ) (x : List ℕ) (t : rules.Table) → has_claim u (map short (queue t x)) ≡ waits_on u x t.waits
+pub queue-has : (u : ℕ) (x : List ℕ) (t : rules.Table) → has_claim u (map short (queue t x)) ≡ waits_on u x t.requests
 queue-has u x t =
     has-append u (conversions t x) (fresh_requests t x)
-    ∙ two-kinds u x (λ q. is_some (rules.held_mode t q.session x)) t.waits
+    ∙ two-kinds u x (λ q. is_some (rules.held_mode t q.session x)) t.requests
 
 waits_on-request : (u : ℕ) (ws : List rules.Claim) (q : rules.Claim) → rules.request_of u ws ≡ Some q → waits_on u q.resource ws ≡ true
 waits_on-request u [] q h = absurd (cc)
@@ -67,30 +67,30 @@ waits_on-none u x [] h = refl
 waits_on-none u x (q ∷ ws) h = grind (arith, nat_tests, bool_cases (same_path q.resource x), waits_on-none u x ws)
 
 -- a session that waits once waits where its request is
-pub waits_on-once : (u : ℕ) (x : List ℕ) (ws : List rules.Claim) → times u ws ≤ 1 → waits_on u x ws ≡ has_path x (wanted (rules.request_of u ws))
+pub waits_on-once : (u : ℕ) (x : List ℕ) (ws : List rules.Claim) → times u ws ≤ 1 → waits_on u x ws ≡ has_path x (resource_of_request (rules.request_of u ws))
 waits_on-once u x [] h = refl
 waits_on-once u x (q ∷ ws) h = go (eqb q.session u) refl h (waits_on-once u x ws) (waits_on-none u x ws)
   where
-    go : (b : Bool) → eqb q.session u ≡ b → cond b 1 0 + times u ws ≤ 1 → (times u ws ≤ 1 → waits_on u x ws ≡ has_path x (wanted (rules.request_of u ws))) → (times u ws ≡ 0 → waits_on u x ws ≡ false)
-        → ((b && same_path q.resource x) || waits_on u x ws) ≡ has_path x (wanted (cond b (Some q) (rules.request_of u ws)))
+    go : (b : Bool) → eqb q.session u ≡ b → cond b 1 0 + times u ws ≤ 1 → (times u ws ≤ 1 → waits_on u x ws ≡ has_path x (resource_of_request (rules.request_of u ws))) → (times u ws ≡ 0 → waits_on u x ws ≡ false)
+        → ((b && same_path q.resource x) || waits_on u x ws) ≡ has_path x (resource_of_request (cond b (Some q) (rules.request_of u ws)))
     go true e h next none = ap (λ (c : Bool). same_path q.resource x || c) (none (omega (arith, h)))
     go false e h next none = next (omega (arith, h))
 
 -- a row tells whether its session waits
-pub waits-told : (u : ℕ) (t : rules.Table) (o : Option (List ℕ)) → ((x : List ℕ) → is_wanted x o ≡ has_claim u (map short (queue t x))) → is_some o ≡ is_some (rules.request_of u t.waits)
-waits-told u t o h = both-ways (is_some o) (is_some (rules.request_of u t.waits)) (there o h) (back (rules.request_of u t.waits) refl)
+pub waits-told : (u : ℕ) (t : rules.Table) (o : Option (List ℕ)) → ((x : List ℕ) → is_wanted x o ≡ has_claim u (map short (queue t x))) → is_some o ≡ is_some (rules.request_of u t.requests)
+waits-told u t o h = both-ways (is_some o) (is_some (rules.request_of u t.requests)) (there o h) (back (rules.request_of u t.requests) refl)
   where
-    there : (o : Option (List ℕ)) → ((x : List ℕ) → is_wanted x o ≡ has_claim u (map short (queue t x))) → is_some o ≡ true → is_some (rules.request_of u t.waits) ≡ true
+    there : (o : Option (List ℕ)) → ((x : List ℕ) → is_wanted x o ≡ has_claim u (map short (queue t x))) → is_some o ≡ true → is_some (rules.request_of u t.requests) ≡ true
     there None h e = absurd (cc)
-    there (Some p) h e = waits_on-some u p t.waits (sym (queue-has u p t) ∙ (sym (h p) ∙ same_path-refl p))
+    there (Some p) h e = waits_on-some u p t.requests (sym (queue-has u p t) ∙ (sym (h p) ∙ same_path-refl p))
 
     some-wanted : (x : List ℕ) (o : Option (List ℕ)) → is_wanted x o ≡ true → is_some o ≡ true
     some-wanted x None e = cc
     some-wanted x (Some p) e = refl
 
-    back : (q : Option rules.Claim) → rules.request_of u t.waits ≡ q → is_some q ≡ true → is_some o ≡ true
+    back : (q : Option rules.Claim) → rules.request_of u t.requests ≡ q → is_some q ≡ true → is_some o ≡ true
     back None e k = absurd (cc)
-    back (Some q) e k = some-wanted q.resource o (h q.resource ∙ (queue-has u q.resource t ∙ waits_on-request u t.waits q e))
+    back (Some q) e k = some-wanted q.resource o (h q.resource ∙ (queue-has u q.resource t ∙ waits_on-request u t.requests q e))
 
 -- how many locks a session holds
 

@@ -9,12 +9,13 @@ use Rattle.lock_tree.specs.Paths.{same_path}
 use Rattle.lock_rules.specs.declared.calls.TheConstants.{MAX_LOCKS}
 use Rattle.lock_rules.proofs.Lists.{bool_cases, same_path_tells}
 use Rattle.lock_desk.specs.declared.cells.Part.TheVariants as part
-use Rattle.lock_desk.specs.declared.rows.Transaction.{Transaction}
+use Rattle.lock_rules.specs.declared.calls.Transaction.{Transaction}
+use Rattle.lock_rules.specs.Waits.{doom}
 use Rattle.lock_desk.specs.declared.rows.Request.{Request}
 use Rattle.lock_desk.specs.declared.rows.Row.{Row}
 use Rattle.lock_desk.specs.declared.desk.Desk.{Desk}
 use Rattle.lock_desk.specs.Cells.{View, has_claim, given_up, freed_view, cell_view, has_path, AreApart, AreKeptCells, CellsBecame}
-use Rattle.lock_desk.specs.Rows.{Standing, doomed, resource_asked, wanted_in, standing_of, standing_at, is_wanted, locks_to_come, IsOfKind, IsKeptRow, AreSameOrAdmitted, DoAgree}
+use Rattle.lock_desk.specs.Rows.{Standing, resource_asked, wanted_in, standing_of, standing_at, is_wanted, locks_to_come, IsOfKind, IsKeptRow, AreSameOrAdmitted, DoAgree}
 use Rattle.lock_desk.specs.Changes.{seen, standings, standing, unlocked_view, cancelled_view, IsWhole, HasFreed, HasGivenBackAll, HasCancelled, HasDoomed, HasBegun, HasEnded}
 use Rattle.lock_desk.proofs.Standings.{standings-set, standing-here, length-standings}
 use Rattle.lock_desk.proofs.Wholes.{own-standing, other-standing, GivesUp}
@@ -215,18 +216,18 @@ same-cancelled s d e w idle count rows cells =
 
 -- a session is doomed once its request was cancelled
 pub has-doomed : (s : ℕ) (d f e : Desk) → HasCancelled s d f → e.count ≡ f.count → ((q : List ℕ) → seen q e ≡ seen q f)
-    → ((u : ℕ) → (standing u e).transaction ≡ cond (eqb u s) (doomed (standing s f).transaction) (standing u f).transaction) → HasDoomed s d e
+    → ((u : ℕ) → (standing u e).transaction ≡ cond (eqb u s) (doom (standing s f).transaction) (standing u f).transaction) → HasDoomed s d e
 has-doomed s d f e c count views transactions = record {
   count = count ∙ c.count;
   transactions = λ u. transactions u ∙ go u (eqb u s) refl;
   views = λ q. views q ∙ c.views q;
 }
   where
-    go : (u : ℕ) (b : Bool) → eqb u s ≡ b → cond b (doomed (standing s f).transaction) (standing u f).transaction ≡ cond b (doomed (standing u d).transaction) (standing u d).transaction
-    go u true e = ap doomed (c.transactions s ∙ ap (λ (i : ℕ). (standing i d).transaction) (sym ((Decides-eqb u s).0 e)))
+    go : (u : ℕ) (b : Bool) → eqb u s ≡ b → cond b (doom (standing s f).transaction) (standing u f).transaction ≡ cond b (doom (standing u d).transaction) (standing u d).transaction
+    go u true e = ap doom (c.transactions s ∙ ap (λ (i : ℕ). (standing i d).transaction) (sym ((Decides-eqb u s).0 e)))
     go u false e = c.transactions u
 
 -- which transaction that is
-pub doomed-each : (f : Desk) (s : ℕ) (row : Row) (o : Option Transaction) → s < length f.rows.items → row ≡ get_or f.rows.items s row → o ≡ doomed row.transaction
-    → (e : Desk) → ((u : ℕ) → (standing u e).transaction ≡ cond (eqb u s) o (standing u f).transaction) → (u : ℕ) → (standing u e).transaction ≡ cond (eqb u s) (doomed (standing s f).transaction) (standing u f).transaction
-doomed-each f s row o lt at is e h u = h u ∙ ap (λ (x : Option Transaction). cond (eqb u s) x (standing u f).transaction) (is ∙ ap (λ (x : Standing). doomed x.transaction) (sym (standing-here f.rows.items s row lt at)))
+pub doomed-each : (f : Desk) (s : ℕ) (row : Row) (o : Option Transaction) → s < length f.rows.items → row ≡ get_or f.rows.items s row → o ≡ doom row.transaction
+    → (e : Desk) → ((u : ℕ) → (standing u e).transaction ≡ cond (eqb u s) o (standing u f).transaction) → (u : ℕ) → (standing u e).transaction ≡ cond (eqb u s) (doom (standing s f).transaction) (standing u f).transaction
+doomed-each f s row o lt at is e h u = h u ∙ ap (λ (x : Option Transaction). cond (eqb u s) x (standing u f).transaction) (is ∙ ap (λ (x : Standing). doom x.transaction) (sym (standing-here f.rows.items s row lt at)))

@@ -2,8 +2,8 @@
 use Rattle.std.proofs.Common.{◌≡◌, ℕ, zero, suc, ◌+◌, ◌<◌, ◌≤◌, false, eqb, inl, inr, List, [], ◌∷◌, length, Option, Some, None, is_some, refl, sym, ◌∙◌, ap, arith}
 use Rattle.std.proofs.lemmas.Bool.Decides.{nat_tests, Decides-eqb}
 use Rattle.lock_rules.specs.State as rules
-use Rattle.lock_rules.proofs.Lists.{bool_cases, same_path-refl, times, times-none, times-claims_but, IsOnce}
-use Rattle.lock_rules.proofs.Sound.{IsSound}
+use Rattle.lock_rules.specs.Sound.{IsOnce, IsSound, times}
+use Rattle.lock_rules.proofs.Lists.{bool_cases, same_path-refl, times-none, times-claims_but}
 use Rattle.lock_rules.proofs.Steps.{is-none}
 use Rattle.lock_desk.specs.declared.desk.Desk.{Desk}
 use Rattle.lock_desk.specs.Cells.{View, has_claim}
@@ -47,8 +47,8 @@ pigeons (suc n) qs o z h =
         differ e = grind (arith, nat_tests)
 
 module _ (d : Desk) (st : rules.State) (w : IsWhole d) (i : IsSound st.table) (h : Shows d st) where
-  idle-times : (s : ℕ) → is_some (standing s d).wanted ≡ false → times s st.table.waits ≡ 0
-  idle-times s e = times-none s st.table.waits (is-none (rules.request_of s st.table.waits) (sym (waits-told s st.table (standing s d).wanted (λ x. (w.agree x).wanted s ∙ ap (λ (v : View). has_claim s v.waiting) (h.views x))) ∙ e))
+  idle-times : (s : ℕ) → is_some (standing s d).wanted ≡ false → times s st.table.requests ≡ 0
+  idle-times s e = times-none s st.table.requests (is-none (rules.request_of s st.table.requests) (sym (waits-told s st.table (standing s d).wanted (λ x. (w.agree x).wanted s ∙ ap (λ (v : View). has_claim s v.waiting) (h.views x))) ∙ e))
 
   nobody-waits : is_some (standing 0 d).wanted ≡ false
   nobody-waits = go (standing 0 d).wanted refl
@@ -65,5 +65,5 @@ module _ (d : Desk) (st : rules.State) (w : IsWhole d) (i : IsSound st.table) (h
   beyond (x ∷ ss) zero le = absurd (omega arith)
   beyond (x ∷ ss) (suc s) le = beyond ss s (omega arith)
 
-  pub few-waits : (n : ℕ) → n + 1 ≡ length d.rows.items → length st.table.waits ≤ n
-  few-waits n long = pigeons n st.table.waits i.once (idle-times 0 nobody-waits) (λ s lt. idle-times s (beyond (standings d) s (omega (arith, lt, long, length-standings d.rows.items))))
+  pub few-waits : (n : ℕ) → n + 1 ≡ length d.rows.items → length st.table.requests ≤ n
+  few-waits n long = pigeons n st.table.requests i.once (idle-times 0 nobody-waits) (λ s lt. idle-times s (beyond (standings d) s (omega (arith, lt, long, length-standings d.rows.items))))

@@ -8,9 +8,9 @@ use Rattle.lock_modes.specs.Compatibility.{are_compatible}
 use Rattle.lock_tree.specs.Paths.{same_path}
 use Rattle.lock_rules.specs.State as rules
 use Rattle.lock_rules.specs.Queue.{queue}
-use Rattle.lock_rules.specs.Waits.{conflicts, stands_before, keeps_waiting, waits_for, wanted}
-use Rattle.lock_rules.proofs.Lists.{bool_cases, same_path-refl, same_path-true, request_of-session, times, after, ascend}
-use Rattle.lock_rules.proofs.Sound.{IsSound}
+use Rattle.lock_rules.specs.Waits.{conflicts, stands_before, keeps_waiting, waits_for, resource_of_request}
+use Rattle.lock_rules.specs.Sound.{IsSound, after, ascend, times}
+use Rattle.lock_rules.proofs.Lists.{bool_cases, same_path-refl, same_path-true, request_of-session}
 use Rattle.lock_rules.proofs.Waiting.{request_of-filter, request_of-front, request_of-rest}
 use Rattle.lock_desk.specs.declared.cells.Claim.{Claim}
 use Rattle.lock_desk.specs.declared.desk.Desk.{Desk}
@@ -67,7 +67,7 @@ lost-request s p (c ∷ qs) q o h e = go (eqb c.session s) (p c) refl refl o h (
     go false false f g o h next none = next (omega (arith, o)) h e
 
 -- a session's request stands in the queue of its resource
-request-queued : (s : ℕ) (t : rules.Table) (q : rules.Claim) → times s t.waits ≤ 1 → rules.request_of s t.waits ≡ Some q → rules.request_of s (queue t q.resource) ≡ Some q
+request-queued : (s : ℕ) (t : rules.Table) (q : rules.Claim) → times s t.requests ≤ 1 → rules.request_of s t.requests ≡ Some q → rules.request_of s (queue t q.resource) ≡ Some q
 request-queued s t q o h = go (is_some (rules.held_mode t q.session q.resource)) refl
   where
     r : List ℕ
@@ -79,11 +79,11 @@ request-queued s t q o h = go (is_some (rules.held_mode t q.session q.resource))
     p' : rules.Claim → Bool
     p' c = same_path c.resource r && not (is_some (rules.held_mode t c.session r))
 
-    go : (b : Bool) → is_some (rules.held_mode t q.session r) ≡ b → rules.request_of s (filter p t.waits ++ filter p' t.waits) ≡ Some q
-    go true e = request_of-front s (filter p t.waits) (filter p' t.waits) q (request_of-filter s p t.waits q h (and_from (same_path r r) (is_some (rules.held_mode t q.session r)) (same_path-refl r) e))
+    go : (b : Bool) → is_some (rules.held_mode t q.session r) ≡ b → rules.request_of s (filter p t.requests ++ filter p' t.requests) ≡ Some q
+    go true e = request_of-front s (filter p t.requests) (filter p' t.requests) q (request_of-filter s p t.requests q h (and_from (same_path r r) (is_some (rules.held_mode t q.session r)) (same_path-refl r) e))
     go false e =
-        request_of-rest s (filter p t.waits) (filter p' t.waits) (lost-request s p t.waits q o h (ap (λ (b : Bool). same_path r r && b) e ∙ and-none (same_path r r)))
-        ∙ request_of-filter s p' t.waits q h (and_from (same_path r r) (not (is_some (rules.held_mode t q.session r))) (same_path-refl r) (ap not e))
+        request_of-rest s (filter p t.requests) (filter p' t.requests) (lost-request s p t.requests q o h (ap (λ (b : Bool). same_path r r && b) e ∙ and-none (same_path r r)))
+        ∙ request_of-filter s p' t.requests q h (and_from (same_path r r) (not (is_some (rules.held_mode t q.session r))) (same_path-refl r) (ap not e))
       where
         and-none : (b : Bool) → (b && false) ≡ false
         and-none true = refl
@@ -125,7 +125,7 @@ holder-seen s u m (k ∷ hs) h =
 
 module _ (d : Desk) (st : rules.State) (w : IsWhole d) (i : IsSound st.table) (h : Shows d st) where
   -- who keeps a request waiting
-  blocks-request : (s u : ℕ) (q : rules.Claim) → rules.request_of s st.table.waits ≡ Some q → view_blocks s u (view q.resource st.table) ≡ (not (eqb u s) && keeps_waiting st.table u (Some q))
+  blocks-request : (s u : ℕ) (q : rules.Claim) → rules.request_of s st.table.requests ≡ Some q → view_blocks s u (view q.resource st.table) ≡ (not (eqb u s) && keeps_waiting st.table u (Some q))
   blocks-request s u q e =
       let m = mode-short s (queue st.table q.resource) q (request-queued s st.table q (i.once s) e) in
       let a = holder-seen s u q.mode (claims_on q.resource st.table.held) (ascends-seen st.table i q.resource) in
@@ -134,21 +134,21 @@ module _ (d : Desk) (st : rules.State) (w : IsWhole d) (i : IsSound st.table) (h
       ∙ ((λ j. a j || b j)
       ∙ (ap (λ (o : Option Mode). (not (eqb u s) && conflicts q.mode o) || stands_before u s (queue st.table q.resource)) (sym (mode-seen u q.resource st.table.held))
       ∙ (both (eqb u s) refl (conflicts q.mode (rules.held_mode st.table u q.resource))
-      ∙ ap (λ (j : ℕ). not (eqb u s) && (conflicts q.mode (rules.held_mode st.table u q.resource) || stands_before u j (queue st.table q.resource))) (sym (request_of-session s st.table.waits q e)))))
+      ∙ ap (λ (j : ℕ). not (eqb u s) && (conflicts q.mode (rules.held_mode st.table u q.resource) || stands_before u j (queue st.table q.resource))) (sym (request_of-session s st.table.requests q e)))))
     where
       both : (x : Bool) → eqb u s ≡ x → (c : Bool) → ((not x && c) || stands_before u s (queue st.table q.resource)) ≡ (not x && (c || stands_before u s (queue st.table q.resource)))
       both true f c = let g = (Decides-eqb u s).0 f in ap (λ (j : ℕ). stands_before j s (queue st.table q.resource)) g ∙ stands-self s (queue st.table q.resource)
       both false f c = refl
 
-  waits-where : (s : ℕ) (r : List ℕ) → (standing s d).wanted ≡ Some r → (q : rules.Claim) × (rules.request_of s st.table.waits ≡ Some q) × (q.resource ≡ r)
-  waits-where s r e = go (rules.request_of s st.table.waits) refl there
+  waits-where : (s : ℕ) (r : List ℕ) → (standing s d).wanted ≡ Some r → (q : rules.Claim) × (rules.request_of s st.table.requests ≡ Some q) × (q.resource ≡ r)
+  waits-where s r e = go (rules.request_of s st.table.requests) refl there
     where
-      there : has_path r (wanted (rules.request_of s st.table.waits)) ≡ true
+      there : has_path r (resource_of_request (rules.request_of s st.table.requests)) ≡ true
       there =
-          sym (waits_on-once s r st.table.waits (i.once s)) ∙ (sym (queue-has s r st.table)
+          sym (waits_on-once s r st.table.requests (i.once s)) ∙ (sym (queue-has s r st.table)
           ∙ (sym (ap (λ (v : View). has_claim s v.waiting) (h.views r)) ∙ (sym ((w.agree r).wanted s) ∙ (ap (is_wanted r) e ∙ same_path-refl r))))
 
-      go : (o : Option rules.Claim) → rules.request_of s st.table.waits ≡ o → has_path r (wanted o) ≡ true → (q : rules.Claim) × (rules.request_of s st.table.waits ≡ Some q) × (q.resource ≡ r)
+      go : (o : Option rules.Claim) → rules.request_of s st.table.requests ≡ o → has_path r (resource_of_request o) ≡ true → (q : rules.Claim) × (rules.request_of s st.table.requests ≡ Some q) × (q.resource ≡ r)
       go None f k = absurd (cc)
       go (Some q) f k = (q, f, same_path-true q.resource r (or-none (same_path q.resource r) k))
         where
@@ -160,15 +160,15 @@ module _ (d : Desk) (st : rules.State) (w : IsWhole d) (i : IsSound st.table) (h
   pub pairs-shown : (s u : ℕ) → blocks d.cells.entries (standings d) s u ≡ waits_for st.table s u
   pairs-shown s u = go (standing s d).wanted refl
     where
-      none-found : rules.request_of s st.table.waits ≡ None → waits_for st.table s u ≡ false
+      none-found : rules.request_of s st.table.requests ≡ None → waits_for st.table s u ≡ false
       none-found e = ap (λ (o : Option rules.Claim). not (eqb u s) && keeps_waiting st.table u o) e ∙ and-none (not (eqb u s))
         where
           and-none : (b : Bool) → (b && false) ≡ false
           and-none true = refl
           and-none false = refl
 
-      idle : (standing s d).wanted ≡ None → rules.request_of s st.table.waits ≡ None
-      idle e = none (rules.request_of s st.table.waits) (sym (waits-told s st.table (standing s d).wanted (λ x. (w.agree x).wanted s ∙ ap (λ (v : View). has_claim s v.waiting) (h.views x))) ∙ ap is_some e)
+      idle : (standing s d).wanted ≡ None → rules.request_of s st.table.requests ≡ None
+      idle e = none (rules.request_of s st.table.requests) (sym (waits-told s st.table (standing s d).wanted (λ x. (w.agree x).wanted s ∙ ap (λ (v : View). has_claim s v.waiting) (h.views x))) ∙ ap is_some e)
         where
           none : (o : Option rules.Claim) → is_some o ≡ false → o ≡ None
           none None k = refl

@@ -1,9 +1,10 @@
 -- What is seen of a resource that a session leaves altogether: its request first and then its lock, or both at once.
+use Rattle.lock_rules.specs.Sound.{after, ascend}
 use Rattle.std.proofs.Common.{◌≡◌, ℕ, ◌<◌, Bool, true, false, cond, not, eqb, ◌&&◌, ◌||◌, List, [], ◌∷◌, map, refl, sym, ◌∙◌, ap, arith}
 use Rattle.std.proofs.lemmas.Bool.Decides.{nat_tests}
 use Rattle.std.proofs.lemmas.Bool.{and_parts}
 use Rattle.lock_modes.specs.Compatibility.{are_compatible}
-use Rattle.lock_rules.proofs.Lists.{bool_cases, after, after-trans, ascend}
+use Rattle.lock_rules.proofs.Lists.{bool_cases, after-trans}
 use Rattle.lock_desk.specs.declared.cells.Claim.{Claim}
 use Rattle.lock_desk.specs.declared.cells.Part.TheVariants as part
 use Rattle.lock_desk.specs.Cells.{View, has_claim, pair_of, with_claim, without, fits_among, front_granted, promoted_view, freed_view}

@@ -4,17 +4,17 @@ use Rattle.std.proofs.lemmas.Bool.Decides.{nat_tests}
 use Rattle.lock_tree.specs.Paths.{same_path}
 use Rattle.lock_rules.specs.State as rules
 use Rattle.lock_rules.specs.Queue.{queue, locks_but}
-use Rattle.lock_rules.specs.Step.{holds_child, released}
+use Rattle.lock_rules.specs.Step.{holds_child, after_release}
+use Rattle.lock_rules.specs.Sound.{IsSound}
 use Rattle.lock_rules.proofs.Lists.{bool_cases, same_path_tells}
 use Rattle.lock_rules.proofs.Alters.{queue-alters}
-use Rattle.lock_rules.proofs.Sound.{IsSound}
 use Rattle.lock_rules.proofs.Cuts.{one_less, less-alters, less-sound}
 use Rattle.lock_desk.specs.declared.cells.Part.TheVariants as part
 use Rattle.lock_desk.specs.Cells.{without, given_up, freed_view, promoted_view}
 use Rattle.lock_desk.specs.Shows.{short, claims_on, view}
 use Rattle.lock_desk.proofs.Tables.{queue-apart, promoted-seen}
 
-module _ (s : ℕ) (r : List ℕ) (t : rules.Table) (i : IsSound t) (free : holds_child t s r ≡ false) (n : rules.request_of s t.waits ≡ None) where
+module _ (s : ℕ) (r : List ℕ) (t : rules.Table) (i : IsSound t) (free : holds_child t s r ≡ false) (n : rules.request_of s t.requests ≡ None) where
   holders-own : (cs : List rules.Claim) → claims_on r (locks_but s r cs) ≡ without s (claims_on r cs)
   holders-own [] = refl
   holders-own (c ∷ cs) = grind (arith, nat_tests, bool_cases (same_path c.resource r), holders-own cs)
@@ -33,7 +33,7 @@ module _ (s : ℕ) (r : List ℕ) (t : rules.Table) (i : IsSound t) (free : hold
   less-other x h = let hs = holders-other x t.held h in let ws = queue-less x in λ j. record { holders = hs j; waiting = map short (ws j) }
 
   -- what is seen of each resource after a release
-  pub released-seen : (x : List ℕ) → view x (released s r t) ≡ cond (same_path r x) (freed_view part.Lock s (view r t)) (view x t)
+  pub released-seen : (x : List ℕ) → view x (after_release s r t) ≡ cond (same_path r x) (freed_view part.Lock s (view r t)) (view x t)
   released-seen x = promoted-seen r (one_less s r t) (less-sound s r t i n free) x ∙ elim (same_path_tells r x) [
     | inl h ↦ ap (λ (b : Bool). cond b (promoted_view (view x (one_less s r t))) (view x (one_less s r t))) h.0
         ∙ (ap (λ (y : List ℕ). promoted_view (view y (one_less s r t))) (sym h.1) ∙ (ap promoted_view less-own

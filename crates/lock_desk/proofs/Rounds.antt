@@ -5,22 +5,21 @@ use Rattle.std.specs.Prelude.{slice_index}
 use Rattle.waits_for.specs.Pairs.{pairs_of}
 use Rattle.waits_for.specs.Walks.{IsWalk, Reaches, AreOnCircle, IsYoungestOnCircle}
 use Rattle.lock_rules.specs.State as rules
-use Rattle.lock_rules.specs.Waits.{waits_for, reaches, victim_of, doom, after_victim, settled}
+use Rattle.lock_rules.specs.Waits.{waits_for, reaches, victim_of, doom, after_victim, after_victims}
 use Rattle.lock_rules.specs.Laws.{IsVictim}
+use Rattle.lock_rules.specs.Sound.{IsNumbered, IsSound}
 use Rattle.waits_for.proofs.Walks.{reaches-trans}
-use Rattle.lock_rules.proofs.Sound.{IsSound}
 use Rattle.lock_rules.proofs.Cuts.{cancelled-follows}
 use Rattle.lock_rules.proofs.Settle.{reached-walk, reaches-walk}
 use Rattle.lock_rules.proofs.Victims.{victim-most, one-victim}
-use Rattle.lock_rules.proofs.Owners.{IsNumbered, victim-numbered}
+use Rattle.lock_rules.proofs.Owners.{victim-numbered}
 use Rattle.lock_desk.specs.declared.cells.Claim.{Claim}
 use Rattle.lock_desk.specs.declared.desk.Desk.{Desk}
 use Rattle.lock_desk.specs.declared.waits.Waits.{Waits}
 use Rattle.lock_desk.specs.Cells.{mode_of, has_claim}
-use Rattle.lock_desk.specs.Rows.{number_in, doomed}
 use Rattle.lock_desk.specs.Changes.{seen, standings, standing, cancelled_view, IsWhole, HasDoomed}
 use Rattle.lock_desk.specs.Finding.{blocks, blocks_at, target_blocks, IsFilled}
-use Rattle.lock_desk.specs.Shows.{row_of, Shows}
+use Rattle.lock_desk.specs.Shows.{Shows}
 use Rattle.lock_desk.proofs.Numbered.{once-at}
 use Rattle.lock_desk.proofs.Finds.{pairs-shown}
 use Rattle.lock_desk.proofs.Steps.{cancelled-seen}
@@ -81,15 +80,7 @@ blocks-zero d w u = go (standing 0 d).wanted
     go None = refl
     go (Some r) = ap (target_blocks 0 u (seen r d)) (no-mode (seen r d).waiting (once-at r d.cells.entries w.cells).waiting)
 
--- numbers of transactions
-
-row-number : (o : Option rules.Transaction) → number_in (row_of o) ≡ rules.number_in o
-row-number None = refl
-row-number (Some x) = refl
-
-row-doomed : (o : Option rules.Transaction) → doomed (row_of o) ≡ row_of (doom o)
-row-doomed None = refl
-row-doomed (Some x) = refl
+-- one round after another
 
 -- the state after so many rounds, of which the desk shows one
 pub record IsRound (n k s : ℕ) (st : rules.State) (d : Desk) : Type 0 where
@@ -97,7 +88,7 @@ pub record IsRound (n k s : ℕ) (st : rules.State) (d : Desk) : Type 0 where
   pub shows : Shows d state
   pub sound : IsSound state.table
   pub numbered : IsNumbered state
-  pub same : settled n s st ≡ settled (n - k) s state
+  pub same : after_victims n s st ≡ after_victims (n - k) s state
 
 -- the same under other notes of who waits for whom
 abbrev pub rewaited : (n k s : ℕ) (st : rules.State) (d : Desk) (waits : Waits) → IsRound n k s st d → IsRound n k s st (record { count = d.count; rows = d.rows; cells = d.cells; waits = waits })
@@ -118,7 +109,7 @@ module _ (d : Desk) (w : IsWhole d) (waits : Waits) (filled : IsFilled d.cells.e
   some-wait (suc s) u e = omega arith
 
   same-numbers : (a : ℕ) → slice_index waits.numbers.items a ≡ rules.number_of st (a + 1)
-  same-numbers a = filled.numbers a ∙ (ap number_in (h.transactions (a + 1)) ∙ row-number (st.begun (a + 1)))
+  same-numbers a = filled.numbers a ∙ ap rules.number_in (h.transactions (a + 1))
 
   -- where no victim is found, no circle goes through the session
   pub none-found : (s : ℕ) → 1 ≤ s → (Reaches (pairs_of waits.rows) (s - 1) (s - 1) → ⊥) → reaches st.table s s ≡ false
@@ -152,8 +143,8 @@ doomed-shown d e st v i k h = record {
   views = λ q. k.views q ∙ (ap (cancelled_view v) (h.views q) ∙ sym (cancelled-seen v st.table i q));
 }
   where
-    go : (u : ℕ) (b : Bool) → eqb u v ≡ b → cond b (doomed (standing u d).transaction) (standing u d).transaction ≡ row_of (cond b (doom (st.begun v)) (st.begun u))
-    go u true e = ap doomed (h.transactions u) ∙ (row-doomed (st.begun u) ∙ ap (λ (x : ℕ). row_of (doom (st.begun x))) ((Decides-eqb u v).0 e))
+    go : (u : ℕ) (b : Bool) → eqb u v ≡ b → cond b (doom (standing u d).transaction) (standing u d).transaction ≡ cond b (doom (st.begun v)) (st.begun u)
+    go u true e = ap doom (h.transactions u ∙ ap st.begun ((Decides-eqb u v).0 e))
     go u false e = h.transactions u
 
 -- one round more
@@ -165,15 +156,15 @@ next-round n k s v st d e r lt on is k2 = record {
   numbered = victim-numbered v r.state r.numbered;
   same =
       let m : n - k ≡ suc (n - (k + 1)) = omega (arith, lt) in
-      r.same ∙ (ap (λ (x : ℕ). settled x s r.state) m
-      ∙ (ap (λ (b : Bool). cond b (settled (n - (k + 1)) s (after_victim (victim_of r.state s) r.state)) r.state) on
-      ∙ ap (λ (x : ℕ). settled (n - (k + 1)) s (after_victim x r.state)) is));
+      r.same ∙ (ap (λ (x : ℕ). after_victims x s r.state) m
+      ∙ (ap (λ (b : Bool). cond b (after_victims (n - (k + 1)) s (after_victim (victim_of r.state s) r.state)) r.state) on
+      ∙ ap (λ (x : ℕ). after_victims (n - (k + 1)) s (after_victim x r.state)) is));
 }
 
 -- the last round
-pub last-round : (n k s : ℕ) (st : rules.State) (d : Desk) (r : IsRound n k s st d) → reaches r.state.table s s ≡ false → Shows d (settled n s st)
+pub last-round : (n k s : ℕ) (st : rules.State) (d : Desk) (r : IsRound n k s st d) → reaches r.state.table s s ≡ false → Shows d (after_victims n s st)
 last-round n k s st d r off = subst (Shows d) (sym (r.same ∙ go (n - k))) r.shows
   where
-    go : (m : ℕ) → settled m s r.state ≡ r.state
+    go : (m : ℕ) → after_victims m s r.state ≡ r.state
     go zero = refl
-    go (suc m) = ap (λ (b : Bool). cond b (settled m s (after_victim (victim_of r.state s) r.state)) r.state) off
+    go (suc m) = ap (λ (b : Bool). cond b (after_victims m s (after_victim (victim_of r.state s) r.state)) r.state) off

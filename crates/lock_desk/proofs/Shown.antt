@@ -6,29 +6,29 @@ use Rattle.lock_modes.specs.Order.{at_or_below, need_of}
 use Rattle.lock_tree.specs.Paths.{same_path, parent_of, has_parent}
 use Rattle.lock_rules.specs.State as rules
 use Rattle.lock_rules.specs.declared.calls.Call.{Call}
+use Rattle.lock_rules.specs.declared.calls.Transaction.{Transaction}
 use Rattle.lock_rules.specs.declared.calls.Call.TheVariants.{Begin, Lock, Convert, Poll, Release, Commit, Abort}
 use Rattle.lock_rules.specs.declared.calls.Why.{Why}
 use Rattle.lock_rules.specs.declared.calls.Why.TheVariants.{AlreadyOpen, NoTransaction, IsWaiting, IsDoomed, NothingAsked, NotHeld, ParentNotHeld, ChildHeld, TooManyLocks}
 use Rattle.lock_rules.specs.declared.calls.Reply.{Reply}
 use Rattle.lock_rules.specs.declared.calls.Reply.TheVariants.{Granted, Waiting, Deadlock}
 use Rattle.lock_rules.specs.declared.calls.TheConstants.{MAX_LOCKS}
-use Rattle.lock_rules.specs.Queue.{granted, is_granted, with_request}
-use Rattle.lock_rules.specs.Waits.{settled}
-use Rattle.lock_rules.specs.Step.{is_nothing, lacks_parent, holds_child, target_of, tests, first_failing, is_held, asked, after_wait, ask, ended, act}
+use Rattle.lock_rules.specs.Queue.{after_grant, is_granted_at_once, with_request}
+use Rattle.lock_rules.specs.Waits.{after_victims}
+use Rattle.lock_rules.specs.Step.{is_nothing, lacks_parent, holds_child, target_of, tests, first_failing, is_held, after_asking, after_wait, ask, after_end, act}
+use Rattle.lock_rules.specs.Sound.{IsNumbered, IsSound, Stands}
 use Rattle.lock_rules.proofs.Lists.{bool_cases, request_of-claims_but}
 use Rattle.lock_rules.proofs.Marks.{below-sup, sup-some}
-use Rattle.lock_rules.proofs.Sound.{Stands, IsSound}
 use Rattle.lock_rules.proofs.Begins.{begins-sound}
 use Rattle.lock_rules.proofs.Victims.{settled-enough}
-use Rattle.lock_rules.proofs.Owners.{IsNumbered, waiting-numbered}
+use Rattle.lock_rules.proofs.Owners.{waiting-numbered}
 use Rattle.lock_rules.proofs.Steps.{all-pass, is-none}
 use Rattle.lock_desk.specs.declared.cells.Part.TheVariants as part
 use Rattle.lock_desk.specs.declared.desk.Desk.{Desk}
 use Rattle.lock_desk.specs.Cells.{View, has_claim, mode_of, pair_of, freed_view, can_grant, asked_view}
-use Rattle.lock_desk.specs.declared.rows.Transaction.{Transaction}
-use Rattle.lock_desk.specs.Rows.{Standing, standing_at, doomed_in, has_below}
+use Rattle.lock_desk.specs.Rows.{Standing, standing_at, has_below}
 use Rattle.lock_desk.specs.Changes.{seen, standing, ended_view, IsWhole, held_seen, lacks_seen, lock_tests, convert_tests, release_tests, idle_tests, desk_tests, IsSameSeen, MayAsk, HasAsked, CanRelease, HasFreed, HasBegun, HasEnded}
-use Rattle.lock_desk.specs.Shows.{view, row_of, Shows, DoesAnswer}
+use Rattle.lock_desk.specs.Shows.{view, Shows, DoesAnswer}
 use Rattle.lock_desk.proofs.Wholes.{apart-at}
 use Rattle.lock_desk.proofs.Asks.{held-row}
 use Rattle.lock_desk.proofs.Tables.{claim, mode-seen, pairs-seen}
@@ -39,20 +39,12 @@ use Rattle.lock_desk.proofs.Steps.{ended-seen, granted-seen, first_state, first-
 
 -- tests
 
-some-row : (o : Option rules.Transaction) → is_some (row_of o) ≡ is_some o
-some-row None = refl
-some-row (Some x) = refl
-
-row-doom : (o : Option rules.Transaction) → doomed_in (row_of o) ≡ rules.doomed_in o
-row-doom None = refl
-row-doom (Some x) = refl
-
 open-shown : (d : Desk) (st : rules.State) (s : ℕ) → Shows d st → is_some (standing s d).transaction ≡ rules.is_open st s
-open-shown d st s h = ap is_some (h.transactions s) ∙ some-row (st.begun s)
+open-shown d st s h = ap is_some (h.transactions s)
 
 -- and whether its transaction is doomed
-pub doom-shown : (d : Desk) (st : rules.State) (s : ℕ) → Shows d st → doomed_in (standing s d).transaction ≡ rules.is_doomed st s
-doom-shown d st s h = ap doomed_in (h.transactions s) ∙ row-doom (st.begun s)
+pub doom-shown : (d : Desk) (st : rules.State) (s : ℕ) → Shows d st → rules.doomed_in (standing s d).transaction ≡ rules.is_doomed st s
+doom-shown d st s h = ap rules.doomed_in (h.transactions s)
 
 -- a row tells whether its session waits
 pub waits-shown : (d : Desk) (st : rules.State) (s : ℕ) → IsWhole d → Shows d st → is_some (standing s d).wanted ≡ rules.is_waiting st s
@@ -157,13 +149,13 @@ release-can d s r h =
     }
 
 -- who doesn't wait in the desk doesn't wait in the state
-pub idle-shown : (d : Desk) (st : rules.State) (s : ℕ) → IsWhole d → Shows d st → (standing s d).wanted ≡ None → rules.request_of s st.table.waits ≡ None
-idle-shown d st s w h idle = is-none (rules.request_of s st.table.waits) (sym (waits-shown d st s w h) ∙ ap is_some idle)
+pub idle-shown : (d : Desk) (st : rules.State) (s : ℕ) → IsWhole d → Shows d st → (standing s d).wanted ≡ None → rules.request_of s st.table.requests ≡ None
+idle-shown d st s w h idle = is-none (rules.request_of s st.table.requests) (sym (waits-shown d st s w h) ∙ ap is_some idle)
 
 -- a session asks
 
 module _ (d e : Desk) (st : rules.State) (s : ℕ) (r : List ℕ) (asks m : Mode) (w : IsWhole d) (i : IsSound st.table) (h : Shows d st) (may : MayAsk s r asks d) (target : m ≡ target_of (held_seen d s r) asks) where
-  none-waits : rules.request_of s st.table.waits ≡ None
+  none-waits : rules.request_of s st.table.requests ≡ None
   none-waits = idle-shown d st s w h may.can.idle
 
   sound : rules.is_doomed st s ≡ false
@@ -176,19 +168,19 @@ module _ (d e : Desk) (st : rules.State) (s : ℕ) (r : List ℕ) (asks m : Mode
   held-so : (b : Bool) → is_held (held_seen d s r) m ≡ b → is_held (rules.held_mode st.table s r) m ≡ b
   held-so b k = ap (λ (o : Option Mode). is_held o m) (sym (mode-shown d st s r h)) ∙ k
 
-  asked-held : is_held (held_seen d s r) m ≡ true → asked st s r m ≡ st
-  asked-held k = ap (λ (b : Bool). cond b st (cond (is_granted st.table s r m) (rules.with_table (granted s r m st.table) st) (after_wait st s r m))) (held-so true k)
+  asked-held : is_held (held_seen d s r) m ≡ true → after_asking st s r m ≡ st
+  asked-held k = ap (λ (b : Bool). cond b st (cond (is_granted_at_once st.table s r m) (rules.with_table (after_grant s r m st.table) st) (after_wait st s r m))) (held-so true k)
 
-  asked-more : is_held (held_seen d s r) m ≡ false → asked st s r m ≡ cond (is_granted st.table s r m) (rules.with_table (granted s r m st.table) st) (after_wait st s r m)
-  asked-more k = ap (λ (b : Bool). cond b st (cond (is_granted st.table s r m) (rules.with_table (granted s r m st.table) st) (after_wait st s r m))) (held-so false k)
+  asked-more : is_held (held_seen d s r) m ≡ false → after_asking st s r m ≡ cond (is_granted_at_once st.table s r m) (rules.with_table (after_grant s r m st.table) st) (after_wait st s r m)
+  asked-more k = ap (λ (b : Bool). cond b st (cond (is_granted_at_once st.table s r m) (rules.with_table (after_grant s r m st.table) st) (after_wait st s r m))) (held-so false k)
 
   abbrev told-of : rules.State → Reply
   told-of x = cond (rules.is_doomed x s) Deadlock (cond (rules.is_waiting x s) Waiting (Granted m))
 
-  told-granted : (x : rules.State) → rules.is_doomed x s ≡ false → rules.request_of s x.table.waits ≡ None → told-of x ≡ Granted m
+  told-granted : (x : rules.State) → rules.is_doomed x s ≡ false → rules.request_of s x.table.requests ≡ None → told-of x ≡ Granted m
   told-granted x a b = ap (λ (c : Bool). cond c Deadlock (cond (rules.is_waiting x s) Waiting (Granted m))) a ∙ ap (λ (o : Option rules.Claim). cond (is_some o) Waiting (Granted m)) b
 
-  granted-is : (b : Bool) → HasAsked s r m b d e → is_granted st.table s r m ≡ b
+  granted-is : (b : Bool) → HasAsked s r m b d e → is_granted_at_once st.table s r m ≡ b
   granted-is b k = granted-seen s r m st.table ∙ (sym (ap (can_grant (claim s m)) (h.views r)) ∙ sym k.granted_is)
 
   -- what is shown once it has asked
@@ -201,7 +193,7 @@ module _ (d e : Desk) (st : rules.State) (s : ℕ) (r : List ℕ) (asks m : Mode
         ∙ sym (first-seen st s r q m b (k.granted_is ∙ ap (can_grant (claim s m)) (h.views r)) i none-waits)));
   }
 
-  answered : (x : rules.State) → asked st s r m ≡ x → Shows e x → (reply : Reply) → reply ≡ told-of x → DoesAnswer (ask st s r (target_of (rules.held_mode st.table s r) asks)) e reply
+  answered : (x : rules.State) → after_asking st s r m ≡ x → Shows e x → (reply : Reply) → reply ≡ told-of x → DoesAnswer (ask st s r (target_of (rules.held_mode st.table s r) asks)) e reply
   answered x is shows reply told = subst (λ (k : Mode). DoesAnswer (ask st s r k) e reply) (sym same-target) (told ∙ ap told-of (sym is), subst (Shows e) (sym is) shows)
 
   -- what it asked for is held then
@@ -214,8 +206,8 @@ module _ (d e : Desk) (st : rules.State) (s : ℕ) (r : List ℕ) (asks m : Mode
     }) (Granted m) (sym (told-granted st sound none-waits))
     | inr n ↦
         let k = more n in
-        answered (first_state st s r m true) (asked-more n ∙ ap (λ (b : Bool). cond b (rules.with_table (granted s r m st.table) st) (after_wait st s r m)) (granted-is true k)) (first-shown true k) (Granted m)
-        (sym (told-granted (first_state st s r m true) sound (request_of-claims_but s st.table.waits)))
+        answered (first_state st s r m true) (asked-more n ∙ ap (λ (b : Bool). cond b (rules.with_table (after_grant s r m st.table) st) (after_wait st s r m)) (granted-is true k)) (first-shown true k) (Granted m)
+        (sym (told-granted (first_state st s r m true) sound (request_of-claims_but s st.table.requests)))
   ]
 
   -- or it waits, and deadlocks are resolved
@@ -238,34 +230,30 @@ module _ (d e : Desk) (st : rules.State) (s : ℕ) (r : List ℕ) (asks m : Mode
     pub waits-numbered : IsNumbered st → IsNumbered (first_state st s r m false)
     waits-numbered j = waiting-numbered st s r m j (sym (open-shown d st s h) ∙ may.opened)
 
-    asked-waits : asked st s r m ≡ settled (length st.table.waits + 2) s (first_state st s r m false)
-    asked-waits = asked-more more ∙ ap (λ (b : Bool). cond b (rules.with_table (granted s r m st.table) st) (after_wait st s r m)) (granted-is false k)
+    asked-waits : after_asking st s r m ≡ after_victims (length st.table.requests + 2) s (first_state st s r m false)
+    asked-waits = asked-more more ∙ ap (λ (b : Bool). cond b (rules.with_table (after_grant s r m st.table) st) (after_wait st s r m)) (granted-is false k)
 
     -- the answer is that of the last state
-    pub waits-answer : (n : ℕ) (last : Desk) → length (with_request s r m st.table).waits < n → IsWhole last → Shows last (settled n s (first_state st s r m false)) → (reply : Reply)
-        → reply ≡ cond (doomed_in (standing s last).transaction) Deadlock (cond (is_some (standing s last).wanted) Waiting (Granted m)) → DoesAnswer (ask st s r (target_of (rules.held_mode st.table s r) asks)) last reply
+    pub waits-answer : (n : ℕ) (last : Desk) → length (with_request s r m st.table).requests < n → IsWhole last → Shows last (after_victims n s (first_state st s r m false)) → (reply : Reply)
+        → reply ≡ cond (rules.doomed_in (standing s last).transaction) Deadlock (cond (is_some (standing s last).wanted) Waiting (Granted m)) → DoesAnswer (ask st s r (target_of (rules.held_mode st.table s r) asks)) last reply
     waits-answer n last few whole shows reply told =
-        let len = length-append st.table.waits (record { session = s; resource = r; mode = m } ∷ []) in
-        let is = asked-waits ∙ settled-enough (length st.table.waits + 2) n s (first_state st s r m false) waits-sound (omega (arith, len)) few in
-        let x = settled n s (first_state st s r m false) in
-        let a = doom-shown last (settled n s (first_state st s r m false)) s shows in
-        let b = waits-shown last (settled n s (first_state st s r m false)) s whole shows in
+        let len = length-append st.table.requests (record { session = s; resource = r; mode = m } ∷ []) in
+        let is = asked-waits ∙ settled-enough (length st.table.requests + 2) n s (first_state st s r m false) waits-sound (omega (arith, len)) few in
+        let x = after_victims n s (first_state st s r m false) in
+        let a = doom-shown last (after_victims n s (first_state st s r m false)) s shows in
+        let b = waits-shown last (after_victims n s (first_state st s r m false)) s whole shows in
         subst (λ (t : Mode). DoesAnswer (ask st s r t) last reply) (sym same-target)
         (told ∙ ((λ j. cond (a j) Deadlock (cond (b j) Waiting (Granted m))) ∙ ap told-of (sym is)), subst (Shows last) (sym is) shows)
 
 -- a transaction ends
 
 -- the state after a commit, and after an abort, is shown
-pub ended-shown : (d e : Desk) (st : rules.State) (s : ℕ) → IsSound st.table → HasEnded s d e → Shows d st → Shows e (rules.with_begun s None (rules.with_table (ended s st.table) st))
+pub ended-shown : (d e : Desk) (st : rules.State) (s : ℕ) → IsSound st.table → HasEnded s d e → Shows d st → Shows e (rules.with_begun s None (rules.with_table (after_end s st.table) st))
 ended-shown d e st s i k h = record {
   count = k.count ∙ h.count;
-  transactions = λ u. k.transactions u ∙ (ap (λ (o : Option Transaction). cond (eqb u s) None o) (h.transactions u) ∙ none-row (eqb u s) (st.begun u));
+  transactions = λ u. k.transactions u ∙ ap (λ (o : Option Transaction). cond (eqb u s) None o) (h.transactions u);
   views = λ q. k.views q ∙ (ap (ended_view s) (h.views q) ∙ sym (ended-seen s st.table i q));
 }
-  where
-    none-row : (b : Bool) (o : Option rules.Transaction) → cond b None (row_of o) ≡ row_of (cond b None o)
-    none-row true o = refl
-    none-row false o = refl
 
 -- a lock is given back
 
@@ -294,10 +282,6 @@ pub begun-shown : (d e : Desk) (st : rules.State) (s : ℕ) → HasBegun s d e �
 begun-shown d e st s k h = record {
   count = k.count ∙ ap (λ n. n + 1) h.count;
   transactions = λ u. k.transactions u ∙ (ap (λ (n : ℕ). cond (eqb u s) (Some (record { number = n + 1; doomed = false })) (standing u d).transaction) h.count
-      ∙ (ap (cond (eqb u s) (Some (record { number = st.count + 1; doomed = false }))) (h.transactions u) ∙ new-row (eqb u s) (st.begun u)));
+      ∙ ap (cond (eqb u s) (Some (record { number = st.count + 1; doomed = false }))) (h.transactions u));
   views = λ q. k.views q ∙ h.views q;
 }
-  where
-    new-row : (b : Bool) (o : Option rules.Transaction) → cond b (Some (record { number = st.count + 1; doomed = false })) (row_of o) ≡ row_of (cond b (Some (record { number = st.count + 1; doomed = false })) o)
-    new-row true o = refl
-    new-row false o = refl

@@ -6,10 +6,11 @@ use Rattle.lock_modes.specs.declared.Mode.{Mode}
 use Rattle.lock_modes.specs.Compatibility.{are_compatible}
 use Rattle.lock_tree.specs.Paths.{same_path}
 use Rattle.lock_rules.specs.State as rules
-use Rattle.lock_rules.specs.Queue.{queue, fits, with_lock, granted, granted_front, promoted, promoted_all}
-use Rattle.lock_rules.proofs.Lists.{bool_cases, same_path-refl, same_path-true, same_path_tells, In, In-request, IsOnce}
+use Rattle.lock_rules.specs.Queue.{queue, fits, with_lock, after_grant, granted_while_fitting, after_promotion, after_promotions}
+use Rattle.lock_rules.specs.Sound.{IsOnce, IsSound}
+use Rattle.lock_rules.proofs.Lists.{bool_cases, same_path-refl, same_path-true, same_path_tells, In, In-request}
 use Rattle.lock_rules.proofs.Alters.{queue-alters, true≢false}
-use Rattle.lock_rules.proofs.Sound.{IsSound, In-queue, head-request, queue-rest, granted-alters, granted-sound}
+use Rattle.lock_rules.proofs.Sound.{In-queue, head-request, queue-rest, granted-alters, granted-sound}
 use Rattle.lock_rules.proofs.Promote.{promoted-promoted}
 use Rattle.lock_desk.specs.declared.cells.Claim.{Claim}
 use Rattle.lock_desk.specs.Cells.{View, has_claim, mode_of, pair_of, with_claim, without, fits_among, front_granted, promoted_view, has_path}
@@ -71,35 +72,35 @@ claims_but-others s (q ∷ qs) h =
     ∙ ap (λ (xs : List rules.Claim). q ∷ xs) (claims_but-others s qs (λ p i. h p (inr i)))
 
 -- a session whose request is elsewhere, or that has none, doesn't wait in this queue
-pub queue-apart : (t : rules.Table) (s : ℕ) (x : List ℕ) → IsOnce t.waits → ((q : rules.Claim) → rules.request_of s t.waits ≡ Some q → same_path q.resource x ≡ false) → rules.claims_but s (queue t x) ≡ queue t x
+pub queue-apart : (t : rules.Table) (s : ℕ) (x : List ℕ) → IsOnce t.requests → ((q : rules.Claim) → rules.request_of s t.requests ≡ Some q → same_path q.resource x ≡ false) → rules.claims_but s (queue t x) ≡ queue t x
 queue-apart t s x o h = claims_but-others s (queue t x) (λ p i. elim (bool_cases (eqb p.session s)) [
   | inr n ↦ n
   | inl e ↦
       let k = In-queue t x p i in
       let f = (Decides-eqb p.session s).0 e in
-      absurd (true≢false k.1 (h p (ap (λ (j : ℕ). rules.request_of j t.waits) (sym f) ∙ In-request p t.waits (o p.session) k.0)))
+      absurd (true≢false k.1 (h p (ap (λ (j : ℕ). rules.request_of j t.requests) (sym f) ∙ In-request p t.requests (o p.session) k.0)))
 ])
 
 -- one claim is granted
 
-granted-there : (s : ℕ) (r x : List ℕ) (m : Mode) (t : rules.Table) → same_path r x ≡ false → IsOnce t.waits → ((q : rules.Claim) → rules.request_of s t.waits ≡ Some q → same_path q.resource x ≡ false) → view x (granted s r m t) ≡ view x t
+granted-there : (s : ℕ) (r x : List ℕ) (m : Mode) (t : rules.Table) → same_path r x ≡ false → IsOnce t.requests → ((q : rules.Claim) → rules.request_of s t.requests ≡ Some q → same_path q.resource x ≡ false) → view x (after_grant s r m t) ≡ view x t
 granted-there s r x m t n o h =
-    let hs : claims_on x (granted s r m t).held ≡ claims_on x t.held = claims_on-with_lock_path s r x m t.held n in
-    let ws : queue (granted s r m t) x ≡ queue t x = queue-alters s t (granted s r m t) (granted-alters s r m t) x ∙ queue-apart t s x o h in
+    let hs : claims_on x (after_grant s r m t).held ≡ claims_on x t.held = claims_on-with_lock_path s r x m t.held n in
+    let ws : queue (after_grant s r m t) x ≡ queue t x = queue-alters s t (after_grant s r m t) (granted-alters s r m t) x ∙ queue-apart t s x o h in
     λ i. record { holders = hs i; waiting = map short (ws i) }
 
 -- promotions
 
 front-seen : (r : List ℕ) (qs : List rules.Claim) (t : rules.Table) → IsSound t → queue t r ≡ qs → (x : List ℕ)
-    → view x (granted_front qs t) ≡ cond (same_path r x) (front_granted (claims_on r t.held) (map short qs)) (view x t)
+    → view x (granted_while_fitting qs t) ≡ cond (same_path r x) (front_granted (claims_on r t.held) (map short qs)) (view x t)
 front-seen r [] t i e x = elim (same_path_tells r x) [
   | inl h ↦ subst (λ (p : List ℕ). view p t ≡ cond (same_path r p) (record { holders = claims_on r t.held; waiting = [] }) (view p t)) h.1
       ((λ j. record { holders = claims_on r t.held; waiting = map short (e j) }) ∙ sym (ap (λ (b : Bool). cond b (record { holders = claims_on r t.held; waiting = [] }) (view r t)) (same_path-refl r)))
   | inr h ↦ sym (ap (λ (b : Bool). cond b (record { holders = claims_on r t.held; waiting = [] }) (view x t)) h)
 ]
-front-seen r (q ∷ qs) t i e x = go (fits t q.session q.resource q.mode) refl (λ j f. front-seen r qs (granted q.session q.resource q.mode t) j f x)
+front-seen r (q ∷ qs) t i e x = go (fits t q.session q.resource q.mode) refl (λ j f. front-seen r qs (after_grant q.session q.resource q.mode t) j f x)
   where
-    request : (rules.request_of q.session t.waits ≡ Some q) × (same_path q.resource r ≡ true)
+    request : (rules.request_of q.session t.requests ≡ Some q) × (same_path q.resource r ≡ true)
     request = head-request t r q qs i.once e
 
     path : q.resource ≡ r
@@ -108,22 +109,22 @@ front-seen r (q ∷ qs) t i e x = go (fits t q.session q.resource q.mode) refl (
     same-fit : fits t q.session q.resource q.mode ≡ fits_among (short q) (claims_on r t.held)
     same-fit = ap (λ (p : List ℕ). fits t q.session p q.mode) path ∙ fits-seen q.session q.mode r t.held
 
-    holders-next : claims_on r (granted q.session q.resource q.mode t).held ≡ with_claim (short q) (claims_on r t.held)
+    holders-next : claims_on r (after_grant q.session q.resource q.mode t).held ≡ with_claim (short q) (claims_on r t.held)
     holders-next = ap (λ (p : List ℕ). claims_on r (with_lock q.session p q.mode t.held)) path ∙ claims_on-with_lock q.session r q.mode t.held
 
-    there : same_path r x ≡ false → view x (granted q.session q.resource q.mode t) ≡ view x t
+    there : same_path r x ≡ false → view x (after_grant q.session q.resource q.mode t) ≡ view x t
     there n = granted-there q.session q.resource x q.mode t (ap (λ (p : List ℕ). same_path p x) path ∙ n) i.once
         (λ p f. let same : q ≡ p = let k = sym request.0 ∙ f in cc in ap (λ (c : rules.Claim). same_path c.resource x) (sym same) ∙ (ap (λ (y : List ℕ). same_path y x) path ∙ n))
 
     go : (b : Bool) → fits t q.session q.resource q.mode ≡ b
-        → (IsSound (granted q.session q.resource q.mode t) → queue (granted q.session q.resource q.mode t) r ≡ qs → view x (granted_front qs (granted q.session q.resource q.mode t)) ≡ cond (same_path r x) (front_granted (claims_on r (granted q.session q.resource q.mode t).held) (map short qs)) (view x (granted q.session q.resource q.mode t)))
-        → view x (cond b (granted_front qs (granted q.session q.resource q.mode t)) t) ≡ cond (same_path r x) (cond (fits_among (short q) (claims_on r t.held)) (front_granted (with_claim (short q) (claims_on r t.held)) (map short qs)) (record { holders = claims_on r t.held; waiting = short q ∷ map short qs })) (view x t)
+        → (IsSound (after_grant q.session q.resource q.mode t) → queue (after_grant q.session q.resource q.mode t) r ≡ qs → view x (granted_while_fitting qs (after_grant q.session q.resource q.mode t)) ≡ cond (same_path r x) (front_granted (claims_on r (after_grant q.session q.resource q.mode t).held) (map short qs)) (view x (after_grant q.session q.resource q.mode t)))
+        → view x (cond b (granted_while_fitting qs (after_grant q.session q.resource q.mode t)) t) ≡ cond (same_path r x) (cond (fits_among (short q) (claims_on r t.held)) (front_granted (with_claim (short q) (claims_on r t.held)) (map short qs)) (record { holders = claims_on r t.held; waiting = short q ∷ map short qs })) (view x t)
     go true f more =
-        more (granted-sound q.session q.resource q.mode t i (i.raising q.session q request.0) (i.asked_under q.session q request.0) f) (queue-rest t (granted q.session q.resource q.mode t) r q qs i.once e (granted-alters q.session q.resource q.mode t))
-        ∙ (ap (λ (hs : List Claim). cond (same_path r x) (front_granted hs (map short qs)) (view x (granted q.session q.resource q.mode t))) holders-next
+        more (granted-sound q.session q.resource q.mode t i (i.raising q.session q request.0) (i.asked_under q.session q request.0) f) (queue-rest t (after_grant q.session q.resource q.mode t) r q qs i.once e (granted-alters q.session q.resource q.mode t))
+        ∙ (ap (λ (hs : List Claim). cond (same_path r x) (front_granted hs (map short qs)) (view x (after_grant q.session q.resource q.mode t))) holders-next
         ∙ (elim (bool_cases (same_path r x)) [
           | inl h ↦ rw h refl
-          | inr h ↦ ap (λ (b : Bool). cond b (front_granted (with_claim (short q) (claims_on r t.held)) (map short qs)) (view x (granted q.session q.resource q.mode t))) h ∙ (there h ∙ sym (ap (λ (b : Bool). cond b (front_granted (with_claim (short q) (claims_on r t.held)) (map short qs)) (view x t)) h))
+          | inr h ↦ ap (λ (b : Bool). cond b (front_granted (with_claim (short q) (claims_on r t.held)) (map short qs)) (view x (after_grant q.session q.resource q.mode t))) h ∙ (there h ∙ sym (ap (λ (b : Bool). cond b (front_granted (with_claim (short q) (claims_on r t.held)) (map short qs)) (view x t)) h))
         ]
         ∙ ap (λ (b : Bool). cond (same_path r x) (cond b (front_granted (with_claim (short q) (claims_on r t.held)) (map short qs)) (record { holders = claims_on r t.held; waiting = short q ∷ map short qs })) (view x t)) (sym f ∙ same-fit)))
     go false f more =
@@ -135,17 +136,17 @@ front-seen r (q ∷ qs) t i e x = go (fits t q.session q.resource q.mode) refl (
         ∙ ap (λ (b : Bool). cond (same_path r x) (cond b (front_granted (with_claim (short q) (claims_on r t.held)) (map short qs)) (record { holders = claims_on r t.held; waiting = short q ∷ map short qs })) (view x t)) (sym f ∙ same-fit)
 
 -- the resource whose queue is promoted
-pub promoted-seen : (r : List ℕ) (t : rules.Table) → IsSound t → (x : List ℕ) → view x (promoted r t) ≡ cond (same_path r x) (promoted_view (view x t)) (view x t)
+pub promoted-seen : (r : List ℕ) (t : rules.Table) → IsSound t → (x : List ℕ) → view x (after_promotion r t) ≡ cond (same_path r x) (promoted_view (view x t)) (view x t)
 promoted-seen r t i x = front-seen r (queue t r) t i refl x ∙ elim (same_path_tells r x) [
   | inl h ↦ subst (λ (p : List ℕ). cond (same_path r p) (promoted_view (view r t)) (view p t) ≡ cond (same_path r p) (promoted_view (view p t)) (view p t)) h.1 refl
   | inr h ↦ rw h refl
 ]
 
 -- each resource that is named was promoted
-pub all-seen : (rs : List (List ℕ)) (t : rules.Table) → IsSound t → (x : List ℕ) → view x (promoted_all rs t) ≡ cond (has_path x rs) (promoted_view (view x t)) (view x t)
+pub all-seen : (rs : List (List ℕ)) (t : rules.Table) → IsSound t → (x : List ℕ) → view x (after_promotions rs t) ≡ cond (has_path x rs) (promoted_view (view x t)) (view x t)
 all-seen [] t i x = refl
 all-seen (r ∷ rs) t i x =
-    all-seen rs (promoted r t) (promoted-promoted r t i).follows.sound x
+    all-seen rs (after_promotion r t) (promoted-promoted r t i).follows.sound x
     ∙ (ap (λ (v : View). cond (has_path x rs) (promoted_view v) v) (promoted-seen r t i x)
     ∙ go (same_path r x) (has_path x rs))
   where

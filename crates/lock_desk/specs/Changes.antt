@@ -9,13 +9,14 @@ use Rattle.lock_rules.specs.declared.calls.Call.TheVariants.{Begin, Lock, Conver
 use Rattle.lock_rules.specs.declared.calls.Why.{Why}
 use Rattle.lock_rules.specs.declared.calls.Why.TheVariants.{AlreadyOpen, NoTransaction, IsWaiting, IsDoomed, NothingAsked, NotHeld, ParentNotHeld, ChildHeld, TooManyLocks}
 use Rattle.lock_rules.specs.declared.calls.TheConstants.{MAX_LOCKS}
-use Rattle.lock_rules.specs.State.{mode_or_nothing}
+use Rattle.lock_rules.specs.State.{mode_or_nothing, doomed_in}
 use Rattle.lock_rules.specs.Step.{is_nothing, target_of}
+use Rattle.lock_rules.specs.Waits.{doom}
 use Rattle.lock_desk.specs.declared.desk.Desk.{Desk}
 use Rattle.lock_desk.specs.declared.cells.Part.{Part}
 use Rattle.lock_desk.specs.declared.cells.Part.TheVariants as part
 use Rattle.lock_desk.specs.Cells.{View, has_claim, mode_of, cell_view, has_path, can_grant, asked_view, freed_view, AreKeptCells}
-use Rattle.lock_desk.specs.Rows.{Standing, standings_of, standing_at, doomed_in, doomed, has_below, IsKeptRow, DoAgree}
+use Rattle.lock_desk.specs.Rows.{Standing, standings_of, standing_at, has_below, IsKeptRow, DoAgree}
 
 -- what the desk says of a resource
 abbrev pub seen : List ℕ → Desk → View
@@ -173,7 +174,7 @@ pub record HasCancelled (s : ℕ) (d e : Desk) : Type 0 where
 -- the transaction of the session has become a victim: it is doomed, and waits no more
 pub record HasDoomed (s : ℕ) (d e : Desk) : Type 0 where
   pub count : e.count ≡ d.count
-  pub transactions : (u : ℕ) → (standing u e).transaction ≡ (if u == s then doomed (standing u d).transaction else (standing u d).transaction)
+  pub transactions : (u : ℕ) → (standing u e).transaction ≡ (if u == s then doom (standing u d).transaction else (standing u d).transaction)
   pub views : (q : List ℕ) → seen q e ≡ cancelled_view s (seen q d)
 
 -- a transaction of the session has begun, with the next number

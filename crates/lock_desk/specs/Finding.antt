@@ -5,11 +5,12 @@ use Rattle.waits_for.specs.declared.TheConstants.{MAX_SESSIONS}
 use Rattle.waits_for.specs.Pairs.{pairs_of}
 use Rattle.lock_modes.specs.declared.Mode.{Mode}
 use Rattle.lock_modes.specs.Compatibility.{are_compatible}
+use Rattle.lock_rules.specs.State.{number_in}
 use Rattle.lock_desk.specs.declared.cells.Claim.{Claim}
 use Rattle.lock_desk.specs.declared.cells.Cell.{Cell}
 use Rattle.lock_desk.specs.declared.waits.Waits.{Waits}
 use Rattle.lock_desk.specs.Cells.{Cells, View, mode_of, view_of, cell_view}
-use Rattle.lock_desk.specs.Rows.{Standing, standing_at, number_in}
+use Rattle.lock_desk.specs.Rows.{Standing, standing_at}
 
 -- u holds here, is another session, and holds a mode that conflicts with this one
 abbrev pub holder_blocks : ℕ → Mode → ℕ → List Claim → Bool

@@ -3,7 +3,7 @@ use Rattle.std.specs.Prelude.{◌≡◌, ℕ, ◌+◌, ◌≤◌, Bool, true, fa
 use Rattle.std.specs.List.{list_any}
 use Rattle.lock_tree.specs.Paths.{same_path, is_ancestor}
 use Rattle.lock_rules.specs.declared.calls.TheConstants.{MAX_LOCKS}
-use Rattle.lock_desk.specs.declared.rows.Transaction.{Transaction}
+use Rattle.lock_rules.specs.declared.calls.Transaction.{Transaction}
 use Rattle.lock_desk.specs.declared.rows.Request.{Request}
 use Rattle.lock_desk.specs.declared.rows.Request.TheVariants.{Fresh, Conversion}
 use Rattle.lock_desk.specs.declared.rows.Row.{Row}
@@ -14,19 +14,6 @@ pub record Standing : Type 0 where
   pub transaction : Option Transaction
   pub held : List (List ℕ)
   pub wanted : Option (List ℕ)
-
-abbrev pub number_in : Option Transaction → ℕ
-number_in None = 0
-number_in (Some x) = x.number
-
-abbrev pub doomed_in : Option Transaction → Bool
-doomed_in None = false
-doomed_in (Some x) = x.doomed
-
--- the same transaction as a victim
-abbrev pub doomed : Option Transaction → Option Transaction
-doomed None = None
-doomed (Some x) = Some (record { number = x.number; doomed = true })
 
 -- no transaction
 abbrev pub no_standing : Standing

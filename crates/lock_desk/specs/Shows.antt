@@ -1,12 +1,11 @@
 -- When a desk shows a state of the sequential lock manager.
-use Rattle.std.specs.Prelude.{◌≡◌, ℕ, List, [], ◌∷◌, if◌then◌else◌, map, Option, Some, None}
+use Rattle.std.specs.Prelude.{◌≡◌, ℕ, List, [], ◌∷◌, if◌then◌else◌, map}
 use Rattle.lock_tree.specs.Paths.{same_path}
 use Rattle.lock_rules.specs.State as rules
 use Rattle.lock_rules.specs.declared.calls.Reply.{Reply}
 use Rattle.lock_rules.specs.Step.{Outcome}
 use Rattle.lock_rules.specs.Queue.{queue}
 use Rattle.lock_desk.specs.declared.cells.Claim.{Claim}
-use Rattle.lock_desk.specs.declared.rows.Transaction.{Transaction}
 use Rattle.lock_desk.specs.declared.desk.Desk.{Desk}
 use Rattle.lock_desk.specs.Cells.{View}
 use Rattle.lock_desk.specs.Changes.{seen, standing}
@@ -24,15 +23,10 @@ claims_on r (c ∷ cs) = if same_path c.resource r then short c ∷ claims_on r 
 abbrev pub view : List ℕ → rules.Table → View
 view r t = record { holders = claims_on r t.held; waiting = map short (queue t r) }
 
--- the transaction as a row has it
-abbrev pub row_of : Option rules.Transaction → Option Transaction
-row_of None = None
-row_of (Some x) = Some (record { number = x.number; doomed = x.doomed })
-
 -- the desk says of each resource and of each session what the state says
 pub record Shows (d : Desk) (st : rules.State) : Type 0 where
   pub count : d.count ≡ st.count
-  pub transactions : (s : ℕ) → (standing s d).transaction ≡ row_of (st.begun s)
+  pub transactions : (s : ℕ) → (standing s d).transaction ≡ st.begun s
   pub views : (r : List ℕ) → seen r d ≡ view r st.table
 
 -- the reply is that of the outcome, and the desk shows its state

@@ -2,12 +2,10 @@
 
 ghost use Rattle.std.specs.Prelude.{◌≡◌, ℕ, ◌+◌, ◌<◌, ◌≤◌, true, false, None, is_some, if◌then◌else◌, map, length, IfOk, OnOk, OnErr, vec_len};
 ghost use Rattle.lock_rules.specs.declared.calls.Reply.TheVariants.{Waiting, Deadlock};
-ghost use Rattle.lock_rules.specs.State.{State, held_mode};
+ghost use Rattle.lock_rules.specs.State.{State, held_mode, doomed_in};
 ghost use Rattle.lock_rules.specs.Step.{target_of, is_held, first_failing, ask, act, step};
-ghost use Rattle.lock_rules.specs.Waits.{settled};
-ghost use Rattle.lock_rules.proofs.Sound.{IsSound};
-ghost use Rattle.lock_rules.proofs.Owners.{IsNumbered};
-ghost use Rattle.lock_desk.specs.Rows.{doomed_in};
+ghost use Rattle.lock_rules.specs.Waits.{after_victims};
+ghost use Rattle.lock_rules.specs.Sound.{IsNumbered, IsSound};
 ghost use Rattle.lock_desk.specs.Cells.{pair_of};
 ghost use Rattle.lock_desk.specs.declared.cells.Part.TheVariants as part;
 ghost use Rattle.lock_desk.specs.Changes.{seen, standing, IsWhole, held_seen, desk_tests, IsSameSeen, CanAsk, MayAsk, CanLock, CanConvert, HasAsked, CanRelease, HasFreed, HasGivenBack, HasGivenBackAll, HasCancelled, HasDoomed, HasBegun, HasEnded};
@@ -17,13 +15,11 @@ ghost use Rattle.lock_desk.specs.Shows.{Shows, DoesAnswer};
 use crate::cells::{Cell, Claim, Part, ask, cell_of, list_claims, mode_among};
 use crate::refusals::target_of;
 use crate::releases::free;
-use crate::rows::{
-    Request, Row, Transaction, doom, drop_lock, hold, is_doomed, make_room, resource_of, want,
-};
+use crate::rows::{Request, Row, doom, drop_lock, hold, is_doomed, make_room, resource_of, want};
 use crate::waits::{Waits, fill, victim};
 use indexmap::IndexMap;
 use lock_modes::Mode;
-use lock_rules::{Call, MAX_LOCKS, Reply};
+use lock_rules::{Call, MAX_LOCKS, Reply, Transaction};
 use lock_tree::Resource;
 use std::alloc::AllocError;
 
@@ -304,7 +300,7 @@ impl Desk {
         requires whole { IsWhole self.old }
         requires ready { IsReadyDesk self.old }
         ensures settled { (st : State) → IsSound st.table → IsNumbered st → Shows self.old st
-            → Shows self.new (settled (vec_len self.old.rows) session st) }
+            → Shows self.new (after_victims (vec_len self.old.rows) session st) }
         ensures whole { IsWhole self.new }
         ensures ready { IsReadyDesk self.new }
         ensures count { self.new.count ≡ self.old.count }

@@ -1,11 +1,13 @@
 //! Rows: one for each session, with its transaction and with what the cells say of it.
 
 ghost use Rattle.std.specs.Prelude.{◌≡◌, ◌+◌, ◌<◌, ◌≤◌, false, true, None, Some, length, OnOk, vec_len, vec_capacity};
+ghost use Rattle.lock_rules.specs.State.{number_in, doomed_in};
+ghost use Rattle.lock_rules.specs.Waits.{doom};
 ghost use Rattle.lock_desk.specs.Cells.{has_path};
-ghost use Rattle.lock_desk.specs.Rows.{no_standing, resource_asked, number_in, doomed_in, doomed, is_fresh, wanted_in, standing_of, admitted, asked_standing, is_wanted, has_below, let_go, locks_to_come, IsOfKind, IsKeptRow};
+ghost use Rattle.lock_desk.specs.Rows.{no_standing, resource_asked, is_fresh, wanted_in, standing_of, admitted, asked_standing, is_wanted, has_below, let_go, locks_to_come, IsOfKind, IsKeptRow};
 
 use crate::cells::is_same;
-use lock_rules::MAX_LOCKS;
+use lock_rules::{MAX_LOCKS, Transaction};
 use lock_tree::Resource;
 use std::alloc::{AllocError, Global};
 
@@ -16,13 +18,6 @@ pub enum Request {
     Fresh(Resource),
     /// A higher mode on a resource that it holds.
     Conversion(Resource),
-}
-
-/// An open transaction: its number, and whether it was chosen as a deadlock's victim.
-#[derive(Clone, Copy, Debug, PartialEq, Eq)]
-pub struct Transaction {
-    pub number: u64,
-    pub doomed: bool,
 }
 
 /// The transaction of a session, what it holds in the order in which it was granted, and what it waits for.
@@ -63,7 +58,7 @@ pub(crate) fn is_doomed(transaction: Option<Transaction>) -> bool
 
 /// The transaction as a deadlock's victim.
 pub(crate) fn doom(transaction: Option<Transaction>) -> Option<Transaction>
-    ensures { result ≡ doomed transaction }
+    ensures { result ≡ doom transaction }
 {
     match transaction {
         Some(transaction) => Some(Transaction {

@@ -3,8 +3,9 @@
 ghost use Rattle.std.specs.Prelude.{◌≡◌, ℕ, ◌+◌, ◌-◌, ◌<◌, ◌≤◌, ◌&&◌, ◌||◌, ◌==◌, if◌then◌else◌, List, not, true, length, IfOk, IfNone, IfSome, slice_index, slice_index_or, vec_len};
 ghost use Rattle.waits_for.specs.Pairs.{pairs_of};
 ghost use Rattle.waits_for.specs.Walks.{Reaches, IsYoungestOnCircle};
+ghost use Rattle.lock_rules.specs.State.{number_in};
 ghost use Rattle.lock_desk.specs.Cells.{has_claim, cell_view};
-ghost use Rattle.lock_desk.specs.Rows.{standings_of, standing_at, number_in};
+ghost use Rattle.lock_desk.specs.Rows.{standings_of, standing_at};
 ghost use Rattle.lock_desk.specs.Finding.{holder_blocks, stands_first, cell_blocks, blocks, IsReady, IsFilled, AreOfSessions, IsOfSessions};
 
 use crate::cells::{Cell, Claim, cell_of, mode_among};

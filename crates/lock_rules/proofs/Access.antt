@@ -10,10 +10,11 @@ use Rattle.lock_modes.proofs.Order.{order-tests}
 use Rattle.lock_tree.specs.Paths.{is_ancestor, parent_of}
 use Rattle.lock_rules.specs.State.{Table, State, held_mode}
 use Rattle.lock_rules.specs.Laws.{HoldsAtLeast, IsAtOrOver, IsAccessCompatible}
+use Rattle.lock_rules.specs.Sound.{Agree, IsSound}
 use Rattle.lock_rules.proofs.Lists.{bool_cases}
 use Rattle.lock_rules.proofs.Alters.{true≢false}
 use Rattle.lock_rules.proofs.Marks.{below-trans, no_ix_s, no_x_is, need-is, need-ix}
-use Rattle.lock_rules.proofs.Sound.{IsSound, Agree, stands-under}
+use Rattle.lock_rules.proofs.Sound.{stands-under}
 use Rattle.lock_rules.proofs.Children.{ancestor-parent, length-parent}
 
 -- the session holds the resource in a mode that passes the test of the mode

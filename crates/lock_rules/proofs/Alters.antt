@@ -10,13 +10,14 @@ use Rattle.waits_for.proofs.Walks.{walk-append}
 use Rattle.lock_rules.specs.State.{Claim, Table, mode_in, request_of, claims_but}
 use Rattle.lock_rules.specs.Queue.{queue}
 use Rattle.lock_rules.specs.Waits.{conflicts, stands_before, keeps_waiting, waits_for, waiting_sessions, reaches}
-use Rattle.lock_rules.proofs.Lists.{IsOrdered, bool_cases, request_of-claims_but, request_of-claims_but_other, request_of-session, filter-swap, claims_but-append, stands_before-claims_but}
+use Rattle.lock_rules.specs.Sound.{IsOrdered}
+use Rattle.lock_rules.proofs.Lists.{bool_cases, request_of-claims_but, request_of-claims_but_other, request_of-session, filter-swap, claims_but-append, stands_before-claims_but}
 use Rattle.lock_rules.proofs.Walks.{has, AllIn, found}
 
 -- The one relation for every change: v waits no more, the others' holds are as before, holders still ascend. It covers a
 -- grant, the end of a transaction, a victim and, read backwards, a request that begins to wait.
 pub record Alters (v : ℕ) (t t' : Table) : Type 0 where
-  pub waits : t'.waits ≡ claims_but v t.waits
+  pub requests : t'.requests ≡ claims_but v t.requests
   pub others : (u : ℕ) (x : List ℕ) → eqb u v ≡ false → mode_in u x t'.held ≡ mode_in u x t.held
   pub order : IsOrdered t.held → IsOrdered t'.held
 
@@ -26,18 +27,18 @@ true≢false h k = cc
 -- the queue is as before without v
 pub queue-alters : (v : ℕ) (t t' : Table) → Alters v t t' → (r : List ℕ) → queue t' r ≡ claims_but v (queue t r)
 queue-alters v t t' a r =
-    ap (λ (ws : List Claim). filter (λ q. same_path q.resource r && is_some (mode_in q.session r t'.held)) ws ++ filter (λ q. same_path q.resource r && not (is_some (mode_in q.session r t'.held))) ws) a.waits
-    ∙ (ap (λ (ws : List Claim). ws ++ filter (λ q. same_path q.resource r && not (is_some (mode_in q.session r t'.held))) (claims_but v t.waits))
-    (filter-swap v (λ q. same_path q.resource r && is_some (mode_in q.session r t.held)) (λ q. same_path q.resource r && is_some (mode_in q.session r t'.held)) t.waits (λ q n. ap (λ (o : Option Mode). same_path q.resource r && is_some o) (a.others q.session r n)))
-    ∙ (ap (λ (ws : List Claim). claims_but v (filter (λ q. same_path q.resource r && is_some (mode_in q.session r t.held)) t.waits) ++ ws)
-    (filter-swap v (λ q. same_path q.resource r && not (is_some (mode_in q.session r t.held))) (λ q. same_path q.resource r && not (is_some (mode_in q.session r t'.held))) t.waits (λ q n. ap (λ (o : Option Mode). same_path q.resource r && not (is_some o)) (a.others q.session r n)))
-    ∙ sym (claims_but-append v (filter (λ q. same_path q.resource r && is_some (mode_in q.session r t.held)) t.waits) (filter (λ q. same_path q.resource r && not (is_some (mode_in q.session r t.held))) t.waits))))
+    ap (λ (ws : List Claim). filter (λ q. same_path q.resource r && is_some (mode_in q.session r t'.held)) ws ++ filter (λ q. same_path q.resource r && not (is_some (mode_in q.session r t'.held))) ws) a.requests
+    ∙ (ap (λ (ws : List Claim). ws ++ filter (λ q. same_path q.resource r && not (is_some (mode_in q.session r t'.held))) (claims_but v t.requests))
+    (filter-swap v (λ q. same_path q.resource r && is_some (mode_in q.session r t.held)) (λ q. same_path q.resource r && is_some (mode_in q.session r t'.held)) t.requests (λ q n. ap (λ (o : Option Mode). same_path q.resource r && is_some o) (a.others q.session r n)))
+    ∙ (ap (λ (ws : List Claim). claims_but v (filter (λ q. same_path q.resource r && is_some (mode_in q.session r t.held)) t.requests) ++ ws)
+    (filter-swap v (λ q. same_path q.resource r && not (is_some (mode_in q.session r t.held))) (λ q. same_path q.resource r && not (is_some (mode_in q.session r t'.held))) t.requests (λ q n. ap (λ (o : Option Mode). same_path q.resource r && not (is_some o)) (a.others q.session r n)))
+    ∙ sym (claims_but-append v (filter (λ q. same_path q.resource r && is_some (mode_in q.session r t.held)) t.requests) (filter (λ q. same_path q.resource r && not (is_some (mode_in q.session r t.held))) t.requests))))
 
-pub request-alters : (v : ℕ) (t t' : Table) → Alters v t t' → (u : ℕ) → eqb u v ≡ false → request_of u t'.waits ≡ request_of u t.waits
-request-alters v t t' a u n = ap (request_of u) a.waits ∙ request_of-claims_but_other u v t.waits n
+pub request-alters : (v : ℕ) (t t' : Table) → Alters v t t' → (u : ℕ) → eqb u v ≡ false → request_of u t'.requests ≡ request_of u t.requests
+request-alters v t t' a u n = ap (request_of u) a.requests ∙ request_of-claims_but_other u v t.requests n
 
-pub request-gone : (v : ℕ) (t t' : Table) → Alters v t t' → request_of v t'.waits ≡ None
-request-gone v t t' a = ap (request_of v) a.waits ∙ request_of-claims_but v t.waits
+pub request-gone : (v : ℕ) (t t' : Table) → Alters v t t' → request_of v t'.requests ≡ None
+request-gone v t t' a = ap (request_of v) a.requests ∙ request_of-claims_but v t.requests
 
 -- waits between sessions
 
@@ -55,7 +56,7 @@ keeps_waiting-alters v t t' a b n (Some q) h =
 pub waits_for-alters : (v : ℕ) (t t' : Table) → Alters v t t' → (s u : ℕ) → eqb s v ≡ false → eqb u v ≡ false → waits_for t' s u ≡ waits_for t s u
 waits_for-alters v t t' a s u n k =
     ap (λ (b : Bool). not (eqb u s) && b)
-    (ap (keeps_waiting t' u) (request-alters v t t' a s n) ∙ keeps_waiting-alters v t t' a u k (request_of s t.waits) (λ q e. ap (λ (i : ℕ). eqb i v) (request_of-session s t.waits q e) ∙ n))
+    (ap (keeps_waiting t' u) (request-alters v t t' a s n) ∙ keeps_waiting-alters v t t' a u k (request_of s t.requests) (λ q e. ap (λ (i : ℕ). eqb i v) (request_of-session s t.requests q e) ∙ n))
 
 pub waits_for-gone : (v : ℕ) (t t' : Table) → Alters v t t' → (w : ℕ) → waits_for t' v w ≡ false
 waits_for-gone v t t' a w = ap (λ (o : Option Claim). not (eqb w v) && keeps_waiting t' w o) (request-gone v t t' a) ∙ and-false (not (eqb w v))
@@ -138,11 +139,11 @@ has-request s [] q h = absurd (cc)
 has-request s (c ∷ qs) q h = grind (arith, nat_tests, has-request s qs q)
 
 pub waits_for-waits : (t : Table) (s u : ℕ) → waits_for t s u ≡ true → has s (waiting_sessions t) ≡ true
-waits_for-waits t s u h = go (request_of s t.waits) refl (and_parts (not (eqb u s)) (keeps_waiting t u (request_of s t.waits)) h).1
+waits_for-waits t s u h = go (request_of s t.requests) refl (and_parts (not (eqb u s)) (keeps_waiting t u (request_of s t.requests)) h).1
   where
-    go : (o : Option Claim) → request_of s t.waits ≡ o → keeps_waiting t u o ≡ true → has s (waiting_sessions t) ≡ true
+    go : (o : Option Claim) → request_of s t.requests ≡ o → keeps_waiting t u o ≡ true → has s (waiting_sessions t) ≡ true
     go None e k = absurd (cc)
-    go (Some q) e k = has-request s t.waits q e
+    go (Some q) e k = has-request s t.requests q e
 
 all_in-walk : (t : Table) (s : ℕ) (ws : List ℕ) (u : ℕ) → IsWalk (waits_for t) s ws u → AllIn ws (waiting_sessions t)
 all_in-walk t s [] u walk = tt

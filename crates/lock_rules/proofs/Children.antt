@@ -6,8 +6,9 @@ use Rattle.lock_modes.specs.declared.Mode.{Mode}
 use Rattle.lock_tree.specs.Paths.{is_ancestor, parent_of, has_parent}
 use Rattle.lock_rules.specs.State.{Table, State, held_mode}
 use Rattle.lock_rules.specs.Laws.{AreChildrenHeld}
+use Rattle.lock_rules.specs.Sound.{IsSound}
 use Rattle.lock_rules.proofs.Alters.{true≢false}
-use Rattle.lock_rules.proofs.Sound.{IsSound, stands-under}
+use Rattle.lock_rules.proofs.Sound.{stands-under}
 
 -- an ancestor is the parent or an ancestor of it
 pub ancestor-parent : (y z : List ℕ) → is_ancestor y z ≡ true → (y ≡ parent_of z) ⊎ (is_ancestor y (parent_of z) ≡ true)

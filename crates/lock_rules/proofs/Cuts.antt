@@ -9,16 +9,17 @@ use Rattle.lock_modes.specs.Order.{at_or_below}
 use Rattle.lock_tree.specs.Paths.{same_path, is_ancestor, parent_of, has_parent}
 use Rattle.lock_rules.specs.State.{Claim, Table, mode_in, held_mode, mode_or_nothing, request_of, claims_of, claims_but}
 use Rattle.lock_rules.specs.Queue.{locks_but}
-use Rattle.lock_rules.specs.Waits.{waits_for, wanted, waits_no_more, cancelled}
-use Rattle.lock_rules.specs.Step.{left, ended, lacks_parent, holds_child, released}
+use Rattle.lock_rules.specs.Waits.{waits_for, resource_of_request, without_request, after_cancel}
+use Rattle.lock_rules.specs.Step.{without_claims, after_end, lacks_parent, holds_child, after_release}
+use Rattle.lock_rules.specs.Sound.{IsSound, Stands}
 use Rattle.lock_rules.proofs.Lists.{ordered-filter, bool_cases, eqb-refl, same_path_tells, claims_but-none, mode_in-locks_but, mode_in-locks_but_path, mode_in-locks_but_other, mode_in-claims_but, mode_in-claims_but_other}
 use Rattle.lock_rules.proofs.Marks.{below-refl}
 use Rattle.lock_rules.proofs.Alters.{Alters, NoCircle, circle-alters, circle-alters_beside, true≢false}
-use Rattle.lock_rules.proofs.Sound.{Stands, IsSound, UnfitAt, eqb-swap, altered-sound, lacks-same, same-rises, unfit_at-alters, none-below, no_more-alters}
+use Rattle.lock_rules.proofs.Sound.{UnfitAt, eqb-swap, altered-sound, lacks-same, same-rises, unfit_at-alters, none-below, no_more-alters}
 use Rattle.lock_rules.proofs.Promote.{Follows, follows-trans, ArePromoted, all-promoted, promoted-promoted, all-fewer, among, length-claims_but, length-claims_but_some, request-fewer}
 
 -- what holds between any two calls
-pub record IsLawful (t : Table) : Type 0 where
+pub record IsAtRest (t : Table) : Type 0 where
   pub sound : IsSound t
   pub no_circle : NoCircle (waits_for t)
   pub unfit : (x : List ℕ) → UnfitAt t x
@@ -37,10 +38,10 @@ child-held s r x k [] h a = absurd (cc)
 child-held s r x k (c ∷ cs) h a = grind (arith, nat_tests, same_path_tells, child-held s r x k cs)
 
 abbrev pub one_less : ℕ → List ℕ → Table → Table
-one_less s r t = record { held = locks_but s r t.held; waits = t.waits }
+one_less s r t = record { held = locks_but s r t.held; requests = t.requests }
 
-pub less-alters : (s : ℕ) (r : List ℕ) (t : Table) → request_of s t.waits ≡ None → Alters s t (one_less s r t)
-less-alters s r t n = record { waits = sym (claims_but-none s t.waits n); others = λ u x m. mode_in-locks_but_other u s x r t.held m; order = ordered-filter (λ c. not (eqb c.session s && same_path c.resource r)) t.held }
+pub less-alters : (s : ℕ) (r : List ℕ) (t : Table) → request_of s t.requests ≡ None → Alters s t (one_less s r t)
+less-alters s r t n = record { requests = sym (claims_but-none s t.requests n); others = λ u x m. mode_in-locks_but_other u s x r t.held m; order = ordered-filter (λ c. not (eqb c.session s && same_path c.resource r)) t.held }
 
 pub less-held : (s : ℕ) (r x : List ℕ) (t : Table) (k : Mode) → mode_in s x (locks_but s r t.held) ≡ Some k → (same_path r x ≡ false) × (mode_in s x t.held ≡ Some k)
 less-held s r x t k h = elim (same_path_tells r x) [
@@ -63,10 +64,10 @@ less-under : (s : ℕ) (r : List ℕ) (t : Table) → IsSound t → holds_child 
 less-under s r t i c x k h = (less-lacks s r t i c x k h, (i.held_under s x k (less-held s r x t k h).1).1)
 
 -- the table with one lock less is sound
-pub less-sound : (s : ℕ) (r : List ℕ) (t : Table) → IsSound t → request_of s t.waits ≡ None → holds_child t s r ≡ false → IsSound (one_less s r t)
+pub less-sound : (s : ℕ) (r : List ℕ) (t : Table) → IsSound t → request_of s t.requests ≡ None → holds_child t s r ≡ false → IsSound (one_less s r t)
 less-sound s r t i n c = altered-sound s t (one_less s r t) (less-alters s r t n) i (less-under s r t i c) (λ u x k l m e f. i.agree s u x k l (eqb-swap u s m) (less-held s r x t k e).1 f)
 
-pub released-lawful : (s : ℕ) (r : List ℕ) (t : Table) → IsLawful t → request_of s t.waits ≡ None → holds_child t s r ≡ false → IsLawful (released s r t)
+pub released-lawful : (s : ℕ) (r : List ℕ) (t : Table) → IsAtRest t → request_of s t.requests ≡ None → holds_child t s r ≡ false → IsAtRest (after_release s r t)
 released-lawful s r t i n c =
     let a = less-alters s r t n in
     let p = promoted-promoted r (one_less s r t) (less-sound s r t i.sound n c) in
@@ -79,13 +80,13 @@ released-lawful s r t i n c =
       ];
     }
   where
-    none : (q : Claim) → request_of s t.waits ≡ Some q → ⊥
+    none : (q : Claim) → request_of s t.requests ≡ Some q → ⊥
     none q e = cc
 
 -- but for this lock nobody holds less after a release
-pub released-rises : (s : ℕ) (r : List ℕ) (t : Table) → IsSound t → request_of s t.waits ≡ None → holds_child t s r ≡ false → (u : ℕ) (x : List ℕ) → (eqb u s ≡ false) ⊎ (same_path r x ≡ false) → at_or_below (mode_or_nothing (held_mode t u x)) (mode_or_nothing (held_mode (released s r t) u x)) ≡ true
+pub released-rises : (s : ℕ) (r : List ℕ) (t : Table) → IsSound t → request_of s t.requests ≡ None → holds_child t s r ≡ false → (u : ℕ) (x : List ℕ) → (eqb u s ≡ false) ⊎ (same_path r x ≡ false) → at_or_below (mode_or_nothing (held_mode t u x)) (mode_or_nothing (held_mode (after_release s r t) u x)) ≡ true
 released-rises s r t i n c u x d =
-    ap (λ (o : Option Mode). at_or_below (mode_or_nothing o) (mode_or_nothing (held_mode (released s r t) u x))) (sym (same d))
+    ap (λ (o : Option Mode). at_or_below (mode_or_nothing o) (mode_or_nothing (held_mode (after_release s r t) u x))) (sym (same d))
     ∙ (promoted-promoted r (one_less s r t) (less-sound s r t i n c)).follows.rises u x
   where
     same : (eqb u s ≡ false) ⊎ (same_path r x ≡ false) → mode_in u x (locks_but s r t.held) ≡ mode_in u x t.held
@@ -94,15 +95,15 @@ released-rises s r t i n c u x d =
 
 -- all of a session
 
-pub left-alters : (s : ℕ) (t : Table) → Alters s t (left s t)
-left-alters s t = record { waits = refl; others = λ u x m. mode_in-claims_but_other u s x t.held m; order = ordered-filter (λ c. not (eqb c.session s)) t.held }
+pub left-alters : (s : ℕ) (t : Table) → Alters s t (without_claims s t)
+left-alters s t = record { requests = refl; others = λ u x m. mode_in-claims_but_other u s x t.held m; order = ordered-filter (λ c. not (eqb c.session s)) t.held }
 
 pub left-none : (s : ℕ) (t : Table) (x : List ℕ) (k : Mode) → mode_in s x (claims_but s t.held) ≡ Some k → ⊥
 left-none s t x k h = let e = mode_in-claims_but s x t.held in cc
 
 -- the table that a session leaves is sound
-pub left-sound : (s : ℕ) (t : Table) → IsSound t → IsSound (left s t)
-left-sound s t i = altered-sound s t (left s t) (left-alters s t) i (λ x k e. absurd (left-none s t x k e)) (λ u x k l m e f. absurd (left-none s t x k e))
+pub left-sound : (s : ℕ) (t : Table) → IsSound t → IsSound (without_claims s t)
+left-sound s t i = altered-sound s t (without_claims s t) (left-alters s t) i (λ x k e. absurd (left-none s t x k e)) (λ u x k l m e f. absurd (left-none s t x k e))
 
 unlisted : (s : ℕ) (x : List ℕ) (cs : List Claim) → among (map (λ (c : Claim). c.resource) (claims_of s cs)) x ≡ false → mode_in s x cs ≡ None
 unlisted s x [] h = refl
@@ -116,7 +117,7 @@ among-append (z ∷ xs) ys x h = go (same_path z x) (among-append xs ys x) h
     go true next h = absurd (cc)
     go false next h = next h
 
-wanted-apart : (o : Option Claim) (x : List ℕ) → among (wanted o) x ≡ false → (q : Claim) → o ≡ Some q → same_path q.resource x ≡ false
+wanted-apart : (o : Option Claim) (x : List ℕ) → among (resource_of_request o) x ≡ false → (q : Claim) → o ≡ Some q → same_path q.resource x ≡ false
 wanted-apart None x h q e = absurd (cc)
 wanted-apart (Some p) x h q e = go (same_path p.resource x) h refl
   where
@@ -124,52 +125,52 @@ wanted-apart (Some p) x h q e = go (same_path p.resource x) h refl
     go true h k = absurd (cc)
     go false h k = let same : p ≡ q = cc in ap (λ (c : Claim). same_path c.resource x) (sym same) ∙ k
 
-pub ended-lawful : (s : ℕ) (t : Table) → IsLawful t → IsLawful (ended s t)
+pub ended-lawful : (s : ℕ) (t : Table) → IsAtRest t → IsAtRest (after_end s t)
 ended-lawful s t i =
     let a = left-alters s t in
-    let p = all-promoted (wanted (request_of s t.waits) ++ map (λ (c : Claim). c.resource) (claims_of s t.held)) (left s t) (left-sound s t i.sound) in
+    let p = all-promoted (resource_of_request (request_of s t.requests) ++ map (λ (c : Claim). c.resource) (claims_of s t.held)) (without_claims s t) (left-sound s t i.sound) in
     record {
       sound = p.follows.sound;
-      no_circle = p.follows.circle (circle-alters s t (left s t) a i.no_circle);
+      no_circle = p.follows.circle (circle-alters s t (without_claims s t) a i.no_circle);
       unfit = p.unfit (λ x n.
-          let m = among-append (wanted (request_of s t.waits)) (map (λ (c : Claim). c.resource) (claims_of s t.held)) x n in
-          unfit_at-alters s t (left s t) x a (none-below _ _ (unlisted s x t.held m.1)) (wanted-apart (request_of s t.waits) x m.0) i.sound (i.unfit x));
+          let m = among-append (resource_of_request (request_of s t.requests)) (map (λ (c : Claim). c.resource) (claims_of s t.held)) x n in
+          unfit_at-alters s t (without_claims s t) x a (none-below _ _ (unlisted s x t.held m.1)) (wanted-apart (request_of s t.requests) x m.0) i.sound (i.unfit x));
     }
 
 -- none of the others holds less after the end of a transaction
-pub ended-rises : (s : ℕ) (t : Table) → IsSound t → (u : ℕ) (x : List ℕ) → eqb u s ≡ false → at_or_below (mode_or_nothing (held_mode t u x)) (mode_or_nothing (held_mode (ended s t) u x)) ≡ true
+pub ended-rises : (s : ℕ) (t : Table) → IsSound t → (u : ℕ) (x : List ℕ) → eqb u s ≡ false → at_or_below (mode_or_nothing (held_mode t u x)) (mode_or_nothing (held_mode (after_end s t) u x)) ≡ true
 ended-rises s t i u x n =
-    ap (λ (o : Option Mode). at_or_below (mode_or_nothing o) (mode_or_nothing (held_mode (ended s t) u x))) (sym (mode_in-claims_but_other u s x t.held n))
-    ∙ (all-promoted (wanted (request_of s t.waits) ++ map (λ (c : Claim). c.resource) (claims_of s t.held)) (left s t) (left-sound s t i)).follows.rises u x
+    ap (λ (o : Option Mode). at_or_below (mode_or_nothing o) (mode_or_nothing (held_mode (after_end s t) u x))) (sym (mode_in-claims_but_other u s x t.held n))
+    ∙ (all-promoted (resource_of_request (request_of s t.requests) ++ map (λ (c : Claim). c.resource) (claims_of s t.held)) (without_claims s t) (left-sound s t i)).follows.rises u x
 
 -- a victim
 
-no_more-follows : (v : ℕ) (t : Table) → IsSound t → Follows t (waits_no_more v t)
+no_more-follows : (v : ℕ) (t : Table) → IsSound t → Follows t (without_request v t)
 no_more-follows v t i =
     let a = no_more-alters v t in
     record {
-      sound = altered-sound v t (waits_no_more v t) a i (λ x k e. i.held_under v x k e) (λ u x k l m e f. i.agree v u x k l (eqb-swap u v m) e f);
+      sound = altered-sound v t (without_request v t) a i (λ x k e. i.held_under v x k e) (λ u x k l m e f. i.agree v u x k l (eqb-swap u v m) e f);
       rises = λ s x. below-refl (mode_or_nothing (held_mode t s x));
-      circle = circle-alters v t (waits_no_more v t) a;
-      circle_beside = λ b. circle-alters_beside v b t (waits_no_more v t) a;
-      fewer = length-claims_but v t.waits;
-      requests = λ u q h. request-fewer u v t.waits q h;
+      circle = circle-alters v t (without_request v t) a;
+      circle_beside = λ b. circle-alters_beside v b t (without_request v t) a;
+      fewer = length-claims_but v t.requests;
+      requests = λ u q h. request-fewer u v t.requests q h;
     }
 
-pub cancelled-promoted : (v : ℕ) (t : Table) → IsSound t → ArePromoted (wanted (request_of v t.waits)) (waits_no_more v t) (cancelled v t)
-cancelled-promoted v t i = all-promoted (wanted (request_of v t.waits)) (waits_no_more v t) (no_more-follows v t i).sound
+pub cancelled-promoted : (v : ℕ) (t : Table) → IsSound t → ArePromoted (resource_of_request (request_of v t.requests)) (without_request v t) (after_cancel v t)
+cancelled-promoted v t i = all-promoted (resource_of_request (request_of v t.requests)) (without_request v t) (no_more-follows v t i).sound
 
 -- a victim leaves a sound table, in which nobody holds less and no circle is new
-pub cancelled-follows : (v : ℕ) (t : Table) → IsSound t → Follows t (cancelled v t)
-cancelled-follows v t i = follows-trans t (waits_no_more v t) (cancelled v t) (no_more-follows v t i) (cancelled-promoted v t i).follows
+pub cancelled-follows : (v : ℕ) (t : Table) → IsSound t → Follows t (after_cancel v t)
+cancelled-follows v t i = follows-trans t (without_request v t) (after_cancel v t) (no_more-follows v t i) (cancelled-promoted v t i).follows
 
 -- and nobody waits needlessly there
-pub cancelled-unfit : (v : ℕ) (t : Table) → IsSound t → ((x : List ℕ) → UnfitAt t x) → (x : List ℕ) → UnfitAt (cancelled v t) x
-cancelled-unfit v t i h = (cancelled-promoted v t i).unfit (λ x n. unfit_at-alters v t (waits_no_more v t) x (no_more-alters v t) (below-refl (mode_or_nothing (held_mode t v x))) (wanted-apart (request_of v t.waits) x n) i (h x))
+pub cancelled-unfit : (v : ℕ) (t : Table) → IsSound t → ((x : List ℕ) → UnfitAt t x) → (x : List ℕ) → UnfitAt (after_cancel v t) x
+cancelled-unfit v t i h = (cancelled-promoted v t i).unfit (λ x n. unfit_at-alters v t (without_request v t) x (no_more-alters v t) (below-refl (mode_or_nothing (held_mode t v x))) (wanted-apart (request_of v t.requests) x n) i (h x))
 
 -- the end of a request leaves one less at least
-pub victim-fewer : (v : ℕ) (t : Table) (q : Claim) → request_of v t.waits ≡ Some q → length (cancelled v t).waits < length t.waits
-victim-fewer v t q e = omega (arith, all-fewer (wanted (request_of v t.waits)) (waits_no_more v t), length-claims_but_some v t.waits q e)
+pub victim-fewer : (v : ℕ) (t : Table) (q : Claim) → request_of v t.requests ≡ Some q → length (after_cancel v t).requests < length t.requests
+victim-fewer v t q e = omega (arith, all-fewer (resource_of_request (request_of v t.requests)) (without_request v t), length-claims_but_some v t.requests q e)
 
-pub cancelled-fewer : (v : ℕ) (t : Table) (q : Claim) → IsSound t → request_of v t.waits ≡ Some q → length (cancelled v t).waits < length t.waits
+pub cancelled-fewer : (v : ℕ) (t : Table) (q : Claim) → IsSound t → request_of v t.requests ≡ Some q → length (after_cancel v t).requests < length t.requests
 cancelled-fewer v t q i e = victim-fewer v t q e

@@ -3,11 +3,12 @@ use Rattle.std.proofs.Common.{◌≡◌, ℕ, Bool, true, false, cond, eqb, ◌|
 use Rattle.std.proofs.lemmas.Bool.Decides.{Decides-eqb}
 use Rattle.lock_tree.specs.Paths.{same_path}
 use Rattle.lock_rules.specs.State.{Claim, Table, State, request_of, with_table}
-use Rattle.lock_rules.specs.Queue.{with_request, promoted_all}
-use Rattle.lock_rules.specs.Waits.{wanted, waits_no_more, cancelled, doom, after_victim}
+use Rattle.lock_rules.specs.Queue.{with_request, after_promotions}
+use Rattle.lock_rules.specs.Waits.{resource_of_request, without_request, after_cancel, doom, after_victim}
 use Rattle.lock_rules.specs.Laws.{AreVictims, ArePromotionsLongest}
 use Rattle.lock_rules.specs.Effects.{IsAsBefore, IsAmong, IsWantedBy, IsDoomOf, DoVictimsKeepLocks, DoVictimsKeepTheirLocks, DoesDoomPromote}
-use Rattle.lock_rules.proofs.Lists.{IsOnce, bool_cases, eqb-refl, other, same_path-true, times-claims_but, request_of-claims_but, request_of-claims_but_other}
+use Rattle.lock_rules.specs.Sound.{IsOnce}
+use Rattle.lock_rules.proofs.Lists.{bool_cases, eqb-refl, other, same_path-true, times-claims_but, request_of-claims_but, request_of-claims_but_other}
 use Rattle.lock_rules.proofs.Promote.{among}
 use Rattle.lock_rules.proofs.Fronts.{promotions-longest}
 use Rattle.lock_rules.proofs.Begins.{once-push}
@@ -17,25 +18,25 @@ use Rattle.lock_rules.proofs.Taken.{IsServed, refl-same, same-same, same-promoti
 
 -- one victim
 
-cut-once : (v : ℕ) (t : Table) → IsOnce t.waits → IsOnce (waits_no_more v t).waits
-cut-once v t o u = omega (arith, times-claims_but u v t.waits, o u)
+cut-once : (v : ℕ) (t : Table) → IsOnce t.requests → IsOnce (without_request v t).requests
+cut-once v t o u = omega (arith, times-claims_but u v t.requests, o u)
 
-cancelled-once : (v : ℕ) (t : Table) → IsOnce t.waits → IsOnce (cancelled v t).waits
-cancelled-once v t o = all-once (wanted (request_of v t.waits)) (waits_no_more v t) (cut-once v t o)
+cancelled-once : (v : ℕ) (t : Table) → IsOnce t.requests → IsOnce (after_cancel v t).requests
+cancelled-once v t o = all-once (resource_of_request (request_of v t.requests)) (without_request v t) (cut-once v t o)
 
-cancelled-own : (v : ℕ) (t : Table) → IsOnce t.waits → IsAsBefore v (waits_no_more v t) (cancelled v t)
+cancelled-own : (v : ℕ) (t : Table) → IsOnce t.requests → IsAsBefore v (without_request v t) (after_cancel v t)
 cancelled-own v t o =
-    unserved v (λ x. among (wanted (request_of v t.waits)) x ≡ true) (waits_no_more v t) (cancelled v t) (request_of-claims_but v t.waits)
-    (all-served (wanted (request_of v t.waits)) (waits_no_more v t) (cut-once v t o) v)
+    unserved v (λ x. among (resource_of_request (request_of v t.requests)) x ≡ true) (without_request v t) (after_cancel v t) (request_of-claims_but v t.requests)
+    (all-served (resource_of_request (request_of v t.requests)) (without_request v t) (cut-once v t o) v)
 
-cancelled-others : (v : ℕ) (t : Table) → IsOnce t.waits → (u : ℕ) → eqb u v ≡ false → IsServed u (λ x. among (wanted (request_of v t.waits)) x ≡ true) t (cancelled v t)
+cancelled-others : (v : ℕ) (t : Table) → IsOnce t.requests → (u : ℕ) → eqb u v ≡ false → IsServed u (λ x. among (resource_of_request (request_of v t.requests)) x ≡ true) t (after_cancel v t)
 cancelled-others v t o u n =
-    after-same u (λ x. among (wanted (request_of v t.waits)) x ≡ true) t (waits_no_more v t) (cancelled v t)
-    (record { held = λ x. refl; waits = request_of-claims_but_other u v t.waits n })
-    (all-served (wanted (request_of v t.waits)) (waits_no_more v t) (cut-once v t o) u)
+    after-same u (λ x. among (resource_of_request (request_of v t.requests)) x ≡ true) t (without_request v t) (after_cancel v t)
+    (record { held = λ x. refl; request = request_of-claims_but_other u v t.requests n })
+    (all-served (resource_of_request (request_of v t.requests)) (without_request v t) (cut-once v t o) u)
 
 -- what is wanted is the resource of the request
-wanted-is : (o : Option Claim) (p : Claim) (x : List ℕ) → o ≡ Some p → among (wanted o) x ≡ true → p.resource ≡ x
+wanted-is : (o : Option Claim) (p : Claim) (x : List ℕ) → o ≡ Some p → among (resource_of_request o) x ≡ true → p.resource ≡ x
 wanted-is None p x e h = absurd (cc)
 wanted-is (Some q) p x e h = let same : q ≡ p = cc in ap (λ (c : Claim). c.resource) (sym same) ∙ same_path-true q.resource x (or-false (same_path q.resource x) h)
   where
@@ -45,9 +46,9 @@ wanted-is (Some q) p x e h = let same : q ≡ p = cc in ap (λ (c : Claim). c.re
 
 -- a victim and those after it
 
-module _ (v : ℕ) (vs : List ℕ) (st last : State) (p : Claim) (e : request_of v st.table.waits ≡ Some p) (o : IsOnce st.table.waits) (next : DoVictimsKeepLocks vs (after_victim v st) last) where
-  gone : request_of v (cancelled v st.table).waits ≡ None
-  gone = (cancelled-own v st.table o).waits ∙ request_of-claims_but v st.table.waits
+module _ (v : ℕ) (vs : List ℕ) (st last : State) (p : Claim) (e : request_of v st.table.requests ≡ Some p) (o : IsOnce st.table.requests) (next : DoVictimsKeepLocks vs (after_victim v st) last) where
+  gone : request_of v (after_cancel v st.table).requests ≡ None
+  gone = (cancelled-own v st.table o).request ∙ request_of-claims_but v st.table.requests
 
   not-again : IsAmong v vs → ⊥
   not-again i = none gone (next.victims v i).waited.1
@@ -55,7 +56,7 @@ module _ (v : ℕ) (vs : List ℕ) (st last : State) (p : Claim) (e : request_of
   apart-from : (u : ℕ) → IsAmong u vs → eqb u v ≡ false
   apart-from u i = elim (bool_cases (eqb u v)) [ inl y ↦ let f = (Decides-eqb u v).0 y in absurd (not-again (rw f at i)) | inr n ↦ n ]
 
-  own : IsAsBefore v (cancelled v st.table) last.table
+  own : IsAsBefore v (after_cancel v st.table) last.table
   own = elim (next.others v not-again) [ inl a ↦ a | inr q ↦ absurd (none gone q.1.waited) ]
 
   begun-other : (u : ℕ) → eqb u v ≡ false → (after_victim v st).begun u ≡ st.begun u
@@ -64,13 +65,13 @@ module _ (v : ℕ) (vs : List ℕ) (st last : State) (p : Claim) (e : request_of
   first-doomed : IsDoomOf v st last
   first-doomed = record {
     waited = (p, e);
-    waits_no_more = own.waits ∙ gone;
+    waits_no_more = own.request ∙ gone;
     doomed = next.others_begun v not-again ∙ ap (λ (b : Bool). cond b (doom (st.begun v)) (st.begun v)) (eqb-refl v);
     held = λ x. own.held x ∙ (cancelled-own v st.table o).held x;
   }
 
   -- who waits in the middle waited before, for the same
-  before : (u : ℕ) (q : Claim) → IsAmong u vs → request_of u (cancelled v st.table).waits ≡ Some q → IsAsBefore u st.table (cancelled v st.table)
+  before : (u : ℕ) (q : Claim) → IsAmong u vs → request_of u (after_cancel v st.table).requests ≡ Some q → IsAsBefore u st.table (after_cancel v st.table)
   before u q i w = elim (cancelled-others v st.table o u (apart-from u i)) [ inl a ↦ a | inr z ↦ absurd (none z.1.waits_no_more w) ]
 
   later-doomed : (u : ℕ) → IsAmong u vs → IsDoomOf u st last
@@ -78,23 +79,23 @@ module _ (v : ℕ) (vs : List ℕ) (st last : State) (p : Claim) (e : request_of
       let d = next.victims u i in
       let a = before u d.waited.0 i d.waited.1 in
       record {
-        waited = (d.waited.0, sym a.waits ∙ d.waited.1);
+        waited = (d.waited.0, sym a.request ∙ d.waited.1);
         waits_no_more = d.waits_no_more;
         doomed = d.doomed ∙ ap doom (begun-other u (apart-from u i));
         held = λ x. d.held x ∙ a.held x;
       }
 
-  wanted-before : (x : List ℕ) → IsWantedBy vs (cancelled v st.table) x → IsWantedBy (v ∷ vs) st.table x
-  wanted-before x w = let a = before w.0 w.1 w.2 w.3 in (w.0, w.1, inr w.2, sym a.waits ∙ w.3, w.4)
+  wanted-before : (x : List ℕ) → IsWantedBy vs (after_cancel v st.table) x → IsWantedBy (v ∷ vs) st.table x
+  wanted-before x w = let a = before w.0 w.1 w.2 w.3 in (w.0, w.1, inr w.2, sym a.request ∙ w.3, w.4)
 
   both-others : (u : ℕ) → (IsAmong u (v ∷ vs) → ⊥) → IsServed u (λ x. IsWantedBy (v ∷ vs) st.table x) st.table last.table
   both-others u h = elim (cancelled-others v st.table o u (other v u (λ f. h (inl f)))) [
     | inl a ↦ elim (next.others u (λ i. h (inr i))) [
-      | inl b ↦ inl (same-same u st.table (cancelled v st.table) last.table a b)
-      | inr q ↦ inr (q.0, same-promotion u q.0 st.table (cancelled v st.table) last.table a q.1, wanted-before q.0.resource q.2)
+      | inl b ↦ inl (same-same u st.table (after_cancel v st.table) last.table a b)
+      | inr q ↦ inr (q.0, same-promotion u q.0 st.table (after_cancel v st.table) last.table a q.1, wanted-before q.0.resource q.2)
     ]
     | inr q ↦ elim (next.others u (λ i. h (inr i))) [
-      | inl b ↦ inr (q.0, promotion-same u q.0 st.table (cancelled v st.table) last.table q.1 b, (v, p, inl refl, e, wanted-is (request_of v st.table.waits) p q.0.resource e q.2))
+      | inl b ↦ inr (q.0, promotion-same u q.0 st.table (after_cancel v st.table) last.table q.1 b, (v, p, inl refl, e, wanted-is (request_of v st.table.requests) p q.0.resource e q.2))
       | inr z ↦ absurd (none q.1.waits_no_more z.1.waited)
     ]
   ]
@@ -107,7 +108,7 @@ module _ (v : ℕ) (vs : List ℕ) (st last : State) (p : Claim) (e : request_of
     count = next.count;
   }
 
-pub victims-keep : (s : ℕ) (vs : List ℕ) (st last : State) → IsOnce st.table.waits → AreVictims s vs st last → DoVictimsKeepLocks vs st last
+pub victims-keep : (s : ℕ) (vs : List ℕ) (st last : State) → IsOnce st.table.requests → AreVictims s vs st last → DoVictimsKeepLocks vs st last
 victims-keep s [] st last o a = record {
   victims = λ v h. absurd h;
   others = λ u h. inl (rw a.1 (refl-same u st.table));
@@ -116,11 +117,11 @@ victims-keep s [] st last o a = record {
 }
 victims-keep s (v ∷ vs) st last o a =
     let c = a.0.on_circle.back in
-    let w = has-waits v st.table.waits (walk-waits st.table v c.others s c.walk) in
+    let w = has-waits v st.table.requests (walk-waits st.table v c.others s c.walk) in
     keep-both v vs st last w.0 w.1 o (victims-keep s vs (after_victim v st) last (cancelled-once v st.table o) a.1)
 
-pub keep-theirs : (st : State) → IsOnce st.table.waits → DoVictimsKeepTheirLocks st
-keep-theirs st o s r k vs last w a = victims-keep s vs (with_table (with_request s r k st.table) st) last (once-push s r k st.table.waits o (is-none (request_of s st.table.waits) w)) a
+pub keep-theirs : (st : State) → IsOnce st.table.requests → DoVictimsKeepTheirLocks st
+keep-theirs st o s r k vs last w a = victims-keep s vs (with_table (with_request s r k st.table) st) last (once-push s r k st.table.requests o (is-none (request_of s st.table.requests) w)) a
 
 -- among these or not
 pub among-or-not : (u : ℕ) (vs : List ℕ) → IsAmong u vs ⊎ (IsAmong u vs → ⊥)
@@ -136,5 +137,5 @@ among-or-not u (v ∷ vs) = elim (bool_cases (eqb u v)) [
 
 pub doom-promotes : (st : State) → DoesDoomPromote st
 doom-promotes st v q e =
-    let t = waits_no_more v st.table in
-    subst (λ (o : Option Claim). ArePromotionsLongest (q.resource ∷ []) t (promoted_all (wanted o) t)) (sym e) (promotions-longest (q.resource ∷ []) t)
+    let t = without_request v st.table in
+    subst (λ (o : Option Claim). ArePromotionsLongest (q.resource ∷ []) t (after_promotions (resource_of_request o) t)) (sym e) (promotions-longest (q.resource ∷ []) t)

@@ -18,7 +18,7 @@ use Rattle.lock_rules.proofs.Lists.{bool_cases, same_path_tells}
 use Rattle.lock_rules.proofs.Alters.{true≢false}
 use Rattle.lock_rules.proofs.Marks.{below-refl, below-trans, some-above}
 use Rattle.lock_rules.proofs.Sound.{eqb-swap}
-use Rattle.lock_rules.proofs.Cuts.{IsLawful, released-rises, ended-rises}
+use Rattle.lock_rules.proofs.Cuts.{IsAtRest, released-rises, ended-rises}
 use Rattle.lock_rules.proofs.Steps.{all-pass, is-none, lock-kept, convert-kept, step-lawful, state-lawful}
 use Rattle.lock_rules.proofs.Histories.{state_after-append}
 
@@ -30,14 +30,14 @@ IsHeldOn s r t t' = at_or_below (mode_or_nothing (held_mode t s r)) (mode_or_not
 abbrev Keeps : List ℕ → Call → Type 0
 Keeps r c = (c ≢ Commit) × (c ≢ Abort) × (c ≢ Release r)
 
-act-stands : (st : State) (u : ℕ) (c : Call) → IsLawful st.table → first_failing (tests st u c) ≡ None → (s : ℕ) (r : List ℕ) → (u ≡ s → Keeps r c) → IsHeldOn s r st.table (act st u c).state.table
+act-stands : (st : State) (u : ℕ) (c : Call) → IsAtRest st.table → first_failing (tests st u c) ≡ None → (s : ℕ) (r : List ℕ) → (u ≡ s → Keeps r c) → IsHeldOn s r st.table (act st u c).state.table
 act-stands st u Begin i h s r k = below-refl (mode_or_nothing (held_mode st.table s r))
 act-stands st u (Lock x m) i h s r k = (lock-kept st u x m i h).rises s r
 act-stands st u (Convert x m) i h s r k = (convert-kept st u x m i h).rises s r
 act-stands st u Poll i h s r k = below-refl (mode_or_nothing (held_mode st.table s r))
 act-stands st u (Release x) i h s r k =
     let p = all-pass (tests st u (Release x)) h in
-    released-rises u x st.table i.sound (is-none (request_of u st.table.waits) p.1.0) p.1.1.1.1.0 s r (elim (bool_cases (eqb u s)) [
+    released-rises u x st.table i.sound (is-none (request_of u st.table.requests) p.1.0) p.1.1.1.1.0 s r (elim (bool_cases (eqb u s)) [
       | inr n ↦ inl (eqb-swap u s n)
       | inl e ↦ elim (same_path_tells x r) [
         | inr n ↦ inr n
@@ -53,14 +53,14 @@ act-stands st u Abort i h s r k = elim (bool_cases (eqb u s)) [
   | inl e ↦ absurd ((k ((Decides-eqb u s).0 e)).1 refl)
 ]
 
-step-stands : (st : State) (u : ℕ) (c : Call) → IsLawful st.table → (s : ℕ) (r : List ℕ) → (u ≡ s → Keeps r c) → IsHeldOn s r st.table (step st u c).state.table
+step-stands : (st : State) (u : ℕ) (c : Call) → IsAtRest st.table → (s : ℕ) (r : List ℕ) → (u ≡ s → Keeps r c) → IsHeldOn s r st.table (step st u c).state.table
 step-stands st u c i s r k = go (first_failing (tests st u c)) refl
   where
     go : (o : Option Why) → first_failing (tests st u c) ≡ o → IsHeldOn s r st.table (outcome_of o st u c).state.table
     go None e = act-stands st u c i e s r k
     go (Some w) e = below-refl (mode_or_nothing (held_mode st.table s r))
 
-after-stands : (es : List Entry) (st : State) → IsLawful st.table → (s : ℕ) (r : List ℕ) → All (DoesKeepLock s r) es → IsHeldOn s r st.table (state_after st es).table
+after-stands : (es : List Entry) (st : State) → IsAtRest st.table → (s : ℕ) (r : List ℕ) → All (DoesKeepLock s r) es → IsHeldOn s r st.table (state_after st es).table
 after-stands [] st i s r k = below-refl (mode_or_nothing (held_mode st.table s r))
 after-stands (e ∷ es) st i s r k =
     below-trans (mode_or_nothing (held_mode st.table s r)) (mode_or_nothing (held_mode (step st e.session e.call).state.table s r)) (mode_or_nothing (held_mode (state_after (step st e.session e.call).state es).table s r))

@@ -7,9 +7,9 @@ use Rattle.lock_rules.specs.declared.calls.Call.TheVariants.{Begin, Lock, Conver
 use Rattle.lock_rules.specs.declared.calls.Why.{Why}
 use Rattle.lock_rules.specs.declared.calls.Entry.{Entry}
 use Rattle.lock_rules.specs.State.{Claim, Table, State, empty, held_mode, request_of, claims_of, claims_but, is_doomed, doomed_in, with_begun, with_table}
-use Rattle.lock_rules.specs.Queue.{queue, fits, granted, granted_front, promoted, promoted_all, with_request, is_granted}
-use Rattle.lock_rules.specs.Waits.{wanted, waits_no_more, doom, reaches, victim_of, after_victim, settled}
-use Rattle.lock_rules.specs.Step.{target_of, tests, first_failing, is_held, after_wait, asked, left, ended, act, outcome_of, step}
+use Rattle.lock_rules.specs.Queue.{queue, fits, after_grant, granted_while_fitting, after_promotion, after_promotions, with_request, is_granted_at_once}
+use Rattle.lock_rules.specs.Waits.{resource_of_request, without_request, doom, reaches, victim_of, after_victim, after_victims}
+use Rattle.lock_rules.specs.Step.{target_of, tests, first_failing, is_held, after_wait, after_asking, without_claims, after_end, act, outcome_of, step}
 use Rattle.lock_rules.specs.Legal.{state_after, state_of}
 use Rattle.lock_rules.specs.Laws.{DoDoomedWaitForNothing}
 use Rattle.lock_rules.proofs.Lists.{bool_cases, request_of-claims_but, request_of-claims_but_other}
@@ -26,70 +26,70 @@ none-but u v qs h = elim (bool_cases (eqb u v)) [
   | inr n ↦ request_of-claims_but_other u v qs n ∙ h
 ]
 
-front-none : (u : ℕ) (qs : List Claim) (t : Table) → request_of u t.waits ≡ None → request_of u (granted_front qs t).waits ≡ None
+front-none : (u : ℕ) (qs : List Claim) (t : Table) → request_of u t.requests ≡ None → request_of u (granted_while_fitting qs t).requests ≡ None
 front-none u [] t h = h
-front-none u (q ∷ qs) t h = go (fits t q.session q.resource q.mode) (front-none u qs (granted q.session q.resource q.mode t) (none-but u q.session t.waits h))
+front-none u (q ∷ qs) t h = go (fits t q.session q.resource q.mode) (front-none u qs (after_grant q.session q.resource q.mode t) (none-but u q.session t.requests h))
   where
-    go : (b : Bool) → request_of u (granted_front qs (granted q.session q.resource q.mode t)).waits ≡ None → request_of u (cond b (granted_front qs (granted q.session q.resource q.mode t)) t).waits ≡ None
+    go : (b : Bool) → request_of u (granted_while_fitting qs (after_grant q.session q.resource q.mode t)).requests ≡ None → request_of u (cond b (granted_while_fitting qs (after_grant q.session q.resource q.mode t)) t).requests ≡ None
     go true k = k
     go false k = h
 
-all-none : (u : ℕ) (rs : List (List ℕ)) (t : Table) → request_of u t.waits ≡ None → request_of u (promoted_all rs t).waits ≡ None
+all-none : (u : ℕ) (rs : List (List ℕ)) (t : Table) → request_of u t.requests ≡ None → request_of u (after_promotions rs t).requests ≡ None
 all-none u [] t h = h
-all-none u (r ∷ rs) t h = all-none u rs (promoted r t) (front-none u (queue t r) t h)
+all-none u (r ∷ rs) t h = all-none u rs (after_promotion r t) (front-none u (queue t r) t h)
 
 -- a victim
 
 victim-idle : (v : ℕ) (st : State) → DoDoomedWaitForNothing st → DoDoomedWaitForNothing (after_victim v st)
-victim-idle v st i u d = all-none u (wanted (request_of v st.table.waits)) (waits_no_more v st.table) (elim (bool_cases (eqb u v)) [
-  | inl y ↦ let f = (Decides-eqb u v).0 y in rw f (request_of-claims_but v st.table.waits)
-  | inr n ↦ none-but u v st.table.waits (i u (ap (λ (b : Bool). doomed_in (cond b (doom (st.begun v)) (st.begun u))) (sym n) ∙ d))
+victim-idle v st i u d = all-none u (resource_of_request (request_of v st.table.requests)) (without_request v st.table) (elim (bool_cases (eqb u v)) [
+  | inl y ↦ let f = (Decides-eqb u v).0 y in rw f (request_of-claims_but v st.table.requests)
+  | inr n ↦ none-but u v st.table.requests (i u (ap (λ (b : Bool). doomed_in (cond b (doom (st.begun v)) (st.begun u))) (sym n) ∙ d))
 ])
 
-settled-idle : (n s : ℕ) (st : State) → DoDoomedWaitForNothing st → DoDoomedWaitForNothing (settled n s st)
+settled-idle : (n s : ℕ) (st : State) → DoDoomedWaitForNothing st → DoDoomedWaitForNothing (after_victims n s st)
 settled-idle zero s st i = i
 settled-idle (suc n) s st i = go (reaches st.table s s) (settled-idle n s (after_victim (victim_of st s) st) (victim-idle (victim_of st s) st i))
   where
-    go : (b : Bool) → DoDoomedWaitForNothing (settled n s (after_victim (victim_of st s) st)) → DoDoomedWaitForNothing (cond b (settled n s (after_victim (victim_of st s) st)) st)
+    go : (b : Bool) → DoDoomedWaitForNothing (after_victims n s (after_victim (victim_of st s) st)) → DoDoomedWaitForNothing (cond b (after_victims n s (after_victim (victim_of st s) st)) st)
     go true k = k
     go false k = i
 
 -- each call
 
-waiting-idle : (st : State) (s : ℕ) (r : List ℕ) (m : Mode) → DoDoomedWaitForNothing st → request_of s st.table.waits ≡ None → is_doomed st s ≡ false → DoDoomedWaitForNothing (with_table (with_request s r m st.table) st)
+waiting-idle : (st : State) (s : ℕ) (r : List ℕ) (m : Mode) → DoDoomedWaitForNothing st → request_of s st.table.requests ≡ None → is_doomed st s ≡ false → DoDoomedWaitForNothing (with_table (with_request s r m st.table) st)
 waiting-idle st s r m i n c u d = elim (bool_cases (eqb u s)) [
   | inl y ↦ let f = (Decides-eqb u s).0 y in absurd (true≢false (rw f at d) c)
   | inr k ↦ sym (request-alters s (with_request s r m st.table) st.table (back s r m st.table n) u k) ∙ i u d
 ]
 
-asked-idle : (st : State) (s : ℕ) (r : List ℕ) (m : Mode) → DoDoomedWaitForNothing st → request_of s st.table.waits ≡ None → is_doomed st s ≡ false → DoDoomedWaitForNothing (asked st s r m)
-asked-idle st s r m i n c = go (is_held (held_mode st.table s r) m) (is_granted st.table s r m)
+asked-idle : (st : State) (s : ℕ) (r : List ℕ) (m : Mode) → DoDoomedWaitForNothing st → request_of s st.table.requests ≡ None → is_doomed st s ≡ false → DoDoomedWaitForNothing (after_asking st s r m)
+asked-idle st s r m i n c = go (is_held (held_mode st.table s r) m) (is_granted_at_once st.table s r m)
   where
-    go : (b g : Bool) → DoDoomedWaitForNothing (cond b st (cond g (with_table (granted s r m st.table) st) (after_wait st s r m)))
+    go : (b g : Bool) → DoDoomedWaitForNothing (cond b st (cond g (with_table (after_grant s r m st.table) st) (after_wait st s r m)))
     go true g = i
-    go false true = λ u d. none-but u s st.table.waits (i u d)
-    go false false = settled-idle (length st.table.waits + 2) s (with_table (with_request s r m st.table) st) (waiting-idle st s r m i n c)
+    go false true = λ u d. none-but u s st.table.requests (i u d)
+    go false false = settled-idle (length st.table.requests + 2) s (with_table (with_request s r m st.table) st) (waiting-idle st s r m i n c)
 
 begin-idle : (st : State) (s : ℕ) → DoDoomedWaitForNothing st → DoDoomedWaitForNothing (act st s Begin).state
 begin-idle st s i u d = go (eqb u s) d
   where
-    go : (b : Bool) → doomed_in (cond b (Some (record { number = st.count + 1; doomed = false })) (st.begun u)) ≡ true → request_of u st.table.waits ≡ None
+    go : (b : Bool) → doomed_in (cond b (Some (record { number = st.count + 1; doomed = false })) (st.begun u)) ≡ true → request_of u st.table.requests ≡ None
     go true k = absurd (cc)
     go false k = i u k
 
-ended-idle : (st : State) (s : ℕ) → DoDoomedWaitForNothing st → DoDoomedWaitForNothing (with_begun s None (with_table (ended s st.table) st))
+ended-idle : (st : State) (s : ℕ) → DoDoomedWaitForNothing st → DoDoomedWaitForNothing (with_begun s None (with_table (after_end s st.table) st))
 ended-idle st s i u d =
-    all-none u (wanted (request_of s st.table.waits) ++ map (λ (c : Claim). c.resource) (claims_of s st.table.held)) (left s st.table)
-    (none-but u s st.table.waits (go (eqb u s) d))
+    all-none u (resource_of_request (request_of s st.table.requests) ++ map (λ (c : Claim). c.resource) (claims_of s st.table.held)) (without_claims s st.table)
+    (none-but u s st.table.requests (go (eqb u s) d))
   where
-    go : (b : Bool) → doomed_in (cond b None (st.begun u)) ≡ true → request_of u st.table.waits ≡ None
+    go : (b : Bool) → doomed_in (cond b None (st.begun u)) ≡ true → request_of u st.table.requests ≡ None
     go true k = absurd (cc)
     go false k = i u k
 
 act-idle : (st : State) (s : ℕ) (c : Call) → DoDoomedWaitForNothing st → first_failing (tests st s c) ≡ None → DoDoomedWaitForNothing (act st s c).state
 act-idle st s Begin i h = begin-idle st s i
-act-idle st s (Lock r m) i h = let p = all-pass (tests st s (Lock r m)) h in asked-idle st s r (target_of (held_mode st.table s r) m) i (is-none (request_of s st.table.waits) p.1.0) p.1.1.0
-act-idle st s (Convert r m) i h = let p = all-pass (tests st s (Convert r m)) h in asked-idle st s r (target_of (held_mode st.table s r) m) i (is-none (request_of s st.table.waits) p.1.0) p.1.1.0
+act-idle st s (Lock r m) i h = let p = all-pass (tests st s (Lock r m)) h in asked-idle st s r (target_of (held_mode st.table s r) m) i (is-none (request_of s st.table.requests) p.1.0) p.1.1.0
+act-idle st s (Convert r m) i h = let p = all-pass (tests st s (Convert r m)) h in asked-idle st s r (target_of (held_mode st.table s r) m) i (is-none (request_of s st.table.requests) p.1.0) p.1.1.0
 act-idle st s Poll i h = i
 act-idle st s (Release r) i h = λ u d. front-none u (queue (one_less s r st.table) r) (one_less s r st.table) (i u d)
 act-idle st s Commit i h = ended-idle st s i

@@ -9,6 +9,7 @@ use Rattle.lock_tree.specs.Paths.{same_path}
 use Rattle.lock_rules.specs.State.{Claim, mode_in, request_of, claims_but, holders}
 use Rattle.lock_rules.specs.Queue.{with_lock, locks_but}
 use Rattle.lock_rules.specs.Waits.{stands_before}
+use Rattle.lock_rules.specs.Sound.{IsOnce, IsOrdered, after, ascend, times}
 
 pub bool_cases : (b : Bool) → (b ≡ true) ⊎ (b ≡ false)
 bool_cases true = inl refl
@@ -115,13 +116,6 @@ stands_before-claims_but u s v (q ∷ qs) h k = grind (arith, nat_tests, stands_
 
 -- each session has at most one request
 
-abbrev pub times : ℕ → List Claim → ℕ
-times s [] = 0
-times s (q ∷ qs) = cond (eqb q.session s) 1 0 + times s qs
-
-abbrev pub IsOnce : List Claim → Type 0
-IsOnce qs = (s : ℕ) → times s qs ≤ 1
-
 pub times-claims_but : (s v : ℕ) (qs : List Claim) → times s (claims_but v qs) ≤ times s qs
 times-claims_but s v [] = omega arith
 times-claims_but s v (q ∷ qs) = grind (arith, nat_tests, times-claims_but s v qs)
@@ -193,13 +187,6 @@ holders-with_lock_path : (s : ℕ) (q r : List ℕ) (m : Mode) (cs : List Claim)
 holders-with_lock_path s q r m [] h = grind (arith, nat_tests)
 holders-with_lock_path s q r m (c ∷ cs) h = grind (arith, nat_tests, same_path_tells, holders-with_lock_path s q r m cs h)
 
-abbrev pub after : ℕ → List (ℕ × Mode) → Bool
-after s hs = list_all (λ k. ltb s k.0) hs
-
-abbrev pub ascend : List (ℕ × Mode) → Bool
-ascend [] = true
-ascend (h ∷ hs) = after h.0 hs && ascend hs
-
 after-lock_in : (i s : ℕ) (m : Mode) (hs : List (ℕ × Mode)) → i < s → after i hs ≡ true → after i (lock_in s m hs) ≡ true
 after-lock_in i s m [] l h = grind (arith, nat_tests)
 after-lock_in i s m (k ∷ hs) l h = grind (arith, nat_tests, after-lock_in i s m hs l)
@@ -219,9 +206,6 @@ after-filter i r p (c ∷ cs) h = grind (arith, nat_tests, bool_cases (p c), boo
 ascend-filter : (r : List ℕ) (p : Claim → Bool) (cs : List Claim) → ascend (holders r cs) ≡ true → ascend (holders r (filter p cs)) ≡ true
 ascend-filter r p [] h = h
 ascend-filter r p (c ∷ cs) h = grind (arith, nat_tests, bool_cases (p c), bool_cases (same_path c.resource r), ascend-filter r p cs, after-filter c.session r p cs)
-
-abbrev pub IsOrdered : List Claim → Type 0
-IsOrdered cs = (r : List ℕ) → ascend (holders r cs) ≡ true
 
 pub ordered-filter : (p : Claim → Bool) (cs : List Claim) → IsOrdered cs → IsOrdered (filter p cs)
 ordered-filter p cs h r = ascend-filter r p cs (h r)

@@ -8,8 +8,9 @@ use Rattle.lock_modes.specs.declared.Mode.{Mode}
 use Rattle.lock_tree.specs.Paths.{same_path}
 use Rattle.lock_rules.specs.State.{Claim, State, mode_in, holders, claims_of}
 use Rattle.lock_rules.specs.Laws.{AreSessionsRising, AreHoldersListed, AreLocksOnce, IsOneRequestEach}
+use Rattle.lock_rules.specs.Sound.{IsOnce, IsOrdered, after, ascend, times}
 use Rattle.lock_rules.proofs.Members.{Member, contains-member, member-contains}
-use Rattle.lock_rules.proofs.Lists.{seek, seek-after, mode_in-seek, after, ascend, IsOrdered, IsOnce, times, times-append, none-times, eqb-refl, same_path-refl, same_path-true, same_path_tells}
+use Rattle.lock_rules.proofs.Lists.{seek, seek-after, mode_in-seek, times-append, none-times, eqb-refl, same_path-refl, same_path-true, same_path_tells}
 
 -- the holders of a resource
 
@@ -158,7 +159,7 @@ locks-once st o = record {
 
 -- requests
 
-pub one-request : (st : State) → IsOnce st.table.waits → IsOneRequestEach st
+pub one-request : (st : State) → IsOnce st.table.requests → IsOneRequestEach st
 one-request st o front rest q e =
     let n : times q.session (front ++ q ∷ rest) ≤ 1 = rw (← e) (o q.session) in
     let own : times q.session (q ∷ rest) ≡ 1 + times q.session rest = ap (λ (b : Bool). cond b 1 0 + times q.session rest) (eqb-refl q.session) in

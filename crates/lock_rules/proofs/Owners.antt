@@ -8,22 +8,19 @@ use Rattle.lock_rules.specs.declared.calls.Call.{Call}
 use Rattle.lock_rules.specs.declared.calls.Call.TheVariants.{Begin, Lock, Convert, Poll, Release, Commit, Abort}
 use Rattle.lock_rules.specs.declared.calls.Why.{Why}
 use Rattle.lock_rules.specs.declared.calls.Entry.{Entry}
-use Rattle.lock_rules.specs.State.{Claim, Table, State, Transaction, empty, held_mode, request_of, claims_of, is_open, number_in, number_of, with_begun, with_table}
-use Rattle.lock_rules.specs.Queue.{queue, fits, granted, granted_front, promoted, promoted_all, with_request, is_granted}
-use Rattle.lock_rules.specs.Waits.{waits_no_more, cancelled, wanted, doom, reaches, victim_of, after_victim, settled}
-use Rattle.lock_rules.specs.Step.{target_of, tests, first_failing, is_held, after_wait, asked, released, left, ended, act, outcome_of, step}
+use Rattle.lock_rules.specs.declared.calls.Transaction.{Transaction}
+use Rattle.lock_rules.specs.State.{Claim, Table, State, empty, held_mode, request_of, claims_of, is_open, number_in, number_of, with_begun, with_table}
+use Rattle.lock_rules.specs.Queue.{queue, fits, after_grant, granted_while_fitting, after_promotion, after_promotions, with_request, is_granted_at_once}
+use Rattle.lock_rules.specs.Waits.{without_request, after_cancel, resource_of_request, doom, reaches, victim_of, after_victim, after_victims}
+use Rattle.lock_rules.specs.Step.{target_of, tests, first_failing, is_held, after_wait, after_asking, after_release, without_claims, after_end, act, outcome_of, step}
 use Rattle.lock_rules.specs.Legal.{state_after, state_of}
 use Rattle.lock_rules.specs.Laws.{AreOwnersOpen, AreNumbersApart}
+use Rattle.lock_rules.specs.Sound.{AllOpen, IsNumbered}
 use Rattle.lock_rules.proofs.Lists.{bool_cases, In}
 use Rattle.lock_rules.proofs.Alters.{Alters, request-alters, request-gone, true≢false}
 use Rattle.lock_rules.proofs.Sound.{In-queue, granted-alters, no_more-alters}
 use Rattle.lock_rules.proofs.Cuts.{less-alters, less-held, left-alters, left-none, one_less}
 use Rattle.lock_rules.proofs.Steps.{all-pass, is-none}
-
--- whoever holds or waits is one of these sessions
-pub record AllOpen (open_ : ℕ → Bool) (t : Table) : Type 0 where
-  pub waiting : (s : ℕ) (q : Claim) → request_of s t.waits ≡ Some q → open_ s ≡ true
-  pub holding : (s : ℕ) (r : List ℕ) (m : Mode) → held_mode t s r ≡ Some m → open_ s ≡ true
 
 altered-open : (p : ℕ → Bool) (v : ℕ) (t t' : Table) → Alters v t t' → AllOpen p t → ((r : List ℕ) (m : Mode) → held_mode t' v r ≡ Some m → p v ≡ true) → AllOpen p t'
 altered-open p v t t' a i own = record {
@@ -37,11 +34,11 @@ altered-open p v t t' a i own = record {
   ];
 }
   where
-    gone : (s : ℕ) (q : Claim) → request_of s t'.waits ≡ Some q → s ≡ v → ⊥
+    gone : (s : ℕ) (q : Claim) → request_of s t'.requests ≡ Some q → s ≡ v → ⊥
     gone s q e f = let g = request-gone v t t' a in cc
 
-granted-open : (p : ℕ → Bool) (s : ℕ) (r : List ℕ) (m : Mode) (t : Table) → AllOpen p t → p s ≡ true → AllOpen p (granted s r m t)
-granted-open p s r m t i h = altered-open p s t (granted s r m t) (granted-alters s r m t) i (λ x k e. h)
+granted-open : (p : ℕ → Bool) (s : ℕ) (r : List ℕ) (m : Mode) (t : Table) → AllOpen p t → p s ≡ true → AllOpen p (after_grant s r m t)
+granted-open p s r m t i h = altered-open p s t (after_grant s r m t) (granted-alters s r m t) i (λ x k e. h)
 
 In-some : (h : Claim) (xs : List Claim) → In h xs → (q : Claim) × (request_of h.session xs ≡ Some q)
 In-some h [] k = absurd k
@@ -52,34 +49,28 @@ In-some h (x ∷ xs) k = go (eqb x.session h.session) refl k (In-some h xs)
     go false e (inl f) next = absurd (true≢false ((Decides-eqb x.session h.session).1 (ap (λ (c : Claim). c.session) (sym f))) e)
     go false e (inr i) next = next i
 
-front-open : (p : ℕ → Bool) (qs : List Claim) (t : Table) → AllOpen p t → ((q : Claim) → In q qs → p q.session ≡ true) → AllOpen p (granted_front qs t)
+front-open : (p : ℕ → Bool) (qs : List Claim) (t : Table) → AllOpen p t → ((q : Claim) → In q qs → p q.session ≡ true) → AllOpen p (granted_while_fitting qs t)
 front-open p [] t i h = i
-front-open p (q ∷ qs) t i h = go (fits t q.session q.resource q.mode) (front-open p qs (granted q.session q.resource q.mode t) (granted-open p q.session q.resource q.mode t i (h q (inl refl))) (λ c k. h c (inr k)))
+front-open p (q ∷ qs) t i h = go (fits t q.session q.resource q.mode) (front-open p qs (after_grant q.session q.resource q.mode t) (granted-open p q.session q.resource q.mode t i (h q (inl refl))) (λ c k. h c (inr k)))
   where
-    go : (b : Bool) → AllOpen p (granted_front qs (granted q.session q.resource q.mode t)) → AllOpen p (cond b (granted_front qs (granted q.session q.resource q.mode t)) t)
+    go : (b : Bool) → AllOpen p (granted_while_fitting qs (after_grant q.session q.resource q.mode t)) → AllOpen p (cond b (granted_while_fitting qs (after_grant q.session q.resource q.mode t)) t)
     go true k = k
     go false k = i
 
-promoted-open : (p : ℕ → Bool) (r : List ℕ) (t : Table) → AllOpen p t → AllOpen p (promoted r t)
-promoted-open p r t i = front-open p (queue t r) t i (λ q k. let w = In-some q t.waits (In-queue t r q k).0 in i.waiting q.session w.0 w.1)
+promoted-open : (p : ℕ → Bool) (r : List ℕ) (t : Table) → AllOpen p t → AllOpen p (after_promotion r t)
+promoted-open p r t i = front-open p (queue t r) t i (λ q k. let w = In-some q t.requests (In-queue t r q k).0 in i.waiting q.session w.0 w.1)
 
-all-open : (p : ℕ → Bool) (rs : List (List ℕ)) (t : Table) → AllOpen p t → AllOpen p (promoted_all rs t)
+all-open : (p : ℕ → Bool) (rs : List (List ℕ)) (t : Table) → AllOpen p t → AllOpen p (after_promotions rs t)
 all-open p [] t i = i
-all-open p (r ∷ rs) t i = all-open p rs (promoted r t) (promoted-open p r t i)
+all-open p (r ∷ rs) t i = all-open p rs (after_promotion r t) (promoted-open p r t i)
 
-cancelled-open : (p : ℕ → Bool) (v : ℕ) (t : Table) → AllOpen p t → AllOpen p (cancelled v t)
-cancelled-open p v t i = all-open p (wanted (request_of v t.waits)) (waits_no_more v t) (altered-open p v t (waits_no_more v t) (no_more-alters v t) i (λ r m e. i.holding v r m e))
+cancelled-open : (p : ℕ → Bool) (v : ℕ) (t : Table) → AllOpen p t → AllOpen p (after_cancel v t)
+cancelled-open p v t i = all-open p (resource_of_request (request_of v t.requests)) (without_request v t) (altered-open p v t (without_request v t) (no_more-alters v t) i (λ r m e. i.holding v r m e))
 
 wider-open : (p p' : ℕ → Bool) (t : Table) → ((s : ℕ) → p s ≡ true → p' s ≡ true) → AllOpen p t → AllOpen p' t
 wider-open p p' t h i = record { waiting = λ s q e. h s (i.waiting s q e); holding = λ s r m e. h s (i.holding s r m e) }
 
 -- the numbers
-
--- whoever holds or waits has a transaction, and these have numbers of their own, at most the count
-pub record IsNumbered (st : State) : Type 0 where
-  pub owners : AllOpen (is_open st) st.table
-  pub counted : (s : ℕ) → is_open st s ≡ true → number_of st s ≤ st.count
-  pub apart : AreNumbersApart st
 
 -- the same transactions, though some may be doomed
 pub record SameNumbers (st st' : State) : Type 0 where
@@ -110,11 +101,11 @@ victim-numbers v st = record {
 pub victim-numbered : (v : ℕ) (st : State) → IsNumbered st → IsNumbered (after_victim v st)
 victim-numbered v st i = numbered-same st (after_victim v st) (victim-numbers v st) i (cancelled-open (is_open st) v st.table i.owners)
 
-settled-numbered : (n s : ℕ) (st : State) → IsNumbered st → IsNumbered (settled n s st)
+settled-numbered : (n s : ℕ) (st : State) → IsNumbered st → IsNumbered (after_victims n s st)
 settled-numbered zero s st i = i
 settled-numbered (suc n) s st i = go (reaches st.table s s) (settled-numbered n s (after_victim (victim_of st s) st) (victim-numbered (victim_of st s) st i))
   where
-    go : (b : Bool) → IsNumbered (settled n s (after_victim (victim_of st s) st)) → IsNumbered (cond b (settled n s (after_victim (victim_of st s) st)) st)
+    go : (b : Bool) → IsNumbered (after_victims n s (after_victim (victim_of st s) st)) → IsNumbered (cond b (after_victims n s (after_victim (victim_of st s) st)) st)
     go true k = k
     go false k = i
 
@@ -124,7 +115,7 @@ retabled st t i a = record { owners = a; counted = i.counted; apart = i.apart }
 
 -- who begins to wait has a transaction
 pub begins-open : (p : ℕ → Bool) (s : ℕ) (r : List ℕ) (m : Mode) (t : Table) → AllOpen p t → p s ≡ true → AllOpen p (with_request s r m t)
-begins-open p s r m t i h = record { waiting = λ u q e. waits t.waits u q e (λ c. i.waiting u c); holding = λ u x k e. i.holding u x k e }
+begins-open p s r m t i h = record { waiting = λ u q e. waits t.requests u q e (λ c. i.waiting u c); holding = λ u x k e. i.holding u x k e }
   where
     waits : (qs : List Claim) (u : ℕ) (q : Claim) → request_of u (qs ++ record { session = s; resource = r; mode = m } ∷ []) ≡ Some q → ((c : Claim) → request_of u qs ≡ Some c → p u ≡ true) → p u ≡ true
     waits qs u q e k = elim (bool_cases (eqb s u)) [
@@ -136,21 +127,21 @@ begins-open p s r m t i h = record { waiting = λ u q e. waits t.waits u q e (λ
         request_of-push_other u [] n = ap (λ (b : Bool). cond b (Some (record { session = s; resource = r; mode = m })) None) n
         request_of-push_other u (c ∷ qs) n = ap (λ (o : Option Claim). cond (eqb c.session u) (Some c) o) (request_of-push_other u qs n)
 
-asked-numbered : (st : State) (s : ℕ) (r : List ℕ) (m : Mode) → IsNumbered st → is_open st s ≡ true → IsNumbered (asked st s r m)
-asked-numbered st s r m i h = go (is_held (held_mode st.table s r) m) (is_granted st.table s r m)
+asked-numbered : (st : State) (s : ℕ) (r : List ℕ) (m : Mode) → IsNumbered st → is_open st s ≡ true → IsNumbered (after_asking st s r m)
+asked-numbered st s r m i h = go (is_held (held_mode st.table s r) m) (is_granted_at_once st.table s r m)
   where
-    go : (b c : Bool) → IsNumbered (cond b st (cond c (with_table (granted s r m st.table) st) (after_wait st s r m)))
+    go : (b c : Bool) → IsNumbered (cond b st (cond c (with_table (after_grant s r m st.table) st) (after_wait st s r m)))
     go true c = i
-    go false true = retabled st (granted s r m st.table) i (granted-open (is_open st) s r m st.table i.owners h)
-    go false false = settled-numbered (length st.table.waits + 2) s (with_table (with_request s r m st.table) st) (retabled st (with_request s r m st.table) i (begins-open (is_open st) s r m st.table i.owners h))
+    go false true = retabled st (after_grant s r m st.table) i (granted-open (is_open st) s r m st.table i.owners h)
+    go false false = settled-numbered (length st.table.requests + 2) s (with_table (with_request s r m st.table) st) (retabled st (with_request s r m st.table) i (begins-open (is_open st) s r m st.table i.owners h))
 
-ended-numbered : (st : State) (s : ℕ) → IsNumbered st → IsNumbered (with_begun s None (with_table (ended s st.table) st))
+ended-numbered : (st : State) (s : ℕ) → IsNumbered st → IsNumbered (with_begun s None (with_table (after_end s st.table) st))
 ended-numbered st s i =
     let p : ℕ → Bool = λ (u : ℕ). is_some (cond (eqb u s) None (st.begun u)) in
-    let gone : AllOpen p (left s st.table) = record {
+    let gone : AllOpen p (without_claims s st.table) = record {
       waiting = λ u q e. elim (bool_cases (eqb u s)) [
         | inl f ↦ absurd (none u q e ((Decides-eqb u s).0 f))
-        | inr n ↦ ap (λ (b : Bool). is_some (cond b None (st.begun u))) n ∙ i.owners.waiting u q (sym (request-alters s st.table (left s st.table) (left-alters s st.table) u n) ∙ e)
+        | inr n ↦ ap (λ (b : Bool). is_some (cond b None (st.begun u))) n ∙ i.owners.waiting u q (sym (request-alters s st.table (without_claims s st.table) (left-alters s st.table) u n) ∙ e)
       ];
       holding = λ u r m e. elim (bool_cases (eqb u s)) [
         | inl f ↦ let g = (Decides-eqb u s).0 f in absurd (left-none s st.table r m (rw g at e))
@@ -158,13 +149,13 @@ ended-numbered st s i =
       ];
     } in
     record {
-      owners = all-open p (wanted (request_of s st.table.waits) ++ map (λ (c : Claim). c.resource) (claims_of s st.table.held)) (left s st.table) gone;
+      owners = all-open p (resource_of_request (request_of s st.table.requests) ++ map (λ (c : Claim). c.resource) (claims_of s st.table.held)) (without_claims s st.table) gone;
       counted = λ u h. let k = kept u h in rw k.0 (i.counted u k.1);
       apart = λ u w h k e. let a = kept u h in let b = kept w k in i.apart u w a.1 b.1 (sym (ap (λ (x : Bool). number_in (cond x None (st.begun u))) a.0) ∙ (e ∙ ap (λ (x : Bool). number_in (cond x None (st.begun w))) b.0));
     }
   where
-    none : (u : ℕ) (q : Claim) → request_of u (left s st.table).waits ≡ Some q → u ≡ s → ⊥
-    none u q e f = let g = request-gone s st.table (left s st.table) (left-alters s st.table) in cc
+    none : (u : ℕ) (q : Claim) → request_of u (without_claims s st.table).requests ≡ Some q → u ≡ s → ⊥
+    none u q e f = let g = request-gone s st.table (without_claims s st.table) (left-alters s st.table) in cc
 
     kept : (u : ℕ) → is_some (cond (eqb u s) None (st.begun u)) ≡ true → (eqb u s ≡ false) × (is_open st u ≡ true)
     kept u h = go (eqb u s) h
@@ -200,9 +191,9 @@ begin-numbered st s i closed = record {
     distinct false true u w f g h k e = absurd (omega (arith, i.counted u h))
     distinct false false u w f g h k e = i.apart u w h k e
 
-released-numbered : (st : State) (s : ℕ) (r : List ℕ) → IsNumbered st → request_of s st.table.waits ≡ None → IsNumbered (with_table (released s r st.table) st)
+released-numbered : (st : State) (s : ℕ) (r : List ℕ) → IsNumbered st → request_of s st.table.requests ≡ None → IsNumbered (with_table (after_release s r st.table) st)
 released-numbered st s r i n =
-    retabled st (released s r st.table) i
+    retabled st (after_release s r st.table) i
     (promoted-open (is_open st) r (one_less s r st.table)
     (altered-open (is_open st) s st.table (one_less s r st.table) (less-alters s r st.table n) i.owners (λ x k e. i.owners.holding s x k (less-held s r x st.table k e).1)))
 

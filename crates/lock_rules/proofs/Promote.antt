@@ -7,12 +7,13 @@ use Rattle.lock_modes.specs.declared.Mode.{Mode}
 use Rattle.lock_modes.specs.Order.{at_or_below}
 use Rattle.lock_tree.specs.Paths.{same_path}
 use Rattle.lock_rules.specs.State.{Claim, Table, held_mode, mode_or_nothing, request_of, claims_but}
-use Rattle.lock_rules.specs.Queue.{queue, fits, granted, granted_front, promoted, promoted_all}
+use Rattle.lock_rules.specs.Queue.{queue, fits, after_grant, granted_while_fitting, after_promotion, after_promotions}
 use Rattle.lock_rules.specs.Waits.{waits_for}
+use Rattle.lock_rules.specs.Sound.{IsSound, Stands}
 use Rattle.lock_rules.proofs.Lists.{bool_cases, same_path_tells, same_path-true, request_of-claims_but, request_of-claims_but_other}
 use Rattle.lock_rules.proofs.Marks.{below-refl, below-trans}
 use Rattle.lock_rules.proofs.Alters.{NoCircle, beside, circle-alters, circle-alters_beside}
-use Rattle.lock_rules.proofs.Sound.{Stands, IsSound, UnfitAt, Rises, head-request, queue-rest, unfit_at-alters, granted-alters, granted-rises, granted-sound}
+use Rattle.lock_rules.proofs.Sound.{UnfitAt, Rises, head-request, queue-rest, unfit_at-alters, granted-alters, granted-rises, granted-sound}
 
 -- requests that are left
 
@@ -31,17 +32,17 @@ request-fewer s v qs q h = elim (bool_cases (eqb s v)) [
 ]
 
 -- a promotion leaves no more requests than there were
-front-fewer : (qs : List Claim) (t : Table) → length (granted_front qs t).waits ≤ length t.waits
+front-fewer : (qs : List Claim) (t : Table) → length (granted_while_fitting qs t).requests ≤ length t.requests
 front-fewer [] t = omega arith
-front-fewer (q ∷ qs) t = go (fits t q.session q.resource q.mode) (front-fewer qs (granted q.session q.resource q.mode t))
+front-fewer (q ∷ qs) t = go (fits t q.session q.resource q.mode) (front-fewer qs (after_grant q.session q.resource q.mode t))
   where
-    go : (b : Bool) → length (granted_front qs (granted q.session q.resource q.mode t)).waits ≤ length (granted q.session q.resource q.mode t).waits → length (cond b (granted_front qs (granted q.session q.resource q.mode t)) t).waits ≤ length t.waits
-    go true h = omega (arith, h, length-claims_but q.session t.waits)
+    go : (b : Bool) → length (granted_while_fitting qs (after_grant q.session q.resource q.mode t)).requests ≤ length (after_grant q.session q.resource q.mode t).requests → length (cond b (granted_while_fitting qs (after_grant q.session q.resource q.mode t)) t).requests ≤ length t.requests
+    go true h = omega (arith, h, length-claims_but q.session t.requests)
     go false h = omega arith
 
-pub all-fewer : (rs : List (List ℕ)) (t : Table) → length (promoted_all rs t).waits ≤ length t.waits
+pub all-fewer : (rs : List (List ℕ)) (t : Table) → length (after_promotions rs t).requests ≤ length t.requests
 all-fewer [] t = omega arith
-all-fewer (r ∷ rs) t = omega (arith, all-fewer rs (promoted r t), front-fewer (queue t r) t)
+all-fewer (r ∷ rs) t = omega (arith, all-fewer rs (after_promotion r t), front-fewer (queue t r) t)
 
 -- the table stays sound, nobody holds less, no circle is new, and no request is new
 pub record Follows (t t' : Table) : Type 0 where
@@ -49,8 +50,8 @@ pub record Follows (t t' : Table) : Type 0 where
   pub rises : Rises t t'
   pub circle : NoCircle (waits_for t) → NoCircle (waits_for t')
   pub circle_beside : (a : ℕ) → NoCircle (beside a (waits_for t)) → NoCircle (beside a (waits_for t'))
-  pub fewer : length t'.waits ≤ length t.waits
-  pub requests : (s : ℕ) (q : Claim) → request_of s t'.waits ≡ Some q → request_of s t.waits ≡ Some q
+  pub fewer : length t'.requests ≤ length t.requests
+  pub requests : (s : ℕ) (q : Claim) → request_of s t'.requests ≡ Some q → request_of s t.requests ≡ Some q
 
 pub follows-refl : (t : Table) → IsSound t → Follows t t
 follows-refl t i = record { sound = i; rises = λ s x. below-refl (mode_or_nothing (held_mode t s x)); circle = λ h. h; circle_beside = λ a h. h; fewer = omega arith; requests = λ s q h. h }
@@ -65,14 +66,14 @@ follows-trans t u w a b = record {
   requests = λ s q h. a.requests s q (b.requests s q h);
 }
 
-pub granted-follows : (s : ℕ) (r : List ℕ) (m : Mode) (t : Table) → IsSound t → at_or_below (mode_or_nothing (held_mode t s r)) m ≡ true → Stands t s r m → fits t s r m ≡ true → Follows t (granted s r m t)
+pub granted-follows : (s : ℕ) (r : List ℕ) (m : Mode) (t : Table) → IsSound t → at_or_below (mode_or_nothing (held_mode t s r)) m ≡ true → Stands t s r m → fits t s r m ≡ true → Follows t (after_grant s r m t)
 granted-follows s r m t i up under fit = record {
   sound = granted-sound s r m t i up under fit;
   rises = granted-rises s r m t up;
-  circle = circle-alters s t (granted s r m t) (granted-alters s r m t);
-  circle_beside = λ a. circle-alters_beside s a t (granted s r m t) (granted-alters s r m t);
-  fewer = length-claims_but s t.waits;
-  requests = λ u q h. request-fewer u s t.waits q h;
+  circle = circle-alters s t (after_grant s r m t) (granted-alters s r m t);
+  circle_beside = λ a. circle-alters_beside s a t (after_grant s r m t) (granted-alters s r m t);
+  fewer = length-claims_but s t.requests;
+  requests = λ u q h. request-fewer u s t.requests q h;
 }
 
 abbrev pub Elsewhere : List ℕ → Table → Table → Type 0
@@ -83,19 +84,19 @@ pub record IsPromoted (r : List ℕ) (t t' : Table) : Type 0 where
   pub elsewhere : Elsewhere r t t'
   pub there : UnfitAt t' r
 
-granted_front-promoted : (r : List ℕ) (qs : List Claim) (t : Table) → IsSound t → queue t r ≡ qs → IsPromoted r t (granted_front qs t)
+granted_front-promoted : (r : List ℕ) (qs : List Claim) (t : Table) → IsSound t → queue t r ≡ qs → IsPromoted r t (granted_while_fitting qs t)
 granted_front-promoted r [] t i e = record { follows = follows-refl t i; elsewhere = λ x n h. h; there = λ q qs f. let g = sym e ∙ f in absurd (cc) }
-granted_front-promoted r (q ∷ qs) t i e = go (fits t q.session q.resource q.mode) refl (λ j f. granted_front-promoted r qs (granted q.session q.resource q.mode t) j f)
+granted_front-promoted r (q ∷ qs) t i e = go (fits t q.session q.resource q.mode) refl (λ j f. granted_front-promoted r qs (after_grant q.session q.resource q.mode t) j f)
   where
-    request : (request_of q.session t.waits ≡ Some q) × (same_path q.resource r ≡ true)
+    request : (request_of q.session t.requests ≡ Some q) × (same_path q.resource r ≡ true)
     request = head-request t r q qs i.once e
 
     path : q.resource ≡ r
     path = same_path-true q.resource r request.1
 
     go : (b : Bool) → fits t q.session q.resource q.mode ≡ b
-        → (IsSound (granted q.session q.resource q.mode t) → queue (granted q.session q.resource q.mode t) r ≡ qs → IsPromoted r (granted q.session q.resource q.mode t) (granted_front qs (granted q.session q.resource q.mode t)))
-        → IsPromoted r t (cond b (granted_front qs (granted q.session q.resource q.mode t)) t)
+        → (IsSound (after_grant q.session q.resource q.mode t) → queue (after_grant q.session q.resource q.mode t) r ≡ qs → IsPromoted r (after_grant q.session q.resource q.mode t) (granted_while_fitting qs (after_grant q.session q.resource q.mode t)))
+        → IsPromoted r t (cond b (granted_while_fitting qs (after_grant q.session q.resource q.mode t)) t)
     go false f next = record {
       follows = follows-refl t i;
       elsewhere = λ x n h. h;
@@ -103,16 +104,16 @@ granted_front-promoted r (q ∷ qs) t i e = go (fits t q.session q.resource q.mo
     }
     go true f next =
         let first = granted-follows q.session q.resource q.mode t i (i.raising q.session q request.0) (i.asked_under q.session q request.0) f in
-        let rest = next first.sound (queue-rest t (granted q.session q.resource q.mode t) r q qs i.once e (granted-alters q.session q.resource q.mode t)) in
+        let rest = next first.sound (queue-rest t (after_grant q.session q.resource q.mode t) r q qs i.once e (granted-alters q.session q.resource q.mode t)) in
         record {
-          follows = follows-trans t (granted q.session q.resource q.mode t) (granted_front qs (granted q.session q.resource q.mode t)) first rest.follows;
+          follows = follows-trans t (after_grant q.session q.resource q.mode t) (granted_while_fitting qs (after_grant q.session q.resource q.mode t)) first rest.follows;
           elsewhere = λ x n h. rest.elsewhere x n
-              (unfit_at-alters q.session t (granted q.session q.resource q.mode t) x (granted-alters q.session q.resource q.mode t) (first.rises q.session x)
+              (unfit_at-alters q.session t (after_grant q.session q.resource q.mode t) x (granted-alters q.session q.resource q.mode t) (first.rises q.session x)
               (λ p g. let same : q ≡ p = let k = sym request.0 ∙ g in cc in ap (λ (c : Claim). same_path c.resource x) (sym same) ∙ (ap (λ (y : List ℕ). same_path y x) path ∙ n)) i h);
           there = rest.there;
         }
 
-pub promoted-promoted : (r : List ℕ) (t : Table) → IsSound t → IsPromoted r t (promoted r t)
+pub promoted-promoted : (r : List ℕ) (t : Table) → IsSound t → IsPromoted r t (after_promotion r t)
 promoted-promoted r t i = granted_front-promoted r (queue t r) t i refl
 
 abbrev pub among : List (List ℕ) → List ℕ → Bool
@@ -122,13 +123,13 @@ pub record ArePromoted (rs : List (List ℕ)) (t t' : Table) : Type 0 where
   pub follows : Follows t t'
   pub unfit : ((x : List ℕ) → among rs x ≡ false → UnfitAt t x) → (x : List ℕ) → UnfitAt t' x
 
-pub all-promoted : (rs : List (List ℕ)) (t : Table) → IsSound t → ArePromoted rs t (promoted_all rs t)
+pub all-promoted : (rs : List (List ℕ)) (t : Table) → IsSound t → ArePromoted rs t (after_promotions rs t)
 all-promoted [] t i = record { follows = follows-refl t i; unfit = λ h x. h x refl }
 all-promoted (r ∷ rs) t i =
     let first = promoted-promoted r t i in
-    let rest = all-promoted rs (promoted r t) first.follows.sound in
+    let rest = all-promoted rs (after_promotion r t) first.follows.sound in
     record {
-      follows = follows-trans t (promoted r t) (promoted_all rs (promoted r t)) first.follows rest.follows;
+      follows = follows-trans t (after_promotion r t) (after_promotions rs (after_promotion r t)) first.follows rest.follows;
       unfit = λ h. rest.unfit (λ x n. elim (same_path_tells r x) [
         | inl p ↦ rw (← p.1) first.there
         | inr m ↦ first.elsewhere x m (h x (or_from (same_path r x) (among rs x) m n))

@@ -9,12 +9,14 @@ use Rattle.lock_rules.specs.declared.calls.Reply.{Reply}
 use Rattle.lock_rules.specs.declared.calls.Reply.TheVariants.{Granted, Waiting, Deadlock, Refused}
 use Rattle.lock_rules.specs.declared.calls.Why.{Why}
 use Rattle.lock_rules.specs.declared.calls.Why.TheVariants.{NoTransaction, IsWaiting, IsDoomed, NothingAsked, NotHeld, ParentNotHeld, TooManyLocks}
-use Rattle.lock_rules.specs.State.{Claim, Transaction, Table, State, held_mode, mode_or_nothing, request_of, is_open, is_waiting, is_doomed, doomed_in, with_table}
+use Rattle.lock_rules.specs.declared.calls.Transaction.{Transaction}
+use Rattle.lock_rules.specs.State.{Claim, Table, State, held_mode, mode_or_nothing, request_of, is_open, is_waiting, is_doomed, doomed_in, with_table}
 use Rattle.lock_rules.specs.Waits.{doom}
-use Rattle.lock_rules.specs.Queue.{queue, is_empty, fits, granted, is_granted, with_request}
-use Rattle.lock_rules.specs.Step.{Outcome, target_of, is_nothing, tests, first_failing, after_wait, is_held, asked, ask, outcome_of}
+use Rattle.lock_rules.specs.Queue.{queue, is_empty, fits, after_grant, is_granted_at_once, with_request}
+use Rattle.lock_rules.specs.Step.{Outcome, target_of, is_nothing, tests, first_failing, after_wait, is_held, after_asking, ask, outcome_of}
 use Rattle.lock_rules.specs.Effects.{IsPromotionOf, IsTarget, IsFree, IsWaitOf, IsTold, IsWaitSettled, IsAnswerTo, IsLockAnswered, IsConvertAnswered, IsLockOfHeldConvert, IsGrantedHeld, IsConversionHeld}
-use Rattle.lock_rules.proofs.Lists.{IsOnce, bool_cases, other, differs, request_of-claims_but, request_of-push}
+use Rattle.lock_rules.specs.Sound.{IsOnce}
+use Rattle.lock_rules.proofs.Lists.{bool_cases, other, differs, request_of-claims_but, request_of-push}
 use Rattle.lock_rules.proofs.Alters.{request-alters, true≢false}
 use Rattle.lock_rules.proofs.Marks.{below-refl, below-sup}
 use Rattle.lock_rules.proofs.Begins.{new, back, once-push, queue-fresh, queue-converted, queue-beside}
@@ -51,13 +53,13 @@ none-empty : (qs : List Claim) → qs ≡ [] → is_empty qs ≡ true
 none-empty [] e = refl
 none-empty (q ∷ qs) e = cc
 
-free-granted : (t : Table) (s : ℕ) (r : List ℕ) (k : Mode) → IsFree t s r k → is_granted t s r k ≡ true
+free-granted : (t : Table) (s : ℕ) (r : List ℕ) (k : Mode) → IsFree t s r k → is_granted_at_once t s r k ≡ true
 free-granted t s r k f = and_from (fits t s r k) (is_some (held_mode t s r) || is_empty (queue t r)) f.0 (elim f.1 [
   | inl n ↦ ap (λ (b : Bool). b || is_empty (queue t r)) (some (held_mode t s r) n)
   | inr e ↦ or_right (is_some (held_mode t s r)) (is_empty (queue t r)) (none-empty (queue t r) e)
 ])
 
-granted-free : (t : Table) (s : ℕ) (r : List ℕ) (k : Mode) → is_granted t s r k ≡ true → IsFree t s r k
+granted-free : (t : Table) (s : ℕ) (r : List ℕ) (k : Mode) → is_granted_at_once t s r k ≡ true → IsFree t s r k
 granted-free t s r k h =
     let p = and_parts (fits t s r k) (is_some (held_mode t s r) || is_empty (queue t r)) h in
     (p.0, either (held_mode t s r) (queue t r) p.1)
@@ -67,15 +69,15 @@ granted-free t s r k h =
     either None [] e = inr refl
     either None (q ∷ qs) e = absurd (cc)
 
-not-free : (t : Table) (s : ℕ) (r : List ℕ) (k : Mode) → (IsFree t s r k → ⊥) → is_granted t s r k ≡ false
-not-free t s r k n = elim (bool_cases (is_granted t s r k)) [ inl e ↦ absurd (n (granted-free t s r k e)) | inr e ↦ e ]
+not-free : (t : Table) (s : ℕ) (r : List ℕ) (k : Mode) → (IsFree t s r k → ⊥) → is_granted_at_once t s r k ≡ false
+not-free t s r k n = elim (bool_cases (is_granted_at_once t s r k)) [ inl e ↦ absurd (n (granted-free t s r k e)) | inr e ↦ e ]
 
 -- the three cases
 
-waits-behind : (s : ℕ) (r : List ℕ) (k : Mode) (t : Table) → request_of s t.waits ≡ None → IsWaitOf s r k t (with_request s r k t)
+waits-behind : (s : ℕ) (r : List ℕ) (k : Mode) (t : Table) → request_of s t.requests ≡ None → IsWaitOf s r k t (with_request s r k t)
 waits-behind s r k t n = record {
   held = λ u x. refl;
-  waits = request_of-push s t.waits (new s r k) n refl;
+  waiting = request_of-push s t.requests (new s r k) n refl;
   others_wait = λ u m. sym (request-alters s (with_request s r k t) t (back s r k t n) u (other s u m));
   conversion = λ m. queue-converted s r k t (some (held_mode t s r) m);
   fresh = λ e. queue-fresh s r k t (ap (λ (o : Option Mode). is_some o) e);
@@ -84,7 +86,7 @@ waits-behind s r k t n = record {
 
 module _ (st : State) (s : ℕ) (r : List ℕ) (k : Mode) where
   abbrev later : Bool → State
-  later g = cond g (with_table (granted s r k st.table) st) (after_wait st s r k)
+  later g = cond g (with_table (after_grant s r k st.table) st) (after_wait st s r k)
 
   abbrev waiting : State
   waiting = with_table (with_request s r k st.table) st
@@ -95,13 +97,13 @@ module _ (st : State) (s : ℕ) (r : List ℕ) (k : Mode) where
   abbrev outcome : State → Outcome
   outcome after = record { state = after; reply = answer after }
 
-  same-state : is_held (held_mode st.table s r) k ≡ true → asked st s r k ≡ st
-  same-state e = ap (λ (b : Bool). cond b st (later (is_granted st.table s r k))) e
+  same-state : is_held (held_mode st.table s r) k ≡ true → after_asking st s r k ≡ st
+  same-state e = ap (λ (b : Bool). cond b st (later (is_granted_at_once st.table s r k))) e
 
-  later-state : (g : Bool) → is_held (held_mode st.table s r) k ≡ false → is_granted st.table s r k ≡ g → asked st s r k ≡ later g
-  later-state g e f = ap (λ (b : Bool). cond b st (later (is_granted st.table s r k))) e ∙ ap later f
+  later-state : (g : Bool) → is_held (held_mode st.table s r) k ≡ false → is_granted_at_once st.table s r k ≡ g → after_asking st s r k ≡ later g
+  later-state g e f = ap (λ (b : Bool). cond b st (later (is_granted_at_once st.table s r k))) e ∙ ap later f
 
-  granted-answer : (after : State) → is_doomed after s ≡ false → request_of s after.table.waits ≡ None → answer after ≡ Granted k
+  granted-answer : (after : State) → is_doomed after s ≡ false → request_of s after.table.requests ≡ None → answer after ≡ Granted k
   granted-answer after d n =
       ap (λ (b : Bool). cond b Deadlock (cond (is_waiting after s) Waiting (Granted k))) d
       ∙ ap (λ (o : Option Claim). cond (is_some o) Waiting (Granted k)) n
@@ -109,7 +111,7 @@ module _ (st : State) (s : ℕ) (r : List ℕ) (k : Mode) where
   told : (after : State) → IsTold s k (outcome after)
   told after = record {
     deadlock = λ d. ap (λ (b : Bool). cond b Deadlock (cond (is_waiting after s) Waiting (Granted k))) d;
-    waiting = λ d n. ap (λ (b : Bool). cond b Deadlock (cond (is_waiting after s) Waiting (Granted k))) d ∙ ap (λ (b : Bool). cond b Waiting (Granted k)) (requested (request_of s after.table.waits) n);
+    waiting = λ d n. ap (λ (b : Bool). cond b Deadlock (cond (is_waiting after s) Waiting (Granted k))) d ∙ ap (λ (b : Bool). cond b Waiting (Granted k)) (requested (request_of s after.table.requests) n);
     granted = granted-answer after;
   }
     where
@@ -117,35 +119,35 @@ module _ (st : State) (s : ℕ) (r : List ℕ) (k : Mode) where
       requested None n = absurd (n refl)
       requested (Some q) n = refl
 
-  few : length (st.table.waits ++ new s r k ∷ []) < length st.table.waits + 2
-  few = omega (arith, length-append st.table.waits (new s r k ∷ []))
+  few : length (st.table.requests ++ new s r k ∷ []) < length st.table.requests + 2
+  few = omega (arith, length-append st.table.requests (new s r k ∷ []))
 
-  settles : request_of s st.table.waits ≡ None → IsWaitSettled s r k st (outcome (after_wait st s r k))
+  settles : request_of s st.table.requests ≡ None → IsWaitSettled s r k st (outcome (after_wait st s r k))
   settles n =
-      let v = settled-victims (length st.table.waits + 2) s waiting few in
+      let v = settled-victims (length st.table.requests + 2) s waiting few in
       record { wait = waits-behind s r k st.table n; victims = v.0; one_after_another = v.1; told = told (after_wait st s r k) }
 
-  ask-answers : request_of s st.table.waits ≡ None → is_doomed st s ≡ false → at_or_below (mode_or_nothing (held_mode st.table s r)) k ≡ true → IsAnswerTo s r k st (ask st s r k)
+  ask-answers : request_of s st.table.requests ≡ None → is_doomed st s ≡ false → at_or_below (mode_or_nothing (held_mode st.table s r)) k ≡ true → IsAnswerTo s r k st (ask st s r k)
   ask-answers n d up = record {
     held_already = λ e.
         let f = same-state (covers (held_mode st.table s r) k e) in
         (ap answer f ∙ granted-answer st d n, f);
     at_once = λ m free.
         let f = later-state true (not-covered (held_mode st.table s r) k up m) (free-granted st.table s r k free) in
-        (ap answer f ∙ granted-answer (later true) d (request_of-claims_but s st.table.waits), rw f (grant-one s r k st.table), ap (λ (x : State). x.begun) f, ap (λ (x : State). x.count) f);
+        (ap answer f ∙ granted-answer (later true) d (request_of-claims_but s st.table.requests), rw f (grant-one s r k st.table), ap (λ (x : State). x.begun) f, ap (λ (x : State). x.count) f);
     later = λ m busy.
         let f = later-state false (not-covered (held_mode st.table s r) k up m) (not-free st.table s r k busy) in
         subst (λ (x : State). IsWaitSettled s r k st (outcome x)) (sym f) (settles n);
   }
 
   -- who is neither doomed nor waits after it has asked holds the target
-  module _ (once : IsOnce st.table.waits) (n : request_of s st.table.waits ≡ None) (opened : is_open st s ≡ true) (up : at_or_below (mode_or_nothing (held_mode st.table s r)) k ≡ true) where
+  module _ (once : IsOnce st.table.requests) (n : request_of s st.table.requests ≡ None) (opened : is_open st s ≡ true) (up : at_or_below (mode_or_nothing (held_mode st.table s r)) k ≡ true) where
     doomed-is : (o : Option Transaction) → is_some o ≡ true → doomed_in (doom o) ≡ true
     doomed-is None e = absurd (cc)
     doomed-is (Some x) e = refl
 
-    own-request : request_of s (st.table.waits ++ new s r k ∷ []) ≡ Some (new s r k)
-    own-request = request_of-push s st.table.waits (new s r k) n refl
+    own-request : request_of s (st.table.requests ++ new s r k ∷ []) ≡ Some (new s r k)
+    own-request = request_of-push s st.table.requests (new s r k) n refl
 
     promoted-held : (last : Table) (q : Claim) → IsPromotionOf s q waiting.table last → held_mode last s r ≡ Some k
     promoted-held last q p =
@@ -154,12 +156,12 @@ module _ (st : State) (s : ℕ) (r : List ℕ) (k : Mode) where
 
     settled-held : is_doomed (after_wait st s r k) s ≡ false → is_waiting (after_wait st s r k) s ≡ false → held_mode (after_wait st s r k).table s r ≡ Some k
     settled-held d w =
-        let v = settled-victims (length st.table.waits + 2) s waiting few in
-        let kept = victims-keep s v.0 waiting (after_wait st s r k) (once-push s r k st.table.waits once n) v.1 in
+        let v = settled-victims (length st.table.requests + 2) s waiting few in
+        let kept = victims-keep s v.0 waiting (after_wait st s r k) (once-push s r k st.table.requests once n) v.1 in
         elim (among-or-not s v.0) [
           | inl i ↦ absurd (true≢false (ap doomed_in (kept.victims s i).doomed ∙ doomed-is (st.begun s) opened) d)
           | inr m ↦ elim (kept.others s m) [
-            | inl a ↦ absurd (none (is-none (request_of s (after_wait st s r k).table.waits) w) (a.waits ∙ own-request))
+            | inl a ↦ absurd (none (is-none (request_of s (after_wait st s r k).table.requests) w) (a.request ∙ own-request))
             | inr p ↦ promoted-held (after_wait st s r k).table p.0 p.1
           ]
         ]
@@ -169,10 +171,10 @@ module _ (st : State) (s : ℕ) (r : List ℕ) (k : Mode) where
     asked-held false true e d w = (grant-one s r k st.table).held
     asked-held false false e d w = settled-held d w
 
-    ask-held : (j : Mode) → (ask st s r k).reply ≡ Granted j → held_mode (asked st s r k).table s r ≡ Some j
+    ask-held : (j : Mode) → (ask st s r k).reply ≡ Granted j → held_mode (after_asking st s r k).table s r ≡ Some j
     ask-held j e =
-        let p = parts (is_doomed (asked st s r k) s) (is_waiting (asked st s r k) s) e in
-        asked-held (is_held (held_mode st.table s r) k) (is_granted st.table s r k) refl p.0 p.1 ∙ ap (λ (m : Mode). Some m) p.2
+        let p = parts (is_doomed (after_asking st s r k) s) (is_waiting (after_asking st s r k) s) e in
+        asked-held (is_held (held_mode st.table s r) k) (is_granted_at_once st.table s r k) refl p.0 p.1 ∙ ap (λ (m : Mode). Some m) p.2
       where
         parts : (d w : Bool) → cond d Deadlock (cond w Waiting (Granted k)) ≡ Granted j → (d ≡ false) × (w ≡ false) × (k ≡ j)
         parts true w e = absurd (cc)
@@ -185,7 +187,7 @@ lock-asks st s r m h =
       target_of (held_mode st.table s r) m,
       target (held_mode st.table s r) m,
       subst (λ (o : Outcome). IsAnswerTo s r (target_of (held_mode st.table s r) m) st o) (sym (step-acts st s (Lock r m) h))
-          (ask-answers st s r (target_of (held_mode st.table s r) m) (is-none (request_of s st.table.waits) p.1.0) p.1.1.0 (below-sup (mode_or_nothing (held_mode st.table s r)) m)),
+          (ask-answers st s r (target_of (held_mode st.table s r) m) (is-none (request_of s st.table.requests) p.1.0) p.1.1.0 (below-sup (mode_or_nothing (held_mode st.table s r)) m)),
     )
 
 pub convert-asks : (st : State) → IsConvertAnswered st
@@ -194,7 +196,7 @@ convert-asks st s r m h =
       target_of (held_mode st.table s r) m,
       target (held_mode st.table s r) m,
       subst (λ (o : Outcome). IsAnswerTo s r (target_of (held_mode st.table s r) m) st o) (sym (step-acts st s (Convert r m) h))
-          (ask-answers st s r (target_of (held_mode st.table s r) m) (is-none (request_of s st.table.waits) p.1.0) p.1.1.0 (below-sup (mode_or_nothing (held_mode st.table s r)) m)),
+          (ask-answers st s r (target_of (held_mode st.table s r) m) (is-none (request_of s st.table.requests) p.1.0) p.1.1.0 (below-sup (mode_or_nothing (held_mode st.table s r)) m)),
     )
 
 -- what is told is held
@@ -202,23 +204,23 @@ convert-asks st s r m h =
 unlike : (w : Why) (j : Mode) → Refused w ≡ Granted j → ⊥
 unlike w j e = cc
 
-pub lock-holds : (st : State) → IsOnce st.table.waits → IsGrantedHeld st
+pub lock-holds : (st : State) → IsOnce st.table.requests → IsGrantedHeld st
 lock-holds st once s r m j = go (first_failing (tests st s (Lock r m))) refl
   where
     go : (o : Option Why) → first_failing (tests st s (Lock r m)) ≡ o → (outcome_of o st s (Lock r m)).reply ≡ Granted j → held_mode (outcome_of o st s (Lock r m)).state.table s r ≡ Some j
     go (Some w) e g = absurd (unlike w j g)
     go None e g =
         let p = all-pass (tests st s (Lock r m)) e in
-        ask-held st s r (target_of (held_mode st.table s r) m) once (is-none (request_of s st.table.waits) p.1.0) (not-false (is_open st s) p.0) (below-sup (mode_or_nothing (held_mode st.table s r)) m) j g
+        ask-held st s r (target_of (held_mode st.table s r) m) once (is-none (request_of s st.table.requests) p.1.0) (not-false (is_open st s) p.0) (below-sup (mode_or_nothing (held_mode st.table s r)) m) j g
 
-pub convert-holds : (st : State) → IsOnce st.table.waits → IsConversionHeld st
+pub convert-holds : (st : State) → IsOnce st.table.requests → IsConversionHeld st
 convert-holds st once s r m j = go (first_failing (tests st s (Convert r m))) refl
   where
     go : (o : Option Why) → first_failing (tests st s (Convert r m)) ≡ o → (outcome_of o st s (Convert r m)).reply ≡ Granted j → held_mode (outcome_of o st s (Convert r m)).state.table s r ≡ Some j
     go (Some w) e g = absurd (unlike w j g)
     go None e g =
         let p = all-pass (tests st s (Convert r m)) e in
-        ask-held st s r (target_of (held_mode st.table s r) m) once (is-none (request_of s st.table.waits) p.1.0) (not-false (is_open st s) p.0) (below-sup (mode_or_nothing (held_mode st.table s r)) m) j g
+        ask-held st s r (target_of (held_mode st.table s r) m) once (is-none (request_of s st.table.requests) p.1.0) (not-false (is_open st s) p.0) (below-sup (mode_or_nothing (held_mode st.table s r)) m) j g
 
 -- a lock on what is held
 

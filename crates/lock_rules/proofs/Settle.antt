@@ -5,13 +5,14 @@ use Rattle.std.proofs.lemmas.Bool.Decides.{nat_tests, Decides-eqb}
 use Rattle.std.proofs.lemmas.Bool.{and_parts, and_from, or_right}
 use Rattle.waits_for.specs.Walks.{IsWalk, Reaches}
 use Rattle.lock_rules.specs.State.{Claim, Table, State, request_of, number_of}
-use Rattle.lock_rules.specs.Waits.{waits_for, reaches, waiting_sessions, youngest_of, victim_of, after_victim, cancelled, settled}
+use Rattle.lock_rules.specs.Waits.{waits_for, reaches, waiting_sessions, youngest_of, victim_of, after_victim, after_cancel, after_victims}
+use Rattle.lock_rules.specs.Sound.{IsSound}
 use Rattle.lock_rules.proofs.Walks.{has, walk-found}
 use Rattle.lock_rules.proofs.Lists.{bool_cases, eqb-refl}
 use Rattle.lock_rules.proofs.Alters.{NoCircle, beside, no_circle-from, none-reached, walk-tested, waits_for-waits}
-use Rattle.lock_rules.proofs.Sound.{IsSound, UnfitAt}
+use Rattle.lock_rules.proofs.Sound.{UnfitAt}
 use Rattle.lock_rules.proofs.Promote.{Follows, follows-refl, follows-trans}
-use Rattle.lock_rules.proofs.Cuts.{IsLawful, cancelled-follows, cancelled-unfit, cancelled-fewer}
+use Rattle.lock_rules.proofs.Cuts.{IsAtRest, cancelled-follows, cancelled-unfit, cancelled-fewer}
 
 youngest-pick : (p : ℕ → Bool) (age : ℕ → ℕ) (best : ℕ) (vs : List ℕ) → p best ≡ true → ((v : ℕ) → has v vs ≡ true → p v ≡ true) → p (youngest_of age best vs) ≡ true
 youngest-pick p age best [] h k = h
@@ -75,28 +76,28 @@ has-waits s (q ∷ qs) h = go (eqb q.session s) refl h (has-waits s qs)
     go false e k next = next k
 
 -- so it waits
-pub victim-waits : (st : State) (s : ℕ) → reaches st.table s s ≡ true → (q : Claim) × (request_of (victim_of st s) st.table.waits ≡ Some q)
+pub victim-waits : (st : State) (s : ℕ) → reaches st.table s s ≡ true → (q : Claim) × (request_of (victim_of st s) st.table.requests ≡ Some q)
 victim-waits st s h =
     let p = and_parts (reaches st.table s (victim_of st s)) (reaches st.table (victim_of st s) s) (victim-on st s h) in
     let w = reached-walk st.table (victim_of st s) s p.1 in
-    has-waits (victim_of st s) st.table.waits (walk-waits st.table (victim_of st s) w.others s w.walk)
+    has-waits (victim_of st s) st.table.requests (walk-waits st.table (victim_of st s) w.others s w.walk)
 
 -- the laws hold, and nobody holds less
 pub record IsSettled (s : ℕ) (t t' : Table) : Type 0 where
   pub follows : Follows t t'
-  pub lawful : IsLawful t'
+  pub lawful : IsAtRest t'
 
 -- with enough rounds no circle is left
-pub settled-lawful : (n s : ℕ) (st : State) → IsSound st.table → NoCircle (beside s (waits_for st.table)) → ((x : List ℕ) → UnfitAt st.table x) → length st.table.waits < n → IsSettled s st.table (settled n s st).table
+pub settled-lawful : (n s : ℕ) (st : State) → IsSound st.table → NoCircle (beside s (waits_for st.table)) → ((x : List ℕ) → UnfitAt st.table x) → length st.table.requests < n → IsSettled s st.table (after_victims n s st).table
 settled-lawful zero s st i b h few = absurd (omega arith)
 settled-lawful (suc n) s st i b h few = go (reaches st.table s s) refl (λ j c k few2. settled-lawful n s (after_victim (victim_of st s) st) j c k few2)
   where
     go : (r : Bool) → reaches st.table s s ≡ r
-        → (IsSound (cancelled (victim_of st s) st.table) → NoCircle (beside s (waits_for (cancelled (victim_of st s) st.table))) → ((x : List ℕ) → UnfitAt (cancelled (victim_of st s) st.table) x) → length (cancelled (victim_of st s) st.table).waits < n → IsSettled s (cancelled (victim_of st s) st.table) (settled n s (after_victim (victim_of st s) st)).table)
-        → IsSettled s st.table (cond r (settled n s (after_victim (victim_of st s) st)) st).table
+        → (IsSound (after_cancel (victim_of st s) st.table) → NoCircle (beside s (waits_for (after_cancel (victim_of st s) st.table))) → ((x : List ℕ) → UnfitAt (after_cancel (victim_of st s) st.table) x) → length (after_cancel (victim_of st s) st.table).requests < n → IsSettled s (after_cancel (victim_of st s) st.table) (after_victims n s (after_victim (victim_of st s) st)).table)
+        → IsSettled s st.table (cond r (after_victims n s (after_victim (victim_of st s) st)) st).table
     go false e next = record { follows = follows-refl st.table i; lawful = record { sound = i; no_circle = no_circle-from (waits_for st.table) s b (none-reached st.table s e); unfit = h } }
     go true e next =
         let f = cancelled-follows (victim_of st s) st.table i in
         let w = victim-waits st s e in
         let r = next f.sound (f.circle_beside s b) (cancelled-unfit (victim_of st s) st.table i h) (omega (arith, cancelled-fewer (victim_of st s) st.table w.0 i w.1)) in
-        record { follows = follows-trans st.table (cancelled (victim_of st s) st.table) (settled n s (after_victim (victim_of st s) st)).table f r.follows; lawful = r.lawful }
+        record { follows = follows-trans st.table (after_cancel (victim_of st s) st.table) (after_victims n s (after_victim (victim_of st s) st)).table f r.follows; lawful = r.lawful }

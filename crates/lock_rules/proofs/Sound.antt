@@ -11,33 +11,16 @@ use Rattle.lock_modes.specs.Compatibility.{are_compatible}
 use Rattle.lock_tree.specs.Paths.{same_path, parent_of, has_parent}
 use Rattle.lock_rules.specs.Laws.{IsUnderParent}
 use Rattle.lock_rules.specs.State.{Claim, Table, mode_in, held_mode, mode_or_nothing, request_of, claims_but, holders}
-use Rattle.lock_rules.specs.Queue.{queue, fits, granted}
-use Rattle.lock_rules.specs.Waits.{conflicts, waits_no_more}
+use Rattle.lock_rules.specs.Queue.{queue, fits, after_grant}
+use Rattle.lock_rules.specs.Waits.{conflicts, without_request}
 use Rattle.lock_rules.specs.Step.{is_nothing, lacks_parent}
-use Rattle.lock_rules.proofs.Lists.{IsOrdered, ordered-with_lock, seek, seek-after, mode_in-seek, ascend, after, bool_cases, eqb-refl, same_path_tells, mode_in-with_lock, mode_in-with_lock_path, mode_in-with_lock_other, IsOnce, times, times-claims_but, times-append, times-apart, In, In-append, In-filter, In-request}
+use Rattle.lock_rules.specs.Sound.{Agree, IsOnce, IsOrdered, IsSound, Stands, after, ascend, times}
+use Rattle.lock_rules.proofs.Lists.{ordered-with_lock, seek, seek-after, mode_in-seek, bool_cases, eqb-refl, same_path_tells, mode_in-with_lock, mode_in-with_lock_path, mode_in-with_lock_other, times-claims_but, times-append, times-apart, In, In-append, In-filter, In-request}
 use Rattle.lock_rules.proofs.Marks.{need-some, below-refl, below-trans, conflicts-raised, nothing-below}
 use Rattle.lock_rules.proofs.Alters.{Alters, queue-alters, request-alters, request-gone, true≢false}
 
--- one order at least is compatible
-abbrev pub Agree : Mode → Mode → Type 0
-Agree a b = (are_compatible a b ≡ true) ⊎ (are_compatible b a ≡ true)
-
 pub Agree-swap : (a b : Mode) → Agree a b → Agree b a
 Agree-swap a b h = elim h [ inl k ↦ inr k | inr k ↦ inl k ]
-
--- the parent is held as the mode needs, and the mode is something
-abbrev pub Stands : Table → ℕ → List ℕ → Mode → Type 0
-Stands t s r m = (lacks_parent t s r m ≡ false) × (is_nothing m ≡ false)
-
--- holders ascend; a session has one request at most, and holds no more there than the target; requests and locks stand
--- under their parents; holders of one resource go together
-pub record IsSound (t : Table) : Type 0 where
-  pub order : IsOrdered t.held
-  pub once : IsOnce t.waits
-  pub raising : (s : ℕ) (q : Claim) → request_of s t.waits ≡ Some q → at_or_below (mode_or_nothing (held_mode t s q.resource)) q.mode ≡ true
-  pub asked_under : (s : ℕ) (q : Claim) → request_of s t.waits ≡ Some q → Stands t s q.resource q.mode
-  pub held_under : (s : ℕ) (r : List ℕ) (k : Mode) → held_mode t s r ≡ Some k → Stands t s r k
-  pub agree : (s u : ℕ) (r : List ℕ) (k l : Mode) → eqb s u ≡ false → held_mode t s r ≡ Some k → held_mode t u r ≡ Some l → Agree k l
 
 pub lacks-same : (t t' : Table) (s : ℕ) (r : List ℕ) (m : Mode) → mode_in s (parent_of r) t'.held ≡ mode_in s (parent_of r) t.held → lacks_parent t s r m ≡ false → lacks_parent t' s r m ≡ false
 lacks-same t t' s r m e h = ap (λ (o : Option Mode). has_parent r && not (at_or_below (need_of m) (mode_or_nothing o))) e ∙ h
@@ -54,7 +37,7 @@ pub altered-sound : (v : ℕ) (t t' : Table) → Alters v t t' → IsSound t
     → IsSound t'
 altered-sound v t t' a i under agree = record {
   order = a.order i.order;
-  once = λ s. omega (arith, times-claims_but s v t.waits, i.once s, ap (times s) a.waits);
+  once = λ s. omega (arith, times-claims_but s v t.requests, i.once s, ap (times s) a.requests);
   raising = λ s q e. elim (bool_cases (eqb s v)) [
     | inl f ↦ absurd (gone s q e ((Decides-eqb s v).0 f))
     | inr n ↦ ap (λ (o : Option Mode). at_or_below (mode_or_nothing o) q.mode) (a.others s q.resource n) ∙ i.raising s q (sym (request-alters v t t' a s n) ∙ e)
@@ -78,7 +61,7 @@ altered-sound v t t' a i under agree = record {
   ];
 }
   where
-    gone : (s : ℕ) (q : Claim) → request_of s t'.waits ≡ Some q → s ≡ v → ⊥
+    gone : (s : ℕ) (q : Claim) → request_of s t'.requests ≡ Some q → s ≡ v → ⊥
     gone s q e f = let g = request-gone v t t' a in cc
 
 -- what fits, and what doesn't
@@ -131,27 +114,27 @@ unfit-kept v t t' a o x up s m h = elim (bool_cases (fits t' s x m)) [
 
 -- queues
 
-pub In-queue : (t : Table) (x : List ℕ) (h : Claim) → In h (queue t x) → In h t.waits × (same_path h.resource x ≡ true)
+pub In-queue : (t : Table) (x : List ℕ) (h : Claim) → In h (queue t x) → In h t.requests × (same_path h.resource x ≡ true)
 In-queue t x h i = elim (In-append h _ _ i) [
-  | inl j ↦ let r = In-filter (λ q. same_path q.resource x && is_some (held_mode t q.session x)) h t.waits j in (r.0, (and_parts (same_path h.resource x) (is_some (held_mode t h.session x)) r.1).0)
-  | inr j ↦ let r = In-filter (λ q. same_path q.resource x && not (is_some (held_mode t q.session x))) h t.waits j in (r.0, (and_parts (same_path h.resource x) (not (is_some (held_mode t h.session x))) r.1).0)
+  | inl j ↦ let r = In-filter (λ q. same_path q.resource x && is_some (held_mode t q.session x)) h t.requests j in (r.0, (and_parts (same_path h.resource x) (is_some (held_mode t h.session x)) r.1).0)
+  | inr j ↦ let r = In-filter (λ q. same_path q.resource x && not (is_some (held_mode t q.session x))) h t.requests j in (r.0, (and_parts (same_path h.resource x) (not (is_some (held_mode t h.session x))) r.1).0)
 ]
 
-pub head-request : (t : Table) (x : List ℕ) (h : Claim) (hs : List Claim) → IsOnce t.waits → queue t x ≡ h ∷ hs → (request_of h.session t.waits ≡ Some h) × (same_path h.resource x ≡ true)
+pub head-request : (t : Table) (x : List ℕ) (h : Claim) (hs : List Claim) → IsOnce t.requests → queue t x ≡ h ∷ hs → (request_of h.session t.requests ≡ Some h) × (same_path h.resource x ≡ true)
 head-request t x h hs o e =
     let i = In-queue t x h (rw e (inl refl)) in
-    (In-request h t.waits (o h.session) i.0, i.1)
+    (In-request h t.requests (o h.session) i.0, i.1)
 
 either-kind : (b c : Bool) → (b && c) ≡ true → (b && not c) ≡ false
 either-kind true true h = refl
 either-kind true false h = cc
 either-kind false c h = refl
 
-times-queue : (t : Table) (x : List ℕ) (s : ℕ) → times s (queue t x) ≤ times s t.waits
+times-queue : (t : Table) (x : List ℕ) (s : ℕ) → times s (queue t x) ≤ times s t.requests
 times-queue t x s = omega (
   arith,
-  times-append s (filter (λ q. same_path q.resource x && is_some (held_mode t q.session x)) t.waits) (filter (λ q. same_path q.resource x && not (is_some (held_mode t q.session x))) t.waits),
-  times-apart s (λ q. same_path q.resource x && is_some (held_mode t q.session x)) (λ q. same_path q.resource x && not (is_some (held_mode t q.session x))) t.waits (λ q h. either-kind (same_path q.resource x) (is_some (held_mode t q.session x)) h),
+  times-append s (filter (λ q. same_path q.resource x && is_some (held_mode t q.session x)) t.requests) (filter (λ q. same_path q.resource x && not (is_some (held_mode t q.session x))) t.requests),
+  times-apart s (λ q. same_path q.resource x && is_some (held_mode t q.session x)) (λ q. same_path q.resource x && not (is_some (held_mode t q.session x))) t.requests (λ q h. either-kind (same_path q.resource x) (is_some (held_mode t q.session x)) h),
 )
 
 claims_but-absent : (s : ℕ) (qs : List Claim) → times s qs ≡ 0 → claims_but s qs ≡ qs
@@ -162,7 +145,7 @@ claims_but-head : (q : Claim) (qs : List Claim) → times q.session (q ∷ qs) �
 claims_but-head q qs h = grind (arith, nat_tests, claims_but-absent q.session qs)
 
 -- once the head of a queue is gone, the rest is the queue
-pub queue-rest : (t t' : Table) (r : List ℕ) (q : Claim) (qs : List Claim) → IsOnce t.waits → queue t r ≡ q ∷ qs → Alters q.session t t' → queue t' r ≡ qs
+pub queue-rest : (t t' : Table) (r : List ℕ) (q : Claim) (qs : List Claim) → IsOnce t.requests → queue t r ≡ q ∷ qs → Alters q.session t t' → queue t' r ≡ qs
 queue-rest t t' r q qs o e a =
     queue-alters q.session t t' a r ∙ (ap (claims_but q.session) e ∙ claims_but-head q qs (omega (arith, times-queue t r q.session, o q.session, ap (times q.session) e)))
 
@@ -171,13 +154,13 @@ queue-rest t t' r q qs o e a =
 abbrev pub UnfitAt : Table → List ℕ → Type 0
 UnfitAt t x = (q : Claim) (qs : List Claim) → queue t x ≡ q ∷ qs → fits t q.session x q.mode ≡ false
 
-same-head : (v : ℕ) (t t' : Table) (x : List ℕ) → Alters v t t' → ((q : Claim) → request_of v t.waits ≡ Some q → same_path q.resource x ≡ false) → IsOnce t.waits
+same-head : (v : ℕ) (t t' : Table) (x : List ℕ) → Alters v t t' → ((q : Claim) → request_of v t.requests ≡ Some q → same_path q.resource x ≡ false) → IsOnce t.requests
     → (q : Claim) (qs : List Claim) → queue t' x ≡ q ∷ qs → (old : List Claim) → queue t x ≡ old → (hs : List Claim) × (queue t x ≡ q ∷ hs)
 same-head v t t' x a apart o q qs e [] f = let g = queue-alters v t t' a x ∙ ap (claims_but v) f in absurd (cc)
 same-head v t t' x a apart o q qs e (h ∷ hs) f = elim (bool_cases (eqb h.session v)) [
   | inl k ↦
       let r = head-request t x h hs o f in
-      absurd (true≢false r.1 (apart h (ap (λ (i : ℕ). request_of i t.waits) (sym ((Decides-eqb h.session v).0 k)) ∙ r.0)))
+      absurd (true≢false r.1 (apart h (ap (λ (i : ℕ). request_of i t.requests) (sym ((Decides-eqb h.session v).0 k)) ∙ r.0)))
   | inr k ↦
       let g = sym e ∙ (queue-alters v t t' a x ∙ (ap (claims_but v) f ∙ ap (λ (b : Bool). cond (not b) (h ∷ claims_but v hs) (claims_but v hs)) k)) in
       let same : h ≡ q = cc in
@@ -185,19 +168,19 @@ same-head v t t' x a apart o q qs e (h ∷ hs) f = elim (bool_cases (eqb h.sessi
 ]
 
 pub unfit_at-alters : (v : ℕ) (t t' : Table) (x : List ℕ) → Alters v t t' → at_or_below (mode_or_nothing (held_mode t v x)) (mode_or_nothing (held_mode t' v x)) ≡ true
-    → ((q : Claim) → request_of v t.waits ≡ Some q → same_path q.resource x ≡ false) → IsSound t → UnfitAt t x → UnfitAt t' x
+    → ((q : Claim) → request_of v t.requests ≡ Some q → same_path q.resource x ≡ false) → IsSound t → UnfitAt t x → UnfitAt t' x
 unfit_at-alters v t t' x a up apart i h q qs e =
     let old = same-head v t t' x a apart i.once q qs e (queue t x) refl in
     unfit-kept v t t' a i.order x up q.session q.mode (h q old.0 old.1)
 
 -- a grant
 
-pub granted-alters : (s : ℕ) (r : List ℕ) (m : Mode) (t : Table) → Alters s t (granted s r m t)
-granted-alters s r m t = record { waits = refl; others = λ u x n. mode_in-with_lock_other u s x r m t.held n; order = ordered-with_lock s r m t.held }
+pub granted-alters : (s : ℕ) (r : List ℕ) (m : Mode) (t : Table) → Alters s t (after_grant s r m t)
+granted-alters s r m t = record { requests = refl; others = λ u x n. mode_in-with_lock_other u s x r m t.held n; order = ordered-with_lock s r m t.held }
 
 -- who waits no more alters nothing else
-pub no_more-alters : (s : ℕ) (t : Table) → Alters s t (waits_no_more s t)
-no_more-alters s t = record { waits = refl; others = λ u x n. refl; order = λ o. o }
+pub no_more-alters : (s : ℕ) (t : Table) → Alters s t (without_request s t)
+no_more-alters s t = record { requests = refl; others = λ u x n. refl; order = λ o. o }
 
 abbrev pub Rises : Table → Table → Type 0
 Rises t t' = (s : ℕ) (x : List ℕ) → at_or_below (mode_or_nothing (held_mode t s x)) (mode_or_nothing (held_mode t' s x)) ≡ true
@@ -205,7 +188,7 @@ Rises t t' = (s : ℕ) (x : List ℕ) → at_or_below (mode_or_nothing (held_mod
 pub same-rises : (a b : Option Mode) → b ≡ a → at_or_below (mode_or_nothing a) (mode_or_nothing b) ≡ true
 same-rises a b e = rw e (below-refl (mode_or_nothing a))
 
-pub granted-rises : (s : ℕ) (r : List ℕ) (m : Mode) (t : Table) → at_or_below (mode_or_nothing (held_mode t s r)) m ≡ true → Rises t (granted s r m t)
+pub granted-rises : (s : ℕ) (r : List ℕ) (m : Mode) (t : Table) → at_or_below (mode_or_nothing (held_mode t s r)) m ≡ true → Rises t (after_grant s r m t)
 granted-rises s r m t h u x = elim (bool_cases (eqb u s)) [
   | inr n ↦ same-rises _ _ (mode_in-with_lock_other u s x r m t.held n)
   | inl e ↦ let f = (Decides-eqb u s).0 e in elim (same_path_tells r x) [
@@ -224,9 +207,9 @@ lacks-raised t t' s r m up h = lacks-at (has_parent r) (need_of m) (mode_or_noth
 pub stands-raised : (t t' : Table) (s : ℕ) (r : List ℕ) (m : Mode) → at_or_below (mode_or_nothing (held_mode t s (parent_of r))) (mode_or_nothing (held_mode t' s (parent_of r))) ≡ true → Stands t s r m → Stands t' s r m
 stands-raised t t' s r m up h = (lacks-raised t t' s r m up h.0, h.1)
 
-pub granted-sound : (s : ℕ) (r : List ℕ) (m : Mode) (t : Table) → IsSound t → at_or_below (mode_or_nothing (held_mode t s r)) m ≡ true → Stands t s r m → fits t s r m ≡ true → IsSound (granted s r m t)
-granted-sound s r m t i up under fit = altered-sound s t (granted s r m t) (granted-alters s r m t) i
-    (λ x k e. stands-raised t (granted s r m t) s x k (granted-rises s r m t up s (parent_of x)) (elim (same_path_tells r x) [
+pub granted-sound : (s : ℕ) (r : List ℕ) (m : Mode) (t : Table) → IsSound t → at_or_below (mode_or_nothing (held_mode t s r)) m ≡ true → Stands t s r m → fits t s r m ≡ true → IsSound (after_grant s r m t)
+granted-sound s r m t i up under fit = altered-sound s t (after_grant s r m t) (granted-alters s r m t) i
+    (λ x k e. stands-raised t (after_grant s r m t) s x k (granted-rises s r m t up s (parent_of x)) (elim (same_path_tells r x) [
       | inl p ↦ let g = sym p.1 in let f = sym (mode_in-with_lock s r m t.held) ∙ rw g at e in let same : m ≡ k = cc in rw (g, ← same) under
       | inr n ↦ i.held_under s x k (sym (mode_in-with_lock_path s s x r m t.held n) ∙ e)
     ]))

@@ -5,12 +5,13 @@ use Rattle.lock_modes.specs.declared.Mode.{Mode}
 use Rattle.lock_modes.specs.Compatibility.{IsCompatible, are_compatible}
 use Rattle.lock_modes.proofs.Compatibility.{compatible-from, compatible-tests}
 use Rattle.lock_rules.specs.State.{Table, State, held_mode}
-use Rattle.lock_rules.specs.Queue.{fits, granted}
+use Rattle.lock_rules.specs.Queue.{fits, after_grant}
 use Rattle.lock_rules.specs.Laws.{DoesFitTell, AreHoldersCompatible, IsGrantOf}
 use Rattle.lock_rules.proofs.Lists.{bool_cases, other, apart, differs, mode_in-with_lock, mode_in-with_lock_path, mode_in-with_lock_other, request_of-claims_but, request_of-claims_but_other}
 use Rattle.lock_rules.proofs.Alters.{true≢false}
 use Rattle.lock_rules.specs.Waits.{conflicts}
-use Rattle.lock_rules.proofs.Sound.{IsSound, fits-tells, unfit-some}
+use Rattle.lock_rules.specs.Sound.{IsSound}
+use Rattle.lock_rules.proofs.Sound.{fits-tells, unfit-some}
 
 pub fit-tells : (st : State) → IsSound st.table → DoesFitTell st
 fit-tells st i s r m = (told, fit)
@@ -31,12 +32,12 @@ fit-tells st i s r m = (told, fit)
 pub holders-compatible : (st : State) → IsSound st.table → AreHoldersCompatible st
 holders-compatible st i s u r k l n e f = elim (i.agree s u r k l (other u s n) e f) [ inl h ↦ inl (compatible-from k l h) | inr h ↦ inr (compatible-from l k h) ]
 
-pub grant-one : (s : ℕ) (r : List ℕ) (m : Mode) (t : Table) → IsGrantOf s r m t (granted s r m t)
+pub grant-one : (s : ℕ) (r : List ℕ) (m : Mode) (t : Table) → IsGrantOf s r m t (after_grant s r m t)
 grant-one s r m t = record {
   held = mode_in-with_lock s r m t.held;
   elsewhere = λ x n. mode_in-with_lock_path s s x r m t.held (differs x r n);
   others_hold = λ u x n. mode_in-with_lock_other u s x r m t.held (other s u n);
-  waits_no_more = request_of-claims_but s t.waits;
-  others_wait = λ u n. request_of-claims_but_other u s t.waits (other s u n);
+  waits_no_more = request_of-claims_but s t.requests;
+  others_wait = λ u n. request_of-claims_but_other u s t.requests (other s u n);
   in_order = refl;
 }

@@ -9,19 +9,20 @@ use Rattle.lock_rules.specs.declared.calls.Why.{Why}
 use Rattle.lock_rules.specs.declared.calls.Entry.{Entry}
 use Rattle.lock_modes.specs.Order.{at_or_below}
 use Rattle.lock_rules.specs.State.{Claim, Table, State, no_locks, empty, held_mode, mode_or_nothing, request_of, is_waiting, with_table}
-use Rattle.lock_rules.specs.Queue.{fits, granted, is_granted, with_request}
+use Rattle.lock_rules.specs.Queue.{fits, after_grant, is_granted_at_once, with_request}
 use Rattle.lock_rules.specs.Waits.{waits_for}
 use Rattle.waits_for.specs.Walks.{IsWalk}
-use Rattle.lock_rules.specs.Step.{is_nothing, lacks_parent, target_of, tests, first_failing, after_wait, is_held, asked, act, outcome_of, step}
+use Rattle.lock_rules.specs.Step.{is_nothing, lacks_parent, target_of, tests, first_failing, after_wait, is_held, after_asking, act, outcome_of, step}
 use Rattle.lock_rules.specs.Legal.{state_after, state_of}
+use Rattle.lock_rules.specs.Sound.{Stands}
 use Rattle.lock_rules.proofs.Marks.{below-refl, below-sup, sup-some}
-use Rattle.lock_rules.proofs.Sound.{Stands, Rises, granted-alters, unfit_at-alters}
+use Rattle.lock_rules.proofs.Sound.{Rises, granted-alters, unfit_at-alters}
 use Rattle.lock_rules.proofs.Promote.{granted-follows}
-use Rattle.lock_rules.proofs.Cuts.{IsLawful, released-lawful, ended-lawful}
+use Rattle.lock_rules.proofs.Cuts.{IsAtRest, released-lawful, ended-lawful}
 use Rattle.lock_rules.proofs.Begins.{new, begins-sound, begins-beside, begins-unfit}
 use Rattle.lock_rules.proofs.Settle.{settled-lawful}
 
-pub none-lawful : IsLawful no_locks
+pub none-lawful : IsAtRest no_locks
 none-lawful = record {
   sound = record { order = λ r. refl; once = λ s. omega arith; raising = λ s q e. absurd (cc); asked_under = λ s q e. absurd (cc); held_under = λ s r k e. absurd (cc); agree = λ s u r k l n e f. absurd (cc) };
   no_circle = none;
@@ -38,20 +39,20 @@ none-lawful = record {
 
 -- the laws hold, and nobody holds less
 pub record IsKept (t t' : Table) : Type 0 where
-  pub lawful : IsLawful t'
+  pub lawful : IsAtRest t'
   pub rises : Rises t t'
 
-same-kept : (t : Table) → IsLawful t → IsKept t t
+same-kept : (t : Table) → IsAtRest t → IsKept t t
 same-kept t i = record { lawful = i; rises = λ s x. below-refl (mode_or_nothing (held_mode t s x)) }
 
 -- a request is granted, or begins to wait and its deadlocks are resolved
-pub asked-kept : (st : State) (s : ℕ) (r : List ℕ) (m : Mode) → IsLawful st.table → request_of s st.table.waits ≡ None → at_or_below (mode_or_nothing (held_mode st.table s r)) m ≡ true → Stands st.table s r m → IsKept st.table (asked st s r m).table
+pub asked-kept : (st : State) (s : ℕ) (r : List ℕ) (m : Mode) → IsAtRest st.table → request_of s st.table.requests ≡ None → at_or_below (mode_or_nothing (held_mode st.table s r)) m ≡ true → Stands st.table s r m → IsKept st.table (after_asking st s r m).table
 asked-kept st s r m i n up under = held_already (is_held (held_mode st.table s r) m)
   where
-    none : (q : Claim) → request_of s st.table.waits ≡ Some q → ⊥
+    none : (q : Claim) → request_of s st.table.requests ≡ Some q → ⊥
     none q k = cc
 
-    decided : (b : Bool) → is_granted st.table s r m ≡ b → IsKept st.table (cond b (with_table (granted s r m st.table) st) (after_wait st s r m)).table
+    decided : (b : Bool) → is_granted_at_once st.table s r m ≡ b → IsKept st.table (cond b (with_table (after_grant s r m st.table) st) (after_wait st s r m)).table
     decided true e =
         let fit = (and_parts (fits st.table s r m) _ e).0 in
         let f = granted-follows s r m st.table i.sound up under fit in
@@ -59,19 +60,19 @@ asked-kept st s r m i n up under = held_already (is_held (held_mode st.table s r
           lawful = record {
             sound = f.sound;
             no_circle = f.circle i.no_circle;
-            unfit = λ x. unfit_at-alters s st.table (granted s r m st.table) x (granted-alters s r m st.table) (f.rises s x) (λ q k. absurd (none q k)) i.sound (i.unfit x);
+            unfit = λ x. unfit_at-alters s st.table (after_grant s r m st.table) x (granted-alters s r m st.table) (f.rises s x) (λ q k. absurd (none q k)) i.sound (i.unfit x);
           };
           rises = f.rises;
         }
     decided false e =
         let sound = begins-sound s r m st.table i.sound n up under in
-        let few : length (st.table.waits ++ new s r m ∷ []) < length st.table.waits + 2 = omega (arith, length-append st.table.waits (new s r m ∷ [])) in
-        let z = settled-lawful (length st.table.waits + 2) s (with_table (with_request s r m st.table) st) sound (begins-beside s r m st.table n i.no_circle) (begins-unfit s r m st.table i.sound sound n e i.unfit) few in
+        let few : length (st.table.requests ++ new s r m ∷ []) < length st.table.requests + 2 = omega (arith, length-append st.table.requests (new s r m ∷ [])) in
+        let z = settled-lawful (length st.table.requests + 2) s (with_table (with_request s r m st.table) st) sound (begins-beside s r m st.table n i.no_circle) (begins-unfit s r m st.table i.sound sound n e i.unfit) few in
         record { lawful = z.lawful; rises = z.follows.rises }
 
-    held_already : (b : Bool) → IsKept st.table (cond b st (cond (is_granted st.table s r m) (with_table (granted s r m st.table) st) (after_wait st s r m))).table
+    held_already : (b : Bool) → IsKept st.table (cond b st (cond (is_granted_at_once st.table s r m) (with_table (after_grant s r m st.table) st) (after_wait st s r m))).table
     held_already true = same-kept st.table i
-    held_already false = decided (is_granted st.table s r m) refl
+    held_already false = decided (is_granted_at_once st.table s r m) refl
 
 -- all tests of a list pass
 abbrev pub AllPass : List (Bool × Why) → Type 0
@@ -91,38 +92,38 @@ is-none None h = refl
 is-none (Some q) h = cc
 
 -- who passes the tests of an asking may ask for its target
-may-ask : (st : State) (s : ℕ) (r : List ℕ) (m : Mode) → IsLawful st.table → is_waiting st s ≡ false → is_nothing m ≡ false → lacks_parent st.table s r (target_of (held_mode st.table s r) m) ≡ false → IsKept st.table (asked st s r (target_of (held_mode st.table s r) m)).table
+may-ask : (st : State) (s : ℕ) (r : List ℕ) (m : Mode) → IsAtRest st.table → is_waiting st s ≡ false → is_nothing m ≡ false → lacks_parent st.table s r (target_of (held_mode st.table s r) m) ≡ false → IsKept st.table (after_asking st s r (target_of (held_mode st.table s r) m)).table
 may-ask st s r m i w n p =
-    asked-kept st s r (target_of (held_mode st.table s r) m) i (is-none (request_of s st.table.waits) w) (below-sup (mode_or_nothing (held_mode st.table s r)) m)
+    asked-kept st s r (target_of (held_mode st.table s r) m) i (is-none (request_of s st.table.requests) w) (below-sup (mode_or_nothing (held_mode st.table s r)) m)
     (p, sup-some (mode_or_nothing (held_mode st.table s r)) m n)
 
-pub lock-kept : (st : State) (s : ℕ) (r : List ℕ) (m : Mode) → IsLawful st.table → first_failing (tests st s (Lock r m)) ≡ None → IsKept st.table (asked st s r (target_of (held_mode st.table s r) m)).table
+pub lock-kept : (st : State) (s : ℕ) (r : List ℕ) (m : Mode) → IsAtRest st.table → first_failing (tests st s (Lock r m)) ≡ None → IsKept st.table (after_asking st s r (target_of (held_mode st.table s r) m)).table
 lock-kept st s r m i h = let p = all-pass (tests st s (Lock r m)) h in may-ask st s r m i p.1.0 p.1.1.1.0 p.1.1.1.1.0
 
-pub convert-kept : (st : State) (s : ℕ) (r : List ℕ) (m : Mode) → IsLawful st.table → first_failing (tests st s (Convert r m)) ≡ None → IsKept st.table (asked st s r (target_of (held_mode st.table s r) m)).table
+pub convert-kept : (st : State) (s : ℕ) (r : List ℕ) (m : Mode) → IsAtRest st.table → first_failing (tests st s (Convert r m)) ≡ None → IsKept st.table (after_asking st s r (target_of (held_mode st.table s r) m)).table
 convert-kept st s r m i h = let p = all-pass (tests st s (Convert r m)) h in may-ask st s r m i p.1.0 p.1.1.1.0 p.1.1.1.1.1.0
 
-pub act-lawful : (st : State) (s : ℕ) (c : Call) → IsLawful st.table → first_failing (tests st s c) ≡ None → IsLawful (act st s c).state.table
+pub act-lawful : (st : State) (s : ℕ) (c : Call) → IsAtRest st.table → first_failing (tests st s c) ≡ None → IsAtRest (act st s c).state.table
 act-lawful st s Begin i h = i
 act-lawful st s (Lock r m) i h = (lock-kept st s r m i h).lawful
 act-lawful st s (Convert r m) i h = (convert-kept st s r m i h).lawful
 act-lawful st s Poll i h = i
 act-lawful st s (Release r) i h =
     let p = all-pass (tests st s (Release r)) h in
-    released-lawful s r st.table i (is-none (request_of s st.table.waits) p.1.0) p.1.1.1.1.0
+    released-lawful s r st.table i (is-none (request_of s st.table.requests) p.1.0) p.1.1.1.1.0
 act-lawful st s Commit i h = ended-lawful s st.table i
 act-lawful st s Abort i h = ended-lawful s st.table i
 
-pub step-lawful : (st : State) (s : ℕ) (c : Call) → IsLawful st.table → IsLawful (step st s c).state.table
+pub step-lawful : (st : State) (s : ℕ) (c : Call) → IsAtRest st.table → IsAtRest (step st s c).state.table
 step-lawful st s c i = go (first_failing (tests st s c)) refl
   where
-    go : (o : Option Why) → first_failing (tests st s c) ≡ o → IsLawful (outcome_of o st s c).state.table
+    go : (o : Option Why) → first_failing (tests st s c) ≡ o → IsAtRest (outcome_of o st s c).state.table
     go None e = act-lawful st s c i e
     go (Some w) e = i
 
-pub after-lawful : (es : List Entry) (st : State) → IsLawful st.table → IsLawful (state_after st es).table
+pub after-lawful : (es : List Entry) (st : State) → IsAtRest st.table → IsAtRest (state_after st es).table
 after-lawful [] st i = i
 after-lawful (e ∷ es) st i = after-lawful es (step st e.session e.call).state (step-lawful st e.session e.call i)
 
-pub state-lawful : (es : List Entry) → IsLawful (state_of es).table
+pub state-lawful : (es : List Entry) → IsAtRest (state_of es).table
 state-lawful es = after-lawful es empty none-lawful

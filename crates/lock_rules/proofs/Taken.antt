@@ -11,33 +11,34 @@ use Rattle.lock_rules.specs.declared.calls.Call.TheVariants.{Release, Commit, Ab
 use Rattle.lock_rules.specs.declared.calls.Reply.TheVariants.{Released, Committed, Aborted}
 use Rattle.lock_rules.specs.declared.calls.Why.{Why}
 use Rattle.lock_rules.specs.State.{Claim, Table, State, mode_in, held_mode, mode_or_nothing, request_of, claims_of, with_table, with_begun}
-use Rattle.lock_rules.specs.Queue.{queue, fits, granted, granted_front, promoted, promoted_all}
-use Rattle.lock_rules.specs.Waits.{wanted}
-use Rattle.lock_rules.specs.Step.{Outcome, tests, first_failing, act, outcome_of, step, left, ended, released, holds_child}
+use Rattle.lock_rules.specs.Queue.{queue, fits, after_grant, granted_while_fitting, after_promotion, after_promotions}
+use Rattle.lock_rules.specs.Waits.{resource_of_request}
+use Rattle.lock_rules.specs.Step.{Outcome, tests, first_failing, act, outcome_of, step, without_claims, after_end, after_release, holds_child}
 use Rattle.lock_rules.specs.Laws.{HoldsAtLeast}
-use Rattle.lock_rules.specs.Effects.{IsNotRefused, IsAsBefore, IsPromotionOf, IsReleaseOf, DoesReleaseTakeOneLock, IsApart, touched, IsEndOf, DoesCommitTakeAllLocks, DoesAbortTakeAllLocks}
-use Rattle.lock_rules.proofs.Lists.{IsOnce, times-claims_but, bool_cases, eqb-refl, same_path-refl, same_path-true, other, differs, mode_in-with_lock, mode_in-with_lock_path, mode_in-with_lock_other, mode_in-locks_but, mode_in-locks_but_path, mode_in-locks_but_other, mode_in-claims_but, mode_in-claims_but_other, request_of-claims_but, request_of-claims_but_other}
+use Rattle.lock_rules.specs.Effects.{IsNotRefused, IsAsBefore, IsPromotionOf, IsReleaseOf, DoesReleaseTakeOneLock, IsApart, resources_touched, IsEndOf, DoesCommitTakeAllLocks, DoesAbortTakeAllLocks}
+use Rattle.lock_rules.specs.Sound.{IsOnce, IsSound}
+use Rattle.lock_rules.proofs.Lists.{times-claims_but, bool_cases, eqb-refl, same_path-refl, same_path-true, other, differs, mode_in-with_lock, mode_in-with_lock_path, mode_in-with_lock_other, mode_in-locks_but, mode_in-locks_but_path, mode_in-locks_but_other, mode_in-claims_but, mode_in-claims_but_other, request_of-claims_but, request_of-claims_but_other}
 use Rattle.lock_rules.proofs.Alters.{true≢false}
 use Rattle.lock_rules.proofs.Fronts.{promotions-longest}
-use Rattle.lock_rules.proofs.Sound.{IsSound, head-request, queue-rest, granted-alters}
+use Rattle.lock_rules.proofs.Sound.{head-request, queue-rest, granted-alters}
 use Rattle.lock_rules.proofs.Promote.{among}
-use Rattle.lock_rules.proofs.Cuts.{IsLawful, one_less, left-sound, released-rises, ended-rises}
+use Rattle.lock_rules.proofs.Cuts.{IsAtRest, one_less, left-sound, released-rises, ended-rises}
 use Rattle.lock_rules.proofs.Steps.{all-pass, is-none}
 use Rattle.lock_rules.proofs.Grants.{held-on}
 
 -- one change after another
 
 pub refl-same : (u : ℕ) (t : Table) → IsAsBefore u t t
-refl-same u t = record { held = λ x. refl; waits = refl }
+refl-same u t = record { held = λ x. refl; request = refl }
 
 pub same-same : (u : ℕ) (t v w : Table) → IsAsBefore u t v → IsAsBefore u v w → IsAsBefore u t w
-same-same u t v w a b = record { held = λ x. b.held x ∙ a.held x; waits = b.waits ∙ a.waits }
+same-same u t v w a b = record { held = λ x. b.held x ∙ a.held x; request = b.request ∙ a.request }
 
 pub same-promotion : (u : ℕ) (q : Claim) (t v w : Table) → IsAsBefore u t v → IsPromotionOf u q v w → IsPromotionOf u q t w
-same-promotion u q t v w a b = record { waited = sym a.waits ∙ b.waited; waits_no_more = b.waits_no_more; held = b.held; elsewhere = λ x n. b.elsewhere x n ∙ a.held x }
+same-promotion u q t v w a b = record { waited = sym a.request ∙ b.waited; waits_no_more = b.waits_no_more; held = b.held; elsewhere = λ x n. b.elsewhere x n ∙ a.held x }
 
 pub promotion-same : (u : ℕ) (q : Claim) (t v w : Table) → IsPromotionOf u q t v → IsAsBefore u v w → IsPromotionOf u q t w
-promotion-same u q t v w a b = record { waited = a.waited; waits_no_more = b.waits ∙ a.waits_no_more; held = b.held q.resource ∙ a.held; elsewhere = λ x n. b.held x ∙ a.elsewhere x n }
+promotion-same u q t v w a b = record { waited = a.waited; waits_no_more = b.request ∙ a.waits_no_more; held = b.held q.resource ∙ a.held; elsewhere = λ x n. b.held x ∙ a.elsewhere x n }
 
 -- a session is as before, or its request for such a resource is granted
 abbrev pub IsServed : ℕ → (List ℕ → Type 0) → Table → Table → Type 0
@@ -54,69 +55,69 @@ after-promotion : (u : ℕ) (q : Claim) (P Q : List ℕ → Type 0) (t v w : Tab
 after-promotion u q P Q t v w a k h = elim h [ inl b ↦ inr (q, promotion-same u q t v w a b, k) | inr p ↦ absurd (none a.waits_no_more p.1.waited) ]
 
 -- who has no request is as before
-pub unserved : (u : ℕ) (P : List ℕ → Type 0) (t w : Table) → request_of u t.waits ≡ None → IsServed u P t w → IsAsBefore u t w
+pub unserved : (u : ℕ) (P : List ℕ → Type 0) (t w : Table) → request_of u t.requests ≡ None → IsServed u P t w → IsAsBefore u t w
 unserved u P t w n h = elim h [ inl a ↦ a | inr p ↦ absurd (none n p.1.waited) ]
 
 -- promotions
 
-granted-other : (u : ℕ) (q : Claim) (t : Table) → eqb u q.session ≡ false → IsAsBefore u t (granted q.session q.resource q.mode t)
-granted-other u q t n = record { held = λ x. mode_in-with_lock_other u q.session x q.resource q.mode t.held n; waits = request_of-claims_but_other u q.session t.waits n }
+granted-other : (u : ℕ) (q : Claim) (t : Table) → eqb u q.session ≡ false → IsAsBefore u t (after_grant q.session q.resource q.mode t)
+granted-other u q t n = record { held = λ x. mode_in-with_lock_other u q.session x q.resource q.mode t.held n; request = request_of-claims_but_other u q.session t.requests n }
 
-granted-own : (q : Claim) (t : Table) → request_of q.session t.waits ≡ Some q → IsPromotionOf q.session q t (granted q.session q.resource q.mode t)
+granted-own : (q : Claim) (t : Table) → request_of q.session t.requests ≡ Some q → IsPromotionOf q.session q t (after_grant q.session q.resource q.mode t)
 granted-own q t e = record {
   waited = e;
-  waits_no_more = request_of-claims_but q.session t.waits;
+  waits_no_more = request_of-claims_but q.session t.requests;
   held = mode_in-with_lock q.session q.resource q.mode t.held;
   elsewhere = λ x n. mode_in-with_lock_path q.session q.session x q.resource q.mode t.held (differs x q.resource n);
 }
 
 -- what is granted leaves one request a session
-granted-once : (q : Claim) (t : Table) → IsOnce t.waits → IsOnce (granted q.session q.resource q.mode t).waits
-granted-once q t o u = omega (arith, times-claims_but u q.session t.waits, o u)
+granted-once : (q : Claim) (t : Table) → IsOnce t.requests → IsOnce (after_grant q.session q.resource q.mode t).requests
+granted-once q t o u = omega (arith, times-claims_but u q.session t.requests, o u)
 
-front-once : (qs : List Claim) (t : Table) → IsOnce t.waits → IsOnce (granted_front qs t).waits
+front-once : (qs : List Claim) (t : Table) → IsOnce t.requests → IsOnce (granted_while_fitting qs t).requests
 front-once [] t o = o
-front-once (q ∷ qs) t o = go (fits t q.session q.resource q.mode) (front-once qs (granted q.session q.resource q.mode t) (granted-once q t o))
+front-once (q ∷ qs) t o = go (fits t q.session q.resource q.mode) (front-once qs (after_grant q.session q.resource q.mode t) (granted-once q t o))
   where
-    go : (b : Bool) → IsOnce (granted_front qs (granted q.session q.resource q.mode t)).waits → IsOnce (cond b (granted_front qs (granted q.session q.resource q.mode t)) t).waits
+    go : (b : Bool) → IsOnce (granted_while_fitting qs (after_grant q.session q.resource q.mode t)).requests → IsOnce (cond b (granted_while_fitting qs (after_grant q.session q.resource q.mode t)) t).requests
     go true k = k
     go false k = o
 
-pub all-once : (rs : List (List ℕ)) (t : Table) → IsOnce t.waits → IsOnce (promoted_all rs t).waits
+pub all-once : (rs : List (List ℕ)) (t : Table) → IsOnce t.requests → IsOnce (after_promotions rs t).requests
 all-once [] t o = o
-all-once (r ∷ rs) t o = all-once rs (promoted r t) (front-once (queue t r) t o)
+all-once (r ∷ rs) t o = all-once rs (after_promotion r t) (front-once (queue t r) t o)
 
-front-served : (r : List ℕ) (qs : List Claim) (t : Table) → IsOnce t.waits → queue t r ≡ qs → (u : ℕ) → IsServed u (λ x. x ≡ r) t (granted_front qs t)
+front-served : (r : List ℕ) (qs : List Claim) (t : Table) → IsOnce t.requests → queue t r ≡ qs → (u : ℕ) → IsServed u (λ x. x ≡ r) t (granted_while_fitting qs t)
 front-served r [] t o e u = inl (refl-same u t)
-front-served r (q ∷ qs) t o e u = go (fits t q.session q.resource q.mode) (front-served r qs (granted q.session q.resource q.mode t) (granted-once q t o) (queue-rest t (granted q.session q.resource q.mode t) r q qs o e (granted-alters q.session q.resource q.mode t)) u)
+front-served r (q ∷ qs) t o e u = go (fits t q.session q.resource q.mode) (front-served r qs (after_grant q.session q.resource q.mode t) (granted-once q t o) (queue-rest t (after_grant q.session q.resource q.mode t) r q qs o e (granted-alters q.session q.resource q.mode t)) u)
   where
-    request : (request_of q.session t.waits ≡ Some q) × (same_path q.resource r ≡ true)
+    request : (request_of q.session t.requests ≡ Some q) × (same_path q.resource r ≡ true)
     request = head-request t r q qs o e
 
-    first : (w : Table) → IsServed u (λ x. x ≡ r) (granted q.session q.resource q.mode t) w → IsServed u (λ x. x ≡ r) t w
+    first : (w : Table) → IsServed u (λ x. x ≡ r) (after_grant q.session q.resource q.mode t) w → IsServed u (λ x. x ≡ r) t w
     first w h = elim (bool_cases (eqb u q.session)) [
-      | inr n ↦ after-same u (λ x. x ≡ r) t (granted q.session q.resource q.mode t) w (granted-other u q t n) h
-      | inl y ↦ let f = (Decides-eqb u q.session).0 y in after-promotion u q (λ x. x ≡ r) (λ x. x ≡ r) t (granted q.session q.resource q.mode t) w (rw f (granted-own q t request.0)) (same_path-true q.resource r request.1) h
+      | inr n ↦ after-same u (λ x. x ≡ r) t (after_grant q.session q.resource q.mode t) w (granted-other u q t n) h
+      | inl y ↦ let f = (Decides-eqb u q.session).0 y in after-promotion u q (λ x. x ≡ r) (λ x. x ≡ r) t (after_grant q.session q.resource q.mode t) w (rw f (granted-own q t request.0)) (same_path-true q.resource r request.1) h
     ]
 
-    go : (b : Bool) → IsServed u (λ x. x ≡ r) (granted q.session q.resource q.mode t) (granted_front qs (granted q.session q.resource q.mode t))
-        → IsServed u (λ x. x ≡ r) t (cond b (granted_front qs (granted q.session q.resource q.mode t)) t)
+    go : (b : Bool) → IsServed u (λ x. x ≡ r) (after_grant q.session q.resource q.mode t) (granted_while_fitting qs (after_grant q.session q.resource q.mode t))
+        → IsServed u (λ x. x ≡ r) t (cond b (granted_while_fitting qs (after_grant q.session q.resource q.mode t)) t)
     go false next = inl (refl-same u t)
-    go true next = first (granted_front qs (granted q.session q.resource q.mode t)) next
+    go true next = first (granted_while_fitting qs (after_grant q.session q.resource q.mode t)) next
 
-promoted-served : (r : List ℕ) (t : Table) → IsOnce t.waits → (u : ℕ) → IsServed u (λ x. x ≡ r) t (promoted r t)
+promoted-served : (r : List ℕ) (t : Table) → IsOnce t.requests → (u : ℕ) → IsServed u (λ x. x ≡ r) t (after_promotion r t)
 promoted-served r t o u = front-served r (queue t r) t o refl u
 
-pub all-served : (rs : List (List ℕ)) (t : Table) → IsOnce t.waits → (u : ℕ) → IsServed u (λ x. among rs x ≡ true) t (promoted_all rs t)
+pub all-served : (rs : List (List ℕ)) (t : Table) → IsOnce t.requests → (u : ℕ) → IsServed u (λ x. among rs x ≡ true) t (after_promotions rs t)
 all-served [] t o u = inl (refl-same u t)
 all-served (r ∷ rs) t o u =
-    let rest = all-served rs (promoted r t) (front-once (queue t r) t o) u in
+    let rest = all-served rs (after_promotion r t) (front-once (queue t r) t o) u in
     elim (promoted-served r t o u) [
-      | inl a ↦ elim (after-same u (λ x. among rs x ≡ true) t (promoted r t) (promoted_all rs (promoted r t)) a rest) [
+      | inl a ↦ elim (after-same u (λ x. among rs x ≡ true) t (after_promotion r t) (after_promotions rs (after_promotion r t)) a rest) [
         | inl b ↦ inl b
         | inr p ↦ inr (p.0, p.1, or_right (same_path r p.0.resource) (among rs p.0.resource) p.2)
       ]
-      | inr p ↦ after-promotion u p.0 (λ x. among rs x ≡ true) (λ x. among (r ∷ rs) x ≡ true) t (promoted r t) (promoted_all rs (promoted r t)) p.1 (or_left (same_path r p.0.resource) (among rs p.0.resource) (rw p.2 (same_path-refl r))) rest
+      | inr p ↦ after-promotion u p.0 (λ x. among rs x ≡ true) (λ x. among (r ∷ rs) x ≡ true) t (after_promotion r t) (after_promotions rs (after_promotion r t)) p.1 (or_left (same_path r p.0.resource) (among rs p.0.resource) (rw p.2 (same_path-refl r))) rest
     ]
 
 -- a release
@@ -127,28 +128,28 @@ risen t t' u x k i e up =
     let l = held-on k (held_mode t' u x) (i.held_under u x k e).1 (ap (λ (o : Option Mode). at_or_below (mode_or_nothing o) (mode_or_nothing (held_mode t' u x))) (sym e) ∙ up) in
     (l.0, l.1, order-from k l.0 l.2)
 
-released-takes : (s : ℕ) (r : List ℕ) (st : State) → IsSound st.table → request_of s st.table.waits ≡ None → holds_child st.table s r ≡ false → IsReleaseOf s r st (with_table (released s r st.table) st)
+released-takes : (s : ℕ) (r : List ℕ) (st : State) → IsSound st.table → request_of s st.table.requests ≡ None → holds_child st.table s r ≡ false → IsReleaseOf s r st (with_table (after_release s r st.table) st)
 released-takes s r st i n c = record {
   given_back = own.held r ∙ mode_in-locks_but s r st.table.held;
-  waits = own.waits ∙ n;
+  request = own.request ∙ n;
   elsewhere = λ u x m. elim (served u) [
     | inl a ↦ a.held x ∙ mode_in-locks_but_path u s x r st.table.held (differs x r m)
     | inr p ↦ p.1.elsewhere x (λ e. m (e ∙ p.2)) ∙ mode_in-locks_but_path u s x r st.table.held (differs x r m)
   ];
-  others_hold = λ u k m e. risen st.table (released s r st.table) u r k i e (released-rises s r st.table i n c u r (inl (other s u m)));
-  others = λ u m. after-same u (λ x. x ≡ r) st.table (one_less s r st.table) (released s r st.table) (before u (other s u m)) (served u);
+  others_hold = λ u k m e. risen st.table (after_release s r st.table) u r k i e (released-rises s r st.table i n c u r (inl (other s u m)));
+  others = λ u m. after-same u (λ x. x ≡ r) st.table (one_less s r st.table) (after_release s r st.table) (before u (other s u m)) (served u);
   promotion = promotions-longest (r ∷ []) (one_less s r st.table);
   transactions = (refl, refl);
 }
   where
-    served : (u : ℕ) → IsServed u (λ x. x ≡ r) (one_less s r st.table) (released s r st.table)
+    served : (u : ℕ) → IsServed u (λ x. x ≡ r) (one_less s r st.table) (after_release s r st.table)
     served u = promoted-served r (one_less s r st.table) i.once u
 
-    own : IsAsBefore s (one_less s r st.table) (released s r st.table)
-    own = unserved s (λ x. x ≡ r) (one_less s r st.table) (released s r st.table) n (served s)
+    own : IsAsBefore s (one_less s r st.table) (after_release s r st.table)
+    own = unserved s (λ x. x ≡ r) (one_less s r st.table) (after_release s r st.table) n (served s)
 
     before : (u : ℕ) → eqb u s ≡ false → IsAsBefore u st.table (one_less s r st.table)
-    before u m = record { held = λ x. mode_in-locks_but_other u s x r st.table.held m; waits = refl }
+    before u m = record { held = λ x. mode_in-locks_but_other u s x r st.table.held m; request = refl }
 
 -- the end of a transaction
 
@@ -164,36 +165,36 @@ unheld : (s : ℕ) (x : List ℕ) (cs : List Claim) → mode_in s x cs ≡ None 
 unheld s x [] h = refl
 unheld s x (c ∷ cs) h = grind (arith, nat_tests, bool_cases (same_path c.resource x), unheld s x cs)
 
-unwanted : (o : Option Claim) (x : List ℕ) → ((q : Claim) → o ≡ Some q → q.resource ≢ x) → among (wanted o) x ≡ false
+unwanted : (o : Option Claim) (x : List ℕ) → ((q : Claim) → o ≡ Some q → q.resource ≢ x) → among (resource_of_request o) x ≡ false
 unwanted None x h = refl
 unwanted (Some q) x h = ap (λ (b : Bool). b || false) (differs x q.resource (λ e. h q refl (sym e)))
 
-apart-untouched : (s : ℕ) (t : Table) (x : List ℕ) → IsApart t s x → among (touched s t) x ≡ false
-apart-untouched s t x h = among-both (wanted (request_of s t.waits)) (map (λ (c : Claim). c.resource) (claims_of s t.held)) x (unwanted (request_of s t.waits) x h.1) (unheld s x t.held h.0)
+apart-untouched : (s : ℕ) (t : Table) (x : List ℕ) → IsApart t s x → among (resources_touched s t) x ≡ false
+apart-untouched s t x h = among-both (resource_of_request (request_of s t.requests)) (map (λ (c : Claim). c.resource) (claims_of s t.held)) x (unwanted (request_of s t.requests) x h.1) (unheld s x t.held h.0)
 
-ended-takes : (s : ℕ) (st : State) → IsSound st.table → IsEndOf s st (with_begun s None (with_table (ended s st.table) st))
+ended-takes : (s : ℕ) (st : State) → IsSound st.table → IsEndOf s st (with_begun s None (with_table (after_end s st.table) st))
 ended-takes s st i = record {
   closed = ap (λ (b : Bool). is_some (cond b None (st.begun s))) (eqb-refl s);
   holds_nothing = λ x. own.held x ∙ mode_in-claims_but s x st.table.held;
-  waits_no_more = own.waits ∙ request_of-claims_but s st.table.waits;
-  others_hold = λ u x k m e. risen st.table (ended s st.table) u x k i e (ended-rises s st.table i u x (other s u m));
-  others = λ u m. elim (after-same u (λ x. among (touched s st.table) x ≡ true) st.table (left s st.table) (ended s st.table) (before u (other s u m)) (served u)) [
+  waits_no_more = own.request ∙ request_of-claims_but s st.table.requests;
+  others_hold = λ u x k m e. risen st.table (after_end s st.table) u x k i e (ended-rises s st.table i u x (other s u m));
+  others = λ u m. elim (after-same u (λ x. among (resources_touched s st.table) x ≡ true) st.table (without_claims s st.table) (after_end s st.table) (before u (other s u m)) (served u)) [
     | inl a ↦ inl a
     | inr p ↦ inr (p.0, p.1, λ h. true≢false p.2 (apart-untouched s st.table p.0.resource h))
   ];
-  promotion = promotions-longest (touched s st.table) (left s st.table);
+  promotion = promotions-longest (resources_touched s st.table) (without_claims s st.table);
   others_open = λ u m. ap (λ (b : Bool). cond b None (st.begun u)) (other s u m);
   count = refl;
 }
   where
-    served : (u : ℕ) → IsServed u (λ x. among (touched s st.table) x ≡ true) (left s st.table) (ended s st.table)
-    served u = all-served (touched s st.table) (left s st.table) (left-sound s st.table i).once u
+    served : (u : ℕ) → IsServed u (λ x. among (resources_touched s st.table) x ≡ true) (without_claims s st.table) (after_end s st.table)
+    served u = all-served (resources_touched s st.table) (without_claims s st.table) (left-sound s st.table i).once u
 
-    own : IsAsBefore s (left s st.table) (ended s st.table)
-    own = unserved s (λ x. among (touched s st.table) x ≡ true) (left s st.table) (ended s st.table) (request_of-claims_but s st.table.waits) (served s)
+    own : IsAsBefore s (without_claims s st.table) (after_end s st.table)
+    own = unserved s (λ x. among (resources_touched s st.table) x ≡ true) (without_claims s st.table) (after_end s st.table) (request_of-claims_but s st.table.requests) (served s)
 
-    before : (u : ℕ) → eqb u s ≡ false → IsAsBefore u st.table (left s st.table)
-    before u n = record { held = λ x. mode_in-claims_but_other u s x st.table.held n; waits = request_of-claims_but_other u s st.table.waits n }
+    before : (u : ℕ) → eqb u s ≡ false → IsAsBefore u st.table (without_claims s st.table)
+    before u n = record { held = λ x. mode_in-claims_but_other u s x st.table.held n; request = request_of-claims_but_other u s st.table.requests n }
 
 -- calls that are not refused
 
@@ -207,14 +208,14 @@ passes st s c h = go (first_failing (tests st s c)) refl
 pub step-acts : (st : State) (s : ℕ) (c : Call) → IsNotRefused st s c → step st s c ≡ act st s c
 step-acts st s c h = ap (λ (o : Option Why). outcome_of o st s c) (passes st s c h)
 
-pub release-one : (st : State) → IsLawful st.table → DoesReleaseTakeOneLock st
+pub release-one : (st : State) → IsAtRest st.table → DoesReleaseTakeOneLock st
 release-one st i s r h =
     let p = all-pass (tests st s (Release r)) (passes st s (Release r) h) in
     subst (λ (o : Outcome). (o.reply ≡ Released) × IsReleaseOf s r st o.state) (sym (step-acts st s (Release r) h))
-    (refl, released-takes s r st i.sound (is-none (request_of s st.table.waits) p.1.0) p.1.1.1.1.0)
+    (refl, released-takes s r st i.sound (is-none (request_of s st.table.requests) p.1.0) p.1.1.1.1.0)
 
-pub commit-all : (st : State) → IsLawful st.table → DoesCommitTakeAllLocks st
+pub commit-all : (st : State) → IsAtRest st.table → DoesCommitTakeAllLocks st
 commit-all st i s h = subst (λ (o : Outcome). (o.reply ≡ Committed (length (claims_of s st.table.held))) × IsEndOf s st o.state) (sym (step-acts st s Commit h)) (refl, ended-takes s st i.sound)
 
-pub abort-all : (st : State) → IsLawful st.table → DoesAbortTakeAllLocks st
+pub abort-all : (st : State) → IsAtRest st.table → DoesAbortTakeAllLocks st
 abort-all st i s h = subst (λ (o : Outcome). (o.reply ≡ Aborted (length (claims_of s st.table.held))) × IsEndOf s st o.state) (sym (step-acts st s Abort h)) (refl, ended-takes s st i.sound)

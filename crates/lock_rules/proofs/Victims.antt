@@ -6,13 +6,13 @@ use Rattle.waits_for.specs.Walks.{Reaches, AreOnCircle}
 use Rattle.waits_for.proofs.Walks.{reaches-trans}
 use Rattle.lock_rules.specs.State.{State, number_of, is_open, with_table}
 use Rattle.lock_rules.specs.Queue.{with_request}
-use Rattle.lock_rules.specs.Waits.{waits_for, reaches, waiting_sessions, victim_of, after_victim, cancelled, settled}
+use Rattle.lock_rules.specs.Waits.{waits_for, reaches, waiting_sessions, victim_of, after_victim, after_cancel, after_victims}
 use Rattle.lock_rules.specs.Laws.{IsVictim, AreVictims, AreVictimsDetermined}
+use Rattle.lock_rules.specs.Sound.{IsNumbered, IsSound}
 use Rattle.lock_rules.proofs.Alters.{true≢false}
-use Rattle.lock_rules.proofs.Sound.{IsSound}
 use Rattle.lock_rules.proofs.Cuts.{cancelled-follows, cancelled-fewer, victim-fewer}
 use Rattle.lock_rules.proofs.Settle.{on_circle, youngest-most, filter-has, victim-on, victim-waits, reached-walk, reaches-walk, walk-waits, has-waits}
-use Rattle.lock_rules.proofs.Owners.{IsNumbered, victim-numbered, waiting-numbered}
+use Rattle.lock_rules.proofs.Owners.{victim-numbered, waiting-numbered}
 
 -- where a circle goes through s, the victim is of all on one with s the youngest
 pub victim-most : (st : State) (s : ℕ) → reaches st.table s s ≡ true → IsVictim st s (victim_of st s)
@@ -26,13 +26,13 @@ victim-most st s h =
     }
 
 -- the victims of the function are victims one after another
-pub settled-victims : (n s : ℕ) (st : State) → length st.table.waits < n → (vs : List ℕ) × AreVictims s vs st (settled n s st)
+pub settled-victims : (n s : ℕ) (st : State) → length st.table.requests < n → (vs : List ℕ) × AreVictims s vs st (after_victims n s st)
 settled-victims zero s st few = absurd (omega arith)
 settled-victims (suc n) s st few = go (reaches st.table s s) refl (λ k. settled-victims n s (after_victim (victim_of st s) st) k)
   where
     go : (r : Bool) → reaches st.table s s ≡ r
-        → (length (cancelled (victim_of st s) st.table).waits < n → (vs : List ℕ) × AreVictims s vs (after_victim (victim_of st s) st) (settled n s (after_victim (victim_of st s) st)))
-        → (vs : List ℕ) × AreVictims s vs st (cond r (settled n s (after_victim (victim_of st s) st)) st)
+        → (length (after_cancel (victim_of st s) st.table).requests < n → (vs : List ℕ) × AreVictims s vs (after_victim (victim_of st s) st) (after_victims n s (after_victim (victim_of st s) st)))
+        → (vs : List ℕ) × AreVictims s vs st (cond r (after_victims n s (after_victim (victim_of st s) st)) st)
     go false e next = ([], (λ c. true≢false (reaches-walk st.table s s c) e, refl))
     go true e next =
         let w = victim-waits st s e in
@@ -40,14 +40,14 @@ settled-victims (suc n) s st few = go (reaches st.table s s) refl (λ k. settled
         (victim_of st s ∷ r.0, (victim-most st s e, r.1))
 
 -- more rounds than requests change nothing
-pub settled-enough : (n m s : ℕ) (st : State) → IsSound st.table → length st.table.waits < n → length st.table.waits < m → settled n s st ≡ settled m s st
+pub settled-enough : (n m s : ℕ) (st : State) → IsSound st.table → length st.table.requests < n → length st.table.requests < m → after_victims n s st ≡ after_victims m s st
 settled-enough zero m s st i few less = absurd (omega arith)
 settled-enough (suc n) zero s st i few less = absurd (omega arith)
 settled-enough (suc n) (suc m) s st i few less = go (reaches st.table s s) refl (λ j k l. settled-enough n m s (after_victim (victim_of st s) st) j k l)
   where
     go : (r : Bool) → reaches st.table s s ≡ r
-        → (IsSound (cancelled (victim_of st s) st.table) → length (cancelled (victim_of st s) st.table).waits < n → length (cancelled (victim_of st s) st.table).waits < m → settled n s (after_victim (victim_of st s) st) ≡ settled m s (after_victim (victim_of st s) st))
-        → cond r (settled n s (after_victim (victim_of st s) st)) st ≡ cond r (settled m s (after_victim (victim_of st s) st)) st
+        → (IsSound (after_cancel (victim_of st s) st.table) → length (after_cancel (victim_of st s) st.table).requests < n → length (after_cancel (victim_of st s) st.table).requests < m → after_victims n s (after_victim (victim_of st s) st) ≡ after_victims m s (after_victim (victim_of st s) st))
+        → cond r (after_victims n s (after_victim (victim_of st s) st)) st ≡ cond r (after_victims m s (after_victim (victim_of st s) st)) st
     go false e next = refl
     go true e next =
         let w = victim-waits st s e in
@@ -56,7 +56,7 @@ settled-enough (suc n) (suc m) s st i few less = go (reaches st.table s s) refl 
 
 -- who is on a circle waits, and so has a transaction
 on_circle-open : (st : State) (s v : ℕ) → IsNumbered st → AreOnCircle (waits_for st.table) s v → is_open st v ≡ true
-on_circle-open st s v i c = let w = has-waits v st.table.waits (walk-waits st.table v c.back.others s c.back.walk) in i.owners.waiting v w.0 w.1
+on_circle-open st s v i c = let w = has-waits v st.table.requests (walk-waits st.table v c.back.others s c.back.walk) in i.owners.waiting v w.0 w.1
 
 -- there is one victim at most
 pub one-victim : (st : State) → IsNumbered st → (s v w : ℕ) → IsVictim st s v → IsVictim st s w → v ≡ w

@@ -47,10 +47,10 @@ met-rest s xs ys q h = go (request_of s xs) refl
     go None e = (q, request_of-rest s xs ys e ∙ h)
     go (Some c) e = (c, request_of-front s xs ys c e)
 
-met-queue : (t : Table) (s : ℕ) (q : Claim) → request_of s t.waits ≡ Some q → IsMet s (queue t q.resource)
+met-queue : (t : Table) (s : ℕ) (q : Claim) → request_of s t.requests ≡ Some q → IsMet s (queue t q.resource)
 met-queue t s q h = elim (bool_cases (is_some (held_mode t q.session q.resource))) [
-  | inl e ↦ (q, request_of-front s (conversions t q.resource) (fresh_requests t q.resource) q (request_of-filter s (λ c. same_path c.resource q.resource && is_some (held_mode t c.session q.resource)) t.waits q h (and_from (same_path q.resource q.resource) (is_some (held_mode t q.session q.resource)) (same_path-refl q.resource) e)))
-  | inr e ↦ met-rest s (conversions t q.resource) (fresh_requests t q.resource) q (request_of-filter s (λ c. same_path c.resource q.resource && not (is_some (held_mode t c.session q.resource))) t.waits q h (and_from (same_path q.resource q.resource) (not (is_some (held_mode t q.session q.resource))) (same_path-refl q.resource) (ap not e)))
+  | inl e ↦ (q, request_of-front s (conversions t q.resource) (fresh_requests t q.resource) q (request_of-filter s (λ c. same_path c.resource q.resource && is_some (held_mode t c.session q.resource)) t.requests q h (and_from (same_path q.resource q.resource) (is_some (held_mode t q.session q.resource)) (same_path-refl q.resource) e)))
+  | inr e ↦ met-rest s (conversions t q.resource) (fresh_requests t q.resource) q (request_of-filter s (λ c. same_path c.resource q.resource && not (is_some (held_mode t c.session q.resource))) t.requests q h (and_from (same_path q.resource q.resource) (not (is_some (held_mode t q.session q.resource))) (same_path-refl q.resource) (ap not e)))
 ]
 
 -- earlier requests
@@ -92,9 +92,9 @@ before-tests u s (q ∷ before) rest p h k = grind (arith, nat_tests, before-tes
 -- who waits for whom
 
 waits-told : (t : Table) (s u : ℕ) → waits_for t s u ≡ true → WaitsFor t s u
-waits-told t s u h = let p = and_parts (not (eqb u s)) (keeps_waiting t u (request_of s t.waits)) h in go (apart s u (not-true (eqb u s) p.0)) (request_of s t.waits) refl p.1
+waits-told t s u h = let p = and_parts (not (eqb u s)) (keeps_waiting t u (request_of s t.requests)) h in go (apart s u (not-true (eqb u s) p.0)) (request_of s t.requests) refl p.1
   where
-    go : u ≢ s → (o : Option Claim) → request_of s t.waits ≡ o → keeps_waiting t u o ≡ true → WaitsFor t s u
+    go : u ≢ s → (o : Option Claim) → request_of s t.requests ≡ o → keeps_waiting t u o ≡ true → WaitsFor t s u
     go n None e k = absurd (cc)
     go n (Some q) e k = (
       n,
@@ -102,16 +102,16 @@ waits-told t s u h = let p = and_parts (not (eqb u s)) (keeps_waiting t u (reque
       e,
       elim (or_cases (conflicts q.mode (held_mode t u q.resource)) (stands_before u q.session (queue t q.resource)) k) [
         | inl c ↦ inl (conflict-told q.mode (held_mode t u q.resource) c)
-        | inr b ↦ let m = met-queue t s q e in inr (before-told u s (queue t q.resource) m.0 m.1 (rw (request_of-session s t.waits q e) at b))
+        | inr b ↦ let m = met-queue t s q e in inr (before-told u s (queue t q.resource) m.0 m.1 (rw (request_of-session s t.requests q e) at b))
       ],
     )
 
 waits-tests : (t : Table) (s u : ℕ) → WaitsFor t s u → waits_for t s u ≡ true
 waits-tests t s u w =
     let q = w.1 in
-    and_from (not (eqb u s)) (keeps_waiting t u (request_of s t.waits)) (ap not (other s u w.0)) (ap (keeps_waiting t u) w.2 ∙ elim w.3 [
+    and_from (not (eqb u s)) (keeps_waiting t u (request_of s t.requests)) (ap not (other s u w.0)) (ap (keeps_waiting t u) w.2 ∙ elim w.3 [
       | inl h ↦ or_left (conflicts q.mode (held_mode t u q.resource)) (stands_before u q.session (queue t q.resource)) (ap (conflicts q.mode) h.1 ∙ conflict-tests q.mode h.0 h.2)
-      | inr b ↦ or_right (conflicts q.mode (held_mode t u q.resource)) (stands_before u q.session (queue t q.resource)) (ap (λ (x : ℕ). stands_before u x (queue t q.resource)) (request_of-session s t.waits q w.2) ∙ (ap (stands_before u s) b.4 ∙ before-tests u s b.0 (b.2 ∷ b.1) b.3 b.6 b.7))
+      | inr b ↦ or_right (conflicts q.mode (held_mode t u q.resource)) (stands_before u q.session (queue t q.resource)) (ap (λ (x : ℕ). stands_before u x (queue t q.resource)) (request_of-session s t.requests q w.2) ∙ (ap (stands_before u s) b.4 ∙ before-tests u s b.0 (b.2 ∷ b.1) b.3 b.6 b.7))
     ])
 
 pub waits-tell : (t : Table) → DoWaitsTell t

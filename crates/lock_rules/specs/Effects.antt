@@ -8,7 +8,7 @@ use Rattle.lock_rules.specs.declared.calls.Reply.TheVariants.{Granted, Waiting, 
 use Rattle.lock_rules.specs.declared.calls.Why.{Why}
 use Rattle.lock_rules.specs.State.{Claim, Table, State, held_mode, request_of, claims_of, claims_but, is_open, is_waiting, is_doomed, with_table}
 use Rattle.lock_rules.specs.Queue.{conversions, fresh_requests, queue, fits, locks_but, with_request}
-use Rattle.lock_rules.specs.Waits.{doom, wanted, after_victim}
+use Rattle.lock_rules.specs.Waits.{doom, resource_of_request, after_victim}
 use Rattle.lock_rules.specs.Step.{Outcome, step}
 use Rattle.lock_rules.specs.Laws.{IsGrantOf, HoldsAtLeast, ArePromotionsLongest, AreVictims}
 
@@ -19,23 +19,23 @@ IsNotRefused st s c = (why : Why) → (step st s c).reply ≢ Refused why
 -- what the session holds and what it waits for stay
 pub record IsAsBefore (u : ℕ) (t t' : Table) : Type 0 where
   pub held : (x : List ℕ) → held_mode t' u x ≡ held_mode t u x
-  pub waits : request_of u t'.waits ≡ request_of u t.waits
+  pub request : request_of u t'.requests ≡ request_of u t.requests
 
 -- the request of the session is granted, and nothing else of the session changes
 pub record IsPromotionOf (u : ℕ) (q : Claim) (t t' : Table) : Type 0 where
-  pub waited : request_of u t.waits ≡ Some q
-  pub waits_no_more : request_of u t'.waits ≡ None
+  pub waited : request_of u t.requests ≡ Some q
+  pub waits_no_more : request_of u t'.requests ≡ None
   pub held : held_mode t' u q.resource ≡ Some q.mode
   pub elsewhere : (x : List ℕ) → x ≢ q.resource → held_mode t' u x ≡ held_mode t u x
 
 -- the session gives back this lock and no other, and the resource is promoted; each other session is as before, or its request for the resource is granted
 pub record IsReleaseOf (s : ℕ) (r : List ℕ) (st st' : State) : Type 0 where
   pub given_back : held_mode st'.table s r ≡ None
-  pub waits : request_of s st'.table.waits ≡ None
+  pub request : request_of s st'.table.requests ≡ None
   pub elsewhere : (u : ℕ) (x : List ℕ) → x ≢ r → held_mode st'.table u x ≡ held_mode st.table u x
   pub others_hold : (u : ℕ) (k : Mode) → u ≢ s → held_mode st.table u r ≡ Some k → HoldsAtLeast st'.table u r k
   pub others : (u : ℕ) → u ≢ s → IsAsBefore u st.table st'.table ⊎ ((q : Claim) × IsPromotionOf u q st.table st'.table × (q.resource ≡ r))
-  pub promotion : ArePromotionsLongest (r ∷ []) (record { held = locks_but s r st.table.held; waits = st.table.waits }) st'.table
+  pub promotion : ArePromotionsLongest (r ∷ []) (record { held = locks_but s r st.table.held; requests = st.table.requests }) st'.table
   pub transactions : (st'.begun ≡ st.begun) × (st'.count ≡ st.count)
 
 -- a release takes one lock
@@ -45,20 +45,20 @@ DoesReleaseTakeOneLock st = (s : ℕ) (r : List ℕ) → IsNotRefused st s (Rele
 
 -- the session neither holds the resource nor waits for it
 abbrev pub IsApart : Table → ℕ → List ℕ → Type 0
-IsApart t s x = (held_mode t s x ≡ None) × ((q : Claim) → request_of s t.waits ≡ Some q → q.resource ≢ x)
+IsApart t s x = (held_mode t s x ≡ None) × ((q : Claim) → request_of s t.requests ≡ Some q → q.resource ≢ x)
 
 -- what the session waits for, and what it holds
-abbrev pub touched : ℕ → Table → List (List ℕ)
-touched s t = wanted (request_of s t.waits) ++ map (λ c. c.resource) (claims_of s t.held)
+abbrev pub resources_touched : ℕ → Table → List (List ℕ)
+resources_touched s t = resource_of_request (request_of s t.requests) ++ map (λ c. c.resource) (claims_of s t.held)
 
 -- the session has no transaction, no lock and no request, and what it held and waited for is promoted; each other session is as before, or its request for one of these is granted
 pub record IsEndOf (s : ℕ) (st st' : State) : Type 0 where
   pub closed : is_open st' s ≡ false
   pub holds_nothing : (x : List ℕ) → held_mode st'.table s x ≡ None
-  pub waits_no_more : request_of s st'.table.waits ≡ None
+  pub waits_no_more : request_of s st'.table.requests ≡ None
   pub others_hold : (u : ℕ) (x : List ℕ) (k : Mode) → u ≢ s → held_mode st.table u x ≡ Some k → HoldsAtLeast st'.table u x k
   pub others : (u : ℕ) → u ≢ s → IsAsBefore u st.table st'.table ⊎ ((q : Claim) × IsPromotionOf u q st.table st'.table × (IsApart st.table s q.resource → ⊥))
-  pub promotion : ArePromotionsLongest (touched s st.table) (record { held = claims_but s st.table.held; waits = claims_but s st.table.waits }) st'.table
+  pub promotion : ArePromotionsLongest (resources_touched s st.table) (record { held = claims_but s st.table.held; requests = claims_but s st.table.requests }) st'.table
   pub others_open : (u : ℕ) → u ≢ s → st'.begun u ≡ st.begun u
   pub count : st'.count ≡ st.count
 
@@ -88,8 +88,8 @@ request s r k = record { session = s; resource = r; mode = k }
 -- no lock changes, and the session waits: behind the conversions where it holds the resource, else behind all
 pub record IsWaitOf (s : ℕ) (r : List ℕ) (k : Mode) (t t' : Table) : Type 0 where
   pub held : (u : ℕ) (x : List ℕ) → held_mode t' u x ≡ held_mode t u x
-  pub waits : request_of s t'.waits ≡ Some (request s r k)
-  pub others_wait : (u : ℕ) → u ≢ s → request_of u t'.waits ≡ request_of u t.waits
+  pub waiting : request_of s t'.requests ≡ Some (request s r k)
+  pub others_wait : (u : ℕ) → u ≢ s → request_of u t'.requests ≡ request_of u t.requests
   pub conversion : held_mode t s r ≢ None → queue t' r ≡ conversions t r ++ request s r k ∷ fresh_requests t r
   pub fresh : held_mode t s r ≡ None → queue t' r ≡ queue t r ++ request s r k ∷ []
   pub elsewhere : (x : List ℕ) → x ≢ r → queue t' x ≡ queue t x
@@ -101,12 +101,12 @@ IsAmong u (v ∷ vs) = (u ≡ v) ⊎ IsAmong u vs
 
 -- one of these sessions waits for the resource
 abbrev pub IsWantedBy : List ℕ → Table → List ℕ → Type 0
-IsWantedBy vs t x = (v : ℕ) × (p : Claim) × IsAmong v vs × (request_of v t.waits ≡ Some p) × (p.resource ≡ x)
+IsWantedBy vs t x = (v : ℕ) × (p : Claim) × IsAmong v vs × (request_of v t.requests ≡ Some p) × (p.resource ≡ x)
 
 -- the session waited and waits no more, its transaction is doomed, and it holds what it held
 pub record IsDoomOf (v : ℕ) (st st' : State) : Type 0 where
-  pub waited : (p : Claim) × (request_of v st.table.waits ≡ Some p)
-  pub waits_no_more : request_of v st'.table.waits ≡ None
+  pub waited : (p : Claim) × (request_of v st.table.requests ≡ Some p)
+  pub waits_no_more : request_of v st'.table.requests ≡ None
   pub doomed : st'.begun v ≡ doom (st.begun v)
   pub held : (x : List ℕ) → held_mode st'.table v x ≡ held_mode st.table v x
 
@@ -124,14 +124,14 @@ DoVictimsKeepTheirLocks st = (s : ℕ) (r : List ℕ) (k : Mode) (vs : List ℕ)
 
 -- the resource that a victim waited for is promoted, once its request is gone
 abbrev pub DoesDoomPromote : State → Type 0
-DoesDoomPromote st = (v : ℕ) (q : Claim) → request_of v st.table.waits ≡ Some q
-    → ArePromotionsLongest (q.resource ∷ []) (record { held = st.table.held; waits = claims_but v st.table.waits }) (after_victim v st).table
+DoesDoomPromote st = (v : ℕ) (q : Claim) → request_of v st.table.requests ≡ Some q
+    → ArePromotionsLongest (q.resource ∷ []) (record { held = st.table.held; requests = claims_but v st.table.requests }) (after_victim v st).table
 
 -- the asker is told that it is doomed, or else that it waits, or else that its request was granted
 pub record IsTold (s : ℕ) (k : Mode) (o : Outcome) : Type 0 where
   pub deadlock : is_doomed o.state s ≡ true → o.reply ≡ Deadlock
-  pub waiting : is_doomed o.state s ≡ false → request_of s o.state.table.waits ≢ None → o.reply ≡ Waiting
-  pub granted : is_doomed o.state s ≡ false → request_of s o.state.table.waits ≡ None → o.reply ≡ Granted k
+  pub waiting : is_doomed o.state s ≡ false → request_of s o.state.table.requests ≢ None → o.reply ≡ Waiting
+  pub granted : is_doomed o.state s ≡ false → request_of s o.state.table.requests ≡ None → o.reply ≡ Granted k
 
 -- the request begins to wait, and the victims that it makes, one after another, lead to the state after the call
 pub record IsWaitSettled (s : ℕ) (r : List ℕ) (k : Mode) (st : State) (o : Outcome) : Type 0 where

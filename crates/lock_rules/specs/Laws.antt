@@ -13,7 +13,7 @@ use Rattle.lock_rules.specs.declared.calls.Entry.{Entry}
 use Rattle.lock_rules.specs.declared.calls.TheConstants.{MAX_LOCKS}
 use Rattle.waits_for.specs.Walks.{Reaches, AreOnCircle}
 use Rattle.lock_rules.specs.State.{Claim, Table, State, claims_but, held_mode, request_of, holders, claims_of, is_open, is_doomed, number_of, with_table}
-use Rattle.lock_rules.specs.Queue.{queue, fits, granted, promoted, with_request}
+use Rattle.lock_rules.specs.Queue.{queue, fits, after_grant, after_promotion, with_request}
 use Rattle.lock_rules.specs.Waits.{waits_for, after_victim}
 use Rattle.lock_rules.specs.Step.{tests, first_failing, step}
 use Rattle.lock_rules.specs.Legal.{state_of, Answered}
@@ -50,21 +50,21 @@ pub record IsGrantOf (s : ℕ) (r : List ℕ) (m : Mode) (t t' : Table) : Type 0
   pub held : held_mode t' s r ≡ Some m
   pub elsewhere : (x : List ℕ) → x ≢ r → held_mode t' s x ≡ held_mode t s x
   pub others_hold : (u : ℕ) (x : List ℕ) → u ≢ s → held_mode t' u x ≡ held_mode t u x
-  pub waits_no_more : request_of s t'.waits ≡ None
-  pub others_wait : (u : ℕ) → u ≢ s → request_of u t'.waits ≡ request_of u t.waits
-  pub in_order : t'.waits ≡ claims_but s t.waits
+  pub waits_no_more : request_of s t'.requests ≡ None
+  pub others_wait : (u : ℕ) → u ≢ s → request_of u t'.requests ≡ request_of u t.requests
+  pub in_order : t'.requests ≡ claims_but s t.requests
 
 -- each of these requests is granted, one after another
-abbrev pub grants : List Claim → Table → Table
-grants [] t = t
-grants (q ∷ qs) t = grants qs (granted q.session q.resource q.mode t)
+abbrev pub after_grants : List Claim → Table → Table
+after_grants [] t = t
+after_grants (q ∷ qs) t = after_grants qs (after_grant q.session q.resource q.mode t)
 
 abbrev pub IsFront : List Claim → List Claim → Type 0
 IsFront front qs = (rest : List Claim) × (qs ≡ front ++ rest)
 
 -- each request of the front fits once those before it are held
 abbrev pub EachFits : Table → List Claim → Type 0
-EachFits t front = (before rest : List Claim) (q : Claim) → front ≡ before ++ q ∷ rest → fits (grants before t) q.session q.resource q.mode ≡ true
+EachFits t front = (before rest : List Claim) (q : Claim) → front ≡ before ++ q ∷ rest → fits (after_grants before t) q.session q.resource q.mode ≡ true
 
 -- of the fronts of the resource's queue in which each request fits once those before it are held, this is the longest
 pub record IsLongestFront (t : Table) (r : List ℕ) (front : List Claim) : Type 0 where
@@ -74,12 +74,12 @@ pub record IsLongestFront (t : Table) (r : List ℕ) (front : List Claim) : Type
 
 -- a promotion grants the requests of the longest such front, and no others
 abbrev pub DoesPromotionGrantLongest : Table → Type 0
-DoesPromotionGrantLongest t = (r : List ℕ) → (front : List Claim) × (IsLongestFront t r front × (promoted r t ≡ grants front t))
+DoesPromotionGrantLongest t = (r : List ℕ) → (front : List Claim) × (IsLongestFront t r front × (after_promotion r t ≡ after_grants front t))
 
 -- of each of these resources, one after another, the requests of the longest such front are granted, and no others
 abbrev pub ArePromotionsLongest : List (List ℕ) → Table → Table → Type 0
 ArePromotionsLongest [] t t' = t' ≡ t
-ArePromotionsLongest (r ∷ rs) t t' = (front : List Claim) × IsLongestFront t r front × ArePromotionsLongest rs (grants front t) t'
+ArePromotionsLongest (r ∷ rs) t t' = (front : List Claim) × IsLongestFront t r front × ArePromotionsLongest rs (after_grants front t) t'
 
 -- states
 
@@ -101,7 +101,7 @@ pub record AreLocksOnce (st : State) : Type 0 where
 
 -- beside a session's request it has no other
 abbrev pub IsOneRequestEach : State → Type 0
-IsOneRequestEach st = (front rest : List Claim) (q : Claim) → st.table.waits ≡ front ++ q ∷ rest → request_of q.session (front ++ rest) ≡ None
+IsOneRequestEach st = (front rest : List Claim) (q : Claim) → st.table.requests ≡ front ++ q ∷ rest → request_of q.session (front ++ rest) ≡ None
 
 -- no session holds more locks than one may
 abbrev pub AreLocksFew : State → Type 0
@@ -138,7 +138,7 @@ AreLocksUnderParents st = (s : ℕ) (r : List ℕ) (m : Mode) → held_mode st.t
 
 -- and so does each request that waits
 abbrev pub AreRequestsUnderParents : State → Type 0
-AreRequestsUnderParents st = (s : ℕ) (q : Claim) → request_of s st.table.waits ≡ Some q → IsUnderParent st.table s q.resource q.mode
+AreRequestsUnderParents st = (s : ℕ) (q : Claim) → request_of s st.table.requests ≡ Some q → IsUnderParent st.table s q.resource q.mode
 
 -- what a session holds somewhere below a resource, it holds under a child of the resource that it holds too
 abbrev pub AreChildrenHeld : State → Type 0
@@ -165,7 +165,7 @@ IsAccessCompatible st = (s u : ℕ) (x : List ℕ) → s ≢ u → Writes st.tab
 
 -- the session holds a lock or waits for one
 abbrev pub HasClaim : State → ℕ → Type 0
-HasClaim st s = ((r : List ℕ) × (m : Mode) × (held_mode st.table s r ≡ Some m)) ⊎ ((q : Claim) × (request_of s st.table.waits ≡ Some q))
+HasClaim st s = ((r : List ℕ) × (m : Mode) × (held_mode st.table s r ≡ Some m)) ⊎ ((q : Claim) × (request_of s st.table.requests ≡ Some q))
 
 -- whoever holds or waits has a transaction
 abbrev pub AreOwnersOpen : State → Type 0
@@ -191,7 +191,7 @@ StandsBefore u s qs = (before after : List Claim) × (q p : Claim) × (qs ≡ be
 
 -- s has a request, and u, another session, holds its resource in conflict or stands before it in the queue
 abbrev pub WaitsFor : Table → ℕ → ℕ → Type 0
-WaitsFor t s u = (u ≢ s) × (q : Claim) × (request_of s t.waits ≡ Some q) × (HoldsInConflict t u q ⊎ StandsBefore u s (queue t q.resource))
+WaitsFor t s u = (u ≢ s) × (q : Claim) × (request_of s t.requests ≡ Some q) × (HoldsInConflict t u q ⊎ StandsBefore u s (queue t q.resource))
 
 -- one session waits for another exactly where a lock or an earlier request of the other is in its way
 abbrev pub DoWaitsTell : Table → Type 0
@@ -203,7 +203,7 @@ HasNoCircle st = (s : ℕ) → Reaches (waits_for st.table) s s → ⊥
 
 -- who is doomed waits for nothing
 abbrev pub DoDoomedWaitForNothing : State → Type 0
-DoDoomedWaitForNothing st = (s : ℕ) → is_doomed st s ≡ true → request_of s st.table.waits ≡ None
+DoDoomedWaitForNothing st = (s : ℕ) → is_doomed st s ≡ true → request_of s st.table.requests ≡ None
 
 -- of all sessions on a circle with s this one has the youngest transaction
 pub record IsVictim (st : State) (s v : ℕ) : Type 0 where

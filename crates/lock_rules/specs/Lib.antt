@@ -4,6 +4,7 @@ pub mod Waits
 pub mod Step
 pub mod Legal
 pub mod Laws
+pub mod Sound
 pub mod Effects
 pub mod Lawful
 pub mod Examples

@@ -8,11 +8,11 @@ use Rattle.lock_rules.specs.State.{Claim, Table, held_mode, holders, claims_but}
 
 -- the requests on the resource by sessions that hold it, in order of arrival
 abbrev pub conversions : Table → List ℕ → List Claim
-conversions t r = filter (λ q. same_path q.resource r && is_some (held_mode t q.session r)) t.waits
+conversions t r = filter (λ q. same_path q.resource r && is_some (held_mode t q.session r)) t.requests
 
 -- the requests on the resource by sessions that don't hold it, in order of arrival
 abbrev pub fresh_requests : Table → List ℕ → List Claim
-fresh_requests t r = filter (λ q. same_path q.resource r && not (is_some (held_mode t q.session r))) t.waits
+fresh_requests t r = filter (λ q. same_path q.resource r && not (is_some (held_mode t q.session r))) t.requests
 
 -- who waits for the resource: conversions before fresh requests
 abbrev pub queue : Table → List ℕ → List Claim
@@ -40,26 +40,26 @@ abbrev pub locks_but : ℕ → List ℕ → List Claim → List Claim
 locks_but s r cs = filter (λ c. not ((c.session == s) && same_path c.resource r)) cs
 
 -- the session holds the resource in the mode, and waits no more
-abbrev pub granted : ℕ → List ℕ → Mode → Table → Table
-granted s r m t = record { held = with_lock s r m t.held; waits = claims_but s t.waits }
+abbrev pub after_grant : ℕ → List ℕ → Mode → Table → Table
+after_grant s r m t = record { held = with_lock s r m t.held; requests = claims_but s t.requests }
 
 -- a fresh request is granted at once where nothing waits on the resource and it fits, a conversion wherever it fits
-abbrev pub is_granted : Table → ℕ → List ℕ → Mode → Bool
-is_granted t s r m = fits t s r m && (is_some (held_mode t s r) || is_empty (queue t r))
+abbrev pub is_granted_at_once : Table → ℕ → List ℕ → Mode → Bool
+is_granted_at_once t s r m = fits t s r m && (is_some (held_mode t s r) || is_empty (queue t r))
 
 -- any other request waits
 abbrev pub with_request : ℕ → List ℕ → Mode → Table → Table
-with_request s r m t = record { held = t.held; waits = t.waits ++ record { session = s; resource = r; mode = m } ∷ [] }
+with_request s r m t = record { held = t.held; requests = t.requests ++ record { session = s; resource = r; mode = m } ∷ [] }
 
 -- one request after another is granted, up to the first that doesn't fit
-abbrev pub granted_front : List Claim → Table → Table
-granted_front [] t = t
-granted_front (q ∷ qs) t = if fits t q.session q.resource q.mode then granted_front qs (granted q.session q.resource q.mode t) else t
+abbrev pub granted_while_fitting : List Claim → Table → Table
+granted_while_fitting [] t = t
+granted_while_fitting (q ∷ qs) t = if fits t q.session q.resource q.mode then granted_while_fitting qs (after_grant q.session q.resource q.mode t) else t
 
 -- what is done to a resource's queue once a lock or a request there is taken away
-abbrev pub promoted : List ℕ → Table → Table
-promoted r t = granted_front (queue t r) t
+abbrev pub after_promotion : List ℕ → Table → Table
+after_promotion r t = granted_while_fitting (queue t r) t
 
-abbrev pub promoted_all : List (List ℕ) → Table → Table
-promoted_all [] t = t
-promoted_all (r ∷ rs) t = promoted_all rs (promoted r t)
+abbrev pub after_promotions : List (List ℕ) → Table → Table
+after_promotions [] t = t
+after_promotions (r ∷ rs) t = after_promotions rs (after_promotion r t)

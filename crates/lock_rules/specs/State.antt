@@ -3,6 +3,7 @@ use Rattle.std.specs.Prelude.{ℕ, Bool, false, ◌&&◌, not, if◌then◌else�
 use Rattle.lock_modes.specs.declared.Mode.{Mode}
 use Rattle.lock_modes.specs.declared.Mode.TheVariants.{NL}
 use Rattle.lock_tree.specs.Paths.{same_path}
+use Rattle.lock_rules.specs.declared.calls.Transaction.{Transaction}
 
 -- a session with a resource and a mode: a lock that it holds, or a request that waits, with its target
 pub record Claim : Type 0 where
@@ -13,12 +14,7 @@ pub record Claim : Type 0 where
 -- the locks that are held, those on one resource by session number, and the requests that wait, in order of arrival
 pub record Table : Type 0 where
   pub held : List Claim
-  pub waits : List Claim
-
--- an open transaction, and whether it was chosen as a deadlock's victim
-pub record Transaction : Type 0 where
-  pub number : ℕ
-  pub doomed : Bool
+  pub requests : List Claim
 
 -- how many transactions have begun, the open transaction of each session, and the table
 pub record State : Type 0 where
@@ -27,7 +23,7 @@ pub record State : Type 0 where
   pub table : Table
 
 abbrev pub no_locks : Table
-no_locks = record { held = []; waits = [] }
+no_locks = record { held = []; requests = [] }
 
 -- before the first call
 abbrev pub empty : State
@@ -69,7 +65,7 @@ abbrev pub is_open : State → ℕ → Bool
 is_open st s = is_some (st.begun s)
 
 abbrev pub is_waiting : State → ℕ → Bool
-is_waiting st s = is_some (request_of s st.table.waits)
+is_waiting st s = is_some (request_of s st.table.requests)
 
 abbrev pub doomed_in : Option Transaction → Bool
 doomed_in None = false

@@ -13,8 +13,8 @@ use Rattle.lock_rules.specs.declared.calls.Why.{Why}
 use Rattle.lock_rules.specs.declared.calls.Why.TheVariants.{AlreadyOpen, NoTransaction, IsWaiting, IsDoomed, NothingAsked, NotHeld, ParentNotHeld, ChildHeld, TooManyLocks}
 use Rattle.lock_rules.specs.declared.calls.TheConstants.{MAX_LOCKS}
 use Rattle.lock_rules.specs.State.{Table, State, held_mode, mode_or_nothing, request_of, claims_of, claims_but, is_open, is_waiting, is_doomed, with_begun, with_table}
-use Rattle.lock_rules.specs.Waits.{wanted, settled}
-use Rattle.lock_rules.specs.Queue.{locks_but, granted, is_granted, with_request, promoted, promoted_all}
+use Rattle.lock_rules.specs.Waits.{resource_of_request, after_victims}
+use Rattle.lock_rules.specs.Queue.{locks_but, after_grant, is_granted_at_once, with_request, after_promotion, after_promotions}
 
 -- a new state and a reply
 pub record Outcome : Type 0 where
@@ -74,7 +74,7 @@ first_failing (t ∷ ts) = if t.0 then Some t.1 else first_failing ts
 
 -- a request begins to wait, and the deadlocks that it makes are resolved; each victim is a session that waits, so there are enough rounds
 abbrev pub after_wait : State → ℕ → List ℕ → Mode → State
-after_wait st s r m = settled (length st.table.waits + 2) s (with_table (with_request s r m st.table) st)
+after_wait st s r m = after_victims (length st.table.requests + 2) s (with_table (with_request s r m st.table) st)
 
 -- the mode that is held covers this one
 abbrev pub is_held : Option Mode → Mode → Bool
@@ -82,28 +82,28 @@ is_held None m = false
 is_held (Some k) m = at_or_below m k
 
 -- the state after a session has asked for a target on a resource; a target that is held already changes nothing
-abbrev pub asked : State → ℕ → List ℕ → Mode → State
-asked st s r m =
+abbrev pub after_asking : State → ℕ → List ℕ → Mode → State
+after_asking st s r m =
     if is_held (held_mode st.table s r) m then st
-    else (if is_granted st.table s r m then with_table (granted s r m st.table) st else after_wait st s r m)
+    else (if is_granted_at_once st.table s r m then with_table (after_grant s r m st.table) st else after_wait st s r m)
 
 -- the session is told that it became a victim, or that it waits, or that it was granted the target, at once or by the end of a victim's request
 abbrev pub ask : State → ℕ → List ℕ → Mode → Outcome
 ask st s r m =
-    let after = asked st s r m in
+    let after = after_asking st s r m in
     record { state = after; reply = if is_doomed after s then Deadlock else (if is_waiting after s then Waiting else Granted m) }
 
 -- one lock is taken away, and its resource is promoted
-abbrev pub released : ℕ → List ℕ → Table → Table
-released s r t = promoted r (record { held = locks_but s r t.held; waits = t.waits })
+abbrev pub after_release : ℕ → List ℕ → Table → Table
+after_release s r t = after_promotion r (record { held = locks_but s r t.held; requests = t.requests })
 
 -- all that the session holds and waits for is taken away
-abbrev pub left : ℕ → Table → Table
-left s t = record { held = claims_but s t.held; waits = claims_but s t.waits }
+abbrev pub without_claims : ℕ → Table → Table
+without_claims s t = record { held = claims_but s t.held; requests = claims_but s t.requests }
 
 -- and each resource that this touches is promoted
-abbrev pub ended : ℕ → Table → Table
-ended s t = promoted_all (wanted (request_of s t.waits) ++ map (λ c. c.resource) (claims_of s t.held)) (left s t)
+abbrev pub after_end : ℕ → Table → Table
+after_end s t = after_promotions (resource_of_request (request_of s t.requests) ++ map (λ c. c.resource) (claims_of s t.held)) (without_claims s t)
 
 -- what a call does where no test fails
 abbrev pub act : State → ℕ → Call → Outcome
@@ -114,13 +114,13 @@ act st s Begin = record {
 act st s (Lock r m) = ask st s r (target_of (held_mode st.table s r) m)
 act st s (Convert r m) = ask st s r (target_of (held_mode st.table s r) m)
 act st s Poll = record { state = st; reply = if is_doomed st s then Deadlock else (if is_waiting st s then Waiting else Clear) }
-act st s (Release r) = record { state = with_table (released s r st.table) st; reply = Released }
+act st s (Release r) = record { state = with_table (after_release s r st.table) st; reply = Released }
 act st s Commit = record {
-  state = with_begun s None (with_table (ended s st.table) st);
+  state = with_begun s None (with_table (after_end s st.table) st);
   reply = Committed (length (claims_of s st.table.held));
 }
 act st s Abort = record {
-  state = with_begun s None (with_table (ended s st.table) st);
+  state = with_begun s None (with_table (after_end s st.table) st);
   reply = Aborted (length (claims_of s st.table.held));
 }
 

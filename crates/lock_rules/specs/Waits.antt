@@ -3,8 +3,9 @@ use Rattle.std.specs.Prelude.{ℕ, zero, suc, Bool, true, false, not, ◌&&◌, 
 use Rattle.std.specs.List.{list_any}
 use Rattle.lock_modes.specs.declared.Mode.{Mode}
 use Rattle.lock_modes.specs.Compatibility.{are_compatible}
-use Rattle.lock_rules.specs.State.{Claim, Transaction, Table, State, held_mode, request_of, claims_but, number_of, with_begun, with_table}
-use Rattle.lock_rules.specs.Queue.{queue, promoted_all}
+use Rattle.lock_rules.specs.declared.calls.Transaction.{Transaction}
+use Rattle.lock_rules.specs.State.{Claim, Table, State, held_mode, request_of, claims_but, number_of, with_begun, with_table}
+use Rattle.lock_rules.specs.Queue.{queue, after_promotions}
 
 -- the mode asked conflicts with what is held, if anything is
 abbrev pub conflicts : Mode → Option Mode → Bool
@@ -23,10 +24,10 @@ keeps_waiting t u (Some q) = conflicts q.mode (held_mode t u q.resource) || stan
 
 -- s waits for u, who is another session
 abbrev pub waits_for : Table → ℕ → ℕ → Bool
-waits_for t s u = not (u == s) && keeps_waiting t u (request_of s t.waits)
+waits_for t s u = not (u == s) && keeps_waiting t u (request_of s t.requests)
 
 abbrev pub waiting_sessions : Table → List ℕ
-waiting_sessions t = map (λ q. q.session) t.waits
+waiting_sessions t = map (λ q. q.session) t.requests
 
 -- a walk of at most so many steps leads from t to u, through these sessions
 abbrev pub walks_within : (ℕ → ℕ → Bool) → List ℕ → ℕ → ℕ → ℕ → Bool
@@ -51,23 +52,23 @@ doom None = None
 doom (Some x) = Some (record { number = x.number; doomed = true })
 
 -- the resource of a request
-abbrev pub wanted : Option Claim → List (List ℕ)
-wanted None = []
-wanted (Some q) = q.resource ∷ []
+abbrev pub resource_of_request : Option Claim → List (List ℕ)
+resource_of_request None = []
+resource_of_request (Some q) = q.resource ∷ []
 
 -- the session waits no more
-abbrev pub waits_no_more : ℕ → Table → Table
-waits_no_more s t = record { held = t.held; waits = claims_but s t.waits }
+abbrev pub without_request : ℕ → Table → Table
+without_request s t = record { held = t.held; requests = claims_but s t.requests }
 
 -- and the resource of its request is promoted
-abbrev pub cancelled : ℕ → Table → Table
-cancelled s t = promoted_all (wanted (request_of s t.waits)) (waits_no_more s t)
+abbrev pub after_cancel : ℕ → Table → Table
+after_cancel s t = after_promotions (resource_of_request (request_of s t.requests)) (without_request s t)
 
 -- a victim is doomed, waits no more, and keeps its locks
 abbrev pub after_victim : ℕ → State → State
-after_victim v st = with_begun v (doom (st.begun v)) (with_table (cancelled v st.table) st)
+after_victim v st = with_begun v (doom (st.begun v)) (with_table (after_cancel v st.table) st)
 
 -- while s lies on a circle the youngest on one becomes a victim
-abbrev pub settled : ℕ → ℕ → State → State
-settled zero s st = st
-settled (suc n) s st = if reaches st.table s s then settled n s (after_victim (victim_of st s) st) else st
+abbrev pub after_victims : ℕ → ℕ → State → State
+after_victims zero s st = st
+after_victims (suc n) s st = if reaches st.table s s then after_victims n s (after_victim (victim_of st s) st) else st

@@ -4,7 +4,7 @@ use lock_modes::Mode;
 use lock_tree::Resource;
 
 /// The sessions of one lock table are numbered from 1 to at most this number.
-pub const MAX_SESSIONS: u16 = 256;
+pub const MAX_SESSIONS: u16 = waits_for::MAX_SESSIONS;
 
 /// How many locks a transaction may hold at once; one more is refused with `Why::TooManyLocks`.
 pub const MAX_LOCKS: usize = 4096;
@@ -27,6 +27,15 @@ pub enum Call {
     Commit,
     /// Ends the transaction, also one that waits or is doomed: takes away its request and gives back all its locks.
     Abort,
+}
+
+/// An open transaction of a session.
+#[derive(Clone, Copy, Debug, PartialEq, Eq, Hash)]
+pub struct Transaction {
+    /// Transactions are numbered 1, 2, .. in the order in which they began.
+    pub number: u64,
+    /// Whether it was chosen as a deadlock's victim: all it can do then is to abort.
+    pub doomed: bool,
 }
 
 /// Why a call was refused. The tests of a call are made in the order of these numbers; the first that

@@ -8,7 +8,7 @@ ghost use Rattle.lock_rules.specs.declared.calls.Entry.{Entry as EntryValue};
 ghost use Rattle.lock_rules.specs.declared.calls.Reply.TheVariants.{Began, Granted, Waiting, Deadlock, Clear, Released, Committed, Aborted, Refused};
 ghost use Rattle.lock_rules.specs.declared.calls.Why.TheVariants.{IsWaiting, NothingAsked, NotHeld, ParentNotHeld};
 ghost use Rattle.lock_rules.specs.State.{State, Table, empty};
-ghost use Rattle.lock_rules.specs.Queue.{granted};
+ghost use Rattle.lock_rules.specs.Queue.{after_grant};
 ghost use Rattle.lock_rules.specs.Step.{step};
 ghost use Rattle.lock_rules.specs.Legal.{Answered, IsLegal, state_of, asked_in, calls_of};
 ghost use Rattle.lock_rules.specs.Laws.{AreRepliesOfSteps, IsEntryOf, ArePlacesRising, IsRefusalExact, DoesRefusalKeep, IsGrantOf, DoesPromotionGrantLongest, DoesFitTell, AreHoldersCompatible, DoesNobodyWaitNeedlessly, AreLocksUnderParents, AreRequestsUnderParents, AreChildrenHeld, IsAccessCompatible, DoesGrantStand, AreOwnersOpen, AreNumbersApart, AreNumbersCounted, DoWaitsTell, HasNoCircle, DoDoomedWaitForNothing, AreVictimsDetermined, AreHoldersListed, AreLocksOnce, IsOneRequestEach, AreLocksFew};
@@ -58,7 +58,7 @@ pub fn refusals_keep_the_state()
 /// A grant changes one lock of one session, which waits no more. What others hold stays, and who waits still
 /// stands in the order of before.
 pub fn grants_change_one_lock()
-    ensures { (session : ℕ) (resource : List ℕ) (mode : ModeValue) (t : Table) → IsGrantOf session resource mode t (granted session resource mode t) }
+    ensures { (session : ℕ) (resource : List ℕ) (mode : ModeValue) (t : Table) → IsGrantOf session resource mode t (after_grant session resource mode t) }
 {}
 
 /// The target of a lock or a conversion that isn't refused is the least mode at or above what is held and

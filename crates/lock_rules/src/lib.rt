@@ -4,7 +4,7 @@
 mod calls;
 pub mod laws;
 
-pub use calls::{Call, Entry, MAX_LOCKS, MAX_SESSIONS, Reply, Why};
+pub use calls::{Call, Entry, MAX_LOCKS, MAX_SESSIONS, Reply, Transaction, Why};
 
 #[cfg(test)]
 mod tests;

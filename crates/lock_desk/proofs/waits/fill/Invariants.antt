@@ -1,6 +1,7 @@
 use Rattle.std.proofs.Common.{◌≡◌, ℕ, ◌+◌, ◌<◌, map, get_or}
 use Rattle.waits_for.specs.Pairs.{pairs_of}
-use Rattle.lock_desk.specs.Rows.{standing_of, standing_at, number_in}
+use Rattle.lock_rules.specs.State.{number_in}
+use Rattle.lock_desk.specs.Rows.{standing_of, standing_at}
 use Rattle.lock_desk.specs.Finding.{blocks, IsReady}
 use Rattle.lock_desk.proofs.waits.fill.Given as goal
 

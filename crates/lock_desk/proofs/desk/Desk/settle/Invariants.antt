@@ -1,7 +1,6 @@
 use Rattle.std.proofs.Common.{◌≡◌, vec_len}
 use Rattle.lock_rules.specs.State.{State}
-use Rattle.lock_rules.proofs.Sound.{IsSound}
-use Rattle.lock_rules.proofs.Owners.{IsNumbered}
+use Rattle.lock_rules.specs.Sound.{IsNumbered, IsSound}
 use Rattle.lock_desk.specs.Changes.{IsWhole}
 use Rattle.lock_desk.specs.Ready.{IsReadyDesk}
 use Rattle.lock_desk.specs.Shows.{Shows}

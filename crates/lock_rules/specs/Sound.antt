@@ -1,0 +1,61 @@
+-- What a table and the transactions keep at every moment, within a call too, where one lock or request after another
+-- changes. What holds between two calls is in Laws.
+use Rattle.std.specs.Prelude.{◌≡◌, ℕ, ◌+◌, ◌≤◌, Bool, true, false, ◌&&◌, ◌==◌, nat_lt, if◌then◌else◌, ◌⊎◌, List, [], ◌∷◌, Some}
+use Rattle.std.specs.List.{list_all}
+use Rattle.lock_modes.specs.declared.Mode.{Mode}
+use Rattle.lock_modes.specs.Order.{at_or_below}
+use Rattle.lock_modes.specs.Compatibility.{are_compatible}
+use Rattle.lock_rules.specs.State.{Claim, Table, State, held_mode, mode_or_nothing, request_of, holders, is_open, number_of}
+use Rattle.lock_rules.specs.Step.{is_nothing, lacks_parent}
+use Rattle.lock_rules.specs.Laws.{AreNumbersApart}
+
+-- how many requests the session has
+abbrev pub times : ℕ → List Claim → ℕ
+times s [] = 0
+times s (q ∷ qs) = (if q.session == s then 1 else 0) + times s qs
+
+-- no session has two
+abbrev pub IsOnce : List Claim → Type 0
+IsOnce qs = (s : ℕ) → times s qs ≤ 1
+
+-- each of these holders has a greater number
+abbrev pub after : ℕ → List (ℕ × Mode) → Bool
+after s hs = list_all (λ k. nat_lt s k.0) hs
+
+-- the numbers rise
+abbrev pub ascend : List (ℕ × Mode) → Bool
+ascend [] = true
+ascend (h ∷ hs) = after h.0 hs && ascend hs
+
+-- the holders of each resource stand by session number
+abbrev pub IsOrdered : List Claim → Type 0
+IsOrdered cs = (r : List ℕ) → ascend (holders r cs) ≡ true
+
+-- the mode is something, and the parent, if there is one, is held as it needs
+abbrev pub Stands : Table → ℕ → List ℕ → Mode → Type 0
+Stands t s r m = (lacks_parent t s r m ≡ false) × (is_nothing m ≡ false)
+
+-- one order at least is compatible
+abbrev pub Agree : Mode → Mode → Type 0
+Agree a b = (are_compatible a b ≡ true) ⊎ (are_compatible b a ≡ true)
+
+-- holders stand by session number; a session has one request at most, and holds no more there than its target; requests
+-- and locks stand under their parents; holders of one resource go together
+pub record IsSound (t : Table) : Type 0 where
+  pub order : IsOrdered t.held
+  pub once : IsOnce t.requests
+  pub raising : (s : ℕ) (q : Claim) → request_of s t.requests ≡ Some q → at_or_below (mode_or_nothing (held_mode t s q.resource)) q.mode ≡ true
+  pub asked_under : (s : ℕ) (q : Claim) → request_of s t.requests ≡ Some q → Stands t s q.resource q.mode
+  pub held_under : (s : ℕ) (r : List ℕ) (k : Mode) → held_mode t s r ≡ Some k → Stands t s r k
+  pub agree : (s u : ℕ) (r : List ℕ) (k l : Mode) → (s == u) ≡ false → held_mode t s r ≡ Some k → held_mode t u r ≡ Some l → Agree k l
+
+-- whoever holds or waits is one of these sessions
+pub record AllOpen (open_ : ℕ → Bool) (t : Table) : Type 0 where
+  pub waiting : (s : ℕ) (q : Claim) → request_of s t.requests ≡ Some q → open_ s ≡ true
+  pub holding : (s : ℕ) (r : List ℕ) (m : Mode) → held_mode t s r ≡ Some m → open_ s ≡ true
+
+-- whoever holds or waits has a transaction, and these have numbers of their own, at most the count
+pub record IsNumbered (st : State) : Type 0 where
+  pub owners : AllOpen (is_open st) st.table
+  pub counted : (s : ℕ) → is_open st s ≡ true → number_of st s ≤ st.count
+  pub apart : AreNumbersApart st
