@@ -13,8 +13,9 @@ use Rattle.lock_tree.specs.declared.path_fault.PathFault.{PathFault}
 use Rattle.lock_tree.specs.declared.path_fault.PathFault.TheVariants.{TooDeep}
 use Rattle.lock_tree.specs.Fields.{ArePadded}
 use Rattle.lock_tree.specs.Text.{is_slash, pieces_of, first_piece}
-use Rattle.lock_tree.specs.Faults.{number_of, fault_of_piece, first_fault, fault_of}
-use Rattle.lock_tree.specs.Readings.{ok_unless, reading_of_piece, numbers_in, reading_of}
+use Rattle.lock_tree.specs.Numerals.{number_of, ok_unless}
+use Rattle.lock_tree.specs.Faults.{fault_of_piece, first_fault, fault_of}
+use Rattle.lock_tree.specs.Readings.{reading_of_piece, numbers_in, reading_of}
 use Rattle.lock_tree.proofs.Texts.{fault_deep, fault_in_piece}
 
 -- the pieces before these have been read

@@ -1,8 +1,8 @@
 -- A text without a fault is the text of its numbers.
 use Rattle.std.proofs.Common.{◌≡◌, ◌↔◌, ℕ, ◌+◌, ◌<◌, ◌≤◌, ◌^◌, Bool, true, false, List, [], ◌∷◌, length, map, refl, sym, ap, ◌∙◌, arith, ne_eqb, Option, Some, None, Ok, Err, subst}
 use Rattle.std.specs.Prelude.{decimal, ◌==◌, nat_le, if◌then◌else◌, count_by}
-use Rattle.std.specs.List.{AllByRecursion, join_with_byte}
-use Rattle.std.specs.Option.{option_or}
+use Rattle.std.specs.List.{All, AllByRecursion, join_with_byte}
+use Rattle.std.specs.Option.{option_map, option_or}
 use Rattle.std.proofs.lemmas.Bool.{le-leb, lt-leb, leb-false}
 use Rattle.std.proofs.lemmas.List.{length-map}
 use Rattle.std.proofs.lemmas.List.Elements.{All-from_recursion, recursion_from_All}
@@ -12,41 +12,57 @@ use Rattle.lock_tree.specs.declared.path_fault.PathFault.{PathFault}
 use Rattle.lock_tree.specs.declared.path_fault.PathFault.TheVariants.{Empty, TooDeep}
 use Rattle.lock_tree.specs.Paths.{IsResource}
 use Rattle.lock_tree.specs.Text.{is_slash, text_of, pieces_of}
-use Rattle.lock_tree.specs.Faults.{number_of, fault_of_piece, first_fault, fault_of}
-use Rattle.lock_tree.specs.Readings.{ok_unless, numbers_in, reading_of}
-use Rattle.lock_tree.proofs.Numerals.{numeral_of_piece, piece_of_numeral, decimal_of_numeral, number_of_decimal, numeral_of_decimal, no_slash}
+use Rattle.lock_tree.specs.declared.numeral.NumeralFault.{NumeralFault}
+use Rattle.lock_tree.specs.Numerals.{number_of, fault_of_numeral, ok_unless}
+use Rattle.lock_tree.specs.Faults.{path_fault_of, fault_of_piece, first_fault, fault_of}
+use Rattle.lock_tree.specs.Readings.{numbers_in, reading_of}
+use Rattle.lock_tree.proofs.Numerals.{IsNumeral, numeral_of_faultless, faultless_of_numeral, decimal_of_numeral, number_of_decimal, numeral_of_decimal, no_slash, read_ok}
 
 no_first : (a b : Option PathFault) → option_or a b ≡ None → (a ≡ None) × (b ≡ None)
 no_first None b e = (refl, e)
 no_first (Some f) b e = absurd cc
+
+no_numeral_fault : (o : Option NumeralFault) → option_map path_fault_of o ≡ None → o ≡ None
+no_numeral_fault None e = refl
+no_numeral_fault (Some f) e = absurd cc
+
+numeral_of_piece : (piece : List ℕ) → fault_of_piece piece ≡ None → IsNumeral 4294967295 piece
+numeral_of_piece piece e = numeral_of_faultless 4294967295 piece (no_numeral_fault (fault_of_numeral 4294967295 piece) e)
+
+piece_of_number : (n : ℕ) → n < 2 ^ 32 → fault_of_piece (decimal n) ≡ None
+piece_of_number n small = ap (option_map path_fault_of) (faultless_of_numeral 4294967295 (decimal n) (numeral_of_decimal 4294967295 n (omega arith) (omega (arith, small))))
 
 -- pieces without a fault are the texts of their numbers, which are small
 decimals_of : (ps : List (List ℕ)) → first_fault ps ≡ None → map decimal (map number_of ps) ≡ ps
 decimals_of [] e = refl
 decimals_of (p ∷ ps) e =
     let parts = no_first (fault_of_piece p) (first_fault ps) e in
-    rw (decimal_of_numeral p (numeral_of_piece p parts.0), decimals_of ps parts.1) refl
+    rw (decimal_of_numeral 4294967295 p (omega arith) (numeral_of_piece p parts.0), decimals_of ps parts.1) refl
 
 all_small : (ps : List (List ℕ)) → first_fault ps ≡ None → AllByRecursion (λ n. n < 2 ^ 32) (map number_of ps)
 all_small [] e = tt
 all_small (p ∷ ps) e =
     let parts = no_first (fault_of_piece p) (first_fault ps) e in
-    ((numeral_of_piece p parts.0).small, all_small ps parts.1)
+    let small = (numeral_of_piece p parts.0).small in
+    (omega (arith, small), all_small ps parts.1)
 
 -- the texts of small numbers have no fault, and are read as those numbers
 no_fault : (r : List ℕ) → AllByRecursion (λ n. n < 2 ^ 32) r → first_fault (map decimal r) ≡ None
 no_fault [] small = refl
-no_fault (n ∷ ns) small = rw (piece_of_numeral (decimal n) (numeral_of_decimal n small.0)) (no_fault ns small.1)
+no_fault (n ∷ ns) small = rw (piece_of_number n small.0) (no_fault ns small.1)
 
 numbers_again : (r : List ℕ) → AllByRecursion (λ n. n < 2 ^ 32) r → map number_of (map decimal r) ≡ r
 numbers_again [] small = refl
-numbers_again (n ∷ ns) small = rw (number_of_decimal n small.0, numbers_again ns small.1) refl
+numbers_again (n ∷ ns) small = rw (number_of_decimal n (omega (arith, small.0)), numbers_again ns small.1) refl
+
+no_slash_in : (n : ℕ) → n < 2 ^ 32 → All (λ b. is_slash b ≡ false) (decimal n)
+no_slash_in n small = no_slash (decimal n) (numeral_of_decimal 4294967295 n (omega arith) (omega (arith, small))).digits
 
 -- the pieces of the text of some numbers are their texts
 pieces_again : (n : ℕ) (ns : List ℕ) → AllByRecursion (λ n. n < 2 ^ 32) (n ∷ ns) → pieces_of (text_of (n ∷ ns)) ≡ map decimal (n ∷ ns)
-pieces_again n [] small = slice_split_none is_slash (decimal n) (no_slash (decimal n) (numeral_of_decimal n small.0).digits)
+pieces_again n [] small = slice_split_none is_slash (decimal n) (no_slash_in n small.0)
 pieces_again n (m ∷ ms) small =
-    slice_split_at is_slash (decimal n) 47 (text_of (m ∷ ms)) (no_slash (decimal n) (numeral_of_decimal n small.0).digits) refl
+    slice_split_at is_slash (decimal n) 47 (text_of (m ∷ ms)) (no_slash_in n small.0) refl
     ∙ ap (λ (ps : List (List ℕ)). decimal n ∷ ps) (pieces_again m ms small.1)
 
 -- the tests of the whole text
@@ -107,10 +123,6 @@ no_fault_iff t = (
   λ e. let found = resource_of_text t e in (numbers_in t, found.0, found.1),
   λ of. let P : List ℕ → Type 0 = λ u. fault_of u ≡ None in subst P of.2 (text_of_resource of.0 of.1).0,
 )
-
-read_ok : (f : Option PathFault) (v r : List ℕ) → ok_unless f v ≡ Ok r → (f ≡ None) × (v ≡ r)
-read_ok None v r e = (refl, cc)
-read_ok (Some f) v r e = absurd cc
 
 -- what is read is the resource whose text it is
 pub ok_iff : (t r : List ℕ) → (reading_of t ≡ Ok r) ↔ (IsResource r × (text_of r ≡ t))

@@ -1,13 +1,9 @@
 -- What is read from a text, faulty or not.
-use Rattle.std.specs.Prelude.{ℕ, List, map, Option, Some, None, Result, Ok, Err}
+use Rattle.std.specs.Prelude.{ℕ, List, map, Result}
 use Rattle.lock_tree.specs.declared.path_fault.PathFault.{PathFault}
+use Rattle.lock_tree.specs.Numerals.{number_of, ok_unless}
 use Rattle.lock_tree.specs.Text.{pieces_of}
-use Rattle.lock_tree.specs.Faults.{number_of, fault_of_piece, fault_of}
-
--- the value where there is no fault
-abbrev pub ok_unless : {A : Type 0} → Option PathFault → A → Result A PathFault
-ok_unless None value = Ok value
-ok_unless (Some fault) value = Err fault
+use Rattle.lock_tree.specs.Faults.{fault_of_piece, fault_of}
 
 -- the number that a piece is, or what is wrong with it
 abbrev pub reading_of_piece : List ℕ → Result ℕ PathFault

@@ -1,6 +1,7 @@
 //! What holds of resources and of their text.
 
-ghost use Rattle.std.specs.Prelude.{◌≡◌, ℕ, ◌↔◌, List, true, None};
+ghost use Rattle.std.specs.Prelude.{◌≡◌, ℕ, ◌<◌, ◌≤◌, ◌^◌, ◌↔◌, List, true, None, Ok, decimal};
+ghost use Rattle.lock_tree.specs.Numerals.{fault_of_numeral, reading_of_numeral};
 ghost use Rattle.lock_tree.specs.Paths.{IsResource, same_path, path_cmp};
 ghost use Rattle.lock_tree.specs.Text.{text_of};
 ghost use Rattle.lock_tree.specs.Faults.{fault_of};
@@ -11,6 +12,15 @@ use crate::resource::Resource;
 pub fn same_path_is_equality()
     ensures numbers { (a b : List ℕ) → (same_path a b ≡ true) ↔ (a ≡ b) }
     ensures code { (a b : List ℕ) → ⟦<Resource as PartialEq>⟧.eq a b ≡ same_path a b }
+{}
+
+/// The numerals are the texts of numbers in decimal, and each is read as its number.
+pub fn numerals_are_decimals()
+    ensures faultless { (text : List ℕ) (greatest : ℕ) → greatest < 2 ^ 64
+        → (fault_of_numeral greatest text ≡ None)
+        ↔ ((n : ℕ) × (n ≤ greatest) × (text ≡ decimal n)) }
+    ensures read { (text : List ℕ) (greatest n : ℕ) → greatest < 2 ^ 64
+        → (reading_of_numeral greatest text ≡ Ok n) ↔ ((n ≤ greatest) × (text ≡ decimal n)) }
 {}
 
 /// The texts without a fault are those of resources, and no two resources share one.

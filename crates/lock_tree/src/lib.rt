@@ -1,15 +1,19 @@
-//! Resources of the lock tree and their text.
+//! Resources of the lock tree and their text, and the numerals that the text is made of.
 #![tactic(auto)]
 
 mod laws;
 mod levels;
+mod numeral;
 mod path_fault;
 mod piece;
 mod resource;
 #[cfg(test)]
 mod tests;
 
-pub use laws::{order_is_by_numbers, same_path_is_equality, texts_are_of_resources};
+pub use laws::{
+    numerals_are_decimals, order_is_by_numbers, same_path_is_equality, texts_are_of_resources,
+};
 pub use levels::LEVELS;
+pub use numeral::{NumeralFault, parse_numeral};
 pub use path_fault::PathFault;
 pub use resource::Resource;

@@ -1,48 +1,42 @@
 //! One piece of a text: a number, unless it is faulty.
 
-ghost use Rattle.std.specs.Prelude.{◌≡◌, min, length, true};
-ghost use Rattle.std.specs.Char.{is_ascii_digit};
-ghost use Rattle.std.specs.List.{list_all};
+ghost use Rattle.std.specs.Prelude.{◌≡◌, length};
 ghost use Rattle.lock_tree.specs.Text.{first_piece};
-ghost use Rattle.lock_tree.specs.Faults.{number_of};
+ghost use Rattle.lock_tree.specs.Digits.{AreRead};
+ghost use Rattle.lock_tree.specs.Faults.{path_fault_of};
 ghost use Rattle.lock_tree.specs.Readings.{reading_of_piece};
 
+use crate::numeral::{Digits, NumeralFault};
 use crate::path_fault::PathFault;
 
 // The largest number that a piece may be.
 const MAX: u64 = u32::MAX as u64;
 
-#[derive(Clone, Copy)]
-struct Piece {
-    length: usize,
-    is_number: bool,
-    // The number, or one more than the largest where it is larger. It means nothing where the
-    // piece is no number.
-    value: u64,
-}
-
-fn next_piece(bytes: &[u8]) -> Piece
-    ensures length { result.length ≡ length (first_piece bytes.now) }
-    ensures digits { result.is_number ≡ list_all is_ascii_digit (first_piece bytes.now) }
-    ensures value { result.is_number ≡ true
-        → result.value ≡ min (number_of (first_piece bytes.now)) 4294967296 }
+// The bytes up to the first `/`, or all of them, and what is kept of them.
+fn next_piece(bytes: &[u8]) -> (&[u8], Digits)
+    ensures piece { result.0.now ≡ first_piece bytes.now }
+    ensures read { AreRead result.1 (first_piece bytes.now) }
 {
     let mut length = 0;
-    let mut is_number = true;
-    let mut value: u64 = 0;
+    let mut read = Digits::none();
     for byte in bytes {
         if *byte == b'/' {
             break;
         }
-        is_number &= byte.is_ascii_digit();
-        // What is too large stays so, however many digits follow.
-        value = (value * 10 + byte.saturating_sub(b'0') as u64).min(MAX + 1);
+        read = read.with(*byte);
         length += 1;
     }
-    Piece {
-        length,
-        is_number,
-        value,
+    (&bytes[..length], read)
+}
+
+fn path_fault(fault: NumeralFault) -> PathFault
+    ensures { result ≡ path_fault_of fault }
+{
+    match fault {
+        NumeralFault::Empty => PathFault::Empty,
+        NumeralFault::NotANumber => PathFault::NotANumber,
+        NumeralFault::TooLarge => PathFault::TooLarge,
+        NumeralFault::LeadingZero => PathFault::LeadingZero,
     }
 }
 
@@ -51,17 +45,10 @@ pub(crate) fn read_piece(bytes: &[u8]) -> (Result<u32, PathFault>, usize)
     ensures number { result.0 ≡ reading_of_piece (first_piece bytes.now) }
     ensures length { result.1 ≡ length (first_piece bytes.now) }
 {
-    let piece = next_piece(bytes);
-    let number = if piece.length == 0 {
-        Err(PathFault::Empty)
-    } else if !piece.is_number {
-        Err(PathFault::NotANumber)
-    } else if piece.value > MAX {
-        Err(PathFault::TooLarge)
-    } else if piece.length > 1 && bytes[0] == b'0' {
-        Err(PathFault::LeadingZero)
-    } else {
-        Ok(piece.value as u32)
+    let (piece, read) = next_piece(bytes);
+    let number = match read.numeral(piece, MAX) {
+        Ok(number) => Ok(number as u32),
+        Err(fault) => Err(path_fault(fault)),
     };
-    (number, piece.length)
+    (number, piece.len())
 }

@@ -1,11 +1,12 @@
-use Rattle.std.proofs.Common.{◌≡◌, ◌≤◌}
-use Rattle.lock_tree.proofs.ByByte.{IsRead}
+use Rattle.std.proofs.Common.{◌≡◌, ℕ, ◌<◌, false, get_or, take}
+use Rattle.lock_tree.specs.Digits.{AreRead}
+use Rattle.lock_tree.specs.Text.{is_slash}
 use Rattle.lock_tree.proofs.piece.next_piece.Given as goal
 
--- what has been read is the front of the piece
+-- the bytes so far are the front of the piece, and have been read
 abbrev pub invariant-loop-byte : goal.invariant-loop-byte
 invariant-loop-byte l = record {
   length : l.length ≡ l.byte-index;
-  read : IsRead l.bytes l.byte-index l.is_number l.value;
-  small : l.value ≤ 4294967296;
+  front : (k : ℕ) → k < l.byte-index → is_slash (get_or l.bytes k 0) ≡ false;
+  read : AreRead l.read (take l.byte-index l.bytes);
 }

@@ -1,5 +1,4 @@
-use Rattle.std.proofs.Common.{sym, ◌∙◌, eqb, length, take}
-use Rattle.lock_tree.specs.Paths.{is_ancestor}
+use Rattle.std.proofs.Common.{sym, ◌∙◌}
 use Rattle.std.proofs.lemmas.Bool.Decides.{nat_tests}
 use Rattle.std.proofs.Common.{arith}
 use Rattle.lock_tree.proofs.Ancestors.{is_ancestor-short, is_ancestor-take}
