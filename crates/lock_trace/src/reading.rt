@@ -1,6 +1,6 @@
 //! Traces out of bytes.
 
-ghost use Rattle.std.specs.Prelude.{◌≡◌, ℕ, ◌+◌, Bool, List, [], Some, IsSome, IfSome, IfOk, OnOk, if◌then◌else◌, option_map, All};
+ghost use Rattle.std.specs.Prelude.{◌≡◌, ℕ, ◌+◌, Bool, true, List, [], Some, IsSome, IfSome, IfOk, OnOk, if◌then◌else◌, option_map, All};
 ghost use Rattle.csv.specs.Reading.{source_of, strip_bom, is_io, error_kind};
 ghost use Rattle.csv.specs.Records.{fields_of};
 ghost use Rattle.csv.specs.declared.parser.State.TheVariants as st;
@@ -8,11 +8,11 @@ ghost use Rattle.lock_trace.specs.declared.faults.TraceKind.TheVariants as kind;
 ghost use Rattle.lock_trace.specs.Rows.{IsRow};
 ghost use Rattle.lock_trace.specs.Records.{records_on};
 ghost use Rattle.lock_trace.specs.Traces.{Answers};
-ghost use Rattle.lock_trace.specs.Reading.{IsReading, IsNextRecord, IsNextRow};
+ghost use Rattle.lock_trace.specs.Reading.{IsReading, IsNextRecord, IsNextRow, is_of_device_or_memory};
 
 use crate::faults::{TraceFault, TraceKind};
 use crate::rows::{TraceRow, row_in_record};
-use csv::{ByteRecord, Error, Reader, ReaderBuilder};
+use csv::{ByteRecord, Error, ErrorKind, Reader, ReaderBuilder};
 use std::alloc::Global;
 use std::io::Read;
 
@@ -28,13 +28,15 @@ fn records<R: Read>(alloc: Global, input: R) -> Reader<R>
         .from_reader(alloc, input)
 }
 
+// The reader refuses no record for its length or its bytes.
 fn kind_of(error: &Error) -> TraceKind
+    requires { is_of_device_or_memory (error_kind error.now) ≡ true }
     ensures { result ≡ (if is_io (error_kind error.now) then kind.Device else kind.NoMemory) }
 {
-    if error.is_io_error() {
-        TraceKind::Device
-    } else {
-        TraceKind::NoMemory
+    match error.kind() {
+        ErrorKind::Io(_) => TraceKind::Device,
+        ErrorKind::OutOfMemory => TraceKind::NoMemory,
+        _ => unreachable!(),
     }
 }
 
