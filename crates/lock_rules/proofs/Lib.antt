@@ -28,3 +28,4 @@ pub mod Requests
 pub mod Lawful
 pub mod WrongReplies
 pub mod Worked
+pub mod RefusalNames

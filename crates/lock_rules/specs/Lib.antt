@@ -8,3 +8,4 @@ pub mod Sound
 pub mod Effects
 pub mod Lawful
 pub mod Examples
+pub mod Names

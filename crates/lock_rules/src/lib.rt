@@ -3,6 +3,7 @@
 
 mod calls;
 pub mod laws;
+mod names;
 
 pub use calls::{Call, Entry, MAX_LOCKS, MAX_SESSIONS, Reply, Transaction, Why};
 

@@ -1,0 +1,51 @@
+//! The names of the refusals, which histories write and read.
+
+ghost use Rattle.std.specs.Prelude.{◌≡◌, ◌↔◌, Some};
+ghost use Rattle.lock_rules.specs.declared.calls.Why.{Why as WhyValue};
+ghost use Rattle.lock_rules.specs.Names.{name_of_why};
+
+use crate::calls::Why;
+
+// All refusals, in the order of their numbers.
+const REFUSALS: [Why; 9] = [
+    Why::AlreadyOpen,
+    Why::NoTransaction,
+    Why::IsWaiting,
+    Why::IsDoomed,
+    Why::NothingAsked,
+    Why::NotHeld,
+    Why::ParentNotHeld,
+    Why::ChildHeld,
+    Why::TooManyLocks,
+];
+
+impl Why {
+    /// The name that histories and messages write.
+    pub fn name(self) -> &'static str
+        ensures { result.now ≡ name_of_why self }
+    {
+        match self {
+            Why::AlreadyOpen => "AlreadyOpen",
+            Why::NoTransaction => "NoTransaction",
+            Why::IsWaiting => "IsWaiting",
+            Why::IsDoomed => "IsDoomed",
+            Why::NothingAsked => "NothingAsked",
+            Why::NotHeld => "NotHeld",
+            Why::ParentNotHeld => "ParentNotHeld",
+            Why::ChildHeld => "ChildHeld",
+            Why::TooManyLocks => "TooManyLocks",
+        }
+    }
+
+    /// Reads a name back. It has to be exact, with nothing before or after it.
+    pub fn parse(text: &str) -> Option<Why>
+        ensures { (w : WhyValue) → (result ≡ Some w) ↔ (text.now ≡ name_of_why w) }
+    {
+        for why in REFUSALS {
+            if text == why.name() {
+                return Some(why);
+            }
+        }
+        None
+    }
+}
