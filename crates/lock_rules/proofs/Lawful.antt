@@ -15,6 +15,7 @@ use Rattle.lock_rules.proofs.States.{fit-tells, holders-compatible}
 use Rattle.lock_rules.proofs.Victims.{determined}
 use Rattle.lock_rules.proofs.Doomed.{keep-theirs, doom-promotes}
 use Rattle.lock_rules.proofs.Requests.{lock-asks, convert-asks, lock-converts, lock-holds, convert-holds}
+use Rattle.lock_rules.proofs.Sessions.{begin-opens, poll-tells}
 use Rattle.lock_rules.proofs.Taken.{release-one, commit-all, abort-all}
 
 pub lawful : (es : List Entry) → IsLawfulState (state_of es)
@@ -38,6 +39,8 @@ lawful es = let i = state-lawful es in record {
   victims_determined = determined (state_of es) (state-numbered es);
   victims_keep_their_locks = keep-theirs (state_of es) i.sound.once;
   dooms_promote = doom-promotes (state_of es);
+  begin_opens = begin-opens (state_of es);
+  poll_tells = poll-tells (state_of es) (state-numbered es);
   locks_answered = lock-asks (state_of es);
   conversions_answered = convert-asks (state_of es);
   held_is_converted = lock-converts (state_of es);

@@ -25,6 +25,7 @@ pub mod Once
 pub mod Few
 pub mod States
 pub mod Requests
+pub mod Sessions
 pub mod Lawful
 pub mod WrongReplies
 pub mod Worked

@@ -1,7 +1,6 @@
 -- Holds and requests as lists: what a look-up finds after a change.
-use Rattle.std.proofs.Common.{◌≡◌, ◌≢◌, ℕ, ◌+◌, ◌<◌, ◌≤◌, Bool, true, false, cond, eqb, ltb, ◌&&◌, ◌⊎◌, inl, inr, List, [], ◌∷◌, ◌++◌, Option, Some, None, refl, sym, ◌∙◌, ap, arith}
+use Rattle.std.proofs.Common.{◌≡◌, ◌≢◌, ℕ, ◌+◌, ◌<◌, ◌≤◌, Bool, true, false, cond, eqb, ltb, ◌⊎◌, inl, inr, List, [], ◌∷◌, ◌++◌, Option, Some, None, refl, sym, ◌∙◌, ap, arith}
 use Rattle.std.specs.Prelude.{filter}
-use Rattle.std.specs.List.{list_all}
 use Rattle.std.proofs.lemmas.Bool.Decides.{nat_tests, Decides-eqb}
 use Rattle.std.proofs.lemmas.Bool.{and_parts, and_from}
 use Rattle.lock_modes.specs.declared.Mode.{Mode}
@@ -9,7 +8,7 @@ use Rattle.lock_tree.specs.Paths.{same_path}
 use Rattle.lock_rules.specs.State.{Claim, mode_in, request_of, claims_but, holders}
 use Rattle.lock_rules.specs.Queue.{with_lock, locks_but}
 use Rattle.lock_rules.specs.Waits.{stands_before}
-use Rattle.lock_rules.specs.Sound.{IsOnce, IsOrdered, after, ascend, times}
+use Rattle.lock_rules.specs.Sound.{IsOrdered, after, ascend, times}
 
 pub bool_cases : (b : Bool) → (b ≡ true) ⊎ (b ≡ false)
 bool_cases true = inl refl

@@ -14,7 +14,7 @@ use Rattle.lock_rules.specs.Queue.{queue, fits, after_grant, granted_while_fitti
 use Rattle.lock_rules.specs.Waits.{without_request, after_cancel, resource_of_request, doom, reaches, victim_of, after_victim, after_victims}
 use Rattle.lock_rules.specs.Step.{target_of, tests, first_failing, is_held, after_wait, after_asking, after_release, without_claims, after_end, act, outcome_of, step}
 use Rattle.lock_rules.specs.Legal.{state_after, state_of}
-use Rattle.lock_rules.specs.Laws.{AreOwnersOpen, AreNumbersApart}
+use Rattle.lock_rules.specs.Laws.{AreOwnersOpen}
 use Rattle.lock_rules.specs.Sound.{AllOpen, IsNumbered}
 use Rattle.lock_rules.proofs.Lists.{bool_cases, In}
 use Rattle.lock_rules.proofs.Alters.{Alters, request-alters, request-gone, true≢false}

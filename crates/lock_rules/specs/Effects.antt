@@ -1,20 +1,42 @@
 -- What a call that is not refused brings about, in plain words.
-use Rattle.std.specs.Prelude.{◌≡◌, ◌≢◌, ℕ, true, false, ◌⊎◌, List, [], ◌∷◌, ◌++◌, length, map, Option, Some, None}
+use Rattle.std.specs.Prelude.{◌≡◌, ◌≢◌, ℕ, ◌+◌, ◌↔◌, true, false, ◌⊎◌, List, [], ◌∷◌, ◌++◌, length, map, Option, Some, None}
 use Rattle.lock_modes.specs.declared.Mode.{Mode}
 use Rattle.lock_modes.specs.Order.{IsLeastUpperBound}
 use Rattle.lock_rules.specs.declared.calls.Call.{Call}
-use Rattle.lock_rules.specs.declared.calls.Call.TheVariants.{Lock, Convert, Release, Commit, Abort}
-use Rattle.lock_rules.specs.declared.calls.Reply.TheVariants.{Granted, Waiting, Deadlock, Released, Committed, Aborted, Refused}
+use Rattle.lock_rules.specs.declared.calls.Call.TheVariants.{Begin, Lock, Convert, Poll, Release, Commit, Abort}
+use Rattle.lock_rules.specs.declared.calls.Reply.TheVariants.{Began, Granted, Waiting, Deadlock, Clear, Released, Committed, Aborted, Refused}
 use Rattle.lock_rules.specs.declared.calls.Why.{Why}
 use Rattle.lock_rules.specs.State.{Claim, Table, State, held_mode, request_of, claims_of, claims_but, is_open, is_waiting, is_doomed, with_table}
 use Rattle.lock_rules.specs.Queue.{conversions, fresh_requests, queue, fits, locks_but, with_request}
 use Rattle.lock_rules.specs.Waits.{doom, resource_of_request, after_victim}
 use Rattle.lock_rules.specs.Step.{Outcome, step}
-use Rattle.lock_rules.specs.Laws.{IsGrantOf, HoldsAtLeast, ArePromotionsLongest, AreVictims}
+use Rattle.lock_rules.specs.Laws.{IsGrantOf, HoldsAtLeast, HasTransaction, HasDoomedTransaction, HasRequest, ArePromotionsLongest, AreVictims}
 
 -- the call is not refused
 abbrev pub IsNotRefused : State → ℕ → Call → Type 0
 IsNotRefused st s c = (why : Why) → (step st s c).reply ≢ Refused why
+
+-- one transaction more has begun: the session has it, with this number and not doomed; no lock, no request and no other transaction changes
+pub record IsBeginOf (s : ℕ) (st st' : State) : Type 0 where
+  pub count : st'.count ≡ st.count + 1
+  pub own : st'.begun s ≡ Some (record { number = st.count + 1; doomed = false })
+  pub others : (u : ℕ) → u ≢ s → st'.begun u ≡ st.begun u
+  pub table : st'.table ≡ st.table
+
+-- a begin begins a transaction, and tells its number
+abbrev pub DoesBeginOpen : State → Type 0
+DoesBeginOpen st = (s : ℕ) → IsNotRefused st s Begin → ((step st s Begin).reply ≡ Began (st.count + 1)) × IsBeginOf s st (step st s Begin).state
+
+-- a poll changes nothing; a session that has a transaction is told that it is doomed, that it waits, or that it is clear of both, each exactly where it is so
+pub record IsPollTold (s : ℕ) (st : State) (o : Outcome) : Type 0 where
+  pub keeps : o.state ≡ st
+  pub deadlock : (o.reply ≡ Deadlock) ↔ HasDoomedTransaction st s
+  pub waiting : (o.reply ≡ Waiting) ↔ (HasRequest st s × (HasDoomedTransaction st s → ⊥))
+  pub clear : (o.reply ≡ Clear) ↔ (HasTransaction st s × (HasRequest st s → ⊥) × (HasDoomedTransaction st s → ⊥))
+
+-- so for every session
+abbrev pub DoesPollTell : State → Type 0
+DoesPollTell st = (s : ℕ) → IsPollTold s st (step st s Poll)
 
 -- what the session holds and what it waits for stay
 pub record IsAsBefore (u : ℕ) (t t' : Table) : Type 0 where

@@ -1,7 +1,7 @@
 -- All laws of a state that a history leads to: of its table, of its transactions, and of what calls bring about in it.
 use Rattle.lock_rules.specs.State.{State}
 use Rattle.lock_rules.specs.Laws.{AreHoldersListed, AreLocksOnce, IsOneRequestEach, AreLocksFew, DoesFitTell, AreHoldersCompatible, DoesNobodyWaitNeedlessly, AreLocksUnderParents, AreRequestsUnderParents, AreChildrenHeld, IsAccessCompatible, HasNoCircle, DoDoomedWaitForNothing, AreOwnersOpen, AreNumbersApart, AreNumbersCounted, AreVictimsDetermined}
-use Rattle.lock_rules.specs.Effects.{DoVictimsKeepTheirLocks, DoesDoomPromote, IsLockAnswered, IsConvertAnswered, IsLockOfHeldConvert, IsGrantedHeld, IsConversionHeld, DoesReleaseTakeOneLock, DoesCommitTakeAllLocks, DoesAbortTakeAllLocks}
+use Rattle.lock_rules.specs.Effects.{DoesBeginOpen, DoesPollTell, DoVictimsKeepTheirLocks, DoesDoomPromote, IsLockAnswered, IsConvertAnswered, IsLockOfHeldConvert, IsGrantedHeld, IsConversionHeld, DoesReleaseTakeOneLock, DoesCommitTakeAllLocks, DoesAbortTakeAllLocks}
 
 pub record IsLawfulState (st : State) : Type 0 where
   pub holders_listed : AreHoldersListed st
@@ -23,6 +23,8 @@ pub record IsLawfulState (st : State) : Type 0 where
   pub victims_determined : AreVictimsDetermined st
   pub victims_keep_their_locks : DoVictimsKeepTheirLocks st
   pub dooms_promote : DoesDoomPromote st
+  pub begin_opens : DoesBeginOpen st
+  pub poll_tells : DoesPollTell st
   pub locks_answered : IsLockAnswered st
   pub conversions_answered : IsConvertAnswered st
   pub held_is_converted : IsLockOfHeldConvert st

@@ -10,6 +10,7 @@ use Rattle.lock_rules.specs.declared.calls.Call.TheVariants.{Release, Commit, Ab
 use Rattle.lock_rules.specs.declared.calls.Reply.TheVariants.{Refused}
 use Rattle.lock_rules.specs.declared.calls.Why.{Why}
 use Rattle.lock_rules.specs.declared.calls.Entry.{Entry}
+use Rattle.lock_rules.specs.declared.calls.Transaction.{Transaction}
 use Rattle.lock_rules.specs.declared.calls.TheConstants.{MAX_LOCKS}
 use Rattle.waits_for.specs.Walks.{Reaches, AreOnCircle}
 use Rattle.lock_rules.specs.State.{Claim, Table, State, claims_but, held_mode, request_of, holders, claims_of, is_open, is_doomed, number_of, with_table}
@@ -162,6 +163,18 @@ abbrev pub IsAccessCompatible : State → Type 0
 IsAccessCompatible st = (s u : ℕ) (x : List ℕ) → s ≢ u → Writes st.table s x → Reads st.table u x ⊎ Writes st.table u x → ⊥
 
 -- transactions
+
+-- the session has an open transaction
+abbrev pub HasTransaction : State → ℕ → Type 0
+HasTransaction st s = (x : Transaction) × (st.begun s ≡ Some x)
+
+-- which was chosen as a deadlock's victim
+abbrev pub HasDoomedTransaction : State → ℕ → Type 0
+HasDoomedTransaction st s = (x : Transaction) × (st.begun s ≡ Some x) × (x.doomed ≡ true)
+
+-- the session has a request that waits
+abbrev pub HasRequest : State → ℕ → Type 0
+HasRequest st s = (q : Claim) × (request_of s st.table.requests ≡ Some q)
 
 -- the session holds a lock or waits for one
 abbrev pub HasClaim : State → ℕ → Type 0

@@ -12,7 +12,7 @@ ghost use Rattle.lock_rules.specs.Queue.{after_grant};
 ghost use Rattle.lock_rules.specs.Step.{step};
 ghost use Rattle.lock_rules.specs.Legal.{Answered, IsLegal, state_of, asked_in, calls_of};
 ghost use Rattle.lock_rules.specs.Laws.{AreRepliesOfSteps, IsEntryOf, ArePlacesRising, IsRefusalExact, DoesRefusalKeep, IsGrantOf, DoesPromotionGrantLongest, DoesFitTell, AreHoldersCompatible, DoesNobodyWaitNeedlessly, AreLocksUnderParents, AreRequestsUnderParents, AreChildrenHeld, IsAccessCompatible, DoesGrantStand, AreOwnersOpen, AreNumbersApart, AreNumbersCounted, DoWaitsTell, HasNoCircle, DoDoomedWaitForNothing, AreVictimsDetermined, AreHoldersListed, AreLocksOnce, IsOneRequestEach, AreLocksFew};
-ghost use Rattle.lock_rules.specs.Effects.{IsLockAnswered, IsConvertAnswered, IsLockOfHeldConvert, IsGrantedHeld, IsConversionHeld, DoVictimsKeepTheirLocks, DoesDoomPromote, DoesReleaseTakeOneLock, DoesCommitTakeAllLocks, DoesAbortTakeAllLocks};
+ghost use Rattle.lock_rules.specs.Effects.{DoesBeginOpen, DoesPollTell, IsLockAnswered, IsConvertAnswered, IsLockOfHeldConvert, IsGrantedHeld, IsConversionHeld, DoVictimsKeepTheirLocks, DoesDoomPromote, DoesReleaseTakeOneLock, DoesCommitTakeAllLocks, DoesAbortTakeAllLocks};
 ghost use Rattle.lock_rules.specs.Lawful.{IsLawfulState};
 ghost use Rattle.lock_rules.specs.Examples.{with_reply, queue_in_order, promotion_stops, readers_together, promotion_in_order, intentions, refusals, down_the_tree, up_the_tree, release_promotes, release_of_one, asks_again, conversion_first, conversion_at_once, conversion_under_parent, abort_while_waiting, readers_that_convert, youngest_of_two, victim_in_the_way, conversions_that_meet, circle_through_the_queue, two_victims};
 
@@ -53,6 +53,18 @@ pub fn calls_are_in_order()
 pub fn refusals_keep_the_state()
     ensures exact { (st : State) → IsRefusalExact st }
     ensures keeps { (st : State) → DoesRefusalKeep st }
+{}
+
+/// A begin that isn't refused raises the count of transactions by one, and gives the session the transaction of that
+/// number, not doomed. No lock, no request and no other transaction changes.
+pub fn begins_open_one_transaction()
+    ensures { (st : State) → DoesBeginOpen st }
+{}
+
+/// A poll changes nothing. It tells Deadlock exactly where the session's transaction is doomed, Waiting exactly where
+/// it has a request and isn't doomed, and Clear exactly where it has a transaction that is neither.
+pub fn polls_tell_how_sessions_stand()
+    ensures { (history : List EntryValue) → DoesPollTell (state_of history) }
 {}
 
 /// A grant changes one lock of one session, which waits no more. What others hold stays, and who waits still
