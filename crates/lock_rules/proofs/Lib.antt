@@ -26,6 +26,8 @@ pub mod Few
 pub mod States
 pub mod Requests
 pub mod Sessions
+pub mod DoomsStand
+pub mod RequestsStand
 pub mod Lawful
 pub mod WrongReplies
 pub mod Worked

@@ -206,7 +206,7 @@ act-numbered st s (Release r) i h = let p = all-pass (tests st s (Release r)) h 
 act-numbered st s Commit i h = ended-numbered st s i
 act-numbered st s Abort i h = ended-numbered st s i
 
-step-numbered : (st : State) (s : ℕ) (c : Call) → IsNumbered st → IsNumbered (step st s c).state
+pub step-numbered : (st : State) (s : ℕ) (c : Call) → IsNumbered st → IsNumbered (step st s c).state
 step-numbered st s c i = go (first_failing (tests st s c)) refl
   where
     go : (o : Option Why) → first_failing (tests st s c) ≡ o → IsNumbered (outcome_of o st s c).state

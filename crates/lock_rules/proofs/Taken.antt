@@ -128,7 +128,7 @@ risen t t' u x k i e up =
     let l = held-on k (held_mode t' u x) (i.held_under u x k e).1 (ap (λ (o : Option Mode). at_or_below (mode_or_nothing o) (mode_or_nothing (held_mode t' u x))) (sym e) ∙ up) in
     (l.0, l.1, order-from k l.0 l.2)
 
-released-takes : (s : ℕ) (r : List ℕ) (st : State) → IsSound st.table → request_of s st.table.requests ≡ None → holds_child st.table s r ≡ false → IsReleaseOf s r st (with_table (after_release s r st.table) st)
+pub released-takes : (s : ℕ) (r : List ℕ) (st : State) → IsSound st.table → request_of s st.table.requests ≡ None → holds_child st.table s r ≡ false → IsReleaseOf s r st (with_table (after_release s r st.table) st)
 released-takes s r st i n c = record {
   given_back = own.held r ∙ mode_in-locks_but s r st.table.held;
   request = own.request ∙ n;
@@ -172,7 +172,7 @@ unwanted (Some q) x h = ap (λ (b : Bool). b || false) (differs x q.resource (λ
 apart-untouched : (s : ℕ) (t : Table) (x : List ℕ) → IsApart t s x → among (resources_touched s t) x ≡ false
 apart-untouched s t x h = among-both (resource_of_request (request_of s t.requests)) (map (λ (c : Claim). c.resource) (claims_of s t.held)) x (unwanted (request_of s t.requests) x h.1) (unheld s x t.held h.0)
 
-ended-takes : (s : ℕ) (st : State) → IsSound st.table → IsEndOf s st (with_begun s None (with_table (after_end s st.table) st))
+pub ended-takes : (s : ℕ) (st : State) → IsSound st.table → IsEndOf s st (with_begun s None (with_table (after_end s st.table) st))
 ended-takes s st i = record {
   closed = ap (λ (b : Bool). is_some (cond b None (st.begun s))) (eqb-refl s);
   holds_nothing = λ x. own.held x ∙ mode_in-claims_but s x st.table.held;

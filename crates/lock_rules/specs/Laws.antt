@@ -242,3 +242,27 @@ DoesKeepLock s r e = e.session ≡ s → (e.call ≢ Commit) × (e.call ≢ Abor
 -- what a session holds after the front, it holds after the rest too, in the same mode or one above it, where it doesn't give it back in the rest
 abbrev pub DoesGrantStand : List Entry → List Entry → Type 0
 DoesGrantStand front rest = (s : ℕ) (r : List ℕ) (k : Mode) → held_mode (state_of front).table s r ≡ Some k → All (DoesKeepLock s r) rest → HoldsAtLeast (state_of (front ++ rest)).table s r k
+
+-- dooms and requests that stand
+
+-- the entry is no abort of the session
+abbrev pub IsNoAbort : ℕ → Entry → Type 0
+IsNoAbort s e = e.session ≡ s → e.call ≢ Abort
+
+-- who is doomed after the front is doomed after the rest too, with the same transaction, where it doesn't abort in the rest
+abbrev pub DoesDoomStand : List Entry → List Entry → Type 0
+DoesDoomStand front rest = (s : ℕ) (x : Transaction) → (state_of front).begun s ≡ Some x → x.doomed ≡ true → All (IsNoAbort s) rest → (state_of (front ++ rest)).begun s ≡ Some x
+
+-- the session waits no more: it holds the resource of its request in the target, or it became a victim
+abbrev pub IsRequestOver : ℕ → Claim → State → Type 0
+IsRequestOver s q st = (request_of s st.table.requests ≡ None) × ((held_mode st.table s q.resource ≡ Some q.mode) ⊎ HasDoomedTransaction st s)
+
+-- from a state on the session waits with this request: through all entries, or up to its own abort or an entry after which its request is over
+abbrev pub DoesWaitOn : ℕ → Claim → State → List Entry → Type 0
+DoesWaitOn s q st [] = request_of s st.table.requests ≡ Some q
+DoesWaitOn s q st (e ∷ es) = (request_of s st.table.requests ≡ Some q)
+    × (((e.session ≡ s) × (e.call ≡ Abort)) ⊎ (IsRequestOver s q (step st e.session e.call).state ⊎ DoesWaitOn s q (step st e.session e.call).state es))
+
+-- a request that waits after the front waits on in the rest
+abbrev pub DoesRequestStand : List Entry → List Entry → Type 0
+DoesRequestStand front rest = (s : ℕ) (q : Claim) → request_of s (state_of front).table.requests ≡ Some q → DoesWaitOn s q (state_of front) rest

@@ -11,7 +11,7 @@ ghost use Rattle.lock_rules.specs.State.{State, Table, empty};
 ghost use Rattle.lock_rules.specs.Queue.{after_grant};
 ghost use Rattle.lock_rules.specs.Step.{step};
 ghost use Rattle.lock_rules.specs.Legal.{Answered, IsLegal, state_of, asked_in, calls_of};
-ghost use Rattle.lock_rules.specs.Laws.{AreRepliesOfSteps, IsEntryOf, ArePlacesRising, IsRefusalExact, DoesRefusalKeep, IsGrantOf, DoesPromotionGrantLongest, DoesFitTell, AreHoldersCompatible, DoesNobodyWaitNeedlessly, AreLocksUnderParents, AreRequestsUnderParents, AreChildrenHeld, IsAccessCompatible, DoesGrantStand, AreOwnersOpen, AreNumbersApart, AreNumbersCounted, DoWaitsTell, HasNoCircle, DoDoomedWaitForNothing, AreVictimsDetermined, AreHoldersListed, AreLocksOnce, IsOneRequestEach, AreLocksFew};
+ghost use Rattle.lock_rules.specs.Laws.{AreRepliesOfSteps, IsEntryOf, ArePlacesRising, IsRefusalExact, DoesRefusalKeep, IsGrantOf, DoesPromotionGrantLongest, DoesFitTell, AreHoldersCompatible, DoesNobodyWaitNeedlessly, AreLocksUnderParents, AreRequestsUnderParents, AreChildrenHeld, IsAccessCompatible, DoesGrantStand, DoesDoomStand, DoesRequestStand, AreOwnersOpen, AreNumbersApart, AreNumbersCounted, DoWaitsTell, HasNoCircle, DoDoomedWaitForNothing, AreVictimsDetermined, AreHoldersListed, AreLocksOnce, IsOneRequestEach, AreLocksFew};
 ghost use Rattle.lock_rules.specs.Effects.{DoesBeginOpen, DoesPollTell, IsLockAnswered, IsConvertAnswered, IsLockOfHeldConvert, IsGrantedHeld, IsConversionHeld, DoVictimsKeepTheirLocks, DoesDoomPromote, DoesReleaseTakeOneLock, DoesCommitTakeAllLocks, DoesAbortTakeAllLocks};
 ghost use Rattle.lock_rules.specs.Lawful.{IsLawfulState};
 ghost use Rattle.lock_rules.specs.Examples.{with_reply, queue_in_order, promotion_stops, readers_together, promotion_in_order, intentions, refusals, down_the_tree, up_the_tree, release_promotes, release_of_one, asks_again, conversion_first, conversion_at_once, conversion_under_parent, abort_while_waiting, readers_that_convert, youngest_of_two, victim_in_the_way, conversions_that_meet, circle_through_the_queue, two_victims};
@@ -170,6 +170,18 @@ pub fn ends_take_all_locks()
 /// it commits, aborts or releases the resource.
 pub fn grants_stand()
     ensures { (front rest : List EntryValue) → DoesGrantStand front rest }
+{}
+
+/// A doom stands: whoever is doomed stays so, with the same transaction, whatever others call, until it aborts.
+pub fn dooms_stand()
+    ensures { (front rest : List EntryValue) → DoesDoomStand front rest }
+{}
+
+/// A request stands: whatever is called, a session waits on with the same request for the same target, until the
+/// session aborts, or waits no more because it was granted the target and holds the resource in it, or because it became
+/// a victim.
+pub fn requests_stand()
+    ensures { (front rest : List EntryValue) → DoesRequestStand front rest }
 {}
 
 /// Whoever holds a lock or waits for one has a transaction, and the transactions that are open have numbers

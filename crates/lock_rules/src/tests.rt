@@ -58,6 +58,8 @@ fn laws_can_be_cited() {
     laws::releases_take_one_lock();
     laws::ends_take_all_locks();
     laws::grants_stand();
+    laws::dooms_stand();
+    laws::requests_stand();
     laws::transactions_are_apart();
     laws::waits_are_for_holders_and_earlier_requests();
     laws::no_waits_form_a_circle();

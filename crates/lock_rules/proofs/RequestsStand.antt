@@ -1,0 +1,124 @@
+-- A request stands until it is granted, its session becomes a victim, or its session aborts.
+use Rattle.std.proofs.Common.{◌≡◌, ℕ, ◌+◌, ◌<◌, Bool, true, false, cond, eqb, ◌⊎◌, inl, inr, List, [], ◌∷◌, ◌++◌, length, Option, Some, None, is_some, refl, sym, ◌∙◌, ap, arith, length-append}
+use Rattle.std.proofs.lemmas.Bool.Decides.{Decides-eqb}
+use Rattle.lock_modes.specs.declared.Mode.{Mode}
+use Rattle.lock_rules.specs.declared.calls.Call.{Call}
+use Rattle.lock_rules.specs.declared.calls.Call.TheVariants.{Begin, Lock, Convert, Poll, Release, Commit, Abort}
+use Rattle.lock_rules.specs.declared.calls.Why.{Why}
+use Rattle.lock_rules.specs.declared.calls.Entry.{Entry}
+use Rattle.lock_rules.specs.declared.calls.Transaction.{Transaction}
+use Rattle.lock_rules.specs.State.{Claim, Table, State, held_mode, request_of, is_waiting, with_begun, with_table}
+use Rattle.lock_rules.specs.Queue.{after_grant, with_request, is_granted_at_once}
+use Rattle.lock_rules.specs.Waits.{doom}
+use Rattle.lock_rules.specs.Step.{target_of, tests, first_failing, is_held, after_wait, after_asking, after_release, after_end, act, outcome_of, step}
+use Rattle.lock_rules.specs.Legal.{state_of}
+use Rattle.lock_rules.specs.Laws.{IsRequestOver, DoesWaitOn, DoesRequestStand}
+use Rattle.lock_rules.specs.Effects.{IsApart, IsWantedBy}
+use Rattle.lock_rules.specs.Sound.{IsNumbered}
+use Rattle.lock_rules.proofs.Lists.{bool_cases, apart, request_of-claims_but_other}
+use Rattle.lock_rules.proofs.Alters.{request-alters, true≢false}
+use Rattle.lock_rules.proofs.Cuts.{IsAtRest}
+use Rattle.lock_rules.proofs.Begins.{new, back, once-push}
+use Rattle.lock_rules.proofs.Steps.{all-pass, is-none, step-lawful, state-lawful}
+use Rattle.lock_rules.proofs.Owners.{step-numbered, state-numbered}
+use Rattle.lock_rules.proofs.Taken.{IsServed, released-takes, ended-takes}
+use Rattle.lock_rules.proofs.Victims.{settled-victims}
+use Rattle.lock_rules.proofs.Doomed.{victims-keep, among-or-not}
+
+module _ (s : ℕ) (q : Claim) where
+  -- the request is over, or it waits on
+  abbrev GoesOn : State → Type 0
+  GoesOn st = IsRequestOver s q st ⊎ (request_of s st.table.requests ≡ Some q)
+
+  -- where others' requests may be granted
+  served-goes_on : (P : List ℕ → Type 0) (t : Table) (st : State) → request_of s t.requests ≡ Some q → IsServed s P t st.table → GoesOn st
+  served-goes_on P t st w (inl a) = inr (a.request ∙ w)
+  served-goes_on P t st w (inr p) =
+      let e = p.1.waited in
+      let same : p.0 ≡ q = cc in
+      inl (p.1.waits_no_more, inl (ap (λ (c : Claim). held_mode st.table s c.resource) (sym same) ∙ (p.1.held ∙ ap (λ (c : Claim). Some c.mode) same)))
+
+  doom-open : (o : Option Transaction) → is_some o ≡ true → (x : Transaction) × (doom o ≡ Some x) × (x.doomed ≡ true)
+  doom-open None e = absurd (cc)
+  doom-open (Some x) e = (record { number = x.number; doomed = true }, refl, refl)
+
+  module _ (st : State) (i : IsAtRest st.table) (n : IsNumbered st) (w : request_of s st.table.requests ≡ Some q) where
+    -- who doesn't wait is another
+    apart-from : (u : ℕ) → is_waiting st u ≡ false → eqb s u ≡ false
+    apart-from u f = elim (bool_cases (eqb s u)) [
+      | inl e ↦ absurd (true≢false (ap (λ (o : Option Claim). is_some o) w) (ap (λ (v : ℕ). is_waiting st v) ((Decides-eqb s u).0 e) ∙ f))
+      | inr e ↦ e
+    ]
+
+    -- another session begins to wait, and its deadlocks are resolved
+    wait-goes_on : (u : ℕ) (r : List ℕ) (m : Mode) → eqb s u ≡ false → request_of u st.table.requests ≡ None → GoesOn (after_wait st u r m)
+    wait-goes_on u r m d free =
+        let waiting : State = with_table (with_request u r m st.table) st in
+        let few : length (st.table.requests ++ new u r m ∷ []) < length st.table.requests + 2 = omega (arith, length-append st.table.requests (new u r m ∷ [])) in
+        let before : request_of s waiting.table.requests ≡ Some q = sym (request-alters u (with_request u r m st.table) st.table (back u r m st.table free) s d) ∙ w in
+        let v = settled-victims (length st.table.requests + 2) u waiting few in
+        let kept = victims-keep u v.0 waiting (after_wait st u r m) (once-push u r m st.table.requests i.sound.once free) v.1 in
+        elim (among-or-not s v.0) [
+          | inl k ↦
+              let d = kept.victims s k in
+              let x = doom-open (st.begun s) (n.owners.waiting s q w) in
+              inl (d.waits_no_more, inr (x.0, d.doomed ∙ x.1, x.2))
+          | inr k ↦ served-goes_on (λ y. IsWantedBy v.0 waiting.table y) waiting.table (after_wait st u r m) before (kept.others s k)
+        ]
+
+    -- whoever passes the tests of an asking doesn't wait
+    asked-goes_on : (u : ℕ) (r : List ℕ) (m : Mode) → is_waiting st u ≡ false → GoesOn (after_asking st u r m)
+    asked-goes_on u r m f = go (is_held (held_mode st.table u r) m) (is_granted_at_once st.table u r m)
+      where
+        d : eqb s u ≡ false
+        d = apart-from u f
+
+        go : (b g : Bool) → GoesOn (cond b st (cond g (with_table (after_grant u r m st.table) st) (after_wait st u r m)))
+        go true g = inr w
+        go false true = inr (request_of-claims_but_other s u st.table.requests d ∙ w)
+        go false false = wait-goes_on u r m d (is-none (request_of u st.table.requests) f)
+
+    -- the session itself can only abort
+    abbrev Stands : ℕ → Call → State → Type 0
+    Stands u c after = ((u ≡ s) × (c ≡ Abort)) ⊎ GoesOn after
+
+    ended-goes_on : (u : ℕ) → eqb s u ≡ false → GoesOn (with_begun u None (with_table (after_end u st.table) st))
+    ended-goes_on u d = served-goes_on (λ x. IsApart st.table u x → ⊥) st.table (with_begun u None (with_table (after_end u st.table) st)) w ((ended-takes u st i.sound).others s (apart u s d))
+
+    act-stands : (u : ℕ) (c : Call) → first_failing (tests st u c) ≡ None → Stands u c (act st u c).state
+    act-stands u Begin h = inr (inr w)
+    act-stands u (Lock r m) h = let p = all-pass (tests st u (Lock r m)) h in inr (asked-goes_on u r (target_of (held_mode st.table u r) m) p.1.0)
+    act-stands u (Convert r m) h = let p = all-pass (tests st u (Convert r m)) h in inr (asked-goes_on u r (target_of (held_mode st.table u r) m) p.1.0)
+    act-stands u Poll h = inr (inr w)
+    act-stands u (Release r) h =
+        let p = all-pass (tests st u (Release r)) h in
+        let taken = released-takes u r st i.sound (is-none (request_of u st.table.requests) p.1.0) p.1.1.1.1.0 in
+        inr (served-goes_on (λ x. x ≡ r) st.table (with_table (after_release u r st.table) st) w (taken.others s (apart u s (apart-from u p.1.0))))
+    act-stands u Commit h = let p = all-pass (tests st u Commit) h in inr (ended-goes_on u (apart-from u p.1.0))
+    act-stands u Abort h = elim (bool_cases (eqb s u)) [
+      | inl e ↦ inl (sym ((Decides-eqb s u).0 e), refl)
+      | inr d ↦ inr (ended-goes_on u d)
+    ]
+
+    step-stands : (u : ℕ) (c : Call) → Stands u c (step st u c).state
+    step-stands u c = go (first_failing (tests st u c)) refl
+      where
+        go : (o : Option Why) → first_failing (tests st u c) ≡ o → Stands u c (outcome_of o st u c).state
+        go None h = act-stands u c h
+        go (Some y) h = inr (inr w)
+
+  waits-on : (es : List Entry) (st : State) → IsAtRest st.table → IsNumbered st → request_of s st.table.requests ≡ Some q → DoesWaitOn s q st es
+  waits-on [] st i n w = w
+  waits-on (e ∷ es) st i n w = (
+    w,
+    elim (step-stands st i n w e.session e.call) [
+      | inl own ↦ inl own
+      | inr k ↦ elim k [
+        | inl over ↦ inr (inl over)
+        | inr on ↦ inr (inr (waits-on es (step st e.session e.call).state (step-lawful st e.session e.call i) (step-numbered st e.session e.call n) on))
+      ]
+    ],
+  )
+
+pub request-stands : (front rest : List Entry) → DoesRequestStand front rest
+request-stands front rest s q w = waits-on s q rest (state_of front) (state-lawful front) (state-numbered front) w
