@@ -1,7 +1,6 @@
 -- What is left where a lock is given back, a session ends or a victim waits no more: what is taken away, and what this
 -- touched is promoted.
 use Rattle.std.proofs.Common.{◌≡◌, ℕ, ◌<◌, Bool, true, false, not, eqb, ◌&&◌, ◌||◌, ◌⊎◌, inl, inr, List, [], ◌∷◌, ◌++◌, length, Option, Some, None, refl, sym, ◌∙◌, ap, arith, map}
-use Rattle.std.specs.List.{list_any}
 use Rattle.std.proofs.lemmas.Bool.Decides.{nat_tests}
 use Rattle.std.proofs.lemmas.Bool.{and_from}
 use Rattle.lock_modes.specs.declared.Mode.{Mode}
@@ -33,7 +32,7 @@ parent-ancestor (a ∷ []) h = cc
 parent-ancestor (a ∷ b ∷ []) h = and_from (eqb a a) true (eqb-refl a) refl
 parent-ancestor (a ∷ b ∷ c ∷ xs) h = and_from (eqb a a) (is_ancestor (parent_of (b ∷ c ∷ xs)) (b ∷ c ∷ xs)) (eqb-refl a) (parent-ancestor (b ∷ c ∷ xs) refl)
 
-child-held : (s : ℕ) (r x : List ℕ) (k : Mode) (cs : List Claim) → mode_in s x cs ≡ Some k → is_ancestor r x ≡ true → list_any (λ c. eqb c.session s && is_ancestor r c.resource) cs ≡ true
+pub child-held : (s : ℕ) (r x : List ℕ) (k : Mode) (cs : List Claim) → mode_in s x cs ≡ Some k → is_ancestor r x ≡ true → holds_child (record { held = cs; requests = [] }) s r ≡ true
 child-held s r x k [] h a = absurd (cc)
 child-held s r x k (c ∷ cs) h a = grind (arith, nat_tests, same_path_tells, child-held s r x k cs)
 

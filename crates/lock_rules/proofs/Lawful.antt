@@ -15,6 +15,7 @@ use Rattle.lock_rules.proofs.States.{fit-tells, holders-compatible}
 use Rattle.lock_rules.proofs.Victims.{determined}
 use Rattle.lock_rules.proofs.Doomed.{keep-theirs, doom-promotes}
 use Rattle.lock_rules.proofs.Requests.{lock-asks, convert-asks, lock-converts, lock-holds, convert-holds}
+use Rattle.lock_rules.proofs.Refusals.{refusals-meant, others-accepted, abort-needs, commit-accepted}
 use Rattle.lock_rules.proofs.Sessions.{begin-opens, poll-tells}
 use Rattle.lock_rules.proofs.Taken.{release-one, commit-all, abort-all}
 
@@ -39,6 +40,10 @@ lawful es = let i = state-lawful es in record {
   victims_determined = determined (state_of es) (state-numbered es);
   victims_keep_their_locks = keep-theirs (state_of es) i.sound.once;
   dooms_promote = doom-promotes (state_of es);
+  refusals_meant = refusals-meant (state_of es) (locks-few es);
+  others_accepted = others-accepted (state_of es) (locks-few es);
+  abort_needs_transaction = abort-needs (state_of es) (locks-few es);
+  clear_commit_accepted = commit-accepted (state_of es) (locks-few es);
   begin_opens = begin-opens (state_of es);
   poll_tells = poll-tells (state_of es) (state-numbered es);
   locks_answered = lock-asks (state_of es);

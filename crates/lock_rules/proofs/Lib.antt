@@ -26,6 +26,7 @@ pub mod Few
 pub mod States
 pub mod Requests
 pub mod Sessions
+pub mod Refusals
 pub mod DoomsStand
 pub mod RequestsStand
 pub mod Lawful

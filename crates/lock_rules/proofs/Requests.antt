@@ -28,7 +28,7 @@ use Rattle.lock_rules.proofs.Doomed.{victims-keep, among-or-not}
 
 -- the target
 
-target : (o : Option Mode) (m : Mode) → IsTarget o m (target_of o m)
+pub target : (o : Option Mode) (m : Mode) → IsTarget o m (target_of o m)
 target None m = refl
 target (Some h) m = sup_least h m (target_of (Some h) m) refl
 

@@ -228,7 +228,7 @@ none-below o k e = ap (λ (p : Option Mode). at_or_below (mode_or_nothing p) k) 
 
 -- the parents, in the words of the laws
 
-under-parent : (b : Bool) (m : Mode) (o : Option Mode) → is_nothing m ≡ false → (b && not (at_or_below (need_of m) (mode_or_nothing o))) ≡ false → b ≡ true → (k : Mode) × (o ≡ Some k) × IsAtOrBelow (need_of m) k
+pub under-parent : (b : Bool) (m : Mode) (o : Option Mode) → is_nothing m ≡ false → (b && not (at_or_below (need_of m) (mode_or_nothing o))) ≡ false → b ≡ true → (k : Mode) × (o ≡ Some k) × IsAtOrBelow (need_of m) k
 under-parent false m o n h e = absurd (cc)
 under-parent true m None n h e = absurd (true≢false (not-false _ h) (need-some m n))
 under-parent true m (Some k) n h e = (k, refl, order-from (need_of m) k (not-false _ h))

@@ -2,6 +2,7 @@
 use Rattle.lock_rules.specs.State.{State}
 use Rattle.lock_rules.specs.Laws.{AreHoldersListed, AreLocksOnce, IsOneRequestEach, AreLocksFew, DoesFitTell, AreHoldersCompatible, DoesNobodyWaitNeedlessly, AreLocksUnderParents, AreRequestsUnderParents, AreChildrenHeld, IsAccessCompatible, HasNoCircle, DoDoomedWaitForNothing, AreOwnersOpen, AreNumbersApart, AreNumbersCounted, AreVictimsDetermined}
 use Rattle.lock_rules.specs.Effects.{DoesBeginOpen, DoesPollTell, DoVictimsKeepTheirLocks, DoesDoomPromote, IsLockAnswered, IsConvertAnswered, IsLockOfHeldConvert, IsGrantedHeld, IsConversionHeld, DoesReleaseTakeOneLock, DoesCommitTakeAllLocks, DoesAbortTakeAllLocks}
+use Rattle.lock_rules.specs.Refusals.{AreRefusalsMeant, AreOthersAccepted, DoesAbortNeedTransaction, IsClearCommitAccepted}
 
 pub record IsLawfulState (st : State) : Type 0 where
   pub holders_listed : AreHoldersListed st
@@ -23,6 +24,10 @@ pub record IsLawfulState (st : State) : Type 0 where
   pub victims_determined : AreVictimsDetermined st
   pub victims_keep_their_locks : DoVictimsKeepTheirLocks st
   pub dooms_promote : DoesDoomPromote st
+  pub refusals_meant : AreRefusalsMeant st
+  pub others_accepted : AreOthersAccepted st
+  pub abort_needs_transaction : DoesAbortNeedTransaction st
+  pub clear_commit_accepted : IsClearCommitAccepted st
   pub begin_opens : DoesBeginOpen st
   pub poll_tells : DoesPollTell st
   pub locks_answered : IsLockAnswered st

@@ -6,6 +6,7 @@ pub mod Legal
 pub mod Laws
 pub mod Sound
 pub mod Effects
+pub mod Refusals
 pub mod Lawful
 pub mod Examples
 pub mod Names

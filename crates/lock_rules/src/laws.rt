@@ -13,6 +13,7 @@ ghost use Rattle.lock_rules.specs.Step.{step};
 ghost use Rattle.lock_rules.specs.Legal.{Answered, IsLegal, state_of, asked_in, calls_of};
 ghost use Rattle.lock_rules.specs.Laws.{AreRepliesOfSteps, IsEntryOf, ArePlacesRising, IsRefusalExact, DoesRefusalKeep, IsGrantOf, DoesPromotionGrantLongest, DoesFitTell, AreHoldersCompatible, DoesNobodyWaitNeedlessly, AreLocksUnderParents, AreRequestsUnderParents, AreChildrenHeld, IsAccessCompatible, DoesGrantStand, DoesDoomStand, DoesRequestStand, AreOwnersOpen, AreNumbersApart, AreNumbersCounted, DoWaitsTell, HasNoCircle, DoDoomedWaitForNothing, AreVictimsDetermined, AreHoldersListed, AreLocksOnce, IsOneRequestEach, AreLocksFew};
 ghost use Rattle.lock_rules.specs.Effects.{DoesBeginOpen, DoesPollTell, IsLockAnswered, IsConvertAnswered, IsLockOfHeldConvert, IsGrantedHeld, IsConversionHeld, DoVictimsKeepTheirLocks, DoesDoomPromote, DoesReleaseTakeOneLock, DoesCommitTakeAllLocks, DoesAbortTakeAllLocks};
+ghost use Rattle.lock_rules.specs.Refusals.{AreRefusalsMeant, AreOthersAccepted, DoesAbortNeedTransaction, IsClearCommitAccepted};
 ghost use Rattle.lock_rules.specs.Lawful.{IsLawfulState};
 ghost use Rattle.lock_rules.specs.Examples.{with_reply, queue_in_order, promotion_stops, readers_together, promotion_in_order, intentions, refusals, down_the_tree, up_the_tree, release_promotes, release_of_one, asks_again, conversion_first, conversion_at_once, conversion_under_parent, abort_while_waiting, readers_that_convert, youngest_of_two, victim_in_the_way, conversions_that_meet, circle_through_the_queue, two_victims};
 
@@ -53,6 +54,16 @@ pub fn calls_are_in_order()
 pub fn refusals_keep_the_state()
     ensures exact { (st : State) → IsRefusalExact st }
     ensures keeps { (st : State) → DoesRefusalKeep st }
+{}
+
+/// A refusal means what it says: a call is refused exactly where one of its tests fails in words, with the refusal of the
+/// first that does, and isn't refused exactly where none fails. So an abort is refused for want of a transaction alone,
+/// and a commit of an open session that neither waits nor is doomed is never refused.
+pub fn refusals_mean_what_they_say()
+    ensures meant { (history : List EntryValue) → AreRefusalsMeant (state_of history) }
+    ensures others { (history : List EntryValue) → AreOthersAccepted (state_of history) }
+    ensures abort { (history : List EntryValue) → DoesAbortNeedTransaction (state_of history) }
+    ensures commit { (history : List EntryValue) → IsClearCommitAccepted (state_of history) }
 {}
 
 /// A begin that isn't refused raises the count of transactions by one, and gives the session the transaction of that

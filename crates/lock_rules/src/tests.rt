@@ -39,6 +39,7 @@ fn laws_can_be_cited() {
     laws::histories_are_determined_by_calls();
     laws::calls_are_in_order();
     laws::refusals_keep_the_state();
+    laws::refusals_mean_what_they_say();
     laws::begins_open_one_transaction();
     laws::polls_tell_how_sessions_stand();
     laws::grants_change_one_lock();

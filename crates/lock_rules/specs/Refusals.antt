@@ -1,0 +1,74 @@
+-- What each refusal means, in plain words: relations, beside the tests of Step that compute.
+use Rattle.std.specs.Prelude.{◌≡◌, ℕ, ◌↔◌, true, List, [], ◌∷◌, ◌++◌, length, None, Some, All}
+use Rattle.lock_modes.specs.declared.Mode.{Mode}
+use Rattle.lock_modes.specs.declared.Mode.TheVariants.{NL}
+use Rattle.lock_modes.specs.Order.{need_of}
+use Rattle.lock_tree.specs.Paths.{is_ancestor, parent_of, has_parent}
+use Rattle.lock_rules.specs.declared.calls.Call.{Call}
+use Rattle.lock_rules.specs.declared.calls.Call.TheVariants.{Begin, Lock, Convert, Poll, Release, Commit, Abort}
+use Rattle.lock_rules.specs.declared.calls.Reply.TheVariants.{Refused}
+use Rattle.lock_rules.specs.declared.calls.Why.{Why}
+use Rattle.lock_rules.specs.declared.calls.Why.TheVariants.{AlreadyOpen, NoTransaction, IsWaiting, IsDoomed, NothingAsked, NotHeld, ParentNotHeld, ChildHeld, TooManyLocks}
+use Rattle.lock_rules.specs.declared.calls.TheConstants.{MAX_LOCKS}
+use Rattle.lock_rules.specs.State.{Table, State, held_mode, claims_of}
+use Rattle.lock_rules.specs.Step.{step}
+use Rattle.lock_rules.specs.Laws.{HoldsAtLeast, HasTransaction, HasDoomedTransaction, HasRequest}
+use Rattle.lock_rules.specs.Effects.{IsNotRefused, IsTarget}
+
+-- the resource has a parent, and the session doesn't hold it in a mode at or above what the target needs
+abbrev pub LacksParent : Table → ℕ → List ℕ → Mode → Type 0
+LacksParent t s r m = (k : Mode) × IsTarget (held_mode t s r) m k × (has_parent r ≡ true) × (HoldsAtLeast t s (parent_of r) (need_of k) → ⊥)
+
+-- the session itself holds a resource below
+abbrev pub HoldsBelow : Table → ℕ → List ℕ → Type 0
+HoldsBelow t s r = (x : List ℕ) × (k : Mode) × (is_ancestor r x ≡ true) × (held_mode t s x ≡ Some k)
+
+-- the session doesn't hold the resource, and holds as many others as it may
+abbrev pub HoldsAllItMay : Table → ℕ → List ℕ → Type 0
+HoldsAllItMay t s r = (held_mode t s r ≡ None) × (length (claims_of s t.held) ≡ MAX_LOCKS)
+
+-- the test that has this refusal fails, where it is one of the call's
+abbrev pub Fails : State → ℕ → Call → Why → Type 0
+Fails st s c AlreadyOpen = HasTransaction st s
+Fails st s c NoTransaction = HasTransaction st s → ⊥
+Fails st s c IsWaiting = HasRequest st s
+Fails st s c IsDoomed = HasDoomedTransaction st s
+Fails st s (Lock r m) NothingAsked = m ≡ NL
+Fails st s (Convert r m) NothingAsked = m ≡ NL
+Fails st s (Convert r m) NotHeld = held_mode st.table s r ≡ None
+Fails st s (Release r) NotHeld = held_mode st.table s r ≡ None
+Fails st s (Lock r m) ParentNotHeld = LacksParent st.table s r m
+Fails st s (Convert r m) ParentNotHeld = LacksParent st.table s r m
+Fails st s (Release r) ChildHeld = HoldsBelow st.table s r
+Fails st s (Lock r m) TooManyLocks = HoldsAllItMay st.table s r
+Fails st s _ _ = ⊥
+
+-- the refusals that a call can meet, in the order of its tests, which is that of their numbers
+abbrev pub refusals_of : Call → List Why
+refusals_of Begin = AlreadyOpen ∷ []
+refusals_of (Lock r m) = NoTransaction ∷ IsWaiting ∷ IsDoomed ∷ NothingAsked ∷ ParentNotHeld ∷ TooManyLocks ∷ []
+refusals_of (Convert r m) = NoTransaction ∷ IsWaiting ∷ IsDoomed ∷ NothingAsked ∷ NotHeld ∷ ParentNotHeld ∷ []
+refusals_of Poll = NoTransaction ∷ []
+refusals_of (Release r) = NoTransaction ∷ IsWaiting ∷ IsDoomed ∷ NotHeld ∷ ChildHeld ∷ []
+refusals_of Commit = NoTransaction ∷ IsWaiting ∷ IsDoomed ∷ []
+refusals_of Abort = NoTransaction ∷ []
+
+-- the refusal is one of the call's, its test fails, and none before it does
+abbrev pub IsFirstToFail : State → ℕ → Call → Why → Type 0
+IsFirstToFail st s c why = (before after : List Why) × (refusals_of c ≡ before ++ why ∷ after) × Fails st s c why × All (λ w. Fails st s c w → ⊥) before
+
+-- a call is refused for that exactly
+abbrev pub AreRefusalsMeant : State → Type 0
+AreRefusalsMeant st = (s : ℕ) (c : Call) (why : Why) → ((step st s c).reply ≡ Refused why) ↔ IsFirstToFail st s c why
+
+-- and it isn't refused exactly where none of its tests fails
+abbrev pub AreOthersAccepted : State → Type 0
+AreOthersAccepted st = (s : ℕ) (c : Call) → IsNotRefused st s c ↔ All (λ w. Fails st s c w → ⊥) (refusals_of c)
+
+-- an abort is refused for want of a transaction, and for nothing else
+abbrev pub DoesAbortNeedTransaction : State → Type 0
+DoesAbortNeedTransaction st = (s : ℕ) (why : Why) → ((step st s Abort).reply ≡ Refused why) ↔ ((why ≡ NoTransaction) × (HasTransaction st s → ⊥))
+
+-- a commit of an open session that neither waits nor is doomed is never refused
+abbrev pub IsClearCommitAccepted : State → Type 0
+IsClearCommitAccepted st = (s : ℕ) → HasTransaction st s → (HasRequest st s → ⊥) → (HasDoomedTransaction st s → ⊥) → IsNotRefused st s Commit
