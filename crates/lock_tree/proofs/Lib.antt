@@ -5,3 +5,4 @@ pub mod ByPiece
 pub mod PaddedOrder
 pub mod PaddedEquality
 pub mod Ancestors
+pub mod Parents
