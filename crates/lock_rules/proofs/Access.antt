@@ -1,13 +1,13 @@
 -- No two sessions have incompatible access, outright or through an ancestor.
 use Rattle.std.proofs.Common.{◌≡◌, ◌≢◌, ℕ, zero, suc, ◌≤◌, true, false, ◌⊎◌, inl, inr, eqb, List, [], ◌∷◌, length, Some, refl, arith}
 use Rattle.std.proofs.lemmas.Bool.Decides.{Decides-eqb}
-use Rattle.std.proofs.lemmas.Bool.{and_parts, and_from}
 use Rattle.lock_modes.specs.declared.Mode.{Mode}
 use Rattle.lock_modes.specs.declared.Mode.TheVariants.{IS, IX, S, X}
 use Rattle.lock_modes.specs.Order.{at_or_below, need_of}
 use Rattle.lock_modes.specs.Compatibility.{are_compatible}
 use Rattle.lock_modes.proofs.Order.{order-tests}
 use Rattle.lock_tree.specs.Paths.{is_ancestor, parent_of}
+use Rattle.lock_tree.proofs.Ancestors.{ancestor-parent, ancestors-meet}
 use Rattle.lock_rules.specs.State.{Table, State, held_mode}
 use Rattle.lock_rules.specs.Laws.{HoldsAtLeast, IsAtOrOver, IsAccessCompatible}
 use Rattle.lock_rules.specs.Sound.{Agree, IsSound}
@@ -15,7 +15,7 @@ use Rattle.lock_rules.proofs.Lists.{bool_cases}
 use Rattle.lock_rules.proofs.Alters.{true≢false}
 use Rattle.lock_rules.proofs.Marks.{below-trans, no_ix_s, no_x_is, need-is, need-ix}
 use Rattle.lock_rules.proofs.Sound.{stands-under}
-use Rattle.lock_rules.proofs.Children.{ancestor-parent, length-parent}
+use Rattle.lock_rules.proofs.Children.{length-parent}
 
 -- the session holds the resource in a mode that passes the test of the mode
 abbrev Has : Table → ℕ → Mode → List ℕ → Type 0
@@ -43,30 +43,11 @@ module _ (f : Mode) (needs : (m : Mode) → at_or_below f m ≡ true → at_or_b
   ]
 
 -- of two that are at or over one resource, one is the other or an ancestor of it
-
-both-over : (y z x : List ℕ) → is_ancestor y x ≡ true → is_ancestor z x ≡ true → (y ≡ z) ⊎ ((is_ancestor y z ≡ true) ⊎ (is_ancestor z y ≡ true))
-both-over [] [] x h k = inl refl
-both-over [] (c ∷ zs) x h k = inr (inl refl)
-both-over (b ∷ ys) [] x h k = inr (inr refl)
-both-over (b ∷ ys) (c ∷ zs) [] h k = absurd (cc)
-both-over (b ∷ ys) (c ∷ zs) (d ∷ xs) h k =
-    let p = and_parts (eqb b d) (is_ancestor ys xs) h in
-    let q = and_parts (eqb c d) (is_ancestor zs xs) k in
-    let e = (Decides-eqb b d).0 p.0 in
-    let f = (Decides-eqb c d).0 q.0 in
-    elim (both-over ys zs xs p.1 q.1) [
-      | inl g ↦ inl (cc)
-      | inr g ↦ inr (elim g [
-        | inl m ↦ inl (and_from (eqb b c) (is_ancestor ys zs) ((Decides-eqb b c).1 (cc)) m)
-        | inr m ↦ inr (and_from (eqb c b) (is_ancestor zs ys) ((Decides-eqb c b).1 (cc)) m)
-      ])
-    ]
-
 comparable : (y z x : List ℕ) → (y ≡ x) ⊎ (is_ancestor y x ≡ true) → (z ≡ x) ⊎ (is_ancestor z x ≡ true) → (y ≡ z) ⊎ ((is_ancestor y z ≡ true) ⊎ (is_ancestor z y ≡ true))
 comparable y z x (inl e) (inl f) = inl (cc)
 comparable y z x (inl e) (inr k) = inr (inr (rw e k))
 comparable y z x (inr h) (inl f) = inr (inl (rw f h))
-comparable y z x (inr h) (inr k) = both-over y z x h k
+comparable y z x (inr h) (inr k) = ancestors-meet y z x h k
 
 -- modes that go together in one order at least don't conflict in both
 clash : (k l : Mode) → Agree k l → (are_compatible k l ≡ false) × (are_compatible l k ≡ false) → ⊥

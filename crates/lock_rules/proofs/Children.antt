@@ -1,29 +1,12 @@
 -- What a session holds below a resource, it holds under a child of the resource that it holds too.
-use Rattle.std.proofs.Common.{◌≡◌, ◌≢◌, ℕ, zero, suc, ◌≤◌, true, false, eqb, ◌⊎◌, inl, inr, List, [], ◌∷◌, length, Some, refl, sym, ap, arith}
-use Rattle.std.proofs.lemmas.Bool.Decides.{Decides-eqb}
-use Rattle.std.proofs.lemmas.Bool.{and_parts, and_from}
+use Rattle.std.proofs.Common.{◌≡◌, ◌≢◌, ℕ, zero, suc, ◌≤◌, true, inl, inr, List, [], ◌∷◌, length, Some, refl, sym, ap, arith}
 use Rattle.lock_modes.specs.declared.Mode.{Mode}
 use Rattle.lock_tree.specs.Paths.{is_ancestor, parent_of, has_parent}
+use Rattle.lock_tree.proofs.Ancestors.{ancestor-parent}
 use Rattle.lock_rules.specs.State.{Table, State, held_mode}
 use Rattle.lock_rules.specs.Laws.{AreChildrenHeld}
 use Rattle.lock_rules.specs.Sound.{IsSound}
-use Rattle.lock_rules.proofs.Alters.{true≢false}
 use Rattle.lock_rules.proofs.Sound.{stands-under}
-
--- an ancestor is the parent or an ancestor of it
-pub ancestor-parent : (y z : List ℕ) → is_ancestor y z ≡ true → (y ≡ parent_of z) ⊎ (is_ancestor y (parent_of z) ≡ true)
-ancestor-parent [] [] h = absurd (cc)
-ancestor-parent [] (b ∷ []) h = inl refl
-ancestor-parent [] (b ∷ c ∷ zs) h = inr refl
-ancestor-parent (a ∷ ys) [] h = absurd (cc)
-ancestor-parent (a ∷ []) (b ∷ []) h = absurd (true≢false (and_parts (eqb a b) false h).1 refl)
-ancestor-parent (a ∷ x ∷ ys) (b ∷ []) h = absurd (true≢false (and_parts (eqb a b) false h).1 refl)
-ancestor-parent (a ∷ ys) (b ∷ c ∷ zs) h =
-    let p = and_parts (eqb a b) (is_ancestor ys (c ∷ zs)) h in
-    elim (ancestor-parent ys (c ∷ zs) p.1) [
-      | inl e ↦ let f = (Decides-eqb a b).0 p.0 in inl (cc)
-      | inr k ↦ inr (and_from (eqb a b) (is_ancestor ys (parent_of (c ∷ zs))) p.0 k)
-    ]
 
 pub length-parent : (b c : ℕ) (zs : List ℕ) → length (parent_of (b ∷ c ∷ zs)) ≡ suc (length zs)
 length-parent b c [] = refl

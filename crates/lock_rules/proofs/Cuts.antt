@@ -2,16 +2,16 @@
 -- touched is promoted.
 use Rattle.std.proofs.Common.{◌≡◌, ℕ, ◌<◌, Bool, true, false, not, eqb, ◌&&◌, ◌||◌, ◌⊎◌, inl, inr, List, [], ◌∷◌, ◌++◌, length, Option, Some, None, refl, sym, ◌∙◌, ap, arith, map}
 use Rattle.std.proofs.lemmas.Bool.Decides.{nat_tests}
-use Rattle.std.proofs.lemmas.Bool.{and_from}
 use Rattle.lock_modes.specs.declared.Mode.{Mode}
 use Rattle.lock_modes.specs.Order.{at_or_below}
 use Rattle.lock_tree.specs.Paths.{same_path, is_ancestor, parent_of, has_parent}
+use Rattle.lock_tree.proofs.Ancestors.{parent-ancestor}
 use Rattle.lock_rules.specs.State.{Claim, Table, mode_in, held_mode, mode_or_nothing, request_of, claims_of, claims_but}
 use Rattle.lock_rules.specs.Queue.{locks_but}
 use Rattle.lock_rules.specs.Waits.{waits_for, resource_of_request, without_request, after_cancel}
 use Rattle.lock_rules.specs.Step.{without_claims, after_end, lacks_parent, holds_child, after_release}
 use Rattle.lock_rules.specs.Sound.{IsSound, Stands}
-use Rattle.lock_rules.proofs.Lists.{ordered-filter, bool_cases, eqb-refl, same_path_tells, claims_but-none, mode_in-locks_but, mode_in-locks_but_path, mode_in-locks_but_other, mode_in-claims_but, mode_in-claims_but_other}
+use Rattle.lock_rules.proofs.Lists.{ordered-filter, bool_cases, same_path_tells, claims_but-none, mode_in-locks_but, mode_in-locks_but_path, mode_in-locks_but_other, mode_in-claims_but, mode_in-claims_but_other}
 use Rattle.lock_rules.proofs.Marks.{below-refl}
 use Rattle.lock_rules.proofs.Alters.{Alters, NoCircle, circle-alters, circle-alters_beside, true≢false}
 use Rattle.lock_rules.proofs.Sound.{UnfitAt, eqb-swap, altered-sound, lacks-same, same-rises, unfit_at-alters, none-below, no_more-alters}
@@ -24,13 +24,6 @@ pub record IsAtRest (t : Table) : Type 0 where
   pub unfit : (x : List ℕ) → UnfitAt t x
 
 -- one lock
-
--- a parent is an ancestor
-pub parent-ancestor : (x : List ℕ) → has_parent x ≡ true → is_ancestor (parent_of x) x ≡ true
-parent-ancestor [] h = cc
-parent-ancestor (a ∷ []) h = cc
-parent-ancestor (a ∷ b ∷ []) h = and_from (eqb a a) true (eqb-refl a) refl
-parent-ancestor (a ∷ b ∷ c ∷ xs) h = and_from (eqb a a) (is_ancestor (parent_of (b ∷ c ∷ xs)) (b ∷ c ∷ xs)) (eqb-refl a) (parent-ancestor (b ∷ c ∷ xs) refl)
 
 pub child-held : (s : ℕ) (r x : List ℕ) (k : Mode) (cs : List Claim) → mode_in s x cs ≡ Some k → is_ancestor r x ≡ true → holds_child (record { held = cs; requests = [] }) s r ≡ true
 child-held s r x k [] h a = absurd (cc)

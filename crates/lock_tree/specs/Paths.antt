@@ -22,12 +22,17 @@ same_path (x ∷ xs) (y ∷ ys) = (x == y) && same_path xs ys
 abbrev pub path_cmp : List ℕ → List ℕ → Ordering
 path_cmp a b = slice_cmp nat_cmp a b
 
--- a shorter front
+-- the numbers begin the other ones, which are more
+abbrev pub is_front : List ℕ → List ℕ → Bool
+is_front [] [] = false
+is_front [] (y ∷ ys) = true
+is_front (x ∷ xs) [] = false
+is_front (x ∷ xs) (y ∷ ys) = (x == y) && is_front xs ys
+
+-- a shorter front, of one number at least
 abbrev pub is_ancestor : List ℕ → List ℕ → Bool
-is_ancestor [] [] = false
-is_ancestor [] (y ∷ ys) = true
-is_ancestor (x ∷ xs) [] = false
-is_ancestor (x ∷ xs) (y ∷ ys) = (x == y) && is_ancestor xs ys
+is_ancestor [] r = false
+is_ancestor (x ∷ xs) r = is_front (x ∷ xs) r
 
 -- all numbers but the last
 abbrev pub parent_of : List ℕ → List ℕ
@@ -41,6 +46,11 @@ has_parent [] = false
 has_parent (x ∷ []) = false
 has_parent (x ∷ y ∷ ys) = true
 
--- one resource stands above the other: its numbers are the first ones of the other, which has more
+-- one path stands above the other: it has numbers, they are the first ones of the other, and that has more
 abbrev pub IsAncestor : List ℕ → List ℕ → Type 0
-IsAncestor a r = (rest : List ℕ) × (0 < length rest) × (r ≡ a ++ rest)
+IsAncestor a r = (0 < length a) × ((rest : List ℕ) × (0 < length rest) × (r ≡ a ++ rest))
+
+-- no ancestor of the path is longer
+pub record IsLongestAncestor (a r : List ℕ) : Type 0 where
+  pub ancestor : IsAncestor a r
+  pub longest : (b : List ℕ) → IsAncestor b r → length b ≤ length a

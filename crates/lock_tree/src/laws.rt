@@ -1,8 +1,8 @@
 //! What holds of resources and of their text.
 
-ghost use Rattle.std.specs.Prelude.{◌≡◌, ℕ, ◌<◌, ◌≤◌, ◌^◌, ◌↔◌, List, true, None, Ok, decimal};
+ghost use Rattle.std.specs.Prelude.{◌≡◌, ℕ, ◌<◌, ◌≤◌, ◌^◌, ◌↔◌, ◌⊎◌, List, true, None, Ok, decimal};
 ghost use Rattle.lock_tree.specs.Numerals.{fault_of_numeral, reading_of_numeral};
-ghost use Rattle.lock_tree.specs.Paths.{IsResource, same_path, path_cmp};
+ghost use Rattle.lock_tree.specs.Paths.{IsResource, IsAncestor, IsLongestAncestor, is_ancestor, has_parent, parent_of, same_path, path_cmp};
 ghost use Rattle.lock_tree.specs.Text.{text_of};
 ghost use Rattle.lock_tree.specs.Faults.{fault_of};
 
@@ -29,6 +29,18 @@ pub fn texts_are_of_resources()
         → (fault_of t ≡ None) ↔ ((r : List ℕ) × IsResource r × (text_of r ≡ t)) }
     ensures determined { (a b : List ℕ)
         → IsResource a → IsResource b → text_of a ≡ text_of b → a ≡ b }
+{}
+
+/// A path has a parent exactly where it has an ancestor, and the parent is the longest one: each
+/// ancestor is the parent or an ancestor of it.
+pub fn parents_are_the_longest_ancestors()
+    ensures test { (a r : List ℕ) → (is_ancestor a r ≡ true) ↔ IsAncestor a r }
+    ensures some { (r : List ℕ)
+        → (has_parent r ≡ true) ↔ ((a : List ℕ) × IsAncestor a r) }
+    ensures longest { (r : List ℕ)
+        → has_parent r ≡ true → IsLongestAncestor (parent_of r) r }
+    ensures above { (a r : List ℕ)
+        → IsAncestor a r → (a ≡ parent_of r) ⊎ IsAncestor a (parent_of r) }
 {}
 
 /// Resources are ordered by their numbers, a front before what continues it.

@@ -1,7 +1,7 @@
 //! A resource: the numbers on the way down the lock tree.
 
 ghost use Rattle.std.specs.Prelude.{◌≡◌, ◌↔◌, ℕ, List, Some, Ok, Err, true, length, IsTrue, IsSome, IfSome};
-ghost use Rattle.lock_tree.specs.Paths.{IsResource, IsAncestor, is_ancestor, has_parent, parent_of};
+ghost use Rattle.lock_tree.specs.Paths.{IsResource, IsAncestor, is_ancestor, is_front, has_parent, parent_of};
 ghost use Rattle.lock_tree.specs.Text.{text_of};
 ghost use Rattle.lock_tree.specs.Faults.{fault_of};
 ghost use Rattle.lock_tree.specs.Readings.{reading_of};
@@ -130,7 +130,7 @@ impl Resource {
 
 // Whether the numbers begin the other ones, which are more.
 fn is_front(numbers: &[u32], others: &[u32]) -> bool
-    ensures { result ≡ is_ancestor numbers.now others.now }
+    ensures { result ≡ is_front numbers.now others.now }
 {
     let count = numbers.len();
     count < others.len() && numbers == &others[..count]

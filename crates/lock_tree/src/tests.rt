@@ -89,17 +89,44 @@ fn tells_faults(rt: HostRuntime) {
 }
 
 #[test]
-fn prints_names_of_faults(rt: HostRuntime) -> Result<(), Fail> {
-    for (fault, name) in [
-        (PathFault::Empty, "Empty"),
-        (PathFault::TooDeep, "TooDeep"),
-        (PathFault::NotANumber, "NotANumber"),
-        (PathFault::TooLarge, "TooLarge"),
-        (PathFault::LeadingZero, "LeadingZero"),
+fn numbers_and_names_faults(rt: HostRuntime) -> Result<(), Fail> {
+    for (fault, number, name) in [
+        (PathFault::Empty, 1, "Empty"),
+        (PathFault::TooDeep, 2, "TooDeep"),
+        (PathFault::NotANumber, 3, "NotANumber"),
+        (PathFault::TooLarge, 4, "TooLarge"),
+        (PathFault::LeadingZero, 5, "LeadingZero"),
     ] {
+        assert_eq!(rt; fault as u8, number, "at {name}");
         assert_eq!(rt; fault.to_string(rt.alloc())?.as_str(), name);
     }
     Ok(())
+}
+
+#[test]
+fn reads_numerals(rt: HostRuntime) {
+    for (text, greatest, reading) in [
+        ("0", 0, Ok(0)),
+        ("10", 256, Ok(10)),
+        ("256", 256, Ok(256)),
+        ("257", 256, Err(NumeralFault::TooLarge)),
+        ("18446744073709551615", u64::MAX, Ok(18446744073709551615)),
+        (
+            "18446744073709551616",
+            u64::MAX,
+            Err(NumeralFault::TooLarge),
+        ),
+        (HUNDRED_DIGITS, u64::MAX, Err(NumeralFault::TooLarge)),
+        ("", 256, Err(NumeralFault::Empty)),
+        ("1/2", 256, Err(NumeralFault::NotANumber)),
+        ("010", 256, Err(NumeralFault::LeadingZero)),
+    ] {
+        assert_eq!(rt;
+            parse_numeral(text.as_bytes(), greatest),
+            reading,
+            "at {text}"
+        );
+    }
 }
 
 #[test]

@@ -1,11 +1,11 @@
 use Rattle.std.proofs.Common.{sym, ◌∙◌}
 use Rattle.std.proofs.lemmas.Bool.Decides.{nat_tests}
 use Rattle.std.proofs.Common.{arith}
-use Rattle.lock_tree.proofs.Ancestors.{is_ancestor-short, is_ancestor-take}
+use Rattle.lock_tree.proofs.Ancestors.{is_front-short, is_front-take}
 use Rattle.lock_tree.proofs.resource.is_front.Goals as goal
 
 pub returns-then-count-others : goal.returns-then-count-others
-returns-then-count-others c = c.eq.ensures ∙ sym (is_ancestor-take c.args.numbers.now c.args.others.now c.if-count-others.true)
+returns-then-count-others c = c.eq.ensures ∙ sym (is_front-take c.args.numbers.now c.args.others.now c.if-count-others.true)
 
 pub returns-else-count-others : goal.returns-else-count-others
-returns-else-count-others c = let e = is_ancestor-short c.args.numbers.now c.args.others.now c.if-count-others.false in grind (arith, nat_tests)
+returns-else-count-others c = let e = is_front-short c.args.numbers.now c.args.others.now c.if-count-others.false in grind (arith, nat_tests)
