@@ -1,5 +1,5 @@
 -- Operations and modes are found by their names, and nothing else is.
-use Rattle.std.proofs.Common.{◌≡◌, ℕ, Bool, true, false, List, [], ◌∷◌, Result, Ok, Err, refl, sym, ap, ◌∙◌, arith}
+use Rattle.std.proofs.Common.{◌≡◌, ℕ, Bool, true, false, List, [], ◌∷◌, length, drop, drop-cons, get_or, add-one, ◌+◌, Result, Ok, Err, refl, sym, ap, ◌∙◌, arith}
 use Rattle.std.specs.Prelude.{if◌then◌else◌, bytes_eq, nat_lt, ◌<◌}
 use Rattle.std.specs.List.{list_all}
 use Rattle.std.specs.Str.{is_utf8, IsAscii}
@@ -12,8 +12,9 @@ use Rattle.lock_modes.specs.declared.Mode.TheVariants.{NL, IS, IX, S, SIX, X}
 use Rattle.lock_modes.specs.Codes.{name_of}
 use Rattle.lock_trace.specs.declared.faults.TraceKind.{TraceKind}
 use Rattle.lock_trace.specs.declared.faults.TraceKind.TheVariants as kind
-use Rattle.lock_trace.specs.declared.fields.Op.{Op}
-use Rattle.lock_trace.specs.Fields.{named, word_of, ops, op_in, mode_in}
+use Rattle.lock_trace.specs.declared.words.Op.{Op}
+use Rattle.lock_trace.specs.Words.{word_of, ops}
+use Rattle.lock_trace.specs.Fields.{named, op_in, mode_in}
 use Rattle.lock_trace.proofs.Numerals.{and_parts}
 
 -- the name of none of them
@@ -29,6 +30,11 @@ named_none {A} name fault (y ∷ ys) bs miss = cases (bytes_eq bs (name y)) refl
     cases : (b : Bool) → bytes_eq bs (name y) ≡ b → named name fault ys bs ≡ Err fault → (if b then Ok y else named name fault ys bs) ≡ Err fault
     cases true is rest = absurd (miss.0 ((bytes_eq-Decides bs (name y)).0 is))
     cases false is rest = rest
+
+-- one of another name is passed over
+pub passed_over : {A : Type 0} (name : A → List ℕ) (fault : TraceKind) (xs : List A) (i : ℕ) (d : A) (bs word : List ℕ) (found : Result A TraceKind) → i < length xs
+    → word ≡ name (get_or xs i d) → bytes_eq bs word ≡ false → found ≡ named name fault (drop i xs) bs → found ≡ named name fault (drop (i + 1) xs) bs
+passed_over {A} name fault xs i d bs word found lt is other so_far = so_far ∙ ap (λ (ys : List A). named name fault ys bs) (drop-cons xs i d lt) ∙ rw (← is, other, add-one i) refl
 
 abbrev ok : {A : Type 0} → A → Result A TraceKind
 ok a = Ok a

@@ -22,9 +22,10 @@ use Rattle.lock_rules.specs.declared.calls.Reply.TheVariants as reply
 use Rattle.lock_rules.specs.declared.calls.Why.{Why}
 use Rattle.lock_rules.specs.declared.calls.Why.TheVariants as why
 use Rattle.lock_rules.specs.declared.calls.Entry.{Entry}
+use Rattle.lock_rules.specs.Names.{name_of_why}
 use Rattle.lock_trace.specs.Rows.{fields_of_call, HasResources}
 use Rattle.lock_trace.specs.Records.{records_on, records_of}
-use Rattle.lock_trace.specs.Histories.{name_of_why, fields_of_reply, fields_of_entry, fields_from, records_of_history, after_commas, line_of, lines_of, text_of_history, ReplyFits, EntryFits, AllFit}
+use Rattle.lock_trace.specs.Histories.{fields_of_reply, fields_of_entry, fields_from, records_of_history, after_commas, line_of, lines_of, text_of_history, ReplyFits, EntryFits, AllFit}
 use Rattle.lock_trace.proofs.RecordSteps.{after_next}
 
 -- a byte of the field keeps it from being written as it is

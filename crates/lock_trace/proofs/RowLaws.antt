@@ -10,10 +10,11 @@ use Rattle.lock_rules.specs.declared.calls.Call.{Call}
 use Rattle.lock_rules.specs.declared.calls.Call.TheVariants as call
 use Rattle.lock_trace.specs.declared.faults.TraceKind.{TraceKind}
 use Rattle.lock_trace.specs.declared.faults.TraceKind.TheVariants as kind
-use Rattle.lock_trace.specs.declared.fields.Op.{Op}
-use Rattle.lock_trace.specs.declared.fields.Op.TheVariants as op
+use Rattle.lock_trace.specs.declared.words.Op.{Op}
+use Rattle.lock_trace.specs.declared.words.Op.TheVariants as op
 use Rattle.lock_trace.specs.declared.rows.TraceRow.{TraceRow}
-use Rattle.lock_trace.specs.Fields.{word_of, session_in, op_in, resource_in, mode_in}
+use Rattle.lock_trace.specs.Words.{word_of}
+use Rattle.lock_trace.specs.Fields.{session_in, op_in, resource_in, mode_in}
 use Rattle.lock_trace.specs.Rows.{fields_of_call, fields_of_row, HasResources, IsRow, ◌>>=◌, bare, resource_and_mode_in, call_in, row_in, row_of}
 use Rattle.lock_trace.proofs.Names.{op_is, mode_is, mode_by_name}
 use Rattle.lock_trace.proofs.Resources.{resource_iff, resource_back}

@@ -1,5 +1,5 @@
 -- What the single fields of a row say.
-use Rattle.std.specs.Prelude.{◌≡◌, ◌==◌, ◌<◌, ◌≤◌, ◌+◌, ◌-◌, ◌*◌, ℕ, ◌&&◌, not, nat_le, nat_lt, if◌then◌else◌, Bool, false, List, [], ◌∷◌, length, Result, Ok, Err, bytes_eq, codes, decimal}
+use Rattle.std.specs.Prelude.{◌≡◌, ◌==◌, ◌<◌, ◌≤◌, ◌+◌, ◌-◌, ◌*◌, ℕ, ◌&&◌, not, nat_le, nat_lt, if◌then◌else◌, Bool, false, List, [], ◌∷◌, length, Result, Ok, Err, bytes_eq, decimal}
 use Rattle.std.specs.Char.{is_ascii_digit}
 use Rattle.std.specs.List.{list_all}
 use Rattle.std.specs.Str.{is_utf8}
@@ -11,8 +11,8 @@ use Rattle.lock_tree.specs.declared.path_fault.PathFault.TheVariants as path
 use Rattle.lock_tree.specs.Readings.{reading_of}
 use Rattle.lock_trace.specs.declared.faults.TraceKind.{TraceKind}
 use Rattle.lock_trace.specs.declared.faults.TraceKind.TheVariants as kind
-use Rattle.lock_trace.specs.declared.fields.Op.{Op}
-use Rattle.lock_trace.specs.declared.fields.Op.TheVariants as op
+use Rattle.lock_trace.specs.declared.words.Op.{Op}
+use Rattle.lock_trace.specs.Words.{word_of, ops}
 
 -- the number of some digits, after a number read before them
 abbrev pub read_on : ℕ → List ℕ → ℕ
@@ -47,19 +47,6 @@ pub record IsSessionText (n s : ℕ) (field : List ℕ) : Type 0 where
 abbrev pub named : {A : Type 0} → (A → List ℕ) → TraceKind → List A → List ℕ → Result A TraceKind
 named name fault [] bs = Err fault
 named name fault (x ∷ xs) bs = if bytes_eq bs (name x) then Ok x else named name fault xs bs
-
-abbrev pub word_of : Op → List ℕ
-word_of op.Begin = codes "begin"
-word_of op.Lock = codes "lock"
-word_of op.Convert = codes "convert"
-word_of op.Poll = codes "poll"
-word_of op.Release = codes "release"
-word_of op.Commit = codes "commit"
-word_of op.Abort = codes "abort"
-
--- the operations, each once
-abbrev pub ops : List Op
-ops = op.Begin ∷ op.Lock ∷ op.Convert ∷ op.Poll ∷ op.Release ∷ op.Commit ∷ op.Abort ∷ []
 
 abbrev pub op_in : List ℕ → Result Op TraceKind
 op_in bs = named word_of kind.Op ops bs

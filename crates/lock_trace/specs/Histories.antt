@@ -1,36 +1,29 @@
 -- The text of a history.
-use Rattle.std.specs.Prelude.{ℕ, ◌+◌, ◌<◌, ◌^◌, List, [], ◌∷◌, ◌++◌, All, codes, decimal}
+use Rattle.std.specs.Prelude.{ℕ, ◌+◌, ◌<◌, ◌^◌, List, [], ◌∷◌, ◌++◌, All, decimal}
 use Rattle.lock_modes.specs.Codes.{name_of}
 use Rattle.lock_rules.specs.declared.calls.Reply.{Reply}
 use Rattle.lock_rules.specs.declared.calls.Reply.TheVariants as reply
-use Rattle.lock_rules.specs.declared.calls.Why.{Why}
-use Rattle.lock_rules.specs.declared.calls.Why.TheVariants as why
 use Rattle.lock_rules.specs.declared.calls.Entry.{Entry}
+use Rattle.lock_rules.specs.Names.{name_of_why}
 use Rattle.lock_trace.specs.declared.rows.TraceRow.{TraceRow}
+use Rattle.lock_trace.specs.Words.{word_of_reply, reply_word_of}
 use Rattle.lock_trace.specs.Rows.{HasResources, fields_of_row}
 
-abbrev pub name_of_why : Why → List ℕ
-name_of_why why.AlreadyOpen = codes "AlreadyOpen"
-name_of_why why.NoTransaction = codes "NoTransaction"
-name_of_why why.IsWaiting = codes "IsWaiting"
-name_of_why why.IsDoomed = codes "IsDoomed"
-name_of_why why.NothingAsked = codes "NothingAsked"
-name_of_why why.NotHeld = codes "NotHeld"
-name_of_why why.ParentNotHeld = codes "ParentNotHeld"
-name_of_why why.ChildHeld = codes "ChildHeld"
-name_of_why why.TooManyLocks = codes "TooManyLocks"
+-- what a reply tells beside its word, or nothing
+abbrev pub value_field : Reply → List ℕ
+value_field (reply.Began n) = decimal n
+value_field (reply.Granted m) = name_of m
+value_field reply.Waiting = []
+value_field reply.Deadlock = []
+value_field reply.Clear = []
+value_field reply.Released = []
+value_field (reply.Committed n) = decimal n
+value_field (reply.Aborted n) = decimal n
+value_field (reply.Refused w) = name_of_why w
 
 -- the fields of a reply: its word and its value
 abbrev pub fields_of_reply : Reply → List (List ℕ)
-fields_of_reply (reply.Began n) = codes "began" ∷ decimal n ∷ []
-fields_of_reply (reply.Granted m) = codes "granted" ∷ name_of m ∷ []
-fields_of_reply reply.Waiting = codes "waiting" ∷ [] ∷ []
-fields_of_reply reply.Deadlock = codes "deadlock" ∷ [] ∷ []
-fields_of_reply reply.Clear = codes "clear" ∷ [] ∷ []
-fields_of_reply reply.Released = codes "released" ∷ [] ∷ []
-fields_of_reply (reply.Committed n) = codes "committed" ∷ decimal n ∷ []
-fields_of_reply (reply.Aborted n) = codes "aborted" ∷ decimal n ∷ []
-fields_of_reply (reply.Refused w) = codes "refused" ∷ name_of_why w ∷ []
+fields_of_reply r = word_of_reply (reply_word_of r) ∷ value_field r ∷ []
 
 -- the row of a trace that the entry answers
 abbrev pub row_of_entry : Entry → TraceRow

@@ -1,3 +1,4 @@
+pub mod Words
 pub mod Fields
 pub mod Rows
 pub mod Records

@@ -8,20 +8,35 @@ use Rattle.lock_rules.specs.declared.calls.Call.{Call}
 use Rattle.lock_rules.specs.declared.calls.Call.TheVariants as call
 use Rattle.lock_trace.specs.declared.faults.TraceKind.{TraceKind}
 use Rattle.lock_trace.specs.declared.faults.TraceKind.TheVariants as kind
-use Rattle.lock_trace.specs.declared.fields.Op.{Op}
-use Rattle.lock_trace.specs.declared.fields.Op.TheVariants as op
+use Rattle.lock_trace.specs.declared.words.Op.{Op}
+use Rattle.lock_trace.specs.declared.words.Op.TheVariants as op
 use Rattle.lock_trace.specs.declared.rows.TraceRow.{TraceRow}
-use Rattle.lock_trace.specs.Fields.{word_of, session_in, op_in, resource_in, mode_in}
+use Rattle.lock_trace.specs.Words.{word_of, op_of_call}
+use Rattle.lock_trace.specs.Fields.{session_in, op_in, resource_in, mode_in}
+
+-- the resource that a call names, or nothing
+abbrev pub resource_field : Call → List ℕ
+resource_field call.Begin = []
+resource_field (call.Lock r m) = text_of r
+resource_field (call.Convert r m) = text_of r
+resource_field call.Poll = []
+resource_field (call.Release r) = text_of r
+resource_field call.Commit = []
+resource_field call.Abort = []
+
+-- the mode that a call asks for, or nothing
+abbrev pub mode_field : Call → List ℕ
+mode_field call.Begin = []
+mode_field (call.Lock r m) = name_of m
+mode_field (call.Convert r m) = name_of m
+mode_field call.Poll = []
+mode_field (call.Release r) = []
+mode_field call.Commit = []
+mode_field call.Abort = []
 
 -- the fields of a call: its operation, its resource and its mode
 abbrev pub fields_of_call : Call → List (List ℕ)
-fields_of_call call.Begin = word_of op.Begin ∷ [] ∷ [] ∷ []
-fields_of_call (call.Lock r m) = word_of op.Lock ∷ text_of r ∷ name_of m ∷ []
-fields_of_call (call.Convert r m) = word_of op.Convert ∷ text_of r ∷ name_of m ∷ []
-fields_of_call call.Poll = word_of op.Poll ∷ [] ∷ [] ∷ []
-fields_of_call (call.Release r) = word_of op.Release ∷ text_of r ∷ [] ∷ []
-fields_of_call call.Commit = word_of op.Commit ∷ [] ∷ [] ∷ []
-fields_of_call call.Abort = word_of op.Abort ∷ [] ∷ [] ∷ []
+fields_of_call c = word_of (op_of_call c) ∷ resource_field c ∷ mode_field c ∷ []
 
 -- the four fields of a row: each is the one text of its part
 abbrev pub fields_of_row : TraceRow → List (List ℕ)

@@ -8,21 +8,10 @@ ghost use Rattle.lock_tree.specs.Readings.{reading_of};
 ghost use Rattle.lock_trace.specs.Fields.{has_leading_zero, is_numeral, number_in, session_in, op_in, resource_in, mode_in};
 
 use crate::faults::TraceKind;
+use crate::words::{OPS, Op};
 use lock_modes::Mode;
 use lock_tree::{PathFault, Resource};
 use std::str;
-
-/// What a row asks for.
-#[derive(Clone, Copy)]
-pub enum Op {
-    Begin,
-    Lock,
-    Convert,
-    Poll,
-    Release,
-    Commit,
-    Abort,
-}
 
 fn starts_with_zero(text: &[u8]) -> bool
     ensures { result ≡ has_leading_zero text.now }
@@ -75,26 +64,10 @@ pub(crate) fn session_of(field: &[u8], sessions: u16) -> Result<u16, TraceKind>
 pub(crate) fn op_of(field: &[u8]) -> Result<Op, TraceKind>
     ensures { result ≡ op_in field.now }
 {
-    if field == b"begin".as_slice() {
-        return Ok(Op::Begin);
-    }
-    if field == b"lock".as_slice() {
-        return Ok(Op::Lock);
-    }
-    if field == b"convert".as_slice() {
-        return Ok(Op::Convert);
-    }
-    if field == b"poll".as_slice() {
-        return Ok(Op::Poll);
-    }
-    if field == b"release".as_slice() {
-        return Ok(Op::Release);
-    }
-    if field == b"commit".as_slice() {
-        return Ok(Op::Commit);
-    }
-    if field == b"abort".as_slice() {
-        return Ok(Op::Abort);
+    for op in OPS {
+        if field == op.word().as_bytes() {
+            return Ok(op);
+        }
     }
     Err(TraceKind::Op)
 }

@@ -8,6 +8,7 @@ mod reading;
 mod rows;
 #[cfg(test)]
 mod tests;
+mod words;
 mod writing;
 
 pub use faults::{TraceFault, TraceKind};

@@ -5,7 +5,8 @@ ghost use Rattle.csv.specs.Records.{fields_of, field_at as field_in};
 ghost use Rattle.lock_trace.specs.Rows.{IsRow, HasResources, bare, resource_and_mode_in, call_in, row_in, row_of};
 
 use crate::faults::TraceKind;
-use crate::fields::{Op, mode_of, op_of, resource_of, session_of};
+use crate::fields::{mode_of, op_of, resource_of, session_of};
+use crate::words::Op;
 use csv::ByteRecord;
 use lock_modes::Mode;
 use lock_rules::Call;

@@ -1,14 +1,13 @@
 //! Histories as bytes.
 
-ghost use Rattle.std.specs.Prelude.{◌≡◌, ◌∷◌, ◌++◌, List, OnOk, IfOk, decimal};
-ghost use Rattle.lock_modes.specs.Codes.{name_of};
+ghost use Rattle.std.specs.Prelude.{◌≡◌, ◌++◌, List, OnOk, IfOk, decimal};
 ghost use Rattle.lock_tree.specs.Text.{text_of};
-ghost use Rattle.lock_trace.specs.Rows.{fields_of_call};
-ghost use Rattle.lock_trace.specs.Histories.{name_of_why, fields_of_reply, fields_of_entry, after_commas, line_of, text_of_history};
+ghost use Rattle.lock_trace.specs.Rows.{resource_field, mode_field, fields_of_call};
+ghost use Rattle.lock_trace.specs.Histories.{value_field, fields_of_reply, fields_of_entry, after_commas, line_of, text_of_history};
 
+use crate::words::{Op, ReplyWord};
 use itoa::Buffer;
-use lock_modes::Mode;
-use lock_rules::{Call, Entry, Reply, Why};
+use lock_rules::{Call, Entry, Reply};
 use lock_tree::Resource;
 use std::alloc::{AllocError as NoMemory, Global};
 
@@ -41,52 +40,49 @@ fn put_resource(out: &mut Vec<u8>, resource: &Resource) -> Result<(), NoMemory>
     Ok(())
 }
 
-fn put_resource_and_mode(out: &mut Vec<u8>, resource: &Resource, mode: Mode) -> Result<(), NoMemory>
-    ensures { OnOk result (out.new.items ≡ out.old.items ++ (text_of resource.now ++ (44 ∷ name_of mode))) }
+fn put_resource_field(out: &mut Vec<u8>, call: &Call) -> Result<(), NoMemory>
+    ensures { OnOk result (out.new.items ≡ out.old.items ++ resource_field call.now) }
 {
-    put_resource(out, resource)?;
-    put_text(out, ",")?;
-    put_text(out, mode.name())
+    match call {
+        Call::Lock(resource, _) => put_resource(out, resource),
+        Call::Convert(resource, _) => put_resource(out, resource),
+        Call::Release(resource) => put_resource(out, resource),
+        Call::Begin | Call::Poll | Call::Commit | Call::Abort => Ok(()),
+    }
+}
+
+fn put_mode_field(out: &mut Vec<u8>, call: &Call) -> Result<(), NoMemory>
+    ensures { OnOk result (out.new.items ≡ out.old.items ++ mode_field call.now) }
+{
+    match call {
+        Call::Lock(_, mode) => put_text(out, mode.name()),
+        Call::Convert(_, mode) => put_text(out, mode.name()),
+        Call::Begin | Call::Poll | Call::Release(_) | Call::Commit | Call::Abort => Ok(()),
+    }
 }
 
 #[tactic(auto, unfolding(crate::specs::Histories::after_commas))]
 fn put_call(out: &mut Vec<u8>, call: &Call) -> Result<(), NoMemory>
     ensures { OnOk result (out.new.items ≡ out.old.items ++ after_commas (fields_of_call call.now)) }
 {
-    match call {
-        Call::Begin => put_text(out, ",begin,,"),
-        Call::Lock(resource, mode) => {
-            put_text(out, ",lock,")?;
-            put_resource_and_mode(out, resource, *mode)
-        }
-        Call::Convert(resource, mode) => {
-            put_text(out, ",convert,")?;
-            put_resource_and_mode(out, resource, *mode)
-        }
-        Call::Poll => put_text(out, ",poll,,"),
-        Call::Release(resource) => {
-            put_text(out, ",release,")?;
-            put_resource(out, resource)?;
-            put_text(out, ",")
-        }
-        Call::Commit => put_text(out, ",commit,,"),
-        Call::Abort => put_text(out, ",abort,,"),
-    }
+    put_text(out, ",")?;
+    put_text(out, Op::of(call).word())?;
+    put_text(out, ",")?;
+    put_resource_field(out, call)?;
+    put_text(out, ",")?;
+    put_mode_field(out, call)
 }
 
-fn why_name(why: Why) -> &'static str
-    ensures { result.now ≡ name_of_why why }
+fn put_value(out: &mut Vec<u8>, reply: Reply) -> Result<(), NoMemory>
+    ensures { OnOk result (out.new.items ≡ out.old.items ++ value_field reply) }
 {
-    match why {
-        Why::AlreadyOpen => "AlreadyOpen",
-        Why::NoTransaction => "NoTransaction",
-        Why::IsWaiting => "IsWaiting",
-        Why::IsDoomed => "IsDoomed",
-        Why::NothingAsked => "NothingAsked",
-        Why::NotHeld => "NotHeld",
-        Why::ParentNotHeld => "ParentNotHeld",
-        Why::ChildHeld => "ChildHeld",
-        Why::TooManyLocks => "TooManyLocks",
+    match reply {
+        Reply::Began(number) => put_number(out, number),
+        Reply::Granted(mode) => put_text(out, mode.name()),
+        Reply::Committed(locks) => put_number(out, locks as u64),
+        Reply::Aborted(locks) => put_number(out, locks as u64),
+        Reply::Refused(why) => put_text(out, why.name()),
+        Reply::Waiting | Reply::Deadlock | Reply::Clear | Reply::Released => Ok(()),
     }
 }
 
@@ -94,32 +90,10 @@ fn why_name(why: Why) -> &'static str
 fn put_reply(out: &mut Vec<u8>, reply: Reply) -> Result<(), NoMemory>
     ensures { OnOk result (out.new.items ≡ out.old.items ++ after_commas (fields_of_reply reply)) }
 {
-    match reply {
-        Reply::Began(number) => {
-            put_text(out, ",began,")?;
-            put_number(out, number)
-        }
-        Reply::Granted(mode) => {
-            put_text(out, ",granted,")?;
-            put_text(out, mode.name())
-        }
-        Reply::Waiting => put_text(out, ",waiting,"),
-        Reply::Deadlock => put_text(out, ",deadlock,"),
-        Reply::Clear => put_text(out, ",clear,"),
-        Reply::Released => put_text(out, ",released,"),
-        Reply::Committed(locks) => {
-            put_text(out, ",committed,")?;
-            put_number(out, locks as u64)
-        }
-        Reply::Aborted(locks) => {
-            put_text(out, ",aborted,")?;
-            put_number(out, locks as u64)
-        }
-        Reply::Refused(why) => {
-            put_text(out, ",refused,")?;
-            put_text(out, why_name(why))
-        }
-    }
+    put_text(out, ",")?;
+    put_text(out, ReplyWord::of(reply).word())?;
+    put_text(out, ",")?;
+    put_value(out, reply)
 }
 
 fn put_entry(out: &mut Vec<u8>, place: usize, entry: &Entry) -> Result<(), NoMemory>
