@@ -4,7 +4,7 @@ use Rattle.lock_trace.specs.declared.faults.TraceKind.{TraceKind}
 use Rattle.lock_trace.specs.declared.faults.TraceKind.TheVariants as kind
 use Rattle.glm.specs.declared.replaying.ToolFault.{ToolFault}
 use Rattle.glm.specs.declared.replaying.ToolFault.TheVariants as tool
-use Rattle.glm.specs.declared.commands.TheConstants.{DONE, REFUSED, USAGE, NO_MEMORY, DEVICE}
+use Rattle.glm.specs.declared.outcomes.TheConstants.{DONE, REFUSED, USAGE, NO_MEMORY, DEVICE}
 
 -- one of the five
 abbrev pub IsStatus : ℕ → Type 0

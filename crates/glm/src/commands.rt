@@ -1,92 +1,109 @@
 //! The command line.
 
-ghost use Rattle.std.specs.Prelude.{◌≡◌, ◌≢◌};
+ghost use Rattle.std.specs.Prelude.{◌≡◌, ◌≢◌, ◌<◌, ℕ, List, Some, IfOk, IfSome, IfNone};
 ghost use Rattle.std.specs.Io.KnownBytes.{Keeps};
-ghost use Rattle.glm.specs.Statuses.{IsStatus, status_for};
+ghost use Rattle.clap.specs.Kinds.{FailsBy};
+ghost use Rattle.clap.specs.Simple.{app_of, subcommand_of, subcommand_rows_of};
+ghost use Rattle.clap.specs.Values.{kind_of};
+ghost use Rattle.clap.specs.Walk.{texts};
+ghost use Rattle.glm.specs.declared.outcomes.Outcome.{Outcome};
+ghost use Rattle.glm.specs.declared.outcomes.TheConstants.{DONE, DEVICE};
+ghost use Rattle.glm.specs.CommandLine.{AskReplay, IsTextOfNumber, faults_of, glm_command, sessions_in};
+ghost use Rattle.glm.specs.Outcomes.{HasDone, IsOutcomeOfError, status_of_outcome};
+ghost use Rattle.glm.specs.Statuses.{IsStatus};
 
-use crate::replaying::{ToolFault, replay};
+use crate::outcomes::Outcome;
+use crate::replaying::replay;
 use clap::error::ErrorKind;
 use clap::{Arg, ArgMatches, Command, Error, value_parser};
 use lock_rules::MAX_SESSIONS;
-use lock_trace::TraceKind;
-use std::alloc::Global;
+use std::alloc::{AllocError, Global};
 use std::io::{Read, Write};
 
-/// The status where all was done, or help was asked for.
-pub const DONE: u8 = 0;
-
-/// The status where a row of the input was refused.
-pub const REFUSED: u8 = 1;
-
-/// The status where the words of the command line are off.
-pub const USAGE: u8 = 2;
-
-/// The status where memory was refused.
-pub const NO_MEMORY: u8 = 4;
-
-/// The status where a reader or a writer failed.
-pub const DEVICE: u8 = 5;
-
-// The matches of these words by the commands that there are.
-fn parsed<'a>(alloc: Global, words: &'a [&'a str]) -> Result<ArgMatches<'a>, Error> {
+// The program's commands and their options.
+fn commands<'a>(alloc: Global) -> Result<Command<'a>, AllocError>
+    ensures { IfOk result (λ command. app_of command ≡ glm_command) }
+{
     let sessions = Arg::new(alloc, "sessions")
         .long("sessions")
         .value_name("N")
         .help("How many sessions the trace has, 1 to 256")
-        .value_parser(value_parser!(u16).range(1..257))
+        .value_parser(value_parser!(u16).range(1..=i64::from(MAX_SESSIONS)))
         .default_value("256");
     let replay = Command::new(alloc, "replay")
         .about("Serves a trace from standard input and writes its history")
         .arg(sessions)?;
-    let command = Command::new(alloc, "glm")
+    Command::new(alloc, "glm")
         .about("Granular locks for databases")
         .subcommand_required(true)
-        .subcommand(replay)?;
-    command.try_get_matches_from(words)
+        .subcommand(replay)
 }
 
-fn status_of(fault: &ToolFault) -> u8
-    ensures { result ≡ status_for fault.now }
+// The matches of these words by the program's commands.
+fn parsed<'a>(alloc: Global, words: &'a [&'a str]) -> Result<ArgMatches<'a>, Error>
+    ensures fails { FailsBy (faults_of (texts words.entry.now)) result }
+    ensures rows { IfOk result (λ matches. subcommand_rows_of matches ≡ subcommand_of glm_command (texts words.entry.now)) }
 {
-    match fault {
-        ToolFault::Trace(fault) => match fault.kind {
-            TraceKind::Device => DEVICE,
-            TraceKind::NoMemory => NO_MEMORY,
-            _ => REFUSED,
-        },
-        ToolFault::NoMemory => NO_MEMORY,
-        ToolFault::Device => DEVICE,
+    commands(alloc)?.try_get_matches_from(words)
+}
+
+// The number of sessions that was found for a command, if there is one.
+fn sessions_given(matches: &ArgMatches) -> Option<u16>
+    ensures some { IfSome result (λ sessions. (text : List ℕ)
+        × (sessions_in (subcommand_rows_of matches.now) ≡ Some text) × IsTextOfNumber text sessions) }
+    ensures none { IfNone result ((text : List ℕ) (sessions : ℕ) →
+        sessions_in (subcommand_rows_of matches.now) ≡ Some text → IsTextOfNumber text sessions →
+        MAX_SESSIONS < sessions) }
+{
+    let (_, given) = matches.subcommand()?;
+    given.get_one::<u16>("sessions")
+}
+
+// How many sessions the words ask a replay for. They are none where the words don't ask for one.
+fn sessions_asked<'a>(alloc: Global, words: &'a [&'a str]) -> Result<Option<u16>, Error>
+    ensures fails { FailsBy (faults_of (texts words.entry.now)) result }
+    ensures some { IfOk result (λ asked. IfSome asked (AskReplay (texts words.entry.now))) }
+    ensures none { IfOk result (λ asked. IfNone asked ((sessions : ℕ) → ¬ AskReplay (texts words.entry.now) sessions)) }
+{
+    let matches = parsed(alloc, words)?;
+    match sessions_given(&matches) {
+        // the parser of the option has tested the range already
+        Some(sessions) if 0 < sessions && sessions <= MAX_SESSIONS => Ok(Some(sessions)),
+        _ => Ok(None),
     }
 }
 
-// Tells of a fault in one line. Where standard error fails too, the status still tells.
-fn tell<E: Write>(fault: &ToolFault, errors: &mut E) -> u8
-    ensures { result ≡ status_for fault.now }
-{
-    let status = status_of(fault);
-    let _told = match status {
-        NO_MEMORY => writeln!(errors, "glm: out of memory"),
-        DEVICE => writeln!(errors, "glm: device"),
-        _ => writeln!(errors, "glm: {fault}"),
-    };
-    status
-}
-
-// What the words came to where they are no command: help on the output, or a usage fault.
-fn tell_usage<W: Write, E: Write>(error: &Error, output: &mut W, errors: &mut E) -> u8
-    ensures status { IsStatus result }
-    ensures silent { result ≢ DONE → result ≢ DEVICE → Keeps (W.contents output.old) (W.contents output.new) }
+// What the parser's error comes to: help on the output, or a fault of the words told on `errors`.
+fn outcome_of_error<W: Write, E: Write>(error: &Error, output: &mut W, errors: &mut E) -> Outcome
+    ensures { IsOutcomeOfError (kind_of error.now) (W.contents output.old) (W.contents output.new) result }
 {
     match error.kind() {
         ErrorKind::DisplayHelp => match write!(output, "{error}") {
-            Ok(()) => DONE,
-            Err(_) => tell(&ToolFault::Device, errors),
+            Ok(()) => Outcome::HelpShown,
+            Err(_) => Outcome::HelpFailed,
         },
-        ErrorKind::OutOfMemory => tell(&ToolFault::NoMemory, errors),
+        ErrorKind::OutOfMemory => Outcome::OutOfMemory,
         _ => {
             let _told = write!(errors, "{error}");
-            USAGE
+            Outcome::Misused
         }
+    }
+}
+
+// Does what the words ask for.
+fn outcome_of<'a, R: Read + Drop, W: Write, E: Write>(
+    alloc: Global,
+    words: &'a [&'a str],
+    input: R,
+    output: &mut W,
+    errors: &mut E,
+) -> Outcome
+    ensures { HasDone (texts words.entry.now) (R.remaining input) (W.contents output.old) (W.contents output.new) result }
+{
+    match sessions_asked(alloc, words) {
+        Ok(Some(sessions)) => Outcome::Replay(replay(alloc, input, output, sessions)),
+        Ok(None) => Outcome::Misused,
+        Err(error) => outcome_of_error(&error, output, errors),
     }
 }
 
@@ -101,26 +118,13 @@ pub fn program<'a, R: Read + Drop, W: Write, E: Write>(
     output: &mut W,
     errors: &mut E,
 ) -> u8
+    // The status is that of an outcome, which tells what the words ask for and what was done.
+    ensures outcome { (outcome : Outcome) × (result ≡ status_of_outcome outcome)
+        × HasDone (texts words.entry.now) (R.remaining input) (W.contents output.old) (W.contents output.new) outcome }
     ensures status { IsStatus result }
     ensures silent { result ≢ DONE → result ≢ DEVICE → Keeps (W.contents output.old) (W.contents output.new) }
 {
-    let matches = match parsed(alloc, words) {
-        Ok(matches) => matches,
-        Err(error) => return tell_usage(&error, output, errors),
-    };
-    let sessions = match matches.subcommand() {
-        Some((_, given)) => given.get_one::<u16>("sessions"),
-        None => None,
-    };
-    // the parser of the argument has tested the range already
-    let Some(sessions) = sessions else {
-        return USAGE;
-    };
-    if sessions == 0 || sessions > MAX_SESSIONS {
-        return USAGE;
-    }
-    match replay(alloc, input, output, sessions) {
-        Ok(_) => DONE,
-        Err(fault) => tell(&fault, errors),
-    }
+    let outcome = outcome_of(alloc, words, input, output, errors);
+    outcome.tell(errors);
+    outcome.status()
 }

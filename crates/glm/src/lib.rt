@@ -2,7 +2,9 @@
 #![tactic(auto)]
 
 mod commands;
+mod outcomes;
 mod replaying;
 
-pub use commands::{DEVICE, DONE, NO_MEMORY, REFUSED, USAGE, program};
+pub use commands::program;
+pub use outcomes::{DEVICE, DONE, NO_MEMORY, REFUSED, USAGE};
 pub use replaying::{ToolFault, replay};
