@@ -2,6 +2,7 @@
 #![tactic(auto)]
 
 mod commands;
+pub mod laws;
 mod outcomes;
 mod replaying;
 
