@@ -1,4 +1,4 @@
--- The statuses that the program ends with.
+-- The numbers of faults, and the statuses that the program ends with.
 use Rattle.std.specs.Prelude.{◌≡◌, ◌⊎◌, ℕ}
 use Rattle.lock_trace.specs.declared.faults.TraceKind.{TraceKind}
 use Rattle.lock_trace.specs.declared.faults.TraceKind.TheVariants as kind
@@ -26,3 +26,9 @@ abbrev pub status_for : ToolFault → ℕ
 status_for (tool.Trace fault) = status_of_kind fault.kind
 status_for tool.NoMemory = NO_MEMORY
 status_for tool.Device = DEVICE
+
+-- the number of a fault
+abbrev pub number_of_fault : ToolFault → ℕ
+number_of_fault (tool.Trace fault) = 1
+number_of_fault tool.NoMemory = 2
+number_of_fault tool.Device = 3

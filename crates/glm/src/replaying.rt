@@ -5,6 +5,7 @@ ghost use Rattle.std.specs.Prelude.{◌≡◌, ◌≢◌, ℕ, ◌<◌, ◌≤�
 ghost use Rattle.lock_rules.specs.declared.calls.TheConstants.{MAX_SESSIONS};
 ghost use Rattle.lock_trace.specs.Histories.{row_of_entry};
 ghost use Rattle.glm.specs.Replays.{AreRows, IsTextFor, Replays};
+ghost use Rattle.glm.specs.Statuses.{number_of_fault};
 
 use lock_desk::{Book, NoMemory};
 use lock_trace::{TraceFault, TraceKind, TraceRow, history_text, read_trace};
@@ -24,6 +25,19 @@ pub enum ToolFault {
     /// The writer failed.
     #[error("device")]
     Device,
+}
+
+impl ToolFault {
+    /// The number of the kind of fault: 1 for a row or what kept it from being read, 2 for memory, 3 for the writer.
+    pub fn number(&self) -> u8
+        ensures { result ≡ number_of_fault self.now }
+    {
+        match self {
+            ToolFault::Trace(_) => 1,
+            ToolFault::NoMemory => 2,
+            ToolFault::Device => 3,
+        }
+    }
 }
 
 // The lock table after these rows.
