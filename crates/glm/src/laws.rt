@@ -17,10 +17,13 @@ pub fn words_ask_as_documented()
     ensures left_out { AskReplay (codes "glm" ∷ codes "replay" ∷ []) 256 }
     ensures apart { AskReplay (codes "glm" ∷ codes "replay" ∷ codes "--sessions" ∷ codes "7" ∷ []) 7 }
     ensures attached { AskReplay (codes "glm" ∷ codes "replay" ∷ codes "--sessions=256" ∷ []) 256 }
+    ensures plus { AskReplay (codes "glm" ∷ codes "replay" ∷ codes "--sessions=+7" ∷ []) 7 }
+    ensures zeros { AskReplay (codes "glm" ∷ codes "replay" ∷ codes "--sessions=007" ∷ []) 7 }
     ensures none { AskNothing (codes "glm" ∷ codes "replay" ∷ codes "--sessions" ∷ codes "0" ∷ []) }
     ensures too_many { AskNothing (codes "glm" ∷ codes "replay" ∷ codes "--sessions" ∷ codes "257" ∷ []) }
     ensures no_command { AskNothing (codes "glm" ∷ []) }
     ensures unknown { AskNothing (codes "glm" ∷ codes "serve" ∷ []) }
     ensures help { AskHelp (codes "glm" ∷ codes "--help" ∷ []) }
+    ensures help_command { AskHelp (codes "glm" ∷ codes "help" ∷ []) }
     ensures replay_help { AskHelp (codes "glm" ∷ codes "replay" ∷ codes "--help" ∷ []) }
 {}

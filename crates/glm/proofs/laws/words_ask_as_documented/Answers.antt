@@ -26,6 +26,14 @@ pub returns-clause-attached : goal.returns-clause-attached
 unfolding clap_on_literals
 returns-clause-attached c = record { whole = refl; text = codes "256"; given = refl; number = record { numeral = search rules; value = refl }; some = search rules; few = search rules }
 
+pub returns-clause-plus : goal.returns-clause-plus
+unfolding clap_on_literals
+returns-clause-plus c = record { whole = refl; text = codes "+7"; given = refl; number = record { numeral = search rules; value = refl }; some = search rules; few = search rules }
+
+pub returns-clause-zeros : goal.returns-clause-zeros
+unfolding clap_on_literals
+returns-clause-zeros c = record { whole = refl; text = codes "007"; given = refl; number = record { numeral = search rules; value = refl }; some = search rules; few = search rules }
+
 pub returns-clause-none : goal.returns-clause-none
 unfolding clap_on_literals
 returns-clause-none c = faulty _ ValueValidation [] refl (search rules)
@@ -45,6 +53,10 @@ returns-clause-unknown c = faulty _ UnknownArgument (InvalidSubcommand ∷ []) r
 pub returns-clause-help : goal.returns-clause-help
 unfolding clap_on_literals
 returns-clause-help c = inl refl
+
+pub returns-clause-help_command : goal.returns-clause-help_command
+unfolding clap_on_literals
+returns-clause-help_command c = inl refl
 
 pub returns-clause-replay_help : goal.returns-clause-replay_help
 unfolding clap_on_literals
