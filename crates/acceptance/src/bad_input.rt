@@ -1,68 +1,76 @@
 //! Input that is no trace: each fault names its row, and nothing is written.
 
 use crate::running::{replay, run_words};
+use std::process::Abort;
 use std::test::Fail;
 
-#[test]
-fn bad_rows_are_named(rt: HostRuntime) -> Result<(), Fail> {
-    for (trace, told) in [
-        ("1,rollback,,", "glm: row 1: Op\n"),
-        ("1,Begin,,\n", "glm: row 1: Op\n"),
-        ("1,begin,,\n1,lock,1", "glm: row 2: Shape\n"),
-        ("1,begin,,,\n", "glm: row 1: Shape\n"),
-        ("257,begin,,\n", "glm: row 1: Session\n"),
-        ("0,begin,,\n", "glm: row 1: Session\n"),
-        ("01,begin,,\n", "glm: row 1: Session\n"),
-        ("+1,begin,,\n", "glm: row 1: Session\n"),
-        ("18446744073709551617,begin,,\n", "glm: row 1: Session\n"),
-        (",begin,,\n", "glm: row 1: Session\n"),
-        ("x,poll,01,s\n", "glm: row 1: Session\n"),
-        ("1,commit,1,\n", "glm: row 1: Extra\n"),
-        ("1,poll,1,", "glm: row 1: Extra\n"),
-        ("1,abort,,S\n", "glm: row 1: Extra\n"),
-        ("1,convert,1,\n", "glm: row 1: Mode\n"),
-        ("1,begin,,S\n", "glm: row 1: Extra\n"),
-        ("1,release,1,S\n", "glm: row 1: Extra\n"),
-        ("1,lock,1, S\n", "glm: row 1: Mode\n"),
-        ("1,lock,1,s\n", "glm: row 1: Mode\n"),
-        ("1,lock,1,\n", "glm: row 1: Mode\n"),
-        ("\n\n1,begin,,\n\n9x,begin,,\nx\n", "glm: row 2: Session\n"),
-        (
-            "1,begin,,\r\n\"1\",lock,\"1\",\"T\"\r\n",
-            "glm: row 2: Mode\n",
-        ),
-    ] {
-        let ran = replay(&rt, trace)?;
-        assert_eq!(rt; ran.status, 1, "{trace}");
-        assert_eq!(rt; ran.errors.as_slice(), told.as_bytes(), "{trace}");
-        assert!(rt; ran.output.is_empty(), "{trace}");
+/// Replays each trace, and wants the line beside it, and nothing written.
+fn want_faults(rt: &HostRuntime, abort: &impl Abort, traces: &[(&str, &str)]) -> Result<(), Fail> {
+    for (trace, told) in traces {
+        let ran = replay(rt, trace)?;
+        assert_eq!(abort; ran.status, 1, "{trace}");
+        assert_eq!(abort; ran.errors.as_slice(), told.as_bytes(), "{trace}");
+        assert!(abort; ran.output.is_empty(), "{trace}");
     }
     Ok(())
 }
 
 #[test]
+fn bad_rows_are_named(rt: HostRuntime) -> Result<(), Fail> {
+    want_faults(
+        &rt,
+        &rt,
+        &[
+            ("1,rollback,,", "glm: row 1: Op\n"),
+            ("1,Begin,,\n", "glm: row 1: Op\n"),
+            ("1,begin,,\n1,lock,1", "glm: row 2: Shape\n"),
+            ("1,begin,,,\n", "glm: row 1: Shape\n"),
+            ("257,begin,,\n", "glm: row 1: Session\n"),
+            ("0,begin,,\n", "glm: row 1: Session\n"),
+            ("01,begin,,\n", "glm: row 1: Session\n"),
+            ("+1,begin,,\n", "glm: row 1: Session\n"),
+            ("18446744073709551617,begin,,\n", "glm: row 1: Session\n"),
+            (",begin,,\n", "glm: row 1: Session\n"),
+            ("x,poll,01,s\n", "glm: row 1: Session\n"),
+            ("1,commit,1,\n", "glm: row 1: Extra\n"),
+            ("1,poll,1,", "glm: row 1: Extra\n"),
+            ("1,abort,,S\n", "glm: row 1: Extra\n"),
+            ("1,convert,1,\n", "glm: row 1: Mode\n"),
+            ("1,begin,,S\n", "glm: row 1: Extra\n"),
+            ("1,release,1,S\n", "glm: row 1: Extra\n"),
+            ("1,lock,1, S\n", "glm: row 1: Mode\n"),
+            ("1,lock,1,s\n", "glm: row 1: Mode\n"),
+            ("1,lock,1,\n", "glm: row 1: Mode\n"),
+            ("\n\n1,begin,,\n\n9x,begin,,\nx\n", "glm: row 2: Session\n"),
+            (
+                "1,begin,,\r\n\"1\",lock,\"1\",\"T\"\r\n",
+                "glm: row 2: Mode\n",
+            ),
+        ],
+    )
+}
+
+#[test]
 fn bad_resources_are_named(rt: HostRuntime) -> Result<(), Fail> {
-    for (trace, told) in [
-        ("1,begin,,\n1,lock,01,S\n", "glm: row 2: Path LeadingZero\n"),
-        ("1,convert,1/x,S\n", "glm: row 1: Path NotANumber\n"),
-        ("1,lock,,S\n", "glm: row 1: Path Empty\n"),
-        ("1,lock,x,s\n", "glm: row 1: Path NotANumber\n"),
-        ("1,lock,4294967296,S\n", "glm: row 1: Path TooLarge\n"),
-        ("1,lock,/,S\n", "glm: row 1: Path Empty\n"),
-        ("1,lock,1//2,S\n", "glm: row 1: Path Empty\n"),
-        ("1,lock,1/2/3/4/5,S\n", "glm: row 1: Path TooDeep\n"),
-        ("1,lock,1/x/01,S\n", "glm: row 1: Path NotANumber\n"),
-        ("1,lock,1/4294967296,S\n", "glm: row 1: Path TooLarge\n"),
-        ("1,release,1/00,\n", "glm: row 1: Path LeadingZero\n"),
-        ("1,release,,\n", "glm: row 1: Path Empty\n"),
-        ("1,release,x,S\n", "glm: row 1: Path NotANumber\n"),
-    ] {
-        let ran = replay(&rt, trace)?;
-        assert_eq!(rt; ran.status, 1, "{trace}");
-        assert_eq!(rt; ran.errors.as_slice(), told.as_bytes(), "{trace}");
-        assert!(rt; ran.output.is_empty(), "{trace}");
-    }
-    Ok(())
+    want_faults(
+        &rt,
+        &rt,
+        &[
+            ("1,begin,,\n1,lock,01,S\n", "glm: row 2: Path LeadingZero\n"),
+            ("1,convert,1/x,S\n", "glm: row 1: Path NotANumber\n"),
+            ("1,lock,,S\n", "glm: row 1: Path Empty\n"),
+            ("1,lock,x,s\n", "glm: row 1: Path NotANumber\n"),
+            ("1,lock,4294967296,S\n", "glm: row 1: Path TooLarge\n"),
+            ("1,lock,/,S\n", "glm: row 1: Path Empty\n"),
+            ("1,lock,1//2,S\n", "glm: row 1: Path Empty\n"),
+            ("1,lock,1/2/3/4/5,S\n", "glm: row 1: Path TooDeep\n"),
+            ("1,lock,1/x/01,S\n", "glm: row 1: Path NotANumber\n"),
+            ("1,lock,1/4294967296,S\n", "glm: row 1: Path TooLarge\n"),
+            ("1,release,1/00,\n", "glm: row 1: Path LeadingZero\n"),
+            ("1,release,,\n", "glm: row 1: Path Empty\n"),
+            ("1,release,x,S\n", "glm: row 1: Path NotANumber\n"),
+        ],
+    )
 }
 
 #[test]

@@ -67,34 +67,6 @@ const CONVERSION_PAST_A_WRITER: (&str, &str) = (
 ",
 );
 
-// A conversion that doesn't fit waits ahead of a writer that came before it. In the end session 1 holds SIX.
-const CONVERSION_AHEAD_OF_A_WRITER: (&str, &str) = (
-    "1,begin,,
-2,begin,,
-3,begin,,
-1,lock,1,S
-2,lock,1,S
-3,lock,1,X
-1,lock,1,IX
-2,commit,,
-1,poll,,
-3,poll,,
-1,lock,1,IS
-",
-    "0,1,begin,,,began,1
-1,2,begin,,,began,2
-2,3,begin,,,began,3
-3,1,lock,1,S,granted,S
-4,2,lock,1,S,granted,S
-5,3,lock,1,X,waiting,
-6,1,lock,1,IX,waiting,
-7,2,commit,,,committed,1
-8,1,poll,,,clear,
-9,3,poll,,,waiting,
-10,1,lock,1,IS,granted,SIX
-",
-);
-
 // Session 4 waits first, and then 2 and 1 for conversions. SIX of 2 fits beside IS of 1, and S of 1 not beside SIX.
 const CONVERSIONS_BY_ARRIVAL: (&str, &str) = (
     "1,begin,,
@@ -152,50 +124,57 @@ const WRITER_AFTER_A_READER: (&str, &str) = (
 ",
 );
 
+// A reader that came after a writer waits behind it, and is granted once the writer is gone.
 const READER_BEHIND_A_WRITER: (&str, &str) = (
-    "1,begin,,
-2,begin,,
-3,begin,,
-1,lock,1,S
-2,lock,1,X
-3,lock,1,S
-1,commit,,
-2,poll,,
-3,poll,,
+    "4,begin,,
+5,begin,,
+4,lock,6,S
+5,lock,6,X
+6,begin,,
+6,poll,,
+6,lock,6,S
+4,commit,,
+5,poll,,
+6,poll,,
+5,commit,,
+6,poll,,
 ",
-    "0,1,begin,,,began,1
-1,2,begin,,,began,2
-2,3,begin,,,began,3
-3,1,lock,1,S,granted,S
-4,2,lock,1,X,waiting,
-5,3,lock,1,S,waiting,
-6,1,commit,,,committed,1
-7,2,poll,,,clear,
-8,3,poll,,,waiting,
+    "0,4,begin,,,began,1
+1,5,begin,,,began,2
+2,4,lock,6,S,granted,S
+3,5,lock,6,X,waiting,
+4,6,begin,,,began,3
+5,6,poll,,,clear,
+6,6,lock,6,S,waiting,
+7,4,commit,,,committed,1
+8,5,poll,,,clear,
+9,6,poll,,,waiting,
+10,5,commit,,,committed,1
+11,6,poll,,,clear,
 ",
 );
 
 // A session that waits can't commit, but it can abort. What waited behind it is promoted.
 const ABORT_OF_A_WAITING_WRITER: (&str, &str) = (
-    "1,begin,,
-2,begin,,
-3,begin,,
-1,lock,1,S
-2,lock,1,X
-3,lock,1,IS
-2,commit,,
-2,abort,,
-3,poll,,
+    "9,begin,,
+9,lock,4,S
+8,begin,,
+8,lock,4,X
+7,begin,,
+7,lock,4,IS
+8,commit,,
+8,abort,,
+7,poll,,
 ",
-    "0,1,begin,,,began,1
-1,2,begin,,,began,2
-2,3,begin,,,began,3
-3,1,lock,1,S,granted,S
-4,2,lock,1,X,waiting,
-5,3,lock,1,IS,waiting,
-6,2,commit,,,refused,IsWaiting
-7,2,abort,,,aborted,0
-8,3,poll,,,clear,
+    "0,9,begin,,,began,1
+1,9,lock,4,S,granted,S
+2,8,begin,,,began,2
+3,8,lock,4,X,waiting,
+4,7,begin,,,began,3
+5,7,lock,4,IS,waiting,
+6,8,commit,,,refused,IsWaiting
+7,8,abort,,,aborted,0
+8,7,poll,,,clear,
 ",
 );
 
@@ -233,7 +212,8 @@ const REFUSED_IN_ORDER: (&str, &str) = (
 ",
 );
 
-// This pair is also the example `conversions.csv`.
+// A conversion that doesn't fit waits ahead of a writer that came before it; `books.rt` asks what is held then. This
+// pair is also the example `conversions.csv`.
 const EXAMPLE: (&str, &str) = (
     "1,begin,,
 2,begin,,
@@ -276,7 +256,6 @@ fn conversions_give_their_histories(rt: HostRuntime) -> Result<(), Fail> {
             LEAST_UPPER_BOUNDS,
             PARENTS_OF_CONVERSIONS,
             CONVERSION_PAST_A_WRITER,
-            CONVERSION_AHEAD_OF_A_WRITER,
             CONVERSIONS_BY_ARRIVAL,
             EXAMPLE,
         ],

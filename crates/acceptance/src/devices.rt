@@ -20,6 +20,27 @@ impl Write for Full {
     }
 }
 
+/// Takes so many bytes, and then fails.
+#[derive(Drop)]
+struct Short {
+    room: usize,
+}
+
+impl Write for Short {
+    fn write(&mut self, bytes: &[u8]) -> io::Result<usize> {
+        if self.room == 0 {
+            return Err(io::Error::from(ErrorKind::BrokenPipe));
+        }
+        let taken = bytes.len().min(self.room);
+        self.room -= taken;
+        Ok(taken)
+    }
+
+    fn flush(&mut self) -> io::Result<()> {
+        Ok(())
+    }
+}
+
 /// Gives a text byte by byte, and then fails.
 #[derive(Drop)]
 struct Cut {
@@ -54,6 +75,43 @@ fn a_writer_that_fails_ends_with_five(rt: HostRuntime) -> Result<(), Fail> {
     let fault = replay(rt.alloc(), input, &mut Full, 1);
     assert!(rt; fault == Err(ToolFault::Device));
     Ok(())
+}
+
+#[test]
+fn a_writer_that_fails_midway_is_a_device(rt: HostRuntime) {
+    let input = b"1,begin,,\n".as_slice();
+    let fault = replay(rt.alloc(), input, &mut Short { room: 7 }, 1);
+    assert!(rt; fault == Err(ToolFault::Device));
+    // the history has 20 bytes
+    let rows = replay(rt.alloc(), input, &mut Short { room: 20 }, 1);
+    assert!(rt; rows == Ok(1));
+}
+
+#[test]
+fn help_that_cannot_be_shown_ends_with_five(rt: HostRuntime) {
+    let mut errors = Vec::new(rt.alloc());
+    let words = ["glm", "--help"];
+    let nothing = b"".as_slice();
+    let status = program(
+        rt.alloc(),
+        words.as_slice(),
+        nothing,
+        &mut Full,
+        &mut errors,
+    );
+    assert_eq!(rt; status, 5);
+    assert_eq!(rt; errors.as_slice(), b"glm: device\n".as_slice());
+}
+
+#[test]
+fn tool_faults_have_their_numbers(rt: HostRuntime) {
+    let fault = TraceFault {
+        row: 1,
+        kind: TraceKind::Op,
+    };
+    assert_eq!(rt; ToolFault::Trace(fault).number(), 1);
+    assert_eq!(rt; ToolFault::NoMemory.number(), 2);
+    assert_eq!(rt; ToolFault::Device.number(), 3);
 }
 
 #[test]

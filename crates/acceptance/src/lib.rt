@@ -4,6 +4,8 @@
 #[cfg(test)]
 mod bad_input;
 #[cfg(test)]
+mod books;
+#[cfg(test)]
 mod conversions;
 #[cfg(test)]
 mod deadlocks;
@@ -15,5 +17,7 @@ mod examples;
 mod numbers;
 #[cfg(test)]
 mod running;
+#[cfg(test)]
+mod sessions;
 #[cfg(test)]
 mod usage;
