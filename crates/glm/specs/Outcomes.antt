@@ -2,8 +2,6 @@
 use Rattle.std.specs.Prelude.{◌≡◌, ◌≢◌, ℕ, List, Option, Some, Result, Ok, Err, IfErr}
 use Rattle.std.specs.Io.KnownBytes.{Keeps}
 use Rattle.clap.specs.Walk.{Text}
-use Rattle.clap.specs.declared.error.kind.ErrorKind.{ErrorKind}
-use Rattle.clap.specs.declared.error.kind.ErrorKind.TheVariants as error
 use Rattle.glm.specs.declared.replaying.ToolFault.{ToolFault}
 use Rattle.glm.specs.declared.replaying.ToolFault.TheVariants as tool
 use Rattle.glm.specs.declared.outcomes.Outcome.{Outcome}
@@ -37,11 +35,3 @@ HasDone words input old new outcome.HelpShown = AskHelp words
 HasDone words input old new outcome.HelpFailed = AskHelp words
 HasDone words input old new outcome.Misused = AskNothing words × Keeps old new
 HasDone words input old new outcome.OutOfMemory = Keeps old new
-
--- what an error of this kind comes to
-abbrev pub IsOutcomeOfError : ErrorKind → Option (List ℕ) → Option (List ℕ) → Outcome → Type 0
-IsOutcomeOfError kind old new (outcome.Replay answer) = ⊥
-IsOutcomeOfError kind old new outcome.HelpShown = kind ≡ error.DisplayHelp
-IsOutcomeOfError kind old new outcome.HelpFailed = kind ≡ error.DisplayHelp
-IsOutcomeOfError kind old new outcome.Misused = (kind ≢ error.DisplayHelp) × (kind ≢ error.OutOfMemory) × Keeps old new
-IsOutcomeOfError kind old new outcome.OutOfMemory = (kind ≡ error.OutOfMemory) × Keeps old new

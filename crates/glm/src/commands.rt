@@ -9,7 +9,8 @@ ghost use Rattle.clap.specs.Walk.{texts};
 ghost use Rattle.glm.specs.declared.outcomes.Outcome.{Outcome};
 ghost use Rattle.glm.specs.declared.outcomes.TheConstants.{DONE, DEVICE};
 ghost use Rattle.glm.specs.CommandLine.{AskReplay, IsTextOfNumber, faults_of, glm_command, sessions_in};
-ghost use Rattle.glm.specs.Outcomes.{HasDone, IsOutcomeOfError, status_of_outcome};
+ghost use Rattle.glm.specs.Outcomes.{HasDone, status_of_outcome};
+ghost use Rattle.glm.specs.ParserErrors.{IsOutcomeOfError};
 ghost use Rattle.glm.specs.Statuses.{IsStatus};
 
 use crate::outcomes::Outcome;
