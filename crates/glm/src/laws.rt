@@ -3,6 +3,7 @@
 
 ghost use Rattle.std.specs.Prelude.{◌≡◌, ℕ, List, [], ◌∷◌, codes};
 ghost use Rattle.clap.specs.Walk.{Text};
+ghost use Rattle.lock_rules.specs.declared.calls.TheConstants.{MAX_SESSIONS};
 ghost use Rattle.glm.specs.CommandLine.{AskHelp, AskNothing, AskReplay};
 
 /// Words ask for one number of sessions at most, and those that ask for a replay don't ask for help.
@@ -11,10 +12,10 @@ pub fn words_ask_for_one_thing()
     ensures replay_or_help { (words : List Text) (n : ℕ) → AskReplay words n → ¬ AskHelp words }
 {}
 
-/// Words, with what they ask for: the number of sessions is 256 where it is left out, and it is refused below 1 and
-/// above 256.
+/// Words, with what they ask for: the number of sessions is the greatest that there can be where it is left out, and it
+/// is refused below 1 and above that.
 pub fn words_ask_as_documented()
-    ensures left_out { AskReplay (codes "glm" ∷ codes "replay" ∷ []) 256 }
+    ensures left_out { AskReplay (codes "glm" ∷ codes "replay" ∷ []) MAX_SESSIONS }
     ensures apart { AskReplay (codes "glm" ∷ codes "replay" ∷ codes "--sessions" ∷ codes "7" ∷ []) 7 }
     ensures attached { AskReplay (codes "glm" ∷ codes "replay" ∷ codes "--sessions=256" ∷ []) 256 }
     ensures plus { AskReplay (codes "glm" ∷ codes "replay" ∷ codes "--sessions=+7" ∷ []) 7 }
