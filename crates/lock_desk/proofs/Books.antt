@@ -3,6 +3,7 @@ use Rattle.std.proofs.Common.{◌≡◌, ℕ, zero, suc, ◌+◌, ◌≤◌, Lis
 use Rattle.std.specs.Prelude.{vec_len}
 use Rattle.std.specs.List.{All}
 use Rattle.std.proofs.lemmas.List.Elements.{All-push}
+use Rattle.waits_for.specs.declared.TheConstants.{MAX_SESSIONS}
 use Rattle.lock_rules.specs.declared.calls.Entry.{Entry}
 use Rattle.lock_rules.specs.declared.calls.Call.{Call}
 use Rattle.lock_rules.specs.declared.calls.Reply.{Reply}
@@ -19,11 +20,13 @@ use Rattle.lock_desk.specs.Kept.{IsKept, IsEntryWithin}
 
 -- one entry more
 pub kept-more : (a : Inside) (es : List Entry) (session : ℕ) (call : Call) (reply : Reply) → a.history.items ≡ es ++ record { session = session; call = call; reply = reply } ∷ []
-    → IsLegal es → All (IsEntryWithin a.sessions) es → 1 ≤ session → session ≤ a.sessions
+    → 1 ≤ a.sessions → a.sessions ≤ MAX_SESSIONS → IsLegal es → All (IsEntryWithin a.sessions) es → 1 ≤ session → session ≤ a.sessions
     → reply ≡ (step (state_of es) session call).reply → Shows a.desk (step (state_of es) session call).state → IsWhole a.desk → IsReadyDesk a.desk → vec_len a.desk.rows ≡ a.sessions + 1 → a.desk.count ≤ length es + 1 → IsKept a
-kept-more a es session call reply h legal within some most same shows whole ready rows counted =
+kept-more a es session call reply h any few legal within some most same shows whole ready rows counted =
     let e : Entry = record { session = session; call = call; reply = reply } in
     record {
+      some = any;
+      few = few;
       legal = subst IsLegal (sym h) (legal-push es e legal same);
       within = subst (All (IsEntryWithin a.sessions)) (sym h) (All-push (IsEntryWithin a.sessions) es e within (record { some = some; within = most }));
       shows = subst (λ (xs : List Entry). Shows a.desk (state_of xs)) (sym h) (subst (Shows a.desk) (sym (state_of-push es e)) shows);
@@ -34,15 +37,17 @@ kept-more a es session call reply h legal within some most same shows whole read
     }
 
 -- the same history
-pub kept-same : (a : Inside) (es : List Entry) → a.history.items ≡ es → IsLegal es → All (IsEntryWithin a.sessions) es → Shows a.desk (state_of es) → IsWhole a.desk → IsReadyDesk a.desk → vec_len a.desk.rows ≡ a.sessions + 1 → (n : ℕ) → n ≡ (state_of es).count → n ≤ length es → IsKept a
-kept-same a es h legal within shows whole ready rows n c few = record {
+pub kept-same : (a : Inside) (es : List Entry) → a.history.items ≡ es → 1 ≤ a.sessions → a.sessions ≤ MAX_SESSIONS → IsLegal es → All (IsEntryWithin a.sessions) es → Shows a.desk (state_of es) → IsWhole a.desk → IsReadyDesk a.desk → vec_len a.desk.rows ≡ a.sessions + 1 → (n : ℕ) → n ≡ (state_of es).count → n ≤ length es → IsKept a
+kept-same a es h any few legal within shows whole ready rows n c least = record {
+  some = any;
+  few = few;
   legal = subst IsLegal (sym h) legal;
   within = subst (All (IsEntryWithin a.sessions)) (sym h) within;
   shows = subst (λ (xs : List Entry). Shows a.desk (state_of xs)) (sym h) shows;
   whole = whole;
   ready = ready;
   rows = rows;
-  counted = let k = ap length h in let m = shows.count in omega (arith, k, m, c, few);
+  counted = let k = ap length h in let m = shows.count in omega (arith, k, m, c, least);
 }
 
 -- one entry more allows one transaction more

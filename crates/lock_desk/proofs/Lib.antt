@@ -24,3 +24,4 @@ pub mod Rounds
 pub mod Few
 pub mod Ends
 pub mod Books
+pub mod Batches

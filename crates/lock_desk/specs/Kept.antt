@@ -1,6 +1,7 @@
 -- What contracts see of a book, and what it keeps.
 use Rattle.std.specs.Prelude.{◌≡◌, ℕ, ◌+◌, ◌≤◌, List, length, vec_len}
 use Rattle.std.specs.List.{All}
+use Rattle.waits_for.specs.declared.TheConstants.{MAX_SESSIONS}
 use Rattle.lock_rules.specs.declared.calls.Entry.{Entry}
 use Rattle.lock_rules.specs.Legal.{state_of, IsLegal}
 use Rattle.lock_desk.specs.Changes.{IsWhole}
@@ -23,6 +24,8 @@ told_of a = record { sessions = a.sessions; history = a.history.items }
 
 -- the history is legal, and the desk shows the state that it leads to
 pub record IsKept (a : Inside) : Type 0 where
+  pub some : 1 ≤ a.sessions
+  pub few : a.sessions ≤ MAX_SESSIONS
   pub legal : IsLegal a.history.items
   pub within : All (IsEntryWithin a.sessions) a.history.items
   pub shows : Shows a.desk (state_of a.history.items)

@@ -5,3 +5,4 @@ pub mod Finding
 pub mod Ready
 pub mod Shows
 pub mod Kept
+pub mod Batches

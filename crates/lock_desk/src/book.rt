@@ -1,6 +1,6 @@
 //! The book: the desk with its history.
 
-ghost use Rattle.std.specs.Prelude.{◌≡◌, ℕ, ◌+◌, ◌<◌, ◌≤◌, List, [], ◌∷◌, ◌++◌, IfOk, OnOk, OnErr};
+ghost use Rattle.std.specs.Prelude.{◌≡◌, ℕ, ◌+◌, ◌<◌, ◌≤◌, List, [], ◌∷◌, ◌++◌, length, map, take, drop, IfOk, OnOk, OnErr};
 ghost use Rattle.std.specs.List.{All};
 ghost use Rattle.lock_rules.specs.State.{held_mode, holders};
 ghost use Rattle.lock_rules.specs.Step.{step};
@@ -8,8 +8,10 @@ ghost use Rattle.lock_rules.specs.declared.calls.Entry.{Entry as EntryValue};
 ghost use Rattle.lock_rules.specs.Legal.{state_of, IsLegal};
 ghost use Rattle.lock_rules.specs.Laws.{DoesGrantStand};
 ghost use Rattle.lock_rules.specs.Lawful.{IsLawfulState};
+ghost use Rattle.lock_desk.specs.Batches.{IsItemWithin, entries_from, item_of};
 ghost use Rattle.lock_desk.specs.Kept.{IsEntryWithin};
 
+use crate::batch::Item;
 use crate::desk::Desk;
 use crate::rows::new_row;
 use crate::waits::new_waits;
@@ -70,7 +72,9 @@ impl Book {
 
     /// The number that was given to `new`.
     pub fn sessions(&self) -> u16
-        ensures { result ≡ self.now.sessions }
+        ensures sessions { result ≡ self.now.sessions }
+        ensures some { 1 ≤ result }
+        ensures few { result ≤ MAX_SESSIONS }
     {
         self.sessions
     }
@@ -134,5 +138,28 @@ impl Book {
         };
         self.history.push_reserved(entry);
         Ok(reply)
+    }
+
+    /// Serves the calls of the items, one after another from the first on, writes the reply of each into its item, and
+    /// says how many it served: all of them, or those before the first for which memory was refused. That item and
+    /// those after it are as before, and may be served again.
+    pub fn serve_batch(&mut self, items: &mut [Item]) -> usize
+        requires within { All (IsItemWithin self.old.sessions) items.old }
+        ensures count { result ≤ length items.old }
+        ensures history { self.new ≡ record self.old {
+          history = self.old.history ++ entries_from (state_of self.old.history) (take result items.old);
+        } }
+        ensures items { items.new ≡ map item_of (entries_from (state_of self.old.history) (take result items.old)) ++ drop result items.old }
+    {
+        let mut served = 0;
+        while served < items.len() {
+            let asked = items[served];
+            let Ok(reply) = self.serve(asked.session, asked.call) else {
+                break;
+            };
+            items[served].reply = Some(reply);
+            served += 1;
+        }
+        served
     }
 }

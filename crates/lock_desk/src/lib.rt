@@ -6,6 +6,7 @@
 //! the desk with its history, and what callers see.
 #![tactic(auto)]
 
+mod batch;
 mod book;
 mod cells;
 mod desk;
@@ -16,9 +17,10 @@ mod rows;
 mod tests;
 mod waits;
 
+pub use batch::Item;
 pub use book::Book;
 pub use lock_modes::Mode;
-pub use lock_rules::{Call, Entry, Reply, Why};
+pub use lock_rules::{Call, Entry, MAX_LOCKS, MAX_SESSIONS, Reply, Why};
 pub use lock_tree::Resource;
 
 /// The one error of this crate: a growth was refused.
