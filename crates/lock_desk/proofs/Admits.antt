@@ -1,53 +1,53 @@
--- The row of a session whose request is granted.
+-- The locker of a session whose request is granted.
 use Rattle.std.proofs.Common.{◌≡◌, ◌+◌, ℕ, Bool, true, false, cond, not, List, [], ◌∷◌, ◌++◌, length, Option, Some, None, sym, ◌∙◌, ap, arith, subst}
 use Rattle.std.specs.Prelude.{vec_len, vec_capacity}
 use Rattle.lock_rules.proofs.Lists.{same_path-true}
-use Rattle.lock_desk.specs.declared.rows.Request.{Request}
-use Rattle.lock_desk.specs.declared.rows.Row.{Row}
+use Rattle.lock_desk.specs.declared.lockers.Request.{Request}
+use Rattle.lock_desk.specs.declared.lockers.Locker.{Locker}
 use Rattle.lock_desk.specs.Cells.{has_path, AreApart}
-use Rattle.lock_desk.specs.Rows.{resource_asked, is_fresh, wanted_in, is_wanted, with_path, admitted, locks_to_come, IsOfKind, IsKeptRow, standing_of}
+use Rattle.lock_desk.specs.Lockers.{resource_asked, is_fresh, wanted_in, is_wanted, with_path, standing_after_grant, locks_to_come, IsOfKind, IsKeptLocker, standing_of}
 use Rattle.lock_desk.proofs.Standings.{apart-push}
 
-module _ (r : List ℕ) (row : Row) (kept : IsKeptRow row) (waits : is_wanted r (wanted_in row.wanted) ≡ true) where
+module _ (r : List ℕ) (locker : Locker) (kept : IsKeptLocker locker) (waits : is_wanted r (wanted_in locker.wanted) ≡ true) where
   -- what the kind of the request tells of the locks
-  kind-told : has_path r row.held.items ≡ not (is_fresh row.wanted)
-  kind-told = go row.wanted kept.kind waits
+  kind-told : has_path r locker.held.items ≡ not (is_fresh locker.wanted)
+  kind-told = go locker.wanted kept.kind waits
     where
-      go : (o : Option Request) → IsOfKind o row.held.items → is_wanted r (wanted_in o) ≡ true → has_path r row.held.items ≡ not (is_fresh o)
+      go : (o : Option Request) → IsOfKind o locker.held.items → is_wanted r (wanted_in o) ≡ true → has_path r locker.held.items ≡ not (is_fresh o)
       go None k w = absurd (cc)
-      go (Some q) k w = subst (λ (x : List ℕ). has_path x row.held.items ≡ not (is_fresh (Some q))) (same_path-true (resource_asked q) r w) k
+      go (Some q) k w = subst (λ (x : List ℕ). has_path x locker.held.items ≡ not (is_fresh (Some q))) (same_path-true (resource_asked q) r w) k
 
-  module _ (new : Row) (transaction : new.transaction ≡ row.transaction) (gone : new.wanted ≡ None) where
-    with-held : (b : Bool) → has_path r row.held.items ≡ b → new.held.items ≡ cond b row.held.items (row.held.items ++ r ∷ []) → standing_of new ≡ admitted r (standing_of row)
+  module _ (new : Locker) (transaction : new.transaction ≡ locker.transaction) (gone : new.wanted ≡ None) where
+    with-held : (b : Bool) → has_path r locker.held.items ≡ b → new.held.items ≡ cond b locker.held.items (locker.held.items ++ r ∷ []) → standing_of new ≡ standing_after_grant r (standing_of locker)
     with-held b e held =
-        let h : new.held.items ≡ with_path r row.held.items = held ∙ ap (λ (c : Bool). cond c row.held.items (row.held.items ++ r ∷ [])) (sym e) in
+        let h : new.held.items ≡ with_path r locker.held.items = held ∙ ap (λ (c : Bool). cond c locker.held.items (locker.held.items ++ r ∷ [])) (sym e) in
         λ i. record { transaction = transaction i; held = h i; wanted = wanted_in (gone i) }
 
     -- a fresh request brings a lock
-    module _ (is : is_fresh row.wanted ≡ true) (held : new.held.items ≡ row.held.items ++ r ∷ []) where
-      new-path : has_path r row.held.items ≡ false
+    module _ (is : is_fresh locker.wanted ≡ true) (held : new.held.items ≡ locker.held.items ++ r ∷ []) where
+      new-path : has_path r locker.held.items ≡ false
       new-path = kind-told ∙ ap not is
 
-      pub fresh-standing : standing_of new ≡ admitted r (standing_of row)
+      pub fresh-standing : standing_of new ≡ standing_after_grant r (standing_of locker)
       fresh-standing = with-held false new-path held
 
-      pub fresh-kept : vec_len new.held ≡ vec_len row.held + 1 → vec_capacity new.held ≡ vec_capacity row.held → IsKeptRow new
+      pub fresh-kept : vec_len new.held ≡ vec_len locker.held + 1 → vec_capacity new.held ≡ vec_capacity locker.held → IsKeptLocker new
       fresh-kept len cap =
-          let one : locks_to_come row.wanted ≡ 1 = ap (λ (b : Bool). cond b 1 0) is in
+          let one : locks_to_come locker.wanted ≡ 1 = ap (λ (b : Bool). cond b 1 0) is in
           let none : locks_to_come new.wanted ≡ 0 = ap locks_to_come gone in
           record {
-            apart = subst AreApart (sym held) (apart-push row.held.items r kept.apart new-path);
+            apart = subst AreApart (sym held) (apart-push locker.held.items r kept.apart new-path);
             kind = rw gone tt;
             room = omega (arith, len, cap, kept.room, one, none);
-            few = omega (arith, kept.few, one, none, len, new.held.ok.0, row.held.ok.0);
+            few = omega (arith, kept.few, one, none, len, new.held.ok.0, locker.held.ok.0);
           }
 
     -- and a conversion none
-    module _ (is : is_fresh row.wanted ≡ false) (held : new.held ≡ row.held) where
-      pub converted-standing : standing_of new ≡ admitted r (standing_of row)
+    module _ (is : is_fresh locker.wanted ≡ false) (held : new.held ≡ locker.held) where
+      pub converted-standing : standing_of new ≡ standing_after_grant r (standing_of locker)
       converted-standing = with-held true (kind-told ∙ ap not is) (ap (λ v. v.items) held)
 
-      pub converted-kept : IsKeptRow new
+      pub converted-kept : IsKeptLocker new
       converted-kept =
           let none : locks_to_come new.wanted ≡ 0 = ap locks_to_come gone in
           let len = ap (λ v. vec_len v) held in

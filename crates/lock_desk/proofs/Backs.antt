@@ -7,12 +7,12 @@ use Rattle.std.proofs.lemmas.List.Elements.{All-set, All-get_or}
 use Rattle.lock_tree.specs.Paths.{same_path}
 use Rattle.lock_rules.proofs.Lists.{same_path-refl, same_path_tells}
 use Rattle.lock_desk.specs.declared.cells.Part.TheVariants as part
-use Rattle.lock_desk.specs.declared.rows.Request.{Request}
-use Rattle.lock_desk.specs.declared.rows.Row.{Row}
+use Rattle.lock_desk.specs.declared.lockers.Request.{Request}
+use Rattle.lock_desk.specs.declared.lockers.Locker.{Locker}
 use Rattle.lock_desk.specs.declared.desk.Desk.{Desk}
-use Rattle.lock_desk.specs.Cells.{View, has_claim, given_up, freed_view, has_path, AreApart, CellsBecame}
-use Rattle.lock_desk.specs.Rows.{Standing, wanted_in, standing_of, locks_to_come, IsKeptRow, AreSameOrAdmitted, DoAgree}
-use Rattle.lock_desk.specs.Changes.{seen, standings, standing, unlocked_view, IsWhole, HasGivenBack, HasGivenBackAll}
+use Rattle.lock_desk.specs.Cells.{View, has_session, view_after_giving_up, view_after_freeing, has_path, AreApart, CellsBecame}
+use Rattle.lock_desk.specs.Lockers.{Standing, wanted_in, standing_of, locks_to_come, IsKeptLocker, AreSameOrGranted, DoAgree}
+use Rattle.lock_desk.specs.Changes.{view_at, standings, standing, view_after_unlock, IsWhole, HasGivenBack, HasGivenBackAll}
 use Rattle.lock_desk.proofs.Standings.{standing-here, apart-pop, has_path-push}
 use Rattle.lock_desk.proofs.Wholes.{apart-at, GivesUp}
 use Rattle.lock_desk.proofs.Frees.{gives-last, freed-agree, freed-own, has-freed, freed-whole}
@@ -24,53 +24,53 @@ none-in (Some q) h = absurd (cc)
 
 -- the last lock goes
 
-module _ (d : Desk) (s : ℕ) (r : List ℕ) (row new : Row) (w : IsWhole d) (lt : s < length d.rows.items) (at : row ≡ get_or d.rows.items s row)
-    (pops : row.held.items ≡ new.held.items ++ r ∷ []) (transaction : new.transaction ≡ row.transaction) (wanted : new.wanted ≡ row.wanted) (idle : (standing s d).wanted ≡ None) where
-  kept : IsKeptRow row
-  kept = subst IsKeptRow (sym at) (All-get_or IsKeptRow d.rows.items s row lt w.rows)
+module _ (d : Desk) (s : ℕ) (r : List ℕ) (locker new : Locker) (w : IsWhole d) (lt : s < length d.lockers.items) (at : locker ≡ get_or d.lockers.items s locker)
+    (pops : locker.held.items ≡ new.held.items ++ r ∷ []) (transaction : new.transaction ≡ locker.transaction) (wanted : new.wanted ≡ locker.wanted) (idle : (standing s d).wanted ≡ None) where
+  kept : IsKeptLocker locker
+  kept = subst IsKeptLocker (sym at) (All-get_or IsKeptLocker d.lockers.items s locker lt w.lockers)
 
-  waits-not : (standing_of row).wanted ≡ None
-  waits-not = ap (λ (x : Standing). x.wanted) (sym (standing-here d.rows.items s row lt at)) ∙ idle
+  waits-not : (standing_of locker).wanted ≡ None
+  waits-not = ap (λ (x : Standing). x.wanted) (sym (standing-here d.lockers.items s locker lt at)) ∙ idle
 
-  gives : GivesUp part.Lock r (standing_of row) (standing_of new)
-  gives = gives-last r (standing_of row) (standing_of new) kept.apart transaction (ap wanted_in wanted) pops
+  gives : GivesUp part.Lock r (standing_of locker) (standing_of new)
+  gives = gives-last r (standing_of locker) (standing_of new) kept.apart transaction (ap wanted_in wanted) pops
 
-  -- the row without the lock agrees with the cell that its holder has left
-  pub back-agree : DoAgree r (given_up part.Lock s (seen r d)) (map standing_of (set d.rows.items s new))
-  back-agree = freed-agree d part.Lock s r row new lt at gives w
+  -- the locker without the lock agrees with the cell that its holder has left
+  pub back-agree : DoAgree r (view_after_giving_up part.Lock s (view_at r d)) (map standing_of (set d.lockers.items s new))
+  back-agree = freed-agree d part.Lock s r locker new lt at gives w
 
-  -- the rows are kept
-  pub back-rows : vec_len new.held + 1 ≡ vec_len row.held → vec_capacity new.held ≡ vec_capacity row.held → All IsKeptRow (set d.rows.items s new)
-  back-rows len cap =
+  -- the lockers are kept
+  pub back-lockers : vec_len new.held + 1 ≡ vec_len locker.held → vec_capacity new.held ≡ vec_capacity locker.held → All IsKeptLocker (set d.lockers.items s new)
+  back-lockers len cap =
       let one = ap locks_to_come wanted in
-      let none : new.wanted ≡ None = wanted ∙ none-in row.wanted waits-not in
-      All-set IsKeptRow d.rows.items s new (record {
+      let none : new.wanted ≡ None = wanted ∙ none-in locker.wanted waits-not in
+      All-set IsKeptLocker d.lockers.items s new (record {
         apart = (apart-pop new.held.items r (subst AreApart pops kept.apart)).0;
         kind = rw none tt;
         room = omega (arith, len, cap, kept.room, one);
-        few = omega (arith, len, kept.few, one, new.held.ok.0, row.held.ok.0);
-      }) w.rows
+        few = omega (arith, len, kept.few, one, new.held.ok.0, locker.held.ok.0);
+      }) w.lockers
 
   module _ (e : Desk) (count : e.count ≡ d.count)
-      (b : CellsBecame r (freed_view part.Lock s (seen r d)) d.cells.entries e.cells.entries) (agree : DoAgree r (freed_view part.Lock s (seen r d)) (standings e)) (rows : All IsKeptRow e.rows.items) (granted : AreSameOrAdmitted r (map standing_of (set d.rows.items s new)) (standings e)) where
+      (b : CellsBecame r (view_after_freeing part.Lock s (view_at r d)) d.cells.entries e.cells.entries) (agree : DoAgree r (view_after_freeing part.Lock s (view_at r d)) (standings e)) (lockers : All IsKeptLocker e.lockers.items) (granted : AreSameOrGranted r (map standing_of (set d.lockers.items s new)) (standings e)) where
     none-left : (standing_of new).wanted ≡ None
     none-left = ap wanted_in wanted ∙ waits-not
 
     own : standing s e ≡ standing_of new
-    own = freed-own d part.Lock s r row new lt at gives w e none-left b agree rows granted
+    own = freed-own d part.Lock s r locker new lt at gives w e none-left b agree lockers granted
 
     -- what is seen is what a release brings
     pub back-gives : HasGivenBack s d e
     back-gives = record {
       resource = r;
-      held = ap (λ (x : Standing). x.held) (standing-here d.rows.items s row lt at) ∙ (pops ∙ sym (ap (λ (x : Standing). x.held ++ r ∷ []) own));
+      held = ap (λ (x : Standing). x.held) (standing-here d.lockers.items s locker lt at) ∙ (pops ∙ sym (ap (λ (x : Standing). x.held ++ r ∷ []) own));
       idle = ap (λ (x : Standing). x.wanted) own ∙ none-left;
-      freed = has-freed d part.Lock s r row new lt at gives w e none-left b agree rows granted count;
+      freed = has-freed d part.Lock s r locker new lt at gives w e none-left b agree lockers granted count;
     }
 
     -- and the desk is whole
     pub back-whole : IsWhole e
-    back-whole = freed-whole d part.Lock s r row new lt at gives w e none-left b agree rows granted
+    back-whole = freed-whole d part.Lock s r locker new lt at gives w e none-left b agree lockers granted
 
 -- lock after lock
 
@@ -78,9 +78,9 @@ module _ (d : Desk) (s : ℕ) (r : List ℕ) (row new : Row) (w : IsWhole d) (lt
 pub back-none : (s : ℕ) (d : Desk) → IsWhole d → (standing s d).wanted ≡ None → HasGivenBackAll s d d
 back-none s d w idle = record { count = refl; idle = idle; transactions = λ u. refl; views = λ q. go q (has_path q (standing s d).held) refl }
   where
-    go : (q : List ℕ) (b : Bool) → has_path q (standing s d).held ≡ b → seen q d ≡ cond b (seen q d) (unlocked_view s (seen q d))
+    go : (q : List ℕ) (b : Bool) → has_path q (standing s d).held ≡ b → view_at q d ≡ cond b (view_at q d) (view_after_unlock s (view_at q d))
     go q true e = refl
-    go q false e = sym (ap (λ (c : Bool). cond c (freed_view part.Lock s (seen q d)) (seen q d)) (sym ((w.agree q).held s) ∙ e))
+    go q false e = sym (ap (λ (c : Bool). cond c (view_after_freeing part.Lock s (view_at q d)) (view_at q d)) (sym ((w.agree q).held s) ∙ e))
 
 -- one lock more was given back
 pub back-more : (s : ℕ) (d e f : Desk) → IsWhole e → HasGivenBackAll s d e → HasGivenBack s e f → HasGivenBackAll s d f
@@ -90,8 +90,8 @@ back-more s d e f w h g = record {
   transactions = λ u. g.freed.transactions u ∙ h.transactions u;
   views = λ q. elim (same_path_tells g.resource q) [
     | inl k ↦ here q k.0 k.1
-    | inr k ↦ g.freed.views q ∙ (ap (λ (b : Bool). cond b (freed_view part.Lock s (seen g.resource e)) (seen q e)) k
-        ∙ (h.views q ∙ ap (λ (b : Bool). cond b (seen q d) (unlocked_view s (seen q d))) (ap (has_path q) g.held ∙ has_path-other q k)))
+    | inr k ↦ g.freed.views q ∙ (ap (λ (b : Bool). cond b (view_after_freeing part.Lock s (view_at g.resource e)) (view_at q e)) k
+        ∙ (h.views q ∙ ap (λ (b : Bool). cond b (view_at q d) (view_after_unlock s (view_at q d))) (ap (has_path q) g.held ∙ has_path-other q k)))
   ];
 }
   where
@@ -103,23 +103,23 @@ back-more s d e f w h g = record {
     has_path-other q n = has_path-push q g.resource (standing s f).held ∙ or-same (has_path q (standing s f).held) (same_path g.resource q) n
 
     gone : has_path g.resource (standing s f).held ≡ false
-    gone = (apart-pop (standing s f).held g.resource (subst AreApart g.held (apart-at e.rows.items s w.rows))).1
+    gone = (apart-pop (standing s f).held g.resource (subst AreApart g.held (apart-at e.lockers.items s w.lockers))).1
 
     had : has_path g.resource (standing s e).held ≡ true
     had = ap (has_path g.resource) g.held ∙ (has_path-push g.resource g.resource (standing s f).held ∙ or_right (has_path g.resource (standing s f).held) (same_path g.resource g.resource) (same_path-refl g.resource))
 
-    before : seen g.resource e ≡ seen g.resource d
-    before = h.views g.resource ∙ ap (λ (b : Bool). cond b (seen g.resource d) (unlocked_view s (seen g.resource d))) had
+    before : view_at g.resource e ≡ view_at g.resource d
+    before = h.views g.resource ∙ ap (λ (b : Bool). cond b (view_at g.resource d) (view_after_unlock s (view_at g.resource d))) had
 
-    holds : has_claim s (seen g.resource d).holders ≡ true
-    holds = ap (λ (v : View). has_claim s v.holders) (sym before) ∙ (sym ((w.agree g.resource).held s) ∙ had)
+    holds : has_session s (view_at g.resource d).holders ≡ true
+    holds = ap (λ (v : View). has_session s v.holders) (sym before) ∙ (sym ((w.agree g.resource).held s) ∙ had)
 
-    at-it : seen g.resource f ≡ cond (has_path g.resource (standing s f).held) (seen g.resource d) (unlocked_view s (seen g.resource d))
+    at-it : view_at g.resource f ≡ cond (has_path g.resource (standing s f).held) (view_at g.resource d) (view_after_unlock s (view_at g.resource d))
     at-it =
-        g.freed.views g.resource ∙ (ap (λ (b : Bool). cond b (freed_view part.Lock s (seen g.resource e)) (seen g.resource e)) (same_path-refl g.resource)
-        ∙ (ap (λ (v : View). freed_view part.Lock s v) before
-        ∙ sym (ap (λ (b : Bool). cond b (seen g.resource d) (unlocked_view s (seen g.resource d))) gone
-        ∙ ap (λ (b : Bool). cond b (freed_view part.Lock s (seen g.resource d)) (seen g.resource d)) holds)))
+        g.freed.views g.resource ∙ (ap (λ (b : Bool). cond b (view_after_freeing part.Lock s (view_at g.resource e)) (view_at g.resource e)) (same_path-refl g.resource)
+        ∙ (ap (λ (v : View). view_after_freeing part.Lock s v) before
+        ∙ sym (ap (λ (b : Bool). cond b (view_at g.resource d) (view_after_unlock s (view_at g.resource d))) gone
+        ∙ ap (λ (b : Bool). cond b (view_after_freeing part.Lock s (view_at g.resource d)) (view_at g.resource d)) holds)))
 
-    here : (q : List ℕ) → same_path g.resource q ≡ true → g.resource ≡ q → seen q f ≡ cond (has_path q (standing s f).held) (seen q d) (unlocked_view s (seen q d))
-    here q t e = subst (λ (p : List ℕ). seen p f ≡ cond (has_path p (standing s f).held) (seen p d) (unlocked_view s (seen p d))) e at-it
+    here : (q : List ℕ) → same_path g.resource q ≡ true → g.resource ≡ q → view_at q f ≡ cond (has_path q (standing s f).held) (view_at q d) (view_after_unlock s (view_at q d))
+    here q t e = subst (λ (p : List ℕ). view_at p f ≡ cond (has_path p (standing s f).held) (view_at p d) (view_after_unlock s (view_at p d))) e at-it

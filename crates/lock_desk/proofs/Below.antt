@@ -8,7 +8,7 @@ use Rattle.lock_tree.specs.Paths.{is_ancestor, same_path}
 use Rattle.lock_rules.specs.State as rules
 use Rattle.lock_rules.proofs.Lists.{same_path-refl, same_path_tells}
 use Rattle.lock_desk.specs.Cells.{has_path}
-use Rattle.lock_desk.specs.Rows.{has_below}
+use Rattle.lock_desk.specs.Lockers.{has_below}
 
 -- a resource below, of those that are told
 pub record Below (r : List ℕ) (has : List ℕ → Bool) : Type 0 where

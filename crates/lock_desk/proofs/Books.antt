@@ -11,8 +11,8 @@ use Rattle.lock_rules.specs.Step.{step}
 use Rattle.lock_rules.specs.Legal.{state_of, IsLegal}
 use Rattle.lock_rules.proofs.Histories.{legal-push, state_of-push}
 use Rattle.lock_desk.specs.declared.book.Book.TheInside.{Inside}
-use Rattle.lock_desk.specs.declared.rows.Row.{Row}
-use Rattle.lock_desk.specs.Rows.{no_standing, standing_of, standing_at}
+use Rattle.lock_desk.specs.declared.lockers.Locker.{Locker}
+use Rattle.lock_desk.specs.Lockers.{no_standing, standing_of, standing_at}
 use Rattle.lock_desk.specs.Changes.{IsWhole}
 use Rattle.lock_desk.specs.Ready.{IsReadyDesk}
 use Rattle.lock_desk.specs.Shows.{Shows}
@@ -21,8 +21,8 @@ use Rattle.lock_desk.specs.Kept.{IsKept, IsEntryWithin}
 -- one entry more
 pub kept-more : (a : Inside) (es : List Entry) (session : ℕ) (call : Call) (reply : Reply) → a.history.items ≡ es ++ record { session = session; call = call; reply = reply } ∷ []
     → 1 ≤ a.sessions → a.sessions ≤ MAX_SESSIONS → IsLegal es → All (IsEntryWithin a.sessions) es → 1 ≤ session → session ≤ a.sessions
-    → reply ≡ (step (state_of es) session call).reply → Shows a.desk (step (state_of es) session call).state → IsWhole a.desk → IsReadyDesk a.desk → vec_len a.desk.rows ≡ a.sessions + 1 → a.desk.count ≤ length es + 1 → IsKept a
-kept-more a es session call reply h any few legal within some most same shows whole ready rows counted =
+    → reply ≡ (step (state_of es) session call).reply → Shows a.desk (step (state_of es) session call).state → IsWhole a.desk → IsReadyDesk a.desk → vec_len a.desk.lockers ≡ a.sessions + 1 → a.desk.count ≤ length es + 1 → IsKept a
+kept-more a es session call reply h any few legal within some most same shows whole ready lockers counted =
     let e : Entry = record { session = session; call = call; reply = reply } in
     record {
       some = any;
@@ -32,13 +32,13 @@ kept-more a es session call reply h any few legal within some most same shows wh
       shows = subst (λ (xs : List Entry). Shows a.desk (state_of xs)) (sym h) (subst (Shows a.desk) (sym (state_of-push es e)) shows);
       whole = whole;
       ready = ready;
-      rows = rows;
+      lockers = lockers;
       counted = let n = ap length h in omega (arith, n, length-append es (e ∷ []), counted);
     }
 
 -- the same history
-pub kept-same : (a : Inside) (es : List Entry) → a.history.items ≡ es → 1 ≤ a.sessions → a.sessions ≤ MAX_SESSIONS → IsLegal es → All (IsEntryWithin a.sessions) es → Shows a.desk (state_of es) → IsWhole a.desk → IsReadyDesk a.desk → vec_len a.desk.rows ≡ a.sessions + 1 → (n : ℕ) → n ≡ (state_of es).count → n ≤ length es → IsKept a
-kept-same a es h any few legal within shows whole ready rows n c least = record {
+pub kept-same : (a : Inside) (es : List Entry) → a.history.items ≡ es → 1 ≤ a.sessions → a.sessions ≤ MAX_SESSIONS → IsLegal es → All (IsEntryWithin a.sessions) es → Shows a.desk (state_of es) → IsWhole a.desk → IsReadyDesk a.desk → vec_len a.desk.lockers ≡ a.sessions + 1 → (n : ℕ) → n ≡ (state_of es).count → n ≤ length es → IsKept a
+kept-same a es h any few legal within shows whole ready lockers n c least = record {
   some = any;
   few = few;
   legal = subst IsLegal (sym h) legal;
@@ -46,7 +46,7 @@ kept-same a es h any few legal within shows whole ready rows n c least = record 
   shows = subst (λ (xs : List Entry). Shows a.desk (state_of xs)) (sym h) shows;
   whole = whole;
   ready = ready;
-  rows = rows;
+  lockers = lockers;
   counted = let k = ap length h in let m = shows.count in omega (arith, k, m, c, least);
 }
 
@@ -54,8 +54,8 @@ kept-same a es h any few legal within shows whole ready rows n c least = record 
 pub bound : {a b c : ℕ} → a ≤ b + 1 → b ≤ c → a ≤ c + 1
 bound h k = omega arith
 
--- one row more of no transaction
-pub none-push : (ws : List Row) (w : Row) → ((s : ℕ) → standing_at s (map standing_of ws) ≡ no_standing) → standing_of w ≡ no_standing → (s : ℕ) → standing_at s (map standing_of (ws ++ w ∷ [])) ≡ no_standing
+-- one locker more of no transaction
+pub none-push : (ws : List Locker) (w : Locker) → ((s : ℕ) → standing_at s (map standing_of ws) ≡ no_standing) → standing_of w ≡ no_standing → (s : ℕ) → standing_at s (map standing_of (ws ++ w ∷ [])) ≡ no_standing
 none-push [] w h e zero = e
 none-push [] w h e (suc s) = refl
 none-push (x ∷ ws) w h e zero = h zero

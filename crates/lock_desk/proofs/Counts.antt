@@ -1,4 +1,4 @@
--- The rows tell how many locks a session holds, and whether it waits.
+-- The lockers tell how many locks a session holds, and whether it waits.
 use Rattle.std.proofs.Common.{◌≡◌, ℕ, ◌+◌, ◌≤◌, Bool, true, false, cond, not, eqb, ◌&&◌, ◌||◌, inl, inr, List, [], ◌∷◌, ◌++◌, length, map, Option, Some, None, is_some, refl, sym, ◌∙◌, ap, arith, subst}
 use Rattle.lock_rules.proofs.Once.{none-behind}
 use Rattle.std.specs.List.{list_any}
@@ -11,8 +11,8 @@ use Rattle.lock_rules.specs.Queue.{queue, conversions, fresh_requests}
 use Rattle.lock_rules.specs.Waits.{resource_of_request}
 use Rattle.lock_rules.specs.Sound.{IsOrdered, IsSound, after, ascend, times}
 use Rattle.lock_rules.proofs.Lists.{bool_cases, same_path-refl, same_path_tells}
-use Rattle.lock_desk.specs.Cells.{has_claim, has_path, AreApart}
-use Rattle.lock_desk.specs.Rows.{is_wanted, paths_but}
+use Rattle.lock_desk.specs.Cells.{has_session, has_path, AreApart}
+use Rattle.lock_desk.specs.Lockers.{is_wanted, paths_but}
 use Rattle.lock_desk.specs.Shows.{short, claims_on}
 use Rattle.lock_desk.proofs.Tables.{held-seen}
 use Rattle.lock_desk.proofs.Below.{both-ways}
@@ -24,20 +24,20 @@ use Rattle.lock_desk.proofs.Frees.{apart-but, other-but, gone-but, less-but}
 abbrev pub waits_on : ℕ → List ℕ → List rules.Claim → Bool
 waits_on u x ws = list_any (λ q. eqb q.session u && same_path q.resource x) ws
 
-has-append : (u : ℕ) (xs ys : List rules.Claim) → has_claim u (map short (xs ++ ys)) ≡ (has_claim u (map short xs) || has_claim u (map short ys))
+has-append : (u : ℕ) (xs ys : List rules.Claim) → has_session u (map short (xs ++ ys)) ≡ (has_session u (map short xs) || has_session u (map short ys))
 has-append u [] ys = refl
-has-append u (x ∷ xs) ys = ap (λ (b : Bool). eqb x.session u || b) (has-append u xs ys) ∙ assoc (eqb x.session u) (has_claim u (map short xs)) (has_claim u (map short ys))
+has-append u (x ∷ xs) ys = ap (λ (b : Bool). eqb x.session u || b) (has-append u xs ys) ∙ assoc (eqb x.session u) (has_session u (map short xs)) (has_session u (map short ys))
   where
     assoc : (a b c : Bool) → (a || (b || c)) ≡ ((a || b) || c)
     assoc true b c = refl
     assoc false b c = refl
 
-two-kinds : (u : ℕ) (x : List ℕ) (p : rules.Claim → Bool) (ws : List rules.Claim) → (has_claim u (map short (filter (λ q. same_path q.resource x && p q) ws)) || has_claim u (map short (filter (λ q. same_path q.resource x && not (p q)) ws))) ≡ waits_on u x ws
+two-kinds : (u : ℕ) (x : List ℕ) (p : rules.Claim → Bool) (ws : List rules.Claim) → (has_session u (map short (filter (λ q. same_path q.resource x && p q) ws)) || has_session u (map short (filter (λ q. same_path q.resource x && not (p q)) ws))) ≡ waits_on u x ws
 two-kinds u x p [] = refl
 two-kinds u x p (q ∷ ws) = grind (arith, bool_cases (eqb q.session u), bool_cases (same_path q.resource x), bool_cases (p q), two-kinds u x p ws)
 
 -- who waits for a resource stands in its queue
-pub queue-has : (u : ℕ) (x : List ℕ) (t : rules.Table) → has_claim u (map short (queue t x)) ≡ waits_on u x t.requests
+pub queue-has : (u : ℕ) (x : List ℕ) (t : rules.Table) → has_session u (map short (queue t x)) ≡ waits_on u x t.requests
 queue-has u x t =
     has-append u (conversions t x) (fresh_requests t x)
     ∙ two-kinds u x (λ q. is_some (rules.held_mode t q.session x)) t.requests
@@ -76,11 +76,11 @@ waits_on-once u x (q ∷ ws) h = go (eqb q.session u) refl h (waits_on-once u x 
     go true e h next none = ap (λ (c : Bool). same_path q.resource x || c) (none (omega (arith, h)))
     go false e h next none = next (omega (arith, h))
 
--- a row tells whether its session waits
-pub waits-told : (u : ℕ) (t : rules.Table) (o : Option (List ℕ)) → ((x : List ℕ) → is_wanted x o ≡ has_claim u (map short (queue t x))) → is_some o ≡ is_some (rules.request_of u t.requests)
+-- a locker tells whether its session waits
+pub waits-told : (u : ℕ) (t : rules.Table) (o : Option (List ℕ)) → ((x : List ℕ) → is_wanted x o ≡ has_session u (map short (queue t x))) → is_some o ≡ is_some (rules.request_of u t.requests)
 waits-told u t o h = both-ways (is_some o) (is_some (rules.request_of u t.requests)) (there o h) (back (rules.request_of u t.requests) refl)
   where
-    there : (o : Option (List ℕ)) → ((x : List ℕ) → is_wanted x o ≡ has_claim u (map short (queue t x))) → is_some o ≡ true → is_some (rules.request_of u t.requests) ≡ true
+    there : (o : Option (List ℕ)) → ((x : List ℕ) → is_wanted x o ≡ has_session u (map short (queue t x))) → is_some o ≡ true → is_some (rules.request_of u t.requests) ≡ true
     there None h e = absurd (cc)
     there (Some p) h e = waits_on-some u p t.requests (sym (queue-has u p t) ∙ (sym (h p) ∙ same_path-refl p))
 
@@ -115,7 +115,7 @@ abbrev pub locks_in : ℕ → List rules.Claim → List (List ℕ)
 locks_in s cs = map (λ (c : rules.Claim). c.resource) (rules.claims_of s cs)
 
 -- they are those that are seen
-pub listed : (s : ℕ) (x : List ℕ) (cs : List rules.Claim) → has_path x (locks_in s cs) ≡ has_claim s (claims_on x cs)
+pub listed : (s : ℕ) (x : List ℕ) (cs : List rules.Claim) → has_path x (locks_in s cs) ≡ has_session s (claims_on x cs)
 listed s x [] = refl
 listed s x (c ∷ cs) = grind (arith, bool_cases (eqb c.session s), bool_cases (same_path c.resource x), listed s x cs)
 
@@ -142,6 +142,6 @@ map-length : (cs : List rules.Claim) → length (map (λ (c : rules.Claim). c.re
 map-length [] = refl
 map-length (c ∷ cs) = omega (arith, map-length cs)
 
--- a row tells how many locks its session holds
-pub locks-told : (s : ℕ) (t : rules.Table) (rs : List (List ℕ)) → IsSound t → AreApart rs → ((x : List ℕ) → has_path x rs ≡ has_claim s (claims_on x t.held)) → length rs ≡ length (rules.claims_of s t.held)
+-- a locker tells how many locks its session holds
+pub locks-told : (s : ℕ) (t : rules.Table) (rs : List (List ℕ)) → IsSound t → AreApart rs → ((x : List ℕ) → has_path x rs ≡ has_session s (claims_on x t.held)) → length rs ≡ length (rules.claims_of s t.held)
 locks-told s t rs i a h = as-long rs (locks_in s t.held) a (locks-apart s t.held i.order) (λ x. h x ∙ sym (listed s x t.held)) ∙ map-length (rules.claims_of s t.held)

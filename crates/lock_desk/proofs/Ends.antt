@@ -1,4 +1,4 @@
--- A transaction begins or ends: its row is told.
+-- A transaction begins or ends: its locker is with_transaction.
 use Rattle.std.proofs.Common.{◌≡◌, ℕ, zero, suc, ◌+◌, ◌<◌, ◌≤◌, Bool, true, false, cond, eqb, inl, inr, List, [], ◌∷◌, length, map, get_or, set, Option, Some, None, refl, sym, ◌∙◌, ap, arith, subst}
 use Rattle.lock_rules.proofs.Sound.{eqb-swap}
 use Rattle.std.specs.List.{All}
@@ -11,64 +11,64 @@ use Rattle.lock_rules.proofs.Lists.{bool_cases, same_path_tells}
 use Rattle.lock_desk.specs.declared.cells.Part.TheVariants as part
 use Rattle.lock_rules.specs.declared.calls.Transaction.{Transaction}
 use Rattle.lock_rules.specs.Waits.{doom}
-use Rattle.lock_desk.specs.declared.rows.Request.{Request}
-use Rattle.lock_desk.specs.declared.rows.Row.{Row}
+use Rattle.lock_desk.specs.declared.lockers.Request.{Request}
+use Rattle.lock_desk.specs.declared.lockers.Locker.{Locker}
 use Rattle.lock_desk.specs.declared.desk.Desk.{Desk}
-use Rattle.lock_desk.specs.Cells.{View, has_claim, given_up, freed_view, cell_view, has_path, AreApart, AreKeptCells, CellsBecame}
-use Rattle.lock_desk.specs.Rows.{Standing, resource_asked, wanted_in, standing_of, standing_at, is_wanted, locks_to_come, IsOfKind, IsKeptRow, AreSameOrAdmitted, DoAgree}
-use Rattle.lock_desk.specs.Changes.{seen, standings, standing, unlocked_view, cancelled_view, IsWhole, HasFreed, HasGivenBackAll, HasCancelled, HasDoomed, HasBegun, HasEnded}
+use Rattle.lock_desk.specs.Cells.{View, has_session, view_after_giving_up, view_after_freeing, cell_view, has_path, AreApart, AreKeptCells, CellsBecame}
+use Rattle.lock_desk.specs.Lockers.{Standing, resource_asked, wanted_in, standing_of, standing_at, is_wanted, locks_to_come, IsOfKind, IsKeptLocker, AreSameOrGranted, DoAgree}
+use Rattle.lock_desk.specs.Changes.{view_at, standings, standing, view_after_unlock, view_after_cancel, IsWhole, HasFreed, HasGivenBackAll, HasCancelled, HasDoomed, HasBegun, HasEnded}
 use Rattle.lock_desk.proofs.Standings.{standings-set, standing-here, length-standings}
 use Rattle.lock_desk.proofs.Wholes.{own-standing, other-standing, GivesUp}
 use Rattle.lock_desk.proofs.Asks.{idle-there}
 use Rattle.lock_desk.proofs.Frees.{gives-request, freed-agree, freed-own, has-freed, freed-whole}
 
 -- no session holds more than its limit
-pub few-at : (ws : List Row) (s : ℕ) → All IsKeptRow ws → length (standing_at s (map standing_of ws)).held ≤ MAX_LOCKS
+pub few-at : (ws : List Locker) (s : ℕ) → All IsKeptLocker ws → length (standing_at s (map standing_of ws)).held ≤ MAX_LOCKS
 few-at [] s k = omega arith
-few-at (w ∷ ws) zero k = let f = (All-head IsKeptRow w ws k).few in omega arith
-few-at (w ∷ ws) (suc s) k = few-at ws s (All-tail IsKeptRow w ws k)
+few-at (w ∷ ws) zero k = let f = (All-head IsKeptLocker w ws k).few in omega arith
+few-at (w ∷ ws) (suc s) k = few-at ws s (All-tail IsKeptLocker w ws k)
 
 -- the standing with this transaction
-abbrev pub told : Option Transaction → Standing → Standing
-told o x = record { transaction = o; held = x.held; wanted = x.wanted }
+abbrev pub with_transaction : Option Transaction → Standing → Standing
+with_transaction o x = record { transaction = o; held = x.held; wanted = x.wanted }
 
-module _ (d : Desk) (s : ℕ) (o : Option Transaction) (row new : Row) (e : Desk) (w : IsWhole d) (lt : s < length d.rows.items) (at : row ≡ get_or d.rows.items s row)
-    (same : standing_of new ≡ told o (standing_of row)) (held : new.held ≡ row.held) (wanted : new.wanted ≡ row.wanted) (rows : e.rows.items ≡ set d.rows.items s new) (cells : e.cells ≡ d.cells) where
-  all-told : standings e ≡ set (standings d) s (told o (standing s d))
-  all-told = ap (map standing_of) rows ∙ (standings-set d.rows.items s new ∙ ap (λ (x : Standing). set (standings d) s x) (same ∙ ap (told o) (sym (standing-here d.rows.items s row lt at))))
+module _ (d : Desk) (s : ℕ) (o : Option Transaction) (locker new : Locker) (e : Desk) (w : IsWhole d) (lt : s < length d.lockers.items) (at : locker ≡ get_or d.lockers.items s locker)
+    (same : standing_of new ≡ with_transaction o (standing_of locker)) (held : new.held ≡ locker.held) (wanted : new.wanted ≡ locker.wanted) (lockers : e.lockers.items ≡ set d.lockers.items s new) (cells : e.cells ≡ d.cells) where
+  all-told : standings e ≡ set (standings d) s (with_transaction o (standing s d))
+  all-told = ap (map standing_of) lockers ∙ (standings-set d.lockers.items s new ∙ ap (λ (x : Standing). set (standings d) s x) (same ∙ ap (with_transaction o) (sym (standing-here d.lockers.items s locker lt at))))
 
   long : s < length (standings d)
-  long = omega (arith, lt, length-standings d.rows.items)
+  long = omega (arith, lt, length-standings d.lockers.items)
 
   -- what is then said of the session
-  pub own-told : standing s e ≡ told o (standing s d)
-  own-told = ap (standing_at s) all-told ∙ own-standing (standings d) s (told o (standing s d)) long
+  pub own-told : standing s e ≡ with_transaction o (standing s d)
+  own-told = ap (standing_at s) all-told ∙ own-standing (standings d) s (with_transaction o (standing s d)) long
 
   -- and of each other
   pub other-told : (u : ℕ) → eqb s u ≡ false → standing u e ≡ standing u d
-  other-told u n = ap (standing_at u) all-told ∙ other-standing (standings d) s u (told o (standing s d)) n
+  other-told u n = ap (standing_at u) all-told ∙ other-standing (standings d) s u (with_transaction o (standing s d)) n
 
   -- both in one
-  pub each-told : (u : ℕ) → standing u e ≡ cond (eqb u s) (told o (standing u d)) (standing u d)
+  pub each-told : (u : ℕ) → standing u e ≡ cond (eqb u s) (with_transaction o (standing u d)) (standing u d)
   each-told u = elim (bool_cases (eqb u s)) [
-    | inl h ↦ let f = (Decides-eqb u s).0 h in sym (ap (λ (b : Bool). cond b (told o (standing u d)) (standing u d)) h ∙ subst (λ (i : ℕ). told o (standing i d) ≡ standing i e) (sym f) (sym own-told))
-    | inr h ↦ other-told u (eqb-swap u s h) ∙ sym (ap (λ (b : Bool). cond b (told o (standing u d)) (standing u d)) h)
+    | inl h ↦ let f = (Decides-eqb u s).0 h in sym (ap (λ (b : Bool). cond b (with_transaction o (standing u d)) (standing u d)) h ∙ subst (λ (i : ℕ). with_transaction o (standing i d) ≡ standing i e) (sym f) (sym own-told))
+    | inr h ↦ other-told u (eqb-swap u s h) ∙ sym (ap (λ (b : Bool). cond b (with_transaction o (standing u d)) (standing u d)) h)
   ]
 
-  held-told : (b : Bool) (x : Standing) → (cond b (told o x) x).held ≡ x.held
+  held-told : (b : Bool) (x : Standing) → (cond b (with_transaction o x) x).held ≡ x.held
   held-told true x = refl
   held-told false x = refl
 
-  wanted-told : (b : Bool) (x : Standing) → (cond b (told o x) x).wanted ≡ x.wanted
+  wanted-told : (b : Bool) (x : Standing) → (cond b (with_transaction o x) x).wanted ≡ x.wanted
   wanted-told true x = refl
   wanted-told false x = refl
 
-  transaction-told : (b : Bool) (x : Standing) → (cond b (told o x) x).transaction ≡ cond b o x.transaction
+  transaction-told : (b : Bool) (x : Standing) → (cond b (with_transaction o x) x).transaction ≡ cond b o x.transaction
   transaction-told true x = refl
   transaction-told false x = refl
 
   -- the cells say what they said
-  pub seen-told : (q : List ℕ) → seen q e ≡ seen q d
+  pub seen-told : (q : List ℕ) → view_at q e ≡ view_at q d
   seen-told q = ap (λ cs. cell_view q cs.entries) cells
 
   -- each holds what it held
@@ -79,26 +79,26 @@ module _ (d : Desk) (s : ℕ) (o : Option Transaction) (row new : Row) (e : Desk
   pub wanted-each : (u : ℕ) → (standing u e).wanted ≡ (standing u d).wanted
   wanted-each u = ap (λ (x : Standing). x.wanted) (each-told u) ∙ wanted-told (eqb u s) (standing u d)
 
-  -- and only the one transaction is told
+  -- and only the one transaction is with_transaction
   pub transaction-each : (u : ℕ) → (standing u e).transaction ≡ cond (eqb u s) o (standing u d).transaction
   transaction-each u = ap (λ (x : Standing). x.transaction) (each-told u) ∙ transaction-told (eqb u s) (standing u d)
 
   -- the desk stays whole
   pub told-whole : IsWhole e
   told-whole =
-      let k : IsKeptRow row = subst IsKeptRow (sym at) (All-get_or IsKeptRow d.rows.items s row lt w.rows) in
+      let k : IsKeptLocker locker = subst IsKeptLocker (sym at) (All-get_or IsKeptLocker d.lockers.items s locker lt w.lockers) in
       let to_come = ap locks_to_come wanted in
       let len = ap vec_len held in
       let cap = ap vec_capacity held in
       let long = ap (λ v. length v.items) held in
       record {
         cells = subst (λ cs. AreKeptCells cs.entries) (sym cells) w.cells;
-        rows = rw rows (All-set IsKeptRow d.rows.items s new (record {
+        lockers = rw lockers (All-set IsKeptLocker d.lockers.items s new (record {
           apart = subst (λ v. AreApart v.items) (sym held) k.apart;
-          kind = subst (λ q. IsOfKind q new.held.items) (sym wanted) (subst (λ v. IsOfKind row.wanted v.items) (sym held) k.kind);
+          kind = subst (λ q. IsOfKind q new.held.items) (sym wanted) (subst (λ v. IsOfKind locker.wanted v.items) (sym held) k.kind);
           room = omega (arith, k.room, len, cap, to_come);
           few = omega (arith, k.few, long, to_come);
-        }) w.rows);
+        }) w.lockers);
         agree = λ x. subst (λ (v : View). DoAgree x v (standings e)) (sym (seen-told x)) (record {
           held = λ u. ap (has_path x) (held-each u) ∙ (w.agree x).held u;
           wanted = λ u. ap (is_wanted x) (wanted-each u) ∙ (w.agree x).wanted u;
@@ -120,17 +120,17 @@ nothing [] h = refl
 nothing (r ∷ rs) h = absurd (omega arith)
 
 -- who waits for nothing has nothing to cancel
-pub none-cancelled : (s : ℕ) (d : Desk) → IsWhole d → (standing s d).wanted ≡ None → (q : List ℕ) → cancelled_view s (seen q d) ≡ seen q d
-none-cancelled s d w idle q = ap (λ (b : Bool). cond b (freed_view part.Request s (seen q d)) (seen q d)) (idle-there s q d w idle)
+pub none-cancelled : (s : ℕ) (d : Desk) → IsWhole d → (standing s d).wanted ≡ None → (q : List ℕ) → view_after_cancel s (view_at q d) ≡ view_at q d
+none-cancelled s d w idle q = ap (λ (b : Bool). cond b (view_after_freeing part.Request s (view_at q d)) (view_at q d)) (idle-there s q d w idle)
 
 -- where all was given back, the transaction has ended
-pub has-ended : (s : ℕ) (d f e : Desk) → IsWhole d → (standing s d).wanted ≡ None → HasGivenBackAll s d f → length (standing s f).held ≡ 0 → e.count ≡ f.count → ((q : List ℕ) → seen q e ≡ seen q f)
+pub has-ended : (s : ℕ) (d f e : Desk) → IsWhole d → (standing s d).wanted ≡ None → HasGivenBackAll s d f → length (standing s f).held ≡ 0 → e.count ≡ f.count → ((q : List ℕ) → view_at q e ≡ view_at q f)
     → ((u : ℕ) → (standing u e).transaction ≡ cond (eqb u s) None (standing u f).transaction) → HasEnded s d e
 has-ended s d f e w idle g none count views transactions = record {
   count = count ∙ g.count;
   transactions = λ u. transactions u ∙ ap (λ (o : Option Transaction). cond (eqb u s) None o) (g.transactions u);
-  views = λ q. views q ∙ (g.views q ∙ (ap (λ (rs : List (List ℕ)). cond (has_path q rs) (seen q d) (unlocked_view s (seen q d))) (nothing (standing s f).held none)
-      ∙ sym (ap (unlocked_view s) (none-cancelled s d w idle q))));
+  views = λ q. views q ∙ (g.views q ∙ (ap (λ (rs : List (List ℕ)). cond (has_path q rs) (view_at q d) (view_after_unlock s (view_at q d))) (nothing (standing s f).held none)
+      ∙ sym (ap (view_after_unlock s) (none-cancelled s d w idle q))));
 }
 
 -- the request was cancelled before
@@ -138,74 +138,74 @@ pub ended-after : (s : ℕ) (d f e : Desk) → IsWhole f → HasCancelled s d f 
 ended-after s d f e w c h = record {
   count = h.count ∙ c.count;
   transactions = λ u. h.transactions u ∙ ap (λ (o : Option Transaction). cond (eqb u s) None o) (c.transactions u);
-  views = λ q. h.views q ∙ ap (unlocked_view s) (none-cancelled s f w c.idle q ∙ c.views q);
+  views = λ q. h.views q ∙ ap (view_after_unlock s) (none-cancelled s f w c.idle q ∙ c.views q);
 }
 
 -- a request is cancelled
 
-module _ (d : Desk) (s : ℕ) (r : List ℕ) (q : Request) (row new : Row) (w : IsWhole d) (lt : s < length d.rows.items) (at : row ≡ get_or d.rows.items s row)
-    (waits : row.wanted ≡ Some q) (there : r ≡ resource_asked q) (transaction : new.transaction ≡ row.transaction) (held : new.held ≡ row.held) (gone : new.wanted ≡ None) where
-  asks : (standing_of row).wanted ≡ Some r
+module _ (d : Desk) (s : ℕ) (r : List ℕ) (q : Request) (locker new : Locker) (w : IsWhole d) (lt : s < length d.lockers.items) (at : locker ≡ get_or d.lockers.items s locker)
+    (waits : locker.wanted ≡ Some q) (there : r ≡ resource_asked q) (transaction : new.transaction ≡ locker.transaction) (held : new.held ≡ locker.held) (gone : new.wanted ≡ None) where
+  asks : (standing_of locker).wanted ≡ Some r
   asks = ap wanted_in waits ∙ ap Some (sym there)
 
   none-now : (standing_of new).wanted ≡ None
   none-now = ap wanted_in gone
 
-  gives : GivesUp part.Request r (standing_of row) (standing_of new)
-  gives = gives-request r (standing_of row) (standing_of new) transaction (ap (λ v. v.items) held) asks none-now
+  gives : GivesUp part.Request r (standing_of locker) (standing_of new)
+  gives = gives-request r (standing_of locker) (standing_of new) transaction (ap (λ v. v.items) held) asks none-now
 
-  -- the row without the request agrees with the cell
-  pub cancel-agree : DoAgree r (given_up part.Request s (seen r d)) (map standing_of (set d.rows.items s new))
-  cancel-agree = freed-agree d part.Request s r row new lt at gives w
+  -- the locker without the request agrees with the cell
+  pub cancel-agree : DoAgree r (view_after_giving_up part.Request s (view_at r d)) (map standing_of (set d.lockers.items s new))
+  cancel-agree = freed-agree d part.Request s r locker new lt at gives w
 
-  -- the rows are kept
-  pub cancel-rows : All IsKeptRow (set d.rows.items s new)
-  cancel-rows =
-      let k : IsKeptRow row = subst IsKeptRow (sym at) (All-get_or IsKeptRow d.rows.items s row lt w.rows) in
+  -- the lockers are kept
+  pub cancel-lockers : All IsKeptLocker (set d.lockers.items s new)
+  cancel-lockers =
+      let k : IsKeptLocker locker = subst IsKeptLocker (sym at) (All-get_or IsKeptLocker d.lockers.items s locker lt w.lockers) in
       let none = ap locks_to_come gone in
       let len = ap vec_len held in
       let cap = ap vec_capacity held in
       let long = ap (λ v. length v.items) held in
-      All-set IsKeptRow d.rows.items s new (record {
+      All-set IsKeptLocker d.lockers.items s new (record {
         apart = subst (λ v. AreApart v.items) (sym held) k.apart;
         kind = rw gone tt;
         room = omega (arith, k.room, len, cap, none);
         few = omega (arith, k.few, long, none);
-      }) w.rows
+      }) w.lockers
 
-  module _ (e : Desk) (b : CellsBecame r (freed_view part.Request s (seen r d)) d.cells.entries e.cells.entries)
-      (agree : DoAgree r (freed_view part.Request s (seen r d)) (standings e)) (rows : All IsKeptRow e.rows.items) (granted : AreSameOrAdmitted r (map standing_of (set d.rows.items s new)) (standings e)) where
+  module _ (e : Desk) (b : CellsBecame r (view_after_freeing part.Request s (view_at r d)) d.cells.entries e.cells.entries)
+      (agree : DoAgree r (view_after_freeing part.Request s (view_at r d)) (standings e)) (lockers : All IsKeptLocker e.lockers.items) (granted : AreSameOrGranted r (map standing_of (set d.lockers.items s new)) (standings e)) where
     freed : e.count ≡ d.count → HasFreed part.Request s r d e
-    freed count = has-freed d part.Request s r row new lt at gives w e none-now b agree rows granted count
+    freed count = has-freed d part.Request s r locker new lt at gives w e none-now b agree lockers granted count
 
     own : standing s e ≡ standing_of new
-    own = freed-own d part.Request s r row new lt at gives w e none-now b agree rows granted
+    own = freed-own d part.Request s r locker new lt at gives w e none-now b agree lockers granted
 
-    waits-there : (x : List ℕ) → has_claim s (seen x d).waiting ≡ same_path r x
-    waits-there x = sym ((w.agree x).wanted s) ∙ ap (is_wanted x) (ap (λ (y : Standing). y.wanted) (standing-here d.rows.items s row lt at) ∙ asks)
+    waits-there : (x : List ℕ) → has_session s (view_at x d).waiting ≡ same_path r x
+    waits-there x = sym ((w.agree x).wanted s) ∙ ap (is_wanted x) (ap (λ (y : Standing). y.wanted) (standing-here d.lockers.items s locker lt at) ∙ asks)
 
     -- what is seen is what this brings
     pub has-cancelled : e.count ≡ d.count → HasCancelled s d e
     has-cancelled count = record {
       count = count;
       idle = ap (λ (x : Standing). x.wanted) own ∙ none-now;
-      held = ap (λ (x : Standing). x.held) own ∙ (ap (λ v. v.items) held ∙ sym (ap (λ (x : Standing). x.held) (standing-here d.rows.items s row lt at)));
+      held = ap (λ (x : Standing). x.held) own ∙ (ap (λ v. v.items) held ∙ sym (ap (λ (x : Standing). x.held) (standing-here d.lockers.items s locker lt at)));
       transactions = (freed count).transactions;
       views = λ x. (freed count).views x ∙ elim (same_path_tells r x) [
-        | inl k ↦ ap (λ (c : Bool). cond c (freed_view part.Request s (seen r d)) (seen x d)) k.0
-            ∙ (ap (λ (y : List ℕ). freed_view part.Request s (seen y d)) k.1 ∙ sym (ap (λ (c : Bool). cond c (freed_view part.Request s (seen x d)) (seen x d)) (waits-there x ∙ k.0)))
-        | inr k ↦ ap (λ (c : Bool). cond c (freed_view part.Request s (seen r d)) (seen x d)) k ∙ sym (ap (λ (c : Bool). cond c (freed_view part.Request s (seen x d)) (seen x d)) (waits-there x ∙ k))
+        | inl k ↦ ap (λ (c : Bool). cond c (view_after_freeing part.Request s (view_at r d)) (view_at x d)) k.0
+            ∙ (ap (λ (y : List ℕ). view_after_freeing part.Request s (view_at y d)) k.1 ∙ sym (ap (λ (c : Bool). cond c (view_after_freeing part.Request s (view_at x d)) (view_at x d)) (waits-there x ∙ k.0)))
+        | inr k ↦ ap (λ (c : Bool). cond c (view_after_freeing part.Request s (view_at r d)) (view_at x d)) k ∙ sym (ap (λ (c : Bool). cond c (view_after_freeing part.Request s (view_at x d)) (view_at x d)) (waits-there x ∙ k))
       ];
     }
 
     -- and the desk is whole
     pub cancel-whole : IsWhole e
-    cancel-whole = freed-whole d part.Request s r row new lt at gives w e none-now b agree rows granted
+    cancel-whole = freed-whole d part.Request s r locker new lt at gives w e none-now b agree lockers granted
 
 -- a session that doesn't wait is as if cancelled
-pub same-cancelled : (s : ℕ) (d e : Desk) → IsWhole d → (standing s d).wanted ≡ None → e.count ≡ d.count → e.rows.items ≡ d.rows.items → e.cells ≡ d.cells → HasCancelled s d e
-same-cancelled s d e w idle count rows cells =
-    let stands = λ (u : ℕ). ap (λ (ws : List Row). standing_at u (map standing_of ws)) rows in
+pub same-cancelled : (s : ℕ) (d e : Desk) → IsWhole d → (standing s d).wanted ≡ None → e.count ≡ d.count → e.lockers.items ≡ d.lockers.items → e.cells ≡ d.cells → HasCancelled s d e
+same-cancelled s d e w idle count lockers cells =
+    let stands = λ (u : ℕ). ap (λ (ws : List Locker). standing_at u (map standing_of ws)) lockers in
     record {
       count = count;
       idle = ap (λ (x : Standing). x.wanted) (stands s) ∙ idle;
@@ -215,7 +215,7 @@ same-cancelled s d e w idle count rows cells =
     }
 
 -- a session is doomed once its request was cancelled
-pub has-doomed : (s : ℕ) (d f e : Desk) → HasCancelled s d f → e.count ≡ f.count → ((q : List ℕ) → seen q e ≡ seen q f)
+pub has-doomed : (s : ℕ) (d f e : Desk) → HasCancelled s d f → e.count ≡ f.count → ((q : List ℕ) → view_at q e ≡ view_at q f)
     → ((u : ℕ) → (standing u e).transaction ≡ cond (eqb u s) (doom (standing s f).transaction) (standing u f).transaction) → HasDoomed s d e
 has-doomed s d f e c count views transactions = record {
   count = count ∙ c.count;
@@ -228,6 +228,6 @@ has-doomed s d f e c count views transactions = record {
     go u false e = c.transactions u
 
 -- which transaction that is
-pub doomed-each : (f : Desk) (s : ℕ) (row : Row) (o : Option Transaction) → s < length f.rows.items → row ≡ get_or f.rows.items s row → o ≡ doom row.transaction
+pub doomed-each : (f : Desk) (s : ℕ) (locker : Locker) (o : Option Transaction) → s < length f.lockers.items → locker ≡ get_or f.lockers.items s locker → o ≡ doom locker.transaction
     → (e : Desk) → ((u : ℕ) → (standing u e).transaction ≡ cond (eqb u s) o (standing u f).transaction) → (u : ℕ) → (standing u e).transaction ≡ cond (eqb u s) (doom (standing s f).transaction) (standing u f).transaction
-doomed-each f s row o lt at is e h u = h u ∙ ap (λ (x : Option Transaction). cond (eqb u s) x (standing u f).transaction) (is ∙ ap (λ (x : Standing). doom x.transaction) (sym (standing-here f.rows.items s row lt at)))
+doomed-each f s locker o lt at is e h u = h u ∙ ap (λ (x : Option Transaction). cond (eqb u s) x (standing u f).transaction) (is ∙ ap (λ (x : Standing). doom x.transaction) (sym (standing-here f.lockers.items s locker lt at)))

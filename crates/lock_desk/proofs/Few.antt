@@ -6,8 +6,8 @@ use Rattle.lock_rules.specs.Sound.{IsOnce, IsSound, times}
 use Rattle.lock_rules.proofs.Lists.{bool_cases, same_path-refl, times-none, times-claims_but}
 use Rattle.lock_rules.proofs.Steps.{is-none}
 use Rattle.lock_desk.specs.declared.desk.Desk.{Desk}
-use Rattle.lock_desk.specs.Cells.{View, has_claim}
-use Rattle.lock_desk.specs.Rows.{Standing, standing_at, is_wanted}
+use Rattle.lock_desk.specs.Cells.{View, has_session}
+use Rattle.lock_desk.specs.Lockers.{Standing, standing_at, is_wanted}
 use Rattle.lock_desk.specs.Changes.{standings, standing, IsWhole}
 use Rattle.lock_desk.specs.Shows.{Shows}
 use Rattle.lock_desk.proofs.Standings.{length-standings}
@@ -48,7 +48,7 @@ pigeons (suc n) qs o z h =
 
 module _ (d : Desk) (st : rules.State) (w : IsWhole d) (i : IsSound st.table) (h : Shows d st) where
   idle-times : (s : ℕ) → is_some (standing s d).wanted ≡ false → times s st.table.requests ≡ 0
-  idle-times s e = times-none s st.table.requests (is-none (rules.request_of s st.table.requests) (sym (waits-told s st.table (standing s d).wanted (λ x. (w.agree x).wanted s ∙ ap (λ (v : View). has_claim s v.waiting) (h.views x))) ∙ e))
+  idle-times s e = times-none s st.table.requests (is-none (rules.request_of s st.table.requests) (sym (waits-told s st.table (standing s d).wanted (λ x. (w.agree x).wanted s ∙ ap (λ (v : View). has_session s v.waiting) (h.views x))) ∙ e))
 
   nobody-waits : is_some (standing 0 d).wanted ≡ false
   nobody-waits = go (standing 0 d).wanted refl
@@ -65,5 +65,5 @@ module _ (d : Desk) (st : rules.State) (w : IsWhole d) (i : IsSound st.table) (h
   beyond (x ∷ ss) zero le = absurd (omega arith)
   beyond (x ∷ ss) (suc s) le = beyond ss s (omega arith)
 
-  pub few-waits : (n : ℕ) → n + 1 ≡ length d.rows.items → length st.table.requests ≤ n
-  few-waits n long = pigeons n st.table.requests i.once (idle-times 0 nobody-waits) (λ s lt. idle-times s (beyond (standings d) s (omega (arith, lt, long, length-standings d.rows.items))))
+  pub few-waits : (n : ℕ) → n + 1 ≡ length d.lockers.items → length st.table.requests ≤ n
+  few-waits n long = pigeons n st.table.requests i.once (idle-times 0 nobody-waits) (λ s lt. idle-times s (beyond (standings d) s (omega (arith, lt, long, length-standings d.lockers.items))))

@@ -12,10 +12,10 @@ use Rattle.lock_rules.specs.Waits.{conflicts, stands_before, keeps_waiting, wait
 use Rattle.lock_rules.specs.Sound.{IsSound, after, ascend, times}
 use Rattle.lock_rules.proofs.Lists.{bool_cases, same_path-refl, same_path-true, request_of-session}
 use Rattle.lock_rules.proofs.Waiting.{request_of-filter, request_of-front, request_of-rest}
-use Rattle.lock_desk.specs.declared.cells.Claim.{Claim}
+use Rattle.lock_desk.specs.declared.cells.SessionMode.{SessionMode}
 use Rattle.lock_desk.specs.declared.desk.Desk.{Desk}
-use Rattle.lock_desk.specs.Cells.{View, has_claim, mode_of, pair_of, has_path}
-use Rattle.lock_desk.specs.Rows.{is_wanted}
+use Rattle.lock_desk.specs.Cells.{View, has_session, mode_of, pair_of, has_path}
+use Rattle.lock_desk.specs.Lockers.{is_wanted}
 use Rattle.lock_desk.specs.Changes.{standings, standing, IsWhole}
 use Rattle.lock_desk.specs.Finding.{holder_blocks, stands_first, target_blocks, view_blocks, blocks_at, blocks}
 use Rattle.lock_desk.specs.Shows.{short, claims_on, view, Shows}
@@ -91,12 +91,12 @@ request-queued s t q o h = go (is_some (rules.held_mode t q.session q.resource))
 
 -- the holders
 
-none-after : (s u : ℕ) (m : Mode) (hs : List Claim) → after u (map pair_of hs) ≡ true → holder_blocks s m u hs ≡ false
+none-after : (s u : ℕ) (m : Mode) (hs : List SessionMode) → after u (map pair_of hs) ≡ true → holder_blocks s m u hs ≡ false
 none-after s u m [] h = refl
 none-after s u m (k ∷ hs) h = grind (arith, nat_tests, none-after s u m hs)
 
 -- of holders in order the one of the session decides
-holder-seen : (s u : ℕ) (m : Mode) (hs : List Claim) → Ascends hs → holder_blocks s m u hs ≡ (not (eqb u s) && conflicts m (mode_of u hs))
+holder-seen : (s u : ℕ) (m : Mode) (hs : List SessionMode) → Ascends hs → holder_blocks s m u hs ≡ (not (eqb u s) && conflicts m (mode_of u hs))
 holder-seen s u m [] h = sym (and-none (not (eqb u s)))
   where
     and-none : (b : Bool) → (b && false) ≡ false
@@ -146,7 +146,7 @@ module _ (d : Desk) (st : rules.State) (w : IsWhole d) (i : IsSound st.table) (h
       there : has_path r (resource_of_request (rules.request_of s st.table.requests)) ≡ true
       there =
           sym (waits_on-once s r st.table.requests (i.once s)) ∙ (sym (queue-has s r st.table)
-          ∙ (sym (ap (λ (v : View). has_claim s v.waiting) (h.views r)) ∙ (sym ((w.agree r).wanted s) ∙ (ap (is_wanted r) e ∙ same_path-refl r))))
+          ∙ (sym (ap (λ (v : View). has_session s v.waiting) (h.views r)) ∙ (sym ((w.agree r).wanted s) ∙ (ap (is_wanted r) e ∙ same_path-refl r))))
 
       go : (o : Option rules.Claim) → rules.request_of s st.table.requests ≡ o → has_path r (resource_of_request o) ≡ true → (q : rules.Claim) × (rules.request_of s st.table.requests ≡ Some q) × (q.resource ≡ r)
       go None f k = absurd (cc)
@@ -168,7 +168,7 @@ module _ (d : Desk) (st : rules.State) (w : IsWhole d) (i : IsSound st.table) (h
           and-none false = refl
 
       idle : (standing s d).wanted ≡ None → rules.request_of s st.table.requests ≡ None
-      idle e = none (rules.request_of s st.table.requests) (sym (waits-told s st.table (standing s d).wanted (λ x. (w.agree x).wanted s ∙ ap (λ (v : View). has_claim s v.waiting) (h.views x))) ∙ ap is_some e)
+      idle e = none (rules.request_of s st.table.requests) (sym (waits-told s st.table (standing s d).wanted (λ x. (w.agree x).wanted s ∙ ap (λ (v : View). has_session s v.waiting) (h.views x))) ∙ ap is_some e)
         where
           none : (o : Option rules.Claim) → is_some o ≡ false → o ≡ None
           none None k = refl

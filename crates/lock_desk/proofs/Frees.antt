@@ -7,18 +7,18 @@ use Rattle.lock_tree.specs.Paths.{same_path}
 use Rattle.lock_rules.proofs.Lists.{bool_cases, same_path_tells}
 use Rattle.lock_desk.specs.declared.cells.Part.{Part}
 use Rattle.lock_desk.specs.declared.cells.Part.TheVariants as part
-use Rattle.lock_desk.specs.declared.rows.Row.{Row}
+use Rattle.lock_desk.specs.declared.lockers.Locker.{Locker}
 use Rattle.lock_desk.specs.declared.desk.Desk.{Desk}
-use Rattle.lock_desk.specs.Cells.{given_up, freed_view, has_path, AreApart, CellsBecame}
-use Rattle.lock_desk.specs.Rows.{Standing, standing_of, standing_at, is_wanted, paths_but, let_go, IsKeptRow, IsSameOrAdmitted, AreSameOrAdmitted, DoAgree}
-use Rattle.lock_desk.specs.Changes.{seen, standings, standing, IsWhole, HasFreed}
+use Rattle.lock_desk.specs.Cells.{view_after_giving_up, view_after_freeing, has_path, AreApart, CellsBecame}
+use Rattle.lock_desk.specs.Lockers.{Standing, standing_of, standing_at, is_wanted, paths_but, standing_after_release, IsKeptLocker, IsSameOrGranted, AreSameOrGranted, DoAgree}
+use Rattle.lock_desk.specs.Changes.{view_at, standings, standing, IsWhole, HasFreed}
 use Rattle.lock_desk.proofs.Standings.{standings-set, standing-here, length-standings, apart-pop, has_path-push}
-use Rattle.lock_desk.proofs.Wholes.{own-standing, other-standing, all-agree, GivesUp, given-agree, given-other, admitted-other, not-admitted}
+use Rattle.lock_desk.proofs.Wholes.{own-standing, other-standing, all-agree, GivesUp, given-agree, given-other, granted-other, not-granted}
 
 -- a session that is admitted has its transaction
-transaction-admitted : (r : List ℕ) (a b : Standing) → IsSameOrAdmitted r a b → b.transaction ≡ a.transaction
-transaction-admitted r a b (inl e) = ap (λ (x : Standing). x.transaction) e
-transaction-admitted r a b (inr e) = ap (λ (x : Standing). x.transaction) e.1
+transaction-granted : (r : List ℕ) (a b : Standing) → IsSameOrGranted r a b → b.transaction ≡ a.transaction
+transaction-granted r a b (inl e) = ap (λ (x : Standing). x.transaction) e
+transaction-granted r a b (inr e) = ap (λ (x : Standing). x.transaction) e.1
 
 -- lists of resources without one
 
@@ -65,37 +65,37 @@ less-but r (p ∷ rs) a h = go (same_path_tells p r) (less-but r rs a.1)
 
 -- one session gives something up
 
-module _ (d : Desk) (p : Part) (s : ℕ) (r : List ℕ) (row new : Row) (lt : s < length d.rows.items) (at : row ≡ get_or d.rows.items s row) (gives : GivesUp p r (standing_of row) (standing_of new)) (w : IsWhole d) where
+module _ (d : Desk) (p : Part) (s : ℕ) (r : List ℕ) (locker new : Locker) (lt : s < length d.lockers.items) (at : locker ≡ get_or d.lockers.items s locker) (gives : GivesUp p r (standing_of locker) (standing_of new)) (w : IsWhole d) where
   long : s < length (standings d)
-  long = omega (arith, lt, length-standings d.rows.items)
+  long = omega (arith, lt, length-standings d.lockers.items)
 
-  mid : map standing_of (set d.rows.items s new) ≡ set (standings d) s (standing_of new)
-  mid = standings-set d.rows.items s new
+  mid : map standing_of (set d.lockers.items s new) ≡ set (standings d) s (standing_of new)
+  mid = standings-set d.lockers.items s new
 
   here : GivesUp p r (standing s d) (standing_of new)
-  here = subst (λ (x : Standing). GivesUp p r x (standing_of new)) (sym (standing-here d.rows.items s row lt at)) gives
+  here = subst (λ (x : Standing). GivesUp p r x (standing_of new)) (sym (standing-here d.lockers.items s locker lt at)) gives
 
-  -- the row agrees then with the cell where it was given up
-  pub freed-agree : DoAgree r (given_up p s (seen r d)) (map standing_of (set d.rows.items s new))
-  freed-agree = subst (DoAgree r (given_up p s (seen r d))) (sym mid) (given-agree (standings d) p s r (standing_of new) long here (seen r d) (w.agree r))
+  -- the locker agrees then with the cell where it was given up
+  pub freed-agree : DoAgree r (view_after_giving_up p s (view_at r d)) (map standing_of (set d.lockers.items s new))
+  freed-agree = subst (DoAgree r (view_after_giving_up p s (view_at r d))) (sym mid) (given-agree (standings d) p s r (standing_of new) long here (view_at r d) (w.agree r))
 
-  module _ (e : Desk) (idle : (standing_of new).wanted ≡ None) (b : CellsBecame r (freed_view p s (seen r d)) d.cells.entries e.cells.entries)
-      (agree : DoAgree r (freed_view p s (seen r d)) (standings e)) (rows : All IsKeptRow e.rows.items) (granted : AreSameOrAdmitted r (map standing_of (set d.rows.items s new)) (standings e)) where
-    granted-mid : AreSameOrAdmitted r (set (standings d) s (standing_of new)) (standings e)
-    granted-mid = subst (λ (ss : List Standing). AreSameOrAdmitted r ss (standings e)) mid granted
+  module _ (e : Desk) (idle : (standing_of new).wanted ≡ None) (b : CellsBecame r (view_after_freeing p s (view_at r d)) d.cells.entries e.cells.entries)
+      (agree : DoAgree r (view_after_freeing p s (view_at r d)) (standings e)) (lockers : All IsKeptLocker e.lockers.items) (granted : AreSameOrGranted r (map standing_of (set d.lockers.items s new)) (standings e)) where
+    granted-mid : AreSameOrGranted r (set (standings d) s (standing_of new)) (standings e)
+    granted-mid = subst (λ (ss : List Standing). AreSameOrGranted r ss (standings e)) mid granted
 
     own-mid : standing_at s (set (standings d) s (standing_of new)) ≡ standing_of new
     own-mid = own-standing (standings d) s (standing_of new) long
 
-    -- the session stands as its row says
+    -- the session stands as its locker says
     pub freed-own : standing s e ≡ standing_of new
-    freed-own = not-admitted r _ (standing s e) (ap (λ (x : Standing). x.wanted) own-mid ∙ idle) (granted-mid s) ∙ own-mid
+    freed-own = not-granted r _ (standing s e) (ap (λ (x : Standing). x.wanted) own-mid ∙ idle) (granted-mid s) ∙ own-mid
 
     -- each session has the transaction that it had
     pub freed-transactions : (u : ℕ) → (standing u e).transaction ≡ (standing u d).transaction
     freed-transactions u = elim (bool_cases (eqb s u)) [
       | inl h ↦ let f = (Decides-eqb s u).0 h in subst (λ (i : ℕ). (standing i e).transaction ≡ (standing i d).transaction) f (ap (λ (x : Standing). x.transaction) freed-own ∙ here.transaction)
-      | inr h ↦ transaction-admitted r _ (standing u e) (granted-mid u) ∙ ap (λ (x : Standing). x.transaction) (other-standing (standings d) s u (standing_of new) h)
+      | inr h ↦ transaction-granted r _ (standing u e) (granted-mid u) ∙ ap (λ (x : Standing). x.transaction) (other-standing (standings d) s u (standing_of new) h)
     ]
 
     -- what is seen is what this brings
@@ -106,14 +106,14 @@ module _ (d : Desk) (p : Part) (s : ℕ) (r : List ℕ) (row new : Row) (lt : s 
     pub freed-whole : IsWhole e
     freed-whole = record {
       cells = b.kept;
-      rows = rows;
-      agree = all-agree r (freed_view p s (seen r d)) d e b.views agree (λ x n. admitted-other r x (seen x d) _ (standings e) n granted-mid (given-other (standings d) p s r (standing_of new) long here x n (seen x d) (w.agree x)));
+      lockers = lockers;
+      agree = all-agree r (view_after_freeing p s (view_at r d)) d e b.views agree (λ x n. granted-other r x (view_at x d) _ (standings e) n granted-mid (given-other (standings d) p s r (standing_of new) long here x n (view_at x d) (w.agree x)));
     }
 
 -- what is given up
 
--- a lock is taken out of the row
-pub gives-lock : (r : List ℕ) (x y : Standing) → y ≡ let_go r x → GivesUp part.Lock r x y
+-- a lock is taken out of the locker
+pub gives-lock : (r : List ℕ) (x y : Standing) → y ≡ standing_after_release r x → GivesUp part.Lock r x y
 gives-lock r x y e = record {
   transaction = ap (λ (z : Standing). z.transaction) e;
   held = ap (λ (z : Standing). has_path r z.held) e ∙ gone-but r x.held;

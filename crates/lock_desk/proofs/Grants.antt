@@ -2,61 +2,61 @@
 use Rattle.std.proofs.Common.{◌≡◌, ℕ, ◌≤◌, Bool, true, false, cond, not, eqb, ◌&&◌, ◌||◌, inl, inr, List, [], ◌∷◌, Some, None, refl, sym, ◌∙◌, ap, arith, subst}
 use Rattle.std.proofs.lemmas.Bool.{or_from}
 use Rattle.std.proofs.lemmas.Bool.Decides.{nat_tests, Decides-eqb}
-use Rattle.lock_desk.specs.declared.cells.Claim.{Claim}
+use Rattle.lock_desk.specs.declared.cells.SessionMode.{SessionMode}
 use Rattle.lock_desk.specs.declared.cells.Cell.{Cell}
 use Rattle.lock_desk.specs.declared.cells.Part.{Part}
 use Rattle.lock_desk.specs.declared.cells.Part.TheVariants as part
-use Rattle.lock_desk.specs.Cells.{View, no_view, with_claim, has_claim, times, is_nobody, fits_among, next_grant, next_view, front_granted, promoted_view, given_up, queued, IsOnce, is_busy, view_of, HasRoom, IsKeptCell}
-use Rattle.lock_desk.proofs.Claims.{has_tells, has_claim-with_claim, has_claim-without, has_claim-queued, times-queued, times-without, nobody-with_claim, nobody-queued}
+use Rattle.lock_desk.specs.Cells.{View, no_view, with_holder, has_session, times, is_nobody, fits_among, next_grant, view_after_next_grant, view_after_grants, view_after_promotion, view_after_giving_up, queue_with, IsOnce, is_busy, view_of, HasRoom, IsKeptCell}
+use Rattle.lock_desk.proofs.SessionModes.{has_tells, has_session-with_holder, has_session-without, has_session-queued, times-queued, times-without, nobody-with_holder, nobody-queued}
 
-abbrev both : List Claim → List Claim → View
+abbrev both : List SessionMode → List SessionMode → View
 both hs ws = record { holders = hs; waiting = ws }
 
 -- the first of the queue was granted
-pub record IsNext (v : View) (c : Claim) (w : View) : Type 0 where
+pub record IsNext (v : View) (c : SessionMode) (w : View) : Type 0 where
   pub first : v.waiting ≡ c ∷ w.waiting
   pub fits : fits_among c v.holders ≡ true
-  pub holders : w.holders ≡ with_claim c v.holders
+  pub holders : w.holders ≡ with_holder c v.holders
 
 -- the grant that is made is that of the first
-pub next-some : (hs ws : List Claim) (c : Claim) → next_grant hs ws ≡ Some c → IsNext (both hs ws) c (next_view hs ws)
+pub next-some : (hs ws : List SessionMode) (c : SessionMode) → next_grant hs ws ≡ Some c → IsNext (both hs ws) c (view_after_next_grant hs ws)
 next-some hs [] c h = absurd (cc)
 next-some hs (q ∷ ws) c h = go (fits_among q hs) refl h
   where
-    go : (b : Bool) → fits_among q hs ≡ b → cond b (Some q) None ≡ Some c → IsNext (both hs (q ∷ ws)) c (cond b (both (with_claim q hs) ws) (both hs (q ∷ ws)))
+    go : (b : Bool) → fits_among q hs ≡ b → cond b (Some q) None ≡ Some c → IsNext (both hs (q ∷ ws)) c (cond b (both (with_holder q hs) ws) (both hs (q ∷ ws)))
     go false e k = absurd (cc)
     go true e k = let same : q ≡ c = cc in record {
-      first = ap (λ (x : Claim). x ∷ ws) same;
-      fits = ap (λ (x : Claim). fits_among x hs) (sym same) ∙ e;
-      holders = ap (λ (x : Claim). with_claim x hs) same;
+      first = ap (λ (x : SessionMode). x ∷ ws) same;
+      fits = ap (λ (x : SessionMode). fits_among x hs) (sym same) ∙ e;
+      holders = ap (λ (x : SessionMode). with_holder x hs) same;
     }
 
 -- the same, of a cell
-pub next-cell : (hs ws : List Claim) (c : Claim) (w : View) → Some c ≡ next_grant hs ws → w ≡ next_view hs ws → IsNext (both hs ws) c w
+pub next-cell : (hs ws : List SessionMode) (c : SessionMode) (w : View) → Some c ≡ next_grant hs ws → w ≡ view_after_next_grant hs ws → IsNext (both hs ws) c w
 next-cell hs ws c w e f = subst (IsNext (both hs ws) c) (sym f) (next-some hs ws c (sym e))
 
 -- after a grant the rest of the promotion is the same
-pub promoted-next : (v : View) (c : Claim) (w : View) → IsNext v c w → promoted_view w ≡ promoted_view v
+pub promoted-next : (v : View) (c : SessionMode) (w : View) → IsNext v c w → view_after_promotion w ≡ view_after_promotion v
 promoted-next v c w n =
-    ap (λ (hs : List Claim). front_granted hs w.waiting) n.holders
-    ∙ sym (ap (front_granted v.holders) n.first ∙ ap (λ (b : Bool). cond b (front_granted (with_claim c v.holders) w.waiting) (both v.holders (c ∷ w.waiting))) n.fits)
+    ap (λ (hs : List SessionMode). view_after_grants hs w.waiting) n.holders
+    ∙ sym (ap (view_after_grants v.holders) n.first ∙ ap (λ (b : Bool). cond b (view_after_grants (with_holder c v.holders) w.waiting) (both v.holders (c ∷ w.waiting))) n.fits)
 
 -- who is granted was waiting
-pub next-waits : (v : View) (c : Claim) (w : View) → IsNext v c w → has_claim c.session v.waiting ≡ true
-next-waits v c w n = ap (has_claim c.session) n.first ∙ ap (λ (b : Bool). b || has_claim c.session w.waiting) ((Decides-eqb c.session c.session).1 refl)
+pub next-waits : (v : View) (c : SessionMode) (w : View) → IsNext v c w → has_session c.session v.waiting ≡ true
+next-waits v c w n = ap (has_session c.session) n.first ∙ ap (λ (b : Bool). b || has_session c.session w.waiting) ((Decides-eqb c.session c.session).1 refl)
 
 -- no session waits twice
 
 -- a grant leaves the rest of the queue
-pub once-next : (v : View) (c : Claim) (w : View) → IsNext v c w → IsOnce v → IsOnce w
+pub once-next : (v : View) (c : SessionMode) (w : View) → IsNext v c w → IsOnce v → IsOnce w
 once-next v c w n o = record {
   once = λ s. let f = ap (times s) n.first in let k = o.once s in grind (arith, nat_tests);
-  holders = ap (has_claim 0) n.holders ∙ (has_claim-with_claim 0 c v.holders ∙ or_from (eqb c.session 0) (has_claim 0 v.holders) (first (eqb c.session 0) (has_claim 0 w.waiting) waits) o.holders);
-  waiting = second (eqb c.session 0) (has_claim 0 w.waiting) waits;
+  holders = ap (has_session 0) n.holders ∙ (has_session-with_holder 0 c v.holders ∙ or_from (eqb c.session 0) (has_session 0 v.holders) (first (eqb c.session 0) (has_session 0 w.waiting) waits) o.holders);
+  waiting = second (eqb c.session 0) (has_session 0 w.waiting) waits;
 }
   where
-    waits : (eqb c.session 0 || has_claim 0 w.waiting) ≡ false
-    waits = sym (ap (has_claim 0) n.first) ∙ o.waiting
+    waits : (eqb c.session 0 || has_session 0 w.waiting) ≡ false
+    waits = sym (ap (has_session 0) n.first) ∙ o.waiting
 
     first : (a b : Bool) → (a || b) ≡ false → a ≡ false
     first true b h = h
@@ -67,34 +67,34 @@ once-next v c w n o = record {
     second false b h = h
 
 -- a request of a session that has none comes into the queue
-pub once-queued : (c : Claim) (v : View) → 1 ≤ c.session → has_claim c.session v.waiting ≡ false → IsOnce v → IsOnce (record { holders = v.holders; waiting = queued c v.holders v.waiting })
+pub once-queued : (c : SessionMode) (v : View) → 1 ≤ c.session → has_session c.session v.waiting ≡ false → IsOnce v → IsOnce (record { holders = v.holders; waiting = queue_with c v.holders v.waiting })
 once-queued c v some k o = record {
   once = λ s. let p = times-queued s c v.holders v.waiting in let q = o.once s in let n = none in grind (arith, nat_tests);
   holders = o.holders;
-  waiting = has_claim-queued 0 c v.holders v.waiting ∙ (let e = o.waiting in grind (arith, nat_tests));
+  waiting = has_session-queued 0 c v.holders v.waiting ∙ (let e = o.waiting in grind (arith, nat_tests));
 }
   where
     none : times c.session v.waiting ≡ 0
     none = elim (has_tells c.session v.waiting) [ inl h ↦ absurd (let e = h.0 in cc) | inr h ↦ h.1 ]
 
 -- what is given up adds none
-pub once-given_up : (p : Part) (s : ℕ) (v : View) → IsOnce v → IsOnce (given_up p s v)
-once-given_up part.Lock s v o = record { once = o.once; holders = has_claim-without s 0 v.holders ∙ and-none (not (eqb 0 s)) (has_claim 0 v.holders) o.holders; waiting = o.waiting }
+pub once-giving_up : (p : Part) (s : ℕ) (v : View) → IsOnce v → IsOnce (view_after_giving_up p s v)
+once-giving_up part.Lock s v o = record { once = o.once; holders = has_session-without s 0 v.holders ∙ and-none (not (eqb 0 s)) (has_session 0 v.holders) o.holders; waiting = o.waiting }
   where
     and-none : (a b : Bool) → b ≡ false → (a && b) ≡ false
     and-none true b h = h
     and-none false b h = refl
-once-given_up part.Request s v o = record { once = λ u. omega (arith, o.once u, times-without s u v.waiting); holders = o.holders; waiting = has_claim-without s 0 v.waiting ∙ and-none (not (eqb 0 s)) (has_claim 0 v.waiting) o.waiting }
+once-giving_up part.Request s v o = record { once = λ u. omega (arith, o.once u, times-without s u v.waiting); holders = o.holders; waiting = has_session-without s 0 v.waiting ∙ and-none (not (eqb 0 s)) (has_session 0 v.waiting) o.waiting }
   where
     and-none : (a b : Bool) → b ≡ false → (a && b) ≡ false
     and-none true b h = h
     and-none false b h = refl
 
 -- a grant at once leaves the queue
-pub once-put : (c : Claim) (v : View) → 1 ≤ c.session → IsOnce v → IsOnce (record { holders = with_claim c v.holders; waiting = v.waiting })
+pub once-put : (c : SessionMode) (v : View) → 1 ≤ c.session → IsOnce v → IsOnce (record { holders = with_holder c v.holders; waiting = v.waiting })
 once-put c v some o = record {
   once = o.once;
-  holders = has_claim-with_claim 0 c v.holders ∙ (let e = o.holders in grind (arith, nat_tests));
+  holders = has_session-with_holder 0 c v.holders ∙ (let e = o.holders in grind (arith, nat_tests));
   waiting = o.waiting;
 }
 
@@ -105,11 +105,11 @@ once-nobody = record { once = λ s. omega arith; holders = refl; waiting = refl 
 -- somebody is there
 
 -- a holder is there
-pub busy-put : (c : Claim) (v : View) → is_busy (record { holders = with_claim c v.holders; waiting = v.waiting }) ≡ true
-busy-put c v = ap (λ (b : Bool). not (b && is_nobody v.waiting)) (nobody-with_claim c v.holders)
+pub busy-put : (c : SessionMode) (v : View) → is_busy (record { holders = with_holder c v.holders; waiting = v.waiting }) ≡ true
+busy-put c v = ap (λ (b : Bool). not (b && is_nobody v.waiting)) (nobody-with_holder c v.holders)
 
 -- a request is there
-pub busy-queued : (c : Claim) (v : View) → is_busy (record { holders = v.holders; waiting = queued c v.holders v.waiting }) ≡ true
+pub busy-queued : (c : SessionMode) (v : View) → is_busy (record { holders = v.holders; waiting = queue_with c v.holders v.waiting }) ≡ true
 busy-queued c v = ap (λ (b : Bool). not (is_nobody v.holders && b)) (nobody-queued c v.holders v.waiting) ∙ not-and (is_nobody v.holders)
   where
     not-and : (b : Bool) → not (b && false) ≡ true
@@ -118,17 +118,17 @@ busy-queued c v = ap (λ (b : Bool). not (is_nobody v.holders && b)) (nobody-que
 
 -- a promotion that was made leaves nothing to promote
 
-promoted-twice : (hs ws : List Claim) → promoted_view (front_granted hs ws) ≡ front_granted hs ws
+promoted-twice : (hs ws : List SessionMode) → view_after_promotion (view_after_grants hs ws) ≡ view_after_grants hs ws
 promoted-twice hs [] = refl
-promoted-twice hs (q ∷ ws) = go (fits_among q hs) refl (promoted-twice (with_claim q hs) ws)
+promoted-twice hs (q ∷ ws) = go (fits_among q hs) refl (promoted-twice (with_holder q hs) ws)
   where
-    go : (b : Bool) → fits_among q hs ≡ b → promoted_view (front_granted (with_claim q hs) ws) ≡ front_granted (with_claim q hs) ws
-        → promoted_view (cond b (front_granted (with_claim q hs) ws) (both hs (q ∷ ws))) ≡ cond b (front_granted (with_claim q hs) ws) (both hs (q ∷ ws))
+    go : (b : Bool) → fits_among q hs ≡ b → view_after_promotion (view_after_grants (with_holder q hs) ws) ≡ view_after_grants (with_holder q hs) ws
+        → view_after_promotion (cond b (view_after_grants (with_holder q hs) ws) (both hs (q ∷ ws))) ≡ cond b (view_after_grants (with_holder q hs) ws) (both hs (q ∷ ws))
     go true e h = h
-    go false e h = ap (λ (b : Bool). cond b (front_granted (with_claim q hs) ws) (both hs (q ∷ ws))) e
+    go false e h = ap (λ (b : Bool). cond b (view_after_grants (with_holder q hs) ws) (both hs (q ∷ ws))) e
 
 -- a second promotion does nothing
-pub promoted-again : (v : View) → promoted_view (promoted_view v) ≡ promoted_view v
+pub promoted-again : (v : View) → view_after_promotion (view_after_promotion v) ≡ view_after_promotion v
 promoted-again v = promoted-twice v.holders v.waiting
 
 -- a cell is kept where what it says is in order

@@ -10,7 +10,7 @@ use Rattle.lock_rules.proofs.Lists.{bool_cases, same_path_tells}
 use Rattle.lock_rules.proofs.Alters.{queue-alters}
 use Rattle.lock_rules.proofs.Cuts.{one_less, less-alters, less-sound}
 use Rattle.lock_desk.specs.declared.cells.Part.TheVariants as part
-use Rattle.lock_desk.specs.Cells.{without, given_up, freed_view, promoted_view}
+use Rattle.lock_desk.specs.Cells.{without, view_after_giving_up, view_after_freeing, view_after_promotion}
 use Rattle.lock_desk.specs.Shows.{short, claims_on, view}
 use Rattle.lock_desk.proofs.Tables.{queue-apart, promoted-seen}
 
@@ -26,18 +26,18 @@ module _ (s : ℕ) (r : List ℕ) (t : rules.Table) (i : IsSound t) (free : hold
   queue-less : (x : List ℕ) → queue (one_less s r t) x ≡ queue t x
   queue-less x = queue-alters s t (one_less s r t) (less-alters s r t n) x ∙ queue-apart t s x i.once (λ q e. absurd (cc))
 
-  less-own : view r (one_less s r t) ≡ given_up part.Lock s (view r t)
+  less-own : view r (one_less s r t) ≡ view_after_giving_up part.Lock s (view r t)
   less-own = let hs = holders-own t.held in let ws = queue-less r in λ j. record { holders = hs j; waiting = map short (ws j) }
 
   less-other : (x : List ℕ) → same_path r x ≡ false → view x (one_less s r t) ≡ view x t
   less-other x h = let hs = holders-other x t.held h in let ws = queue-less x in λ j. record { holders = hs j; waiting = map short (ws j) }
 
   -- what is seen of each resource after a release
-  pub released-seen : (x : List ℕ) → view x (after_release s r t) ≡ cond (same_path r x) (freed_view part.Lock s (view r t)) (view x t)
+  pub released-seen : (x : List ℕ) → view x (after_release s r t) ≡ cond (same_path r x) (view_after_freeing part.Lock s (view r t)) (view x t)
   released-seen x = promoted-seen r (one_less s r t) (less-sound s r t i n free) x ∙ elim (same_path_tells r x) [
-    | inl h ↦ ap (λ (b : Bool). cond b (promoted_view (view x (one_less s r t))) (view x (one_less s r t))) h.0
-        ∙ (ap (λ (y : List ℕ). promoted_view (view y (one_less s r t))) (sym h.1) ∙ (ap promoted_view less-own
-        ∙ sym (ap (λ (b : Bool). cond b (freed_view part.Lock s (view r t)) (view x t)) h.0)))
-    | inr h ↦ ap (λ (b : Bool). cond b (promoted_view (view x (one_less s r t))) (view x (one_less s r t))) h
-        ∙ (less-other x h ∙ sym (ap (λ (b : Bool). cond b (freed_view part.Lock s (view r t)) (view x t)) h))
+    | inl h ↦ ap (λ (b : Bool). cond b (view_after_promotion (view x (one_less s r t))) (view x (one_less s r t))) h.0
+        ∙ (ap (λ (y : List ℕ). view_after_promotion (view y (one_less s r t))) (sym h.1) ∙ (ap view_after_promotion less-own
+        ∙ sym (ap (λ (b : Bool). cond b (view_after_freeing part.Lock s (view r t)) (view x t)) h.0)))
+    | inr h ↦ ap (λ (b : Bool). cond b (view_after_promotion (view x (one_less s r t))) (view x (one_less s r t))) h
+        ∙ (less-other x h ∙ sym (ap (λ (b : Bool). cond b (view_after_freeing part.Lock s (view r t)) (view x t)) h))
   ]

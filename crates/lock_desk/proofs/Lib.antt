@@ -1,4 +1,4 @@
-pub mod Claims
+pub mod SessionModes
 pub mod Grants
 pub mod Standings
 pub mod Admits

@@ -13,11 +13,11 @@ use Rattle.lock_rules.proofs.Cuts.{cancelled-follows}
 use Rattle.lock_rules.proofs.Settle.{reached-walk, reaches-walk}
 use Rattle.lock_rules.proofs.Victims.{victim-most, one-victim}
 use Rattle.lock_rules.proofs.Owners.{victim-numbered}
-use Rattle.lock_desk.specs.declared.cells.Claim.{Claim}
+use Rattle.lock_desk.specs.declared.cells.SessionMode.{SessionMode}
 use Rattle.lock_desk.specs.declared.desk.Desk.{Desk}
 use Rattle.lock_desk.specs.declared.waits.Waits.{Waits}
-use Rattle.lock_desk.specs.Cells.{mode_of, has_claim}
-use Rattle.lock_desk.specs.Changes.{seen, standings, standing, cancelled_view, IsWhole, HasDoomed}
+use Rattle.lock_desk.specs.Cells.{mode_of, has_session}
+use Rattle.lock_desk.specs.Changes.{view_at, standings, standing, view_after_cancel, IsWhole, HasDoomed}
 use Rattle.lock_desk.specs.Finding.{blocks, blocks_at, target_blocks, IsFilled}
 use Rattle.lock_desk.specs.Shows.{Shows}
 use Rattle.lock_desk.proofs.Numbered.{once-at}
@@ -65,11 +65,11 @@ module _ (P Q : ℕ → ℕ → Bool) (same : (a b : ℕ) → P a b ≡ Q (a + 1
 
 -- nobody of number 0 waits
 
-no-mode : (cs : List Claim) → has_claim 0 cs ≡ false → mode_of 0 cs ≡ None
+no-mode : (cs : List SessionMode) → has_session 0 cs ≡ false → mode_of 0 cs ≡ None
 no-mode [] h = refl
 no-mode (c ∷ cs) h = go (eqb c.session 0) h (no-mode cs)
   where
-    go : (b : Bool) → (b || has_claim 0 cs) ≡ false → (has_claim 0 cs ≡ false → mode_of 0 cs ≡ None) → cond b (Some c.mode) (mode_of 0 cs) ≡ None
+    go : (b : Bool) → (b || has_session 0 cs) ≡ false → (has_session 0 cs ≡ false → mode_of 0 cs ≡ None) → cond b (Some c.mode) (mode_of 0 cs) ≡ None
     go true h next = absurd (cc)
     go false h next = next h
 
@@ -78,7 +78,7 @@ blocks-zero d w u = go (standing 0 d).wanted
   where
     go : (o : Option (List ℕ)) → blocks_at 0 u d.cells.entries o ≡ false
     go None = refl
-    go (Some r) = ap (target_blocks 0 u (seen r d)) (no-mode (seen r d).waiting (once-at r d.cells.entries w.cells).waiting)
+    go (Some r) = ap (target_blocks 0 u (view_at r d)) (no-mode (view_at r d).waiting (once-at r d.cells.entries w.cells).waiting)
 
 -- one round after another
 
@@ -91,7 +91,7 @@ pub record IsRound (n k s : ℕ) (st : rules.State) (d : Desk) : Type 0 where
   pub same : after_victims n s st ≡ after_victims (n - k) s state
 
 -- the same under other notes of who waits for whom
-abbrev pub rewaited : (n k s : ℕ) (st : rules.State) (d : Desk) (waits : Waits) → IsRound n k s st d → IsRound n k s st (record { count = d.count; rows = d.rows; cells = d.cells; waits = waits })
+abbrev pub rewaited : (n k s : ℕ) (st : rules.State) (d : Desk) (waits : Waits) → IsRound n k s st d → IsRound n k s st (record { count = d.count; lockers = d.lockers; cells = d.cells; waits = waits })
 rewaited n k s st d waits r = record {
   state = r.state;
   shows = record { count = r.shows.count; transactions = r.shows.transactions; views = r.shows.views };
@@ -140,7 +140,7 @@ pub doomed-shown : (d e : Desk) (st : rules.State) (v : ℕ) → IsSound st.tabl
 doomed-shown d e st v i k h = record {
   count = k.count ∙ h.count;
   transactions = λ u. k.transactions u ∙ go u (eqb u v) refl;
-  views = λ q. k.views q ∙ (ap (cancelled_view v) (h.views q) ∙ sym (cancelled-seen v st.table i q));
+  views = λ q. k.views q ∙ (ap (view_after_cancel v) (h.views q) ∙ sym (cancelled-seen v st.table i q));
 }
   where
     go : (u : ℕ) (b : Bool) → eqb u v ≡ b → cond b (doom (standing u d).transaction) (standing u d).transaction ≡ cond b (doom (st.begun v)) (st.begun u)

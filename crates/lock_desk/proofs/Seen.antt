@@ -4,9 +4,9 @@ use Rattle.std.specs.Map.{lookup}
 use Rattle.std.specs.HashMap.{HashMap, get, WritesThrough}
 use Rattle.lock_tree.specs.Paths.{same_path}
 use Rattle.lock_rules.proofs.Lists.{same_path_tells}
-use Rattle.lock_desk.specs.declared.cells.Claim.{Claim}
+use Rattle.lock_desk.specs.declared.cells.SessionMode.{SessionMode}
 use Rattle.lock_desk.specs.declared.cells.Cell.{Cell}
-use Rattle.lock_desk.specs.Cells.{View, no_view, view_of, Cells, cell_at, said, cell_view, IsKeptCell, AreKeptCells, CellsBecame, is_nobody, is_busy}
+use Rattle.lock_desk.specs.Cells.{View, no_view, view_of, Cells, cell_at, view_in, cell_view, IsKeptCell, AreKeptCells, CellsBecame, is_nobody, is_busy}
 
 -- lists
 
@@ -46,16 +46,16 @@ module _ (eq : List ℕ → List ℕ → Bool) (same : (a b : List ℕ) → eq a
   found r cs = ap (λ (test : List ℕ → Bool). lookup test cs) (λ i q. same r q i)
 
   pub became : (r : List ℕ) (now : Option Cell) (cs new : Cells) → AreKeptCells cs → IfSome now IsKeptCell
-      → ((q : List ℕ) → lookup (eq q) new ≡ cond (eq r q) now (lookup (eq q) cs)) → CellsBecame r (said now) cs new
+      → ((q : List ℕ) → lookup (eq q) new ≡ cond (eq r q) now (lookup (eq q) cs)) → CellsBecame r (view_in now) cs new
   became r now cs new k kept updates = record {
-    views = λ q. ap said (at q) ∙ said-cond (same_path r q) (cell_at q cs);
+    views = λ q. ap view_in (at q) ∙ said-cond (same_path r q) (cell_at q cs);
     kept = λ q. subst (λ (o : Option Cell). IfSome o IsKeptCell) (sym (at q)) (kept-cond (same_path r q) (cell_at q cs) (k q));
   }
     where
       at : (q : List ℕ) → cell_at q new ≡ cond (same_path r q) now (cell_at q cs)
       at q = sym (found q new) ∙ (updates q ∙ (λ i. cond (same r q i) now (found q cs i)))
 
-      said-cond : (b : Bool) (o : Option Cell) → said (cond b now o) ≡ cond b (said now) (said o)
+      said-cond : (b : Bool) (o : Option Cell) → view_in (cond b now o) ≡ cond b (view_in now) (view_in o)
       said-cond true o = refl
       said-cond false o = refl
 
@@ -74,11 +74,11 @@ module _ (eq : List ℕ → List ℕ → Bool) (same : (a b : List ℕ) → eq a
 pub idle-view : (v : View) → is_busy v ≡ false → v ≡ no_view
 idle-view v h = λ i. record { holders = no-holders v.holders v.waiting h i; waiting = no-waiting v.holders v.waiting h i }
   where
-    no-holders : (hs ws : List Claim) → not (is_nobody hs && is_nobody ws) ≡ false → hs ≡ []
+    no-holders : (hs ws : List SessionMode) → not (is_nobody hs && is_nobody ws) ≡ false → hs ≡ []
     no-holders [] ws h = refl
     no-holders (x ∷ hs) ws h = absurd (cc)
 
-    no-waiting : (hs ws : List Claim) → not (is_nobody hs && is_nobody ws) ≡ false → ws ≡ []
+    no-waiting : (hs ws : List SessionMode) → not (is_nobody hs && is_nobody ws) ≡ false → ws ≡ []
     no-waiting hs [] h = refl
     no-waiting [] (x ∷ ws) h = absurd (cc)
     no-waiting (y ∷ hs) (x ∷ ws) h = absurd (cc)

@@ -25,13 +25,13 @@ use Rattle.lock_rules.proofs.Owners.{waiting-numbered}
 use Rattle.lock_rules.proofs.Steps.{all-pass, is-none}
 use Rattle.lock_desk.specs.declared.cells.Part.TheVariants as part
 use Rattle.lock_desk.specs.declared.desk.Desk.{Desk}
-use Rattle.lock_desk.specs.Cells.{View, has_claim, mode_of, pair_of, freed_view, can_grant, asked_view}
-use Rattle.lock_desk.specs.Rows.{Standing, standing_at, has_below}
-use Rattle.lock_desk.specs.Changes.{seen, standing, ended_view, IsWhole, held_seen, lacks_seen, lock_tests, convert_tests, release_tests, idle_tests, desk_tests, IsSameSeen, MayAsk, HasAsked, CanRelease, HasFreed, HasBegun, HasEnded}
+use Rattle.lock_desk.specs.Cells.{View, has_session, mode_of, pair_of, view_after_freeing, can_grant, view_after_asking}
+use Rattle.lock_desk.specs.Lockers.{Standing, standing_at, has_below}
+use Rattle.lock_desk.specs.Changes.{view_at, standing, view_after_end, IsWhole, mode_held, lacks_need, lock_tests, convert_tests, release_tests, idle_tests, desk_tests, IsSameSeen, MayAsk, HasAsked, CanRelease, HasFreed, HasBegun, HasEnded}
 use Rattle.lock_desk.specs.Shows.{view, Shows, DoesAnswer}
 use Rattle.lock_desk.proofs.Wholes.{apart-at}
-use Rattle.lock_desk.proofs.Asks.{held-row}
-use Rattle.lock_desk.proofs.Tables.{claim, mode-seen, pairs-seen}
+use Rattle.lock_desk.proofs.Asks.{held-locker}
+use Rattle.lock_desk.proofs.Tables.{in_mode, mode-seen, pairs-seen}
 use Rattle.lock_desk.proofs.Counts.{waits-told, locks-told}
 use Rattle.lock_desk.proofs.Below.{path-below, below-path, child-there, there-child, both-ways}
 use Rattle.lock_desk.proofs.Less.{released-seen}
@@ -46,32 +46,32 @@ open-shown d st s h = ap is_some (h.transactions s)
 pub doom-shown : (d : Desk) (st : rules.State) (s : ℕ) → Shows d st → rules.doomed_in (standing s d).transaction ≡ rules.is_doomed st s
 doom-shown d st s h = ap rules.doomed_in (h.transactions s)
 
--- a row tells whether its session waits
+-- a locker tells whether its session waits
 pub waits-shown : (d : Desk) (st : rules.State) (s : ℕ) → IsWhole d → Shows d st → is_some (standing s d).wanted ≡ rules.is_waiting st s
-waits-shown d st s w h = waits-told s st.table (standing s d).wanted (λ x. (w.agree x).wanted s ∙ ap (λ (v : View). has_claim s v.waiting) (h.views x))
+waits-shown d st s w h = waits-told s st.table (standing s d).wanted (λ x. (w.agree x).wanted s ∙ ap (λ (v : View). has_session s v.waiting) (h.views x))
 
 -- the mode that the desk sees is the one that is held
-pub mode-shown : (d : Desk) (st : rules.State) (s : ℕ) (r : List ℕ) → Shows d st → held_seen d s r ≡ rules.held_mode st.table s r
+pub mode-shown : (d : Desk) (st : rules.State) (s : ℕ) (r : List ℕ) → Shows d st → mode_held d s r ≡ rules.held_mode st.table s r
 mode-shown d st s r h = ap (λ (v : View). mode_of s v.holders) (h.views r) ∙ sym (mode-seen s r st.table.held)
 
 -- and the holders that it sees are those of the state
-pub holders-shown : (d : Desk) (st : rules.State) (r : List ℕ) → Shows d st → map pair_of (seen r d).holders ≡ rules.holders r st.table.held
+pub holders-shown : (d : Desk) (st : rules.State) (r : List ℕ) → Shows d st → map pair_of (view_at r d).holders ≡ rules.holders r st.table.held
 holders-shown d st r h = ap (λ (v : View). map pair_of v.holders) (h.views r) ∙ pairs-seen r st.table.held
 
--- a row tells how many locks its session holds
+-- a locker tells how many locks its session holds
 pub locks-shown : (d : Desk) (st : rules.State) (s : ℕ) → IsWhole d → IsSound st.table → Shows d st → length (standing s d).held ≡ length (rules.claims_of s st.table.held)
-locks-shown d st s w i h = locks-told s st.table (standing s d).held i (apart-at d.rows.items s w.rows) (λ x. (w.agree x).held s ∙ ap (λ (v : View). has_claim s v.holders) (h.views x))
+locks-shown d st s w i h = locks-told s st.table (standing s d).held i (apart-at d.lockers.items s w.lockers) (λ x. (w.agree x).held s ∙ ap (λ (v : View). has_session s v.holders) (h.views x))
 
-lacks-shown : (d : Desk) (st : rules.State) (s : ℕ) (r : List ℕ) (m : Mode) → Shows d st → lacks_seen d s r m ≡ lacks_parent st.table s r m
+lacks-shown : (d : Desk) (st : rules.State) (s : ℕ) (r : List ℕ) (m : Mode) → Shows d st → lacks_need d s r m ≡ lacks_parent st.table s r m
 lacks-shown d st s r m h = ap (λ (o : Option Mode). has_parent r && not (at_or_below (need_of m) (rules.mode_or_nothing o))) (mode-shown d st s (parent_of r) h)
 
-target-shown : (d : Desk) (st : rules.State) (s : ℕ) (r : List ℕ) (m : Mode) → Shows d st → lacks_seen d s r (target_of (held_seen d s r) m) ≡ lacks_parent st.table s r (target_of (rules.held_mode st.table s r) m)
-target-shown d st s r m h = ap (λ (o : Option Mode). lacks_seen d s r (target_of o m)) (mode-shown d st s r h) ∙ lacks-shown d st s r (target_of (rules.held_mode st.table s r) m) h
+target-shown : (d : Desk) (st : rules.State) (s : ℕ) (r : List ℕ) (m : Mode) → Shows d st → lacks_need d s r (target_of (mode_held d s r) m) ≡ lacks_parent st.table s r (target_of (rules.held_mode st.table s r) m)
+target-shown d st s r m h = ap (λ (o : Option Mode). lacks_need d s r (target_of o m)) (mode-shown d st s r h) ∙ lacks-shown d st s r (target_of (rules.held_mode st.table s r) m) h
 
 below-shown : (d : Desk) (st : rules.State) (s : ℕ) (r : List ℕ) → IsWhole d → Shows d st → has_below r (standing s d).held ≡ holds_child st.table s r
 below-shown d st s r w h = both-ways _ _
-    (λ k. let p = path-below r (standing s d).held k in there-child s r p.path st.table.held (sym (ap is_some (mode-shown d st s p.path h)) ∙ (sym (held-row s p.path d w) ∙ p.there)) p.below)
-    (λ k. let p = child-there s r st.table.held k in below-path r p.path (standing s d).held (held-row s p.path d w ∙ (ap is_some (mode-shown d st s p.path h) ∙ p.there)) p.below)
+    (λ k. let p = path-below r (standing s d).held k in there-child s r p.path st.table.held (sym (ap is_some (mode-shown d st s p.path h)) ∙ (sym (held-locker s p.path d w) ∙ p.there)) p.below)
+    (λ k. let p = child-there s r st.table.held k in below-path r p.path (standing s d).held (held-locker s p.path d w ∙ (ap is_some (mode-shown d st s p.path h) ∙ p.there)) p.below)
 
 module _ (d : Desk) (st : rules.State) (s : ℕ) (w : IsWhole d) (i : IsSound st.table) (h : Shows d st) where
   standing-shown : (more told : List (Bool × Why)) → more ≡ told → (idle_tests d s ++ more) ≡ (not (rules.is_open st s), NoTransaction) ∷ (rules.is_waiting st s, IsWaiting) ∷ (rules.is_doomed st s, IsDoomed) ∷ told
@@ -127,7 +127,7 @@ pub convert-may : (d : Desk) (s : ℕ) (r : List ℕ) (m : Mode) → first_faili
 convert-may d s r m h =
     let p = all-pass (desk_tests d s (Convert r m)) h in
     record {
-      can = record { idle = is-none (standing s d).wanted p.1.0; few = held (is_some (held_seen d s r)) p.1.1.1.1.0 };
+      can = record { idle = is-none (standing s d).wanted p.1.0; few = held (is_some (mode_held d s r)) p.1.1.1.1.0 };
       opened = not-false (is_some (standing s d).transaction) p.0;
       sound = p.1.1.0;
       something = p.1.1.1.0;
@@ -144,7 +144,7 @@ release-can d s r h =
     let p = all-pass (desk_tests d s (Release r)) h in
     record {
       idle = is-none (standing s d).wanted p.1.0;
-      held = not-false (is_some (held_seen d s r)) p.1.1.1.0;
+      held = not-false (is_some (mode_held d s r)) p.1.1.1.0;
       free = p.1.1.1.1.0;
     }
 
@@ -154,7 +154,7 @@ idle-shown d st s w h idle = is-none (rules.request_of s st.table.requests) (sym
 
 -- a session asks
 
-module _ (d e : Desk) (st : rules.State) (s : ℕ) (r : List ℕ) (asks m : Mode) (w : IsWhole d) (i : IsSound st.table) (h : Shows d st) (may : MayAsk s r asks d) (target : m ≡ target_of (held_seen d s r) asks) where
+module _ (d e : Desk) (st : rules.State) (s : ℕ) (r : List ℕ) (asks m : Mode) (w : IsWhole d) (i : IsSound st.table) (h : Shows d st) (may : MayAsk s r asks d) (target : m ≡ target_of (mode_held d s r) asks) where
   none-waits : rules.request_of s st.table.requests ≡ None
   none-waits = idle-shown d st s w h may.can.idle
 
@@ -165,13 +165,13 @@ module _ (d e : Desk) (st : rules.State) (s : ℕ) (r : List ℕ) (asks m : Mode
   same-target : target_of (rules.held_mode st.table s r) asks ≡ m
   same-target = ap (λ (o : Option Mode). target_of o asks) (sym (mode-shown d st s r h)) ∙ sym target
 
-  held-so : (b : Bool) → is_held (held_seen d s r) m ≡ b → is_held (rules.held_mode st.table s r) m ≡ b
+  held-so : (b : Bool) → is_held (mode_held d s r) m ≡ b → is_held (rules.held_mode st.table s r) m ≡ b
   held-so b k = ap (λ (o : Option Mode). is_held o m) (sym (mode-shown d st s r h)) ∙ k
 
-  asked-held : is_held (held_seen d s r) m ≡ true → after_asking st s r m ≡ st
+  asked-held : is_held (mode_held d s r) m ≡ true → after_asking st s r m ≡ st
   asked-held k = ap (λ (b : Bool). cond b st (cond (is_granted_at_once st.table s r m) (rules.with_table (after_grant s r m st.table) st) (after_wait st s r m))) (held-so true k)
 
-  asked-more : is_held (held_seen d s r) m ≡ false → after_asking st s r m ≡ cond (is_granted_at_once st.table s r m) (rules.with_table (after_grant s r m st.table) st) (after_wait st s r m)
+  asked-more : is_held (mode_held d s r) m ≡ false → after_asking st s r m ≡ cond (is_granted_at_once st.table s r m) (rules.with_table (after_grant s r m st.table) st) (after_wait st s r m)
   asked-more k = ap (λ (b : Bool). cond b st (cond (is_granted_at_once st.table s r m) (rules.with_table (after_grant s r m st.table) st) (after_wait st s r m))) (held-so false k)
 
   abbrev told-of : rules.State → Reply
@@ -181,24 +181,24 @@ module _ (d e : Desk) (st : rules.State) (s : ℕ) (r : List ℕ) (asks m : Mode
   told-granted x a b = ap (λ (c : Bool). cond c Deadlock (cond (rules.is_waiting x s) Waiting (Granted m))) a ∙ ap (λ (o : Option rules.Claim). cond (is_some o) Waiting (Granted m)) b
 
   granted-is : (b : Bool) → HasAsked s r m b d e → is_granted_at_once st.table s r m ≡ b
-  granted-is b k = granted-seen s r m st.table ∙ (sym (ap (can_grant (claim s m)) (h.views r)) ∙ sym k.granted_is)
+  granted-is b k = granted-seen s r m st.table ∙ (sym (ap (can_grant (in_mode s m)) (h.views r)) ∙ sym k.granted_is)
 
   -- what is shown once it has asked
   first-shown : (b : Bool) → HasAsked s r m b d e → Shows e (first_state st s r m b)
   first-shown b k = record {
     count = k.count ∙ h.count;
     transactions = λ u. k.transactions u ∙ h.transactions u;
-    views = λ q. k.views q ∙ (ap (λ (v : View). cond (same_path r q) (asked_view (claim s m) v) (seen q d)) (h.views r)
-        ∙ (ap (cond (same_path r q) (asked_view (claim s m) (view r st.table))) (h.views q)
-        ∙ sym (first-seen st s r q m b (k.granted_is ∙ ap (can_grant (claim s m)) (h.views r)) i none-waits)));
+    views = λ q. k.views q ∙ (ap (λ (v : View). cond (same_path r q) (view_after_asking (in_mode s m) v) (view_at q d)) (h.views r)
+        ∙ (ap (cond (same_path r q) (view_after_asking (in_mode s m) (view r st.table))) (h.views q)
+        ∙ sym (first-seen st s r q m b (k.granted_is ∙ ap (can_grant (in_mode s m)) (h.views r)) i none-waits)));
   }
 
   answered : (x : rules.State) → after_asking st s r m ≡ x → Shows e x → (reply : Reply) → reply ≡ told-of x → DoesAnswer (ask st s r (target_of (rules.held_mode st.table s r) asks)) e reply
   answered x is shows reply told = subst (λ (k : Mode). DoesAnswer (ask st s r k) e reply) (sym same-target) (told ∙ ap told-of (sym is), subst (Shows e) (sym is) shows)
 
   -- what it asked for is held then
-  pub granted-answer : (is_held (held_seen d s r) m ≡ true → IsSameSeen d e) → (is_held (held_seen d s r) m ≡ false → HasAsked s r m true d e) → DoesAnswer (ask st s r (target_of (rules.held_mode st.table s r) asks)) e (Granted m)
-  granted-answer held more = elim (bool_cases (is_held (held_seen d s r) m)) [
+  pub granted-answer : (is_held (mode_held d s r) m ≡ true → IsSameSeen d e) → (is_held (mode_held d s r) m ≡ false → HasAsked s r m true d e) → DoesAnswer (ask st s r (target_of (rules.held_mode st.table s r) asks)) e (Granted m)
+  granted-answer held more = elim (bool_cases (is_held (mode_held d s r) m)) [
     | inl y ↦ answered st (asked-held y) (let same = held y in record {
       count = same.count ∙ h.count;
       transactions = λ u. ap (λ ss. (standing_at u ss).transaction) same.standings_same ∙ h.transactions u;
@@ -211,7 +211,7 @@ module _ (d e : Desk) (st : rules.State) (s : ℕ) (r : List ℕ) (asks m : Mode
   ]
 
   -- or it waits, and deadlocks are resolved
-  module _ (more : is_held (held_seen d s r) m ≡ false) (k : HasAsked s r m false d e) where
+  module _ (more : is_held (mode_held d s r) m ≡ false) (k : HasAsked s r m false d e) where
     pub waits-shown_first : Shows e (first_state st s r m false)
     waits-shown_first = first-shown false k
 
@@ -252,7 +252,7 @@ pub ended-shown : (d e : Desk) (st : rules.State) (s : ℕ) → IsSound st.table
 ended-shown d e st s i k h = record {
   count = k.count ∙ h.count;
   transactions = λ u. k.transactions u ∙ ap (λ (o : Option Transaction). cond (eqb u s) None o) (h.transactions u);
-  views = λ q. k.views q ∙ (ap (ended_view s) (h.views q) ∙ sym (ended-seen s st.table i q));
+  views = λ q. k.views q ∙ (ap (view_after_end s) (h.views q) ∙ sym (ended-seen s st.table i q));
 }
 
 -- a lock is given back
@@ -262,8 +262,8 @@ pub released-shown : (d e : Desk) (st : rules.State) (s : ℕ) (r : List ℕ) �
 released-shown d e st s r i w can k h = record {
   count = k.count ∙ h.count;
   transactions = λ u. k.transactions u ∙ h.transactions u;
-  views = λ q. k.views q ∙ (ap (λ (v : View). cond (same_path r q) (freed_view part.Lock s v) (seen q d)) (h.views r)
-      ∙ (ap (cond (same_path r q) (freed_view part.Lock s (view r st.table))) (h.views q)
+  views = λ q. k.views q ∙ (ap (λ (v : View). cond (same_path r q) (view_after_freeing part.Lock s v) (view_at q d)) (h.views r)
+      ∙ (ap (cond (same_path r q) (view_after_freeing part.Lock s (view r st.table))) (h.views q)
       ∙ sym (released-seen s r st.table i (sym (below-shown d st s r w h) ∙ can.free) (idle-shown d st s w h can.idle) q)));
 }
 

@@ -1,4 +1,4 @@
--- What a grant does to the rows.
+-- What a grant does to the lockers.
 use Rattle.std.proofs.Common.{◌≡◌, ℕ, zero, suc, ◌<◌, Bool, true, false, cond, eqb, ◌||◌, inl, inr, List, [], ◌∷◌, ◌++◌, length, map, get_or, set, refl, sym, ◌∙◌, ap, arith}
 use Rattle.std.proofs.lemmas.Bool.{or_right, or_parts}
 use Rattle.std.proofs.lemmas.Bool.Decides.{nat_tests, Decides-eqb}
@@ -6,11 +6,11 @@ use Rattle.std.proofs.lemmas.List.{get_or-set_same, get_or-set_other}
 use Rattle.lock_tree.specs.Paths.{same_path}
 use Rattle.lock_rules.proofs.Lists.{bool_cases, same_path-refl, same_path_tells}
 use Rattle.lock_rules.proofs.Alters.{true≢false}
-use Rattle.lock_desk.specs.declared.cells.Claim.{Claim}
-use Rattle.lock_desk.specs.declared.rows.Row.{Row}
-use Rattle.lock_desk.specs.Cells.{View, has_claim, times, has_path, AreApart, IsOnce}
-use Rattle.lock_desk.specs.Rows.{Standing, no_standing, standing_of, standing_at, is_wanted, with_path, admitted, IsSameOrAdmitted, AreSameOrAdmitted, DoAgree}
-use Rattle.lock_desk.proofs.Claims.{has_tells, has_claim-with_claim}
+use Rattle.lock_desk.specs.declared.cells.SessionMode.{SessionMode}
+use Rattle.lock_desk.specs.declared.lockers.Locker.{Locker}
+use Rattle.lock_desk.specs.Cells.{View, has_session, times, has_path, AreApart, IsOnce}
+use Rattle.lock_desk.specs.Lockers.{Standing, no_standing, standing_of, standing_at, is_wanted, with_path, standing_after_grant, IsSameOrGranted, AreSameOrGranted, DoAgree}
+use Rattle.lock_desk.proofs.SessionModes.{has_tells, has_session-with_holder}
 use Rattle.lock_desk.proofs.Grants.{IsNext}
 
 -- lists of resources
@@ -50,22 +50,22 @@ apart-pop (r ∷ rs) q a =
     let p = apart-pop rs q a.1 in
     ((k.0, p.0), ap (λ (b : Bool). b || has_path q rs) (same_path-swap q r k.1) ∙ p.1)
 
--- rows
+-- lockers
 
--- writing a row writes its standing
-pub standings-set : (ws : List Row) (i : ℕ) (w : Row) → map standing_of (set ws i w) ≡ set (map standing_of ws) i (standing_of w)
+-- writing a locker writes its standing
+pub standings-set : (ws : List Locker) (i : ℕ) (w : Locker) → map standing_of (set ws i w) ≡ set (map standing_of ws) i (standing_of w)
 standings-set [] i w = refl
 standings-set (x ∷ ws) zero w = refl
 standings-set (x ∷ ws) (suc i) w = ap (λ (ss : List Standing). standing_of x ∷ ss) (standings-set ws i w)
 
--- what the row at its place says
-pub standing-here : (ws : List Row) (i : ℕ) (w : Row) → i < length ws → w ≡ get_or ws i w → standing_at i (map standing_of ws) ≡ standing_of w
+-- what the locker at its place says
+pub standing-here : (ws : List Locker) (i : ℕ) (w : Locker) → i < length ws → w ≡ get_or ws i w → standing_at i (map standing_of ws) ≡ standing_of w
 standing-here [] i w lt at = absurd (omega arith)
 standing-here (x ∷ ws) zero w lt at = ap standing_of (sym at)
 standing-here (x ∷ ws) (suc i) w lt at = standing-here ws i w (omega arith) at
 
--- as many standings as rows
-pub length-standings : (ws : List Row) → length (map standing_of ws) ≡ length ws
+-- as many standings as lockers
+pub length-standings : (ws : List Locker) → length (map standing_of ws) ≡ length ws
 length-standings [] = refl
 length-standings (w ∷ ws) = omega (arith, length-standings ws)
 
@@ -91,7 +91,7 @@ has_path-with_other x r rs n = go (has_path r rs)
     go true = refl
     go false = has_path-push x r rs ∙ or-same (has_path x rs) (same_path r x) n
 
--- who waits has a row
+-- who waits has a locker
 pub waits-within : (ss : List Standing) (r : List ℕ) (s : ℕ) → is_wanted r (standing_at s ss).wanted ≡ true → s < length ss
 waits-within [] r s h = absurd (cc)
 waits-within (x ∷ ss) r zero h = omega arith
@@ -99,45 +99,45 @@ waits-within (x ∷ ss) r (suc s) h = omega (arith, waits-within ss r s h)
 
 -- the session that is granted was the only one to change
 
--- rows and cell agree after a grant
-pub agree-next : (r : List ℕ) (v : View) (c : Claim) (w : View) (ss : List Standing) → IsNext v c w → IsOnce v → DoAgree r v ss → c.session < length ss
-    → DoAgree r w (set ss c.session (admitted r (standing_at c.session ss)))
+-- lockers and cell agree after a grant
+pub agree-next : (r : List ℕ) (v : View) (c : SessionMode) (w : View) (ss : List Standing) → IsNext v c w → IsOnce v → DoAgree r v ss → c.session < length ss
+    → DoAgree r w (set ss c.session (standing_after_grant r (standing_at c.session ss)))
 agree-next r v c w ss n o a lt = record {
   held = λ s. elim (bool_cases (eqb c.session s)) [
     | inl e ↦ let f = (Decides-eqb c.session s).0 e in
-        rw (← f) (ap (λ (x : Standing). has_path r x.held) (get_or-set_same ss c.session (admitted r (standing_at c.session ss)) no_standing lt)
+        rw (← f) (ap (λ (x : Standing). has_path r x.held) (get_or-set_same ss c.session (standing_after_grant r (standing_at c.session ss)) no_standing lt)
         ∙ has_path-with r (standing_at c.session ss).held
-        ∙ sym (ap (has_claim c.session) n.holders ∙ (has_claim-with_claim c.session c v.holders ∙ ap (λ (b : Bool). b || has_claim c.session v.holders) ((Decides-eqb c.session c.session).1 refl))))
+        ∙ sym (ap (has_session c.session) n.holders ∙ (has_session-with_holder c.session c v.holders ∙ ap (λ (b : Bool). b || has_session c.session v.holders) ((Decides-eqb c.session c.session).1 refl))))
     | inr e ↦ ap (λ (x : Standing). has_path r x.held) (other s e)
-        ∙ (a.held s ∙ sym (ap (has_claim s) n.holders ∙ (has_claim-with_claim s c v.holders ∙ ap (λ (b : Bool). b || has_claim s v.holders) e)))
+        ∙ (a.held s ∙ sym (ap (has_session s) n.holders ∙ (has_session-with_holder s c v.holders ∙ ap (λ (b : Bool). b || has_session s v.holders) e)))
   ];
   wanted = λ s. elim (bool_cases (eqb c.session s)) [
     | inl e ↦ let f = (Decides-eqb c.session s).0 e in
-        rw (← f) (ap (λ (x : Standing). is_wanted r x.wanted) (get_or-set_same ss c.session (admitted r (standing_at c.session ss)) no_standing lt) ∙ sym gone)
+        rw (← f) (ap (λ (x : Standing). is_wanted r x.wanted) (get_or-set_same ss c.session (standing_after_grant r (standing_at c.session ss)) no_standing lt) ∙ sym gone)
     | inr e ↦ ap (λ (x : Standing). is_wanted r x.wanted) (other s e)
-        ∙ (a.wanted s ∙ (ap (has_claim s) n.first ∙ ap (λ (b : Bool). b || has_claim s w.waiting) e))
+        ∙ (a.wanted s ∙ (ap (has_session s) n.first ∙ ap (λ (b : Bool). b || has_session s w.waiting) e))
   ];
 }
   where
-    other : (s : ℕ) → eqb c.session s ≡ false → standing_at s (set ss c.session (admitted r (standing_at c.session ss))) ≡ standing_at s ss
+    other : (s : ℕ) → eqb c.session s ≡ false → standing_at s (set ss c.session (standing_after_grant r (standing_at c.session ss))) ≡ standing_at s ss
     other s e = grind (arith, nat_tests, get_or-set_other {A = Standing})
 
-    gone : has_claim c.session w.waiting ≡ false
+    gone : has_session c.session w.waiting ≡ false
     gone = let k = o.once c.session in let f = ap (times c.session) n.first in elim (has_tells c.session w.waiting) [
       | inl h ↦ absurd (grind (arith, nat_tests))
       | inr h ↦ h.0
     ]
 
 -- nobody is granted the resource twice
-pub same-next : (r : List ℕ) (old ss : List Standing) (s : ℕ) → s < length ss → is_wanted r (standing_at s ss).wanted ≡ true → AreSameOrAdmitted r old ss → AreSameOrAdmitted r old (set ss s (admitted r (standing_at s ss)))
+pub same-next : (r : List ℕ) (old ss : List Standing) (s : ℕ) → s < length ss → is_wanted r (standing_at s ss).wanted ≡ true → AreSameOrGranted r old ss → AreSameOrGranted r old (set ss s (standing_after_grant r (standing_at s ss)))
 same-next r old ss s lt w h u = elim (bool_cases (eqb s u)) [
   | inl e ↦ let f = (Decides-eqb s u).0 e in rw (← f) (own (h s))
-  | inr e ↦ let k : standing_at u (set ss s (admitted r (standing_at s ss))) ≡ standing_at u ss = grind (arith, nat_tests, get_or-set_other {A = Standing}) in rw k (h u)
+  | inr e ↦ let k : standing_at u (set ss s (standing_after_grant r (standing_at s ss))) ≡ standing_at u ss = grind (arith, nat_tests, get_or-set_other {A = Standing}) in rw k (h u)
 ]
   where
-    new : standing_at s (set ss s (admitted r (standing_at s ss))) ≡ admitted r (standing_at s ss)
-    new = get_or-set_same ss s (admitted r (standing_at s ss)) no_standing lt
+    new : standing_at s (set ss s (standing_after_grant r (standing_at s ss))) ≡ standing_after_grant r (standing_at s ss)
+    new = get_or-set_same ss s (standing_after_grant r (standing_at s ss)) no_standing lt
 
-    own : IsSameOrAdmitted r (standing_at s old) (standing_at s ss) → IsSameOrAdmitted r (standing_at s old) (standing_at s (set ss s (admitted r (standing_at s ss))))
-    own (inl e) = inr (ap (λ (x : Standing). is_wanted r x.wanted) (sym e) ∙ w, new ∙ ap (admitted r) e)
+    own : IsSameOrGranted r (standing_at s old) (standing_at s ss) → IsSameOrGranted r (standing_at s old) (standing_at s (set ss s (standing_after_grant r (standing_at s ss))))
+    own (inl e) = inr (ap (λ (x : Standing). is_wanted r x.wanted) (sym e) ∙ w, new ∙ ap (standing_after_grant r) e)
     own (inr e) = absurd (true≢false w (ap (λ (x : Standing). is_wanted r x.wanted) e.1))

@@ -12,24 +12,24 @@ use Rattle.lock_rules.proofs.Lists.{bool_cases, same_path-refl, same_path-true, 
 use Rattle.lock_rules.proofs.Alters.{queue-alters, true≢false}
 use Rattle.lock_rules.proofs.Sound.{In-queue, head-request, queue-rest, granted-alters, granted-sound}
 use Rattle.lock_rules.proofs.Promote.{promoted-promoted}
-use Rattle.lock_desk.specs.declared.cells.Claim.{Claim}
-use Rattle.lock_desk.specs.Cells.{View, has_claim, mode_of, pair_of, with_claim, without, fits_among, front_granted, promoted_view, has_path}
+use Rattle.lock_desk.specs.declared.cells.SessionMode.{SessionMode}
+use Rattle.lock_desk.specs.Cells.{View, has_session, mode_of, pair_of, with_holder, without, fits_among, view_after_grants, view_after_promotion, has_path}
 use Rattle.lock_desk.specs.Shows.{short, claims_on, view}
 use Rattle.lock_desk.proofs.Grants.{promoted-again}
 
 -- a session with a mode
-abbrev pub claim : ℕ → Mode → Claim
-claim s m = record { session = s; mode = m }
+abbrev pub in_mode : ℕ → Mode → SessionMode
+in_mode s m = record { session = s; mode = m }
 
 -- holders
 
 -- a mode fits in a table where it fits among the holders that are seen
-pub fits-seen : (s : ℕ) (m : Mode) (r : List ℕ) (cs : List rules.Claim) → list_all (λ h. eqb h.0 s || are_compatible m h.1) (rules.holders r cs) ≡ fits_among (claim s m) (claims_on r cs)
+pub fits-seen : (s : ℕ) (m : Mode) (r : List ℕ) (cs : List rules.Claim) → list_all (λ h. eqb h.0 s || are_compatible m h.1) (rules.holders r cs) ≡ fits_among (in_mode s m) (claims_on r cs)
 fits-seen s m r [] = refl
 fits-seen s m r (c ∷ cs) = grind (arith, bool_cases (same_path c.resource r), fits-seen s m r cs)
 
 -- the holders of the resource once a lock is put
-pub claims_on-with_lock : (s : ℕ) (r : List ℕ) (m : Mode) (cs : List rules.Claim) → claims_on r (with_lock s r m cs) ≡ with_claim (claim s m) (claims_on r cs)
+pub claims_on-with_lock : (s : ℕ) (r : List ℕ) (m : Mode) (cs : List rules.Claim) → claims_on r (with_lock s r m cs) ≡ with_holder (in_mode s m) (claims_on r cs)
 claims_on-with_lock s r m [] = grind (arith, nat_tests, same_path-refl)
 claims_on-with_lock s r m (c ∷ cs) = grind (arith, nat_tests, same_path-refl, same_path_tells, claims_on-with_lock s r m cs)
 
@@ -44,7 +44,7 @@ claims_on-claims_but s r [] = refl
 claims_on-claims_but s r (c ∷ cs) = grind (arith, nat_tests, bool_cases (same_path c.resource r), claims_on-claims_but s r cs)
 
 -- who holds a resource is seen among its holders
-pub held-seen : (s : ℕ) (r : List ℕ) (cs : List rules.Claim) → is_some (rules.mode_in s r cs) ≡ has_claim s (claims_on r cs)
+pub held-seen : (s : ℕ) (r : List ℕ) (cs : List rules.Claim) → is_some (rules.mode_in s r cs) ≡ has_session s (claims_on r cs)
 held-seen s r [] = refl
 held-seen s r (c ∷ cs) = grind (arith, nat_tests, bool_cases (same_path c.resource r), held-seen s r cs)
 
@@ -92,7 +92,7 @@ granted-there s r x m t n o h =
 -- promotions
 
 front-seen : (r : List ℕ) (qs : List rules.Claim) (t : rules.Table) → IsSound t → queue t r ≡ qs → (x : List ℕ)
-    → view x (granted_while_fitting qs t) ≡ cond (same_path r x) (front_granted (claims_on r t.held) (map short qs)) (view x t)
+    → view x (granted_while_fitting qs t) ≡ cond (same_path r x) (view_after_grants (claims_on r t.held) (map short qs)) (view x t)
 front-seen r [] t i e x = elim (same_path_tells r x) [
   | inl h ↦ subst (λ (p : List ℕ). view p t ≡ cond (same_path r p) (record { holders = claims_on r t.held; waiting = [] }) (view p t)) h.1
       ((λ j. record { holders = claims_on r t.held; waiting = map short (e j) }) ∙ sym (ap (λ (b : Bool). cond b (record { holders = claims_on r t.held; waiting = [] }) (view r t)) (same_path-refl r)))
@@ -109,7 +109,7 @@ front-seen r (q ∷ qs) t i e x = go (fits t q.session q.resource q.mode) refl (
     same-fit : fits t q.session q.resource q.mode ≡ fits_among (short q) (claims_on r t.held)
     same-fit = ap (λ (p : List ℕ). fits t q.session p q.mode) path ∙ fits-seen q.session q.mode r t.held
 
-    holders-next : claims_on r (after_grant q.session q.resource q.mode t).held ≡ with_claim (short q) (claims_on r t.held)
+    holders-next : claims_on r (after_grant q.session q.resource q.mode t).held ≡ with_holder (short q) (claims_on r t.held)
     holders-next = ap (λ (p : List ℕ). claims_on r (with_lock q.session p q.mode t.held)) path ∙ claims_on-with_lock q.session r q.mode t.held
 
     there : same_path r x ≡ false → view x (after_grant q.session q.resource q.mode t) ≡ view x t
@@ -117,40 +117,40 @@ front-seen r (q ∷ qs) t i e x = go (fits t q.session q.resource q.mode) refl (
         (λ p f. let same : q ≡ p = let k = sym request.0 ∙ f in cc in ap (λ (c : rules.Claim). same_path c.resource x) (sym same) ∙ (ap (λ (y : List ℕ). same_path y x) path ∙ n))
 
     go : (b : Bool) → fits t q.session q.resource q.mode ≡ b
-        → (IsSound (after_grant q.session q.resource q.mode t) → queue (after_grant q.session q.resource q.mode t) r ≡ qs → view x (granted_while_fitting qs (after_grant q.session q.resource q.mode t)) ≡ cond (same_path r x) (front_granted (claims_on r (after_grant q.session q.resource q.mode t).held) (map short qs)) (view x (after_grant q.session q.resource q.mode t)))
-        → view x (cond b (granted_while_fitting qs (after_grant q.session q.resource q.mode t)) t) ≡ cond (same_path r x) (cond (fits_among (short q) (claims_on r t.held)) (front_granted (with_claim (short q) (claims_on r t.held)) (map short qs)) (record { holders = claims_on r t.held; waiting = short q ∷ map short qs })) (view x t)
+        → (IsSound (after_grant q.session q.resource q.mode t) → queue (after_grant q.session q.resource q.mode t) r ≡ qs → view x (granted_while_fitting qs (after_grant q.session q.resource q.mode t)) ≡ cond (same_path r x) (view_after_grants (claims_on r (after_grant q.session q.resource q.mode t).held) (map short qs)) (view x (after_grant q.session q.resource q.mode t)))
+        → view x (cond b (granted_while_fitting qs (after_grant q.session q.resource q.mode t)) t) ≡ cond (same_path r x) (cond (fits_among (short q) (claims_on r t.held)) (view_after_grants (with_holder (short q) (claims_on r t.held)) (map short qs)) (record { holders = claims_on r t.held; waiting = short q ∷ map short qs })) (view x t)
     go true f more =
         more (granted-sound q.session q.resource q.mode t i (i.raising q.session q request.0) (i.asked_under q.session q request.0) f) (queue-rest t (after_grant q.session q.resource q.mode t) r q qs i.once e (granted-alters q.session q.resource q.mode t))
-        ∙ (ap (λ (hs : List Claim). cond (same_path r x) (front_granted hs (map short qs)) (view x (after_grant q.session q.resource q.mode t))) holders-next
+        ∙ (ap (λ (hs : List SessionMode). cond (same_path r x) (view_after_grants hs (map short qs)) (view x (after_grant q.session q.resource q.mode t))) holders-next
         ∙ (elim (bool_cases (same_path r x)) [
           | inl h ↦ rw h refl
-          | inr h ↦ ap (λ (b : Bool). cond b (front_granted (with_claim (short q) (claims_on r t.held)) (map short qs)) (view x (after_grant q.session q.resource q.mode t))) h ∙ (there h ∙ sym (ap (λ (b : Bool). cond b (front_granted (with_claim (short q) (claims_on r t.held)) (map short qs)) (view x t)) h))
+          | inr h ↦ ap (λ (b : Bool). cond b (view_after_grants (with_holder (short q) (claims_on r t.held)) (map short qs)) (view x (after_grant q.session q.resource q.mode t))) h ∙ (there h ∙ sym (ap (λ (b : Bool). cond b (view_after_grants (with_holder (short q) (claims_on r t.held)) (map short qs)) (view x t)) h))
         ]
-        ∙ ap (λ (b : Bool). cond (same_path r x) (cond b (front_granted (with_claim (short q) (claims_on r t.held)) (map short qs)) (record { holders = claims_on r t.held; waiting = short q ∷ map short qs })) (view x t)) (sym f ∙ same-fit)))
+        ∙ ap (λ (b : Bool). cond (same_path r x) (cond b (view_after_grants (with_holder (short q) (claims_on r t.held)) (map short qs)) (record { holders = claims_on r t.held; waiting = short q ∷ map short qs })) (view x t)) (sym f ∙ same-fit)))
     go false f more =
         elim (same_path_tells r x) [
           | inl h ↦ subst (λ (p : List ℕ). view p t ≡ cond (same_path r p) (record { holders = claims_on r t.held; waiting = short q ∷ map short qs }) (view p t)) h.1
               ((λ j. record { holders = claims_on r t.held; waiting = map short (e j) }) ∙ sym (ap (λ (b : Bool). cond b (record { holders = claims_on r t.held; waiting = short q ∷ map short qs }) (view r t)) (same_path-refl r)))
           | inr h ↦ sym (ap (λ (b : Bool). cond b (record { holders = claims_on r t.held; waiting = short q ∷ map short qs }) (view x t)) h)
         ]
-        ∙ ap (λ (b : Bool). cond (same_path r x) (cond b (front_granted (with_claim (short q) (claims_on r t.held)) (map short qs)) (record { holders = claims_on r t.held; waiting = short q ∷ map short qs })) (view x t)) (sym f ∙ same-fit)
+        ∙ ap (λ (b : Bool). cond (same_path r x) (cond b (view_after_grants (with_holder (short q) (claims_on r t.held)) (map short qs)) (record { holders = claims_on r t.held; waiting = short q ∷ map short qs })) (view x t)) (sym f ∙ same-fit)
 
 -- the resource whose queue is promoted
-pub promoted-seen : (r : List ℕ) (t : rules.Table) → IsSound t → (x : List ℕ) → view x (after_promotion r t) ≡ cond (same_path r x) (promoted_view (view x t)) (view x t)
+pub promoted-seen : (r : List ℕ) (t : rules.Table) → IsSound t → (x : List ℕ) → view x (after_promotion r t) ≡ cond (same_path r x) (view_after_promotion (view x t)) (view x t)
 promoted-seen r t i x = front-seen r (queue t r) t i refl x ∙ elim (same_path_tells r x) [
-  | inl h ↦ subst (λ (p : List ℕ). cond (same_path r p) (promoted_view (view r t)) (view p t) ≡ cond (same_path r p) (promoted_view (view p t)) (view p t)) h.1 refl
+  | inl h ↦ subst (λ (p : List ℕ). cond (same_path r p) (view_after_promotion (view r t)) (view p t) ≡ cond (same_path r p) (view_after_promotion (view p t)) (view p t)) h.1 refl
   | inr h ↦ rw h refl
 ]
 
 -- each resource that is named was promoted
-pub all-seen : (rs : List (List ℕ)) (t : rules.Table) → IsSound t → (x : List ℕ) → view x (after_promotions rs t) ≡ cond (has_path x rs) (promoted_view (view x t)) (view x t)
+pub all-seen : (rs : List (List ℕ)) (t : rules.Table) → IsSound t → (x : List ℕ) → view x (after_promotions rs t) ≡ cond (has_path x rs) (view_after_promotion (view x t)) (view x t)
 all-seen [] t i x = refl
 all-seen (r ∷ rs) t i x =
     all-seen rs (after_promotion r t) (promoted-promoted r t i).follows.sound x
-    ∙ (ap (λ (v : View). cond (has_path x rs) (promoted_view v) v) (promoted-seen r t i x)
+    ∙ (ap (λ (v : View). cond (has_path x rs) (view_after_promotion v) v) (promoted-seen r t i x)
     ∙ go (same_path r x) (has_path x rs))
   where
-    go : (b c : Bool) → cond c (promoted_view (cond b (promoted_view (view x t)) (view x t))) (cond b (promoted_view (view x t)) (view x t)) ≡ cond (b || c) (promoted_view (view x t)) (view x t)
+    go : (b c : Bool) → cond c (view_after_promotion (cond b (view_after_promotion (view x t)) (view x t))) (cond b (view_after_promotion (view x t)) (view x t)) ≡ cond (b || c) (view_after_promotion (view x t)) (view x t)
     go true true = promoted-again (view x t)
     go true false = refl
     go false c = refl

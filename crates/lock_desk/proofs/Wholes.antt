@@ -1,4 +1,4 @@
--- The rows say what the cells say, after each change.
+-- The lockers say what the cells say, after each change.
 use Rattle.std.proofs.Common.{◌≡◌, ℕ, zero, suc, ◌<◌, Bool, true, false, cond, not, eqb, ◌&&◌, ◌||◌, inl, inr, List, [], ◌∷◌, length, map, get_or, set, Option, Some, None, refl, sym, ◌∙◌, ap, arith, subst}
 use Rattle.lock_rules.proofs.Sound.{eqb-swap}
 use Rattle.std.specs.List.{All}
@@ -7,15 +7,15 @@ use Rattle.std.proofs.lemmas.List.{get_or-set_same, get_or-set_other}
 use Rattle.std.proofs.lemmas.List.Elements.{All-head, All-tail}
 use Rattle.lock_tree.specs.Paths.{same_path}
 use Rattle.lock_rules.proofs.Lists.{bool_cases, same_path-refl, same_path-true, same_path_tells}
-use Rattle.lock_desk.specs.declared.cells.Claim.{Claim}
-use Rattle.lock_desk.specs.declared.rows.Row.{Row}
+use Rattle.lock_desk.specs.declared.cells.SessionMode.{SessionMode}
+use Rattle.lock_desk.specs.declared.lockers.Locker.{Locker}
 use Rattle.lock_desk.specs.declared.desk.Desk.{Desk}
 use Rattle.lock_desk.specs.declared.cells.Part.{Part}
 use Rattle.lock_desk.specs.declared.cells.Part.TheVariants as part
-use Rattle.lock_desk.specs.Cells.{View, with_claim, has_claim, given_up, queued, can_grant, asked_view, has_path, AreApart}
-use Rattle.lock_desk.specs.Rows.{Standing, no_standing, standing_of, standing_at, is_wanted, asked_standing, IsKeptRow, IsSameOrAdmitted, AreSameOrAdmitted, DoAgree}
-use Rattle.lock_desk.specs.Changes.{seen, standings}
-use Rattle.lock_desk.proofs.Claims.{has_claim-with_claim, has_claim-queued, has_claim-without}
+use Rattle.lock_desk.specs.Cells.{View, with_holder, has_session, view_after_giving_up, queue_with, can_grant, view_after_asking, has_path, AreApart}
+use Rattle.lock_desk.specs.Lockers.{Standing, no_standing, standing_of, standing_at, is_wanted, standing_after_asking, IsKeptLocker, IsSameOrGranted, AreSameOrGranted, DoAgree}
+use Rattle.lock_desk.specs.Changes.{view_at, standings}
+use Rattle.lock_desk.proofs.SessionModes.{has_session-with_holder, has_session-queued, has_session-without}
 use Rattle.lock_desk.proofs.Standings.{has_path-with, has_path-with_other}
 use Rattle.lock_desk.proofs.Seen.{map-set_same, get_or-any}
 
@@ -29,22 +29,22 @@ other-standing ss s u x e = grind (arith, nat_tests, get_or-set_other {A = Stand
 pub own-standing : (ss : List Standing) (s : ℕ) (x : Standing) → s < length ss → standing_at s (set ss s x) ≡ x
 own-standing ss s x lt = get_or-set_same ss s x no_standing lt
 
--- a row that says the same changes nothing
-pub standings-same : (ws : List Row) (s : ℕ) (w new : Row) → s < length ws → w ≡ get_or ws s w → standing_of new ≡ standing_of w → map standing_of (set ws s new) ≡ map standing_of ws
+-- a locker that says the same changes nothing
+pub standings-same : (ws : List Locker) (s : ℕ) (w new : Locker) → s < length ws → w ≡ get_or ws s w → standing_of new ≡ standing_of w → map standing_of (set ws s new) ≡ map standing_of ws
 standings-same ws s w new lt at e = map-set_same standing_of ws s new (e ∙ ap standing_of (at ∙ get_or-any ws s w new lt))
 
 -- no session holds a resource twice
-pub apart-at : (ws : List Row) (s : ℕ) → All IsKeptRow ws → AreApart (standing_at s (map standing_of ws)).held
+pub apart-at : (ws : List Locker) (s : ℕ) → All IsKeptLocker ws → AreApart (standing_at s (map standing_of ws)).held
 apart-at [] s k = tt
-apart-at (w ∷ ws) zero k = (All-head IsKeptRow w ws k).apart
-apart-at (w ∷ ws) (suc s) k = apart-at ws s (All-tail IsKeptRow w ws k)
+apart-at (w ∷ ws) zero k = (All-head IsKeptLocker w ws k).apart
+apart-at (w ∷ ws) (suc s) k = apart-at ws s (All-tail IsKeptLocker w ws k)
 
--- the rows and the cells agree about the resource that has changed, and about the others as before
-pub all-agree : (r : List ℕ) (v : View) (d e : Desk) → ((q : List ℕ) → seen q e ≡ cond (same_path r q) v (seen q d)) → DoAgree r v (standings e)
-    → ((x : List ℕ) → same_path r x ≡ false → DoAgree x (seen x d) (standings e)) → (x : List ℕ) → DoAgree x (seen x e) (standings e)
+-- the lockers and the cells agree about the resource that has changed, and about the others as before
+pub all-agree : (r : List ℕ) (v : View) (d e : Desk) → ((q : List ℕ) → view_at q e ≡ cond (same_path r q) v (view_at q d)) → DoAgree r v (standings e)
+    → ((x : List ℕ) → same_path r x ≡ false → DoAgree x (view_at x d) (standings e)) → (x : List ℕ) → DoAgree x (view_at x e) (standings e)
 all-agree r v d e views here there x = elim (same_path_tells r x) [
-  | inl h ↦ subst (λ (w : View). DoAgree x w (standings e)) (sym (views x ∙ ap (λ (b : Bool). cond b v (seen x d)) h.0)) (subst (λ (p : List ℕ). DoAgree p v (standings e)) h.1 here)
-  | inr h ↦ subst (λ (w : View). DoAgree x w (standings e)) (sym (views x ∙ ap (λ (b : Bool). cond b v (seen x d)) h)) (there x h)
+  | inl h ↦ subst (λ (w : View). DoAgree x w (standings e)) (sym (views x ∙ ap (λ (b : Bool). cond b v (view_at x d)) h.0)) (subst (λ (p : List ℕ). DoAgree p v (standings e)) h.1 here)
+  | inr h ↦ subst (λ (w : View). DoAgree x w (standings e)) (sym (views x ∙ ap (λ (b : Bool). cond b v (view_at x d)) h)) (there x h)
 ]
 
 -- a lock or a request is given up
@@ -66,25 +66,25 @@ pub record GivesUp (p : Part) (r : List ℕ) (x y : Standing) : Type 0 where
   pub held_elsewhere : (q : List ℕ) → same_path r q ≡ false → has_path q y.held ≡ has_path q x.held
   pub wanted_elsewhere : (q : List ℕ) → same_path r q ≡ false → is_wanted q y.wanted ≡ is_wanted q x.wanted
 
-own-holders : (p : Part) (s : ℕ) (v : View) → has_claim s (given_up p s v).holders ≡ still_held p (has_claim s v.holders)
-own-holders part.Lock s v = has_claim-without s s v.holders ∙ ap (λ (b : Bool). not b && has_claim s v.holders) ((Decides-eqb s s).1 refl)
+own-holders : (p : Part) (s : ℕ) (v : View) → has_session s (view_after_giving_up p s v).holders ≡ still_held p (has_session s v.holders)
+own-holders part.Lock s v = has_session-without s s v.holders ∙ ap (λ (b : Bool). not b && has_session s v.holders) ((Decides-eqb s s).1 refl)
 own-holders part.Request s v = refl
 
-own-waiting : (p : Part) (s : ℕ) (v : View) → has_claim s (given_up p s v).waiting ≡ still_wanted p (has_claim s v.waiting)
+own-waiting : (p : Part) (s : ℕ) (v : View) → has_session s (view_after_giving_up p s v).waiting ≡ still_wanted p (has_session s v.waiting)
 own-waiting part.Lock s v = refl
-own-waiting part.Request s v = has_claim-without s s v.waiting ∙ ap (λ (b : Bool). not b && has_claim s v.waiting) ((Decides-eqb s s).1 refl)
+own-waiting part.Request s v = has_session-without s s v.waiting ∙ ap (λ (b : Bool). not b && has_session s v.waiting) ((Decides-eqb s s).1 refl)
 
-other-holders : (p : Part) (s u : ℕ) (v : View) → eqb s u ≡ false → has_claim u (given_up p s v).holders ≡ has_claim u v.holders
-other-holders part.Lock s u v n = has_claim-without s u v.holders ∙ ap (λ (b : Bool). not b && has_claim u v.holders) (eqb-swap s u n)
+other-holders : (p : Part) (s u : ℕ) (v : View) → eqb s u ≡ false → has_session u (view_after_giving_up p s v).holders ≡ has_session u v.holders
+other-holders part.Lock s u v n = has_session-without s u v.holders ∙ ap (λ (b : Bool). not b && has_session u v.holders) (eqb-swap s u n)
 other-holders part.Request s u v n = refl
 
-other-waiting : (p : Part) (s u : ℕ) (v : View) → eqb s u ≡ false → has_claim u (given_up p s v).waiting ≡ has_claim u v.waiting
+other-waiting : (p : Part) (s u : ℕ) (v : View) → eqb s u ≡ false → has_session u (view_after_giving_up p s v).waiting ≡ has_session u v.waiting
 other-waiting part.Lock s u v n = refl
-other-waiting part.Request s u v n = has_claim-without s u v.waiting ∙ ap (λ (b : Bool). not b && has_claim u v.waiting) (eqb-swap s u n)
+other-waiting part.Request s u v n = has_session-without s u v.waiting ∙ ap (λ (b : Bool). not b && has_session u v.waiting) (eqb-swap s u n)
 
 module _ (ss : List Standing) (p : Part) (s : ℕ) (r : List ℕ) (y : Standing) (lt : s < length ss) (gives : GivesUp p r (standing_at s ss) y) where
-  -- rows and cell agree where it was given up
-  pub given-agree : (v : View) → DoAgree r v ss → DoAgree r (given_up p s v) (set ss s y)
+  -- lockers and cell agree where it was given up
+  pub given-agree : (v : View) → DoAgree r v ss → DoAgree r (view_after_giving_up p s v) (set ss s y)
   given-agree v a = record {
     held = λ u. elim (bool_cases (eqb s u)) [
       | inl h ↦ let f = (Decides-eqb s u).0 h in
@@ -120,87 +120,87 @@ pub wanted-other : (r x : List ℕ) (o : Option (List ℕ)) → is_wanted r o �
 wanted-other r x None h n = refl
 wanted-other r x (Some p) h n = ap (λ (q : List ℕ). same_path q x) (same_path-true p r h) ∙ n
 
-held-admitted : (r x : List ℕ) (a b : Standing) → same_path r x ≡ false → IsSameOrAdmitted r a b → has_path x b.held ≡ has_path x a.held
-held-admitted r x a b n (inl e) = ap (λ (y : Standing). has_path x y.held) e
-held-admitted r x a b n (inr e) = ap (λ (y : Standing). has_path x y.held) e.1 ∙ has_path-with_other x r a.held n
+held-granted : (r x : List ℕ) (a b : Standing) → same_path r x ≡ false → IsSameOrGranted r a b → has_path x b.held ≡ has_path x a.held
+held-granted r x a b n (inl e) = ap (λ (y : Standing). has_path x y.held) e
+held-granted r x a b n (inr e) = ap (λ (y : Standing). has_path x y.held) e.1 ∙ has_path-with_other x r a.held n
 
-wanted-admitted : (r x : List ℕ) (a b : Standing) → same_path r x ≡ false → IsSameOrAdmitted r a b → is_wanted x b.wanted ≡ is_wanted x a.wanted
-wanted-admitted r x a b n (inl e) = ap (λ (y : Standing). is_wanted x y.wanted) e
-wanted-admitted r x a b n (inr e) = ap (λ (y : Standing). is_wanted x y.wanted) e.1 ∙ sym (wanted-other r x a.wanted e.0 n)
+wanted-granted : (r x : List ℕ) (a b : Standing) → same_path r x ≡ false → IsSameOrGranted r a b → is_wanted x b.wanted ≡ is_wanted x a.wanted
+wanted-granted r x a b n (inl e) = ap (λ (y : Standing). is_wanted x y.wanted) e
+wanted-granted r x a b n (inr e) = ap (λ (y : Standing). is_wanted x y.wanted) e.1 ∙ sym (wanted-other r x a.wanted e.0 n)
 
 -- a grant elsewhere makes no difference
-pub admitted-other : (r x : List ℕ) (v : View) (old new : List Standing) → same_path r x ≡ false → AreSameOrAdmitted r old new → DoAgree x v old → DoAgree x v new
-admitted-other r x v old new n h a = record {
-  held = λ u. held-admitted r x (standing_at u old) (standing_at u new) n (h u) ∙ a.held u;
-  wanted = λ u. wanted-admitted r x (standing_at u old) (standing_at u new) n (h u) ∙ a.wanted u;
+pub granted-other : (r x : List ℕ) (v : View) (old new : List Standing) → same_path r x ≡ false → AreSameOrGranted r old new → DoAgree x v old → DoAgree x v new
+granted-other r x v old new n h a = record {
+  held = λ u. held-granted r x (standing_at u old) (standing_at u new) n (h u) ∙ a.held u;
+  wanted = λ u. wanted-granted r x (standing_at u old) (standing_at u new) n (h u) ∙ a.wanted u;
 }
 
 -- who waits for nothing is not admitted
-pub not-admitted : (r : List ℕ) (a b : Standing) → a.wanted ≡ None → IsSameOrAdmitted r a b → b ≡ a
-not-admitted r a b h (inl e) = e
-not-admitted r a b h (inr e) = absurd (let f = ap (is_wanted r) h in let g = e.0 in cc)
+pub not-granted : (r : List ℕ) (a b : Standing) → a.wanted ≡ None → IsSameOrGranted r a b → b ≡ a
+not-granted r a b h (inl e) = e
+not-granted r a b h (inr e) = absurd (let f = ap (is_wanted r) h in let g = e.0 in cc)
 
 -- a session asks
 
-module _ (ss : List Standing) (s : ℕ) (r : List ℕ) (c : Claim) (lt : s < length ss) (same : c.session ≡ s) where
-  own-claim : (hs : List Claim) → has_claim s (with_claim c hs) ≡ true
-  own-claim hs = has_claim-with_claim s c hs ∙ ap (λ (b : Bool). b || has_claim s hs) ((Decides-eqb c.session s).1 same)
+module _ (ss : List Standing) (s : ℕ) (r : List ℕ) (c : SessionMode) (lt : s < length ss) (same : c.session ≡ s) where
+  own-holder : (hs : List SessionMode) → has_session s (with_holder c hs) ≡ true
+  own-holder hs = has_session-with_holder s c hs ∙ ap (λ (b : Bool). b || has_session s hs) ((Decides-eqb c.session s).1 same)
 
-  other-claim : (u : ℕ) (hs : List Claim) → eqb s u ≡ false → has_claim u (with_claim c hs) ≡ has_claim u hs
-  other-claim u hs n = has_claim-with_claim u c hs ∙ ap (λ (b : Bool). b || has_claim u hs) (ap (λ (i : ℕ). eqb i u) same ∙ n)
+  other-holder : (u : ℕ) (hs : List SessionMode) → eqb s u ≡ false → has_session u (with_holder c hs) ≡ has_session u hs
+  other-holder u hs n = has_session-with_holder u c hs ∙ ap (λ (b : Bool). b || has_session u hs) (ap (λ (i : ℕ). eqb i u) same ∙ n)
 
-  own-queued : (hs ws : List Claim) → has_claim s (queued c hs ws) ≡ true
-  own-queued hs ws = has_claim-queued s c hs ws ∙ ap (λ (b : Bool). b || has_claim s ws) ((Decides-eqb c.session s).1 same)
+  own-queued : (hs ws : List SessionMode) → has_session s (queue_with c hs ws) ≡ true
+  own-queued hs ws = has_session-queued s c hs ws ∙ ap (λ (b : Bool). b || has_session s ws) ((Decides-eqb c.session s).1 same)
 
-  other-queued : (u : ℕ) (hs ws : List Claim) → eqb s u ≡ false → has_claim u (queued c hs ws) ≡ has_claim u ws
-  other-queued u hs ws n = has_claim-queued u c hs ws ∙ ap (λ (b : Bool). b || has_claim u ws) (ap (λ (i : ℕ). eqb i u) same ∙ n)
+  other-queued : (u : ℕ) (hs ws : List SessionMode) → eqb s u ≡ false → has_session u (queue_with c hs ws) ≡ has_session u ws
+  other-queued u hs ws n = has_session-queued u c hs ws ∙ ap (λ (b : Bool). b || has_session u ws) (ap (λ (i : ℕ). eqb i u) same ∙ n)
 
-  abbrev asked_standings : Bool → List Standing
-  asked_standings b = set ss s (asked_standing b r (standing_at s ss))
+  abbrev standings_after_asking : Bool → List Standing
+  standings_after_asking b = set ss s (standing_after_asking b r (standing_at s ss))
 
-  asked-either : (standing_at s ss).wanted ≡ None → (v : View) (b : Bool) → DoAgree r v ss → DoAgree r (cond b (record { holders = with_claim c v.holders; waiting = v.waiting }) (record { holders = v.holders; waiting = queued c v.holders v.waiting })) (asked_standings b)
+  asked-either : (standing_at s ss).wanted ≡ None → (v : View) (b : Bool) → DoAgree r v ss → DoAgree r (cond b (record { holders = with_holder c v.holders; waiting = v.waiting }) (record { holders = v.holders; waiting = queue_with c v.holders v.waiting })) (standings_after_asking b)
   asked-either idle v true a = record {
     held = λ u. elim (bool_cases (eqb s u)) [
-      | inl h ↦ let f = (Decides-eqb s u).0 h in rw (← f) (ap (λ (x : Standing). has_path r x.held) (own-standing ss s (asked_standing true r (standing_at s ss)) lt) ∙ (has_path-with r (standing_at s ss).held ∙ sym (own-claim v.holders)))
-      | inr h ↦ ap (λ (x : Standing). has_path r x.held) (other-standing ss s u (asked_standing true r (standing_at s ss)) h) ∙ (a.held u ∙ sym (other-claim u v.holders h))
+      | inl h ↦ let f = (Decides-eqb s u).0 h in rw (← f) (ap (λ (x : Standing). has_path r x.held) (own-standing ss s (standing_after_asking true r (standing_at s ss)) lt) ∙ (has_path-with r (standing_at s ss).held ∙ sym (own-holder v.holders)))
+      | inr h ↦ ap (λ (x : Standing). has_path r x.held) (other-standing ss s u (standing_after_asking true r (standing_at s ss)) h) ∙ (a.held u ∙ sym (other-holder u v.holders h))
     ];
     wanted = λ u. elim (bool_cases (eqb s u)) [
-      | inl h ↦ let f = (Decides-eqb s u).0 h in rw (← f) (ap (λ (x : Standing). is_wanted r x.wanted) (own-standing ss s (asked_standing true r (standing_at s ss)) lt) ∙ (sym (ap (is_wanted r) idle) ∙ a.wanted s))
-      | inr h ↦ ap (λ (x : Standing). is_wanted r x.wanted) (other-standing ss s u (asked_standing true r (standing_at s ss)) h) ∙ a.wanted u
+      | inl h ↦ let f = (Decides-eqb s u).0 h in rw (← f) (ap (λ (x : Standing). is_wanted r x.wanted) (own-standing ss s (standing_after_asking true r (standing_at s ss)) lt) ∙ (sym (ap (is_wanted r) idle) ∙ a.wanted s))
+      | inr h ↦ ap (λ (x : Standing). is_wanted r x.wanted) (other-standing ss s u (standing_after_asking true r (standing_at s ss)) h) ∙ a.wanted u
     ];
   }
   asked-either idle v false a = record {
     held = λ u. elim (bool_cases (eqb s u)) [
-      | inl h ↦ let f = (Decides-eqb s u).0 h in rw (← f) (ap (λ (x : Standing). has_path r x.held) (own-standing ss s (asked_standing false r (standing_at s ss)) lt) ∙ a.held s)
-      | inr h ↦ ap (λ (x : Standing). has_path r x.held) (other-standing ss s u (asked_standing false r (standing_at s ss)) h) ∙ a.held u
+      | inl h ↦ let f = (Decides-eqb s u).0 h in rw (← f) (ap (λ (x : Standing). has_path r x.held) (own-standing ss s (standing_after_asking false r (standing_at s ss)) lt) ∙ a.held s)
+      | inr h ↦ ap (λ (x : Standing). has_path r x.held) (other-standing ss s u (standing_after_asking false r (standing_at s ss)) h) ∙ a.held u
     ];
     wanted = λ u. elim (bool_cases (eqb s u)) [
-      | inl h ↦ let f = (Decides-eqb s u).0 h in rw (← f) (ap (λ (x : Standing). is_wanted r x.wanted) (own-standing ss s (asked_standing false r (standing_at s ss)) lt) ∙ (same_path-refl r ∙ sym (own-queued v.holders v.waiting)))
-      | inr h ↦ ap (λ (x : Standing). is_wanted r x.wanted) (other-standing ss s u (asked_standing false r (standing_at s ss)) h) ∙ (a.wanted u ∙ sym (other-queued u v.holders v.waiting h))
+      | inl h ↦ let f = (Decides-eqb s u).0 h in rw (← f) (ap (λ (x : Standing). is_wanted r x.wanted) (own-standing ss s (standing_after_asking false r (standing_at s ss)) lt) ∙ (same_path-refl r ∙ sym (own-queued v.holders v.waiting)))
+      | inr h ↦ ap (λ (x : Standing). is_wanted r x.wanted) (other-standing ss s u (standing_after_asking false r (standing_at s ss)) h) ∙ (a.wanted u ∙ sym (other-queued u v.holders v.waiting h))
     ];
   }
 
-  -- rows and cell agree about the resource that was asked for
-  pub asked-agree : (standing_at s ss).wanted ≡ None → (v : View) (b : Bool) → b ≡ can_grant c v → DoAgree r v ss → DoAgree r (asked_view c v) (asked_standings b)
-  asked-agree idle v b e a = subst (λ (x : Bool). DoAgree r (cond x (record { holders = with_claim c v.holders; waiting = v.waiting }) (record { holders = v.holders; waiting = queued c v.holders v.waiting })) (asked_standings b)) e (asked-either idle v b a)
+  -- lockers and cell agree about the resource that was asked for
+  pub asked-agree : (standing_at s ss).wanted ≡ None → (v : View) (b : Bool) → b ≡ can_grant c v → DoAgree r v ss → DoAgree r (view_after_asking c v) (standings_after_asking b)
+  asked-agree idle v b e a = subst (λ (x : Bool). DoAgree r (cond x (record { holders = with_holder c v.holders; waiting = v.waiting }) (record { holders = v.holders; waiting = queue_with c v.holders v.waiting })) (standings_after_asking b)) e (asked-either idle v b a)
 
-  held-asked : (x : List ℕ) (b : Bool) → same_path r x ≡ false → has_path x (asked_standing b r (standing_at s ss)).held ≡ has_path x (standing_at s ss).held
+  held-asked : (x : List ℕ) (b : Bool) → same_path r x ≡ false → has_path x (standing_after_asking b r (standing_at s ss)).held ≡ has_path x (standing_at s ss).held
   held-asked x true n = has_path-with_other x r (standing_at s ss).held n
   held-asked x false n = refl
 
-  wanted-asked : (x : List ℕ) (b : Bool) → same_path r x ≡ false → (standing_at s ss).wanted ≡ None → is_wanted x (asked_standing b r (standing_at s ss)).wanted ≡ is_wanted x (standing_at s ss).wanted
+  wanted-asked : (x : List ℕ) (b : Bool) → same_path r x ≡ false → (standing_at s ss).wanted ≡ None → is_wanted x (standing_after_asking b r (standing_at s ss)).wanted ≡ is_wanted x (standing_at s ss).wanted
   wanted-asked x true n idle = sym (ap (is_wanted x) idle)
   wanted-asked x false n idle = n ∙ sym (ap (is_wanted x) idle)
 
   -- and about the others as before
-  pub asked-other : (x : List ℕ) (v : View) (b : Bool) → same_path r x ≡ false → (standing_at s ss).wanted ≡ None → DoAgree x v ss → DoAgree x v (asked_standings b)
+  pub asked-other : (x : List ℕ) (v : View) (b : Bool) → same_path r x ≡ false → (standing_at s ss).wanted ≡ None → DoAgree x v ss → DoAgree x v (standings_after_asking b)
   asked-other x v b n idle a = record {
     held = λ u. elim (bool_cases (eqb s u)) [
-      | inl h ↦ let f = (Decides-eqb s u).0 h in rw (← f) (ap (λ (y : Standing). has_path x y.held) (own-standing ss s (asked_standing b r (standing_at s ss)) lt) ∙ (held-asked x b n ∙ a.held s))
-      | inr h ↦ ap (λ (y : Standing). has_path x y.held) (other-standing ss s u (asked_standing b r (standing_at s ss)) h) ∙ a.held u
+      | inl h ↦ let f = (Decides-eqb s u).0 h in rw (← f) (ap (λ (y : Standing). has_path x y.held) (own-standing ss s (standing_after_asking b r (standing_at s ss)) lt) ∙ (held-asked x b n ∙ a.held s))
+      | inr h ↦ ap (λ (y : Standing). has_path x y.held) (other-standing ss s u (standing_after_asking b r (standing_at s ss)) h) ∙ a.held u
     ];
     wanted = λ u. elim (bool_cases (eqb s u)) [
-      | inl h ↦ let f = (Decides-eqb s u).0 h in rw (← f) (ap (λ (y : Standing). is_wanted x y.wanted) (own-standing ss s (asked_standing b r (standing_at s ss)) lt) ∙ (wanted-asked x b n idle ∙ a.wanted s))
-      | inr h ↦ ap (λ (y : Standing). is_wanted x y.wanted) (other-standing ss s u (asked_standing b r (standing_at s ss)) h) ∙ a.wanted u
+      | inl h ↦ let f = (Decides-eqb s u).0 h in rw (← f) (ap (λ (y : Standing). is_wanted x y.wanted) (own-standing ss s (standing_after_asking b r (standing_at s ss)) lt) ∙ (wanted-asked x b n idle ∙ a.wanted s))
+      | inr h ↦ ap (λ (y : Standing). is_wanted x y.wanted) (other-standing ss s u (standing_after_asking b r (standing_at s ss)) h) ∙ a.wanted u
     ];
   }

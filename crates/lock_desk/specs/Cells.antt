@@ -5,7 +5,7 @@ use Rattle.std.specs.Map.{lookup}
 use Rattle.lock_modes.specs.declared.Mode.{Mode}
 use Rattle.lock_modes.specs.Compatibility.{are_compatible}
 use Rattle.lock_tree.specs.Paths.{same_path}
-use Rattle.lock_desk.specs.declared.cells.Claim.{Claim}
+use Rattle.lock_desk.specs.declared.cells.SessionMode.{SessionMode}
 use Rattle.lock_desk.specs.declared.cells.Part.{Part}
 use Rattle.lock_desk.specs.declared.cells.Part.TheVariants as part
 use Rattle.lock_desk.specs.declared.cells.Cell.{Cell}
@@ -13,96 +13,96 @@ use Rattle.lock_desk.specs.declared.cells.Cell.{Cell}
 -- one list of claims
 
 -- the session has a claim among them
-abbrev pub has_claim : ℕ → List Claim → Bool
-has_claim s cs = list_any (λ c. c.session == s) cs
+abbrev pub has_session : ℕ → List SessionMode → Bool
+has_session s cs = list_any (λ c. c.session == s) cs
 
 -- the mode of the session's claim among them
-abbrev pub mode_of : ℕ → List Claim → Option Mode
+abbrev pub mode_of : ℕ → List SessionMode → Option Mode
 mode_of s [] = None
 mode_of s (c ∷ cs) = if c.session == s then Some c.mode else mode_of s cs
 
 -- the session of a claim with its mode
-abbrev pub pair_of : Claim → ℕ × Mode
+abbrev pub pair_of : SessionMode → ℕ × Mode
 pair_of c = (c.session, c.mode)
 
 -- how many claims the session has
-abbrev pub times : ℕ → List Claim → ℕ
+abbrev pub times : ℕ → List SessionMode → ℕ
 times s [] = 0
 times s (c ∷ cs) = (if c.session == s then 1 else 0) + times s cs
 
 -- the session's claim is this one, and stands by session number
-abbrev pub with_claim : Claim → List Claim → List Claim
-with_claim c [] = c ∷ []
-with_claim c (h ∷ hs) =
+abbrev pub with_holder : SessionMode → List SessionMode → List SessionMode
+with_holder c [] = c ∷ []
+with_holder c (h ∷ hs) =
     if h.session == c.session then c ∷ hs
-    else (if nat_lt c.session h.session then c ∷ h ∷ hs else h ∷ with_claim c hs)
+    else (if nat_lt c.session h.session then c ∷ h ∷ hs else h ∷ with_holder c hs)
 
 -- the claims of all other sessions
-abbrev pub without : ℕ → List Claim → List Claim
+abbrev pub without : ℕ → List SessionMode → List SessionMode
 without s cs = filter (λ c. not (c.session == s)) cs
 
 -- the claim's mode is compatible with what each other session holds
-abbrev pub fits_among : Claim → List Claim → Bool
+abbrev pub fits_among : SessionMode → List SessionMode → Bool
 fits_among c hs = list_all (λ h. (h.session == c.session) || are_compatible c.mode h.mode) hs
 
 -- one resource
 
 -- the holders of a resource, and its queue
 pub record View : Type 0 where
-  pub holders : List Claim
-  pub waiting : List Claim
+  pub holders : List SessionMode
+  pub waiting : List SessionMode
 
 -- nobody holds it, and nobody waits for it
 abbrev pub no_view : View
 no_view = record { holders = []; waiting = [] }
 
 -- the first of the queue, where it fits
-abbrev pub next_grant : List Claim → List Claim → Option Claim
+abbrev pub next_grant : List SessionMode → List SessionMode → Option SessionMode
 next_grant hs [] = None
 next_grant hs (q ∷ qs) = if fits_among q hs then Some q else None
 
 -- and what there is once that one is granted
-abbrev pub next_view : List Claim → List Claim → View
-next_view hs [] = record { holders = hs; waiting = [] }
-next_view hs (q ∷ qs) = if fits_among q hs then record { holders = with_claim q hs; waiting = qs } else record { holders = hs; waiting = q ∷ qs }
+abbrev pub view_after_next_grant : List SessionMode → List SessionMode → View
+view_after_next_grant hs [] = record { holders = hs; waiting = [] }
+view_after_next_grant hs (q ∷ qs) = if fits_among q hs then record { holders = with_holder q hs; waiting = qs } else record { holders = hs; waiting = q ∷ qs }
 
 -- one request after another is granted, up to the first that doesn't fit
-abbrev pub front_granted : List Claim → List Claim → View
-front_granted hs [] = record { holders = hs; waiting = [] }
-front_granted hs (q ∷ qs) = if fits_among q hs then front_granted (with_claim q hs) qs else record { holders = hs; waiting = q ∷ qs }
+abbrev pub view_after_grants : List SessionMode → List SessionMode → View
+view_after_grants hs [] = record { holders = hs; waiting = [] }
+view_after_grants hs (q ∷ qs) = if fits_among q hs then view_after_grants (with_holder q hs) qs else record { holders = hs; waiting = q ∷ qs }
 
-abbrev pub promoted_view : View → View
-promoted_view v = front_granted v.holders v.waiting
+abbrev pub view_after_promotion : View → View
+view_after_promotion v = view_after_grants v.holders v.waiting
 
 -- what the session holds is taken away, or its request
-abbrev pub given_up : Part → ℕ → View → View
-given_up part.Lock s v = record { holders = without s v.holders; waiting = v.waiting }
-given_up part.Request s v = record { holders = v.holders; waiting = without s v.waiting }
+abbrev pub view_after_giving_up : Part → ℕ → View → View
+view_after_giving_up part.Lock s v = record { holders = without s v.holders; waiting = v.waiting }
+view_after_giving_up part.Request s v = record { holders = v.holders; waiting = without s v.waiting }
 
 -- and the queue is promoted
-abbrev pub freed_view : Part → ℕ → View → View
-freed_view p s v = promoted_view (given_up p s v)
+abbrev pub view_after_freeing : Part → ℕ → View → View
+view_after_freeing p s v = view_after_promotion (view_after_giving_up p s v)
 
-abbrev pub is_nobody : List Claim → Bool
+abbrev pub is_nobody : List SessionMode → Bool
 is_nobody [] = true
 is_nobody (c ∷ cs) = false
 
 -- a claim is granted at once where it fits, and its session is a holder or nobody waits
-abbrev pub can_grant : Claim → View → Bool
-can_grant c v = fits_among c v.holders && (has_claim c.session v.holders || is_nobody v.waiting)
+abbrev pub can_grant : SessionMode → View → Bool
+can_grant c v = fits_among c v.holders && (has_session c.session v.holders || is_nobody v.waiting)
 
 -- the request stands behind the conversions, which are the requests of holders, and ahead of the others
-abbrev pub behind_conversions : Claim → List Claim → List Claim → List Claim
+abbrev pub behind_conversions : SessionMode → List SessionMode → List SessionMode → List SessionMode
 behind_conversions c hs [] = c ∷ []
-behind_conversions c hs (q ∷ qs) = if has_claim q.session hs then q ∷ behind_conversions c hs qs else c ∷ q ∷ qs
+behind_conversions c hs (q ∷ qs) = if has_session q.session hs then q ∷ behind_conversions c hs qs else c ∷ q ∷ qs
 
 -- a conversion stands there, and a fresh request at the end
-abbrev pub queued : Claim → List Claim → List Claim → List Claim
-queued c hs qs = if has_claim c.session hs then behind_conversions c hs qs else qs ++ c ∷ []
+abbrev pub queue_with : SessionMode → List SessionMode → List SessionMode → List SessionMode
+queue_with c hs qs = if has_session c.session hs then behind_conversions c hs qs else qs ++ c ∷ []
 
 -- what there is once a session has asked
-abbrev pub asked_view : Claim → View → View
-asked_view c v = if can_grant c v then record { holders = with_claim c v.holders; waiting = v.waiting } else record { holders = v.holders; waiting = queued c v.holders v.waiting }
+abbrev pub view_after_asking : SessionMode → View → View
+view_after_asking c v = if can_grant c v then record { holders = with_holder c v.holders; waiting = v.waiting } else record { holders = v.holders; waiting = queue_with c v.holders v.waiting }
 
 -- cells
 
@@ -116,8 +116,8 @@ HasRoom c = vec_len c.holders + vec_len c.waiting ≤ vec_capacity c.holders
 -- no session waits for it twice, and sessions are numbered from 1
 pub record IsOnce (v : View) : Type 0 where
   pub once : (s : ℕ) → times s v.waiting ≤ 1
-  pub holders : has_claim 0 v.holders ≡ false
-  pub waiting : has_claim 0 v.waiting ≡ false
+  pub holders : has_session 0 v.holders ≡ false
+  pub waiting : has_session 0 v.waiting ≡ false
 
 -- somebody holds it or waits for it
 abbrev pub is_busy : View → Bool
@@ -140,13 +140,13 @@ abbrev pub cell_at : List ℕ → Cells → Option Cell
 cell_at r cs = lookup (same_path r) cs
 
 -- what a cell says, where there is one
-abbrev pub said : Option Cell → View
-said None = no_view
-said (Some c) = view_of c
+abbrev pub view_in : Option Cell → View
+view_in None = no_view
+view_in (Some c) = view_of c
 
 -- what the cells say of a resource
 abbrev pub cell_view : List ℕ → Cells → View
-cell_view r cs = said (cell_at r cs)
+cell_view r cs = view_in (cell_at r cs)
 
 -- the resource is among them
 abbrev pub has_path : List ℕ → List (List ℕ) → Bool

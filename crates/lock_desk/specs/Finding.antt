@@ -1,4 +1,4 @@
--- Who waits for whom, by what cells and rows say.
+-- Who waits for whom, by what cells and lockers say.
 use Rattle.std.specs.Prelude.{◌≡◌, ℕ, ◌+◌, ◌≤◌, Bool, false, not, ◌&&◌, ◌||◌, if◌then◌else◌, ◌==◌, List, [], ◌∷◌, Option, Some, None, slice_index_or, vec_len}
 use Rattle.std.specs.List.{All, list_any}
 use Rattle.waits_for.specs.declared.TheConstants.{MAX_SESSIONS}
@@ -6,18 +6,18 @@ use Rattle.waits_for.specs.Pairs.{pairs_of}
 use Rattle.lock_modes.specs.declared.Mode.{Mode}
 use Rattle.lock_modes.specs.Compatibility.{are_compatible}
 use Rattle.lock_rules.specs.State.{number_in}
-use Rattle.lock_desk.specs.declared.cells.Claim.{Claim}
+use Rattle.lock_desk.specs.declared.cells.SessionMode.{SessionMode}
 use Rattle.lock_desk.specs.declared.cells.Cell.{Cell}
 use Rattle.lock_desk.specs.declared.waits.Waits.{Waits}
 use Rattle.lock_desk.specs.Cells.{Cells, View, mode_of, view_of, cell_view}
-use Rattle.lock_desk.specs.Rows.{Standing, standing_at}
+use Rattle.lock_desk.specs.Lockers.{Standing, standing_at}
 
 -- u holds here, is another session, and holds a mode that conflicts with this one
-abbrev pub holder_blocks : ℕ → Mode → ℕ → List Claim → Bool
+abbrev pub holder_blocks : ℕ → Mode → ℕ → List SessionMode → Bool
 holder_blocks s m u hs = list_any (λ h. (h.session == u) && (not (h.session == s) && not (are_compatible m h.mode))) hs
 
 -- the request of u stands before that of s
-abbrev pub stands_first : ℕ → ℕ → List Claim → Bool
+abbrev pub stands_first : ℕ → ℕ → List SessionMode → Bool
 stands_first u s [] = false
 stands_first u s (q ∷ qs) = if q.session == s then false else ((q.session == u) || stands_first u s qs)
 
@@ -47,7 +47,7 @@ pub record IsFilled (cs : Cells) (ss : List Standing) (w : Waits) : Type 0 where
   pub numbers : (a : ℕ) → slice_index_or w.numbers.items a 0 ≡ number_in (standing_at (a + 1) ss).transaction
 
 -- each session of the claims is one of so many
-abbrev pub AreOfSessions : ℕ → List Claim → Type 0
+abbrev pub AreOfSessions : ℕ → List SessionMode → Type 0
 AreOfSessions n cs = All (λ c. (1 ≤ c.session) × (c.session ≤ n)) cs
 
 -- and so is each that holds a resource or waits for it
@@ -55,7 +55,7 @@ pub record IsOfSessions (n : ℕ) (v : View) : Type 0 where
   pub holders : AreOfSessions n v.holders
   pub waiting : AreOfSessions n v.waiting
 
--- there is room for so many sessions, and nothing stands in a row that is not marked
+-- there is room for so many sessions, and nothing stands in a locker that is not marked
 pub record IsReady (n : ℕ) (w : Waits) : Type 0 where
   pub few : n ≤ MAX_SESSIONS
   pub sessions : w.rows.sessions ≡ n

@@ -31,5 +31,5 @@ pub record IsKept (a : Inside) : Type 0 where
   pub shows : Shows a.desk (state_of a.history.items)
   pub whole : IsWhole a.desk
   pub ready : IsReadyDesk a.desk
-  pub rows : vec_len a.desk.rows ≡ a.sessions + 1
+  pub lockers : vec_len a.desk.lockers ≡ a.sessions + 1
   pub counted : a.desk.count ≤ length a.history.items

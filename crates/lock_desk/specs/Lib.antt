@@ -1,5 +1,5 @@
 pub mod Cells
-pub mod Rows
+pub mod Lockers
 pub mod Changes
 pub mod Finding
 pub mod Ready

@@ -3,7 +3,7 @@ use Rattle.std.specs.Prelude.{◌≡◌, ◌+◌, vec_len}
 use Rattle.lock_desk.specs.declared.desk.Desk.{Desk}
 use Rattle.lock_desk.specs.Finding.{IsReady}
 
--- there is a row for each session, and room to write down who waits for whom
+-- there is a locker for each session, and room to write down who waits for whom
 pub record IsReadyDesk (d : Desk) : Type 0 where
-  pub long : d.waits.rows.sessions + 1 ≡ vec_len d.rows
+  pub long : d.waits.rows.sessions + 1 ≡ vec_len d.lockers
   pub ready : IsReady d.waits.rows.sessions d.waits

@@ -13,7 +13,7 @@ ghost use Rattle.lock_desk.specs.Kept.{IsEntryWithin};
 
 use crate::batch::Item;
 use crate::desk::Desk;
-use crate::rows::new_row;
+use crate::lockers::new_locker;
 use crate::waits::new_waits;
 use indexmap::IndexMap;
 use lock_modes::Mode;
@@ -45,7 +45,7 @@ impl Model for Book {
 
 impl Book {
     /// An empty table for sessions 1 to `sessions`, of which there are 1 to `MAX_SESSIONS`.
-    /// `NoMemory` where the rows of the sessions found no room.
+    /// `NoMemory` where the lockers of the sessions found no room.
     pub fn new(alloc: Global, sessions: u16) -> Result<Book, NoMemory>
         requires some { 1 ≤ sessions }
         requires few { sessions ≤ MAX_SESSIONS }
@@ -53,13 +53,13 @@ impl Book {
         ensures empty { IfOk result (λ book. book.history ≡ []) }
     {
         let waits = new_waits(alloc, sessions)?;
-        let mut rows = Vec::new(alloc);
-        for _row in 0..sessions + 1 {
-            rows.push(new_row(alloc))?;
+        let mut lockers = Vec::new(alloc);
+        for _locker in 0..sessions + 1 {
+            lockers.push(new_locker(alloc))?;
         }
         let desk = Desk {
             count: 0,
-            rows,
+            lockers,
             cells: IndexMap::new(alloc),
             waits,
         };

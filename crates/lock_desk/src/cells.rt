@@ -3,8 +3,8 @@
 ghost use Rattle.std.specs.Prelude.{◌≡◌, ℕ, ◌+◌, ◌<◌, ◌≤◌, insert, Bool, false, true, not, List, [], ◌∷◌, ◌++◌, map, IfOk, OnOk, OnErr, length, vec_len, vec_capacity};
 ghost use Rattle.std.specs.Option.{option_copied};
 ghost use Rattle.lock_tree.specs.Paths.{same_path};
-ghost use Rattle.lock_desk.specs.declared.cells.Claim.{Claim as ClaimValue};
-ghost use Rattle.lock_desk.specs.Cells.{View, view_of, has_claim, mode_of, pair_of, with_claim, given_up, fits_among, next_grant, next_view, can_grant, behind_conversions, queued, asked_view, HasRoom, IsKeptCell, AreKeptCells, is_busy, cell_at, cell_view, CellsBecame, ViewBecame};
+ghost use Rattle.lock_desk.specs.declared.cells.SessionMode.{SessionMode as SessionModeValue};
+ghost use Rattle.lock_desk.specs.Cells.{View, view_of, has_session, mode_of, pair_of, with_holder, view_after_giving_up, fits_among, next_grant, view_after_next_grant, can_grant, behind_conversions, queue_with, view_after_asking, HasRoom, IsKeptCell, AreKeptCells, is_busy, cell_at, cell_view, CellsBecame, ViewBecame};
 
 use indexmap::IndexMap;
 use lock_modes::Mode;
@@ -13,7 +13,7 @@ use std::alloc::AllocError;
 
 /// A session with the mode that it holds, or that its request waits for.
 #[derive(Clone, Copy, Debug, PartialEq, Eq)]
-pub struct Claim {
+pub struct SessionMode {
     pub session: u16,
     pub mode: Mode,
 }
@@ -32,8 +32,8 @@ pub enum Part {
 /// promotion takes no memory.
 #[derive(Drop)]
 pub struct Cell {
-    pub holders: Vec<Claim>,
-    pub waiting: Vec<Claim>,
+    pub holders: Vec<SessionMode>,
+    pub waiting: Vec<SessionMode>,
 }
 
 pub(crate) fn is_same(a: Resource, b: Resource) -> bool
@@ -43,82 +43,85 @@ pub(crate) fn is_same(a: Resource, b: Resource) -> bool
     a == b
 }
 
-pub(crate) fn is_among(claims: &[Claim], session: u16) -> bool
-    ensures { result ≡ has_claim session claims.now }
+pub(crate) fn is_among(list: &[SessionMode], session: u16) -> bool
+    ensures { result ≡ has_session session list.now }
 {
-    claims.iter().any(|claim| claim.session == session)
+    list.iter().any(|one| one.session == session)
 }
 
-/// The mode of the session's claim.
-pub(crate) fn mode_among(claims: &[Claim], session: u16) -> Option<Mode>
-    ensures { result ≡ mode_of session claims.now }
+/// The mode of the session's asker.
+pub(crate) fn mode_among(list: &[SessionMode], session: u16) -> Option<Mode>
+    ensures { result ≡ mode_of session list.now }
 {
-    for claim in claims {
-        if claim.session == session {
-            return Some(claim.mode);
+    for one in list {
+        if one.session == session {
+            return Some(one.mode);
         }
     }
     None
 }
 
-/// Writes the claims to the list, in their order.
-pub(crate) fn list_claims(claims: &[Claim], list: &mut Vec<(u16, Mode)>) -> Result<(), AllocError>
-    ensures ok { OnOk result (list.new.items ≡ map pair_of claims.now) }
+/// Writes the list to the list, in their order.
+pub(crate) fn list_holders(
+    holders: &[SessionMode],
+    list: &mut Vec<(u16, Mode)>,
+) -> Result<(), AllocError>
+    ensures ok { OnOk result (list.new.items ≡ map pair_of holders.now) }
     ensures err { OnErr result (list.new.items ≡ list.old.items) }
 {
-    let more = claims.len().saturating_sub(list.len());
+    let more = holders.len().saturating_sub(list.len());
     list.reserve(more)?;
     list.clear();
-    for claim in claims {
-        list.push_reserved((claim.session, claim.mode));
+    for holder in holders {
+        list.push_reserved((holder.session, holder.mode));
     }
     Ok(())
 }
 
 /// Whether the claim's mode is compatible with what each other session holds.
-pub(crate) fn fits(holders: &[Claim], claim: Claim) -> bool
-    ensures { result ≡ fits_among claim holders.now }
+pub(crate) fn fits(holders: &[SessionMode], asker: SessionMode) -> bool
+    ensures { result ≡ fits_among asker holders.now }
 {
-    holders.iter().all(|held| held.session == claim.session
-        || Mode::compatible(claim.mode, held.mode))
+    holders.iter().all(|held| held.session == asker.session
+        || Mode::compatible(asker.mode, held.mode))
 }
 
-fn insert_at(claims: &mut Vec<Claim>, place: usize, claim: Claim)
-    requires place { place ≤ vec_len claims.old }
-    requires room { vec_len claims.old < vec_capacity claims.old }
-    ensures items { claims.new.items ≡ insert claims.old.items place claim }
-    ensures len { vec_len claims.new ≡ vec_len claims.old + 1 }
-    ensures capacity { vec_capacity claims.old ≤ vec_capacity claims.new }
+fn insert_at(list: &mut Vec<SessionMode>, place: usize, one: SessionMode)
+    requires place { place ≤ vec_len list.old }
+    requires room { vec_len list.old < vec_capacity list.old }
+    ensures items { list.new.items ≡ insert list.old.items place one }
+    ensures len { vec_len list.new ≡ vec_len list.old + 1 }
+    ensures capacity { vec_capacity list.old ≤ vec_capacity list.new }
 {
-    let _inserted = claims.insert(place, claim);
+    let _inserted = list.insert(place, one);
 }
 
-/// The claim comes in the place of the session's own, or between its neighbours by session number.
-pub(crate) fn put(holders: &mut Vec<Claim>, claim: Claim)
+/// The asker comes in the place of the session's own, or between its neighbours by session number.
+pub(crate) fn put(holders: &mut Vec<SessionMode>, holder: SessionMode)
     requires { vec_len holders.old < vec_capacity holders.old }
-    ensures items { holders.new.items ≡ with_claim claim holders.old.items }
+    ensures items { holders.new.items ≡ with_holder holder holders.old.items }
     ensures len { vec_len holders.new ≤ vec_len holders.old + 1 }
     ensures capacity { vec_capacity holders.old ≤ vec_capacity holders.new }
 {
     for i in 0..holders.len() {
         let session = holders[i].session;
-        if session == claim.session {
-            holders[i] = claim;
+        if session == holder.session {
+            holders[i] = holder;
             return;
         }
-        if claim.session < session {
-            insert_at(holders, i, claim);
+        if holder.session < session {
+            insert_at(holders, i, holder);
             return;
         }
     }
-    holders.push_reserved(claim);
+    holders.push_reserved(holder);
 }
 
 /// Grants the first request of the queue where it fits, and says which.
-pub(crate) fn grant_next(cell: &mut Cell) -> Option<Claim>
+pub(crate) fn grant_next(cell: &mut Cell) -> Option<SessionMode>
     requires { HasRoom cell.old }
     ensures next { result ≡ next_grant cell.old.holders.items cell.old.waiting.items }
-    ensures view { view_of cell.new ≡ next_view cell.old.holders.items cell.old.waiting.items }
+    ensures view { view_of cell.new ≡ view_after_next_grant cell.old.holders.items cell.old.waiting.items }
     ensures room { HasRoom cell.new }
 {
     if cell.waiting.is_empty() {
@@ -136,7 +139,7 @@ pub(crate) fn grant_next(cell: &mut Cell) -> Option<Claim>
 /// Takes away what the session holds, or its request.
 pub(crate) fn give_up(cell: &mut Cell, session: u16, part: Part)
     requires { HasRoom cell.old }
-    ensures view { view_of cell.new ≡ given_up part session (view_of cell.old) }
+    ensures view { view_of cell.new ≡ view_after_giving_up part session (view_of cell.old) }
     ensures room { HasRoom cell.new }
 {
     match part {
@@ -161,10 +164,10 @@ pub(crate) fn cell_of(cells: &IndexMap<Resource, Cell>, resource: Resource) -> O
 }
 
 /// How many conversions wait: the place of the next one in the queue.
-fn conversions(holders: &[Claim], waiting: &[Claim]) -> usize
+fn conversions(holders: &[SessionMode], waiting: &[SessionMode]) -> usize
     ensures within { result ≤ length waiting.now }
-    ensures place { (claim : ClaimValue)
-        → behind_conversions claim holders.now waiting.now ≡ insert waiting.now result claim }
+    ensures place { (asker : SessionModeValue)
+        → behind_conversions asker holders.now waiting.now ≡ insert waiting.now result asker }
 {
     for (place, request) in waiting.iter().enumerate() {
         if !is_among(holders, request.session) {
@@ -175,42 +178,42 @@ fn conversions(holders: &[Claim], waiting: &[Claim]) -> usize
 }
 
 /// The request comes into the queue at its place.
-fn enqueue(cell: &mut Cell, claim: Claim)
+fn enqueue(cell: &mut Cell, asker: SessionMode)
     requires room { HasRoom cell.old }
     requires holders { vec_len cell.old.holders + vec_len cell.old.waiting < vec_capacity cell.old.holders }
     requires waiting { vec_len cell.old.waiting < vec_capacity cell.old.waiting }
     ensures view { let before = view_of cell.old in view_of cell.new ≡ record before {
-      waiting = queued claim before.holders before.waiting;
+      waiting = queue_with asker before.holders before.waiting;
     } }
     ensures room { HasRoom cell.new }
 {
-    let place = if is_among(&cell.holders, claim.session) {
+    let place = if is_among(&cell.holders, asker.session) {
         conversions(&cell.holders, &cell.waiting)
     } else {
         cell.waiting.len()
     };
-    insert_at(&mut cell.waiting, place, claim);
+    insert_at(&mut cell.waiting, place, asker);
 }
 
 /// A session that doesn't wait for the cell's resource asks for it: whether that is granted at once. Otherwise it waits.
-fn join(cell: &mut Cell, claim: Claim) -> Result<bool, AllocError>
-    requires some { 1 ≤ claim.session }
+fn join(cell: &mut Cell, asker: SessionMode) -> Result<bool, AllocError>
+    requires some { 1 ≤ asker.session }
     requires kept { IsKeptCell cell.old }
-    requires idle { has_claim claim.session (view_of cell.old).waiting ≡ false }
-    ensures granted { IfOk result (λ granted. granted ≡ can_grant claim (view_of cell.old)) }
-    ensures view { IfOk result (λ _. view_of cell.new ≡ asked_view claim (view_of cell.old)) }
+    requires idle { has_session asker.session (view_of cell.old).waiting ≡ false }
+    ensures granted { IfOk result (λ granted. granted ≡ can_grant asker (view_of cell.old)) }
+    ensures view { IfOk result (λ _. view_of cell.new ≡ view_after_asking asker (view_of cell.old)) }
     ensures err { OnErr result (view_of cell.new ≡ view_of cell.old) }
     ensures kept { IsKeptCell cell.new }
 {
     let waiting = cell.waiting.len();
     cell.holders.reserve(waiting + 1)?;
-    let unhindered = is_among(&cell.holders, claim.session) || cell.waiting.is_empty();
-    if unhindered && fits(&cell.holders, claim) {
-        put(&mut cell.holders, claim);
+    let unhindered = is_among(&cell.holders, asker.session) || cell.waiting.is_empty();
+    if unhindered && fits(&cell.holders, asker) {
+        put(&mut cell.holders, asker);
         Ok(true)
     } else {
         cell.waiting.reserve(1)?;
-        enqueue(cell, claim);
+        enqueue(cell, asker);
         Ok(false)
     }
 }
@@ -219,18 +222,18 @@ fn join(cell: &mut Cell, claim: Claim) -> Result<bool, AllocError>
 fn open(
     cells: &mut IndexMap<Resource, Cell>,
     resource: Resource,
-    claim: Claim,
+    holder: SessionMode,
 ) -> Result<(), AllocError>
-    requires some { 1 ≤ claim.session }
+    requires some { 1 ≤ holder.session }
     requires kept { AreKeptCells cells.old.entries }
-    ensures ok { OnOk result (CellsBecame resource (record { holders = claim ∷ []; waiting = [] })
+    ensures ok { OnOk result (CellsBecame resource (record { holders = holder ∷ []; waiting = [] })
         cells.old.entries cells.new.entries) }
     ensures err { OnErr result (cells.new.entries ≡ cells.old.entries) }
 {
     same_path_is_equality();
     let alloc = *cells.allocator();
     let mut holders = Vec::new(alloc);
-    holders.push(claim)?;
+    holders.push(holder)?;
     let cell = Cell {
         holders,
         waiting: Vec::new(alloc),
@@ -243,21 +246,21 @@ fn open(
 pub(crate) fn ask(
     cells: &mut IndexMap<Resource, Cell>,
     resource: Resource,
-    claim: Claim,
+    asker: SessionMode,
 ) -> Result<bool, AllocError>
-    requires some { 1 ≤ claim.session }
+    requires some { 1 ≤ asker.session }
     requires kept { AreKeptCells cells.old.entries }
-    requires idle { has_claim claim.session (cell_view resource cells.old.entries).waiting ≡ false }
+    requires idle { has_session asker.session (cell_view resource cells.old.entries).waiting ≡ false }
     ensures granted { let before = cell_view resource cells.old.entries in
-        IfOk result (λ granted. granted ≡ can_grant claim before) }
-    ensures ok { OnOk result (ViewBecame resource (asked_view claim) cells.old.entries cells.new.entries) }
+        IfOk result (λ granted. granted ≡ can_grant asker before) }
+    ensures ok { OnOk result (ViewBecame resource (view_after_asking asker) cells.old.entries cells.new.entries) }
     ensures err { OnErr result (ViewBecame resource (λ v. v) cells.old.entries cells.new.entries) }
 {
     same_path_is_equality();
     match cells.get_mut(&resource) {
-        Some(cell) => join(cell, claim),
+        Some(cell) => join(cell, asker),
         None => {
-            open(cells, resource, claim)?;
+            open(cells, resource, asker)?;
             Ok(true)
         }
     }

@@ -1,4 +1,4 @@
-//! The desk: all cells and rows, and what each call does to them.
+//! The desk: all cells and lockers, and what each call does to them.
 
 ghost use Rattle.std.specs.Prelude.{◌≡◌, ℕ, ◌+◌, ◌<◌, ◌≤◌, true, false, None, is_some, if◌then◌else◌, map, length, IfOk, OnOk, OnErr, vec_len};
 ghost use Rattle.lock_rules.specs.declared.calls.Reply.TheVariants.{Waiting, Deadlock};
@@ -8,14 +8,16 @@ ghost use Rattle.lock_rules.specs.Waits.{after_victims};
 ghost use Rattle.lock_rules.specs.Sound.{IsNumbered, IsSound};
 ghost use Rattle.lock_desk.specs.Cells.{pair_of};
 ghost use Rattle.lock_desk.specs.declared.cells.Part.TheVariants as part;
-ghost use Rattle.lock_desk.specs.Changes.{seen, standing, IsWhole, held_seen, desk_tests, IsSameSeen, CanAsk, MayAsk, CanLock, CanConvert, HasAsked, CanRelease, HasFreed, HasGivenBack, HasGivenBackAll, HasCancelled, HasDoomed, HasBegun, HasEnded};
+ghost use Rattle.lock_desk.specs.Changes.{view_at, standing, IsWhole, mode_held, desk_tests, IsSameSeen, CanAsk, MayAsk, CanLock, CanConvert, HasAsked, CanRelease, HasFreed, HasGivenBack, HasGivenBackAll, HasCancelled, HasDoomed, HasBegun, HasEnded};
 ghost use Rattle.lock_desk.specs.Ready.{IsReadyDesk};
 ghost use Rattle.lock_desk.specs.Shows.{Shows, DoesAnswer};
 
-use crate::cells::{Cell, Claim, Part, ask, cell_of, list_claims, mode_among};
+use crate::cells::{Cell, Part, SessionMode, ask, cell_of, list_holders, mode_among};
+use crate::lockers::{
+    Locker, Request, doom, drop_lock, hold, is_doomed, make_room, resource_of, want,
+};
 use crate::refusals::target_of;
 use crate::releases::free;
-use crate::rows::{Request, Row, doom, drop_lock, hold, is_doomed, make_room, resource_of, want};
 use crate::waits::{Waits, fill, victim};
 use indexmap::IndexMap;
 use lock_modes::Mode;
@@ -23,13 +25,13 @@ use lock_rules::{Call, MAX_LOCKS, Reply, Transaction};
 use lock_tree::Resource;
 use std::alloc::AllocError;
 
-/// How many transactions have begun, a row for each session, at the place of its number, and a cell for each
-/// resource that is held or waited for. The row at place 0 is nobody's. Who waits for whom is written down only to look
+/// How many transactions have begun, a locker for each session, at the place of its number, and a cell for each
+/// resource that is held or waited for. The locker at place 0 is nobody's. Who waits for whom is written down only to look
 /// for deadlocks.
 #[derive(Drop)]
 pub struct Desk {
     pub count: u64,
-    pub rows: Vec<Row>,
+    pub lockers: Vec<Locker>,
     pub cells: IndexMap<Resource, Cell>,
     pub waits: Waits,
 }
@@ -37,7 +39,7 @@ pub struct Desk {
 impl Desk {
     /// The mode that the session holds on the resource outright.
     pub(crate) fn held(&self, session: u16, resource: Resource) -> Option<Mode>
-        ensures { result ≡ held_seen self.now session resource }
+        ensures { result ≡ mode_held self.now session resource }
     {
         match cell_of(&self.cells, resource) {
             Some(cell) => mode_among(&cell.holders, session),
@@ -51,11 +53,11 @@ impl Desk {
         resource: Resource,
         list: &mut Vec<(u16, Mode)>,
     ) -> Result<(), AllocError>
-        ensures ok { OnOk result (list.new.items ≡ map pair_of (seen resource self.now).holders) }
+        ensures ok { OnOk result (list.new.items ≡ map pair_of (view_at resource self.now).holders) }
         ensures err { OnErr result (list.new.items ≡ list.old.items) }
     {
         match cell_of(&self.cells, resource) {
-            Some(cell) => list_claims(&cell.holders, list),
+            Some(cell) => list_holders(&cell.holders, list),
             None => {
                 list.clear();
                 Ok(())
@@ -66,23 +68,23 @@ impl Desk {
     /// Asks for a resource that the session doesn't hold: whether that is granted at once. Otherwise the session waits.
     fn lock(&mut self, session: u16, resource: Resource, mode: Mode) -> Result<bool, AllocError>
         requires some { 1 ≤ session }
-        requires within { session < vec_len self.old.rows }
+        requires within { session < vec_len self.old.lockers }
         requires whole { IsWhole self.old }
         requires can { CanLock session resource self.old }
         ensures asked { IfOk result (λ granted. HasAsked session resource mode granted self.old self.new) }
         ensures err { OnErr result (IsSameSeen self.old self.new) }
         ensures waits { self.new.waits ≡ self.old.waits }
         ensures whole { IsWhole self.new }
-        ensures len { vec_len self.new.rows ≡ vec_len self.old.rows }
+        ensures len { vec_len self.new.lockers ≡ vec_len self.old.lockers }
     {
-        let row = &mut self.rows[session as usize];
-        make_room(row)?;
-        let granted = ask(&mut self.cells, resource, Claim { session, mode })?;
-        let row = &mut self.rows[session as usize];
+        let locker = &mut self.lockers[session as usize];
+        make_room(locker)?;
+        let granted = ask(&mut self.cells, resource, SessionMode { session, mode })?;
+        let locker = &mut self.lockers[session as usize];
         if granted {
-            hold(row, resource);
+            hold(locker, resource);
         } else {
-            want(row, Request::Fresh(resource));
+            want(locker, Request::Fresh(resource));
         }
         Ok(granted)
     }
@@ -91,19 +93,19 @@ impl Desk {
     /// session waits.
     fn convert(&mut self, session: u16, resource: Resource, mode: Mode) -> Result<bool, AllocError>
         requires some { 1 ≤ session }
-        requires within { session < vec_len self.old.rows }
+        requires within { session < vec_len self.old.lockers }
         requires whole { IsWhole self.old }
         requires can { CanConvert session resource self.old }
         ensures asked { IfOk result (λ granted. HasAsked session resource mode granted self.old self.new) }
         ensures err { OnErr result (IsSameSeen self.old self.new) }
         ensures waits { self.new.waits ≡ self.old.waits }
         ensures whole { IsWhole self.new }
-        ensures len { vec_len self.new.rows ≡ vec_len self.old.rows }
+        ensures len { vec_len self.new.lockers ≡ vec_len self.old.lockers }
     {
-        let granted = ask(&mut self.cells, resource, Claim { session, mode })?;
+        let granted = ask(&mut self.cells, resource, SessionMode { session, mode })?;
         if !granted {
-            let row = &mut self.rows[session as usize];
-            want(row, Request::Conversion(resource));
+            let locker = &mut self.lockers[session as usize];
+            want(locker, Request::Conversion(resource));
         }
         Ok(granted)
     }
@@ -118,18 +120,18 @@ impl Desk {
         target: Mode,
     ) -> Result<bool, AllocError>
         requires some { 1 ≤ session }
-        requires within { session < vec_len self.old.rows }
-        requires seen { held ≡ held_seen self.old session resource }
+        requires within { session < vec_len self.old.lockers }
+        requires view_at { held ≡ mode_held self.old session resource }
         requires whole { IsWhole self.old }
         requires can { CanAsk session resource self.old }
-        ensures held { is_held (held_seen self.old session resource) target ≡ true
+        ensures held { is_held (mode_held self.old session resource) target ≡ true
             → IfOk result (λ granted. (granted ≡ true) × IsSameSeen self.old self.new) }
-        ensures asked { is_held (held_seen self.old session resource) target ≡ false
+        ensures asked { is_held (mode_held self.old session resource) target ≡ false
             → IfOk result (λ granted. HasAsked session resource target granted self.old self.new) }
         ensures err { OnErr result (IsSameSeen self.old self.new) }
         ensures waits { self.new.waits ≡ self.old.waits }
         ensures whole { IsWhole self.new }
-        ensures len { vec_len self.new.rows ≡ vec_len self.old.rows }
+        ensures len { vec_len self.new.lockers ≡ vec_len self.old.lockers }
     {
         match held {
             Some(held) if held.covers(target) => Ok(true),
@@ -140,19 +142,19 @@ impl Desk {
 
     /// The session gives the resource back.
     fn release(&mut self, session: u16, resource: Resource)
-        requires within { session < vec_len self.old.rows }
+        requires within { session < vec_len self.old.lockers }
         requires whole { IsWhole self.old }
         requires can { CanRelease session resource self.old }
         ensures freed { HasFreed part.Lock session resource self.old self.new }
         ensures waits { self.new.waits ≡ self.old.waits }
         ensures whole { IsWhole self.new }
-        ensures len { vec_len self.new.rows ≡ vec_len self.old.rows }
+        ensures len { vec_len self.new.lockers ≡ vec_len self.old.lockers }
     {
-        let row = &mut self.rows[session as usize];
-        drop_lock(row, resource);
+        let locker = &mut self.lockers[session as usize];
+        drop_lock(locker, resource);
         free(
             &mut self.cells,
-            &mut self.rows,
+            &mut self.lockers,
             session,
             resource,
             Part::Lock,
@@ -161,20 +163,20 @@ impl Desk {
 
     /// Gives back what the session was granted last.
     fn give_back(&mut self, session: u16)
-        requires within { session < vec_len self.old.rows }
+        requires within { session < vec_len self.old.lockers }
         requires whole { IsWhole self.old }
         requires idle { (standing session self.old).wanted ≡ None }
         requires some { 0 < length (standing session self.old).held }
         ensures back { HasGivenBack session self.old self.new }
         ensures waits { self.new.waits ≡ self.old.waits }
         ensures whole { IsWhole self.new }
-        ensures len { vec_len self.new.rows ≡ vec_len self.old.rows }
+        ensures len { vec_len self.new.lockers ≡ vec_len self.old.lockers }
     {
-        let row = &mut self.rows[session as usize];
-        if let Some(resource) = row.held.pop() {
+        let locker = &mut self.lockers[session as usize];
+        if let Some(resource) = locker.held.pop() {
             free(
                 &mut self.cells,
-                &mut self.rows,
+                &mut self.lockers,
                 session,
                 resource,
                 Part::Lock,
@@ -184,7 +186,7 @@ impl Desk {
 
     /// Gives back all that the session holds, and says how many locks that was.
     fn give_back_all(&mut self, session: u16) -> usize
-        requires within { session < vec_len self.old.rows }
+        requires within { session < vec_len self.old.lockers }
         requires whole { IsWhole self.old }
         requires idle { (standing session self.old).wanted ≡ None }
         ensures locks { result ≡ length (standing session self.old).held }
@@ -192,10 +194,10 @@ impl Desk {
         ensures back { HasGivenBackAll session self.old self.new }
         ensures waits { self.new.waits ≡ self.old.waits }
         ensures whole { IsWhole self.new }
-        ensures len { vec_len self.new.rows ≡ vec_len self.old.rows }
+        ensures len { vec_len self.new.lockers ≡ vec_len self.old.lockers }
     {
-        let row = &self.rows[session as usize];
-        let locks = row.held.len();
+        let locker = &self.lockers[session as usize];
+        let locks = locker.held.len();
         for _lock in 0..locks {
             self.give_back(session);
         }
@@ -204,18 +206,18 @@ impl Desk {
 
     /// A transaction begins, with the next number.
     fn begin(&mut self, session: u16) -> u64
-        requires within { session < vec_len self.old.rows }
+        requires within { session < vec_len self.old.lockers }
         requires whole { IsWhole self.old }
         requires room { self.old.count < 18446744073709551615 }
         ensures number { result ≡ self.old.count + 1 }
         ensures begun { HasBegun session self.old self.new }
         ensures waits { self.new.waits ≡ self.old.waits }
         ensures whole { IsWhole self.new }
-        ensures len { vec_len self.new.rows ≡ vec_len self.old.rows }
+        ensures len { vec_len self.new.lockers ≡ vec_len self.old.lockers }
     {
         self.count += 1;
-        let row = &mut self.rows[session as usize];
-        row.transaction = Some(Transaction {
+        let locker = &mut self.lockers[session as usize];
+        locker.transaction = Some(Transaction {
             number: self.count,
             doomed: false,
         });
@@ -224,20 +226,20 @@ impl Desk {
 
     /// Takes away the request of the session, if it waits; the queue of its resource is promoted.
     fn cancel(&mut self, session: u16)
-        requires within { session < vec_len self.old.rows }
+        requires within { session < vec_len self.old.lockers }
         requires whole { IsWhole self.old }
         ensures cancelled { HasCancelled session self.old self.new }
         ensures waits { self.new.waits ≡ self.old.waits }
         ensures whole { IsWhole self.new }
-        ensures len { vec_len self.new.rows ≡ vec_len self.old.rows }
+        ensures len { vec_len self.new.lockers ≡ vec_len self.old.lockers }
     {
-        let row = &mut self.rows[session as usize];
-        if let Some(request) = row.wanted {
+        let locker = &mut self.lockers[session as usize];
+        if let Some(request) = locker.wanted {
             let resource = resource_of(request);
-            row.wanted = None;
+            locker.wanted = None;
             free(
                 &mut self.cells,
-                &mut self.rows,
+                &mut self.lockers,
                 session,
                 resource,
                 Part::Request,
@@ -247,7 +249,7 @@ impl Desk {
 
     /// The transaction ends, and all its locks are given back: how many they were.
     fn end(&mut self, session: u16) -> usize
-        requires within { session < vec_len self.old.rows }
+        requires within { session < vec_len self.old.lockers }
         requires whole { IsWhole self.old }
         requires idle { (standing session self.old).wanted ≡ None }
         ensures locks { result ≡ length (standing session self.old).held }
@@ -255,24 +257,24 @@ impl Desk {
         ensures ended { HasEnded session self.old self.new }
         ensures waits { self.new.waits ≡ self.old.waits }
         ensures whole { IsWhole self.new }
-        ensures len { vec_len self.new.rows ≡ vec_len self.old.rows }
+        ensures len { vec_len self.new.lockers ≡ vec_len self.old.lockers }
     {
         let locks = self.give_back_all(session);
-        let row = &mut self.rows[session as usize];
-        row.transaction = None;
+        let locker = &mut self.lockers[session as usize];
+        locker.transaction = None;
         locks
     }
 
     /// The transaction is given up, with its request that waits and all its locks: how many locks they were.
     fn abort(&mut self, session: u16) -> usize
-        requires within { session < vec_len self.old.rows }
+        requires within { session < vec_len self.old.lockers }
         requires whole { IsWhole self.old }
         ensures locks { result ≡ length (standing session self.old).held }
         ensures few { result ≤ MAX_LOCKS }
         ensures ended { HasEnded session self.old self.new }
         ensures waits { self.new.waits ≡ self.old.waits }
         ensures whole { IsWhole self.new }
-        ensures len { vec_len self.new.rows ≡ vec_len self.old.rows }
+        ensures len { vec_len self.new.lockers ≡ vec_len self.old.lockers }
     {
         self.cancel(session);
         self.end(session)
@@ -280,34 +282,34 @@ impl Desk {
 
     /// The session's transaction becomes a deadlock's victim: its request is taken away, and it keeps its locks.
     fn doom(&mut self, session: u16)
-        requires within { session < vec_len self.old.rows }
+        requires within { session < vec_len self.old.lockers }
         requires whole { IsWhole self.old }
         ensures doomed { HasDoomed session self.old self.new }
         ensures waits { self.new.waits ≡ self.old.waits }
         ensures whole { IsWhole self.new }
-        ensures len { vec_len self.new.rows ≡ vec_len self.old.rows }
+        ensures len { vec_len self.new.lockers ≡ vec_len self.old.lockers }
     {
         self.cancel(session);
-        let row = &mut self.rows[session as usize];
-        row.transaction = doom(row.transaction);
+        let locker = &mut self.lockers[session as usize];
+        locker.transaction = doom(locker.transaction);
     }
 
     /// While the session lies on a circle of waits, the youngest transaction on one becomes a victim. A victim waited,
     /// and waits no more, so there are fewer victims than sessions.
     fn settle(&mut self, session: u16)
         requires some { 1 ≤ session }
-        requires within { session < vec_len self.old.rows }
+        requires within { session < vec_len self.old.lockers }
         requires whole { IsWhole self.old }
         requires ready { IsReadyDesk self.old }
         ensures settled { (st : State) → IsSound st.table → IsNumbered st → Shows self.old st
-            → Shows self.new (after_victims (vec_len self.old.rows) session st) }
+            → Shows self.new (after_victims (vec_len self.old.lockers) session st) }
         ensures whole { IsWhole self.new }
         ensures ready { IsReadyDesk self.new }
         ensures count { self.new.count ≡ self.old.count }
-        ensures len { vec_len self.new.rows ≡ vec_len self.old.rows }
+        ensures len { vec_len self.new.lockers ≡ vec_len self.old.lockers }
     {
-        for _round in 0..self.rows.len() {
-            fill(&mut self.waits, &self.rows, &self.cells);
+        for _round in 0..self.lockers.len() {
+            fill(&mut self.waits, &self.lockers, &self.cells);
             let Some(chosen) = victim(&mut self.waits, session) else {
                 return;
             };
@@ -316,16 +318,16 @@ impl Desk {
     }
 
     /// What a session is told of its transaction: that it is a deadlock's victim, or that it waits, or else this.
-    fn told(&self, session: u16, otherwise: Reply) -> Reply
-        requires { session < vec_len self.now.rows }
+    fn standing_reply(&self, session: u16, otherwise: Reply) -> Reply
+        requires { session < vec_len self.now.lockers }
         ensures { let x = standing session self.now in result ≡ (if doomed_in x.transaction then Deadlock
             else (if is_some x.wanted then Waiting else otherwise)) }
     {
-        let row = &self.rows[session as usize];
-        if is_doomed(row.transaction) {
+        let locker = &self.lockers[session as usize];
+        if is_doomed(locker.transaction) {
             return Reply::Deadlock;
         }
-        if row.wanted.is_some() {
+        if locker.wanted.is_some() {
             return Reply::Waiting;
         }
         otherwise
@@ -334,7 +336,7 @@ impl Desk {
     /// Asks for a mode on the resource, or for what covers it and what is held there.
     fn ask(&mut self, session: u16, resource: Resource, mode: Mode) -> Result<Reply, AllocError>
         requires some { 1 ≤ session }
-        requires within { session < vec_len self.old.rows }
+        requires within { session < vec_len self.old.lockers }
         requires whole { IsWhole self.old }
         requires ready { IsReadyDesk self.old }
         requires may { MayAsk session resource mode self.old }
@@ -345,7 +347,7 @@ impl Desk {
         ensures count { self.new.count ≡ self.old.count }
         ensures whole { IsWhole self.new }
         ensures ready { IsReadyDesk self.new }
-        ensures len { vec_len self.new.rows ≡ vec_len self.old.rows }
+        ensures len { vec_len self.new.lockers ≡ vec_len self.old.lockers }
     {
         let held = self.held(session, resource);
         let target = target_of(held, mode);
@@ -353,13 +355,13 @@ impl Desk {
             return Ok(Reply::Granted(target));
         }
         self.settle(session);
-        Ok(self.told(session, Reply::Granted(target)))
+        Ok(self.standing_reply(session, Reply::Granted(target)))
     }
 
     /// What the call does where no test fails.
     fn act(&mut self, session: u16, call: Call) -> Result<Reply, AllocError>
         requires some { 1 ≤ session }
-        requires within { session < vec_len self.old.rows }
+        requires within { session < vec_len self.old.lockers }
         requires whole { IsWhole self.old }
         requires ready { IsReadyDesk self.old }
         requires passed { first_failing (desk_tests self.old session call) ≡ None }
@@ -370,14 +372,14 @@ impl Desk {
         ensures count { self.new.count ≤ self.old.count + 1 }
         ensures whole { IsWhole self.new }
         ensures ready { IsReadyDesk self.new }
-        ensures len { vec_len self.new.rows ≡ vec_len self.old.rows }
+        ensures len { vec_len self.new.lockers ≡ vec_len self.old.lockers }
     {
         match call {
             Call::Begin => Ok(Reply::Began(self.begin(session))),
             Call::Lock(resource, mode) | Call::Convert(resource, mode) => {
                 self.ask(session, resource, mode)
             }
-            Call::Poll => Ok(self.told(session, Reply::Clear)),
+            Call::Poll => Ok(self.standing_reply(session, Reply::Clear)),
             Call::Release(resource) => {
                 self.release(session, resource);
                 Ok(Reply::Released)
@@ -390,7 +392,7 @@ impl Desk {
     /// One step of the sequential lock manager.
     pub(crate) fn serve(&mut self, session: u16, call: Call) -> Result<Reply, AllocError>
         requires some { 1 ≤ session }
-        requires within { session < vec_len self.old.rows }
+        requires within { session < vec_len self.old.lockers }
         requires whole { IsWhole self.old }
         requires ready { IsReadyDesk self.old }
         requires room { self.old.count < 18446744073709551615 }
@@ -400,7 +402,7 @@ impl Desk {
         ensures count { self.new.count ≤ self.old.count + 1 }
         ensures whole { IsWhole self.new }
         ensures ready { IsReadyDesk self.new }
-        ensures len { vec_len self.new.rows ≡ vec_len self.old.rows }
+        ensures len { vec_len self.new.lockers ≡ vec_len self.old.lockers }
     {
         let asked = call;
         match self.refusal(session, asked) {

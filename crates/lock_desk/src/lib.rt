@@ -1,7 +1,7 @@
 //! The lock table: transactions lock, convert and release resources of the tree, wait, poll, commit and abort,
 //! deadlocks end with their victims, and each call is in the history with its reply.
 //!
-//! Three layers, each of which knows only the contracts of the one below: the cells, by resource, and the rows, by
+//! Three layers, each of which knows only the contracts of the one below: the cells, by resource, and the lockers, by
 //! session, with who waits for whom; the desk, which does what each call does to all of them; and the book, which is
 //! the desk with its history, and what callers see.
 #![tactic(auto)]
@@ -10,9 +10,9 @@ mod batch;
 mod book;
 mod cells;
 mod desk;
+mod lockers;
 mod refusals;
 mod releases;
-mod rows;
 #[cfg(test)]
 mod tests;
 mod waits;

@@ -2,10 +2,10 @@
 
 ghost use Rattle.std.specs.Prelude.{◌≡◌, ◌<◌, vec_len};
 ghost use Rattle.lock_rules.specs.Step.{is_nothing, target_of, first_failing};
-ghost use Rattle.lock_desk.specs.Changes.{lacks_seen, open_tests, idle_tests, standing_tests, lock_tests, convert_tests, release_tests, request_tests, desk_tests};
+ghost use Rattle.lock_desk.specs.Changes.{lacks_need, open_tests, idle_tests, standing_tests, lock_tests, convert_tests, release_tests, request_tests, desk_tests};
 
 use crate::desk::Desk;
-use crate::rows::{holds_below, is_doomed};
+use crate::lockers::{holds_below, is_doomed};
 use lock_modes::Mode;
 use lock_rules::{Call, MAX_LOCKS, Why};
 use lock_tree::Resource;
@@ -13,7 +13,7 @@ use lock_tree::Resource;
 impl Desk {
     /// Whether what the session holds on the parent doesn't cover what the mode needs there.
     fn lacks_parent(&self, session: u16, resource: Resource, mode: Mode) -> bool
-        ensures { result ≡ lacks_seen self.now session resource mode }
+        ensures { result ≡ lacks_need self.now session resource mode }
     {
         let Some(parent) = resource.parent() else {
             return false;
@@ -27,10 +27,10 @@ impl Desk {
 
     /// The refusal of a session that has no transaction.
     fn open_refusal(&self, session: u16) -> Option<Why>
-        requires { session < vec_len self.now.rows }
+        requires { session < vec_len self.now.lockers }
         ensures { result ≡ first_failing (open_tests self.now session) }
     {
-        if self.rows[session as usize].transaction.is_none() {
+        if self.lockers[session as usize].transaction.is_none() {
             return Some(Why::NoTransaction);
         }
         None
@@ -38,24 +38,24 @@ impl Desk {
 
     /// The refusal of a session that has no transaction, or waits, or is doomed.
     fn idle_refusal(&self, session: u16) -> Option<Why>
-        requires { session < vec_len self.now.rows }
+        requires { session < vec_len self.now.lockers }
         ensures { result ≡ first_failing (idle_tests self.now session) }
     {
         if let Some(why) = self.open_refusal(session) {
             return Some(why);
         }
-        let row = &self.rows[session as usize];
-        if row.wanted.is_some() {
+        let locker = &self.lockers[session as usize];
+        if locker.wanted.is_some() {
             return Some(Why::IsWaiting);
         }
-        if is_doomed(row.transaction) {
+        if is_doomed(locker.transaction) {
             return Some(Why::IsDoomed);
         }
         None
     }
 
     fn lock_refusal(&self, session: u16, resource: Resource, mode: Mode) -> Option<Why>
-        requires { session < vec_len self.now.rows }
+        requires { session < vec_len self.now.lockers }
         ensures { result ≡ first_failing (lock_tests self.now session resource mode) }
     {
         if is_nothing(mode) {
@@ -65,8 +65,8 @@ impl Desk {
         if self.lacks_parent(session, resource, target_of(held, mode)) {
             return Some(Why::ParentNotHeld);
         }
-        let row = &self.rows[session as usize];
-        if held.is_none() && row.held.len() >= MAX_LOCKS {
+        let locker = &self.lockers[session as usize];
+        if held.is_none() && locker.held.len() >= MAX_LOCKS {
             return Some(Why::TooManyLocks);
         }
         None
@@ -89,13 +89,13 @@ impl Desk {
     }
 
     fn release_refusal(&self, session: u16, resource: Resource) -> Option<Why>
-        requires { session < vec_len self.now.rows }
+        requires { session < vec_len self.now.lockers }
         ensures { result ≡ first_failing (release_tests self.now session resource) }
     {
         if self.held(session, resource).is_none() {
             return Some(Why::NotHeld);
         }
-        if holds_below(&self.rows[session as usize], resource) {
+        if holds_below(&self.lockers[session as usize], resource) {
             return Some(Why::ChildHeld);
         }
         None
@@ -103,7 +103,7 @@ impl Desk {
 
     /// The refusal by the tests of a call that ask what it is for.
     fn request_refusal(&self, session: u16, call: Call) -> Option<Why>
-        requires { session < vec_len self.now.rows }
+        requires { session < vec_len self.now.lockers }
         ensures { result ≡ first_failing (request_tests self.now session call) }
     {
         match call {
@@ -116,11 +116,11 @@ impl Desk {
 
     /// The refusal by the tests of a call that ask how the session stands.
     fn standing_refusal(&self, session: u16, call: Call) -> Option<Why>
-        requires { session < vec_len self.now.rows }
+        requires { session < vec_len self.now.lockers }
         ensures { result ≡ first_failing (standing_tests self.now session call) }
     {
         match call {
-            Call::Begin if self.rows[session as usize].transaction.is_some() => {
+            Call::Begin if self.lockers[session as usize].transaction.is_some() => {
                 Some(Why::AlreadyOpen)
             }
             Call::Begin => None,
@@ -133,7 +133,7 @@ impl Desk {
 
     /// The refusal of the first test of the call that fails.
     pub(crate) fn refusal(&self, session: u16, call: Call) -> Option<Why>
-        requires { session < vec_len self.now.rows }
+        requires { session < vec_len self.now.lockers }
         ensures { result ≡ first_failing (desk_tests self.now session call) }
     {
         let asked = call;

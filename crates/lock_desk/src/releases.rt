@@ -1,32 +1,32 @@
-//! What becomes free is given to those who wait: the cells and the rows change together.
+//! What becomes free is given to those who wait: the cells and the lockers change together.
 
 ghost use Rattle.std.specs.Prelude.{◌≡◌, ◌<◌, ◌≤◌, vec_len};
 ghost use Rattle.std.specs.List.{All};
-ghost use Rattle.lock_desk.specs.Cells.{view_of, cell_view, promoted_view, given_up, freed_view, HasRoom, IsOnce, AreKeptCells, ViewBecame};
-ghost use Rattle.lock_desk.specs.Rows.{standings_of, IsKeptRow, AreSameOrAdmitted, DoAgree};
+ghost use Rattle.lock_desk.specs.Cells.{view_of, cell_view, view_after_promotion, view_after_giving_up, view_after_freeing, HasRoom, IsOnce, AreKeptCells, ViewBecame};
+ghost use Rattle.lock_desk.specs.Lockers.{standings_of, IsKeptLocker, AreSameOrGranted, DoAgree};
 
 use crate::cells::{Cell, Part, give_up, grant_next, is_idle};
-use crate::rows::{Row, admit};
+use crate::lockers::{Locker, admit};
 use indexmap::IndexMap;
 use lock_tree::{Resource, same_path_is_equality};
 
 /// Grants the requests at the front of the queue, up to the first that doesn't fit.
-pub(crate) fn promote(cell: &mut Cell, resource: Resource, rows: &mut Vec<Row>)
+pub(crate) fn promote(cell: &mut Cell, resource: Resource, lockers: &mut Vec<Locker>)
     requires room { HasRoom cell.old }
     requires once { IsOnce (view_of cell.old) }
-    requires agree { DoAgree resource (view_of cell.old) (standings_of rows.old.items) }
-    requires rows { All IsKeptRow rows.old.items }
-    ensures view { view_of cell.new ≡ promoted_view (view_of cell.old) }
+    requires agree { DoAgree resource (view_of cell.old) (standings_of lockers.old.items) }
+    requires lockers { All IsKeptLocker lockers.old.items }
+    ensures view { view_of cell.new ≡ view_after_promotion (view_of cell.old) }
     ensures room { HasRoom cell.new }
     ensures once { IsOnce (view_of cell.new) }
-    ensures agree { DoAgree resource (view_of cell.new) (standings_of rows.new.items) }
-    ensures rows { All IsKeptRow rows.new.items }
-    ensures granted { AreSameOrAdmitted resource (standings_of rows.old.items) (standings_of rows.new.items) }
-    ensures len { vec_len rows.new ≡ vec_len rows.old }
+    ensures agree { DoAgree resource (view_of cell.new) (standings_of lockers.new.items) }
+    ensures lockers { All IsKeptLocker lockers.new.items }
+    ensures granted { AreSameOrGranted resource (standings_of lockers.old.items) (standings_of lockers.new.items) }
+    ensures len { vec_len lockers.new ≡ vec_len lockers.old }
 {
     while let Some(granted) = grant_next(cell) {
-        let row = &mut rows[granted.session as usize];
-        admit(row, resource);
+        let locker = &mut lockers[granted.session as usize];
+        admit(locker, resource);
     }
 }
 
@@ -34,28 +34,28 @@ pub(crate) fn promote(cell: &mut Cell, resource: Resource, rows: &mut Vec<Row>)
 /// where nobody is left there.
 pub(crate) fn free(
     cells: &mut IndexMap<Resource, Cell>,
-    rows: &mut Vec<Row>,
+    lockers: &mut Vec<Locker>,
     session: u16,
     resource: Resource,
     part: Part,
 )
     requires cells { AreKeptCells cells.old.entries }
-    requires agree { let left = given_up part session (cell_view resource cells.old.entries) in
-        DoAgree resource left (standings_of rows.old.items) }
-    requires rows { All IsKeptRow rows.old.items }
-    ensures cells { ViewBecame resource (freed_view part session) cells.old.entries cells.new.entries }
-    ensures agree { let freed = freed_view part session (cell_view resource cells.old.entries) in
-        DoAgree resource freed (standings_of rows.new.items) }
-    ensures rows { All IsKeptRow rows.new.items }
-    ensures granted { AreSameOrAdmitted resource (standings_of rows.old.items) (standings_of rows.new.items) }
-    ensures len { vec_len rows.new ≡ vec_len rows.old }
+    requires agree { let left = view_after_giving_up part session (cell_view resource cells.old.entries) in
+        DoAgree resource left (standings_of lockers.old.items) }
+    requires lockers { All IsKeptLocker lockers.old.items }
+    ensures cells { ViewBecame resource (view_after_freeing part session) cells.old.entries cells.new.entries }
+    ensures agree { let freed = view_after_freeing part session (cell_view resource cells.old.entries) in
+        DoAgree resource freed (standings_of lockers.new.items) }
+    ensures lockers { All IsKeptLocker lockers.new.items }
+    ensures granted { AreSameOrGranted resource (standings_of lockers.old.items) (standings_of lockers.new.items) }
+    ensures len { vec_len lockers.new ≡ vec_len lockers.old }
 {
     same_path_is_equality();
     let Some(cell) = cells.get_mut(&resource) else {
         return;
     };
     give_up(cell, session, part);
-    promote(cell, resource, rows);
+    promote(cell, resource, lockers);
     if is_idle(cell) {
         cells.swap_remove(&resource);
     }

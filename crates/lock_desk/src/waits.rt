@@ -4,12 +4,12 @@ ghost use Rattle.std.specs.Prelude.{◌≡◌, ℕ, ◌+◌, ◌-◌, ◌<◌, �
 ghost use Rattle.waits_for.specs.Pairs.{pairs_of};
 ghost use Rattle.waits_for.specs.Walks.{Reaches, IsYoungestOnCircle};
 ghost use Rattle.lock_rules.specs.State.{number_in};
-ghost use Rattle.lock_desk.specs.Cells.{has_claim, cell_view};
-ghost use Rattle.lock_desk.specs.Rows.{standings_of, standing_at};
+ghost use Rattle.lock_desk.specs.Cells.{has_session, cell_view};
+ghost use Rattle.lock_desk.specs.Lockers.{standings_of, standing_at};
 ghost use Rattle.lock_desk.specs.Finding.{holder_blocks, stands_first, cell_blocks, blocks, IsReady, IsFilled, AreOfSessions, IsOfSessions};
 
-use crate::cells::{Cell, Claim, cell_of, mode_among};
-use crate::rows::{Row, number_of, resource_of};
+use crate::cells::{Cell, SessionMode, cell_of, mode_among};
+use crate::lockers::{Locker, number_of, resource_of};
 use indexmap::IndexMap;
 use lock_modes::Mode;
 use lock_tree::Resource;
@@ -46,7 +46,7 @@ pub(crate) fn new_waits(alloc: Global, sessions: u16) -> Result<Waits, AllocErro
 }
 
 /// Writes down the holders that the session waits for: those whose mode conflicts with its target.
-fn fill_holders(rows: &mut Rows, holders: &[Claim], session: u16, target: Mode)
+fn fill_holders(rows: &mut Rows, holders: &[SessionMode], session: u16, target: Mode)
     requires some { 1 ≤ session }
     requires within { session ≤ rows.old.sessions }
     requires numbered { AreOfSessions rows.old.sessions holders.now }
@@ -62,7 +62,7 @@ fn fill_holders(rows: &mut Rows, holders: &[Claim], session: u16, target: Mode)
 }
 
 /// Writes down the sessions whose requests stand before that of the session.
-fn fill_queue(rows: &mut Rows, waiting: &[Claim], session: u16)
+fn fill_queue(rows: &mut Rows, waiting: &[SessionMode], session: u16)
     requires some { 1 ≤ session }
     requires within { session ≤ rows.old.sessions }
     requires numbered { AreOfSessions rows.old.sessions waiting.now }
@@ -110,25 +110,30 @@ fn clear(waits: &mut Waits, place: usize)
 }
 
 /// Writes down for whom one session waits, and the number of its transaction.
-fn fill_session(waits: &mut Waits, rows: &[Row], cells: &IndexMap<Resource, Cell>, session: u16)
+fn fill_session(
+    waits: &mut Waits,
+    lockers: &[Locker],
+    cells: &IndexMap<Resource, Cell>,
+    session: u16,
+)
     requires some { 1 ≤ session }
-    requires within { session < length rows.now }
-    requires long { waits.old.rows.sessions + 1 ≡ length rows.now }
+    requires within { session < length lockers.now }
+    requires long { waits.old.rows.sessions + 1 ≡ length lockers.now }
     requires ready { IsReady waits.old.rows.sessions waits.old }
     requires numbered { (r : List ℕ) → IsOfSessions waits.old.rows.sessions (cell_view r cells.now.entries) }
     ensures sessions { waits.new.rows.sessions ≡ waits.old.rows.sessions }
     ensures ready { IsReady waits.old.rows.sessions waits.new }
-    ensures pairs { let standings = standings_of rows.now in (a b : ℕ) → pairs_of waits.new.rows a b
+    ensures pairs { let standings = standings_of lockers.now in (a b : ℕ) → pairs_of waits.new.rows a b
         ≡ (if a + 1 == session then blocks cells.now.entries standings session (b + 1) else pairs_of waits.old.rows a b) }
-    ensures numbers { let standings = standings_of rows.now in (a : ℕ) → slice_index_or waits.new.numbers.items a 0
+    ensures numbers { let standings = standings_of lockers.now in (a : ℕ) → slice_index_or waits.new.numbers.items a 0
         ≡ (if a + 1 == session then number_in (standing_at session standings).transaction
         else slice_index_or waits.old.numbers.items a 0) }
 {
     let place = session as usize - 1;
     clear(waits, place);
-    let row = &rows[session as usize];
-    waits.numbers[place] = number_of(row.transaction);
-    if let Some(request) = row.wanted {
+    let locker = &lockers[session as usize];
+    waits.numbers[place] = number_of(locker.transaction);
+    if let Some(request) = locker.wanted {
         let resource = resource_of(request);
         if let Some(cell) = cell_of(cells, resource) {
             waits.filled[place] = true;
@@ -138,17 +143,17 @@ fn fill_session(waits: &mut Waits, rows: &[Row], cells: &IndexMap<Resource, Cell
 }
 
 /// Writes down for whom each session waits, and the numbers of the transactions.
-pub(crate) fn fill(waits: &mut Waits, rows: &[Row], cells: &IndexMap<Resource, Cell>)
-    requires long { waits.old.rows.sessions + 1 ≡ length rows.now }
+pub(crate) fn fill(waits: &mut Waits, lockers: &[Locker], cells: &IndexMap<Resource, Cell>)
+    requires long { waits.old.rows.sessions + 1 ≡ length lockers.now }
     requires ready { IsReady waits.old.rows.sessions waits.old }
     requires numbered { (r : List ℕ) → IsOfSessions waits.old.rows.sessions (cell_view r cells.now.entries) }
     ensures sessions { waits.new.rows.sessions ≡ waits.old.rows.sessions }
     ensures ready { IsReady waits.old.rows.sessions waits.new }
-    ensures filled { IsFilled cells.now.entries (standings_of rows.now) waits.new }
+    ensures filled { IsFilled cells.now.entries (standings_of lockers.now) waits.new }
 {
     let sessions = waits.rows.sessions();
     for session in 1..sessions + 1 {
-        fill_session(waits, rows, cells, session);
+        fill_session(waits, lockers, cells, session);
     }
 }
 

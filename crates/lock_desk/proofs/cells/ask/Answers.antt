@@ -1,6 +1,6 @@
 use Rattle.std.proofs.Common.{◌≡◌, ◌∙◌, ap, sym, subst, IfOk, Bool, Option}
 use Rattle.lock_desk.specs.declared.cells.Cell.{Cell}
-use Rattle.lock_desk.specs.Cells.{View, view_of, Cells, said, cell_view, has_claim, asked_view, can_grant, CellsBecame}
+use Rattle.lock_desk.specs.Cells.{View, view_of, Cells, view_in, cell_view, has_session, view_after_asking, can_grant, CellsBecame}
 use Rattle.lock_desk.proofs.Results.{on-ok, on-err, on-err-from}
 use Rattle.lock_desk.proofs.Seen.{found, written, kept-at, became-same, became-view}
 use Rattle.lock_desk.proofs.cells.ask.Goals as goal
@@ -11,36 +11,36 @@ join-requires-clause-kept c = kept-at c.args.resource c.args.cells.now.entries c
 pub join-requires-clause-idle : goal.join-requires-clause-idle
 join-requires-clause-idle c =
     let there = c.in-Some.ensures.value ∙ found _ c.same_path_is_equality.ensures.code c.args.resource c.args.cells.now.entries in
-    ap (λ (o : Option Cell). has_claim c.args.claim.session (said o).waiting) there ∙ c.requires.idle
+    ap (λ (o : Option Cell). has_session c.args.asker.session (view_in o).waiting) there ∙ c.requires.idle
 
 pub returns-in-Some-clause-granted : goal.returns-in-Some-clause-granted
 returns-in-Some-clause-granted c =
     let there = c.in-Some.ensures.value ∙ found _ c.same_path_is_equality.ensures.code c.args.resource c.args.cells.now.entries in
-    subst (λ (v : View). IfOk c.join.result (λ (g : Bool). g ≡ can_grant c.args.claim v)) (ap said there) c.join.ensures.granted
+    subst (λ (v : View). IfOk c.join.result (λ (g : Bool). g ≡ can_grant c.args.asker v)) (ap view_in there) c.join.ensures.granted
 
 pub returns-in-Some-clause-ok : goal.returns-in-Some-clause-ok
 returns-in-Some-clause-ok c =
     let x = c.in-Some.cell.now in
     let there = c.in-Some.ensures.value ∙ found _ c.same_path_is_equality.ensures.code c.args.resource c.args.cells.now.entries in
-    on-ok c.join.result (λ (g : Bool). view_of c.join.new.cell ≡ asked_view c.args.claim (view_of x)) _ c.join.ensures.view
-    (λ g h. written _ c.same_path_is_equality.ensures.code c.args.resource c.args.cells.now _ x c.join.new.cell _ c.requires.kept c.in-Some.ensures.value c.join.ensures.kept (c.get_mut.follows.holds c.join.new.cell) (h ∙ ap (λ (o : Option Cell). asked_view c.args.claim (said o)) there))
+    on-ok c.join.result (λ (g : Bool). view_of c.join.new.cell ≡ view_after_asking c.args.asker (view_of x)) _ c.join.ensures.view
+    (λ g h. written _ c.same_path_is_equality.ensures.code c.args.resource c.args.cells.now _ x c.join.new.cell _ c.requires.kept c.in-Some.ensures.value c.join.ensures.kept (c.get_mut.follows.holds c.join.new.cell) (h ∙ ap (λ (o : Option Cell). view_after_asking c.args.asker (view_in o)) there))
 
 pub returns-in-Some-clause-err : goal.returns-in-Some-clause-err
 returns-in-Some-clause-err c =
     let x = c.in-Some.cell.now in
     let there = c.in-Some.ensures.value ∙ found _ c.same_path_is_equality.ensures.code c.args.resource c.args.cells.now.entries in
     on-err c.join.result (view_of c.join.new.cell ≡ view_of x) _ c.join.ensures.err
-    (λ h. written _ c.same_path_is_equality.ensures.code c.args.resource c.args.cells.now _ x c.join.new.cell _ c.requires.kept c.in-Some.ensures.value c.join.ensures.kept (c.get_mut.follows.holds c.join.new.cell) (h ∙ ap said there))
+    (λ h. written _ c.same_path_is_equality.ensures.code c.args.resource c.args.cells.now _ x c.join.new.cell _ c.requires.kept c.in-Some.ensures.value c.join.ensures.kept (c.get_mut.follows.holds c.join.new.cell) (h ∙ ap view_in there))
 
 pub returns-in_ok-open-in-None-clause-granted : goal.returns-in_ok-open-in-None-clause-granted
 returns-in_ok-open-in-None-clause-granted c =
     let none = c.in-None.ensures.value ∙ found _ c.same_path_is_equality.ensures.code c.args.resource c.args.cells.now.entries in
-    ap (λ (o : Option Cell). can_grant c.args.claim (said o)) none
+    ap (λ (o : Option Cell). can_grant c.args.asker (view_in o)) none
 
 pub returns-in_ok-open-in-None-clause-ok : goal.returns-in_ok-open-in-None-clause-ok
 returns-in_ok-open-in-None-clause-ok c =
     let none = c.in-None.ensures.value ∙ found _ c.same_path_is_equality.ensures.code c.args.resource c.args.cells.now.entries in
-    became-view c.args.resource _ _ c.args.cells.now.entries c.open.new.cells.entries (ap (λ (o : Option Cell). asked_view c.args.claim (said o)) none) (rw c.get_mut.follows.holds-at-none at c.in_ok-open-in-None.ensures.ok)
+    became-view c.args.resource _ _ c.args.cells.now.entries c.open.new.cells.entries (ap (λ (o : Option Cell). view_after_asking c.args.asker (view_in o)) none) (rw c.get_mut.follows.holds-at-none at c.in_ok-open-in-None.ensures.ok)
 
 pub returns-in_err-open-in-None-clause-err : goal.returns-in_err-open-in-None-clause-err
 returns-in_err-open-in-None-clause-err c =

@@ -1,7 +1,7 @@
 use Rattle.std.proofs.Common.{◌≡◌, ◌++◌, take, drop}
-use Rattle.lock_desk.specs.declared.cells.Claim.{Claim}
+use Rattle.lock_desk.specs.declared.cells.SessionMode.{SessionMode}
 use Rattle.lock_desk.specs.Cells.{behind_conversions}
 use Rattle.lock_desk.proofs.cells.conversions.Given as goal
 
 abbrev pub invariant-loop-place : goal.invariant-loop-place
-invariant-loop-place l = (c : Claim) → behind_conversions c l.holders l.waiting ≡ take l.place l.waiting ++ behind_conversions c l.holders (drop l.place l.waiting)
+invariant-loop-place l = (c : SessionMode) → behind_conversions c l.holders l.waiting ≡ take l.place l.waiting ++ behind_conversions c l.holders (drop l.place l.waiting)

@@ -2,5 +2,5 @@ use Rattle.std.proofs.Common.{◌≡◌, drop}
 use Rattle.lock_desk.specs.Cells.{mode_of}
 use Rattle.lock_desk.proofs.cells.mode_among.Given as goal
 
-abbrev pub invariant-loop-claim : goal.invariant-loop-claim
-invariant-loop-claim l = mode_of l.session l.claims ≡ mode_of l.session (drop l.claim-index l.claims)
+abbrev pub invariant-loop-one : goal.invariant-loop-one
+invariant-loop-one l = mode_of l.session l.list ≡ mode_of l.session (drop l.one-index l.list)

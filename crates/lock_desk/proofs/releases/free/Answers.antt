@@ -1,7 +1,7 @@
 use Rattle.std.proofs.Common.{◌∙◌, sym, subst, refl, IsSome}
 use Rattle.std.proofs.lemmas.Bool.{not-true, not-false}
 use Rattle.lock_desk.specs.Cells.{View, view_of, is_busy}
-use Rattle.lock_desk.specs.Rows.{standings_of, DoAgree}
+use Rattle.lock_desk.specs.Lockers.{standings_of, DoAgree}
 use Rattle.lock_desk.proofs.Seen.{found, kept-at}
 use Rattle.lock_desk.proofs.GivenBack.{free-absent, agree-absent, view-left, once-there, free-kept, free-idle, agree-there}
 use Rattle.lock_desk.proofs.releases.free.Goals as goal
@@ -31,7 +31,7 @@ pub promote-requires-clause-agree : goal.promote-requires-clause-agree
 promote-requires-clause-agree c =
     let there = c.in-Some.ensures.value ∙ found _ c.same_path_is_equality.ensures.code c.args.resource c.args.cells.now.entries in
     let v = view-left c.args.part c.args.resource c.args.session c.args.cells.now.entries c.in-Some.cell.now c.give_up.new.cell there c.give_up.ensures.view in
-    subst (λ (w : View). DoAgree c.args.resource w (standings_of c.args.rows.now.items)) (sym v) c.requires.agree
+    subst (λ (w : View). DoAgree c.args.resource w (standings_of c.args.lockers.now.items)) (sym v) c.requires.agree
 
 pub returns-then-is_idle-clause-cells : goal.returns-then-is_idle-clause-cells
 returns-then-is_idle-clause-cells c =

@@ -1,26 +1,26 @@
 use Rattle.std.proofs.Common.{◌∙◌, arith, sym, refl, subst}
 use Rattle.std.proofs.lemmas.List.Elements.{All-get_or, All-set}
 use Rattle.lock_desk.specs.Cells.{view_of}
-use Rattle.lock_desk.specs.Rows.{IsKeptRow}
+use Rattle.lock_desk.specs.Lockers.{IsKeptLocker}
 use Rattle.lock_desk.proofs.Grants.{next-cell, promoted-next, once-next}
-use Rattle.lock_desk.proofs.Promotions.{grant-within, grant-waits_row, grant-agree, grant-same}
+use Rattle.lock_desk.proofs.Promotions.{grant-within, grant-waits_locker, grant-agree, grant-same}
 use Rattle.lock_desk.proofs.releases.promote.Goals as goal
 
-pub index_mut-row-requires : goal.index_mut-row-requires
-index_mut-row-requires c =
+pub index_mut-locker-requires : goal.index_mut-locker-requires
+index_mut-locker-requires c =
     let n = next-cell c.loop-granted.cell.holders.items c.loop-granted.cell.waiting.items c.in-Some.granted (view_of c.grant_next.new.cell) c.in-Some.ensures.next c.in-Some.ensures.view in
-    omega (arith, grant-within c.args.resource (view_of c.loop-granted.cell) (view_of c.grant_next.new.cell) c.in-Some.granted c.loop-granted.rows.items n c.loop-granted.invariant.agree, c.loop-granted.rows.ok.0)
+    omega (arith, grant-within c.args.resource (view_of c.loop-granted.cell) (view_of c.grant_next.new.cell) c.in-Some.granted c.loop-granted.lockers.items n c.loop-granted.invariant.agree, c.loop-granted.lockers.ok.0)
 
 pub admit-requires-clause-kept : goal.admit-requires-clause-kept
 admit-requires-clause-kept c =
     let n = next-cell c.loop-granted.cell.holders.items c.loop-granted.cell.waiting.items c.in-Some.granted (view_of c.grant_next.new.cell) c.in-Some.ensures.next c.in-Some.ensures.view in
-    let lt = grant-within c.args.resource (view_of c.loop-granted.cell) (view_of c.grant_next.new.cell) c.in-Some.granted c.loop-granted.rows.items n c.loop-granted.invariant.agree in
-    subst IsKeptRow (sym c.index_mut-row.ensures.value) (All-get_or IsKeptRow c.loop-granted.rows.items c.in-Some.granted.session c.index_mut-row.result.now lt c.loop-granted.invariant.rows)
+    let lt = grant-within c.args.resource (view_of c.loop-granted.cell) (view_of c.grant_next.new.cell) c.in-Some.granted c.loop-granted.lockers.items n c.loop-granted.invariant.agree in
+    subst IsKeptLocker (sym c.index_mut-locker.ensures.value) (All-get_or IsKeptLocker c.loop-granted.lockers.items c.in-Some.granted.session c.index_mut-locker.result.now lt c.loop-granted.invariant.lockers)
 
 pub admit-requires-clause-waits : goal.admit-requires-clause-waits
 admit-requires-clause-waits c =
     let n = next-cell c.loop-granted.cell.holders.items c.loop-granted.cell.waiting.items c.in-Some.granted (view_of c.grant_next.new.cell) c.in-Some.ensures.next c.in-Some.ensures.view in
-    grant-waits_row c.args.resource (view_of c.loop-granted.cell) (view_of c.grant_next.new.cell) c.in-Some.granted c.loop-granted.rows.items n c.loop-granted.invariant.agree c.index_mut-row.result.now c.index_mut-row.ensures.value
+    grant-waits_locker c.args.resource (view_of c.loop-granted.cell) (view_of c.grant_next.new.cell) c.in-Some.granted c.loop-granted.lockers.items n c.loop-granted.invariant.agree c.index_mut-locker.result.now c.index_mut-locker.ensures.value
 
 pub loop-granted-preserved : goal.loop-granted-preserved
 loop-granted-preserved c =
@@ -28,14 +28,14 @@ loop-granted-preserved c =
     let v = view_of c.loop-granted.cell in
     let w = view_of c.grant_next.new.cell in
     let r = c.args.resource in
-    let rows = c.loop-granted.rows.items in
+    let lockers = c.loop-granted.lockers.items in
     let n = next-cell c.loop-granted.cell.holders.items c.loop-granted.cell.waiting.items c.in-Some.granted (view_of c.grant_next.new.cell) c.in-Some.ensures.next c.in-Some.ensures.view in
     record {
       view = promoted-next v c.in-Some.granted w n ∙ k.view;
       room = c.in-Some.ensures.room;
       once = once-next v c.in-Some.granted w n k.once;
-      agree = grant-agree r v w c.in-Some.granted rows n k.agree c.index_mut-row.result.now c.index_mut-row.ensures.value c.admit.new.row r c.admit.ensures.standing refl k.once;
-      rows = All-set IsKeptRow rows c.in-Some.granted.session c.admit.new.row c.admit.ensures.kept k.rows;
-      granted = grant-same r v w c.in-Some.granted rows n k.agree c.index_mut-row.result.now c.index_mut-row.ensures.value c.admit.new.row r c.admit.ensures.standing refl _ k.granted;
+      agree = grant-agree r v w c.in-Some.granted lockers n k.agree c.index_mut-locker.result.now c.index_mut-locker.ensures.value c.admit.new.locker r c.admit.ensures.standing refl k.once;
+      lockers = All-set IsKeptLocker lockers c.in-Some.granted.session c.admit.new.locker c.admit.ensures.kept k.lockers;
+      granted = grant-same r v w c.in-Some.granted lockers n k.agree c.index_mut-locker.result.now c.index_mut-locker.ensures.value c.admit.new.locker r c.admit.ensures.standing refl _ k.granted;
       len = k.len;
     }

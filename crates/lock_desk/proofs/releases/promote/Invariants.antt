@@ -1,18 +1,18 @@
 use Rattle.std.proofs.Common.{◌≡◌, map, vec_len}
 use Rattle.std.specs.List.{All}
-use Rattle.lock_desk.specs.Cells.{view_of, promoted_view, HasRoom, IsOnce}
-use Rattle.lock_desk.specs.Rows.{standing_of, IsKeptRow, AreSameOrAdmitted, DoAgree}
+use Rattle.lock_desk.specs.Cells.{view_of, view_after_promotion, HasRoom, IsOnce}
+use Rattle.lock_desk.specs.Lockers.{standing_of, IsKeptLocker, AreSameOrGranted, DoAgree}
 use Rattle.lock_desk.proofs.releases.promote.Given as goal
 
 abbrev pub invariant-loop-granted : goal.invariant-loop-granted
 invariant-loop-granted l = record {
-  view : promoted_view (view_of l.cell) ≡ promoted_view (view_of l.initial.cell);
+  view : view_after_promotion (view_of l.cell) ≡ view_after_promotion (view_of l.initial.cell);
   room : HasRoom l.cell;
   once : IsOnce (view_of l.cell);
-  agree : DoAgree l.resource (view_of l.cell) (map standing_of l.rows.items);
-  rows : All IsKeptRow l.rows.items;
-  granted : AreSameOrAdmitted l.resource (map standing_of l.initial.rows.items) (map standing_of l.rows.items);
-  len : vec_len l.rows ≡ vec_len l.initial.rows;
+  agree : DoAgree l.resource (view_of l.cell) (map standing_of l.lockers.items);
+  lockers : All IsKeptLocker l.lockers.items;
+  granted : AreSameOrGranted l.resource (map standing_of l.initial.lockers.items) (map standing_of l.lockers.items);
+  len : vec_len l.lockers ≡ vec_len l.initial.lockers;
 }
 
 abbrev pub decreases-loop-granted : goal.decreases-loop-granted

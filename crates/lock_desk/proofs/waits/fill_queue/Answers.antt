@@ -1,6 +1,6 @@
 use Rattle.std.proofs.Common.{◌≡◌, ◌+◌, ◌∙◌, ap, sym, Bool, false, ◌||◌, ◌&&◌, eqb}
 use Rattle.waits_for.specs.Pairs.{pairs_of}
-use Rattle.lock_desk.specs.Cells.{has_claim}
+use Rattle.lock_desk.specs.Cells.{has_session}
 use Rattle.lock_desk.proofs.Fills.{stands-until, stands-all, take-all}
 use Rattle.lock_desk.proofs.waits.fill_queue.Goals as goal
 
@@ -13,7 +13,7 @@ returns-then-request-session-clause-pairs c = λ a b.
 pub returns-clause-pairs : goal.returns-clause-pairs
 returns-clause-pairs c = λ a b.
     let all = take-all c.args.waiting.now c.loop-request.request-index c.loop-request-test.false in
-    let none : has_claim c.args.session c.args.waiting.now ≡ false = ap (has_claim c.args.session) (sym all) ∙ c.loop-request.invariant.before in
+    let none : has_session c.args.session c.args.waiting.now ≡ false = ap (has_session c.args.session) (sym all) ∙ c.loop-request.invariant.before in
     c.loop-request.invariant.pairs a b
     ∙ ap (λ (x : Bool). pairs_of c.args.rows.now a b || (eqb (a + 1) c.args.session && x))
-    (ap (has_claim (b + 1)) all ∙ sym (stands-all c.args.session (b + 1) c.args.waiting.now none))
+    (ap (has_session (b + 1)) all ∙ sym (stands-all c.args.session (b + 1) c.args.waiting.now none))

@@ -1,7 +1,7 @@
 use Rattle.std.proofs.Common.{◌≡◌, ◌+◌, ◌-◌, Bool, true, false, ◌&&◌, ◌||◌, not, cond, eqb, Some, refl, map, ap, sym, ◌∙◌, subst}
 use Rattle.waits_for.specs.Pairs.{pairs_of}
-use Rattle.lock_desk.specs.Cells.{View, said, cell_view}
-use Rattle.lock_desk.specs.Rows.{Standing, standing_of, standing_at, wanted_in}
+use Rattle.lock_desk.specs.Cells.{View, view_in, cell_view}
+use Rattle.lock_desk.specs.Lockers.{Standing, standing_of, standing_at, wanted_in}
 use Rattle.lock_desk.specs.Finding.{AreOfSessions, view_blocks, blocks}
 use Rattle.lock_desk.proofs.Standings.{standing-here}
 use Rattle.lock_desk.proofs.Fills.{written, blocks-there, blocks-nowhere}
@@ -10,24 +10,24 @@ use Rattle.lock_desk.proofs.waits.fill_session.Goals as goal
 pub fill_cell-requires-clause-holders : goal.fill_cell-requires-clause-holders
 fill_cell-requires-clause-holders c =
     let r = c.resource_of-resource.result in
-    rw c.clear.ensures.sessions (subst (λ (v : View). AreOfSessions c.args.waits.now.rows.sessions v.holders) (sym (ap said c.in-Some-cell_of.ensures)) (c.requires.numbered r).holders)
+    rw c.clear.ensures.sessions (subst (λ (v : View). AreOfSessions c.args.waits.now.rows.sessions v.holders) (sym (ap view_in c.in-Some-cell_of.ensures)) (c.requires.numbered r).holders)
 
 pub fill_cell-requires-clause-waiting : goal.fill_cell-requires-clause-waiting
 fill_cell-requires-clause-waiting c =
     let r = c.resource_of-resource.result in
-    rw c.clear.ensures.sessions (subst (λ (v : View). AreOfSessions c.args.waits.now.rows.sessions v.waiting) (sym (ap said c.in-Some-cell_of.ensures)) (c.requires.numbered r).waiting)
+    rw c.clear.ensures.sessions (subst (λ (v : View). AreOfSessions c.args.waits.now.rows.sessions v.waiting) (sym (ap view_in c.in-Some-cell_of.ensures)) (c.requires.numbered r).waiting)
 
 pub returns-in-Some-cell_of-clause-pairs : goal.returns-in-Some-cell_of-clause-pairs
 returns-in-Some-cell_of-clause-pairs c = λ a b.
     let s = c.args.session in
     let r = c.resource_of-resource.result in
-    let row = c.index-rows-session.result in
-    let there : (standing_at s (map standing_of c.args.rows.now)).wanted ≡ Some r =
-    ap (λ (x : Standing). x.wanted) (standing-here c.args.rows.now s row c.requires.within c.index-rows-session.is) ∙ (ap wanted_in c.in-Some.is ∙ ap Some (sym c.resource_of-resource.ensures)) in
-    let same : view_blocks s (b + 1) (cell_view r c.args.cells.now.entries) ≡ blocks c.args.cells.now.entries (map standing_of c.args.rows.now) s (b + 1) = sym (blocks-there c.args.cells.now.entries (map standing_of c.args.rows.now) s (b + 1) r there) in
+    let locker = c.index-lockers-session.result in
+    let there : (standing_at s (map standing_of c.args.lockers.now)).wanted ≡ Some r =
+    ap (λ (x : Standing). x.wanted) (standing-here c.args.lockers.now s locker c.requires.within c.index-lockers-session.is) ∙ (ap wanted_in c.in-Some.is ∙ ap Some (sym c.resource_of-resource.ensures)) in
+    let same : view_blocks s (b + 1) (cell_view r c.args.cells.now.entries) ≡ blocks c.args.cells.now.entries (map standing_of c.args.lockers.now) s (b + 1) = sym (blocks-there c.args.cells.now.entries (map standing_of c.args.lockers.now) s (b + 1) r there) in
     c.fill_cell.ensures.pairs a b
     ∙ (ap (λ (x : Bool). x || (eqb (a + 1) s && view_blocks s (b + 1) (record { holders = c.in-Some-cell_of.cell.now.holders.items; waiting = c.in-Some-cell_of.cell.now.waiting.items }))) (c.clear.ensures.pairs a b)
-    ∙ (ap (λ (v : View). (pairs_of c.args.waits.now.rows a b && not (eqb a (s - 1))) || (eqb (a + 1) s && view_blocks s (b + 1) v)) (ap said c.in-Some-cell_of.ensures)
+    ∙ (ap (λ (v : View). (pairs_of c.args.waits.now.rows a b && not (eqb a (s - 1))) || (eqb (a + 1) s && view_blocks s (b + 1) v)) (ap view_in c.in-Some-cell_of.ensures)
     ∙ (written s a (pairs_of c.args.waits.now.rows a b) (view_blocks s (b + 1) (cell_view r c.args.cells.now.entries)) c.requires.some
     ∙ ap (λ (x : Bool). cond (eqb (a + 1) s) x (pairs_of c.args.waits.now.rows a b)) same)))
 
@@ -35,10 +35,10 @@ pub returns-in_default-cell_of-clause-pairs : goal.returns-in_default-cell_of-cl
 returns-in_default-cell_of-clause-pairs c = λ a b.
     let s = c.args.session in
     let r = c.resource_of-resource.result in
-    let row = c.index-rows-session.result in
-    let there : (standing_at s (map standing_of c.args.rows.now)).wanted ≡ Some r =
-    ap (λ (x : Standing). x.wanted) (standing-here c.args.rows.now s row c.requires.within c.index-rows-session.is) ∙ (ap wanted_in c.in-Some.is ∙ ap Some (sym c.resource_of-resource.ensures)) in
-    let none = blocks-nowhere c.args.cells.now.entries (map standing_of c.args.rows.now) s (b + 1) r there c.in_default-cell_of.ensures in
+    let locker = c.index-lockers-session.result in
+    let there : (standing_at s (map standing_of c.args.lockers.now)).wanted ≡ Some r =
+    ap (λ (x : Standing). x.wanted) (standing-here c.args.lockers.now s locker c.requires.within c.index-lockers-session.is) ∙ (ap wanted_in c.in-Some.is ∙ ap Some (sym c.resource_of-resource.ensures)) in
+    let none = blocks-nowhere c.args.cells.now.entries (map standing_of c.args.lockers.now) s (b + 1) r there c.in_default-cell_of.ensures in
     c.clear.ensures.pairs a b
     ∙ (sym (or-none (pairs_of c.args.waits.now.rows a b && not (eqb a (s - 1))) (eqb (a + 1) s))
     ∙ (written s a (pairs_of c.args.waits.now.rows a b) false c.requires.some

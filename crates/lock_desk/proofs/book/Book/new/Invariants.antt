@@ -1,11 +1,11 @@
 use Rattle.std.proofs.Common.{◌≡◌, ℕ, map, vec_len}
 use Rattle.std.specs.List.{All}
-use Rattle.lock_desk.specs.Rows.{no_standing, standing_of, standing_at, IsKeptRow}
+use Rattle.lock_desk.specs.Lockers.{no_standing, standing_of, standing_at, IsKeptLocker}
 use Rattle.lock_desk.proofs.book.Book.new.Given as goal
 
-abbrev pub invariant-loop-row : goal.invariant-loop-row
-invariant-loop-row l = record {
-  long : vec_len l.rows ≡ l._row;
-  kept : All IsKeptRow l.rows.items;
-  none : (s : ℕ) → standing_at s (map standing_of l.rows.items) ≡ no_standing;
+abbrev pub invariant-loop-locker : goal.invariant-loop-locker
+invariant-loop-locker l = record {
+  long : vec_len l.lockers ≡ l._locker;
+  kept : All IsKeptLocker l.lockers.items;
+  none : (s : ℕ) → standing_at s (map standing_of l.lockers.items) ≡ no_standing;
 }

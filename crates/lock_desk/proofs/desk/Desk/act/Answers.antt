@@ -11,7 +11,7 @@ returns-in-Poll-clause-act c = λ st i j h.
     let d = c.args.self.now in
     let a = doom-shown d st c.args.session h in
     let b = waits-shown d st c.args.session c.requires.whole h in
-    rw c.in-Poll.is (c.told.ensures ∙ (λ k. cond (a k) Deadlock (cond (b k) Waiting Clear)), h)
+    rw c.in-Poll.is (c.standing_reply.ensures ∙ (λ k. cond (a k) Deadlock (cond (b k) Waiting Clear)), h)
 
 pub returns-in-Release-clause-act : goal.returns-in-Release-clause-act
 returns-in-Release-clause-act c = λ st i j h.

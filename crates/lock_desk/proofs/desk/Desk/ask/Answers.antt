@@ -1,7 +1,7 @@
 use Rattle.std.proofs.Common.{◌∙◌, Bool, false, inl, inr, vec_len, ap, arith, subst}
 use Rattle.lock_rules.specs.Step.{target_of, is_held}
 use Rattle.lock_rules.proofs.Lists.{bool_cases}
-use Rattle.lock_desk.specs.Changes.{held_seen, HasAsked}
+use Rattle.lock_desk.specs.Changes.{mode_held, HasAsked}
 use Rattle.lock_desk.proofs.Steps.{first_state}
 use Rattle.lock_desk.proofs.Shown.{granted-answer, waits-shown_first, waits-sound, waits-numbered, waits-answer}
 use Rattle.lock_desk.proofs.Few.{few-waits}
@@ -24,7 +24,7 @@ returns-clause-ask c = λ st i j h.
     let r = c.args.resource in
     let m = c.target_of-target.result in
     let target = c.target_of-target.ensures ∙ ap (λ o. target_of o c.args.mode) c.held-held.ensures in
-    elim (bool_cases (is_held (held_seen c.args.self.now c.args.session c.args.resource) c.target_of-target.result)) [
+    elim (bool_cases (is_held (mode_held c.args.self.now c.args.session c.args.resource) c.target_of-target.result)) [
       | inl y ↦ absurd (let a = (c.in_ok-seek.ensures.held y).0 in let b = c.if-branch.false in cc)
       | inr n ↦
           let k = subst (λ (b : Bool). HasAsked c.args.session c.args.resource c.target_of-target.result b c.args.self.now c.seek.new.self) c.if-branch.false (c.in_ok-seek.ensures.asked n) in
@@ -32,7 +32,7 @@ returns-clause-ask c = λ st i j h.
           let first = waits-shown_first d c.seek.new.self st s r c.args.mode m c.requires.whole i h c.requires.may target n k in
           let numbered = waits-numbered d c.seek.new.self st s r c.args.mode m c.requires.whole i h c.requires.may target n k j in
           let long = c.requires.ready.long in
-          let few = few-waits c.seek.new.self (first_state st s r m false) c.seek.ensures.whole sound first c.args.self.now.waits.rows.sessions (omega (arith, long, c.seek.ensures.len, c.seek.new.self.rows.ok.0)) in
-          waits-answer d c.seek.new.self st s r c.args.mode m c.requires.whole i h c.requires.may target n k (vec_len c.seek.new.self.rows) c.settle.new.self
-          (omega (arith, few, long, c.seek.ensures.len)) c.settle.ensures.whole (c.settle.ensures.settled (first_state st s r m false) sound numbered first) c.told.result c.told.ensures
+          let few = few-waits c.seek.new.self (first_state st s r m false) c.seek.ensures.whole sound first c.args.self.now.waits.rows.sessions (omega (arith, long, c.seek.ensures.len, c.seek.new.self.lockers.ok.0)) in
+          waits-answer d c.seek.new.self st s r c.args.mode m c.requires.whole i h c.requires.may target n k (vec_len c.seek.new.self.lockers) c.settle.new.self
+          (omega (arith, few, long, c.seek.ensures.len)) c.settle.ensures.whole (c.settle.ensures.settled (first_state st s r m false) sound numbered first) c.standing_reply.result c.standing_reply.ensures
     ]

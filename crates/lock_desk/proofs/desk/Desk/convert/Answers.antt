@@ -1,11 +1,11 @@
 use Rattle.std.proofs.Common.{◌≡◌, refl, sym, ◌∙◌, ap, subst, Bool, set}
 use Rattle.lock_desk.specs.Cells.{has_path}
 use Rattle.std.proofs.lemmas.List.Elements.{All-set}
-use Rattle.lock_desk.specs.Rows.{Standing, standing_of, asked_standing, IsKeptRow}
+use Rattle.lock_desk.specs.Lockers.{Standing, standing_of, standing_after_asking, IsKeptLocker}
 use Rattle.lock_desk.specs.Changes.{standing, standings}
 use Rattle.lock_desk.proofs.Results.{on-err-from}
 use Rattle.lock_desk.proofs.Standings.{standing-here}
-use Rattle.lock_desk.proofs.Asks.{within, idle-there, held-row, there-same, there-whole, once-own, never-own, has-asked, asked-whole}
+use Rattle.lock_desk.proofs.Asks.{within, idle-there, held-locker, there-same, there-whole, once-own, never-own, has-asked, asked-whole}
 use Rattle.lock_desk.proofs.desk.Desk.convert.Goals as goal
 
 pub ask-requires-clause-idle : goal.ask-requires-clause-idle
@@ -19,33 +19,33 @@ returns-in_err-granted-clause-whole c = there-whole c.args.resource c.args.self.
 
 pub want-requires-clause-kind : goal.want-requires-clause-kind
 want-requires-clause-kind c =
-    ap (λ (x : Standing). has_path c.args.resource x.held) (sym (standing-here c.args.self.now.rows.items c.args.session c.index_mut-row.result.now (within c.args.self.now c.args.session c.requires.within) c.index_mut-row.ensures.value))
-    ∙ (held-row c.args.session c.args.resource c.args.self.now c.requires.whole ∙ c.requires.can.held)
+    ap (λ (x : Standing). has_path c.args.resource x.held) (sym (standing-here c.args.self.now.lockers.items c.args.session c.index_mut-locker.result.now (within c.args.self.now c.args.session c.requires.within) c.index_mut-locker.ensures.value))
+    ∙ (held-locker c.args.session c.args.resource c.args.self.now c.requires.whole ∙ c.requires.can.held)
 
 pub returns-then-not-granted-clause-asked : goal.returns-then-not-granted-clause-asked
 returns-then-not-granted-clause-asked c =
     has-asked c.args.self.now c.args.session c.args.resource c.args.mode c.in_ok-granted.granted _ c.requires.whole (within c.args.self.now c.args.session c.requires.within) c.requires.can.idle c.in_ok-granted.ensures.granted
-    (once-own c.args.self.now c.args.session c.args.resource c.index_mut-row.result.now c.want.new.row _ c.in_ok-granted.granted (within c.args.self.now c.args.session c.requires.within) c.index_mut-row.ensures.value
-    (subst (λ (b : Bool). standing_of c.want.new.row ≡ asked_standing b c.args.resource (standing_of c.index_mut-row.result.now)) (sym c.if-not-granted.true) c.want.ensures.standing) refl)
+    (once-own c.args.self.now c.args.session c.args.resource c.index_mut-locker.result.now c.want.new.locker _ c.in_ok-granted.granted (within c.args.self.now c.args.session c.requires.within) c.index_mut-locker.ensures.value
+    (subst (λ (b : Bool). standing_of c.want.new.locker ≡ standing_after_asking b c.args.resource (standing_of c.index_mut-locker.result.now)) (sym c.if-not-granted.true) c.want.ensures.standing) refl)
     c.in_ok-granted.ensures.ok refl
 
 pub returns-then-not-granted-clause-whole : goal.returns-then-not-granted-clause-whole
 returns-then-not-granted-clause-whole c =
     asked-whole c.args.self.now c.args.session c.args.resource c.args.mode c.in_ok-granted.granted _ c.requires.whole (within c.args.self.now c.args.session c.requires.within) c.requires.can.idle c.in_ok-granted.ensures.granted
-    (once-own c.args.self.now c.args.session c.args.resource c.index_mut-row.result.now c.want.new.row _ c.in_ok-granted.granted (within c.args.self.now c.args.session c.requires.within) c.index_mut-row.ensures.value
-    (subst (λ (b : Bool). standing_of c.want.new.row ≡ asked_standing b c.args.resource (standing_of c.index_mut-row.result.now)) (sym c.if-not-granted.true) c.want.ensures.standing) refl)
-    c.in_ok-granted.ensures.ok (All-set IsKeptRow c.args.self.now.rows.items c.args.session c.want.new.row c.want.ensures.kept c.requires.whole.rows)
+    (once-own c.args.self.now c.args.session c.args.resource c.index_mut-locker.result.now c.want.new.locker _ c.in_ok-granted.granted (within c.args.self.now c.args.session c.requires.within) c.index_mut-locker.ensures.value
+    (subst (λ (b : Bool). standing_of c.want.new.locker ≡ standing_after_asking b c.args.resource (standing_of c.index_mut-locker.result.now)) (sym c.if-not-granted.true) c.want.ensures.standing) refl)
+    c.in_ok-granted.ensures.ok (All-set IsKeptLocker c.args.self.now.lockers.items c.args.session c.want.new.locker c.want.ensures.kept c.requires.whole.lockers)
 
 pub returns-else-not-granted-clause-asked : goal.returns-else-not-granted-clause-asked
 returns-else-not-granted-clause-asked c =
     has-asked c.args.self.now c.args.session c.args.resource c.args.mode c.in_ok-granted.granted _ c.requires.whole (within c.args.self.now c.args.session c.requires.within) c.requires.can.idle c.in_ok-granted.ensures.granted
-    (subst (λ (b : Bool). standings c.args.self.now ≡ set (standings c.args.self.now) c.args.session (asked_standing b c.args.resource (standing c.args.session c.args.self.now))) (sym c.if-not-granted.false)
-    (never-own c.args.self.now c.args.session c.args.resource (held-row c.args.session c.args.resource c.args.self.now c.requires.whole ∙ c.requires.can.held) c.requires.can.idle))
+    (subst (λ (b : Bool). standings c.args.self.now ≡ set (standings c.args.self.now) c.args.session (standing_after_asking b c.args.resource (standing c.args.session c.args.self.now))) (sym c.if-not-granted.false)
+    (never-own c.args.self.now c.args.session c.args.resource (held-locker c.args.session c.args.resource c.args.self.now c.requires.whole ∙ c.requires.can.held) c.requires.can.idle))
     c.in_ok-granted.ensures.ok refl
 
 pub returns-else-not-granted-clause-whole : goal.returns-else-not-granted-clause-whole
 returns-else-not-granted-clause-whole c =
     asked-whole c.args.self.now c.args.session c.args.resource c.args.mode c.in_ok-granted.granted _ c.requires.whole (within c.args.self.now c.args.session c.requires.within) c.requires.can.idle c.in_ok-granted.ensures.granted
-    (subst (λ (b : Bool). standings c.args.self.now ≡ set (standings c.args.self.now) c.args.session (asked_standing b c.args.resource (standing c.args.session c.args.self.now))) (sym c.if-not-granted.false)
-    (never-own c.args.self.now c.args.session c.args.resource (held-row c.args.session c.args.resource c.args.self.now c.requires.whole ∙ c.requires.can.held) c.requires.can.idle))
-    c.in_ok-granted.ensures.ok c.requires.whole.rows
+    (subst (λ (b : Bool). standings c.args.self.now ≡ set (standings c.args.self.now) c.args.session (standing_after_asking b c.args.resource (standing c.args.session c.args.self.now))) (sym c.if-not-granted.false)
+    (never-own c.args.self.now c.args.session c.args.resource (held-locker c.args.session c.args.resource c.args.self.now c.requires.whole ∙ c.requires.can.held) c.requires.can.idle))
+    c.in_ok-granted.ensures.ok c.requires.whole.lockers

@@ -1,31 +1,31 @@
 use Rattle.std.proofs.Common.{◌<◌, length, refl, None, arith}
 use Rattle.std.specs.Vec.{with_item}
-use Rattle.lock_desk.specs.declared.rows.Row.{Row}
+use Rattle.lock_desk.specs.declared.lockers.Locker.{Locker}
 use Rattle.lock_desk.specs.declared.desk.Desk.{Desk}
 use Rattle.lock_desk.proofs.Ends.{few-at, told-whole, transaction-each, has-ended}
 use Rattle.lock_desk.proofs.desk.Desk.end.Goals as goal
 
 pub returns-clause-few : goal.returns-clause-few
-returns-clause-few c = omega (arith, few-at c.args.self.now.rows.items c.args.session c.requires.whole.rows, c.give_back_all-locks.ensures.locks)
+returns-clause-few c = omega (arith, few-at c.args.self.now.lockers.items c.args.session c.requires.whole.lockers, c.give_back_all-locks.ensures.locks)
 
 pub returns-clause-ended : goal.returns-clause-ended
 returns-clause-ended c =
     let f = c.give_back_all-locks.new.self in
     let s = c.args.session in
-    let row = c.index_mut-row.result.now in
-    let new : Row = record { transaction = None; held = row.held; wanted = row.wanted } in
-    let e : Desk = record { count = f.count; rows = with_item f.rows s new; cells = f.cells; waits = f.waits } in
-    let lt : s < length f.rows.items = omega (arith, c.requires.within, c.give_back_all-locks.ensures.len, f.rows.ok.0) in
-    let at = c.index_mut-row.ensures.value in
+    let locker = c.index_mut-locker.result.now in
+    let new : Locker = record { transaction = None; held = locker.held; wanted = locker.wanted } in
+    let e : Desk = record { count = f.count; lockers = with_item f.lockers s new; cells = f.cells; waits = f.waits } in
+    let lt : s < length f.lockers.items = omega (arith, c.requires.within, c.give_back_all-locks.ensures.len, f.lockers.ok.0) in
+    let at = c.index_mut-locker.ensures.value in
     let w = c.give_back_all-locks.ensures.whole in
     has-ended s c.args.self.now f e c.requires.whole c.requires.idle c.give_back_all-locks.ensures.back c.give_back_all-locks.ensures.none refl (λ q. refl)
-    (transaction-each f s None row new e w lt at refl refl refl refl refl)
+    (transaction-each f s None locker new e w lt at refl refl refl refl refl)
 
 pub returns-clause-whole : goal.returns-clause-whole
 returns-clause-whole c =
     let f = c.give_back_all-locks.new.self in
     let s = c.args.session in
-    let row = c.index_mut-row.result.now in
-    let new : Row = record { transaction = None; held = row.held; wanted = row.wanted } in
-    let lt : s < length f.rows.items = omega (arith, c.requires.within, c.give_back_all-locks.ensures.len, f.rows.ok.0) in
-    told-whole f s None row new _ c.give_back_all-locks.ensures.whole lt c.index_mut-row.ensures.value refl refl refl refl refl
+    let locker = c.index_mut-locker.result.now in
+    let new : Locker = record { transaction = None; held = locker.held; wanted = locker.wanted } in
+    let lt : s < length f.lockers.items = omega (arith, c.requires.within, c.give_back_all-locks.ensures.len, f.lockers.ok.0) in
+    told-whole f s None locker new _ c.give_back_all-locks.ensures.whole lt c.index_mut-locker.ensures.value refl refl refl refl refl

@@ -1,5 +1,5 @@
 use Rattle.std.proofs.Common.{refl, ◌∙◌, ap, arith, length, length-append, [], ◌∷◌}
-use Rattle.lock_desk.specs.Rows.{Standing}
+use Rattle.lock_desk.specs.Lockers.{Standing}
 use Rattle.lock_desk.specs.Changes.{standing}
 use Rattle.lock_desk.proofs.Standings.{standing-here}
 use Rattle.lock_desk.proofs.Asks.{within}
@@ -9,11 +9,11 @@ use Rattle.lock_desk.proofs.desk.Desk.give_back_all.Goals as goal
 pub loop-lock-init : goal.loop-lock-init
 loop-lock-init c =
     let d = c.args.self.now in
-    let long = ap (λ (x : Standing). length x.held) (standing-here d.rows.items c.args.session c.index-row.result.now (within d c.args.session c.requires.within) c.index-row.ensures) in
+    let long = ap (λ (x : Standing). length x.held) (standing-here d.lockers.items c.args.session c.index-locker.result.now (within d c.args.session c.requires.within) c.index-locker.ensures) in
     record {
       back = back-none c.args.session c.args.self.now c.requires.whole c.requires.idle;
       whole = c.requires.whole;
-      left = omega (arith, c.len-locks.ensures, long, c.index-row.result.now.held.ok.0);
+      left = omega (arith, c.len-locks.ensures, long, c.index-locker.result.now.held.ok.0);
       waits = refl;
       len = refl;
     }

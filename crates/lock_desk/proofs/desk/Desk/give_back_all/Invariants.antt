@@ -8,5 +8,5 @@ invariant-loop-lock l = record {
   whole : IsWhole l.self;
   left : length (standing l.session l.self).held + l._lock ≡ l.locks;
   waits : l.self.waits ≡ l.initial.self.waits;
-  len : vec_len l.self.rows ≡ vec_len l.initial.self.rows;
+  len : vec_len l.self.lockers ≡ vec_len l.initial.self.lockers;
 }

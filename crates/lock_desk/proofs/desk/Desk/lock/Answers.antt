@@ -1,18 +1,18 @@
 use Rattle.std.proofs.Common.{◌≡◌, refl, sym, ◌∙◌, subst, Bool}
-use Rattle.lock_desk.specs.Rows.{standing_of, asked_standing}
+use Rattle.lock_desk.specs.Lockers.{standing_of, standing_after_asking}
 use Rattle.lock_desk.proofs.Results.{on-err-from}
 use Rattle.lock_desk.proofs.Seen.{became-same}
-use Rattle.lock_desk.proofs.Asks.{within, idle-there, held-row, mid-held, room-same, room-whole, twice-own, twice-kept, has-asked, asked-whole}
+use Rattle.lock_desk.proofs.Asks.{within, idle-there, held-locker, mid-held, room-same, room-whole, twice-own, twice-kept, has-asked, asked-whole}
 use Rattle.lock_desk.proofs.desk.Desk.lock.Goals as goal
 
 pub returns-in_err-make_room-clause-err : goal.returns-in_err-make_room-clause-err
 returns-in_err-make_room-clause-err c =
     on-err-from c.from_residual.result
-    (room-same c.args.self.now c.args.session c.index_mut-row.result.now c.make_room.new.row c.requires.whole (within c.args.self.now c.args.session c.requires.within) c.index_mut-row.ensures.value c.make_room.ensures.standing c.make_room.ensures.kept c.args.resource _ refl refl (became-same c.args.resource c.args.self.now.cells.entries c.requires.whole.cells))
+    (room-same c.args.self.now c.args.session c.index_mut-locker.result.now c.make_room.new.locker c.requires.whole (within c.args.self.now c.args.session c.requires.within) c.index_mut-locker.ensures.value c.make_room.ensures.standing c.make_room.ensures.kept c.args.resource _ refl refl (became-same c.args.resource c.args.self.now.cells.entries c.requires.whole.cells))
 
 pub returns-in_err-make_room-clause-whole : goal.returns-in_err-make_room-clause-whole
 returns-in_err-make_room-clause-whole c =
-    room-whole c.args.self.now c.args.session c.index_mut-row.result.now c.make_room.new.row c.requires.whole (within c.args.self.now c.args.session c.requires.within) c.index_mut-row.ensures.value c.make_room.ensures.standing c.make_room.ensures.kept c.args.resource _ refl refl (became-same c.args.resource c.args.self.now.cells.entries c.requires.whole.cells)
+    room-whole c.args.self.now c.args.session c.index_mut-locker.result.now c.make_room.new.locker c.requires.whole (within c.args.self.now c.args.session c.requires.within) c.index_mut-locker.ensures.value c.make_room.ensures.standing c.make_room.ensures.kept c.args.resource _ refl refl (became-same c.args.resource c.args.self.now.cells.entries c.requires.whole.cells)
 
 pub ask-requires-clause-idle : goal.ask-requires-clause-idle
 ask-requires-clause-idle c = idle-there c.args.session c.args.resource c.args.self.now c.requires.whole c.requires.can.idle
@@ -20,44 +20,44 @@ ask-requires-clause-idle c = idle-there c.args.session c.args.resource c.args.se
 pub returns-in_err-granted-clause-err : goal.returns-in_err-granted-clause-err
 returns-in_err-granted-clause-err c =
     on-err-from c.from_residual-in_err-granted.result
-    (room-same c.args.self.now c.args.session c.index_mut-row.result.now c.make_room.new.row c.requires.whole (within c.args.self.now c.args.session c.requires.within) c.index_mut-row.ensures.value c.make_room.ensures.standing c.make_room.ensures.kept c.args.resource _ refl refl c.in_err-granted.ensures.err)
+    (room-same c.args.self.now c.args.session c.index_mut-locker.result.now c.make_room.new.locker c.requires.whole (within c.args.self.now c.args.session c.requires.within) c.index_mut-locker.ensures.value c.make_room.ensures.standing c.make_room.ensures.kept c.args.resource _ refl refl c.in_err-granted.ensures.err)
 
 pub returns-in_err-granted-clause-whole : goal.returns-in_err-granted-clause-whole
 returns-in_err-granted-clause-whole c =
-    room-whole c.args.self.now c.args.session c.index_mut-row.result.now c.make_room.new.row c.requires.whole (within c.args.self.now c.args.session c.requires.within) c.index_mut-row.ensures.value c.make_room.ensures.standing c.make_room.ensures.kept c.args.resource _ refl refl c.in_err-granted.ensures.err
+    room-whole c.args.self.now c.args.session c.index_mut-locker.result.now c.make_room.new.locker c.requires.whole (within c.args.self.now c.args.session c.requires.within) c.index_mut-locker.ensures.value c.make_room.ensures.standing c.make_room.ensures.kept c.args.resource _ refl refl c.in_err-granted.ensures.err
 
 pub returns-then-granted-clause-asked : goal.returns-then-granted-clause-asked
 returns-then-granted-clause-asked c =
     has-asked c.args.self.now c.args.session c.args.resource c.args.mode c.in_ok-granted.granted _ c.requires.whole (within c.args.self.now c.args.session c.requires.within) c.requires.can.idle c.in_ok-granted.ensures.granted
-    (twice-own c.args.self.now c.args.session c.index_mut-row.result.now c.make_room.new.row c.requires.whole (within c.args.self.now c.args.session c.requires.within) c.index_mut-row.ensures.value c.make_room.ensures.standing c.make_room.ensures.kept c.args.resource c.in_ok-granted.granted c.index_mut-row-2.result.now c.hold.new.row _ c.index_mut-row-2.ensures.value (subst (λ (b : Bool). standing_of c.hold.new.row ≡ asked_standing b c.args.resource (standing_of c.index_mut-row-2.result.now)) (sym c.if-granted.true) c.hold.ensures.standing) c.hold.ensures.kept refl)
+    (twice-own c.args.self.now c.args.session c.index_mut-locker.result.now c.make_room.new.locker c.requires.whole (within c.args.self.now c.args.session c.requires.within) c.index_mut-locker.ensures.value c.make_room.ensures.standing c.make_room.ensures.kept c.args.resource c.in_ok-granted.granted c.index_mut-locker-2.result.now c.hold.new.locker _ c.index_mut-locker-2.ensures.value (subst (λ (b : Bool). standing_of c.hold.new.locker ≡ standing_after_asking b c.args.resource (standing_of c.index_mut-locker-2.result.now)) (sym c.if-granted.true) c.hold.ensures.standing) c.hold.ensures.kept refl)
     c.in_ok-granted.ensures.ok refl
 
 pub returns-then-granted-clause-whole : goal.returns-then-granted-clause-whole
 returns-then-granted-clause-whole c =
     asked-whole c.args.self.now c.args.session c.args.resource c.args.mode c.in_ok-granted.granted _ c.requires.whole (within c.args.self.now c.args.session c.requires.within) c.requires.can.idle c.in_ok-granted.ensures.granted
-    (twice-own c.args.self.now c.args.session c.index_mut-row.result.now c.make_room.new.row c.requires.whole (within c.args.self.now c.args.session c.requires.within) c.index_mut-row.ensures.value c.make_room.ensures.standing c.make_room.ensures.kept c.args.resource c.in_ok-granted.granted c.index_mut-row-2.result.now c.hold.new.row _ c.index_mut-row-2.ensures.value (subst (λ (b : Bool). standing_of c.hold.new.row ≡ asked_standing b c.args.resource (standing_of c.index_mut-row-2.result.now)) (sym c.if-granted.true) c.hold.ensures.standing) c.hold.ensures.kept refl)
+    (twice-own c.args.self.now c.args.session c.index_mut-locker.result.now c.make_room.new.locker c.requires.whole (within c.args.self.now c.args.session c.requires.within) c.index_mut-locker.ensures.value c.make_room.ensures.standing c.make_room.ensures.kept c.args.resource c.in_ok-granted.granted c.index_mut-locker-2.result.now c.hold.new.locker _ c.index_mut-locker-2.ensures.value (subst (λ (b : Bool). standing_of c.hold.new.locker ≡ standing_after_asking b c.args.resource (standing_of c.index_mut-locker-2.result.now)) (sym c.if-granted.true) c.hold.ensures.standing) c.hold.ensures.kept refl)
     c.in_ok-granted.ensures.ok
-    (twice-kept c.args.self.now c.args.session c.index_mut-row.result.now c.make_room.new.row c.requires.whole (within c.args.self.now c.args.session c.requires.within) c.index_mut-row.ensures.value c.make_room.ensures.standing c.make_room.ensures.kept c.args.resource c.in_ok-granted.granted c.index_mut-row-2.result.now c.hold.new.row _ c.index_mut-row-2.ensures.value (subst (λ (b : Bool). standing_of c.hold.new.row ≡ asked_standing b c.args.resource (standing_of c.index_mut-row-2.result.now)) (sym c.if-granted.true) c.hold.ensures.standing) c.hold.ensures.kept refl)
+    (twice-kept c.args.self.now c.args.session c.index_mut-locker.result.now c.make_room.new.locker c.requires.whole (within c.args.self.now c.args.session c.requires.within) c.index_mut-locker.ensures.value c.make_room.ensures.standing c.make_room.ensures.kept c.args.resource c.in_ok-granted.granted c.index_mut-locker-2.result.now c.hold.new.locker _ c.index_mut-locker-2.ensures.value (subst (λ (b : Bool). standing_of c.hold.new.locker ≡ standing_after_asking b c.args.resource (standing_of c.index_mut-locker-2.result.now)) (sym c.if-granted.true) c.hold.ensures.standing) c.hold.ensures.kept refl)
 
 pub returns-else-granted-clause-asked : goal.returns-else-granted-clause-asked
 returns-else-granted-clause-asked c =
     has-asked c.args.self.now c.args.session c.args.resource c.args.mode c.in_ok-granted.granted _ c.requires.whole (within c.args.self.now c.args.session c.requires.within) c.requires.can.idle c.in_ok-granted.ensures.granted
-    (twice-own c.args.self.now c.args.session c.index_mut-row.result.now c.make_room.new.row c.requires.whole (within c.args.self.now c.args.session c.requires.within) c.index_mut-row.ensures.value c.make_room.ensures.standing c.make_room.ensures.kept c.args.resource c.in_ok-granted.granted c.index_mut-row-2.result.now c.want.new.row _ c.index_mut-row-2.ensures.value (subst (λ (b : Bool). standing_of c.want.new.row ≡ asked_standing b c.args.resource (standing_of c.index_mut-row-2.result.now)) (sym c.if-granted.false) c.want.ensures.standing) c.want.ensures.kept refl)
+    (twice-own c.args.self.now c.args.session c.index_mut-locker.result.now c.make_room.new.locker c.requires.whole (within c.args.self.now c.args.session c.requires.within) c.index_mut-locker.ensures.value c.make_room.ensures.standing c.make_room.ensures.kept c.args.resource c.in_ok-granted.granted c.index_mut-locker-2.result.now c.want.new.locker _ c.index_mut-locker-2.ensures.value (subst (λ (b : Bool). standing_of c.want.new.locker ≡ standing_after_asking b c.args.resource (standing_of c.index_mut-locker-2.result.now)) (sym c.if-granted.false) c.want.ensures.standing) c.want.ensures.kept refl)
     c.in_ok-granted.ensures.ok refl
 
 pub returns-else-granted-clause-whole : goal.returns-else-granted-clause-whole
 returns-else-granted-clause-whole c =
     asked-whole c.args.self.now c.args.session c.args.resource c.args.mode c.in_ok-granted.granted _ c.requires.whole (within c.args.self.now c.args.session c.requires.within) c.requires.can.idle c.in_ok-granted.ensures.granted
-    (twice-own c.args.self.now c.args.session c.index_mut-row.result.now c.make_room.new.row c.requires.whole (within c.args.self.now c.args.session c.requires.within) c.index_mut-row.ensures.value c.make_room.ensures.standing c.make_room.ensures.kept c.args.resource c.in_ok-granted.granted c.index_mut-row-2.result.now c.want.new.row _ c.index_mut-row-2.ensures.value (subst (λ (b : Bool). standing_of c.want.new.row ≡ asked_standing b c.args.resource (standing_of c.index_mut-row-2.result.now)) (sym c.if-granted.false) c.want.ensures.standing) c.want.ensures.kept refl)
+    (twice-own c.args.self.now c.args.session c.index_mut-locker.result.now c.make_room.new.locker c.requires.whole (within c.args.self.now c.args.session c.requires.within) c.index_mut-locker.ensures.value c.make_room.ensures.standing c.make_room.ensures.kept c.args.resource c.in_ok-granted.granted c.index_mut-locker-2.result.now c.want.new.locker _ c.index_mut-locker-2.ensures.value (subst (λ (b : Bool). standing_of c.want.new.locker ≡ standing_after_asking b c.args.resource (standing_of c.index_mut-locker-2.result.now)) (sym c.if-granted.false) c.want.ensures.standing) c.want.ensures.kept refl)
     c.in_ok-granted.ensures.ok
-    (twice-kept c.args.self.now c.args.session c.index_mut-row.result.now c.make_room.new.row c.requires.whole (within c.args.self.now c.args.session c.requires.within) c.index_mut-row.ensures.value c.make_room.ensures.standing c.make_room.ensures.kept c.args.resource c.in_ok-granted.granted c.index_mut-row-2.result.now c.want.new.row _ c.index_mut-row-2.ensures.value (subst (λ (b : Bool). standing_of c.want.new.row ≡ asked_standing b c.args.resource (standing_of c.index_mut-row-2.result.now)) (sym c.if-granted.false) c.want.ensures.standing) c.want.ensures.kept refl)
+    (twice-kept c.args.self.now c.args.session c.index_mut-locker.result.now c.make_room.new.locker c.requires.whole (within c.args.self.now c.args.session c.requires.within) c.index_mut-locker.ensures.value c.make_room.ensures.standing c.make_room.ensures.kept c.args.resource c.in_ok-granted.granted c.index_mut-locker-2.result.now c.want.new.locker _ c.index_mut-locker-2.ensures.value (subst (λ (b : Bool). standing_of c.want.new.locker ≡ standing_after_asking b c.args.resource (standing_of c.index_mut-locker-2.result.now)) (sym c.if-granted.false) c.want.ensures.standing) c.want.ensures.kept refl)
 
 pub hold-requires-clause-new : goal.hold-requires-clause-new
 hold-requires-clause-new c =
-    mid-held c.args.self.now c.args.session c.index_mut-row.result.now c.make_room.new.row c.requires.whole (within c.args.self.now c.args.session c.requires.within) c.index_mut-row.ensures.value c.make_room.ensures.standing c.make_room.ensures.kept c.args.resource c.index_mut-row-2.result.now c.index_mut-row-2.ensures.value
-    ∙ (held-row c.args.session c.args.resource c.args.self.now c.requires.whole ∙ c.requires.can.new)
+    mid-held c.args.self.now c.args.session c.index_mut-locker.result.now c.make_room.new.locker c.requires.whole (within c.args.self.now c.args.session c.requires.within) c.index_mut-locker.ensures.value c.make_room.ensures.standing c.make_room.ensures.kept c.args.resource c.index_mut-locker-2.result.now c.index_mut-locker-2.ensures.value
+    ∙ (held-locker c.args.session c.args.resource c.args.self.now c.requires.whole ∙ c.requires.can.new)
 
 pub want-requires-clause-kind : goal.want-requires-clause-kind
 want-requires-clause-kind c =
-    mid-held c.args.self.now c.args.session c.index_mut-row.result.now c.make_room.new.row c.requires.whole (within c.args.self.now c.args.session c.requires.within) c.index_mut-row.ensures.value c.make_room.ensures.standing c.make_room.ensures.kept c.args.resource c.index_mut-row-2.result.now c.index_mut-row-2.ensures.value
-    ∙ (held-row c.args.session c.args.resource c.args.self.now c.requires.whole ∙ c.requires.can.new)
+    mid-held c.args.self.now c.args.session c.index_mut-locker.result.now c.make_room.new.locker c.requires.whole (within c.args.self.now c.args.session c.requires.within) c.index_mut-locker.ensures.value c.make_room.ensures.standing c.make_room.ensures.kept c.args.resource c.index_mut-locker-2.result.now c.index_mut-locker-2.ensures.value
+    ∙ (held-locker c.args.session c.args.resource c.args.self.now c.requires.whole ∙ c.requires.can.new)

@@ -1,5 +1,5 @@
 use Rattle.std.proofs.Common.{refl, ap, sym, ◌∙◌}
-use Rattle.lock_desk.specs.Rows.{Standing}
+use Rattle.lock_desk.specs.Lockers.{Standing}
 use Rattle.lock_desk.proofs.Standings.{standing-here}
 use Rattle.lock_desk.proofs.Asks.{within}
 use Rattle.lock_desk.proofs.Frees.{gives-lock, freed-agree, has-freed, freed-whole}
@@ -7,19 +7,19 @@ use Rattle.lock_desk.proofs.desk.Desk.release.Goals as goal
 
 pub free-requires-clause-agree : goal.free-requires-clause-agree
 free-requires-clause-agree c =
-    freed-agree c.args.self.now _ c.args.session c.args.resource c.index_mut-row.result.now c.drop_lock.new.row (within c.args.self.now c.args.session c.requires.within) c.index_mut-row.ensures.value
+    freed-agree c.args.self.now _ c.args.session c.args.resource c.index_mut-locker.result.now c.drop_lock.new.locker (within c.args.self.now c.args.session c.requires.within) c.index_mut-locker.ensures.value
     (gives-lock c.args.resource _ _ c.drop_lock.ensures.standing) c.requires.whole
 
 pub returns-clause-freed : goal.returns-clause-freed
 returns-clause-freed c =
-    has-freed c.args.self.now _ c.args.session c.args.resource c.index_mut-row.result.now c.drop_lock.new.row (within c.args.self.now c.args.session c.requires.within) c.index_mut-row.ensures.value
+    has-freed c.args.self.now _ c.args.session c.args.resource c.index_mut-locker.result.now c.drop_lock.new.locker (within c.args.self.now c.args.session c.requires.within) c.index_mut-locker.ensures.value
     (gives-lock c.args.resource _ _ c.drop_lock.ensures.standing) c.requires.whole
-    _ (ap (λ (x : Standing). x.wanted) c.drop_lock.ensures.standing ∙ (ap (λ (x : Standing). x.wanted) (sym (standing-here c.args.self.now.rows.items c.args.session c.index_mut-row.result.now (within c.args.self.now c.args.session c.requires.within) c.index_mut-row.ensures.value)) ∙ c.requires.can.idle))
-    c.free.ensures.cells c.free.ensures.agree c.free.ensures.rows c.free.ensures.granted refl
+    _ (ap (λ (x : Standing). x.wanted) c.drop_lock.ensures.standing ∙ (ap (λ (x : Standing). x.wanted) (sym (standing-here c.args.self.now.lockers.items c.args.session c.index_mut-locker.result.now (within c.args.self.now c.args.session c.requires.within) c.index_mut-locker.ensures.value)) ∙ c.requires.can.idle))
+    c.free.ensures.cells c.free.ensures.agree c.free.ensures.lockers c.free.ensures.granted refl
 
 pub returns-clause-whole : goal.returns-clause-whole
 returns-clause-whole c =
-    freed-whole c.args.self.now _ c.args.session c.args.resource c.index_mut-row.result.now c.drop_lock.new.row (within c.args.self.now c.args.session c.requires.within) c.index_mut-row.ensures.value
+    freed-whole c.args.self.now _ c.args.session c.args.resource c.index_mut-locker.result.now c.drop_lock.new.locker (within c.args.self.now c.args.session c.requires.within) c.index_mut-locker.ensures.value
     (gives-lock c.args.resource _ _ c.drop_lock.ensures.standing) c.requires.whole
-    _ (ap (λ (x : Standing). x.wanted) c.drop_lock.ensures.standing ∙ (ap (λ (x : Standing). x.wanted) (sym (standing-here c.args.self.now.rows.items c.args.session c.index_mut-row.result.now (within c.args.self.now c.args.session c.requires.within) c.index_mut-row.ensures.value)) ∙ c.requires.can.idle))
-    c.free.ensures.cells c.free.ensures.agree c.free.ensures.rows c.free.ensures.granted
+    _ (ap (λ (x : Standing). x.wanted) c.drop_lock.ensures.standing ∙ (ap (λ (x : Standing). x.wanted) (sym (standing-here c.args.self.now.lockers.items c.args.session c.index_mut-locker.result.now (within c.args.self.now c.args.session c.requires.within) c.index_mut-locker.ensures.value)) ∙ c.requires.can.idle))
+    c.free.ensures.cells c.free.ensures.agree c.free.ensures.lockers c.free.ensures.granted

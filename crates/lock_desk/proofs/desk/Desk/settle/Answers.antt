@@ -9,7 +9,7 @@ pub fill-requires-clause-numbered : goal.fill-requires-clause-numbered
 fill-requires-clause-numbered c =
     let d = c.loop-round.self in
     let k = c.loop-round.invariant in
-    (numbered-whole d d.waits.rows.sessions (omega (arith, k.ready.long, d.rows.ok.0)) k.whole)
+    (numbered-whole d d.waits.rows.sessions (omega (arith, k.ready.long, d.lockers.ok.0)) k.whole)
 
 pub returns-in_default-clause-settled : goal.returns-in_default-clause-settled
 returns-in_default-clause-settled c = λ st i j h.
@@ -17,7 +17,7 @@ returns-in_default-clause-settled c = λ st i j h.
     let k = c.loop-round.invariant in
     let r = k.rounds st i j (record { count = h.count; transactions = h.transactions; views = h.views }) in
     let filled = rw c.deref.ensures.value at c.fill.ensures.filled in
-    last-round (vec_len c.args.self.now.rows) c.loop-round._round c.args.session st _ (rewaited (vec_len c.args.self.now.rows) c.loop-round._round c.args.session st d c.victim.new.waits r)
+    last-round (vec_len c.args.self.now.lockers) c.loop-round._round c.args.session st _ (rewaited (vec_len c.args.self.now.lockers) c.loop-round._round c.args.session st d c.victim.new.waits r)
     (none-found d k.whole c.fill.new.waits filled r.state r.shows r.sound r.numbered c.args.session c.requires.some c.in_default.ensures.none)
 
 pub loop-round-preserved : goal.loop-round-preserved
@@ -38,6 +38,6 @@ loop-round-preserved c =
           let r = k.rounds st i j h in
           let y = c.in-Some.ensures.some in
           let f = found d k.whole c.fill.new.waits filled r.state r.shows r.sound r.numbered c.args.session c.in-Some.chosen c.requires.some y.0 y.2 in
-          next-round (vec_len c.args.self.now.rows) c.loop-round._round c.args.session c.in-Some.chosen st _ c.doom.new.self
-          (rewaited (vec_len c.args.self.now.rows) c.loop-round._round c.args.session st d c.victim.new.waits r) (omega (arith, c.loop-round-test.true, c.len-round-end.ensures)) f.0 f.1 c.doom.ensures.doomed;
+          next-round (vec_len c.args.self.now.lockers) c.loop-round._round c.args.session c.in-Some.chosen st _ c.doom.new.self
+          (rewaited (vec_len c.args.self.now.lockers) c.loop-round._round c.args.session st d c.victim.new.waits r) (omega (arith, c.loop-round-test.true, c.len-round-end.ensures)) f.0 f.1 c.doom.ensures.doomed;
     }

@@ -12,6 +12,6 @@ invariant-loop-round l = record {
   whole : IsWhole l.self;
   ready : IsReadyDesk l.self;
   count : l.self.count ≡ l.initial.self.count;
-  len : vec_len l.self.rows ≡ vec_len l.initial.self.rows;
-  rounds : (st : State) → IsSound st.table → IsNumbered st → Shows l.initial.self st → IsRound (vec_len l.initial.self.rows) l._round l.session st l.self;
+  len : vec_len l.self.lockers ≡ vec_len l.initial.self.lockers;
+  rounds : (st : State) → IsSound st.table → IsNumbered st → Shows l.initial.self st → IsRound (vec_len l.initial.self.lockers) l._round l.session st l.self;
 }

@@ -1,13 +1,13 @@
--- What the rows say of each session.
+-- What the lockers say of each session.
 use Rattle.std.specs.Prelude.{◌≡◌, ℕ, ◌+◌, ◌≤◌, Bool, true, false, not, if◌then◌else◌, ◌⊎◌, List, [], ◌∷◌, ◌++◌, length, map, filter, Option, Some, None, slice_index_or, vec_len, vec_capacity}
 use Rattle.std.specs.List.{list_any}
 use Rattle.lock_tree.specs.Paths.{same_path, is_ancestor}
 use Rattle.lock_rules.specs.declared.calls.TheConstants.{MAX_LOCKS}
 use Rattle.lock_rules.specs.declared.calls.Transaction.{Transaction}
-use Rattle.lock_desk.specs.declared.rows.Request.{Request}
-use Rattle.lock_desk.specs.declared.rows.Request.TheVariants.{Fresh, Conversion}
-use Rattle.lock_desk.specs.declared.rows.Row.{Row}
-use Rattle.lock_desk.specs.Cells.{View, has_claim, has_path, AreApart}
+use Rattle.lock_desk.specs.declared.lockers.Request.{Request}
+use Rattle.lock_desk.specs.declared.lockers.Request.TheVariants.{Fresh, Conversion}
+use Rattle.lock_desk.specs.declared.lockers.Locker.{Locker}
+use Rattle.lock_desk.specs.Cells.{View, has_session, has_path, AreApart}
 
 -- a session's transaction, the resources that it holds, and the one that it waits for
 pub record Standing : Type 0 where
@@ -28,11 +28,11 @@ abbrev pub wanted_in : Option Request → Option (List ℕ)
 wanted_in None = None
 wanted_in (Some q) = Some (resource_asked q)
 
-abbrev pub standing_of : Row → Standing
+abbrev pub standing_of : Locker → Standing
 standing_of w = record { transaction = w.transaction; held = w.held.items; wanted = wanted_in w.wanted }
 
--- what the rows say of each session
-abbrev pub standings_of : List Row → List Standing
+-- what the lockers say of each session
+abbrev pub standings_of : List Locker → List Standing
 standings_of ws = map standing_of ws
 
 -- what they say of one
@@ -66,8 +66,8 @@ abbrev pub IsOfKind : Option Request → List (List ℕ) → Type 0
 IsOfKind None rs = Unit {0}
 IsOfKind (Some q) rs = has_path (resource_asked q) rs ≡ not (is_fresh (Some q))
 
--- what is kept of each row between two calls: a lock that is to come has its room
-pub record IsKeptRow (w : Row) : Type 0 where
+-- what is kept of each locker between two calls: a lock that is to come has its room
+pub record IsKeptLocker (w : Locker) : Type 0 where
   pub apart : AreApart w.held.items
   pub kind : IsOfKind w.wanted w.held.items
   pub room : vec_len w.held + locks_to_come w.wanted ≤ vec_capacity w.held
@@ -78,27 +78,27 @@ abbrev pub with_path : List ℕ → List (List ℕ) → List (List ℕ)
 with_path r rs = if has_path r rs then rs else rs ++ r ∷ []
 
 -- the session holds the resource, and waits no more
-abbrev pub admitted : List ℕ → Standing → Standing
-admitted r x = record { transaction = x.transaction; held = with_path r x.held; wanted = None }
+abbrev pub standing_after_grant : List ℕ → Standing → Standing
+standing_after_grant r x = record { transaction = x.transaction; held = with_path r x.held; wanted = None }
 
 -- the session holds the resource no more
-abbrev pub let_go : List ℕ → Standing → Standing
-let_go r x = record { transaction = x.transaction; held = paths_but r x.held; wanted = x.wanted }
+abbrev pub standing_after_release : List ℕ → Standing → Standing
+standing_after_release r x = record { transaction = x.transaction; held = paths_but r x.held; wanted = x.wanted }
 
 -- the resource is held, or waited for
-abbrev pub asked_standing : Bool → List ℕ → Standing → Standing
-asked_standing true r x = admitted r x
-asked_standing false r x = record { transaction = x.transaction; held = x.held; wanted = Some r }
+abbrev pub standing_after_asking : Bool → List ℕ → Standing → Standing
+standing_after_asking true r x = standing_after_grant r x
+standing_after_asking false r x = record { transaction = x.transaction; held = x.held; wanted = Some r }
 
 -- the session was granted the resource that it waited for, or nothing has changed for it
-abbrev pub IsSameOrAdmitted : List ℕ → Standing → Standing → Type 0
-IsSameOrAdmitted r x y = (y ≡ x) ⊎ ((is_wanted r x.wanted ≡ true) × (y ≡ admitted r x))
+abbrev pub IsSameOrGranted : List ℕ → Standing → Standing → Type 0
+IsSameOrGranted r x y = (y ≡ x) ⊎ ((is_wanted r x.wanted ≡ true) × (y ≡ standing_after_grant r x))
 
 -- nothing more than that has changed
-abbrev pub AreSameOrAdmitted : List ℕ → List Standing → List Standing → Type 0
-AreSameOrAdmitted r old new = (s : ℕ) → IsSameOrAdmitted r (standing_at s old) (standing_at s new)
+abbrev pub AreSameOrGranted : List ℕ → List Standing → List Standing → Type 0
+AreSameOrGranted r old new = (s : ℕ) → IsSameOrGranted r (standing_at s old) (standing_at s new)
 
--- the rows say the same of this resource as its cell
+-- the lockers say the same of this resource as its cell
 pub record DoAgree (r : List ℕ) (v : View) (ss : List Standing) : Type 0 where
-  pub held : (s : ℕ) → has_path r (standing_at s ss).held ≡ has_claim s v.holders
-  pub wanted : (s : ℕ) → is_wanted r (standing_at s ss).wanted ≡ has_claim s v.waiting
+  pub held : (s : ℕ) → has_path r (standing_at s ss).held ≡ has_session s v.holders
+  pub wanted : (s : ℕ) → is_wanted r (standing_at s ss).wanted ≡ has_session s v.waiting
