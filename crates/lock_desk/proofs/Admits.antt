@@ -23,13 +23,15 @@ module _ (r : List ℕ) (locker : Locker) (kept : IsKeptLocker locker) (waits : 
         let h : new.held.items ≡ with_path r locker.held.items = held ∙ ap (λ (c : Bool). cond c locker.held.items (locker.held.items ++ r ∷ [])) (sym e) in
         λ i. record { transaction = transaction i; held = h i; wanted = wanted_in (gone i) }
 
+    -- the standing once the request is granted, which brings a lock where it is fresh
+    pub granted-standing : (b : Bool) → is_fresh locker.wanted ≡ b → new.held.items ≡ cond b (locker.held.items ++ r ∷ []) locker.held.items → standing_of new ≡ standing_after_grant r (standing_of locker)
+    granted-standing true is held = with-held false (kind-told ∙ ap not is) held
+    granted-standing false is held = with-held true (kind-told ∙ ap not is) held
+
     -- a fresh request brings a lock
     module _ (is : is_fresh locker.wanted ≡ true) (held : new.held.items ≡ locker.held.items ++ r ∷ []) where
       new-path : has_path r locker.held.items ≡ false
       new-path = kind-told ∙ ap not is
-
-      pub fresh-standing : standing_of new ≡ standing_after_grant r (standing_of locker)
-      fresh-standing = with-held false new-path held
 
       pub fresh-kept : vec_len new.held ≡ vec_len locker.held + 1 → vec_capacity new.held ≡ vec_capacity locker.held → IsKeptLocker new
       fresh-kept len cap =
@@ -44,9 +46,6 @@ module _ (r : List ℕ) (locker : Locker) (kept : IsKeptLocker locker) (waits : 
 
     -- and a conversion none
     module _ (is : is_fresh locker.wanted ≡ false) (held : new.held ≡ locker.held) where
-      pub converted-standing : standing_of new ≡ standing_after_grant r (standing_of locker)
-      converted-standing = with-held true (kind-told ∙ ap not is) (ap (λ v. v.items) held)
-
       pub converted-kept : IsKeptLocker new
       converted-kept =
           let none : locks_to_come new.wanted ≡ 0 = ap locks_to_come gone in

@@ -115,17 +115,19 @@ module _ (d : Desk) (s : ℕ) (r : List ℕ) (m : Mode) (granted : Bool) (e : De
   asked-transaction true x = refl
   asked-transaction false x = refl
 
-  transactions : (u : ℕ) → (standing u e).transaction ≡ (standing u d).transaction
-  transactions u = ap (λ (ss : List Standing). (standing_at u ss).transaction) own ∙ elim (bool_cases (eqb s u)) [
-    | inl h ↦ let f = (Decides-eqb s u).0 h in
-        subst (λ (i : ℕ). (standing_at i (set (standings d) s (standing_after_asking granted r (standing s d)))).transaction ≡ (standing i d).transaction) f
-        (ap (λ (x : Standing). x.transaction) (own-standing (standings d) s (standing_after_asking granted r (standing s d)) long) ∙ asked-transaction granted (standing s d))
-    | inr h ↦ ap (λ (x : Standing). x.transaction) (other-standing (standings d) s u (standing_after_asking granted r (standing s d)) h)
-  ]
-
   -- what is seen is what a request brings
   pub has-asked : e.count ≡ d.count → HasAsked s r m granted d e
-  has-asked count = record { granted_is = is; count = count; transactions = transactions; views = b.views }
+  has-asked count = record {
+    granted_is = is;
+    count = count;
+    transactions = λ u. ap (λ (ss : List Standing). (standing_at u ss).transaction) own ∙ elim (bool_cases (eqb s u)) [
+      | inl h ↦ let f = (Decides-eqb s u).0 h in
+          subst (λ (i : ℕ). (standing_at i (set (standings d) s (standing_after_asking granted r (standing s d)))).transaction ≡ (standing i d).transaction) f
+          (ap (λ (x : Standing). x.transaction) (own-standing (standings d) s (standing_after_asking granted r (standing s d)) long) ∙ asked-transaction granted (standing s d))
+      | inr h ↦ ap (λ (x : Standing). x.transaction) (other-standing (standings d) s u (standing_after_asking granted r (standing s d)) h)
+    ];
+    views = b.views;
+  }
 
   -- and the desk is whole
   pub asked-whole : All IsKeptLocker e.lockers.items → IsWhole e

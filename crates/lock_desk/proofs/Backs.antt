@@ -1,5 +1,5 @@
 -- A session gives back all its locks, the last one first.
-use Rattle.std.proofs.Common.{◌≡◌, ℕ, ◌+◌, ◌<◌, Bool, true, false, cond, ◌||◌, inl, inr, List, [], ◌∷◌, ◌++◌, length, map, get_or, set, Option, Some, None, refl, sym, ◌∙◌, ap, arith, subst}
+use Rattle.std.proofs.Common.{◌≡◌, ℕ, ◌+◌, ◌<◌, Bool, true, false, cond, inl, inr, List, [], ◌∷◌, ◌++◌, length, map, get_or, set, Option, Some, None, refl, sym, ◌∙◌, ap, arith, subst}
 use Rattle.std.proofs.lemmas.Bool.{or_right}
 use Rattle.std.specs.List.{All}
 use Rattle.std.specs.Prelude.{vec_len, vec_capacity}
@@ -13,7 +13,7 @@ use Rattle.lock_desk.specs.declared.desk.Desk.{Desk}
 use Rattle.lock_desk.specs.Cells.{View, has_session, view_after_giving_up, view_after_freeing, has_path, AreApart, CellsBecame}
 use Rattle.lock_desk.specs.Lockers.{Standing, wanted_in, standing_of, locks_to_come, IsKeptLocker, AreSameOrGranted, DoAgree}
 use Rattle.lock_desk.specs.Changes.{view_at, standings, standing, view_after_unlock, IsWhole, HasGivenBack, HasGivenBackAll}
-use Rattle.lock_desk.proofs.Standings.{standing-here, apart-pop, has_path-push}
+use Rattle.lock_desk.proofs.Standings.{standing-here, apart-pop, has_path-push, has_path-push_other}
 use Rattle.lock_desk.proofs.Wholes.{apart-at, GivesUp}
 use Rattle.lock_desk.proofs.Frees.{gives-last, freed-agree, freed-own, has-freed, freed-whole}
 
@@ -91,17 +91,10 @@ back-more s d e f w h g = record {
   views = λ q. elim (same_path_tells g.resource q) [
     | inl k ↦ here q k.0 k.1
     | inr k ↦ g.freed.views q ∙ (ap (λ (b : Bool). cond b (view_after_freeing part.Lock s (view_at g.resource e)) (view_at q e)) k
-        ∙ (h.views q ∙ ap (λ (b : Bool). cond b (view_at q d) (view_after_unlock s (view_at q d))) (ap (has_path q) g.held ∙ has_path-other q k)))
+        ∙ (h.views q ∙ ap (λ (b : Bool). cond b (view_at q d) (view_after_unlock s (view_at q d))) (ap (has_path q) g.held ∙ has_path-push_other q g.resource (standing s f).held k)))
   ];
 }
   where
-    or-same : (b c : Bool) → c ≡ false → (b || c) ≡ b
-    or-same true c e = refl
-    or-same false c e = e
-
-    has_path-other : (q : List ℕ) → same_path g.resource q ≡ false → has_path q ((standing s f).held ++ g.resource ∷ []) ≡ has_path q (standing s f).held
-    has_path-other q n = has_path-push q g.resource (standing s f).held ∙ or-same (has_path q (standing s f).held) (same_path g.resource q) n
-
     gone : has_path g.resource (standing s f).held ≡ false
     gone = (apart-pop (standing s f).held g.resource (subst AreApart g.held (apart-at e.lockers.items s w.lockers))).1
 

@@ -1,5 +1,6 @@
 -- The lockers tell how many locks a session holds, and whether it waits.
 use Rattle.std.proofs.Common.{◌≡◌, ℕ, ◌+◌, ◌≤◌, Bool, true, false, cond, not, eqb, ◌&&◌, ◌||◌, inl, inr, List, [], ◌∷◌, ◌++◌, length, map, Option, Some, None, is_some, refl, sym, ◌∙◌, ap, arith, subst}
+use Rattle.std.proofs.Math.Bool.{or_assoc}
 use Rattle.lock_rules.proofs.Once.{none-behind}
 use Rattle.std.specs.List.{list_any}
 use Rattle.std.specs.Prelude.{filter}
@@ -26,11 +27,7 @@ waits_on u x ws = list_any (λ q. eqb q.session u && same_path q.resource x) ws
 
 has-append : (u : ℕ) (xs ys : List rules.Claim) → has_session u (map short (xs ++ ys)) ≡ (has_session u (map short xs) || has_session u (map short ys))
 has-append u [] ys = refl
-has-append u (x ∷ xs) ys = ap (λ (b : Bool). eqb x.session u || b) (has-append u xs ys) ∙ assoc (eqb x.session u) (has_session u (map short xs)) (has_session u (map short ys))
-  where
-    assoc : (a b c : Bool) → (a || (b || c)) ≡ ((a || b) || c)
-    assoc true b c = refl
-    assoc false b c = refl
+has-append u (x ∷ xs) ys = ap (λ (b : Bool). eqb x.session u || b) (has-append u xs ys) ∙ sym (or_assoc (eqb x.session u) (has_session u (map short xs)) (has_session u (map short ys)))
 
 two-kinds : (u : ℕ) (x : List ℕ) (p : rules.Claim → Bool) (ws : List rules.Claim) → (has_session u (map short (filter (λ q. same_path q.resource x && p q) ws)) || has_session u (map short (filter (λ q. same_path q.resource x && not (p q)) ws))) ≡ waits_on u x ws
 two-kinds u x p [] = refl

@@ -148,11 +148,8 @@ module _ (d : Desk) (s : ℕ) (r : List ℕ) (q : Request) (locker new : Locker)
   asks : (standing_of locker).wanted ≡ Some r
   asks = ap wanted_in waits ∙ ap Some (sym there)
 
-  none-now : (standing_of new).wanted ≡ None
-  none-now = ap wanted_in gone
-
   gives : GivesUp part.Request r (standing_of locker) (standing_of new)
-  gives = gives-request r (standing_of locker) (standing_of new) transaction (ap (λ v. v.items) held) asks none-now
+  gives = gives-request r (standing_of locker) (standing_of new) transaction (ap (λ v. v.items) held) asks (ap wanted_in gone)
 
   -- the locker without the request agrees with the cell
   pub cancel-agree : DoAgree r (view_after_giving_up part.Request s (view_at r d)) (map standing_of (set d.lockers.items s new))
@@ -176,10 +173,10 @@ module _ (d : Desk) (s : ℕ) (r : List ℕ) (q : Request) (locker new : Locker)
   module _ (e : Desk) (b : CellsBecame r (view_after_freeing part.Request s (view_at r d)) d.cells.entries e.cells.entries)
       (agree : DoAgree r (view_after_freeing part.Request s (view_at r d)) (standings e)) (lockers : All IsKeptLocker e.lockers.items) (granted : AreSameOrGranted r (map standing_of (set d.lockers.items s new)) (standings e)) where
     freed : e.count ≡ d.count → HasFreed part.Request s r d e
-    freed count = has-freed d part.Request s r locker new lt at gives w e none-now b agree lockers granted count
+    freed count = has-freed d part.Request s r locker new lt at gives w e (ap wanted_in gone) b agree lockers granted count
 
     own : standing s e ≡ standing_of new
-    own = freed-own d part.Request s r locker new lt at gives w e none-now b agree lockers granted
+    own = freed-own d part.Request s r locker new lt at gives w e (ap wanted_in gone) b agree lockers granted
 
     waits-there : (x : List ℕ) → has_session s (view_at x d).waiting ≡ same_path r x
     waits-there x = sym ((w.agree x).wanted s) ∙ ap (is_wanted x) (ap (λ (y : Standing). y.wanted) (standing-here d.lockers.items s locker lt at) ∙ asks)
@@ -188,7 +185,7 @@ module _ (d : Desk) (s : ℕ) (r : List ℕ) (q : Request) (locker new : Locker)
     pub has-cancelled : e.count ≡ d.count → HasCancelled s d e
     has-cancelled count = record {
       count = count;
-      idle = ap (λ (x : Standing). x.wanted) own ∙ none-now;
+      idle = ap (λ (x : Standing). x.wanted) own ∙ (ap wanted_in gone);
       held = ap (λ (x : Standing). x.held) own ∙ (ap (λ v. v.items) held ∙ sym (ap (λ (x : Standing). x.held) (standing-here d.lockers.items s locker lt at)));
       transactions = (freed count).transactions;
       views = λ x. (freed count).views x ∙ elim (same_path_tells r x) [
@@ -200,7 +197,7 @@ module _ (d : Desk) (s : ℕ) (r : List ℕ) (q : Request) (locker new : Locker)
 
     -- and the desk is whole
     pub cancel-whole : IsWhole e
-    cancel-whole = freed-whole d part.Request s r locker new lt at gives w e none-now b agree lockers granted
+    cancel-whole = freed-whole d part.Request s r locker new lt at gives w e (ap wanted_in gone) b agree lockers granted
 
 -- a session that doesn't wait is as if cancelled
 pub same-cancelled : (s : ℕ) (d e : Desk) → IsWhole d → (standing s d).wanted ≡ None → e.count ≡ d.count → e.lockers.items ≡ d.lockers.items → e.cells ≡ d.cells → HasCancelled s d e

@@ -25,14 +25,7 @@ stands-all s u (q ∷ ws) h = go (eqb q.session s) h (stands-all s u ws)
     go true h next = absurd (cc)
     go false h next = ap (λ (b : Bool). eqb q.session u || b) (next h)
 
--- a whole list
-pub take-all : (ws : List SessionMode) (i : ℕ) → length ws ≤ i → take i ws ≡ ws
-take-all [] zero h = refl
-take-all [] (suc i) h = refl
-take-all (w ∷ ws) zero h = absurd (omega arith)
-take-all (w ∷ ws) (suc i) h = ap (λ (xs : List SessionMode). w ∷ xs) (take-all ws i (omega arith))
-
--- a locker that was emptied, and written
+-- a row that was emptied, and written
 
 pub written : (s a : ℕ) (old x : Bool) → 1 ≤ s → ((old && not (eqb a (s - 1))) || (eqb (a + 1) s && x)) ≡ cond (eqb (a + 1) s) x old
 written s a true true h = grind (arith, nat_tests)

@@ -1,8 +1,9 @@
 -- The pairs that are written down are the waits of the state that the desk shows.
 use Rattle.std.proofs.Common.{◌≡◌, ℕ, ◌+◌, ◌≤◌, Bool, true, false, cond, not, eqb, ◌&&◌, ◌||◌, ◌⊎◌, inl, inr, List, [], ◌∷◌, ◌++◌, map, Option, Some, None, is_some, refl, sym, ◌∙◌, ap, arith, subst}
+use Rattle.std.proofs.Math.Bool.{and-false, or-false}
 use Rattle.std.specs.Prelude.{filter}
 use Rattle.std.proofs.lemmas.Bool.Decides.{nat_tests, Decides-eqb}
-use Rattle.std.proofs.lemmas.Bool.{and_parts, and_from}
+use Rattle.std.proofs.lemmas.Bool.{both_ways, and_parts, and_from}
 use Rattle.lock_modes.specs.declared.Mode.{Mode}
 use Rattle.lock_modes.specs.Compatibility.{are_compatible}
 use Rattle.lock_tree.specs.Paths.{same_path}
@@ -11,6 +12,7 @@ use Rattle.lock_rules.specs.Queue.{queue}
 use Rattle.lock_rules.specs.Waits.{conflicts, stands_before, keeps_waiting, waits_for, resource_of_request}
 use Rattle.lock_rules.specs.Sound.{IsSound, after, ascend, times}
 use Rattle.lock_rules.proofs.Lists.{bool_cases, same_path-refl, same_path-true, request_of-session}
+use Rattle.lock_rules.proofs.Steps.{is-none}
 use Rattle.lock_rules.proofs.Waiting.{request_of-filter, request_of-front, request_of-rest}
 use Rattle.lock_desk.specs.declared.cells.SessionMode.{SessionMode}
 use Rattle.lock_desk.specs.declared.desk.Desk.{Desk}
@@ -58,10 +60,7 @@ lost-request s p (c ∷ qs) q o h e = go (eqb c.session s) (p c) refl refl o h (
     go : (b k : Bool) → eqb c.session s ≡ b → p c ≡ k → cond b 1 0 + times s qs ≤ 1 → cond b (Some c) (rules.request_of s qs) ≡ Some q
         → (times s qs ≤ 1 → rules.request_of s qs ≡ Some q → p q ≡ false → rules.request_of s (filter p qs) ≡ None) → (times s qs ≡ 0 → rules.request_of s (filter p qs) ≡ None)
         → rules.request_of s (cond k (c ∷ filter p qs) (filter p qs)) ≡ None
-    go true true f g o h next none = let same : c ≡ q = cc in absurd (no (sym (ap p same) ∙ g) e)
-      where
-        no : {x : Bool} → x ≡ true → x ≡ false → ⊥
-        no a b = cc
+    go true true f g o h next none = let same : c ≡ q = cc in absurd (both_ways (p q) e (sym (ap p same) ∙ g))
     go true false f g o h next none = none (omega (arith, o))
     go false true f g o h next none = ap (λ (b : Bool). cond b (Some c) (rules.request_of s (filter p qs))) f ∙ next (omega (arith, o)) h e
     go false false f g o h next none = next (omega (arith, o)) h e
@@ -82,12 +81,8 @@ request-queued s t q o h = go (is_some (rules.held_mode t q.session q.resource))
     go : (b : Bool) → is_some (rules.held_mode t q.session r) ≡ b → rules.request_of s (filter p t.requests ++ filter p' t.requests) ≡ Some q
     go true e = request_of-front s (filter p t.requests) (filter p' t.requests) q (request_of-filter s p t.requests q h (and_from (same_path r r) (is_some (rules.held_mode t q.session r)) (same_path-refl r) e))
     go false e =
-        request_of-rest s (filter p t.requests) (filter p' t.requests) (lost-request s p t.requests q o h (ap (λ (b : Bool). same_path r r && b) e ∙ and-none (same_path r r)))
+        request_of-rest s (filter p t.requests) (filter p' t.requests) (lost-request s p t.requests q o h (ap (λ (b : Bool). same_path r r && b) e ∙ and-false (same_path r r)))
         ∙ request_of-filter s p' t.requests q h (and_from (same_path r r) (not (is_some (rules.held_mode t q.session r))) (same_path-refl r) (ap not e))
-      where
-        and-none : (b : Bool) → (b && false) ≡ false
-        and-none true = refl
-        and-none false = refl
 
 -- the holders
 
@@ -97,11 +92,7 @@ none-after s u m (k ∷ hs) h = grind (arith, nat_tests, none-after s u m hs)
 
 -- of holders in order the one of the session decides
 holder-seen : (s u : ℕ) (m : Mode) (hs : List SessionMode) → Ascends hs → holder_blocks s m u hs ≡ (not (eqb u s) && conflicts m (mode_of u hs))
-holder-seen s u m [] h = sym (and-none (not (eqb u s)))
-  where
-    and-none : (b : Bool) → (b && false) ≡ false
-    and-none true = refl
-    and-none false = refl
+holder-seen s u m [] h = sym (and-false (not (eqb u s)))
 holder-seen s u m (k ∷ hs) h =
     let p = and_parts (after k.session (map pair_of hs)) (ascend (map pair_of hs)) h in
     go (bool_cases (eqb k.session u)) p.0 (holder-seen s u m hs p.1)
@@ -112,11 +103,7 @@ holder-seen s u m (k ∷ hs) h =
         let g = (Decides-eqb k.session u).0 e in
         let none = none-after s u m hs (subst (λ (i : ℕ). after i (map pair_of hs) ≡ true) g f) in
         (λ i. (e i && (not (eqb (g i) s) && not (are_compatible m k.mode))) || none i)
-        ∙ (or-none (not (eqb u s) && not (are_compatible m k.mode)) ∙ sym (ap (λ (b : Bool). not (eqb u s) && conflicts m (cond b (Some k.mode) (mode_of u hs))) e))
-      where
-        or-none : (b : Bool) → (b || false) ≡ b
-        or-none true = refl
-        or-none false = refl
+        ∙ (or-false (not (eqb u s) && not (are_compatible m k.mode)) ∙ sym (ap (λ (b : Bool). not (eqb u s) && conflicts m (cond b (Some k.mode) (mode_of u hs))) e))
     go (inr e) f next =
         ap (λ (b : Bool). (b && (not (eqb k.session s) && not (are_compatible m k.mode))) || holder_blocks s m u hs) e
         ∙ (next ∙ sym (ap (λ (b : Bool). not (eqb u s) && conflicts m (cond b (Some k.mode) (mode_of u hs))) e))
@@ -150,29 +137,17 @@ module _ (d : Desk) (st : rules.State) (w : IsWhole d) (i : IsSound st.table) (h
 
       go : (o : Option rules.Claim) → rules.request_of s st.table.requests ≡ o → has_path r (resource_of_request o) ≡ true → (q : rules.Claim) × (rules.request_of s st.table.requests ≡ Some q) × (q.resource ≡ r)
       go None f k = absurd (cc)
-      go (Some q) f k = (q, f, same_path-true q.resource r (or-none (same_path q.resource r) k))
-        where
-          or-none : (b : Bool) → (b || false) ≡ true → b ≡ true
-          or-none true k = refl
-          or-none false k = k
+      go (Some q) f k = (q, f, same_path-true q.resource r (sym (or-false (same_path q.resource r)) ∙ k))
 
   -- who waits for whom in the desk does so in the state
   pub pairs-shown : (s u : ℕ) → blocks d.cells.entries (standings d) s u ≡ waits_for st.table s u
   pairs-shown s u = go (standing s d).wanted refl
     where
       none-found : rules.request_of s st.table.requests ≡ None → waits_for st.table s u ≡ false
-      none-found e = ap (λ (o : Option rules.Claim). not (eqb u s) && keeps_waiting st.table u o) e ∙ and-none (not (eqb u s))
-        where
-          and-none : (b : Bool) → (b && false) ≡ false
-          and-none true = refl
-          and-none false = refl
+      none-found e = ap (λ (o : Option rules.Claim). not (eqb u s) && keeps_waiting st.table u o) e ∙ and-false (not (eqb u s))
 
       idle : (standing s d).wanted ≡ None → rules.request_of s st.table.requests ≡ None
-      idle e = none (rules.request_of s st.table.requests) (sym (waits-told s st.table (standing s d).wanted (λ x. (w.agree x).wanted s ∙ ap (λ (v : View). has_session s v.waiting) (h.views x))) ∙ ap is_some e)
-        where
-          none : (o : Option rules.Claim) → is_some o ≡ false → o ≡ None
-          none None k = refl
-          none (Some q) k = absurd (cc)
+      idle e = is-none (rules.request_of s st.table.requests) (sym (waits-told s st.table (standing s d).wanted (λ x. (w.agree x).wanted s ∙ ap (λ (v : View). has_session s v.waiting) (h.views x))) ∙ ap is_some e)
 
       go : (o : Option (List ℕ)) → (standing s d).wanted ≡ o → blocks d.cells.entries (standings d) s u ≡ waits_for st.table s u
       go None e = ap (blocks_at s u d.cells.entries) e ∙ sym (none-found (idle e))

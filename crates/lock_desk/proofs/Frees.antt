@@ -1,5 +1,5 @@
 -- A session gives up one lock, wherever it stands in its list, or its request.
-use Rattle.std.proofs.Common.{◌≡◌, ℕ, ◌+◌, ◌<◌, ◌≤◌, Bool, true, false, cond, not, eqb, ◌||◌, ◌⊎◌, inl, inr, List, [], ◌∷◌, ◌++◌, length, map, get_or, set, Some, None, refl, sym, ◌∙◌, ap, arith, subst}
+use Rattle.std.proofs.Common.{◌≡◌, ℕ, ◌+◌, ◌<◌, ◌≤◌, Bool, true, false, cond, not, eqb, ◌⊎◌, inl, inr, List, [], ◌∷◌, ◌++◌, length, map, get_or, set, Some, None, refl, sym, ◌∙◌, ap, arith, subst}
 use Rattle.std.proofs.lemmas.Bool.{or_parts}
 use Rattle.std.specs.List.{All}
 use Rattle.std.proofs.lemmas.Bool.Decides.{Decides-eqb}
@@ -12,7 +12,7 @@ use Rattle.lock_desk.specs.declared.desk.Desk.{Desk}
 use Rattle.lock_desk.specs.Cells.{view_after_giving_up, view_after_freeing, has_path, AreApart, CellsBecame}
 use Rattle.lock_desk.specs.Lockers.{Standing, standing_of, standing_at, is_wanted, paths_but, standing_after_release, IsKeptLocker, IsSameOrGranted, AreSameOrGranted, DoAgree}
 use Rattle.lock_desk.specs.Changes.{view_at, standings, standing, IsWhole, HasFreed}
-use Rattle.lock_desk.proofs.Standings.{standings-set, standing-here, length-standings, apart-pop, has_path-push}
+use Rattle.lock_desk.proofs.Standings.{standings-set, standing-here, length-standings, apart-pop, has_path-push_other}
 use Rattle.lock_desk.proofs.Wholes.{own-standing, other-standing, all-agree, GivesUp, given-agree, given-other, granted-other, not-granted}
 
 -- a session that is admitted has its transaction
@@ -91,16 +91,16 @@ module _ (d : Desk) (p : Part) (s : ℕ) (r : List ℕ) (locker new : Locker) (l
     pub freed-own : standing s e ≡ standing_of new
     freed-own = not-granted r _ (standing s e) (ap (λ (x : Standing). x.wanted) own-mid ∙ idle) (granted-mid s) ∙ own-mid
 
-    -- each session has the transaction that it had
-    pub freed-transactions : (u : ℕ) → (standing u e).transaction ≡ (standing u d).transaction
-    freed-transactions u = elim (bool_cases (eqb s u)) [
-      | inl h ↦ let f = (Decides-eqb s u).0 h in subst (λ (i : ℕ). (standing i e).transaction ≡ (standing i d).transaction) f (ap (λ (x : Standing). x.transaction) freed-own ∙ here.transaction)
-      | inr h ↦ transaction-granted r _ (standing u e) (granted-mid u) ∙ ap (λ (x : Standing). x.transaction) (other-standing (standings d) s u (standing_of new) h)
-    ]
-
     -- what is seen is what this brings
     pub has-freed : e.count ≡ d.count → HasFreed p s r d e
-    has-freed count = record { count = count; transactions = freed-transactions; views = b.views }
+    has-freed count = record {
+      count = count;
+      transactions = λ u. elim (bool_cases (eqb s u)) [
+        | inl h ↦ let f = (Decides-eqb s u).0 h in subst (λ (i : ℕ). (standing i e).transaction ≡ (standing i d).transaction) f (ap (λ (x : Standing). x.transaction) freed-own ∙ here.transaction)
+        | inr h ↦ transaction-granted r _ (standing u e) (granted-mid u) ∙ ap (λ (x : Standing). x.transaction) (other-standing (standings d) s u (standing_of new) h)
+      ];
+      views = b.views;
+    }
 
     -- and the desk is whole
     pub freed-whole : IsWhole e
@@ -128,13 +128,9 @@ gives-last r x y apart t w h = record {
   transaction = t;
   held = (apart-pop y.held r (subst AreApart h apart)).1;
   wanted = ap (is_wanted r) w;
-  held_elsewhere = λ q n. sym (ap (has_path q) h ∙ (has_path-push q r y.held ∙ or-same (has_path q y.held) (same_path r q) n));
+  held_elsewhere = λ q n. sym (ap (has_path q) h ∙ has_path-push_other q r y.held n);
   wanted_elsewhere = λ q n. ap (is_wanted q) w;
 }
-  where
-    or-same : (b c : Bool) → c ≡ false → (b || c) ≡ b
-    or-same true c e = refl
-    or-same false c e = e
 
 -- the request goes
 pub gives-request : (r : List ℕ) (x y : Standing) → y.transaction ≡ x.transaction → y.held ≡ x.held → x.wanted ≡ Some r → y.wanted ≡ None → GivesUp part.Request r x y

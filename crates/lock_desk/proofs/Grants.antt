@@ -1,6 +1,6 @@
--- What a grant, a request and a release do to the claims on one resource.
+-- What a grant, a request and a release do to the holders and the queue of one resource.
 use Rattle.std.proofs.Common.{◌≡◌, ℕ, ◌≤◌, Bool, true, false, cond, not, eqb, ◌&&◌, ◌||◌, inl, inr, List, [], ◌∷◌, Some, None, refl, sym, ◌∙◌, ap, arith, subst}
-use Rattle.std.proofs.lemmas.Bool.{or_from}
+use Rattle.std.proofs.lemmas.Bool.{and_right, or_from, or_parts}
 use Rattle.std.proofs.lemmas.Bool.Decides.{nat_tests, Decides-eqb}
 use Rattle.lock_desk.specs.declared.cells.SessionMode.{SessionMode}
 use Rattle.lock_desk.specs.declared.cells.Cell.{Cell}
@@ -51,20 +51,12 @@ next-waits v c w n = ap (has_session c.session) n.first ∙ ap (λ (b : Bool). b
 pub once-next : (v : View) (c : SessionMode) (w : View) → IsNext v c w → IsOnce v → IsOnce w
 once-next v c w n o = record {
   once = λ s. let f = ap (times s) n.first in let k = o.once s in grind (arith, nat_tests);
-  holders = ap (has_session 0) n.holders ∙ (has_session-with_holder 0 c v.holders ∙ or_from (eqb c.session 0) (has_session 0 v.holders) (first (eqb c.session 0) (has_session 0 w.waiting) waits) o.holders);
-  waiting = second (eqb c.session 0) (has_session 0 w.waiting) waits;
+  holders = ap (has_session 0) n.holders ∙ (has_session-with_holder 0 c v.holders ∙ or_from (eqb c.session 0) (has_session 0 v.holders) (or_parts (eqb c.session 0) (has_session 0 w.waiting) waits).0 o.holders);
+  waiting = (or_parts (eqb c.session 0) (has_session 0 w.waiting) waits).1;
 }
   where
     waits : (eqb c.session 0 || has_session 0 w.waiting) ≡ false
     waits = sym (ap (has_session 0) n.first) ∙ o.waiting
-
-    first : (a b : Bool) → (a || b) ≡ false → a ≡ false
-    first true b h = h
-    first false b h = refl
-
-    second : (a b : Bool) → (a || b) ≡ false → b ≡ false
-    second true b h = absurd (cc)
-    second false b h = h
 
 -- a request of a session that has none comes into the queue
 pub once-queued : (c : SessionMode) (v : View) → 1 ≤ c.session → has_session c.session v.waiting ≡ false → IsOnce v → IsOnce (record { holders = v.holders; waiting = queue_with c v.holders v.waiting })
@@ -79,16 +71,8 @@ once-queued c v some k o = record {
 
 -- what is given up adds none
 pub once-giving_up : (p : Part) (s : ℕ) (v : View) → IsOnce v → IsOnce (view_after_giving_up p s v)
-once-giving_up part.Lock s v o = record { once = o.once; holders = has_session-without s 0 v.holders ∙ and-none (not (eqb 0 s)) (has_session 0 v.holders) o.holders; waiting = o.waiting }
-  where
-    and-none : (a b : Bool) → b ≡ false → (a && b) ≡ false
-    and-none true b h = h
-    and-none false b h = refl
-once-giving_up part.Request s v o = record { once = λ u. omega (arith, o.once u, times-without s u v.waiting); holders = o.holders; waiting = has_session-without s 0 v.waiting ∙ and-none (not (eqb 0 s)) (has_session 0 v.waiting) o.waiting }
-  where
-    and-none : (a b : Bool) → b ≡ false → (a && b) ≡ false
-    and-none true b h = h
-    and-none false b h = refl
+once-giving_up part.Lock s v o = record { once = o.once; holders = has_session-without s 0 v.holders ∙ and_right (not (eqb 0 s)) (has_session 0 v.holders) o.holders; waiting = o.waiting }
+once-giving_up part.Request s v o = record { once = λ u. omega (arith, o.once u, times-without s u v.waiting); holders = o.holders; waiting = has_session-without s 0 v.waiting ∙ and_right (not (eqb 0 s)) (has_session 0 v.waiting) o.waiting }
 
 -- a grant at once leaves the queue
 pub once-put : (c : SessionMode) (v : View) → 1 ≤ c.session → IsOnce v → IsOnce (record { holders = with_holder c v.holders; waiting = v.waiting })

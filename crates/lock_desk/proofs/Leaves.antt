@@ -11,7 +11,7 @@ use Rattle.lock_desk.specs.Cells.{View, has_session, pair_of, with_holder, witho
 use Rattle.lock_desk.specs.Changes.{view_after_unlock, view_after_end}
 use Rattle.lock_desk.proofs.SessionModes.{has_session-with_holder, has_session-without, without-none}
 
--- the claims ascend by session
+-- the holders ascend by session
 abbrev pub Ascends : List SessionMode → Type 0
 Ascends hs = ascend (map pair_of hs) ≡ true
 

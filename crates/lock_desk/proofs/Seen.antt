@@ -1,5 +1,5 @@
 -- What the cells say after a change of one of them.
-use Rattle.std.proofs.Common.{◌≡◌, ℕ, zero, suc, ◌<◌, Bool, true, false, cond, not, ◌&&◌, inl, inr, List, [], ◌∷◌, length, map, get_or, set, Option, Some, IfSome, IsSome, refl, sym, ◌∙◌, ap, arith, subst}
+use Rattle.std.proofs.Common.{◌≡◌, ℕ, zero, suc, Bool, true, false, cond, not, ◌&&◌, inl, inr, List, [], ◌∷◌, map, get_or, set, Option, Some, IfSome, IsSome, refl, sym, ◌∙◌, ap, subst}
 use Rattle.std.specs.Map.{lookup}
 use Rattle.std.specs.HashMap.{HashMap, get, WritesThrough}
 use Rattle.lock_tree.specs.Paths.{same_path}
@@ -9,12 +9,6 @@ use Rattle.lock_desk.specs.declared.cells.Cell.{Cell}
 use Rattle.lock_desk.specs.Cells.{View, no_view, view_of, Cells, cell_at, view_in, cell_view, IsKeptCell, AreKeptCells, CellsBecame, is_nobody, is_busy}
 
 -- lists
-
--- within a list the default is of no matter
-pub get_or-any : {A : Type 0} (xs : List A) (i : ℕ) (d e : A) → i < length xs → get_or xs i d ≡ get_or xs i e
-get_or-any [] i d e lt = absurd (omega arith)
-get_or-any (x ∷ xs) zero d e lt = refl
-get_or-any (x ∷ xs) (suc i) d e lt = get_or-any xs i d e (omega arith)
 
 -- writing what maps to the same leaves the map
 pub map-set_same : {A B : Type 0} (f : A → B) (xs : List A) (i : ℕ) (y : A) → f y ≡ f (get_or xs i y) → map f (set xs i y) ≡ map f xs

@@ -1,4 +1,4 @@
--- Lists of claims on one resource.
+-- Lists of sessions, each with its mode, at one resource.
 use Rattle.std.proofs.Common.{◌≡◌, ℕ, ◌+◌, ◌<◌, ◌≤◌, Bool, true, false, is_some, cond, not, eqb, ◌&&◌, ◌||◌, ◌⊎◌, inr, List, [], ◌∷◌, ◌++◌, length, get_or, take, drop, set, refl, sym, ◌∙◌, ap, arith, add-one}
 use Rattle.std.proofs.lemmas.List.{set_split, drop_more}
 use Rattle.std.proofs.lemmas.Bool.Decides.{nat_tests}
@@ -6,12 +6,12 @@ use Rattle.lock_rules.proofs.Lists.{bool_cases}
 use Rattle.lock_desk.specs.declared.cells.SessionMode.{SessionMode}
 use Rattle.lock_desk.specs.Cells.{with_holder, has_session, mode_of, times, without, is_nobody, behind_conversions, queue_with}
 
--- a claim that is put at its place
+-- a holder that is put at its place
 
 with_holder-same : (c h : SessionMode) (hs : List SessionMode) → h.session ≡ c.session → with_holder c (h ∷ hs) ≡ c ∷ hs
 with_holder-same c h hs e = grind (arith, nat_tests)
 
--- writing over the claim of the same session puts the claim at its place
+-- writing over the same session puts the holder at its place
 pub with_holder-set : (xs : List SessionMode) (i : ℕ) (c h : SessionMode) → i < length xs → h ≡ get_or xs i h → h.session ≡ c.session → with_holder c xs ≡ take i xs ++ with_holder c (drop i xs) → set xs i c ≡ with_holder c xs
 with_holder-set xs i c h lt at e passed =
     set_split xs i c lt
@@ -23,49 +23,49 @@ abbrev pub AreAll : List SessionMode → Bool → List SessionMode → Type 0
 AreAll hs b [] = Unit {0}
 AreAll hs b (q ∷ qs) = (has_session q.session hs ≡ b) × AreAll hs b qs
 
--- how many claims a session has
+-- how many times a session stands there
 
--- a session has a claim, or its number of claims is 0
+-- a session stands there, or it stands there 0 times
 pub has_tells : (s : ℕ) (cs : List SessionMode) → ((has_session s cs ≡ true) × (1 ≤ times s cs)) ⊎ ((has_session s cs ≡ false) × (times s cs ≡ 0))
 has_tells s [] = inr (refl, refl)
 has_tells s (c ∷ cs) = grind (arith, nat_tests, has_tells s cs)
 
--- who has a claim once one is put
+-- who holds once one is put
 pub has_session-with_holder : (s : ℕ) (c : SessionMode) (hs : List SessionMode) → has_session s (with_holder c hs) ≡ (eqb c.session s || has_session s hs)
 has_session-with_holder s c [] = refl
 has_session-with_holder s c (h ∷ hs) = grind (arith, nat_tests, has_session-with_holder s c hs)
 
--- a claim at the end adds one
+-- one at the end adds one
 pub times-push : (s : ℕ) (cs : List SessionMode) (c : SessionMode) → times s (cs ++ c ∷ []) ≡ times s cs + cond (eqb c.session s) 1 0
 times-push s [] c = grind (arith, nat_tests)
 times-push s (d ∷ cs) c = grind (arith, nat_tests, times-push s cs c)
 
--- who has a claim once one is added at the end
+-- who stands there once one is added at the end
 pub has_session-push : (s : ℕ) (cs : List SessionMode) (c : SessionMode) → has_session s (cs ++ c ∷ []) ≡ (eqb c.session s || has_session s cs)
 has_session-push s [] c = refl
 has_session-push s (d ∷ cs) c = grind (arith, nat_tests, has_session-push s cs c)
 
--- without a session nobody has more claims
+-- without a session nobody stands there more often
 pub times-without : (s u : ℕ) (cs : List SessionMode) → times u (without s cs) ≤ times u cs
 times-without s u [] = omega arith
 times-without s u (c ∷ cs) = grind (arith, nat_tests, times-without s u cs)
 
--- who has a claim once a session is gone
+-- who stands there once a session is gone
 pub has_session-without : (s u : ℕ) (cs : List SessionMode) → has_session u (without s cs) ≡ (not (eqb u s) && has_session u cs)
 has_session-without s u [] = grind (arith, nat_tests)
 has_session-without s u (c ∷ cs) = grind (arith, nat_tests, has_session-without s u cs)
 
--- a session with no claim leaves nothing behind
+-- a session that isn't there leaves nothing behind
 pub without-none : (s : ℕ) (cs : List SessionMode) → has_session s cs ≡ false → without s cs ≡ cs
 without-none s [] h = refl
 without-none s (c ∷ cs) h = grind (arith, nat_tests, without-none s cs)
 
--- somebody is there once a claim is put
+-- somebody is there once a holder is put
 pub nobody-with_holder : (c : SessionMode) (hs : List SessionMode) → is_nobody (with_holder c hs) ≡ false
 nobody-with_holder c [] = refl
 nobody-with_holder c (h ∷ hs) = grind (arith, nat_tests)
 
--- who has a claim has a mode
+-- who stands there has a mode
 pub mode-has : (s : ℕ) (cs : List SessionMode) → is_some (mode_of s cs) ≡ has_session s cs
 mode-has s [] = refl
 mode-has s (c ∷ cs) = grind (arith, nat_tests, mode-has s cs)

@@ -1,5 +1,6 @@
 -- What a grant does to the lockers.
 use Rattle.std.proofs.Common.{◌≡◌, ℕ, zero, suc, ◌<◌, Bool, true, false, cond, eqb, ◌||◌, inl, inr, List, [], ◌∷◌, ◌++◌, length, map, get_or, set, refl, sym, ◌∙◌, ap, arith}
+use Rattle.std.proofs.Math.Bool.{or-false, or_assoc}
 use Rattle.std.proofs.lemmas.Bool.{or_right, or_parts}
 use Rattle.std.proofs.lemmas.Bool.Decides.{nat_tests, Decides-eqb}
 use Rattle.std.proofs.lemmas.List.{get_or-set_same, get_or-set_other}
@@ -18,15 +19,11 @@ use Rattle.lock_desk.proofs.Grants.{IsNext}
 -- which resources there are with one more at the end
 pub has_path-push : (r q : List ℕ) (rs : List (List ℕ)) → has_path r (rs ++ q ∷ []) ≡ (has_path r rs || same_path q r)
 has_path-push r q [] = or-false (same_path q r)
-  where
-    or-false : (b : Bool) → (b || false) ≡ b
-    or-false true = refl
-    or-false false = refl
-has_path-push r q (p ∷ rs) = ap (λ (b : Bool). same_path p r || b) (has_path-push r q rs) ∙ or-assoc (same_path p r) (has_path r rs) (same_path q r)
-  where
-    or-assoc : (a b c : Bool) → (a || (b || c)) ≡ ((a || b) || c)
-    or-assoc true b c = refl
-    or-assoc false b c = refl
+has_path-push r q (p ∷ rs) = ap (λ (b : Bool). same_path p r || b) (has_path-push r q rs) ∙ sym (or_assoc (same_path p r) (has_path r rs) (same_path q r))
+
+-- another one at the end makes no difference
+pub has_path-push_other : (r q : List ℕ) (rs : List (List ℕ)) → same_path q r ≡ false → has_path r (rs ++ q ∷ []) ≡ has_path r rs
+has_path-push_other r q rs n = has_path-push r q rs ∙ (ap (λ (b : Bool). has_path r rs || b) n ∙ or-false (has_path r rs))
 
 -- two resources are apart both ways
 pub same_path-swap : (a b : List ℕ) → same_path a b ≡ false → same_path b a ≡ false

@@ -1,5 +1,6 @@
 -- What is seen after a request, and after the end of a transaction.
 use Rattle.std.proofs.Common.{◌≡◌, ℕ, Bool, true, false, cond, not, ◌&&◌, ◌||◌, inl, inr, List, [], ◌∷◌, ◌++◌, map, None, is_some, refl, sym, ◌∙◌, ap}
+use Rattle.std.proofs.Math.Bool.{or_assoc}
 use Rattle.std.specs.Prelude.{filter}
 use Rattle.std.proofs.lemmas.Bool.{and_parts, not-true}
 use Rattle.lock_modes.specs.declared.Mode.{Mode}
@@ -8,6 +9,7 @@ use Rattle.lock_rules.specs.State as rules
 use Rattle.lock_rules.specs.Queue.{conversions, fresh_requests, queue, is_empty, with_lock, after_grant, is_granted_at_once, with_request}
 use Rattle.lock_rules.specs.Waits.{resource_of_request, without_request, after_cancel}
 use Rattle.lock_rules.specs.Step.{without_claims, after_end}
+use Rattle.lock_rules.specs.Effects.{resources_touched}
 use Rattle.lock_rules.specs.Sound.{IsSound, ascend}
 use Rattle.lock_rules.proofs.Lists.{same_path_tells}
 use Rattle.lock_rules.proofs.Alters.{queue-alters}
@@ -33,18 +35,10 @@ left-seen s t x =
 
 has-both : (x : List ℕ) (xs ys : List (List ℕ)) → has_path x (xs ++ ys) ≡ (has_path x xs || has_path x ys)
 has-both x [] ys = refl
-has-both x (z ∷ xs) ys = ap (λ (b : Bool). same_path z x || b) (has-both x xs ys) ∙ assoc (same_path z x) (has_path x xs) (has_path x ys)
-  where
-    assoc : (a b c : Bool) → (a || (b || c)) ≡ ((a || b) || c)
-    assoc true b c = refl
-    assoc false b c = refl
+has-both x (z ∷ xs) ys = ap (λ (b : Bool). same_path z x || b) (has-both x xs ys) ∙ sym (or_assoc (same_path z x) (has_path x xs) (has_path x ys))
 
--- the resources that the end of a transaction touches
-abbrev touched : ℕ → rules.Table → List (List ℕ)
-touched s t = resource_of_request (rules.request_of s t.requests) ++ locks_in s t.held
-
-touched-seen : (s : ℕ) (t : rules.Table) → IsSound t → (x : List ℕ) → has_path x (touched s t) ≡ (has_session s (view x t).waiting || has_session s (view x t).holders)
-touched-seen s t i x =
+resources-seen : (s : ℕ) (t : rules.Table) → IsSound t → (x : List ℕ) → has_path x (resources_touched s t) ≡ (has_session s (view x t).waiting || has_session s (view x t).holders)
+resources-seen s t i x =
     let a = has-both x (resource_of_request (rules.request_of s t.requests)) (locks_in s t.held) in
     let b = sym (waits_on-once s x t.requests (i.once s)) ∙ sym (queue-has s x t) in
     let c = listed s x t.held in
@@ -57,9 +51,9 @@ ascends-seen t i x = ap ascend (pairs-seen x t.held) ∙ i.order x
 -- what is seen of each resource once a transaction has ended
 pub ended-seen : (s : ℕ) (t : rules.Table) → IsSound t → (x : List ℕ) → view x (after_end s t) ≡ view_after_end s (view x t)
 ended-seen s t i x =
-    all-seen (touched s t) (without_claims s t) (left-sound s t i) x
-    ∙ (ap (λ (v : View). cond (has_path x (touched s t)) (view_after_promotion v) v) (left-seen s t x)
-    ∙ (ap (λ (b : Bool). cond b (view_after_promotion (view_without s (view x t))) (view_without s (view x t))) (touched-seen s t i x)
+    all-seen (resources_touched s t) (without_claims s t) (left-sound s t i) x
+    ∙ (ap (λ (v : View). cond (has_path x (resources_touched s t)) (view_after_promotion v) v) (left-seen s t x)
+    ∙ (ap (λ (b : Bool). cond b (view_after_promotion (view_without s (view x t))) (view_without s (view x t))) (resources-seen s t i x)
     ∙ gone-ended s (view x t) (ascends-seen t i x)))
 
 -- a request

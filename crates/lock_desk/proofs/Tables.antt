@@ -81,7 +81,7 @@ queue-apart t s x o h = claims_but-others s (queue t x) (λ p i. elim (bool_case
       absurd (true≢false k.1 (h p (ap (λ (j : ℕ). rules.request_of j t.requests) (sym f) ∙ In-request p t.requests (o p.session) k.0)))
 ])
 
--- one claim is granted
+-- one request is granted
 
 granted-there : (s : ℕ) (r x : List ℕ) (m : Mode) (t : rules.Table) → same_path r x ≡ false → IsOnce t.requests → ((q : rules.Claim) → rules.request_of s t.requests ≡ Some q → same_path q.resource x ≡ false) → view x (after_grant s r m t) ≡ view x t
 granted-there s r x m t n o h =

@@ -3,7 +3,7 @@ use Rattle.std.proofs.Common.{◌≡◌, ℕ, zero, suc, ◌<◌, Bool, true, fa
 use Rattle.lock_rules.proofs.Sound.{eqb-swap}
 use Rattle.std.specs.List.{All}
 use Rattle.std.proofs.lemmas.Bool.Decides.{nat_tests, Decides-eqb}
-use Rattle.std.proofs.lemmas.List.{get_or-set_same, get_or-set_other}
+use Rattle.std.proofs.lemmas.List.{get_or_default, get_or-set_same, get_or-set_other}
 use Rattle.std.proofs.lemmas.List.Elements.{All-head, All-tail}
 use Rattle.lock_tree.specs.Paths.{same_path}
 use Rattle.lock_rules.proofs.Lists.{bool_cases, same_path-refl, same_path-true, same_path_tells}
@@ -14,10 +14,14 @@ use Rattle.lock_desk.specs.declared.cells.Part.{Part}
 use Rattle.lock_desk.specs.declared.cells.Part.TheVariants as part
 use Rattle.lock_desk.specs.Cells.{View, with_holder, has_session, view_after_giving_up, queue_with, can_grant, view_after_asking, has_path, AreApart}
 use Rattle.lock_desk.specs.Lockers.{Standing, no_standing, standing_of, standing_at, is_wanted, standing_after_asking, IsKeptLocker, IsSameOrGranted, AreSameOrGranted, DoAgree}
-use Rattle.lock_desk.specs.Changes.{view_at, standings}
+use Rattle.lock_desk.specs.Changes.{view_at, standings, DoesKeep}
 use Rattle.lock_desk.proofs.SessionModes.{has_session-with_holder, has_session-queued, has_session-without}
 use Rattle.lock_desk.proofs.Standings.{has_path-with, has_path-with_other}
-use Rattle.lock_desk.proofs.Seen.{map-set_same, get_or-any}
+use Rattle.lock_desk.proofs.Seen.{map-set_same}
+
+-- an act after another keeps what both keep
+pub keeps-on : {d e f : Desk} → DoesKeep d e → DoesKeep e f → DoesKeep d f
+keeps-on h k = record { whole = k.whole; lockers = k.lockers ∙ h.lockers; waits = k.waits ∙ h.waits }
 
 -- the standing of one session is written
 
@@ -31,7 +35,7 @@ own-standing ss s x lt = get_or-set_same ss s x no_standing lt
 
 -- a locker that says the same changes nothing
 pub standings-same : (ws : List Locker) (s : ℕ) (w new : Locker) → s < length ws → w ≡ get_or ws s w → standing_of new ≡ standing_of w → map standing_of (set ws s new) ≡ map standing_of ws
-standings-same ws s w new lt at e = map-set_same standing_of ws s new (e ∙ ap standing_of (at ∙ get_or-any ws s w new lt))
+standings-same ws s w new lt at e = map-set_same standing_of ws s new (e ∙ ap standing_of (at ∙ get_or_default ws s w new lt))
 
 -- no session holds a resource twice
 pub apart-at : (ws : List Locker) (s : ℕ) → All IsKeptLocker ws → AreApart (standing_at s (map standing_of ws)).held

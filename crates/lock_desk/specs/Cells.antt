@@ -8,40 +8,42 @@ use Rattle.lock_tree.specs.Paths.{same_path}
 use Rattle.lock_desk.specs.declared.cells.SessionMode.{SessionMode}
 use Rattle.lock_desk.specs.declared.cells.Part.{Part}
 use Rattle.lock_desk.specs.declared.cells.Part.TheVariants as part
+use Rattle.lock_desk.specs.declared.cells.RequestStatus.{RequestStatus}
+use Rattle.lock_desk.specs.declared.cells.RequestStatus.TheVariants.{Granted, Waiting}
 use Rattle.lock_desk.specs.declared.cells.Cell.{Cell}
 
--- one list of claims
+-- one list of sessions, each with its mode
 
--- the session has a claim among them
+-- the session is among them
 abbrev pub has_session : ℕ → List SessionMode → Bool
 has_session s cs = list_any (λ c. c.session == s) cs
 
--- the mode of the session's claim among them
+-- the mode of the session among them
 abbrev pub mode_of : ℕ → List SessionMode → Option Mode
 mode_of s [] = None
 mode_of s (c ∷ cs) = if c.session == s then Some c.mode else mode_of s cs
 
--- the session of a claim with its mode
+-- the two as a pair
 abbrev pub pair_of : SessionMode → ℕ × Mode
 pair_of c = (c.session, c.mode)
 
--- how many claims the session has
+-- how many times the session stands there
 abbrev pub times : ℕ → List SessionMode → ℕ
 times s [] = 0
 times s (c ∷ cs) = (if c.session == s then 1 else 0) + times s cs
 
--- the session's claim is this one, and stands by session number
+-- the session holds in this mode, and stands by session number
 abbrev pub with_holder : SessionMode → List SessionMode → List SessionMode
 with_holder c [] = c ∷ []
 with_holder c (h ∷ hs) =
     if h.session == c.session then c ∷ hs
     else (if nat_lt c.session h.session then c ∷ h ∷ hs else h ∷ with_holder c hs)
 
--- the claims of all other sessions
+-- all other sessions
 abbrev pub without : ℕ → List SessionMode → List SessionMode
 without s cs = filter (λ c. not (c.session == s)) cs
 
--- the claim's mode is compatible with what each other session holds
+-- the mode is compatible with what each other session holds
 abbrev pub fits_among : SessionMode → List SessionMode → Bool
 fits_among c hs = list_all (λ h. (h.session == c.session) || are_compatible c.mode h.mode) hs
 
@@ -87,9 +89,14 @@ abbrev pub is_nobody : List SessionMode → Bool
 is_nobody [] = true
 is_nobody (c ∷ cs) = false
 
--- a claim is granted at once where it fits, and its session is a holder or nobody waits
+-- a session is granted a mode at once where it fits, and it is a holder or nobody waits
 abbrev pub can_grant : SessionMode → View → Bool
 can_grant c v = fits_among c v.holders && (has_session c.session v.holders || is_nobody v.waiting)
+
+-- whether that is what an answer says
+abbrev pub is_granted : RequestStatus → Bool
+is_granted Granted = true
+is_granted Waiting = false
 
 -- the request stands behind the conversions, which are the requests of holders, and ahead of the others
 abbrev pub behind_conversions : SessionMode → List SessionMode → List SessionMode → List SessionMode

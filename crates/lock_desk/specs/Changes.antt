@@ -1,5 +1,5 @@
 -- What the desk keeps between two calls, and how a call changes it.
-use Rattle.std.specs.Prelude.{◌≡◌, ℕ, ◌+◌, ◌<◌, Bool, true, false, not, ◌&&◌, ◌==◌, nat_le, if◌then◌else◌, List, [], ◌∷◌, ◌++◌, length, Option, Some, None, is_some}
+use Rattle.std.specs.Prelude.{◌≡◌, ℕ, ◌+◌, ◌<◌, Bool, true, false, not, ◌&&◌, ◌==◌, nat_le, if◌then◌else◌, List, [], ◌∷◌, ◌++◌, length, Option, Some, None, is_some, vec_len}
 use Rattle.std.specs.List.{All}
 use Rattle.lock_modes.specs.declared.Mode.{Mode}
 use Rattle.lock_modes.specs.Order.{at_or_below, need_of}
@@ -34,6 +34,12 @@ pub record IsWhole (d : Desk) : Type 0 where
   pub cells : AreKeptCells d.cells.entries
   pub lockers : All IsKeptLocker d.lockers.items
   pub agree : (r : List ℕ) → DoAgree r (view_at r d) (standings d)
+
+-- what each act keeps: the desk is whole, has its lockers still, and its notes of who waits for whom are as before
+pub record DoesKeep (d e : Desk) : Type 0 where
+  pub whole : IsWhole e
+  pub lockers : vec_len e.lockers ≡ vec_len d.lockers
+  pub waits : e.waits ≡ d.waits
 
 -- what is seen of what the session holds on a resource
 abbrev pub mode_held : Desk → ℕ → List ℕ → Option Mode

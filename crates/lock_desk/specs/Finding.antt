@@ -46,7 +46,7 @@ pub record IsFilled (cs : Cells) (ss : List Standing) (w : Waits) : Type 0 where
   pub pairs : (a b : ℕ) → pairs_of w.rows a b ≡ blocks cs ss (a + 1) (b + 1)
   pub numbers : (a : ℕ) → slice_index_or w.numbers.items a 0 ≡ number_in (standing_at (a + 1) ss).transaction
 
--- each session of the claims is one of so many
+-- each session among them is one of so many
 abbrev pub AreOfSessions : ℕ → List SessionMode → Type 0
 AreOfSessions n cs = All (λ c. (1 ≤ c.session) × (c.session ≤ n)) cs
 

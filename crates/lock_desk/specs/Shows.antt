@@ -10,11 +10,11 @@ use Rattle.lock_desk.specs.declared.desk.Desk.{Desk}
 use Rattle.lock_desk.specs.Cells.{View}
 use Rattle.lock_desk.specs.Changes.{view_at, standing}
 
--- a claim, where its resource is known
+-- the session and the mode of a claim, where its resource is known
 abbrev pub short : rules.Claim → SessionMode
 short c = record { session = c.session; mode = c.mode }
 
--- the claims on the resource
+-- those of the claims on the resource
 abbrev pub claims_on : List ℕ → List rules.Claim → List SessionMode
 claims_on r [] = []
 claims_on r (c ∷ cs) = if same_path c.resource r then short c ∷ claims_on r cs else claims_on r cs

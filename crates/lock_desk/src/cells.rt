@@ -4,7 +4,7 @@ ghost use Rattle.std.specs.Prelude.{◌≡◌, ℕ, ◌+◌, ◌<◌, ◌≤◌,
 ghost use Rattle.std.specs.Option.{option_copied};
 ghost use Rattle.lock_tree.specs.Paths.{same_path};
 ghost use Rattle.lock_desk.specs.declared.cells.SessionMode.{SessionMode as SessionModeValue};
-ghost use Rattle.lock_desk.specs.Cells.{View, view_of, has_session, mode_of, pair_of, with_holder, view_after_giving_up, fits_among, next_grant, view_after_next_grant, can_grant, behind_conversions, queue_with, view_after_asking, HasRoom, IsKeptCell, AreKeptCells, is_busy, cell_at, cell_view, CellsBecame, ViewBecame};
+ghost use Rattle.lock_desk.specs.Cells.{View, view_of, has_session, mode_of, pair_of, with_holder, view_after_giving_up, fits_among, next_grant, view_after_next_grant, can_grant, is_granted, behind_conversions, queue_with, view_after_asking, HasRoom, IsKeptCell, AreKeptCells, is_busy, cell_at, cell_view, CellsBecame, ViewBecame};
 
 use indexmap::IndexMap;
 use lock_modes::Mode;
@@ -25,6 +25,15 @@ pub enum Part {
     Lock,
     /// Its request that waits.
     Request,
+}
+
+/// Whether a request was granted at once.
+#[derive(Clone, Copy, Debug, PartialEq, Eq)]
+pub enum RequestStatus {
+    /// The session holds what it asked for.
+    Granted,
+    /// The session waits.
+    Waiting,
 }
 
 /// The holders of a resource, by session number, and its queue: the conversions that wait, then the fresh
@@ -78,7 +87,7 @@ pub(crate) fn list_holders(
     Ok(())
 }
 
-/// Whether the claim's mode is compatible with what each other session holds.
+/// Whether the asker's mode is compatible with what each other session holds.
 pub(crate) fn fits(holders: &[SessionMode], asker: SessionMode) -> bool
     ensures { result ≡ fits_among asker holders.now }
 {
@@ -195,12 +204,12 @@ fn enqueue(cell: &mut Cell, asker: SessionMode)
     insert_at(&mut cell.waiting, place, asker);
 }
 
-/// A session that doesn't wait for the cell's resource asks for it: whether that is granted at once. Otherwise it waits.
-fn join(cell: &mut Cell, asker: SessionMode) -> Result<bool, AllocError>
+/// A session that doesn't wait for the cell's resource asks for it.
+fn join(cell: &mut Cell, asker: SessionMode) -> Result<RequestStatus, AllocError>
     requires some { 1 ≤ asker.session }
     requires kept { IsKeptCell cell.old }
     requires idle { has_session asker.session (view_of cell.old).waiting ≡ false }
-    ensures granted { IfOk result (λ granted. granted ≡ can_grant asker (view_of cell.old)) }
+    ensures granted { IfOk result (λ status. is_granted status ≡ can_grant asker (view_of cell.old)) }
     ensures view { IfOk result (λ _. view_of cell.new ≡ view_after_asking asker (view_of cell.old)) }
     ensures err { OnErr result (view_of cell.new ≡ view_of cell.old) }
     ensures kept { IsKeptCell cell.new }
@@ -210,11 +219,11 @@ fn join(cell: &mut Cell, asker: SessionMode) -> Result<bool, AllocError>
     let unhindered = is_among(&cell.holders, asker.session) || cell.waiting.is_empty();
     if unhindered && fits(&cell.holders, asker) {
         put(&mut cell.holders, asker);
-        Ok(true)
+        Ok(RequestStatus::Granted)
     } else {
         cell.waiting.reserve(1)?;
         enqueue(cell, asker);
-        Ok(false)
+        Ok(RequestStatus::Waiting)
     }
 }
 
@@ -242,17 +251,17 @@ fn open(
     Ok(())
 }
 
-/// A session that doesn't wait for the resource asks for it: whether that is granted at once. Otherwise it waits.
+/// A session that doesn't wait for the resource asks for it.
 pub(crate) fn ask(
     cells: &mut IndexMap<Resource, Cell>,
     resource: Resource,
     asker: SessionMode,
-) -> Result<bool, AllocError>
+) -> Result<RequestStatus, AllocError>
     requires some { 1 ≤ asker.session }
     requires kept { AreKeptCells cells.old.entries }
     requires idle { has_session asker.session (cell_view resource cells.old.entries).waiting ≡ false }
     ensures granted { let before = cell_view resource cells.old.entries in
-        IfOk result (λ granted. granted ≡ can_grant asker before) }
+        IfOk result (λ status. is_granted status ≡ can_grant asker before) }
     ensures ok { OnOk result (ViewBecame resource (view_after_asking asker) cells.old.entries cells.new.entries) }
     ensures err { OnErr result (ViewBecame resource (λ v. v) cells.old.entries cells.new.entries) }
 {
@@ -261,7 +270,7 @@ pub(crate) fn ask(
         Some(cell) => join(cell, asker),
         None => {
             open(cells, resource, asker)?;
-            Ok(true)
+            Ok(RequestStatus::Granted)
         }
     }
 }

@@ -6,13 +6,15 @@ ghost use Rattle.lock_rules.specs.State.{State, held_mode, doomed_in};
 ghost use Rattle.lock_rules.specs.Step.{target_of, is_held, first_failing, ask, act, step};
 ghost use Rattle.lock_rules.specs.Waits.{after_victims};
 ghost use Rattle.lock_rules.specs.Sound.{IsNumbered, IsSound};
-ghost use Rattle.lock_desk.specs.Cells.{pair_of};
+ghost use Rattle.lock_desk.specs.Cells.{pair_of, is_granted};
 ghost use Rattle.lock_desk.specs.declared.cells.Part.TheVariants as part;
-ghost use Rattle.lock_desk.specs.Changes.{view_at, standing, IsWhole, mode_held, desk_tests, IsSameSeen, CanAsk, MayAsk, CanLock, CanConvert, HasAsked, CanRelease, HasFreed, HasGivenBack, HasGivenBackAll, HasCancelled, HasDoomed, HasBegun, HasEnded};
+ghost use Rattle.lock_desk.specs.Changes.{view_at, standing, IsWhole, DoesKeep, mode_held, desk_tests, IsSameSeen, CanAsk, MayAsk, CanLock, CanConvert, HasAsked, CanRelease, HasFreed, HasGivenBack, HasGivenBackAll, HasCancelled, HasDoomed, HasBegun, HasEnded};
 ghost use Rattle.lock_desk.specs.Ready.{IsReadyDesk};
 ghost use Rattle.lock_desk.specs.Shows.{Shows, DoesAnswer};
 
-use crate::cells::{Cell, Part, SessionMode, ask, cell_of, list_holders, mode_among};
+use crate::cells::{
+    Cell, Part, RequestStatus, SessionMode, ask, cell_of, list_holders, mode_among,
+};
 use crate::lockers::{
     Locker, Request, doom, drop_lock, hold, is_doomed, make_room, resource_of, want,
 };
@@ -65,76 +67,80 @@ impl Desk {
         }
     }
 
-    /// Asks for a resource that the session doesn't hold: whether that is granted at once. Otherwise the session waits.
-    fn lock(&mut self, session: u16, resource: Resource, mode: Mode) -> Result<bool, AllocError>
+    /// Asks for a resource that the session doesn't hold.
+    fn lock(
+        &mut self,
+        session: u16,
+        resource: Resource,
+        mode: Mode,
+    ) -> Result<RequestStatus, AllocError>
         requires some { 1 ≤ session }
         requires within { session < vec_len self.old.lockers }
         requires whole { IsWhole self.old }
         requires can { CanLock session resource self.old }
-        ensures asked { IfOk result (λ granted. HasAsked session resource mode granted self.old self.new) }
+        ensures asked { IfOk result (λ status. HasAsked session resource mode (is_granted status) self.old self.new) }
         ensures err { OnErr result (IsSameSeen self.old self.new) }
-        ensures waits { self.new.waits ≡ self.old.waits }
-        ensures whole { IsWhole self.new }
-        ensures len { vec_len self.new.lockers ≡ vec_len self.old.lockers }
+        ensures kept { DoesKeep self.old self.new }
     {
         let locker = &mut self.lockers[session as usize];
         make_room(locker)?;
-        let granted = ask(&mut self.cells, resource, SessionMode { session, mode })?;
+        let status = ask(&mut self.cells, resource, SessionMode { session, mode })?;
         let locker = &mut self.lockers[session as usize];
-        if granted {
-            hold(locker, resource);
-        } else {
-            want(locker, Request::Fresh(resource));
+        match status {
+            RequestStatus::Granted => hold(locker, resource),
+            RequestStatus::Waiting => want(locker, Request::Fresh(resource)),
         }
-        Ok(granted)
+        Ok(status)
     }
 
-    /// Asks for a higher mode on a resource that the session holds: whether that is granted at once. Otherwise the
-    /// session waits.
-    fn convert(&mut self, session: u16, resource: Resource, mode: Mode) -> Result<bool, AllocError>
+    /// Asks for a higher mode on a resource that the session holds.
+    fn convert(
+        &mut self,
+        session: u16,
+        resource: Resource,
+        mode: Mode,
+    ) -> Result<RequestStatus, AllocError>
         requires some { 1 ≤ session }
         requires within { session < vec_len self.old.lockers }
         requires whole { IsWhole self.old }
         requires can { CanConvert session resource self.old }
-        ensures asked { IfOk result (λ granted. HasAsked session resource mode granted self.old self.new) }
+        ensures asked { IfOk result (λ status. HasAsked session resource mode (is_granted status) self.old self.new) }
         ensures err { OnErr result (IsSameSeen self.old self.new) }
-        ensures waits { self.new.waits ≡ self.old.waits }
-        ensures whole { IsWhole self.new }
-        ensures len { vec_len self.new.lockers ≡ vec_len self.old.lockers }
+        ensures kept { DoesKeep self.old self.new }
     {
-        let granted = ask(&mut self.cells, resource, SessionMode { session, mode })?;
-        if !granted {
-            let locker = &mut self.lockers[session as usize];
-            want(locker, Request::Conversion(resource));
+        let status = ask(&mut self.cells, resource, SessionMode { session, mode })?;
+        match status {
+            RequestStatus::Granted => {}
+            RequestStatus::Waiting => {
+                let locker = &mut self.lockers[session as usize];
+                want(locker, Request::Conversion(resource));
+            }
         }
-        Ok(granted)
+        Ok(status)
     }
 
-    /// Asks for a target, where the session holds the resource in this mode, or not at all: whether it holds the target
-    /// then. Otherwise it waits.
+    /// Asks for a target, where the session holds the resource in this mode, or not at all.
     fn seek(
         &mut self,
         session: u16,
         resource: Resource,
         held: Option<Mode>,
         target: Mode,
-    ) -> Result<bool, AllocError>
+    ) -> Result<RequestStatus, AllocError>
         requires some { 1 ≤ session }
         requires within { session < vec_len self.old.lockers }
         requires view_at { held ≡ mode_held self.old session resource }
         requires whole { IsWhole self.old }
         requires can { CanAsk session resource self.old }
         ensures held { is_held (mode_held self.old session resource) target ≡ true
-            → IfOk result (λ granted. (granted ≡ true) × IsSameSeen self.old self.new) }
+            → IfOk result (λ status. (is_granted status ≡ true) × IsSameSeen self.old self.new) }
         ensures asked { is_held (mode_held self.old session resource) target ≡ false
-            → IfOk result (λ granted. HasAsked session resource target granted self.old self.new) }
+            → IfOk result (λ status. HasAsked session resource target (is_granted status) self.old self.new) }
         ensures err { OnErr result (IsSameSeen self.old self.new) }
-        ensures waits { self.new.waits ≡ self.old.waits }
-        ensures whole { IsWhole self.new }
-        ensures len { vec_len self.new.lockers ≡ vec_len self.old.lockers }
+        ensures kept { DoesKeep self.old self.new }
     {
         match held {
-            Some(held) if held.covers(target) => Ok(true),
+            Some(held) if held.covers(target) => Ok(RequestStatus::Granted),
             Some(_) => self.convert(session, resource, target),
             None => self.lock(session, resource, target),
         }
@@ -146,9 +152,7 @@ impl Desk {
         requires whole { IsWhole self.old }
         requires can { CanRelease session resource self.old }
         ensures freed { HasFreed part.Lock session resource self.old self.new }
-        ensures waits { self.new.waits ≡ self.old.waits }
-        ensures whole { IsWhole self.new }
-        ensures len { vec_len self.new.lockers ≡ vec_len self.old.lockers }
+        ensures kept { DoesKeep self.old self.new }
     {
         let locker = &mut self.lockers[session as usize];
         drop_lock(locker, resource);
@@ -168,9 +172,7 @@ impl Desk {
         requires idle { (standing session self.old).wanted ≡ None }
         requires some { 0 < length (standing session self.old).held }
         ensures back { HasGivenBack session self.old self.new }
-        ensures waits { self.new.waits ≡ self.old.waits }
-        ensures whole { IsWhole self.new }
-        ensures len { vec_len self.new.lockers ≡ vec_len self.old.lockers }
+        ensures kept { DoesKeep self.old self.new }
     {
         let locker = &mut self.lockers[session as usize];
         if let Some(resource) = locker.held.pop() {
@@ -192,9 +194,7 @@ impl Desk {
         ensures locks { result ≡ length (standing session self.old).held }
         ensures none { length (standing session self.new).held ≡ 0 }
         ensures back { HasGivenBackAll session self.old self.new }
-        ensures waits { self.new.waits ≡ self.old.waits }
-        ensures whole { IsWhole self.new }
-        ensures len { vec_len self.new.lockers ≡ vec_len self.old.lockers }
+        ensures kept { DoesKeep self.old self.new }
     {
         let locker = &self.lockers[session as usize];
         let locks = locker.held.len();
@@ -211,9 +211,7 @@ impl Desk {
         requires room { self.old.count < 18446744073709551615 }
         ensures number { result ≡ self.old.count + 1 }
         ensures begun { HasBegun session self.old self.new }
-        ensures waits { self.new.waits ≡ self.old.waits }
-        ensures whole { IsWhole self.new }
-        ensures len { vec_len self.new.lockers ≡ vec_len self.old.lockers }
+        ensures kept { DoesKeep self.old self.new }
     {
         self.count += 1;
         let locker = &mut self.lockers[session as usize];
@@ -229,9 +227,7 @@ impl Desk {
         requires within { session < vec_len self.old.lockers }
         requires whole { IsWhole self.old }
         ensures cancelled { HasCancelled session self.old self.new }
-        ensures waits { self.new.waits ≡ self.old.waits }
-        ensures whole { IsWhole self.new }
-        ensures len { vec_len self.new.lockers ≡ vec_len self.old.lockers }
+        ensures kept { DoesKeep self.old self.new }
     {
         let locker = &mut self.lockers[session as usize];
         if let Some(request) = locker.wanted {
@@ -255,9 +251,7 @@ impl Desk {
         ensures locks { result ≡ length (standing session self.old).held }
         ensures few { result ≤ MAX_LOCKS }
         ensures ended { HasEnded session self.old self.new }
-        ensures waits { self.new.waits ≡ self.old.waits }
-        ensures whole { IsWhole self.new }
-        ensures len { vec_len self.new.lockers ≡ vec_len self.old.lockers }
+        ensures kept { DoesKeep self.old self.new }
     {
         let locks = self.give_back_all(session);
         let locker = &mut self.lockers[session as usize];
@@ -272,9 +266,7 @@ impl Desk {
         ensures locks { result ≡ length (standing session self.old).held }
         ensures few { result ≤ MAX_LOCKS }
         ensures ended { HasEnded session self.old self.new }
-        ensures waits { self.new.waits ≡ self.old.waits }
-        ensures whole { IsWhole self.new }
-        ensures len { vec_len self.new.lockers ≡ vec_len self.old.lockers }
+        ensures kept { DoesKeep self.old self.new }
     {
         self.cancel(session);
         self.end(session)
@@ -285,9 +277,7 @@ impl Desk {
         requires within { session < vec_len self.old.lockers }
         requires whole { IsWhole self.old }
         ensures doomed { HasDoomed session self.old self.new }
-        ensures waits { self.new.waits ≡ self.old.waits }
-        ensures whole { IsWhole self.new }
-        ensures len { vec_len self.new.lockers ≡ vec_len self.old.lockers }
+        ensures kept { DoesKeep self.old self.new }
     {
         self.cancel(session);
         let locker = &mut self.lockers[session as usize];
@@ -351,11 +341,13 @@ impl Desk {
     {
         let held = self.held(session, resource);
         let target = target_of(held, mode);
-        if self.seek(session, resource, held, target)? {
-            return Ok(Reply::Granted(target));
+        match self.seek(session, resource, held, target)? {
+            RequestStatus::Granted => Ok(Reply::Granted(target)),
+            RequestStatus::Waiting => {
+                self.settle(session);
+                Ok(self.standing_reply(session, Reply::Granted(target)))
+            }
         }
-        self.settle(session);
-        Ok(self.standing_reply(session, Reply::Granted(target)))
     }
 
     /// What the call does where no test fails.

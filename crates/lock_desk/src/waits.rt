@@ -1,4 +1,4 @@
-//! Who waits for whom: written down anew from the cells and rows when a deadlock is looked for.
+//! Who waits for whom: written down anew from the cells and lockers when a deadlock is looked for.
 
 ghost use Rattle.std.specs.Prelude.{◌≡◌, ℕ, ◌+◌, ◌-◌, ◌<◌, ◌≤◌, ◌&&◌, ◌||◌, ◌==◌, if◌then◌else◌, List, not, true, length, IfOk, IfNone, IfSome, slice_index, slice_index_or, vec_len};
 ghost use Rattle.waits_for.specs.Pairs.{pairs_of};

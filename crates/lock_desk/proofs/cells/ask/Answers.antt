@@ -1,6 +1,7 @@
-use Rattle.std.proofs.Common.{◌≡◌, ◌∙◌, ap, sym, subst, IfOk, Bool, Option}
+use Rattle.std.proofs.Common.{◌≡◌, ◌∙◌, ap, sym, subst, IfOk, Option}
+use Rattle.lock_desk.specs.declared.cells.RequestStatus.{RequestStatus}
 use Rattle.lock_desk.specs.declared.cells.Cell.{Cell}
-use Rattle.lock_desk.specs.Cells.{View, view_of, Cells, view_in, cell_view, has_session, view_after_asking, can_grant, CellsBecame}
+use Rattle.lock_desk.specs.Cells.{View, view_of, Cells, view_in, cell_view, has_session, view_after_asking, can_grant, is_granted, CellsBecame}
 use Rattle.lock_desk.proofs.Results.{on-ok, on-err, on-err-from}
 use Rattle.lock_desk.proofs.Seen.{found, written, kept-at, became-same, became-view}
 use Rattle.lock_desk.proofs.cells.ask.Goals as goal
@@ -16,13 +17,13 @@ join-requires-clause-idle c =
 pub returns-in-Some-clause-granted : goal.returns-in-Some-clause-granted
 returns-in-Some-clause-granted c =
     let there = c.in-Some.ensures.value ∙ found _ c.same_path_is_equality.ensures.code c.args.resource c.args.cells.now.entries in
-    subst (λ (v : View). IfOk c.join.result (λ (g : Bool). g ≡ can_grant c.args.asker v)) (ap view_in there) c.join.ensures.granted
+    subst (λ (v : View). IfOk c.join.result (λ (g : RequestStatus). is_granted g ≡ can_grant c.args.asker v)) (ap view_in there) c.join.ensures.granted
 
 pub returns-in-Some-clause-ok : goal.returns-in-Some-clause-ok
 returns-in-Some-clause-ok c =
     let x = c.in-Some.cell.now in
     let there = c.in-Some.ensures.value ∙ found _ c.same_path_is_equality.ensures.code c.args.resource c.args.cells.now.entries in
-    on-ok c.join.result (λ (g : Bool). view_of c.join.new.cell ≡ view_after_asking c.args.asker (view_of x)) _ c.join.ensures.view
+    on-ok c.join.result (λ (g : RequestStatus). view_of c.join.new.cell ≡ view_after_asking c.args.asker (view_of x)) _ c.join.ensures.view
     (λ g h. written _ c.same_path_is_equality.ensures.code c.args.resource c.args.cells.now _ x c.join.new.cell _ c.requires.kept c.in-Some.ensures.value c.join.ensures.kept (c.get_mut.follows.holds c.join.new.cell) (h ∙ ap (λ (o : Option Cell). view_after_asking c.args.asker (view_in o)) there))
 
 pub returns-in-Some-clause-err : goal.returns-in-Some-clause-err

@@ -1,12 +1,12 @@
-use Rattle.std.proofs.Common.{refl, None, sym, ◌∙◌}
-use Rattle.lock_desk.proofs.Admits.{fresh-standing, fresh-kept, converted-standing, converted-kept}
+use Rattle.std.proofs.Common.{true, false, refl, None, sym, ◌∙◌}
+use Rattle.lock_desk.proofs.Admits.{granted-standing, fresh-kept, converted-kept}
 use Rattle.lock_desk.proofs.lockers.admit.Goals as goal
 use Rattle.lock_desk.proofs.lockers.admit.Goals.{then-is_fresh, else-is_fresh}
 
 pub returns-clause-standing : goal.returns-clause-standing
 returns-clause-standing c = elim c.if-is_fresh.branch [
-  | then-is_fresh w ↦ rw w.locker-is (fresh-standing c.args.resource c.args.locker.now c.requires.kept c.requires.waits (record { transaction = c.args.locker.now.transaction; held = w.push_reserved.new.self; wanted = None }) refl refl (sym c.is_fresh.ensures ∙ w.if-is_fresh.true) w.push_reserved.ensures.items)
-  | else-is_fresh w ↦ rw w.locker-is (converted-standing c.args.resource c.args.locker.now c.requires.kept c.requires.waits (record { transaction = c.args.locker.now.transaction; held = c.args.locker.now.held; wanted = None }) refl refl (sym c.is_fresh.ensures ∙ w.if-is_fresh.false) refl)
+  | then-is_fresh w ↦ rw w.locker-is (granted-standing c.args.resource c.args.locker.now c.requires.kept c.requires.waits (record { transaction = c.args.locker.now.transaction; held = w.push_reserved.new.self; wanted = None }) refl refl true (sym c.is_fresh.ensures ∙ w.if-is_fresh.true) w.push_reserved.ensures.items)
+  | else-is_fresh w ↦ rw w.locker-is (granted-standing c.args.resource c.args.locker.now c.requires.kept c.requires.waits (record { transaction = c.args.locker.now.transaction; held = c.args.locker.now.held; wanted = None }) refl refl false (sym c.is_fresh.ensures ∙ w.if-is_fresh.false) refl)
 ]
 
 pub returns-clause-kept : goal.returns-clause-kept

@@ -1,7 +1,8 @@
 use Rattle.std.proofs.Common.{◌≡◌, ◌+◌, ◌∙◌, ap, sym, Bool, false, ◌||◌, ◌&&◌, eqb}
+use Rattle.std.proofs.lemmas.List.{take_all}
 use Rattle.waits_for.specs.Pairs.{pairs_of}
 use Rattle.lock_desk.specs.Cells.{has_session}
-use Rattle.lock_desk.proofs.Fills.{stands-until, stands-all, take-all}
+use Rattle.lock_desk.proofs.Fills.{stands-until, stands-all}
 use Rattle.lock_desk.proofs.waits.fill_queue.Goals as goal
 
 pub returns-then-request-session-clause-pairs : goal.returns-then-request-session-clause-pairs
@@ -12,7 +13,7 @@ returns-then-request-session-clause-pairs c = λ a b.
 
 pub returns-clause-pairs : goal.returns-clause-pairs
 returns-clause-pairs c = λ a b.
-    let all = take-all c.args.waiting.now c.loop-request.request-index c.loop-request-test.false in
+    let all = take_all c.loop-request.request-index c.args.waiting.now c.loop-request-test.false in
     let none : has_session c.args.session c.args.waiting.now ≡ false = ap (has_session c.args.session) (sym all) ∙ c.loop-request.invariant.before in
     c.loop-request.invariant.pairs a b
     ∙ ap (λ (x : Bool). pairs_of c.args.rows.now a b || (eqb (a + 1) c.args.session && x))

@@ -1,38 +1,39 @@
 use Rattle.std.proofs.Common.{◌∙◌, Bool, false, inl, inr, vec_len, ap, arith, subst}
 use Rattle.lock_rules.specs.Step.{target_of, is_held}
 use Rattle.lock_rules.proofs.Lists.{bool_cases}
+use Rattle.lock_desk.specs.Cells.{is_granted}
 use Rattle.lock_desk.specs.Changes.{mode_held, HasAsked}
 use Rattle.lock_desk.proofs.Steps.{first_state}
 use Rattle.lock_desk.proofs.Shown.{granted-answer, waits-shown_first, waits-sound, waits-numbered, waits-answer}
 use Rattle.lock_desk.proofs.Few.{few-waits}
 use Rattle.lock_desk.proofs.desk.Desk.ask.Goals as goal
 
-pub returns-then-branch-clause-ask : goal.returns-then-branch-clause-ask
-returns-then-branch-clause-ask c = λ st i j h.
+pub returns-in-Granted-clause-ask : goal.returns-in-Granted-clause-ask
+returns-in-Granted-clause-ask c = λ st i j h.
     let d = c.args.self.now in
     let s = c.args.session in
     let r = c.args.resource in
     let m = c.target_of-target.result in
     granted-answer d c.seek.new.self st s r c.args.mode m c.requires.whole i h c.requires.may (c.target_of-target.ensures ∙ ap (λ o. target_of o c.args.mode) c.held-held.ensures)
     (λ y. (c.in_ok-seek.ensures.held y).1)
-    (λ n. subst (λ (b : Bool). HasAsked s r c.target_of-target.result b c.args.self.now c.seek.new.self) c.if-branch.true (c.in_ok-seek.ensures.asked n))
+    (λ n. subst (λ (b : Bool). HasAsked s r c.target_of-target.result b c.args.self.now c.seek.new.self) (ap is_granted c.in-Granted.is) (c.in_ok-seek.ensures.asked n))
 
-pub returns-clause-ask : goal.returns-clause-ask
-returns-clause-ask c = λ st i j h.
+pub returns-in-Waiting-clause-ask : goal.returns-in-Waiting-clause-ask
+returns-in-Waiting-clause-ask c = λ st i j h.
     let d = c.args.self.now in
     let s = c.args.session in
     let r = c.args.resource in
     let m = c.target_of-target.result in
     let target = c.target_of-target.ensures ∙ ap (λ o. target_of o c.args.mode) c.held-held.ensures in
     elim (bool_cases (is_held (mode_held c.args.self.now c.args.session c.args.resource) c.target_of-target.result)) [
-      | inl y ↦ absurd (let a = (c.in_ok-seek.ensures.held y).0 in let b = c.if-branch.false in cc)
+      | inl y ↦ absurd (let a = (c.in_ok-seek.ensures.held y).0 in let b = ap is_granted c.in-Waiting.is in cc)
       | inr n ↦
-          let k = subst (λ (b : Bool). HasAsked c.args.session c.args.resource c.target_of-target.result b c.args.self.now c.seek.new.self) c.if-branch.false (c.in_ok-seek.ensures.asked n) in
+          let k = subst (λ (b : Bool). HasAsked c.args.session c.args.resource c.target_of-target.result b c.args.self.now c.seek.new.self) (ap is_granted c.in-Waiting.is) (c.in_ok-seek.ensures.asked n) in
           let sound = waits-sound d c.seek.new.self st s r c.args.mode m c.requires.whole i h c.requires.may target n k in
           let first = waits-shown_first d c.seek.new.self st s r c.args.mode m c.requires.whole i h c.requires.may target n k in
           let numbered = waits-numbered d c.seek.new.self st s r c.args.mode m c.requires.whole i h c.requires.may target n k j in
           let long = c.requires.ready.long in
-          let few = few-waits c.seek.new.self (first_state st s r m false) c.seek.ensures.whole sound first c.args.self.now.waits.rows.sessions (omega (arith, long, c.seek.ensures.len, c.seek.new.self.lockers.ok.0)) in
+          let few = few-waits c.seek.new.self (first_state st s r m false) c.seek.ensures.kept.whole sound first c.args.self.now.waits.rows.sessions (omega (arith, long, c.seek.ensures.kept.lockers, c.seek.new.self.lockers.ok.0)) in
           waits-answer d c.seek.new.self st s r c.args.mode m c.requires.whole i h c.requires.may target n k (vec_len c.seek.new.self.lockers) c.settle.new.self
-          (omega (arith, few, long, c.seek.ensures.len)) c.settle.ensures.whole (c.settle.ensures.settled (first_state st s r m false) sound numbered first) c.standing_reply.result c.standing_reply.ensures
+          (omega (arith, few, long, c.seek.ensures.kept.lockers)) c.settle.ensures.whole (c.settle.ensures.settled (first_state st s r m false) sound numbered first) c.standing_reply.result c.standing_reply.ensures
     ]

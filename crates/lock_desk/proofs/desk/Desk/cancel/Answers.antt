@@ -1,4 +1,4 @@
-use Rattle.std.proofs.Common.{refl, None, ◌∙◌, ap, set}
+use Rattle.std.proofs.Common.{rules, refl, None, ◌∙◌, ap, set}
 use Rattle.std.proofs.lemmas.List.{set-get_or}
 use Rattle.lock_desk.specs.Lockers.{Standing, wanted_in}
 use Rattle.lock_desk.proofs.Standings.{standing-here}
@@ -14,10 +14,14 @@ returns-in-Some-clause-cancelled c =
     has-cancelled c.args.self.now c.args.session c.resource_of-resource.result c.in-Some.request c.index_mut-locker.result.now (record { transaction = c.index_mut-locker.result.now.transaction; held = c.index_mut-locker.result.now.held; wanted = None }) c.requires.whole (within c.args.self.now c.args.session c.requires.within) c.index_mut-locker.ensures.value c.in-Some.is c.resource_of-resource.ensures refl refl refl
     _ c.free.ensures.cells c.free.ensures.agree c.free.ensures.lockers c.free.ensures.granted refl
 
-pub returns-in-Some-clause-whole : goal.returns-in-Some-clause-whole
-returns-in-Some-clause-whole c =
-    cancel-whole c.args.self.now c.args.session c.resource_of-resource.result c.in-Some.request c.index_mut-locker.result.now (record { transaction = c.index_mut-locker.result.now.transaction; held = c.index_mut-locker.result.now.held; wanted = None }) c.requires.whole (within c.args.self.now c.args.session c.requires.within) c.index_mut-locker.ensures.value c.in-Some.is c.resource_of-resource.ensures refl refl refl
-    _ c.free.ensures.cells c.free.ensures.agree c.free.ensures.lockers c.free.ensures.granted
+pub returns-in-Some-clause-kept : goal.returns-in-Some-clause-kept
+returns-in-Some-clause-kept c =
+    record {
+      whole = cancel-whole c.args.self.now c.args.session c.resource_of-resource.result c.in-Some.request c.index_mut-locker.result.now (record { transaction = c.index_mut-locker.result.now.transaction; held = c.index_mut-locker.result.now.held; wanted = None }) c.requires.whole (within c.args.self.now c.args.session c.requires.within) c.index_mut-locker.ensures.value c.in-Some.is c.resource_of-resource.ensures refl refl refl
+          _ c.free.ensures.cells c.free.ensures.agree c.free.ensures.lockers c.free.ensures.granted;
+      lockers = search rules;
+      waits = search rules;
+    }
 
 pub returns-in_default-clause-cancelled : goal.returns-in_default-clause-cancelled
 returns-in_default-clause-cancelled c =

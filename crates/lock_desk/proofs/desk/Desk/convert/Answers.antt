@@ -1,5 +1,5 @@
-use Rattle.std.proofs.Common.{◌≡◌, refl, sym, ◌∙◌, ap, subst, Bool, set}
-use Rattle.lock_desk.specs.Cells.{has_path}
+use Rattle.std.proofs.Common.{rules, ◌≡◌, refl, sym, ◌∙◌, ap, subst, Bool, set}
+use Rattle.lock_desk.specs.Cells.{has_path, is_granted}
 use Rattle.std.proofs.lemmas.List.Elements.{All-set}
 use Rattle.lock_desk.specs.Lockers.{Standing, standing_of, standing_after_asking, IsKeptLocker}
 use Rattle.lock_desk.specs.Changes.{standing, standings}
@@ -11,41 +11,54 @@ use Rattle.lock_desk.proofs.desk.Desk.convert.Goals as goal
 pub ask-requires-clause-idle : goal.ask-requires-clause-idle
 ask-requires-clause-idle c = idle-there c.args.session c.args.resource c.args.self.now c.requires.whole c.requires.can.idle
 
-pub returns-in_err-granted-clause-err : goal.returns-in_err-granted-clause-err
-returns-in_err-granted-clause-err c = on-err-from c.from_residual.result (there-same c.args.resource c.args.self.now _ refl refl c.in_err-granted.ensures.err)
+pub returns-in_err-status-clause-err : goal.returns-in_err-status-clause-err
+returns-in_err-status-clause-err c = on-err-from c.from_residual.result (there-same c.args.resource c.args.self.now _ refl refl c.in_err-status.ensures.err)
 
-pub returns-in_err-granted-clause-whole : goal.returns-in_err-granted-clause-whole
-returns-in_err-granted-clause-whole c = there-whole c.args.resource c.args.self.now _ refl refl c.in_err-granted.ensures.err c.requires.whole
+pub returns-in_err-status-clause-kept : goal.returns-in_err-status-clause-kept
+returns-in_err-status-clause-kept c =
+    record {
+      whole = there-whole c.args.resource c.args.self.now _ refl refl c.in_err-status.ensures.err c.requires.whole;
+      lockers = search rules;
+      waits = search rules;
+    }
 
 pub want-requires-clause-kind : goal.want-requires-clause-kind
 want-requires-clause-kind c =
     ap (λ (x : Standing). has_path c.args.resource x.held) (sym (standing-here c.args.self.now.lockers.items c.args.session c.index_mut-locker.result.now (within c.args.self.now c.args.session c.requires.within) c.index_mut-locker.ensures.value))
     ∙ (held-locker c.args.session c.args.resource c.args.self.now c.requires.whole ∙ c.requires.can.held)
 
-pub returns-then-not-granted-clause-asked : goal.returns-then-not-granted-clause-asked
-returns-then-not-granted-clause-asked c =
-    has-asked c.args.self.now c.args.session c.args.resource c.args.mode c.in_ok-granted.granted _ c.requires.whole (within c.args.self.now c.args.session c.requires.within) c.requires.can.idle c.in_ok-granted.ensures.granted
-    (once-own c.args.self.now c.args.session c.args.resource c.index_mut-locker.result.now c.want.new.locker _ c.in_ok-granted.granted (within c.args.self.now c.args.session c.requires.within) c.index_mut-locker.ensures.value
-    (subst (λ (b : Bool). standing_of c.want.new.locker ≡ standing_after_asking b c.args.resource (standing_of c.index_mut-locker.result.now)) (sym c.if-not-granted.true) c.want.ensures.standing) refl)
-    c.in_ok-granted.ensures.ok refl
+pub returns-in-Waiting-clause-asked : goal.returns-in-Waiting-clause-asked
+returns-in-Waiting-clause-asked c =
+    has-asked c.args.self.now c.args.session c.args.resource c.args.mode (is_granted c.in_ok-status.status) _ c.requires.whole (within c.args.self.now c.args.session c.requires.within) c.requires.can.idle c.in_ok-status.ensures.granted
+    (once-own c.args.self.now c.args.session c.args.resource c.index_mut-locker.result.now c.want.new.locker _ (is_granted c.in_ok-status.status) (within c.args.self.now c.args.session c.requires.within) c.index_mut-locker.ensures.value
+    (subst (λ (b : Bool). standing_of c.want.new.locker ≡ standing_after_asking b c.args.resource (standing_of c.index_mut-locker.result.now)) (sym (ap is_granted c.in-Waiting.is)) c.want.ensures.standing) refl)
+    c.in_ok-status.ensures.ok refl
 
-pub returns-then-not-granted-clause-whole : goal.returns-then-not-granted-clause-whole
-returns-then-not-granted-clause-whole c =
-    asked-whole c.args.self.now c.args.session c.args.resource c.args.mode c.in_ok-granted.granted _ c.requires.whole (within c.args.self.now c.args.session c.requires.within) c.requires.can.idle c.in_ok-granted.ensures.granted
-    (once-own c.args.self.now c.args.session c.args.resource c.index_mut-locker.result.now c.want.new.locker _ c.in_ok-granted.granted (within c.args.self.now c.args.session c.requires.within) c.index_mut-locker.ensures.value
-    (subst (λ (b : Bool). standing_of c.want.new.locker ≡ standing_after_asking b c.args.resource (standing_of c.index_mut-locker.result.now)) (sym c.if-not-granted.true) c.want.ensures.standing) refl)
-    c.in_ok-granted.ensures.ok (All-set IsKeptLocker c.args.self.now.lockers.items c.args.session c.want.new.locker c.want.ensures.kept c.requires.whole.lockers)
+pub returns-in-Waiting-clause-kept : goal.returns-in-Waiting-clause-kept
+returns-in-Waiting-clause-kept c =
+    record {
+      whole = asked-whole c.args.self.now c.args.session c.args.resource c.args.mode (is_granted c.in_ok-status.status) _ c.requires.whole (within c.args.self.now c.args.session c.requires.within) c.requires.can.idle c.in_ok-status.ensures.granted
+          (once-own c.args.self.now c.args.session c.args.resource c.index_mut-locker.result.now c.want.new.locker _ (is_granted c.in_ok-status.status) (within c.args.self.now c.args.session c.requires.within) c.index_mut-locker.ensures.value
+          (subst (λ (b : Bool). standing_of c.want.new.locker ≡ standing_after_asking b c.args.resource (standing_of c.index_mut-locker.result.now)) (sym (ap is_granted c.in-Waiting.is)) c.want.ensures.standing) refl)
+          c.in_ok-status.ensures.ok (All-set IsKeptLocker c.args.self.now.lockers.items c.args.session c.want.new.locker c.want.ensures.kept c.requires.whole.lockers);
+      lockers = search rules;
+      waits = search rules;
+    }
 
-pub returns-else-not-granted-clause-asked : goal.returns-else-not-granted-clause-asked
-returns-else-not-granted-clause-asked c =
-    has-asked c.args.self.now c.args.session c.args.resource c.args.mode c.in_ok-granted.granted _ c.requires.whole (within c.args.self.now c.args.session c.requires.within) c.requires.can.idle c.in_ok-granted.ensures.granted
-    (subst (λ (b : Bool). standings c.args.self.now ≡ set (standings c.args.self.now) c.args.session (standing_after_asking b c.args.resource (standing c.args.session c.args.self.now))) (sym c.if-not-granted.false)
+pub returns-in-Granted-clause-asked : goal.returns-in-Granted-clause-asked
+returns-in-Granted-clause-asked c =
+    has-asked c.args.self.now c.args.session c.args.resource c.args.mode (is_granted c.in_ok-status.status) _ c.requires.whole (within c.args.self.now c.args.session c.requires.within) c.requires.can.idle c.in_ok-status.ensures.granted
+    (subst (λ (b : Bool). standings c.args.self.now ≡ set (standings c.args.self.now) c.args.session (standing_after_asking b c.args.resource (standing c.args.session c.args.self.now))) (sym (ap is_granted c.in-Granted.is))
     (never-own c.args.self.now c.args.session c.args.resource (held-locker c.args.session c.args.resource c.args.self.now c.requires.whole ∙ c.requires.can.held) c.requires.can.idle))
-    c.in_ok-granted.ensures.ok refl
+    c.in_ok-status.ensures.ok refl
 
-pub returns-else-not-granted-clause-whole : goal.returns-else-not-granted-clause-whole
-returns-else-not-granted-clause-whole c =
-    asked-whole c.args.self.now c.args.session c.args.resource c.args.mode c.in_ok-granted.granted _ c.requires.whole (within c.args.self.now c.args.session c.requires.within) c.requires.can.idle c.in_ok-granted.ensures.granted
-    (subst (λ (b : Bool). standings c.args.self.now ≡ set (standings c.args.self.now) c.args.session (standing_after_asking b c.args.resource (standing c.args.session c.args.self.now))) (sym c.if-not-granted.false)
-    (never-own c.args.self.now c.args.session c.args.resource (held-locker c.args.session c.args.resource c.args.self.now c.requires.whole ∙ c.requires.can.held) c.requires.can.idle))
-    c.in_ok-granted.ensures.ok c.requires.whole.lockers
+pub returns-in-Granted-clause-kept : goal.returns-in-Granted-clause-kept
+returns-in-Granted-clause-kept c =
+    record {
+      whole = asked-whole c.args.self.now c.args.session c.args.resource c.args.mode (is_granted c.in_ok-status.status) _ c.requires.whole (within c.args.self.now c.args.session c.requires.within) c.requires.can.idle c.in_ok-status.ensures.granted
+          (subst (λ (b : Bool). standings c.args.self.now ≡ set (standings c.args.self.now) c.args.session (standing_after_asking b c.args.resource (standing c.args.session c.args.self.now))) (sym (ap is_granted c.in-Granted.is))
+          (never-own c.args.self.now c.args.session c.args.resource (held-locker c.args.session c.args.resource c.args.self.now c.requires.whole ∙ c.requires.can.held) c.requires.can.idle))
+          c.in_ok-status.ensures.ok c.requires.whole.lockers;
+      lockers = search rules;
+      waits = search rules;
+    }

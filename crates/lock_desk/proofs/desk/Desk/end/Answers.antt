@@ -1,4 +1,4 @@
-use Rattle.std.proofs.Common.{◌<◌, length, refl, None, arith}
+use Rattle.std.proofs.Common.{rules, ◌<◌, length, refl, None, arith}
 use Rattle.std.specs.Vec.{with_item}
 use Rattle.lock_desk.specs.declared.lockers.Locker.{Locker}
 use Rattle.lock_desk.specs.declared.desk.Desk.{Desk}
@@ -15,17 +15,21 @@ returns-clause-ended c =
     let locker = c.index_mut-locker.result.now in
     let new : Locker = record { transaction = None; held = locker.held; wanted = locker.wanted } in
     let e : Desk = record { count = f.count; lockers = with_item f.lockers s new; cells = f.cells; waits = f.waits } in
-    let lt : s < length f.lockers.items = omega (arith, c.requires.within, c.give_back_all-locks.ensures.len, f.lockers.ok.0) in
+    let lt : s < length f.lockers.items = omega (arith, c.requires.within, c.give_back_all-locks.ensures.kept.lockers, f.lockers.ok.0) in
     let at = c.index_mut-locker.ensures.value in
-    let w = c.give_back_all-locks.ensures.whole in
+    let w = c.give_back_all-locks.ensures.kept.whole in
     has-ended s c.args.self.now f e c.requires.whole c.requires.idle c.give_back_all-locks.ensures.back c.give_back_all-locks.ensures.none refl (λ q. refl)
     (transaction-each f s None locker new e w lt at refl refl refl refl refl)
 
-pub returns-clause-whole : goal.returns-clause-whole
-returns-clause-whole c =
+pub returns-clause-kept : goal.returns-clause-kept
+returns-clause-kept c =
     let f = c.give_back_all-locks.new.self in
     let s = c.args.session in
     let locker = c.index_mut-locker.result.now in
     let new : Locker = record { transaction = None; held = locker.held; wanted = locker.wanted } in
-    let lt : s < length f.lockers.items = omega (arith, c.requires.within, c.give_back_all-locks.ensures.len, f.lockers.ok.0) in
-    told-whole f s None locker new _ c.give_back_all-locks.ensures.whole lt c.index_mut-locker.ensures.value refl refl refl refl refl
+    let lt : s < length f.lockers.items = omega (arith, c.requires.within, c.give_back_all-locks.ensures.kept.lockers, f.lockers.ok.0) in
+    record {
+      whole = told-whole f s None locker new _ c.give_back_all-locks.ensures.kept.whole lt c.index_mut-locker.ensures.value refl refl refl refl refl;
+      lockers = search rules;
+      waits = search rules;
+    }

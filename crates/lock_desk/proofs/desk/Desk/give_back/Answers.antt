@@ -1,4 +1,4 @@
-use Rattle.std.proofs.Common.{refl}
+use Rattle.std.proofs.Common.{rules, refl}
 use Rattle.lock_desk.proofs.Asks.{within}
 use Rattle.lock_desk.proofs.Backs.{back-agree, back-lockers, back-gives, back-whole}
 use Rattle.lock_desk.proofs.desk.Desk.give_back.Goals as goal
@@ -14,7 +14,11 @@ returns-in-Some-clause-back c =
     back-gives c.args.self.now c.args.session c.in-Some.resource c.index_mut-locker.result.now (record { transaction = c.index_mut-locker.result.now.transaction; held = c.pop.new.self; wanted = c.index_mut-locker.result.now.wanted }) c.requires.whole (within c.args.self.now c.args.session c.requires.within) c.index_mut-locker.ensures.value c.in-Some.ensures.items refl refl c.requires.idle
     _ refl c.free.ensures.cells c.free.ensures.agree c.free.ensures.lockers c.free.ensures.granted
 
-pub returns-in-Some-clause-whole : goal.returns-in-Some-clause-whole
-returns-in-Some-clause-whole c =
-    back-whole c.args.self.now c.args.session c.in-Some.resource c.index_mut-locker.result.now (record { transaction = c.index_mut-locker.result.now.transaction; held = c.pop.new.self; wanted = c.index_mut-locker.result.now.wanted }) c.requires.whole (within c.args.self.now c.args.session c.requires.within) c.index_mut-locker.ensures.value c.in-Some.ensures.items refl refl c.requires.idle
-    _ refl c.free.ensures.cells c.free.ensures.agree c.free.ensures.lockers c.free.ensures.granted
+pub returns-in-Some-clause-kept : goal.returns-in-Some-clause-kept
+returns-in-Some-clause-kept c =
+    record {
+      whole = back-whole c.args.self.now c.args.session c.in-Some.resource c.index_mut-locker.result.now (record { transaction = c.index_mut-locker.result.now.transaction; held = c.pop.new.self; wanted = c.index_mut-locker.result.now.wanted }) c.requires.whole (within c.args.self.now c.args.session c.requires.within) c.index_mut-locker.ensures.value c.in-Some.ensures.items refl refl c.requires.idle
+          _ refl c.free.ensures.cells c.free.ensures.agree c.free.ensures.lockers c.free.ensures.granted;
+      lockers = search rules;
+      waits = search rules;
+    }

@@ -1,9 +1,10 @@
-use Rattle.std.proofs.Common.{refl, ◌∙◌, ap, arith, length, length-append, [], ◌∷◌}
+use Rattle.std.proofs.Common.{refl, ap, arith, length, length-append, [], ◌∷◌}
 use Rattle.lock_desk.specs.Lockers.{Standing}
 use Rattle.lock_desk.specs.Changes.{standing}
 use Rattle.lock_desk.proofs.Standings.{standing-here}
 use Rattle.lock_desk.proofs.Asks.{within}
 use Rattle.lock_desk.proofs.Backs.{back-none, back-more}
+use Rattle.lock_desk.proofs.Wholes.{keeps-on}
 use Rattle.lock_desk.proofs.desk.Desk.give_back_all.Goals as goal
 
 pub loop-lock-init : goal.loop-lock-init
@@ -12,10 +13,8 @@ loop-lock-init c =
     let long = ap (λ (x : Standing). length x.held) (standing-here d.lockers.items c.args.session c.index-locker.result.now (within d c.args.session c.requires.within) c.index-locker.ensures) in
     record {
       back = back-none c.args.session c.args.self.now c.requires.whole c.requires.idle;
-      whole = c.requires.whole;
+      kept = record { whole = c.requires.whole; lockers = refl; waits = refl };
       left = omega (arith, c.len-locks.ensures, long, c.index-locker.result.now.held.ok.0);
-      waits = refl;
-      len = refl;
     }
 
 pub loop-lock-preserved : goal.loop-lock-preserved
@@ -24,9 +23,7 @@ loop-lock-preserved c =
     let g = c.give_back.ensures.back in
     let held = ap length g.held in
     record {
-      back = back-more c.args.session c.args.self.now c.loop-lock.self c.give_back.new.self k.whole k.back g;
-      whole = c.give_back.ensures.whole;
+      back = back-more c.args.session c.args.self.now c.loop-lock.self c.give_back.new.self k.kept.whole k.back g;
+      kept = keeps-on k.kept c.give_back.ensures.kept;
       left = omega (arith, k.left, held, length-append (standing c.args.session c.give_back.new.self).held (g.resource ∷ []));
-      waits = c.give_back.ensures.waits ∙ k.waits;
-      len = c.give_back.ensures.len ∙ k.len;
     }

@@ -1,4 +1,5 @@
-use Rattle.std.proofs.Common.{◌≡◌, refl, sym, ◌∙◌, subst, Bool}
+use Rattle.std.proofs.Common.{ap, rules, ◌≡◌, refl, sym, ◌∙◌, subst, Bool}
+use Rattle.lock_desk.specs.Cells.{is_granted}
 use Rattle.lock_desk.specs.Lockers.{standing_of, standing_after_asking}
 use Rattle.lock_desk.proofs.Results.{on-err-from}
 use Rattle.lock_desk.proofs.Seen.{became-same}
@@ -10,47 +11,63 @@ returns-in_err-make_room-clause-err c =
     on-err-from c.from_residual.result
     (room-same c.args.self.now c.args.session c.index_mut-locker.result.now c.make_room.new.locker c.requires.whole (within c.args.self.now c.args.session c.requires.within) c.index_mut-locker.ensures.value c.make_room.ensures.standing c.make_room.ensures.kept c.args.resource _ refl refl (became-same c.args.resource c.args.self.now.cells.entries c.requires.whole.cells))
 
-pub returns-in_err-make_room-clause-whole : goal.returns-in_err-make_room-clause-whole
-returns-in_err-make_room-clause-whole c =
-    room-whole c.args.self.now c.args.session c.index_mut-locker.result.now c.make_room.new.locker c.requires.whole (within c.args.self.now c.args.session c.requires.within) c.index_mut-locker.ensures.value c.make_room.ensures.standing c.make_room.ensures.kept c.args.resource _ refl refl (became-same c.args.resource c.args.self.now.cells.entries c.requires.whole.cells)
+pub returns-in_err-make_room-clause-kept : goal.returns-in_err-make_room-clause-kept
+returns-in_err-make_room-clause-kept c =
+    record {
+      whole = room-whole c.args.self.now c.args.session c.index_mut-locker.result.now c.make_room.new.locker c.requires.whole (within c.args.self.now c.args.session c.requires.within) c.index_mut-locker.ensures.value c.make_room.ensures.standing c.make_room.ensures.kept c.args.resource _ refl refl (became-same c.args.resource c.args.self.now.cells.entries c.requires.whole.cells);
+      lockers = search rules;
+      waits = search rules;
+    }
 
 pub ask-requires-clause-idle : goal.ask-requires-clause-idle
 ask-requires-clause-idle c = idle-there c.args.session c.args.resource c.args.self.now c.requires.whole c.requires.can.idle
 
-pub returns-in_err-granted-clause-err : goal.returns-in_err-granted-clause-err
-returns-in_err-granted-clause-err c =
-    on-err-from c.from_residual-in_err-granted.result
-    (room-same c.args.self.now c.args.session c.index_mut-locker.result.now c.make_room.new.locker c.requires.whole (within c.args.self.now c.args.session c.requires.within) c.index_mut-locker.ensures.value c.make_room.ensures.standing c.make_room.ensures.kept c.args.resource _ refl refl c.in_err-granted.ensures.err)
+pub returns-in_err-status-clause-err : goal.returns-in_err-status-clause-err
+returns-in_err-status-clause-err c =
+    on-err-from c.from_residual-in_err-status.result
+    (room-same c.args.self.now c.args.session c.index_mut-locker.result.now c.make_room.new.locker c.requires.whole (within c.args.self.now c.args.session c.requires.within) c.index_mut-locker.ensures.value c.make_room.ensures.standing c.make_room.ensures.kept c.args.resource _ refl refl c.in_err-status.ensures.err)
 
-pub returns-in_err-granted-clause-whole : goal.returns-in_err-granted-clause-whole
-returns-in_err-granted-clause-whole c =
-    room-whole c.args.self.now c.args.session c.index_mut-locker.result.now c.make_room.new.locker c.requires.whole (within c.args.self.now c.args.session c.requires.within) c.index_mut-locker.ensures.value c.make_room.ensures.standing c.make_room.ensures.kept c.args.resource _ refl refl c.in_err-granted.ensures.err
+pub returns-in_err-status-clause-kept : goal.returns-in_err-status-clause-kept
+returns-in_err-status-clause-kept c =
+    record {
+      whole = room-whole c.args.self.now c.args.session c.index_mut-locker.result.now c.make_room.new.locker c.requires.whole (within c.args.self.now c.args.session c.requires.within) c.index_mut-locker.ensures.value c.make_room.ensures.standing c.make_room.ensures.kept c.args.resource _ refl refl c.in_err-status.ensures.err;
+      lockers = search rules;
+      waits = search rules;
+    }
 
-pub returns-then-granted-clause-asked : goal.returns-then-granted-clause-asked
-returns-then-granted-clause-asked c =
-    has-asked c.args.self.now c.args.session c.args.resource c.args.mode c.in_ok-granted.granted _ c.requires.whole (within c.args.self.now c.args.session c.requires.within) c.requires.can.idle c.in_ok-granted.ensures.granted
-    (twice-own c.args.self.now c.args.session c.index_mut-locker.result.now c.make_room.new.locker c.requires.whole (within c.args.self.now c.args.session c.requires.within) c.index_mut-locker.ensures.value c.make_room.ensures.standing c.make_room.ensures.kept c.args.resource c.in_ok-granted.granted c.index_mut-locker-2.result.now c.hold.new.locker _ c.index_mut-locker-2.ensures.value (subst (λ (b : Bool). standing_of c.hold.new.locker ≡ standing_after_asking b c.args.resource (standing_of c.index_mut-locker-2.result.now)) (sym c.if-granted.true) c.hold.ensures.standing) c.hold.ensures.kept refl)
-    c.in_ok-granted.ensures.ok refl
+pub returns-in-Granted-clause-asked : goal.returns-in-Granted-clause-asked
+returns-in-Granted-clause-asked c =
+    has-asked c.args.self.now c.args.session c.args.resource c.args.mode (is_granted c.in_ok-status.status) _ c.requires.whole (within c.args.self.now c.args.session c.requires.within) c.requires.can.idle c.in_ok-status.ensures.granted
+    (twice-own c.args.self.now c.args.session c.index_mut-locker.result.now c.make_room.new.locker c.requires.whole (within c.args.self.now c.args.session c.requires.within) c.index_mut-locker.ensures.value c.make_room.ensures.standing c.make_room.ensures.kept c.args.resource (is_granted c.in_ok-status.status) c.index_mut-locker-2.result.now c.hold.new.locker _ c.index_mut-locker-2.ensures.value (subst (λ (b : Bool). standing_of c.hold.new.locker ≡ standing_after_asking b c.args.resource (standing_of c.index_mut-locker-2.result.now)) (sym (ap is_granted c.in-Granted.is)) c.hold.ensures.standing) c.hold.ensures.kept refl)
+    c.in_ok-status.ensures.ok refl
 
-pub returns-then-granted-clause-whole : goal.returns-then-granted-clause-whole
-returns-then-granted-clause-whole c =
-    asked-whole c.args.self.now c.args.session c.args.resource c.args.mode c.in_ok-granted.granted _ c.requires.whole (within c.args.self.now c.args.session c.requires.within) c.requires.can.idle c.in_ok-granted.ensures.granted
-    (twice-own c.args.self.now c.args.session c.index_mut-locker.result.now c.make_room.new.locker c.requires.whole (within c.args.self.now c.args.session c.requires.within) c.index_mut-locker.ensures.value c.make_room.ensures.standing c.make_room.ensures.kept c.args.resource c.in_ok-granted.granted c.index_mut-locker-2.result.now c.hold.new.locker _ c.index_mut-locker-2.ensures.value (subst (λ (b : Bool). standing_of c.hold.new.locker ≡ standing_after_asking b c.args.resource (standing_of c.index_mut-locker-2.result.now)) (sym c.if-granted.true) c.hold.ensures.standing) c.hold.ensures.kept refl)
-    c.in_ok-granted.ensures.ok
-    (twice-kept c.args.self.now c.args.session c.index_mut-locker.result.now c.make_room.new.locker c.requires.whole (within c.args.self.now c.args.session c.requires.within) c.index_mut-locker.ensures.value c.make_room.ensures.standing c.make_room.ensures.kept c.args.resource c.in_ok-granted.granted c.index_mut-locker-2.result.now c.hold.new.locker _ c.index_mut-locker-2.ensures.value (subst (λ (b : Bool). standing_of c.hold.new.locker ≡ standing_after_asking b c.args.resource (standing_of c.index_mut-locker-2.result.now)) (sym c.if-granted.true) c.hold.ensures.standing) c.hold.ensures.kept refl)
+pub returns-in-Granted-clause-kept : goal.returns-in-Granted-clause-kept
+returns-in-Granted-clause-kept c =
+    record {
+      whole = asked-whole c.args.self.now c.args.session c.args.resource c.args.mode (is_granted c.in_ok-status.status) _ c.requires.whole (within c.args.self.now c.args.session c.requires.within) c.requires.can.idle c.in_ok-status.ensures.granted
+          (twice-own c.args.self.now c.args.session c.index_mut-locker.result.now c.make_room.new.locker c.requires.whole (within c.args.self.now c.args.session c.requires.within) c.index_mut-locker.ensures.value c.make_room.ensures.standing c.make_room.ensures.kept c.args.resource (is_granted c.in_ok-status.status) c.index_mut-locker-2.result.now c.hold.new.locker _ c.index_mut-locker-2.ensures.value (subst (λ (b : Bool). standing_of c.hold.new.locker ≡ standing_after_asking b c.args.resource (standing_of c.index_mut-locker-2.result.now)) (sym (ap is_granted c.in-Granted.is)) c.hold.ensures.standing) c.hold.ensures.kept refl)
+          c.in_ok-status.ensures.ok
+          (twice-kept c.args.self.now c.args.session c.index_mut-locker.result.now c.make_room.new.locker c.requires.whole (within c.args.self.now c.args.session c.requires.within) c.index_mut-locker.ensures.value c.make_room.ensures.standing c.make_room.ensures.kept c.args.resource (is_granted c.in_ok-status.status) c.index_mut-locker-2.result.now c.hold.new.locker _ c.index_mut-locker-2.ensures.value (subst (λ (b : Bool). standing_of c.hold.new.locker ≡ standing_after_asking b c.args.resource (standing_of c.index_mut-locker-2.result.now)) (sym (ap is_granted c.in-Granted.is)) c.hold.ensures.standing) c.hold.ensures.kept refl);
+      lockers = search rules;
+      waits = search rules;
+    }
 
-pub returns-else-granted-clause-asked : goal.returns-else-granted-clause-asked
-returns-else-granted-clause-asked c =
-    has-asked c.args.self.now c.args.session c.args.resource c.args.mode c.in_ok-granted.granted _ c.requires.whole (within c.args.self.now c.args.session c.requires.within) c.requires.can.idle c.in_ok-granted.ensures.granted
-    (twice-own c.args.self.now c.args.session c.index_mut-locker.result.now c.make_room.new.locker c.requires.whole (within c.args.self.now c.args.session c.requires.within) c.index_mut-locker.ensures.value c.make_room.ensures.standing c.make_room.ensures.kept c.args.resource c.in_ok-granted.granted c.index_mut-locker-2.result.now c.want.new.locker _ c.index_mut-locker-2.ensures.value (subst (λ (b : Bool). standing_of c.want.new.locker ≡ standing_after_asking b c.args.resource (standing_of c.index_mut-locker-2.result.now)) (sym c.if-granted.false) c.want.ensures.standing) c.want.ensures.kept refl)
-    c.in_ok-granted.ensures.ok refl
+pub returns-in-Waiting-clause-asked : goal.returns-in-Waiting-clause-asked
+returns-in-Waiting-clause-asked c =
+    has-asked c.args.self.now c.args.session c.args.resource c.args.mode (is_granted c.in_ok-status.status) _ c.requires.whole (within c.args.self.now c.args.session c.requires.within) c.requires.can.idle c.in_ok-status.ensures.granted
+    (twice-own c.args.self.now c.args.session c.index_mut-locker.result.now c.make_room.new.locker c.requires.whole (within c.args.self.now c.args.session c.requires.within) c.index_mut-locker.ensures.value c.make_room.ensures.standing c.make_room.ensures.kept c.args.resource (is_granted c.in_ok-status.status) c.index_mut-locker-2.result.now c.want.new.locker _ c.index_mut-locker-2.ensures.value (subst (λ (b : Bool). standing_of c.want.new.locker ≡ standing_after_asking b c.args.resource (standing_of c.index_mut-locker-2.result.now)) (sym (ap is_granted c.in-Waiting.is)) c.want.ensures.standing) c.want.ensures.kept refl)
+    c.in_ok-status.ensures.ok refl
 
-pub returns-else-granted-clause-whole : goal.returns-else-granted-clause-whole
-returns-else-granted-clause-whole c =
-    asked-whole c.args.self.now c.args.session c.args.resource c.args.mode c.in_ok-granted.granted _ c.requires.whole (within c.args.self.now c.args.session c.requires.within) c.requires.can.idle c.in_ok-granted.ensures.granted
-    (twice-own c.args.self.now c.args.session c.index_mut-locker.result.now c.make_room.new.locker c.requires.whole (within c.args.self.now c.args.session c.requires.within) c.index_mut-locker.ensures.value c.make_room.ensures.standing c.make_room.ensures.kept c.args.resource c.in_ok-granted.granted c.index_mut-locker-2.result.now c.want.new.locker _ c.index_mut-locker-2.ensures.value (subst (λ (b : Bool). standing_of c.want.new.locker ≡ standing_after_asking b c.args.resource (standing_of c.index_mut-locker-2.result.now)) (sym c.if-granted.false) c.want.ensures.standing) c.want.ensures.kept refl)
-    c.in_ok-granted.ensures.ok
-    (twice-kept c.args.self.now c.args.session c.index_mut-locker.result.now c.make_room.new.locker c.requires.whole (within c.args.self.now c.args.session c.requires.within) c.index_mut-locker.ensures.value c.make_room.ensures.standing c.make_room.ensures.kept c.args.resource c.in_ok-granted.granted c.index_mut-locker-2.result.now c.want.new.locker _ c.index_mut-locker-2.ensures.value (subst (λ (b : Bool). standing_of c.want.new.locker ≡ standing_after_asking b c.args.resource (standing_of c.index_mut-locker-2.result.now)) (sym c.if-granted.false) c.want.ensures.standing) c.want.ensures.kept refl)
+pub returns-in-Waiting-clause-kept : goal.returns-in-Waiting-clause-kept
+returns-in-Waiting-clause-kept c =
+    record {
+      whole = asked-whole c.args.self.now c.args.session c.args.resource c.args.mode (is_granted c.in_ok-status.status) _ c.requires.whole (within c.args.self.now c.args.session c.requires.within) c.requires.can.idle c.in_ok-status.ensures.granted
+          (twice-own c.args.self.now c.args.session c.index_mut-locker.result.now c.make_room.new.locker c.requires.whole (within c.args.self.now c.args.session c.requires.within) c.index_mut-locker.ensures.value c.make_room.ensures.standing c.make_room.ensures.kept c.args.resource (is_granted c.in_ok-status.status) c.index_mut-locker-2.result.now c.want.new.locker _ c.index_mut-locker-2.ensures.value (subst (λ (b : Bool). standing_of c.want.new.locker ≡ standing_after_asking b c.args.resource (standing_of c.index_mut-locker-2.result.now)) (sym (ap is_granted c.in-Waiting.is)) c.want.ensures.standing) c.want.ensures.kept refl)
+          c.in_ok-status.ensures.ok
+          (twice-kept c.args.self.now c.args.session c.index_mut-locker.result.now c.make_room.new.locker c.requires.whole (within c.args.self.now c.args.session c.requires.within) c.index_mut-locker.ensures.value c.make_room.ensures.standing c.make_room.ensures.kept c.args.resource (is_granted c.in_ok-status.status) c.index_mut-locker-2.result.now c.want.new.locker _ c.index_mut-locker-2.ensures.value (subst (λ (b : Bool). standing_of c.want.new.locker ≡ standing_after_asking b c.args.resource (standing_of c.index_mut-locker-2.result.now)) (sym (ap is_granted c.in-Waiting.is)) c.want.ensures.standing) c.want.ensures.kept refl);
+      lockers = search rules;
+      waits = search rules;
+    }
 
 pub hold-requires-clause-new : goal.hold-requires-clause-new
 hold-requires-clause-new c =

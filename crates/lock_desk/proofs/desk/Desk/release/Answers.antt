@@ -1,4 +1,4 @@
-use Rattle.std.proofs.Common.{refl, ap, sym, ◌∙◌}
+use Rattle.std.proofs.Common.{rules, refl, ap, sym, ◌∙◌}
 use Rattle.lock_desk.specs.Lockers.{Standing}
 use Rattle.lock_desk.proofs.Standings.{standing-here}
 use Rattle.lock_desk.proofs.Asks.{within}
@@ -17,9 +17,13 @@ returns-clause-freed c =
     _ (ap (λ (x : Standing). x.wanted) c.drop_lock.ensures.standing ∙ (ap (λ (x : Standing). x.wanted) (sym (standing-here c.args.self.now.lockers.items c.args.session c.index_mut-locker.result.now (within c.args.self.now c.args.session c.requires.within) c.index_mut-locker.ensures.value)) ∙ c.requires.can.idle))
     c.free.ensures.cells c.free.ensures.agree c.free.ensures.lockers c.free.ensures.granted refl
 
-pub returns-clause-whole : goal.returns-clause-whole
-returns-clause-whole c =
-    freed-whole c.args.self.now _ c.args.session c.args.resource c.index_mut-locker.result.now c.drop_lock.new.locker (within c.args.self.now c.args.session c.requires.within) c.index_mut-locker.ensures.value
-    (gives-lock c.args.resource _ _ c.drop_lock.ensures.standing) c.requires.whole
-    _ (ap (λ (x : Standing). x.wanted) c.drop_lock.ensures.standing ∙ (ap (λ (x : Standing). x.wanted) (sym (standing-here c.args.self.now.lockers.items c.args.session c.index_mut-locker.result.now (within c.args.self.now c.args.session c.requires.within) c.index_mut-locker.ensures.value)) ∙ c.requires.can.idle))
-    c.free.ensures.cells c.free.ensures.agree c.free.ensures.lockers c.free.ensures.granted
+pub returns-clause-kept : goal.returns-clause-kept
+returns-clause-kept c =
+    record {
+      whole = freed-whole c.args.self.now _ c.args.session c.args.resource c.index_mut-locker.result.now c.drop_lock.new.locker (within c.args.self.now c.args.session c.requires.within) c.index_mut-locker.ensures.value
+          (gives-lock c.args.resource _ _ c.drop_lock.ensures.standing) c.requires.whole
+          _ (ap (λ (x : Standing). x.wanted) c.drop_lock.ensures.standing ∙ (ap (λ (x : Standing). x.wanted) (sym (standing-here c.args.self.now.lockers.items c.args.session c.index_mut-locker.result.now (within c.args.self.now c.args.session c.requires.within) c.index_mut-locker.ensures.value)) ∙ c.requires.can.idle))
+          c.free.ensures.cells c.free.ensures.agree c.free.ensures.lockers c.free.ensures.granted;
+      lockers = search rules;
+      waits = search rules;
+    }

@@ -24,16 +24,16 @@ pub loop-round-preserved : goal.loop-round-preserved
 loop-round-preserved c =
     let d = c.loop-round.self in
     let k = c.loop-round.invariant in
-    let waits = c.doom.ensures.waits ∙ c.in-Some.ensures.same in
+    let waits = c.doom.ensures.kept.waits ∙ c.in-Some.ensures.same in
     let filled = rw c.deref.ensures.value at c.fill.ensures.filled in
     record {
-      whole = c.doom.ensures.whole;
+      whole = c.doom.ensures.kept.whole;
       ready = record {
-        long = ap (λ (w : Waits). w.rows.sessions + 1) waits ∙ omega (arith, c.fill.ensures.sessions, k.ready.long, c.doom.ensures.len);
+        long = ap (λ (w : Waits). w.rows.sessions + 1) waits ∙ omega (arith, c.fill.ensures.sessions, k.ready.long, c.doom.ensures.kept.lockers);
         ready = subst (λ (w : Waits). IsReady w.rows.sessions w) (sym waits) (subst (λ n. IsReady n c.fill.new.waits) (sym c.fill.ensures.sessions) c.fill.ensures.ready);
       };
       count = c.doom.ensures.doomed.count ∙ k.count;
-      len = c.doom.ensures.len ∙ k.len;
+      len = c.doom.ensures.kept.lockers ∙ k.len;
       rounds = λ st i j h.
           let r = k.rounds st i j h in
           let y = c.in-Some.ensures.some in
