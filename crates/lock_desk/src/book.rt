@@ -6,7 +6,7 @@ ghost use Rattle.lock_rules.specs.State.{held_mode, holders};
 ghost use Rattle.lock_rules.specs.Step.{step};
 ghost use Rattle.lock_rules.specs.declared.calls.Entry.{Entry as EntryValue};
 ghost use Rattle.lock_rules.specs.Legal.{state_of, IsLegal};
-ghost use Rattle.lock_rules.specs.Laws.{DoesGrantStand};
+ghost use Rattle.lock_rules.specs.Laws.{DoesGrantStand, DoesDoomStand, DoesRequestStand};
 ghost use Rattle.lock_rules.specs.Lawful.{IsLawfulState};
 ghost use Rattle.lock_desk.specs.Batches.{IsItemWithin, entries_from, item_of};
 ghost use Rattle.lock_desk.specs.Kept.{IsEntryWithin};
@@ -82,16 +82,21 @@ impl Book {
     /// All calls that were served with their replies, oldest first: a legal history, of these sessions alone.
     ///
     /// The state between any two calls is lawful: so no two sessions ever have incompatible access to a resource, outright
-    /// or through an ancestor, and nobody waits needlessly. What was granted stands until it is given back.
+    /// or through an ancestor, and nobody waits needlessly. What was granted stands until it is given back, a doom until its
+    /// session aborts, and a request until it is granted, its session becomes a victim, or it aborts.
     pub fn history(&self) -> &[Entry]
         ensures history { result.now ≡ self.now.history }
         ensures legal { IsLegal self.now.history }
         ensures within { All (IsEntryWithin self.now.sessions) self.now.history }
         ensures lawful { (front rest : List EntryValue) → self.now.history ≡ front ++ rest → IsLawfulState (state_of front) }
         ensures grants { (front later rest : List EntryValue) → self.now.history ≡ front ++ later ++ rest → DoesGrantStand front later }
+        ensures dooms { (front later rest : List EntryValue) → self.now.history ≡ front ++ later ++ rest → DoesDoomStand front later }
+        ensures requests { (front later rest : List EntryValue) → self.now.history ≡ front ++ later ++ rest → DoesRequestStand front later }
     {
         laws::states_are_lawful();
         laws::grants_stand();
+        laws::dooms_stand();
+        laws::requests_stand();
         &self.history
     }
 
