@@ -93,11 +93,16 @@ after_slash_is rest n is more =
     take_rest left 1 ∙ ap (drop 1) (take_rest rest n) ∙ drop-drop 1 n rest ∙ ap (λ (k : ℕ). drop k rest) at
 
 -- what is left is its first piece alone
-pub last_piece_is : (rest : List ℕ) → length (first_piece rest) ≡ length rest → pieces_of rest ≡ first_piece rest ∷ []
+last_piece_is : (rest : List ℕ) → length (first_piece rest) ≡ length rest → pieces_of rest ≡ first_piece rest ∷ []
 last_piece_is rest end =
     let all : length rest ≤ position_or_len is_slash rest = omega (arith, length-take (position_or_len is_slash rest) rest, end) in
     slice_split_none is_slash rest (All-from_get_or (λ b. is_slash b ≡ false) rest 0 (λ i lt. fails_before_first is_slash rest i 0 (omega (arith, all, lt))))
     ∙ ap (λ (p : List ℕ). p ∷ []) (sym (take_all (position_or_len is_slash rest) rest all))
+
+-- the last piece has been read
+pub read_last : (bytes : List ℕ) (level : ℕ) (numbers : List ℕ) (fault : Option PathFault) (rest : List ℕ) (number : Result ℕ PathFault) (value : ℕ) (err after : Option PathFault)
+    → length (first_piece rest) ≡ length rest → level < LEVELS → IsKept (first_piece rest) fault number value err after → IsReadTo bytes level numbers fault (pieces_of rest) → IsReadTo bytes (level + 1) (set numbers level value) after []
+read_last bytes level numbers fault rest number value err after end lt kept h = one_more bytes level numbers fault (pieces_of rest) (first_piece rest) [] number value err after (last_piece_is rest end) lt kept h
 
 -- after the last piece
 pub at_end : (bytes : List ℕ) (level : ℕ) (numbers : List ℕ) (fault : Option PathFault) → level ≤ LEVELS → IsReadTo bytes level numbers fault [] → ok_unless fault (take level numbers) ≡ reading_of bytes
