@@ -1,21 +1,21 @@
 -- No two sessions have incompatible access, outright or through an ancestor.
 use Rattle.std.proofs.Common.{◌≡◌, ◌≢◌, ℕ, zero, suc, ◌≤◌, true, false, ◌⊎◌, inl, inr, eqb, List, [], ◌∷◌, length, Some, refl, arith}
 use Rattle.std.proofs.lemmas.Bool.Decides.{Decides-eqb}
+use Rattle.std.proofs.lemmas.Bool.{cases_Bool}
 use Rattle.lock_modes.specs.declared.Mode.{Mode}
 use Rattle.lock_modes.specs.declared.Mode.TheVariants.{IS, IX, S, X}
 use Rattle.lock_modes.specs.Order.{at_or_below, need_of}
 use Rattle.lock_modes.specs.Compatibility.{are_compatible}
-use Rattle.lock_modes.proofs.Order.{order-tests}
+use Rattle.lock_modes.proofs.Order.{order-tests, at_or_below-trans}
 use Rattle.lock_tree.specs.Paths.{is_ancestor, parent_of}
 use Rattle.lock_tree.proofs.Ancestors.{ancestor-parent, ancestors-meet}
 use Rattle.lock_rules.specs.State.{Table, State, held_mode}
 use Rattle.lock_rules.specs.Laws.{HoldsAtLeast, IsAtOrOver, IsAccessCompatible}
 use Rattle.lock_rules.specs.Sound.{Agree, IsSound}
-use Rattle.lock_rules.proofs.Lists.{bool_cases}
 use Rattle.lock_rules.proofs.Alters.{true≢false}
-use Rattle.lock_rules.proofs.Marks.{below-trans, no_ix_s, no_x_is, need-is, need-ix}
+use Rattle.lock_rules.proofs.Marks.{no_ix_s, no_x_is, need-is, need-ix}
 use Rattle.lock_rules.proofs.Sound.{stands-under}
-use Rattle.lock_rules.proofs.Children.{length-parent}
+use Rattle.lock_rules.proofs.Children.{none-above, length-parent}
 
 -- the session holds the resource in a mode that passes the test of the mode
 abbrev Has : Table → ℕ → Mode → List ℕ → Type 0
@@ -26,16 +26,12 @@ module _ (f : Mode) (needs : (m : Mode) → at_or_below f m ≡ true → at_or_b
   at-parent : (b c : ℕ) (zs : List ℕ) → Has t s f (b ∷ c ∷ zs) → Has t s f (parent_of (b ∷ c ∷ zs))
   at-parent b c zs h =
       let up = stands-under t s (b ∷ c ∷ zs) h.0 (i.held_under s (b ∷ c ∷ zs) h.0 h.1) refl in
-      (up.0, up.1, below-trans f (need_of h.0) up.0 (needs h.0 h.2) (order-tests up.2))
+      (up.0, up.1, at_or_below-trans f (need_of h.0) up.0 (needs h.0 h.2) (order-tests up.2))
 
   at-ancestor : (n : ℕ) (z : List ℕ) → length z ≤ n → (y : List ℕ) → y ≢ [] → is_ancestor y z ≡ true → Has t s f z → Has t s f y
   at-ancestor n [] le [] some a h = absurd (some refl)
   at-ancestor n [] le (x ∷ y) some a h = absurd (cc)
-  at-ancestor n (b ∷ []) le y some a h = elim (ancestor-parent y (b ∷ []) a) [ inl e ↦ absurd (some e) | inr m ↦ absurd (none y m) ]
-    where
-      none : (y : List ℕ) → is_ancestor y [] ≡ true → ⊥
-      none [] m = cc
-      none (x ∷ y) m = cc
+  at-ancestor n (b ∷ []) le y some a h = elim (ancestor-parent y (b ∷ []) a) [ inl e ↦ absurd (some e) | inr m ↦ absurd (none-above y m) ]
   at-ancestor zero (b ∷ c ∷ zs) le y some a h = absurd (omega arith)
   at-ancestor (suc n) (b ∷ c ∷ zs) le y some a h = elim (ancestor-parent y (b ∷ c ∷ zs) a) [
     | inl e ↦ rw e (at-parent b c zs h)
@@ -61,10 +57,10 @@ module _ (t : Table) (i : IsSound t) (s u : ℕ) (n : eqb s u ≡ false) where
   -- who writes through y and who reads through z
   write-read : (y z x : List ℕ) → IsAtOrOver y x → IsAtOrOver z x → Has t s X y → Has t u S z → ⊥
   write-read y z x oy oz h k = elim (comparable y z x oy.1 oz.1) [
-    | inl e ↦ outright y X S (λ a b p q. no_ix_s a b (below-trans IX X a refl p) q) h (rw e k)
+    | inl e ↦ outright y X S (λ a b p q. no_ix_s a b (at_or_below-trans IX X a refl p) q) h (rw e k)
     | inr m ↦ elim m [
-      | inl up ↦ outright y X IS no_x_is h (at-ancestor IS need-is t i u (length z) z (omega arith) y oy.0 up (k.0, k.1, below-trans IS S k.0 refl k.2))
-      | inr up ↦ outright z IX S no_ix_s (at-ancestor IX need-ix t i s (length y) y (omega arith) z oz.0 up (h.0, h.1, below-trans IX X h.0 refl h.2)) k
+      | inl up ↦ outright y X IS no_x_is h (at-ancestor IS need-is t i u (length z) z (omega arith) y oy.0 up (k.0, k.1, at_or_below-trans IS S k.0 refl k.2))
+      | inr up ↦ outright z IX S no_ix_s (at-ancestor IX need-ix t i s (length y) y (omega arith) z oz.0 up (h.0, h.1, at_or_below-trans IX X h.0 refl h.2)) k
     ]
   ]
 
@@ -72,10 +68,10 @@ has : (t : Table) (s : ℕ) (f : Mode) (y : List ℕ) → HoldsAtLeast t s y f �
 has t s f y h = (h.0, h.1, order-tests h.2)
 
 pub access-compatible : (st : State) → IsSound st.table → IsAccessCompatible st
-access-compatible st i s u x n w r = elim (bool_cases (eqb s u)) [
+access-compatible st i s u x n w r = elim (cases_Bool (eqb s u)) [
   | inl e ↦ n ((Decides-eqb s u).0 e)
   | inr e ↦ elim r [
     | inl k ↦ write-read st.table i s u e w.0 k.0 x w.1 k.1 (has st.table s X w.0 w.2) (has st.table u S k.0 k.2)
-    | inr k ↦ let h = has st.table u X k.0 k.2 in write-read st.table i s u e w.0 k.0 x w.1 k.1 (has st.table s X w.0 w.2) (h.0, h.1, below-trans S X h.0 refl h.2)
+    | inr k ↦ let h = has st.table u X k.0 k.2 in write-read st.table i s u e w.0 k.0 x w.1 k.1 (has st.table s X w.0 w.2) (h.0, h.1, at_or_below-trans S X h.0 refl h.2)
   ]
 ]

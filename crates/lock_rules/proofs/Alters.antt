@@ -2,7 +2,7 @@
 use Rattle.std.proofs.Common.{◌≡◌, ℕ, Bool, true, false, not, eqb, ◌&&◌, ◌||◌, ◌⊎◌, inl, inr, List, [], ◌∷◌, ◌++◌, length, Option, Some, None, refl, sym, ◌∙◌, ap, arith, map}
 use Rattle.std.specs.Prelude.{filter, is_some}
 use Rattle.std.proofs.lemmas.Bool.Decides.{nat_tests, Decides-eqb}
-use Rattle.std.proofs.lemmas.Bool.{and_parts, and_from}
+use Rattle.std.proofs.lemmas.Bool.{and_parts, and_from, and_right, cases_Bool}
 use Rattle.lock_modes.specs.declared.Mode.{Mode}
 use Rattle.lock_tree.specs.Paths.{same_path}
 use Rattle.waits_for.specs.Walks.{IsWalk}
@@ -11,7 +11,7 @@ use Rattle.lock_rules.specs.State.{Claim, Table, mode_in, request_of, claims_but
 use Rattle.lock_rules.specs.Queue.{queue}
 use Rattle.lock_rules.specs.Waits.{conflicts, stands_before, keeps_waiting, waits_for, waiting_sessions, reaches}
 use Rattle.lock_rules.specs.Sound.{IsOrdered}
-use Rattle.lock_rules.proofs.Lists.{bool_cases, request_of-claims_but, request_of-claims_but_other, request_of-session, filter-swap, claims_but-append, stands_before-claims_but}
+use Rattle.lock_rules.proofs.Lists.{request_of-claims_but, request_of-claims_but_other, request_of-session, filter-swap, claims_but-append, stands_before-claims_but}
 use Rattle.lock_rules.proofs.Walks.{has, AllIn, found}
 
 -- The one relation for every change: v waits no more, the others' holds are as before, holders still ascend. It covers a
@@ -40,11 +40,11 @@ request-alters v t t' a u n = ap (request_of u) a.requests ∙ request_of-claims
 pub request-gone : (v : ℕ) (t t' : Table) → Alters v t t' → request_of v t'.requests ≡ None
 request-gone v t t' a = ap (request_of v) a.requests ∙ request_of-claims_but v t.requests
 
--- waits between sessions
+-- who waits is another
+pub waiting-other : (v : ℕ) (t t' : Table) → Alters v t t' → (s : ℕ) (q : Claim) → request_of s t'.requests ≡ Some q → s ≡ v → ⊥
+waiting-other v t t' a s q e f = let g = request-gone v t t' a in cc
 
-and-false : (b : Bool) → (b && false) ≡ false
-and-false true = refl
-and-false false = refl
+-- waits between sessions
 
 keeps_waiting-alters : (v : ℕ) (t t' : Table) → Alters v t t' → (b : ℕ) → eqb b v ≡ false → (o : Option Claim) → ((q : Claim) → o ≡ Some q → eqb q.session v ≡ false) → keeps_waiting t' b o ≡ keeps_waiting t b o
 keeps_waiting-alters v t t' a b n None h = refl
@@ -59,7 +59,7 @@ waits_for-alters v t t' a s u n k =
     (ap (keeps_waiting t' u) (request-alters v t t' a s n) ∙ keeps_waiting-alters v t t' a u k (request_of s t.requests) (λ q e. ap (λ (i : ℕ). eqb i v) (request_of-session s t.requests q e) ∙ n))
 
 pub waits_for-gone : (v : ℕ) (t t' : Table) → Alters v t t' → (w : ℕ) → waits_for t' v w ≡ false
-waits_for-gone v t t' a w = ap (λ (o : Option Claim). not (eqb w v) && keeps_waiting t' w o) (request-gone v t t' a) ∙ and-false (not (eqb w v))
+waits_for-gone v t t' a w = ap (λ (o : Option Claim). not (eqb w v) && keeps_waiting t' w o) (request-gone v t t' a) ∙ and_right (not (eqb w v)) false refl
 
 -- circles
 
@@ -85,9 +85,9 @@ module _ (old new : ℕ → ℕ → Bool) (grown : (t u : ℕ) → new t u ≡ t
   kept-circle none s (w ∷ ws) walk = none s (w ∷ ws) (kept-walk s (w ∷ ws) s walk (w, walk.0))
 
 grown-alters : (v : ℕ) (t t' : Table) → Alters v t t' → (s u : ℕ) → waits_for t' s u ≡ true → (waits_for t s u ≡ true) ⊎ ((w : ℕ) → waits_for t' u w ≡ false)
-grown-alters v t t' a s u h = elim (bool_cases (eqb u v)) [
+grown-alters v t t' a s u h = elim (cases_Bool (eqb u v)) [
   | inl e ↦ inr (λ w. ap (λ (i : ℕ). waits_for t' i w) ((Decides-eqb u v).0 e) ∙ waits_for-gone v t t' a w)
-  | inr n ↦ elim (bool_cases (eqb s v)) [
+  | inr n ↦ elim (cases_Bool (eqb s v)) [
     | inl e ↦ absurd (true≢false h (ap (λ (i : ℕ). waits_for t' i u) ((Decides-eqb s v).0 e) ∙ waits_for-gone v t t' a u))
     | inr k ↦ inl (sym (waits_for-alters v t t' a s u k n) ∙ h)
   ]
@@ -114,7 +114,7 @@ walk-wider old new h t (w ∷ ws) u walk = (h t w walk.0, walk-wider old new h w
 -- a walk between two others goes beside a, or through it
 beside-or : (pairs : ℕ → ℕ → Bool) (a t : ℕ) (ws : List ℕ) (u : ℕ) → eqb t a ≡ false → eqb u a ≡ false → IsWalk pairs t ws u → IsWalk (beside a pairs) t ws u ⊎ (((xs : List ℕ) × IsWalk pairs t xs a) × ((ys : List ℕ) × IsWalk pairs a ys u))
 beside-or pairs a t [] u n k walk = inl (and_from (pairs t u) (not (eqb t a) && not (eqb u a)) walk (and_from (not (eqb t a)) (not (eqb u a)) (ap not n) (ap not k)))
-beside-or pairs a t (w ∷ ws) u n k walk = elim (bool_cases (eqb w a)) [
+beside-or pairs a t (w ∷ ws) u n k walk = elim (cases_Bool (eqb w a)) [
   | inl e ↦ let f = (Decides-eqb w a).0 e in inr (([], rw f at walk.0), (ws, rw f at walk.1))
   | inr m ↦ elim (beside-or pairs a w ws u m k walk.1) [
     | inl r ↦ inl (and_from (pairs t w) (not (eqb t a) && not (eqb w a)) walk.0 (and_from (not (eqb t a)) (not (eqb w a)) (ap not n) (ap not m)), r)
@@ -124,7 +124,7 @@ beside-or pairs a t (w ∷ ws) u n k walk = elim (bool_cases (eqb w a)) [
 
 -- no circle beside a and none through it
 pub no_circle-from : (pairs : ℕ → ℕ → Bool) (a : ℕ) → NoCircle (beside a pairs) → ((ws : List ℕ) → IsWalk pairs a ws a → ⊥) → NoCircle pairs
-no_circle-from pairs a none own s ws walk = elim (bool_cases (eqb s a)) [
+no_circle-from pairs a none own s ws walk = elim (cases_Bool (eqb s a)) [
   | inl e ↦ let f = (Decides-eqb s a).0 e in own ws (rw f at walk)
   | inr n ↦ elim (beside-or pairs a s ws s n n walk) [
     | inl r ↦ none s ws r

@@ -2,7 +2,7 @@
 use Rattle.std.proofs.Common.{◌≡◌, ℕ, Bool, true, false, cond, not, eqb, ◌&&◌, ◌||◌, inl, inr, List, [], ◌∷◌, ◌++◌, Some, None, refl, sym, ◌∙◌, ap, arith, append_assoc}
 use Rattle.std.specs.Prelude.{filter, is_some}
 use Rattle.std.proofs.lemmas.Bool.Decides.{nat_tests, Decides-eqb}
-use Rattle.std.proofs.lemmas.Bool.{and_parts, and_from, not-true}
+use Rattle.std.proofs.lemmas.Bool.{and_parts, and_from, and_right, not-true, cases_Bool}
 use Rattle.lock_modes.specs.declared.Mode.{Mode}
 use Rattle.lock_tree.specs.Paths.{same_path}
 use Rattle.lock_modes.specs.Order.{at_or_below}
@@ -10,7 +10,7 @@ use Rattle.lock_rules.specs.State.{Claim, Table, mode_in, held_mode, mode_or_not
 use Rattle.lock_rules.specs.Queue.{conversions, fresh_requests, queue, fits, with_request, is_granted_at_once, is_empty}
 use Rattle.lock_rules.specs.Waits.{waits_for}
 use Rattle.lock_rules.specs.Sound.{IsOnce, IsSound, Stands}
-use Rattle.lock_rules.proofs.Lists.{bool_cases, same_path-refl, same_path-true, times-none, times-append, request_of-push, claims_but-push}
+use Rattle.lock_rules.proofs.Lists.{same_path-refl, same_path-true, times-none, times-append, request_of-push, claims_but-push}
 use Rattle.lock_rules.proofs.Alters.{Alters, queue-alters, request-alters, waits_for-alters, NoCircle, beside, walk-wider}
 use Rattle.lock_rules.proofs.Sound.{UnfitAt, head-request}
 
@@ -30,11 +30,11 @@ pub begins-sound : (s : ℕ) (r : List ℕ) (m : Mode) (t : Table) → IsSound t
 begins-sound s r m t i n up under = record {
   order = i.order;
   once = once-push s r m t.requests i.once n;
-  raising = λ u q e. elim (bool_cases (eqb u s)) [
+  raising = λ u q e. elim (cases_Bool (eqb u s)) [
     | inl f ↦ let p = own u q e ((Decides-eqb u s).0 f) in rw (p.0, ← p.1) up
     | inr k ↦ i.raising u q (request-alters s (with_request s r m t) t (back s r m t n) u k ∙ e)
   ];
-  asked_under = λ u q e. elim (bool_cases (eqb u s)) [
+  asked_under = λ u q e. elim (cases_Bool (eqb u s)) [
     | inl f ↦ let p = own u q e ((Decides-eqb u s).0 f) in rw (p.0, ← p.1) under
     | inr k ↦ i.asked_under u q (request-alters s (with_request s r m t) t (back s r m t n) u k ∙ e)
   ];
@@ -57,22 +57,18 @@ begins-beside s r m t n none a ws walk = none a ws (walk-wider (beside s (waits_
 
 filter-in : (p : Claim → Bool) (xs : List Claim) (x : Claim) → p x ≡ true → filter p (xs ++ x ∷ []) ≡ filter p xs ++ x ∷ []
 filter-in p [] x h = ap (λ (b : Bool). cond b (x ∷ []) []) h
-filter-in p (y ∷ xs) x h = grind (arith, filter-in p xs x h, bool_cases (p y))
+filter-in p (y ∷ xs) x h = grind (arith, filter-in p xs x h, cases_Bool (p y))
 
 filter-out : (p : Claim → Bool) (xs : List Claim) (x : Claim) → p x ≡ false → filter p (xs ++ x ∷ []) ≡ filter p xs
 filter-out p [] x h = ap (λ (b : Bool). cond b (x ∷ []) []) h
-filter-out p (y ∷ xs) x h = grind (arith, filter-out p xs x h, bool_cases (p y))
-
-and-false : (b : Bool) → (b && false) ≡ false
-and-false true = refl
-and-false false = refl
+filter-out p (y ∷ xs) x h = grind (arith, filter-out p xs x h, cases_Bool (p y))
 
 -- a fresh request stands last
 pub queue-fresh : (s : ℕ) (r : List ℕ) (m : Mode) (t : Table) → is_some (held_mode t s r) ≡ false → queue (with_request s r m t) r ≡ queue t r ++ new s r m ∷ []
 queue-fresh s r m t h =
     let p : Claim → Bool = λ (q : Claim). same_path q.resource r && is_some (mode_in q.session r t.held) in
     let p' : Claim → Bool = λ (q : Claim). same_path q.resource r && not (is_some (mode_in q.session r t.held)) in
-    let e : filter p (t.requests ++ new s r m ∷ []) ≡ filter p t.requests = filter-out p t.requests (new s r m) (ap (λ (b : Bool). same_path r r && b) h ∙ and-false (same_path r r)) in
+    let e : filter p (t.requests ++ new s r m ∷ []) ≡ filter p t.requests = filter-out p t.requests (new s r m) (ap (λ (b : Bool). same_path r r && b) h ∙ and_right (same_path r r) false refl) in
     let e' : filter p' (t.requests ++ new s r m ∷ []) ≡ filter p' t.requests ++ new s r m ∷ [] = filter-in p' t.requests (new s r m) (and_from (same_path r r) (not (is_some (mode_in s r t.held))) (same_path-refl r) (ap not h)) in
     ap (λ (ws : List Claim). ws ++ filter p' (t.requests ++ new s r m ∷ [])) e ∙ (ap (λ (ws : List Claim). filter p t.requests ++ ws) e' ∙ sym (append_assoc (filter p t.requests) (filter p' t.requests) (new s r m ∷ [])))
 
@@ -82,7 +78,7 @@ queue-converted s r m t h =
     let p : Claim → Bool = λ (q : Claim). same_path q.resource r && is_some (mode_in q.session r t.held) in
     let p' : Claim → Bool = λ (q : Claim). same_path q.resource r && not (is_some (mode_in q.session r t.held)) in
     let e : filter p (t.requests ++ new s r m ∷ []) ≡ filter p t.requests ++ new s r m ∷ [] = filter-in p t.requests (new s r m) (and_from (same_path r r) (is_some (mode_in s r t.held)) (same_path-refl r) h) in
-    let e' : filter p' (t.requests ++ new s r m ∷ []) ≡ filter p' t.requests = filter-out p' t.requests (new s r m) (ap (λ (b : Bool). same_path r r && not b) h ∙ and-false (same_path r r)) in
+    let e' : filter p' (t.requests ++ new s r m ∷ []) ≡ filter p' t.requests = filter-out p' t.requests (new s r m) (ap (λ (b : Bool). same_path r r && not b) h ∙ and_right (same_path r r) false refl) in
     ap (λ (ws : List Claim). ws ++ filter p' (t.requests ++ new s r m ∷ [])) e ∙ (ap (λ (ws : List Claim). (filter p t.requests ++ new s r m ∷ []) ++ ws) e' ∙ append_assoc (filter p t.requests) (new s r m ∷ []) (filter p' t.requests))
 
 -- elsewhere the queues stay
@@ -95,7 +91,7 @@ queue-beside s r x m t h =
     ap (λ (ws : List Claim). ws ++ filter p' (t.requests ++ new s r m ∷ [])) e ∙ ap (λ (ws : List Claim). filter p t.requests ++ ws) e'
 
 pub begins-unfit : (s : ℕ) (r : List ℕ) (m : Mode) (t : Table) → IsSound t → IsSound (with_request s r m t) → request_of s t.requests ≡ None → is_granted_at_once t s r m ≡ false → ((x : List ℕ) → UnfitAt t x) → (x : List ℕ) → UnfitAt (with_request s r m t) x
-begins-unfit s r m t i i' n g h x q qs e = elim (bool_cases (eqb q.session s)) [
+begins-unfit s r m t i i' n g h x q qs e = elim (cases_Bool (eqb q.session s)) [
   | inr k ↦ h x q (claims_but s qs) (queue-alters s (with_request s r m t) t (back s r m t n) x ∙ (ap (claims_but s) e ∙ ap (λ (b : Bool). cond (not b) (q ∷ claims_but s qs) (claims_but s qs)) k))
   | inl k ↦
       let f = (Decides-eqb q.session s).0 k in
@@ -107,9 +103,6 @@ begins-unfit s r m t i i' n g h x q qs e = elim (bool_cases (eqb q.session s)) [
       ap (λ (c : Claim). fits t c.session x c.mode) (sym same) ∙ (ap (λ (y : List ℕ). fits t s y m) (sym path) ∙ unfit same (rw (← path) at e))
 ]
   where
-    none : (q : Claim) → request_of s t.requests ≡ Some q → ⊥
-    none q e = cc
-
     unfit : new s r m ≡ q → queue (with_request s r m t) r ≡ q ∷ qs → fits t s r m ≡ false
     unfit same e = go (fits t s r m) refl (is_some (held_mode t s r)) refl (queue t r) refl g
       where
@@ -121,4 +114,4 @@ begins-unfit s r m t i i' n g h x q qs e = elim (bool_cases (eqb q.session s)) [
             let k = queue-fresh s r m t ec in
             let k2 : q ∷ qs ≡ p ∷ (ps ++ new s r m ∷ []) = sym e ∙ (k ∙ ap (λ (ws : List Claim). ws ++ new s r m ∷ []) eo) in
             let first : new s r m ≡ p = same ∙ (cc) in
-            absurd (none p (ap (λ (c : Claim). request_of c.session t.requests) first ∙ (head-request t r p ps i.once eo).0))
+            let own = ap (λ (c : Claim). request_of c.session t.requests) first ∙ (head-request t r p ps i.once eo).0 in absurd (cc)

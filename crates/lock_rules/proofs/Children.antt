@@ -8,6 +8,11 @@ use Rattle.lock_rules.specs.Laws.{AreChildrenHeld}
 use Rattle.lock_rules.specs.Sound.{IsSound}
 use Rattle.lock_rules.proofs.Sound.{stands-under}
 
+-- nothing stands above the empty list
+pub none-above : (y : List ℕ) → is_ancestor y [] ≡ true → ⊥
+none-above [] h = cc
+none-above (b ∷ y) h = cc
+
 pub length-parent : (b c : ℕ) (zs : List ℕ) → length (parent_of (b ∷ c ∷ zs)) ≡ suc (length zs)
 length-parent b c [] = refl
 length-parent b c (d ∷ zs) = ap suc (length-parent c d zs)
@@ -21,19 +26,8 @@ record HoldsChild (t : Table) (s : ℕ) (r : List ℕ) : Type 0 where
 
 module _ (t : Table) (i : IsSound t) (s : ℕ) (r : List ℕ) (some : r ≢ []) where
   child-held : (n : ℕ) (x : List ℕ) → length x ≤ n → (m : Mode) → is_ancestor r x ≡ true → held_mode t s x ≡ Some m → HoldsChild t s r
-  child-held n [] le m a h = elim (ancestor-parent r [] a) [ inl e ↦ absurd (some e) | inr k ↦ child-none k ]
-    where
-      child-none : is_ancestor r [] ≡ true → HoldsChild t s r
-      child-none k = absurd (no r k)
-        where
-          no : (y : List ℕ) → is_ancestor y [] ≡ true → ⊥
-          no [] k = cc
-          no (b ∷ y) k = cc
-  child-held n (b ∷ []) le m a h = elim (ancestor-parent r (b ∷ []) a) [ inl e ↦ absurd (some e) | inr k ↦ absurd (no r k) ]
-    where
-      no : (y : List ℕ) → is_ancestor y [] ≡ true → ⊥
-      no [] k = cc
-      no (c ∷ y) k = cc
+  child-held n [] le m a h = elim (ancestor-parent r [] a) [ inl e ↦ absurd (some e) | inr k ↦ absurd (none-above r k) ]
+  child-held n (b ∷ []) le m a h = elim (ancestor-parent r (b ∷ []) a) [ inl e ↦ absurd (some e) | inr k ↦ absurd (none-above r k) ]
   child-held zero (b ∷ c ∷ zs) le m a h = absurd (omega arith)
   child-held (suc n) (b ∷ c ∷ zs) le m a h = elim (ancestor-parent r (b ∷ c ∷ zs) a) [
     | inl e ↦ record { child = b ∷ c ∷ zs; mode = m; has_one = refl; is_parent = sym e; held = h }

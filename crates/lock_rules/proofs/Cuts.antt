@@ -2,8 +2,10 @@
 -- touched is promoted.
 use Rattle.std.proofs.Common.{◌≡◌, ℕ, ◌<◌, Bool, true, false, not, eqb, ◌&&◌, ◌||◌, ◌⊎◌, inl, inr, List, [], ◌∷◌, ◌++◌, length, Option, Some, None, refl, sym, ◌∙◌, ap, arith, map}
 use Rattle.std.proofs.lemmas.Bool.Decides.{nat_tests}
+use Rattle.std.proofs.lemmas.Bool.{cases_Bool}
 use Rattle.lock_modes.specs.declared.Mode.{Mode}
 use Rattle.lock_modes.specs.Order.{at_or_below}
+use Rattle.lock_modes.proofs.Order.{at_or_below-refl}
 use Rattle.lock_tree.specs.Paths.{same_path, is_ancestor, parent_of, has_parent}
 use Rattle.lock_tree.proofs.Ancestors.{parent-ancestor}
 use Rattle.lock_rules.specs.State.{Claim, Table, mode_in, held_mode, mode_or_nothing, request_of, claims_of, claims_but}
@@ -11,8 +13,7 @@ use Rattle.lock_rules.specs.Queue.{locks_but}
 use Rattle.lock_rules.specs.Waits.{waits_for, resource_of_request, without_request, after_cancel}
 use Rattle.lock_rules.specs.Step.{without_claims, after_end, lacks_parent, holds_child, after_release}
 use Rattle.lock_rules.specs.Sound.{IsSound, Stands}
-use Rattle.lock_rules.proofs.Lists.{ordered-filter, bool_cases, same_path_tells, claims_but-none, mode_in-locks_but, mode_in-locks_but_path, mode_in-locks_but_other, mode_in-claims_but, mode_in-claims_but_other}
-use Rattle.lock_rules.proofs.Marks.{below-refl}
+use Rattle.lock_rules.proofs.Lists.{ordered-filter, same_path_tells, claims_but-none, mode_in-locks_but, mode_in-locks_but_path, mode_in-locks_but_other, mode_in-claims_but, mode_in-claims_but_other}
 use Rattle.lock_rules.proofs.Alters.{Alters, NoCircle, circle-alters, circle-alters_beside, true≢false}
 use Rattle.lock_rules.proofs.Sound.{UnfitAt, eqb-swap, altered-sound, lacks-same, same-rises, unfit_at-alters, none-below, no_more-alters}
 use Rattle.lock_rules.proofs.Promote.{Follows, follows-trans, ArePromoted, all-promoted, promoted-promoted, all-fewer, among, length-claims_but, length-claims_but_some, request-fewer}
@@ -42,7 +43,7 @@ less-held s r x t k h = elim (same_path_tells r x) [
 ]
 
 less-lacks : (s : ℕ) (r : List ℕ) (t : Table) → IsSound t → holds_child t s r ≡ false → (x : List ℕ) (k : Mode) → mode_in s x (locks_but s r t.held) ≡ Some k → lacks_parent (one_less s r t) s x k ≡ false
-less-lacks s r t i c x k h = go (bool_cases (has_parent x)) (same_path_tells r (parent_of x))
+less-lacks s r t i c x k h = go (cases_Bool (has_parent x)) (same_path_tells r (parent_of x))
   where
     old : mode_in s x t.held ≡ Some k
     old = (less-held s r x t k h).1
@@ -68,12 +69,9 @@ released-lawful s r t i n c =
       no_circle = p.follows.circle (circle-alters s t (one_less s r t) a i.no_circle);
       unfit = λ x. elim (same_path_tells r x) [
         | inl q ↦ rw (← q.1) p.there
-        | inr m ↦ p.elsewhere x m (unfit_at-alters s t (one_less s r t) x a (same-rises _ _ (mode_in-locks_but_path s s x r t.held m)) (λ q e. absurd (none q e)) i.sound (i.unfit x))
+        | inr m ↦ p.elsewhere x m (unfit_at-alters s t (one_less s r t) x a (same-rises _ _ (mode_in-locks_but_path s s x r t.held m)) (λ q e. absurd (cc)) i.sound (i.unfit x))
       ];
     }
-  where
-    none : (q : Claim) → request_of s t.requests ≡ Some q → ⊥
-    none q e = cc
 
 -- but for this lock nobody holds less after a release
 pub released-rises : (s : ℕ) (r : List ℕ) (t : Table) → IsSound t → request_of s t.requests ≡ None → holds_child t s r ≡ false → (u : ℕ) (x : List ℕ) → (eqb u s ≡ false) ⊎ (same_path r x ≡ false) → at_or_below (mode_or_nothing (held_mode t u x)) (mode_or_nothing (held_mode (after_release s r t) u x)) ≡ true
@@ -99,7 +97,7 @@ left-sound s t i = altered-sound s t (without_claims s t) (left-alters s t) i (�
 
 unlisted : (s : ℕ) (x : List ℕ) (cs : List Claim) → among (map (λ (c : Claim). c.resource) (claims_of s cs)) x ≡ false → mode_in s x cs ≡ None
 unlisted s x [] h = refl
-unlisted s x (c ∷ cs) h = grind (arith, nat_tests, bool_cases (same_path c.resource x), unlisted s x cs)
+unlisted s x (c ∷ cs) h = grind (arith, nat_tests, cases_Bool (same_path c.resource x), unlisted s x cs)
 
 among-append : (xs ys : List (List ℕ)) (x : List ℕ) → among (xs ++ ys) x ≡ false → (among xs x ≡ false) × (among ys x ≡ false)
 among-append [] ys x h = (refl, h)
@@ -142,7 +140,7 @@ no_more-follows v t i =
     let a = no_more-alters v t in
     record {
       sound = altered-sound v t (without_request v t) a i (λ x k e. i.held_under v x k e) (λ u x k l m e f. i.agree v u x k l (eqb-swap u v m) e f);
-      rises = λ s x. below-refl (mode_or_nothing (held_mode t s x));
+      rises = λ s x. at_or_below-refl (mode_or_nothing (held_mode t s x));
       circle = circle-alters v t (without_request v t) a;
       circle_beside = λ b. circle-alters_beside v b t (without_request v t) a;
       fewer = length-claims_but v t.requests;
@@ -158,7 +156,7 @@ cancelled-follows v t i = follows-trans t (without_request v t) (after_cancel v 
 
 -- and nobody waits needlessly there
 pub cancelled-unfit : (v : ℕ) (t : Table) → IsSound t → ((x : List ℕ) → UnfitAt t x) → (x : List ℕ) → UnfitAt (after_cancel v t) x
-cancelled-unfit v t i h = (cancelled-promoted v t i).unfit (λ x n. unfit_at-alters v t (without_request v t) x (no_more-alters v t) (below-refl (mode_or_nothing (held_mode t v x))) (wanted-apart (request_of v t.requests) x n) i (h x))
+cancelled-unfit v t i h = (cancelled-promoted v t i).unfit (λ x n. unfit_at-alters v t (without_request v t) x (no_more-alters v t) (at_or_below-refl (mode_or_nothing (held_mode t v x))) (wanted-apart (request_of v t.requests) x n) i (h x))
 
 -- the end of a request leaves one less at least
 pub victim-fewer : (v : ℕ) (t : Table) (q : Claim) → request_of v t.requests ≡ Some q → length (after_cancel v t).requests < length t.requests

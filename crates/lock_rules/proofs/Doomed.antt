@@ -1,5 +1,6 @@
 -- What comes of the victims: they keep their locks, and requests for what they waited for may be granted.
-use Rattle.std.proofs.Common.{◌≡◌, ℕ, Bool, true, false, cond, eqb, ◌||◌, ◌⊎◌, inl, inr, List, [], ◌∷◌, Option, Some, None, refl, sym, ◌∙◌, ap, arith, subst}
+use Rattle.std.proofs.Common.{◌≡◌, ℕ, Bool, true, false, cond, eqb, ◌⊎◌, inl, inr, List, [], ◌∷◌, Option, Some, None, refl, sym, ◌∙◌, ap, arith, subst}
+use Rattle.std.proofs.lemmas.Bool.{or_cases, cases_Bool}
 use Rattle.std.proofs.lemmas.Bool.Decides.{Decides-eqb}
 use Rattle.lock_tree.specs.Paths.{same_path}
 use Rattle.lock_rules.specs.State.{Claim, Table, State, request_of, with_table}
@@ -8,7 +9,7 @@ use Rattle.lock_rules.specs.Waits.{resource_of_request, without_request, after_c
 use Rattle.lock_rules.specs.Laws.{AreVictims, ArePromotionsLongest}
 use Rattle.lock_rules.specs.Effects.{IsAsBefore, IsAmong, IsWantedBy, IsDoomOf, DoVictimsKeepLocks, DoVictimsKeepTheirLocks, DoesDoomPromote}
 use Rattle.lock_rules.specs.Sound.{IsOnce}
-use Rattle.lock_rules.proofs.Lists.{bool_cases, eqb-refl, other, same_path-true, times-claims_but, request_of-claims_but, request_of-claims_but_other}
+use Rattle.lock_rules.proofs.Lists.{eqb-refl, other, same_path-true, times-claims_but, request_of-claims_but, request_of-claims_but_other}
 use Rattle.lock_rules.proofs.Promote.{among}
 use Rattle.lock_rules.proofs.Fronts.{promotions-longest}
 use Rattle.lock_rules.proofs.Begins.{once-push}
@@ -38,11 +39,7 @@ cancelled-others v t o u n =
 -- what is wanted is the resource of the request
 wanted-is : (o : Option Claim) (p : Claim) (x : List ℕ) → o ≡ Some p → among (resource_of_request o) x ≡ true → p.resource ≡ x
 wanted-is None p x e h = absurd (cc)
-wanted-is (Some q) p x e h = let same : q ≡ p = cc in ap (λ (c : Claim). c.resource) (sym same) ∙ same_path-true q.resource x (or-false (same_path q.resource x) h)
-  where
-    or-false : (b : Bool) → (b || false) ≡ true → b ≡ true
-    or-false true h = refl
-    or-false false h = h
+wanted-is (Some q) p x e h = let same : q ≡ p = cc in ap (λ (c : Claim). c.resource) (sym same) ∙ same_path-true q.resource x (elim (or_cases (same_path q.resource x) false h) [ inl k ↦ k | inr k ↦ absurd (cc) ])
 
 -- a victim and those after it
 
@@ -54,7 +51,7 @@ module _ (v : ℕ) (vs : List ℕ) (st last : State) (p : Claim) (e : request_of
   not-again i = none gone (next.victims v i).waited.1
 
   apart-from : (u : ℕ) → IsAmong u vs → eqb u v ≡ false
-  apart-from u i = elim (bool_cases (eqb u v)) [ inl y ↦ let f = (Decides-eqb u v).0 y in absurd (not-again (rw f at i)) | inr n ↦ n ]
+  apart-from u i = elim (cases_Bool (eqb u v)) [ inl y ↦ let f = (Decides-eqb u v).0 y in absurd (not-again (rw f at i)) | inr n ↦ n ]
 
   own : IsAsBefore v (after_cancel v st.table) last.table
   own = elim (next.others v not-again) [ inl a ↦ a | inr q ↦ absurd (none gone q.1.waited) ]
@@ -126,7 +123,7 @@ keep-theirs st o s r k vs last w a = victims-keep s vs (with_table (with_request
 -- among these or not
 pub among-or-not : (u : ℕ) (vs : List ℕ) → IsAmong u vs ⊎ (IsAmong u vs → ⊥)
 among-or-not u [] = inr (λ h. h)
-among-or-not u (v ∷ vs) = elim (bool_cases (eqb u v)) [
+among-or-not u (v ∷ vs) = elim (cases_Bool (eqb u v)) [
   | inl y ↦ inl (inl ((Decides-eqb u v).0 y))
   | inr n ↦ elim (among-or-not u vs) [ inl i ↦ inl (inr i) | inr m ↦ inr (λ h. neither n m h) ]
 ]

@@ -2,6 +2,7 @@
 use Rattle.std.proofs.Common.{◌≡◌, ℕ, zero, suc, ◌+◌, ◌<◌, ◌≤◌, Bool, true, false, cond, not, eqb, leb, ◌&&◌, inl, inr, List, [], ◌∷◌, ◌++◌, length, map, Option, Some, None, refl, ◌∙◌, ap, arith}
 use Rattle.std.specs.Prelude.{filter, is_some}
 use Rattle.std.proofs.lemmas.Bool.Decides.{nat_tests, Decides-eqb}
+use Rattle.std.proofs.lemmas.Bool.{cases_Bool}
 use Rattle.lock_modes.specs.declared.Mode.{Mode}
 use Rattle.lock_tree.specs.Paths.{same_path}
 use Rattle.lock_rules.specs.declared.calls.Call.{Call}
@@ -16,7 +17,7 @@ use Rattle.lock_rules.specs.Step.{target_of, tests, first_failing, is_held, afte
 use Rattle.lock_rules.specs.Legal.{state_after, state_of}
 use Rattle.lock_rules.specs.Laws.{AreLocksFew}
 use Rattle.lock_rules.specs.Sound.{IsOnce, IsOrdered, times}
-use Rattle.lock_rules.proofs.Lists.{bool_cases, after-trans, seek-after, mode_in-seek, times-claims_but, request_of-push}
+use Rattle.lock_rules.proofs.Lists.{after-trans, seek-after, mode_in-seek, times-claims_but, request_of-push}
 use Rattle.lock_rules.proofs.Alters.{Alters, request-alters, request-gone}
 use Rattle.lock_rules.proofs.Sound.{head-request, queue-rest, granted-alters, no_more-alters}
 use Rattle.lock_rules.proofs.Cuts.{less-alters, left-alters, one_less}
@@ -31,11 +32,11 @@ count s cs = length (claims_of s cs)
 
 count-filter : (s : ℕ) (p : Claim → Bool) (cs : List Claim) → count s (filter p cs) ≤ count s cs
 count-filter s p [] = omega arith
-count-filter s p (c ∷ cs) = grind (arith, nat_tests, bool_cases (p c), count-filter s p cs)
+count-filter s p (c ∷ cs) = grind (arith, nat_tests, cases_Bool (p c), count-filter s p cs)
 
 count-other : (u s : ℕ) (r : List ℕ) (m : Mode) (cs : List Claim) → eqb u s ≡ false → count u (with_lock s r m cs) ≡ count u cs
 count-other u s r m [] n = grind (arith, nat_tests)
-count-other u s r m (c ∷ cs) n = grind (arith, nat_tests, bool_cases (same_path c.resource r), count-other u s r m cs n)
+count-other u s r m (c ∷ cs) n = grind (arith, nat_tests, cases_Bool (same_path c.resource r), count-other u s r m cs n)
 
 -- one more where nothing is held
 abbrev more : Option Mode → ℕ
@@ -47,7 +48,7 @@ none-later s r c cs o p l = mode_in-seek s r cs ∙ seek-after s (holders r cs) 
 
 count-own : (s : ℕ) (r : List ℕ) (m : Mode) (cs : List Claim) → IsOrdered cs → count s (with_lock s r m cs) ≤ count s cs + more (mode_in s r cs)
 count-own s r m [] o = grind (arith, nat_tests)
-count-own s r m (c ∷ cs) o = let n = none-later s r c cs o in let h = count-own s r m cs (ordered-rest c cs o) in grind (arith, nat_tests, bool_cases (same_path c.resource r), n)
+count-own s r m (c ∷ cs) o = let n = none-later s r c cs o in let h = count-own s r m cs (ordered-rest c cs o) in grind (arith, nat_tests, cases_Bool (same_path c.resource r), n)
 
 -- a request takes one more where its session doesn't hold the resource
 abbrev to_come : List Claim → ℕ → Option Claim → ℕ
@@ -68,7 +69,7 @@ altered-few : (max v : ℕ) (t t' : Table) → Alters v t t' → IsFew max t →
 altered-few max v t t' a i others own = record {
   order = a.order i.order;
   once = λ s. omega (arith, times-claims_but s v t.requests, i.once s, ap (times s) a.requests);
-  few = λ s. elim (bool_cases (eqb s v)) [
+  few = λ s. elim (cases_Bool (eqb s v)) [
     | inl e ↦ let f = (Decides-eqb s v).0 e in rw f gone
     | inr n ↦ omega (arith, others s n, i.few s, same s n)
   ];
@@ -144,7 +145,7 @@ begins-few : (max s : ℕ) (r : List ℕ) (m : Mode) (t : Table) → IsFew max t
 begins-few max s r m t i n h = record {
   order = i.order;
   once = once-push s r m t.requests i.once n;
-  few = λ u. elim (bool_cases (eqb u s)) [
+  few = λ u. elim (cases_Bool (eqb u s)) [
     | inl e ↦ let f = (Decides-eqb u s).0 e in rw f own
     | inr k ↦ omega (arith, i.few u, same u k)
   ];

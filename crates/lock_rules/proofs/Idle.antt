@@ -1,6 +1,7 @@
 -- Who is doomed waits for nothing.
 use Rattle.std.proofs.Common.{◌≡◌, ℕ, zero, suc, ◌+◌, Bool, true, false, cond, eqb, inl, inr, List, [], ◌∷◌, ◌++◌, length, map, Option, Some, None, refl, sym, ◌∙◌, ap}
 use Rattle.std.proofs.lemmas.Bool.Decides.{Decides-eqb}
+use Rattle.std.proofs.lemmas.Bool.{cases_Bool}
 use Rattle.lock_modes.specs.declared.Mode.{Mode}
 use Rattle.lock_rules.specs.declared.calls.Call.{Call}
 use Rattle.lock_rules.specs.declared.calls.Call.TheVariants.{Begin, Lock, Convert, Poll, Release, Commit, Abort}
@@ -12,7 +13,7 @@ use Rattle.lock_rules.specs.Waits.{resource_of_request, without_request, doom, r
 use Rattle.lock_rules.specs.Step.{target_of, tests, first_failing, is_held, after_wait, after_asking, without_claims, after_end, act, outcome_of, step}
 use Rattle.lock_rules.specs.Legal.{state_after, state_of}
 use Rattle.lock_rules.specs.Laws.{DoDoomedWaitForNothing}
-use Rattle.lock_rules.proofs.Lists.{bool_cases, request_of-claims_but, request_of-claims_but_other}
+use Rattle.lock_rules.proofs.Lists.{request_of-claims_but, request_of-claims_but_other}
 use Rattle.lock_rules.proofs.Alters.{request-alters, true≢false}
 use Rattle.lock_rules.proofs.Cuts.{one_less}
 use Rattle.lock_rules.proofs.Begins.{back}
@@ -21,7 +22,7 @@ use Rattle.lock_rules.proofs.Steps.{all-pass, is-none}
 -- who has no request gets none where requests are granted or taken away
 
 none-but : (u v : ℕ) (qs : List Claim) → request_of u qs ≡ None → request_of u (claims_but v qs) ≡ None
-none-but u v qs h = elim (bool_cases (eqb u v)) [
+none-but u v qs h = elim (cases_Bool (eqb u v)) [
   | inl y ↦ let f = (Decides-eqb u v).0 y in rw f (request_of-claims_but v qs)
   | inr n ↦ request_of-claims_but_other u v qs n ∙ h
 ]
@@ -41,7 +42,7 @@ all-none u (r ∷ rs) t h = all-none u rs (after_promotion r t) (front-none u (q
 -- a victim
 
 victim-idle : (v : ℕ) (st : State) → DoDoomedWaitForNothing st → DoDoomedWaitForNothing (after_victim v st)
-victim-idle v st i u d = all-none u (resource_of_request (request_of v st.table.requests)) (without_request v st.table) (elim (bool_cases (eqb u v)) [
+victim-idle v st i u d = all-none u (resource_of_request (request_of v st.table.requests)) (without_request v st.table) (elim (cases_Bool (eqb u v)) [
   | inl y ↦ let f = (Decides-eqb u v).0 y in rw f (request_of-claims_but v st.table.requests)
   | inr n ↦ none-but u v st.table.requests (i u (ap (λ (b : Bool). doomed_in (cond b (doom (st.begun v)) (st.begun u))) (sym n) ∙ d))
 ])
@@ -57,7 +58,7 @@ settled-idle (suc n) s st i = go (reaches st.table s s) (settled-idle n s (after
 -- each call
 
 waiting-idle : (st : State) (s : ℕ) (r : List ℕ) (m : Mode) → DoDoomedWaitForNothing st → request_of s st.table.requests ≡ None → is_doomed st s ≡ false → DoDoomedWaitForNothing (with_table (with_request s r m st.table) st)
-waiting-idle st s r m i n c u d = elim (bool_cases (eqb u s)) [
+waiting-idle st s r m i n c u d = elim (cases_Bool (eqb u s)) [
   | inl y ↦ let f = (Decides-eqb u s).0 y in absurd (true≢false (rw f at d) c)
   | inr k ↦ sym (request-alters s (with_request s r m st.table) st.table (back s r m st.table n) u k) ∙ i u d
 ]

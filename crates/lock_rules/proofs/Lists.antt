@@ -2,17 +2,13 @@
 use Rattle.std.proofs.Common.{◌≡◌, ◌≢◌, ℕ, ◌+◌, ◌<◌, ◌≤◌, Bool, true, false, cond, eqb, ltb, ◌⊎◌, inl, inr, List, [], ◌∷◌, ◌++◌, Option, Some, None, refl, sym, ◌∙◌, ap, arith}
 use Rattle.std.specs.Prelude.{filter}
 use Rattle.std.proofs.lemmas.Bool.Decides.{nat_tests, Decides-eqb}
-use Rattle.std.proofs.lemmas.Bool.{and_parts, and_from}
+use Rattle.std.proofs.lemmas.Bool.{and_parts, and_from, cases_Bool}
 use Rattle.lock_modes.specs.declared.Mode.{Mode}
 use Rattle.lock_tree.specs.Paths.{same_path}
 use Rattle.lock_rules.specs.State.{Claim, mode_in, request_of, claims_but, holders}
 use Rattle.lock_rules.specs.Queue.{with_lock, locks_but}
 use Rattle.lock_rules.specs.Waits.{stands_before}
 use Rattle.lock_rules.specs.Sound.{IsOrdered, after, ascend, times}
-
-pub bool_cases : (b : Bool) → (b ≡ true) ⊎ (b ≡ false)
-bool_cases true = inl refl
-bool_cases false = inr refl
 
 pub same_path-refl : (r : List ℕ) → same_path r r ≡ true
 same_path-refl [] = refl
@@ -25,13 +21,13 @@ same_path-true (x ∷ xs) [] h = cc
 same_path-true (x ∷ xs) (y ∷ ys) h = let p = and_parts (eqb x y) (same_path xs ys) h in let e = (Decides-eqb x y).0 p.0 in let f = same_path-true xs ys p.1 in cc
 
 pub same_path_tells : (a b : List ℕ) → ((same_path a b ≡ true) × (a ≡ b)) ⊎ (same_path a b ≡ false)
-same_path_tells a b = elim (bool_cases (same_path a b)) [ inl h ↦ inl (h, same_path-true a b h) | inr h ↦ inr h ]
+same_path_tells a b = elim (cases_Bool (same_path a b)) [ inl h ↦ inl (h, same_path-true a b h) | inr h ↦ inr h ]
 
 pub eqb-refl : (s : ℕ) → eqb s s ≡ true
 eqb-refl s = (Decides-eqb s s).1 refl
 
 pub other : (s u : ℕ) → u ≢ s → eqb u s ≡ false
-other s u n = elim (bool_cases (eqb u s)) [ inl e ↦ absurd (n ((Decides-eqb u s).0 e)) | inr e ↦ e ]
+other s u n = elim (cases_Bool (eqb u s)) [ inl e ↦ absurd (n ((Decides-eqb u s).0 e)) | inr e ↦ e ]
 
 pub apart : (s u : ℕ) → eqb u s ≡ false → u ≢ s
 apart s u e h = let f = (Decides-eqb u s).1 h in cc
@@ -102,7 +98,7 @@ request_of-session s (p ∷ qs) q h = grind (arith, nat_tests, request_of-sessio
 -- two tests that agree but at v keep the same, once v is taken away
 pub filter-swap : (v : ℕ) (p p' : Claim → Bool) (qs : List Claim) → ((q : Claim) → eqb q.session v ≡ false → p' q ≡ p q) → filter p' (claims_but v qs) ≡ claims_but v (filter p qs)
 filter-swap v p p' [] h = refl
-filter-swap v p p' (q ∷ qs) h = grind (arith, nat_tests, h q, filter-swap v p p' qs h, bool_cases (p q))
+filter-swap v p p' (q ∷ qs) h = grind (arith, nat_tests, h q, filter-swap v p p' qs h, cases_Bool (p q))
 
 pub claims_but-append : (v : ℕ) (xs ys : List Claim) → claims_but v (xs ++ ys) ≡ claims_but v xs ++ claims_but v ys
 claims_but-append v [] ys = refl
@@ -133,7 +129,7 @@ times-append s (x ∷ xs) ys = grind (arith, nat_tests, times-append s xs ys)
 
 pub times-apart : (s : ℕ) (p p' : Claim → Bool) (qs : List Claim) → ((q : Claim) → p q ≡ true → p' q ≡ false) → times s (filter p qs) + times s (filter p' qs) ≤ times s qs
 times-apart s p p' [] h = omega arith
-times-apart s p p' (q ∷ qs) h = grind (arith, nat_tests, times-apart s p p' qs h, bool_cases (p q), bool_cases (p' q), h q)
+times-apart s p p' (q ∷ qs) h = grind (arith, nat_tests, times-apart s p p' qs h, cases_Bool (p q), cases_Bool (p' q), h q)
 
 -- members
 
@@ -172,7 +168,7 @@ seek u (h ∷ hs) = cond (eqb h.0 u) (Some h.1) (seek u hs)
 
 pub mode_in-seek : (u : ℕ) (r : List ℕ) (cs : List Claim) → mode_in u r cs ≡ seek u (holders r cs)
 mode_in-seek u r [] = refl
-mode_in-seek u r (c ∷ cs) = grind (arith, nat_tests, bool_cases (same_path c.resource r), mode_in-seek u r cs)
+mode_in-seek u r (c ∷ cs) = grind (arith, nat_tests, cases_Bool (same_path c.resource r), mode_in-seek u r cs)
 
 abbrev lock_in : ℕ → Mode → List (ℕ × Mode) → List (ℕ × Mode)
 lock_in s m [] = (s, m) ∷ []
@@ -200,11 +196,11 @@ ascend-lock_in s m (k ∷ hs) h = let n = after-lock_in k.0 s m hs in let a = af
 
 after-filter : (i : ℕ) (r : List ℕ) (p : Claim → Bool) (cs : List Claim) → after i (holders r cs) ≡ true → after i (holders r (filter p cs)) ≡ true
 after-filter i r p [] h = h
-after-filter i r p (c ∷ cs) h = grind (arith, nat_tests, bool_cases (p c), bool_cases (same_path c.resource r), after-filter i r p cs)
+after-filter i r p (c ∷ cs) h = grind (arith, nat_tests, cases_Bool (p c), cases_Bool (same_path c.resource r), after-filter i r p cs)
 
 ascend-filter : (r : List ℕ) (p : Claim → Bool) (cs : List Claim) → ascend (holders r cs) ≡ true → ascend (holders r (filter p cs)) ≡ true
 ascend-filter r p [] h = h
-ascend-filter r p (c ∷ cs) h = grind (arith, nat_tests, bool_cases (p c), bool_cases (same_path c.resource r), ascend-filter r p cs, after-filter c.session r p cs)
+ascend-filter r p (c ∷ cs) h = grind (arith, nat_tests, cases_Bool (p c), cases_Bool (same_path c.resource r), ascend-filter r p cs, after-filter c.session r p cs)
 
 pub ordered-filter : (p : Claim → Bool) (cs : List Claim) → IsOrdered cs → IsOrdered (filter p cs)
 ordered-filter p cs h r = ascend-filter r p cs (h r)

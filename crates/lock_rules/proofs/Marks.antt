@@ -9,13 +9,6 @@ use Rattle.lock_rules.specs.State.{mode_or_nothing}
 use Rattle.lock_rules.specs.Waits.{conflicts}
 use Rattle.lock_rules.specs.Step.{is_nothing}
 use Rattle.lock_modes.proofs.Every.{every-at, every2-at, every3-at, implied}
-use Rattle.lock_modes.proofs.Order.{at_or_below-refl, at_or_below-trans}
-
-pub below-refl : (a : Mode) → at_or_below a a ≡ true
-below-refl = at_or_below-refl
-
-pub below-trans : (a b c : Mode) → at_or_below a b ≡ true → at_or_below b c ≡ true → at_or_below a c ≡ true
-below-trans = at_or_below-trans
 
 pub nothing-below : (a : Mode) → at_or_below NL a ≡ true
 nothing-below = every-at (at_or_below NL) refl

@@ -1,6 +1,6 @@
 -- Whoever holds or waits has a transaction, and open transactions have numbers of their own.
 use Rattle.std.proofs.Common.{◌≡◌, ℕ, zero, suc, ◌+◌, ◌≤◌, Bool, true, false, cond, eqb, ◌⊎◌, inl, inr, List, [], ◌∷◌, ◌++◌, length, Option, Some, None, refl, sym, ◌∙◌, ap, arith, map}
-use Rattle.std.proofs.lemmas.Bool.{not-false}
+use Rattle.std.proofs.lemmas.Bool.{not-false, cases_Bool}
 use Rattle.std.specs.Prelude.{is_some}
 use Rattle.std.proofs.lemmas.Bool.Decides.{Decides-eqb}
 use Rattle.lock_modes.specs.declared.Mode.{Mode}
@@ -16,26 +16,23 @@ use Rattle.lock_rules.specs.Step.{target_of, tests, first_failing, is_held, afte
 use Rattle.lock_rules.specs.Legal.{state_after, state_of}
 use Rattle.lock_rules.specs.Laws.{AreOwnersOpen}
 use Rattle.lock_rules.specs.Sound.{AllOpen, IsNumbered}
-use Rattle.lock_rules.proofs.Lists.{bool_cases, In}
-use Rattle.lock_rules.proofs.Alters.{Alters, request-alters, request-gone, true≢false}
+use Rattle.lock_rules.proofs.Lists.{In}
+use Rattle.lock_rules.proofs.Alters.{Alters, request-alters, request-gone, waiting-other, true≢false}
 use Rattle.lock_rules.proofs.Sound.{In-queue, granted-alters, no_more-alters}
 use Rattle.lock_rules.proofs.Cuts.{less-alters, less-held, left-alters, left-none, one_less}
 use Rattle.lock_rules.proofs.Steps.{all-pass, is-none}
 
 altered-open : (p : ℕ → Bool) (v : ℕ) (t t' : Table) → Alters v t t' → AllOpen p t → ((r : List ℕ) (m : Mode) → held_mode t' v r ≡ Some m → p v ≡ true) → AllOpen p t'
 altered-open p v t t' a i own = record {
-  waiting = λ s q e. elim (bool_cases (eqb s v)) [
-    | inl f ↦ absurd (gone s q e ((Decides-eqb s v).0 f))
+  waiting = λ s q e. elim (cases_Bool (eqb s v)) [
+    | inl f ↦ absurd (waiting-other v t t' a s q e ((Decides-eqb s v).0 f))
     | inr n ↦ i.waiting s q (sym (request-alters v t t' a s n) ∙ e)
   ];
-  holding = λ s r m e. elim (bool_cases (eqb s v)) [
+  holding = λ s r m e. elim (cases_Bool (eqb s v)) [
     | inl f ↦ let g = (Decides-eqb s v).0 f in rw g (own r m (rw g at e))
     | inr n ↦ i.holding s r m (sym (a.others s r n) ∙ e)
   ];
 }
-  where
-    gone : (s : ℕ) (q : Claim) → request_of s t'.requests ≡ Some q → s ≡ v → ⊥
-    gone s q e f = let g = request-gone v t t' a in cc
 
 granted-open : (p : ℕ → Bool) (s : ℕ) (r : List ℕ) (m : Mode) (t : Table) → AllOpen p t → p s ≡ true → AllOpen p (after_grant s r m t)
 granted-open p s r m t i h = altered-open p s t (after_grant s r m t) (granted-alters s r m t) i (λ x k e. h)
@@ -118,7 +115,7 @@ pub begins-open : (p : ℕ → Bool) (s : ℕ) (r : List ℕ) (m : Mode) (t : Ta
 begins-open p s r m t i h = record { waiting = λ u q e. waits t.requests u q e (λ c. i.waiting u c); holding = λ u x k e. i.holding u x k e }
   where
     waits : (qs : List Claim) (u : ℕ) (q : Claim) → request_of u (qs ++ record { session = s; resource = r; mode = m } ∷ []) ≡ Some q → ((c : Claim) → request_of u qs ≡ Some c → p u ≡ true) → p u ≡ true
-    waits qs u q e k = elim (bool_cases (eqb s u)) [
+    waits qs u q e k = elim (cases_Bool (eqb s u)) [
       | inl f ↦ rw (← (Decides-eqb s u).0 f) h
       | inr n ↦ k q (sym (request_of-push_other u qs n) ∙ e)
     ]
@@ -139,11 +136,11 @@ ended-numbered : (st : State) (s : ℕ) → IsNumbered st → IsNumbered (with_b
 ended-numbered st s i =
     let p : ℕ → Bool = λ (u : ℕ). is_some (cond (eqb u s) None (st.begun u)) in
     let gone : AllOpen p (without_claims s st.table) = record {
-      waiting = λ u q e. elim (bool_cases (eqb u s)) [
+      waiting = λ u q e. elim (cases_Bool (eqb u s)) [
         | inl f ↦ absurd (none u q e ((Decides-eqb u s).0 f))
         | inr n ↦ ap (λ (b : Bool). is_some (cond b None (st.begun u))) n ∙ i.owners.waiting u q (sym (request-alters s st.table (without_claims s st.table) (left-alters s st.table) u n) ∙ e)
       ];
-      holding = λ u r m e. elim (bool_cases (eqb u s)) [
+      holding = λ u r m e. elim (cases_Bool (eqb u s)) [
         | inl f ↦ let g = (Decides-eqb u s).0 f in absurd (left-none s st.table r m (rw g at e))
         | inr n ↦ ap (λ (b : Bool). is_some (cond b None (st.begun u))) n ∙ i.owners.holding u r m (sym ((left-alters s st.table).others u r n) ∙ e)
       ];

@@ -1,17 +1,17 @@
 -- What promotions keep, and what they bring about.
 use Rattle.std.proofs.Common.{◌≡◌, ℕ, ◌<◌, ◌≤◌, Bool, true, false, cond, eqb, inl, inr, List, [], ◌∷◌, length, Some, refl, sym, ◌∙◌, ap, arith}
-use Rattle.std.proofs.lemmas.Bool.{or_from}
+use Rattle.std.proofs.lemmas.Bool.{or_from, cases_Bool}
 use Rattle.std.specs.List.{list_any}
 use Rattle.std.proofs.lemmas.Bool.Decides.{nat_tests, Decides-eqb}
 use Rattle.lock_modes.specs.declared.Mode.{Mode}
 use Rattle.lock_modes.specs.Order.{at_or_below}
+use Rattle.lock_modes.proofs.Order.{at_or_below-refl, at_or_below-trans}
 use Rattle.lock_tree.specs.Paths.{same_path}
 use Rattle.lock_rules.specs.State.{Claim, Table, held_mode, mode_or_nothing, request_of, claims_but}
 use Rattle.lock_rules.specs.Queue.{queue, fits, after_grant, granted_while_fitting, after_promotion, after_promotions}
 use Rattle.lock_rules.specs.Waits.{waits_for}
 use Rattle.lock_rules.specs.Sound.{IsSound, Stands}
-use Rattle.lock_rules.proofs.Lists.{bool_cases, same_path_tells, same_path-true, request_of-claims_but, request_of-claims_but_other}
-use Rattle.lock_rules.proofs.Marks.{below-refl, below-trans}
+use Rattle.lock_rules.proofs.Lists.{same_path_tells, same_path-true, request_of-claims_but, request_of-claims_but_other}
 use Rattle.lock_rules.proofs.Alters.{NoCircle, beside, circle-alters, circle-alters_beside}
 use Rattle.lock_rules.proofs.Sound.{UnfitAt, Rises, head-request, queue-rest, unfit_at-alters, granted-alters, granted-rises, granted-sound}
 
@@ -26,7 +26,7 @@ length-claims_but_some s [] q h = absurd (cc)
 length-claims_but_some s (c ∷ qs) q h = grind (arith, nat_tests, length-claims_but_some s qs q, length-claims_but s qs)
 
 pub request-fewer : (s v : ℕ) (qs : List Claim) (q : Claim) → request_of s (claims_but v qs) ≡ Some q → request_of s qs ≡ Some q
-request-fewer s v qs q h = elim (bool_cases (eqb s v)) [
+request-fewer s v qs q h = elim (cases_Bool (eqb s v)) [
   | inr n ↦ sym (request_of-claims_but_other s v qs n) ∙ h
   | inl e ↦ let f = (Decides-eqb s v).0 e in let g = rw f at h in let k = request_of-claims_but v qs in absurd (cc)
 ]
@@ -54,12 +54,12 @@ pub record Follows (t t' : Table) : Type 0 where
   pub requests : (s : ℕ) (q : Claim) → request_of s t'.requests ≡ Some q → request_of s t.requests ≡ Some q
 
 pub follows-refl : (t : Table) → IsSound t → Follows t t
-follows-refl t i = record { sound = i; rises = λ s x. below-refl (mode_or_nothing (held_mode t s x)); circle = λ h. h; circle_beside = λ a h. h; fewer = omega arith; requests = λ s q h. h }
+follows-refl t i = record { sound = i; rises = λ s x. at_or_below-refl (mode_or_nothing (held_mode t s x)); circle = λ h. h; circle_beside = λ a h. h; fewer = omega arith; requests = λ s q h. h }
 
 pub follows-trans : (t u w : Table) → Follows t u → Follows u w → Follows t w
 follows-trans t u w a b = record {
   sound = b.sound;
-  rises = λ s x. below-trans (mode_or_nothing (held_mode t s x)) (mode_or_nothing (held_mode u s x)) (mode_or_nothing (held_mode w s x)) (a.rises s x) (b.rises s x);
+  rises = λ s x. at_or_below-trans (mode_or_nothing (held_mode t s x)) (mode_or_nothing (held_mode u s x)) (mode_or_nothing (held_mode w s x)) (a.rises s x) (b.rises s x);
   circle = λ h. b.circle (a.circle h);
   circle_beside = λ i h. b.circle_beside i (a.circle_beside i h);
   fewer = omega (arith, a.fewer, b.fewer);

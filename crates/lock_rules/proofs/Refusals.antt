@@ -1,7 +1,7 @@
 -- The tests of each call say what the refusals mean, in the same order.
 use Rattle.std.proofs.Common.{◌≡◌, ◌≢◌, ℕ, ◌+◌, ◌≤◌, Bool, true, false, cond, not, eqb, leb, ◌&&◌, ◌↔◌, inl, inr, List, [], ◌∷◌, ◌++◌, length, Option, Some, None, is_some, refl, sym, ◌∙◌, ap, arith, subst, Decides}
 use Rattle.std.specs.List.{All, list_any}
-use Rattle.std.proofs.lemmas.Bool.{and_parts, and_from, or_cases, not-true, leb-true, le-leb}
+use Rattle.std.proofs.lemmas.Bool.{and_parts, and_from, or_cases, not-true, leb-true, le-leb, cases_Bool}
 use Rattle.std.proofs.lemmas.Bool.Decides.{Decides-not}
 use Rattle.std.proofs.lemmas.List.Elements.{All-head, All-tail, All-nil, All-cons}
 use Rattle.lock_modes.specs.declared.Mode.{Mode}
@@ -20,7 +20,7 @@ use Rattle.lock_rules.specs.Step.{is_nothing, target_of, lacks_parent, holds_chi
 use Rattle.lock_rules.specs.Laws.{HasTransaction, AreLocksFew}
 use Rattle.lock_rules.specs.Effects.{IsTarget}
 use Rattle.lock_rules.specs.Refusals.{LacksParent, HoldsBelow, Fails, refusals_of, AreRefusalsMeant, AreOthersAccepted, DoesAbortNeedTransaction, IsClearCommitAccepted}
-use Rattle.lock_rules.proofs.Lists.{bool_cases, same_path-refl}
+use Rattle.lock_rules.proofs.Lists.{same_path-refl}
 use Rattle.lock_rules.proofs.Alters.{true≢false}
 use Rattle.lock_rules.proofs.Marks.{sup-some}
 use Rattle.lock_rules.proofs.Sound.{under-parent}
@@ -62,10 +62,10 @@ parent-decides t s r m asked = (lacks, test)
         )
 
     some : is_nothing (target_of (held_mode t s r) m) ≡ false
-    some = sup-some (mode_or_nothing (held_mode t s r)) m (elim (bool_cases (is_nothing m)) [ inl e ↦ absurd (asked ((nothing-decides m).0 e)) | inr e ↦ e ])
+    some = sup-some (mode_or_nothing (held_mode t s r)) m (elim (cases_Bool (is_nothing m)) [ inl e ↦ absurd (asked ((nothing-decides m).0 e)) | inr e ↦ e ])
 
     test : LacksParent t s r m → lacks_parent t s r (target_of (held_mode t s r) m) ≡ true
-    test h = elim (bool_cases (lacks_parent t s r (target_of (held_mode t s r) m))) [
+    test h = elim (cases_Bool (lacks_parent t s r (target_of (held_mode t s r) m))) [
       | inl e ↦ e
       | inr e ↦
           let u = under-parent (has_parent r) (target_of (held_mode t s r) m) (held_mode t s (parent_of r)) some e h.2 in
@@ -140,7 +140,7 @@ meant-first F (t ∷ ts) (w ∷ ws) a why (b ∷ before, after, e, f, n) =
     let same : b ≡ w = cc in
     let rest : ws ≡ before ++ why ∷ after = cc in
     let fails : F w → ⊥ = subst (λ (x : Why). F x → ⊥) same (All-head (λ (x : Why). F x → ⊥) b before n) in
-    let pass : t.0 ≡ false = elim (bool_cases t.0) [ inl y ↦ absurd (fails (a.1.0 y)) | inr y ↦ y ] in
+    let pass : t.0 ≡ false = elim (cases_Bool t.0) [ inl y ↦ absurd (fails (a.1.0 y)) | inr y ↦ y ] in
     ap (λ (x : Bool). cond x (Some t.1) (first_failing ts)) pass ∙ meant-first F ts ws (a.2 fails) why (before, after, rest, f, All-tail (λ (x : Why). F x → ⊥) b before n)
 
 none-fails : (F : Why → Type 0) (ts : List (Bool × Why)) (ws : List Why) → AreMeant F ts ws → first_failing ts ≡ None → All (λ w. F w → ⊥) ws
@@ -158,7 +158,7 @@ all-pass-none F [] ws a n = refl
 all-pass-none F (t ∷ ts) [] a n = absurd a
 all-pass-none F (t ∷ ts) (w ∷ ws) a n =
     let fails = All-head (λ (x : Why). F x → ⊥) w ws n in
-    let pass : t.0 ≡ false = elim (bool_cases t.0) [ inl y ↦ absurd (fails (a.1.0 y)) | inr y ↦ y ] in
+    let pass : t.0 ≡ false = elim (cases_Bool t.0) [ inl y ↦ absurd (fails (a.1.0 y)) | inr y ↦ y ] in
     ap (λ (x : Bool). cond x (Some t.1) (first_failing ts)) pass ∙ all-pass-none F ts ws (a.2 fails) (All-tail (λ (x : Why). F x → ⊥) w ws n)
 
 -- a call that passes its tests isn't refused

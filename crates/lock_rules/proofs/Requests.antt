@@ -1,9 +1,9 @@
 -- What comes of a lock or a conversion that is asked and not refused.
 use Rattle.std.proofs.Common.{◌≡◌, ◌≢◌, ℕ, ◌+◌, ◌<◌, Bool, true, false, cond, not, ◌&&◌, ◌||◌, ◌⊎◌, inl, inr, List, [], ◌∷◌, ◌++◌, length, Option, Some, None, is_some, refl, sym, ◌∙◌, ap, arith, subst, length-append}
-use Rattle.std.proofs.lemmas.Bool.{and_parts, and_from, or_right, not-false}
+use Rattle.std.proofs.lemmas.Bool.{and_parts, and_from, or_right, not-false, cases_Bool}
 use Rattle.lock_modes.specs.declared.Mode.{Mode}
 use Rattle.lock_modes.specs.Order.{at_or_below}
-use Rattle.lock_modes.proofs.Order.{at_or_below-antisym, sup_least}
+use Rattle.lock_modes.proofs.Order.{at_or_below-antisym, sup_least, at_or_below-refl}
 use Rattle.lock_rules.specs.declared.calls.Call.TheVariants.{Lock, Convert}
 use Rattle.lock_rules.specs.declared.calls.Reply.{Reply}
 use Rattle.lock_rules.specs.declared.calls.Reply.TheVariants.{Granted, Waiting, Deadlock, Refused}
@@ -16,9 +16,9 @@ use Rattle.lock_rules.specs.Queue.{queue, is_empty, fits, after_grant, is_grante
 use Rattle.lock_rules.specs.Step.{Outcome, target_of, is_nothing, tests, first_failing, after_wait, is_held, after_asking, ask, outcome_of}
 use Rattle.lock_rules.specs.Effects.{IsPromotionOf, IsTarget, IsFree, IsWaitOf, IsTold, IsWaitSettled, IsAnswerTo, IsLockAnswered, IsConvertAnswered, IsLockOfHeldConvert, IsGrantedHeld, IsConversionHeld}
 use Rattle.lock_rules.specs.Sound.{IsOnce}
-use Rattle.lock_rules.proofs.Lists.{bool_cases, other, differs, request_of-claims_but, request_of-push}
+use Rattle.lock_rules.proofs.Lists.{other, differs, request_of-claims_but, request_of-push}
 use Rattle.lock_rules.proofs.Alters.{request-alters, true≢false}
-use Rattle.lock_rules.proofs.Marks.{below-refl, below-sup}
+use Rattle.lock_rules.proofs.Marks.{below-sup}
 use Rattle.lock_rules.proofs.Begins.{new, back, once-push, queue-fresh, queue-converted, queue-beside}
 use Rattle.lock_rules.proofs.Steps.{all-pass, is-none}
 use Rattle.lock_rules.proofs.States.{grant-one}
@@ -38,10 +38,10 @@ covered None k h e = absurd (cc)
 covered (Some a) k h e = ap (λ (c : Mode). Some c) (at_or_below-antisym a k h e)
 
 covers : (o : Option Mode) (k : Mode) → o ≡ Some k → is_held o k ≡ true
-covers o k e = ap (λ (p : Option Mode). is_held p k) e ∙ below-refl k
+covers o k e = ap (λ (p : Option Mode). is_held p k) e ∙ at_or_below-refl k
 
 not-covered : (o : Option Mode) (k : Mode) → at_or_below (mode_or_nothing o) k ≡ true → o ≢ Some k → is_held o k ≡ false
-not-covered o k h n = elim (bool_cases (is_held o k)) [ inl e ↦ absurd (n (covered o k h e)) | inr e ↦ e ]
+not-covered o k h n = elim (cases_Bool (is_held o k)) [ inl e ↦ absurd (n (covered o k h e)) | inr e ↦ e ]
 
 -- what is free
 
@@ -70,7 +70,7 @@ granted-free t s r k h =
     either None (q ∷ qs) e = absurd (cc)
 
 not-free : (t : Table) (s : ℕ) (r : List ℕ) (k : Mode) → (IsFree t s r k → ⊥) → is_granted_at_once t s r k ≡ false
-not-free t s r k n = elim (bool_cases (is_granted_at_once t s r k)) [ inl e ↦ absurd (n (granted-free t s r k e)) | inr e ↦ e ]
+not-free t s r k n = elim (cases_Bool (is_granted_at_once t s r k)) [ inl e ↦ absurd (n (granted-free t s r k e)) | inr e ↦ e ]
 
 -- the three cases
 

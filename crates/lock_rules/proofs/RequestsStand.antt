@@ -1,6 +1,7 @@
 -- A request stands until it is granted, its session becomes a victim, or its session aborts.
 use Rattle.std.proofs.Common.{◌≡◌, ℕ, ◌+◌, ◌<◌, Bool, true, false, cond, eqb, ◌⊎◌, inl, inr, List, [], ◌∷◌, ◌++◌, length, Option, Some, None, is_some, refl, sym, ◌∙◌, ap, arith, length-append}
 use Rattle.std.proofs.lemmas.Bool.Decides.{Decides-eqb}
+use Rattle.std.proofs.lemmas.Bool.{cases_Bool}
 use Rattle.lock_modes.specs.declared.Mode.{Mode}
 use Rattle.lock_rules.specs.declared.calls.Call.{Call}
 use Rattle.lock_rules.specs.declared.calls.Call.TheVariants.{Begin, Lock, Convert, Poll, Release, Commit, Abort}
@@ -15,7 +16,7 @@ use Rattle.lock_rules.specs.Legal.{state_of}
 use Rattle.lock_rules.specs.Laws.{IsRequestOver, DoesWaitOn, DoesRequestStand}
 use Rattle.lock_rules.specs.Effects.{IsApart, IsWantedBy}
 use Rattle.lock_rules.specs.Sound.{IsNumbered}
-use Rattle.lock_rules.proofs.Lists.{bool_cases, apart, request_of-claims_but_other}
+use Rattle.lock_rules.proofs.Lists.{apart, request_of-claims_but_other}
 use Rattle.lock_rules.proofs.Alters.{request-alters, true≢false}
 use Rattle.lock_rules.proofs.Cuts.{IsAtRest}
 use Rattle.lock_rules.proofs.Begins.{new, back, once-push}
@@ -45,7 +46,7 @@ module _ (s : ℕ) (q : Claim) where
   module _ (st : State) (i : IsAtRest st.table) (n : IsNumbered st) (w : request_of s st.table.requests ≡ Some q) where
     -- who doesn't wait is another
     apart-from : (u : ℕ) → is_waiting st u ≡ false → eqb s u ≡ false
-    apart-from u f = elim (bool_cases (eqb s u)) [
+    apart-from u f = elim (cases_Bool (eqb s u)) [
       | inl e ↦ absurd (true≢false (ap (λ (o : Option Claim). is_some o) w) (ap (λ (v : ℕ). is_waiting st v) ((Decides-eqb s u).0 e) ∙ f))
       | inr e ↦ e
     ]
@@ -95,7 +96,7 @@ module _ (s : ℕ) (q : Claim) where
         let taken = released-takes u r st i.sound (is-none (request_of u st.table.requests) p.1.0) p.1.1.1.1.0 in
         inr (served-goes_on (λ x. x ≡ r) st.table (with_table (after_release u r st.table) st) w (taken.others s (apart u s (apart-from u p.1.0))))
     act-stands u Commit h = let p = all-pass (tests st u Commit) h in inr (ended-goes_on u (apart-from u p.1.0))
-    act-stands u Abort h = elim (bool_cases (eqb s u)) [
+    act-stands u Abort h = elim (cases_Bool (eqb s u)) [
       | inl e ↦ inl (sym ((Decides-eqb s u).0 e), refl)
       | inr d ↦ inr (ended-goes_on u d)
     ]

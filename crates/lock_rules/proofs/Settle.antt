@@ -2,13 +2,13 @@
 use Rattle.std.proofs.Common.{◌≡◌, ℕ, zero, suc, ◌<◌, ◌≤◌, Bool, true, false, cond, eqb, ltb, ◌&&◌, ◌||◌, List, [], ◌∷◌, length, Some, refl, ap, arith, map}
 use Rattle.std.specs.Prelude.{filter}
 use Rattle.std.proofs.lemmas.Bool.Decides.{nat_tests, Decides-eqb}
-use Rattle.std.proofs.lemmas.Bool.{and_parts, and_from, or_right}
+use Rattle.std.proofs.lemmas.Bool.{and_parts, and_from, or_right, cases_Bool}
 use Rattle.waits_for.specs.Walks.{IsWalk, Reaches}
 use Rattle.lock_rules.specs.State.{Claim, Table, State, request_of, number_of}
 use Rattle.lock_rules.specs.Waits.{waits_for, reaches, waiting_sessions, youngest_of, victim_of, after_victim, after_cancel, after_victims}
 use Rattle.lock_rules.specs.Sound.{IsSound}
 use Rattle.lock_rules.proofs.Walks.{has, walk-found}
-use Rattle.lock_rules.proofs.Lists.{bool_cases, eqb-refl}
+use Rattle.lock_rules.proofs.Lists.{eqb-refl}
 use Rattle.lock_rules.proofs.Alters.{NoCircle, beside, no_circle-from, none-reached, walk-tested, waits_for-waits}
 use Rattle.lock_rules.proofs.Sound.{UnfitAt}
 use Rattle.lock_rules.proofs.Promote.{Follows, follows-refl, follows-trans}
@@ -45,11 +45,11 @@ on_circle t s v = reaches t s v && reaches t v s
 
 has-filter : (p : ℕ → Bool) (v : ℕ) (vs : List ℕ) → has v (filter p vs) ≡ true → (has v vs ≡ true) × (p v ≡ true)
 has-filter p v [] h = absurd (cc)
-has-filter p v (x ∷ vs) h = grind (arith, nat_tests, bool_cases (p x), has-filter p v vs)
+has-filter p v (x ∷ vs) h = grind (arith, nat_tests, cases_Bool (p x), has-filter p v vs)
 
 pub filter-has : (p : ℕ → Bool) (v : ℕ) (vs : List ℕ) → has v vs ≡ true → p v ≡ true → has v (filter p vs) ≡ true
 filter-has p v [] h k = h
-filter-has p v (x ∷ vs) h k = grind (arith, nat_tests, bool_cases (p x), filter-has p v vs)
+filter-has p v (x ∷ vs) h k = grind (arith, nat_tests, cases_Bool (p x), filter-has p v vs)
 
 -- the victim is on a circle with the asker
 pub victim-on : (st : State) (s : ℕ) → reaches st.table s s ≡ true → on_circle st.table s (victim_of st s) ≡ true

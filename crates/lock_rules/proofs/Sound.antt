@@ -1,12 +1,12 @@
--- What holds of every table between two calls, and how a change of one session keeps it.
+-- How a change of one session keeps a table sound.
 use Rattle.std.proofs.Common.{◌≡◌, ℕ, ◌≤◌, Bool, true, false, cond, not, eqb, ◌&&◌, ◌||◌, ◌⊎◌, inl, inr, List, [], ◌∷◌, Option, Some, None, refl, sym, ◌∙◌, ap, arith}
 use Rattle.std.specs.Prelude.{filter, is_some}
 use Rattle.std.specs.List.{list_all}
 use Rattle.std.proofs.lemmas.Bool.Decides.{nat_tests, Decides-eqb}
-use Rattle.std.proofs.lemmas.Bool.{and_parts, not-false, or_parts}
+use Rattle.std.proofs.lemmas.Bool.{and_parts, not-false, or_parts, cases_Bool}
 use Rattle.lock_modes.specs.declared.Mode.{Mode}
 use Rattle.lock_modes.specs.Order.{IsAtOrBelow, at_or_below, need_of}
-use Rattle.lock_modes.proofs.Order.{order-from}
+use Rattle.lock_modes.proofs.Order.{order-from, at_or_below-refl, at_or_below-trans}
 use Rattle.lock_modes.specs.Compatibility.{are_compatible}
 use Rattle.lock_tree.specs.Paths.{same_path, parent_of, has_parent}
 use Rattle.lock_rules.specs.Laws.{IsUnderParent}
@@ -15,9 +15,9 @@ use Rattle.lock_rules.specs.Queue.{queue, fits, after_grant}
 use Rattle.lock_rules.specs.Waits.{conflicts, without_request}
 use Rattle.lock_rules.specs.Step.{is_nothing, lacks_parent}
 use Rattle.lock_rules.specs.Sound.{Agree, IsOnce, IsOrdered, IsSound, Stands, after, ascend, times}
-use Rattle.lock_rules.proofs.Lists.{ordered-with_lock, seek, seek-after, mode_in-seek, bool_cases, eqb-refl, same_path_tells, mode_in-with_lock, mode_in-with_lock_path, mode_in-with_lock_other, times-claims_but, times-append, times-apart, In, In-append, In-filter, In-request}
-use Rattle.lock_rules.proofs.Marks.{need-some, below-refl, below-trans, conflicts-raised, nothing-below}
-use Rattle.lock_rules.proofs.Alters.{Alters, queue-alters, request-alters, request-gone, true≢false}
+use Rattle.lock_rules.proofs.Lists.{ordered-with_lock, seek, seek-after, mode_in-seek, eqb-refl, same_path_tells, mode_in-with_lock, mode_in-with_lock_path, mode_in-with_lock_other, times-claims_but, times-append, times-apart, In, In-append, In-filter, In-request}
+use Rattle.lock_rules.proofs.Marks.{need-some, conflicts-raised, nothing-below}
+use Rattle.lock_rules.proofs.Alters.{Alters, queue-alters, request-alters, waiting-other, true≢false}
 
 pub Agree-swap : (a b : Mode) → Agree a b → Agree b a
 Agree-swap a b h = elim h [ inl k ↦ inr k | inr k ↦ inl k ]
@@ -38,37 +38,34 @@ pub altered-sound : (v : ℕ) (t t' : Table) → Alters v t t' → IsSound t
 altered-sound v t t' a i under agree = record {
   order = a.order i.order;
   once = λ s. omega (arith, times-claims_but s v t.requests, i.once s, ap (times s) a.requests);
-  raising = λ s q e. elim (bool_cases (eqb s v)) [
-    | inl f ↦ absurd (gone s q e ((Decides-eqb s v).0 f))
+  raising = λ s q e. elim (cases_Bool (eqb s v)) [
+    | inl f ↦ absurd (waiting-other v t t' a s q e ((Decides-eqb s v).0 f))
     | inr n ↦ ap (λ (o : Option Mode). at_or_below (mode_or_nothing o) q.mode) (a.others s q.resource n) ∙ i.raising s q (sym (request-alters v t t' a s n) ∙ e)
   ];
-  asked_under = λ s q e. elim (bool_cases (eqb s v)) [
-    | inl f ↦ absurd (gone s q e ((Decides-eqb s v).0 f))
+  asked_under = λ s q e. elim (cases_Bool (eqb s v)) [
+    | inl f ↦ absurd (waiting-other v t t' a s q e ((Decides-eqb s v).0 f))
     | inr n ↦ stands-same t t' s q.resource q.mode (a.others s (parent_of q.resource) n) (i.asked_under s q (sym (request-alters v t t' a s n) ∙ e))
   ];
-  held_under = λ s r k e. elim (bool_cases (eqb s v)) [
+  held_under = λ s r k e. elim (cases_Bool (eqb s v)) [
     | inl f ↦ let g = (Decides-eqb s v).0 f in rw g (under r k (rw g at e))
     | inr n ↦ stands-same t t' s r k (a.others s (parent_of r) n) (i.held_under s r k (sym (a.others s r n) ∙ e))
   ];
-  agree = λ s u r k l n e f. elim (bool_cases (eqb s v)) [
+  agree = λ s u r k l n e f. elim (cases_Bool (eqb s v)) [
     | inl g ↦ let h = (Decides-eqb s v).0 g in
         let m = eqb-swap v u (rw h at n) in
         agree u r k l m (rw h at e) (sym (a.others u r m) ∙ f)
-    | inr m ↦ elim (bool_cases (eqb u v)) [
+    | inr m ↦ elim (cases_Bool (eqb u v)) [
       | inl g ↦ let h = (Decides-eqb u v).0 g in Agree-swap l k (agree s r l k m (rw h at f) (sym (a.others s r m) ∙ e))
       | inr p ↦ i.agree s u r k l n (sym (a.others s r m) ∙ e) (sym (a.others u r p) ∙ f)
     ]
   ];
 }
-  where
-    gone : (s : ℕ) (q : Claim) → request_of s t'.requests ≡ Some q → s ≡ v → ⊥
-    gone s q e f = let g = request-gone v t t' a in cc
 
 -- what fits, and what doesn't
 
 fits-each : (s : ℕ) (m : Mode) (hs : List (ℕ × Mode)) → list_all (λ h. eqb h.0 s || are_compatible m h.1) hs ≡ true → (u : ℕ) (k : Mode) → eqb u s ≡ false → seek u hs ≡ Some k → are_compatible m k ≡ true
 fits-each s m [] h u k n e = absurd (cc)
-fits-each s m (c ∷ hs) h u k n e = grind (arith, nat_tests, bool_cases (are_compatible m c.1), fits-each s m hs)
+fits-each s m (c ∷ hs) h u k n e = grind (arith, nat_tests, cases_Bool (are_compatible m c.1), fits-each s m hs)
 
 pub fits-tells : (t : Table) (s : ℕ) (r : List ℕ) (m : Mode) → fits t s r m ≡ true → (u : ℕ) → eqb u s ≡ false → conflicts m (held_mode t u r) ≡ false
 fits-tells t s r m h u n = go (mode_in u r t.held) refl
@@ -79,10 +76,10 @@ fits-tells t s r m h u n = go (mode_in u r t.held) refl
 
 unfit-each : (s : ℕ) (m : Mode) (hs : List (ℕ × Mode)) → list_all (λ h. eqb h.0 s || are_compatible m h.1) hs ≡ false → ascend hs ≡ true → (u : ℕ) × (eqb u s ≡ false) × (conflicts m (seek u hs) ≡ true)
 unfit-each s m [] h a = absurd (cc)
-unfit-each s m (c ∷ hs) h a = elim (bool_cases (eqb c.0 s || are_compatible m c.1)) [
+unfit-each s m (c ∷ hs) h a = elim (cases_Bool (eqb c.0 s || are_compatible m c.1)) [
   | inl e ↦
       let w = unfit-each s m hs (later _ _ e h) p.1 in
-      (w.0, w.1, beyond w.0 w.2 (bool_cases (eqb c.0 w.0)))
+      (w.0, w.1, beyond w.0 w.2 (cases_Bool (eqb c.0 w.0)))
   | inr e ↦ let q = or_parts (eqb c.0 s) (are_compatible m c.1) e in (c.0, q.0, ap (λ (b : Bool). conflicts m (cond b (Some c.1) (seek c.0 hs))) (eqb-refl c.0) ∙ ap not q.1)
 ]
   where
@@ -101,9 +98,9 @@ pub unfit-some : (t : Table) → IsOrdered t.held → (s : ℕ) (r : List ℕ) (
 unfit-some t o s r m h = let w = unfit-each s m (holders r t.held) h (o r) in (w.0, w.1, ap (conflicts m) (mode_in-seek w.0 r t.held) ∙ w.2)
 
 pub unfit-kept : (v : ℕ) (t t' : Table) → Alters v t t' → IsOrdered t.held → (x : List ℕ) → at_or_below (mode_or_nothing (held_mode t v x)) (mode_or_nothing (held_mode t' v x)) ≡ true → (s : ℕ) (m : Mode) → fits t s x m ≡ false → fits t' s x m ≡ false
-unfit-kept v t t' a o x up s m h = elim (bool_cases (fits t' s x m)) [
+unfit-kept v t t' a o x up s m h = elim (cases_Bool (fits t' s x m)) [
   | inr k ↦ k
-  | inl k ↦ let w = unfit-some t o s x m h in absurd (true≢false (conflict w.0 w.2 (bool_cases (eqb w.0 v))) (fits-tells t' s x m k w.0 w.1))
+  | inl k ↦ let w = unfit-some t o s x m h in absurd (true≢false (conflict w.0 w.2 (cases_Bool (eqb w.0 v))) (fits-tells t' s x m k w.0 w.1))
 ]
   where
     conflict : (u : ℕ) → conflicts m (mode_in u x t.held) ≡ true → (eqb u v ≡ true) ⊎ (eqb u v ≡ false) → conflicts m (mode_in u x t'.held) ≡ true
@@ -157,7 +154,7 @@ UnfitAt t x = (q : Claim) (qs : List Claim) → queue t x ≡ q ∷ qs → fits 
 same-head : (v : ℕ) (t t' : Table) (x : List ℕ) → Alters v t t' → ((q : Claim) → request_of v t.requests ≡ Some q → same_path q.resource x ≡ false) → IsOnce t.requests
     → (q : Claim) (qs : List Claim) → queue t' x ≡ q ∷ qs → (old : List Claim) → queue t x ≡ old → (hs : List Claim) × (queue t x ≡ q ∷ hs)
 same-head v t t' x a apart o q qs e [] f = let g = queue-alters v t t' a x ∙ ap (claims_but v) f in absurd (cc)
-same-head v t t' x a apart o q qs e (h ∷ hs) f = elim (bool_cases (eqb h.session v)) [
+same-head v t t' x a apart o q qs e (h ∷ hs) f = elim (cases_Bool (eqb h.session v)) [
   | inl k ↦
       let r = head-request t x h hs o f in
       absurd (true≢false r.1 (apart h (ap (λ (i : ℕ). request_of i t.requests) (sym ((Decides-eqb h.session v).0 k)) ∙ r.0)))
@@ -186,10 +183,10 @@ abbrev pub Rises : Table → Table → Type 0
 Rises t t' = (s : ℕ) (x : List ℕ) → at_or_below (mode_or_nothing (held_mode t s x)) (mode_or_nothing (held_mode t' s x)) ≡ true
 
 pub same-rises : (a b : Option Mode) → b ≡ a → at_or_below (mode_or_nothing a) (mode_or_nothing b) ≡ true
-same-rises a b e = rw e (below-refl (mode_or_nothing a))
+same-rises a b e = rw e (at_or_below-refl (mode_or_nothing a))
 
 pub granted-rises : (s : ℕ) (r : List ℕ) (m : Mode) (t : Table) → at_or_below (mode_or_nothing (held_mode t s r)) m ≡ true → Rises t (after_grant s r m t)
-granted-rises s r m t h u x = elim (bool_cases (eqb u s)) [
+granted-rises s r m t h u x = elim (cases_Bool (eqb u s)) [
   | inr n ↦ same-rises _ _ (mode_in-with_lock_other u s x r m t.held n)
   | inl e ↦ let f = (Decides-eqb u s).0 e in elim (same_path_tells r x) [
     | inr n ↦ same-rises _ _ (mode_in-with_lock_path u s x r m t.held n)
@@ -199,7 +196,7 @@ granted-rises s r m t h u x = elim (bool_cases (eqb u s)) [
 
 lacks-at : (b : Bool) (n a c : Mode) → at_or_below a c ≡ true → (b && not (at_or_below n a)) ≡ false → (b && not (at_or_below n c)) ≡ false
 lacks-at false n a c h k = refl
-lacks-at true n a c h k = ap not (below-trans n a c (not-false _ k) h)
+lacks-at true n a c h k = ap not (at_or_below-trans n a c (not-false _ k) h)
 
 pub lacks-raised : (t t' : Table) (s : ℕ) (r : List ℕ) (m : Mode) → at_or_below (mode_or_nothing (held_mode t s (parent_of r))) (mode_or_nothing (held_mode t' s (parent_of r))) ≡ true → lacks_parent t s r m ≡ false → lacks_parent t' s r m ≡ false
 lacks-raised t t' s r m up h = lacks-at (has_parent r) (need_of m) (mode_or_nothing (held_mode t s (parent_of r))) (mode_or_nothing (held_mode t' s (parent_of r))) up h

@@ -1,13 +1,13 @@
 -- What fits, who holds, and what a grant is, in the words of the contracts.
 use Rattle.std.proofs.Common.{◌≡◌, ◌≢◌, ℕ, true, not, inl, inr, List, Option, Some, None, refl, sym, ◌∙◌, ap}
-use Rattle.std.proofs.lemmas.Bool.{not-false}
+use Rattle.std.proofs.lemmas.Bool.{not-false, cases_Bool}
 use Rattle.lock_modes.specs.declared.Mode.{Mode}
 use Rattle.lock_modes.specs.Compatibility.{IsCompatible, are_compatible}
 use Rattle.lock_modes.proofs.Compatibility.{compatible-from, compatible-tests}
 use Rattle.lock_rules.specs.State.{Table, State, held_mode}
 use Rattle.lock_rules.specs.Queue.{fits, after_grant}
 use Rattle.lock_rules.specs.Laws.{DoesFitTell, AreHoldersCompatible, IsGrantOf}
-use Rattle.lock_rules.proofs.Lists.{bool_cases, other, apart, differs, mode_in-with_lock, mode_in-with_lock_path, mode_in-with_lock_other, request_of-claims_but, request_of-claims_but_other}
+use Rattle.lock_rules.proofs.Lists.{other, apart, differs, mode_in-with_lock, mode_in-with_lock_path, mode_in-with_lock_other, request_of-claims_but, request_of-claims_but_other}
 use Rattle.lock_rules.proofs.Alters.{true≢false}
 use Rattle.lock_rules.specs.Waits.{conflicts}
 use Rattle.lock_rules.specs.Sound.{IsSound}
@@ -24,7 +24,7 @@ fit-tells st i s r m = (told, fit)
     clash (Some k) c h = true≢false c (ap not (compatible-tests m k (h k refl)))
 
     fit : ((u : ℕ) (k : Mode) → u ≢ s → held_mode st.table u r ≡ Some k → IsCompatible m k) → fits st.table s r m ≡ true
-    fit h = elim (bool_cases (fits st.table s r m)) [
+    fit h = elim (cases_Bool (fits st.table s r m)) [
       | inl e ↦ e
       | inr e ↦ let w = unfit-some st.table i.order s r m e in absurd (clash (held_mode st.table w.0 r) w.2 (λ k f. h w.0 k (apart s w.0 w.1) f))
     ]

@@ -3,6 +3,7 @@ use Rattle.std.proofs.Common.{◌≡◌, ℕ, ◌+◌, ◌<◌, Bool, true, fals
 use Rattle.std.specs.Prelude.{is_some}
 use Rattle.std.proofs.lemmas.Bool.{and_parts}
 use Rattle.lock_modes.specs.declared.Mode.{Mode}
+use Rattle.lock_modes.proofs.Order.{at_or_below-refl}
 use Rattle.lock_rules.specs.declared.calls.Call.{Call}
 use Rattle.lock_rules.specs.declared.calls.Call.TheVariants.{Begin, Lock, Convert, Poll, Release, Commit, Abort}
 use Rattle.lock_rules.specs.declared.calls.Why.{Why}
@@ -15,7 +16,7 @@ use Rattle.waits_for.specs.Walks.{IsWalk}
 use Rattle.lock_rules.specs.Step.{is_nothing, lacks_parent, target_of, tests, first_failing, after_wait, is_held, after_asking, act, outcome_of, step}
 use Rattle.lock_rules.specs.Legal.{state_after, state_of}
 use Rattle.lock_rules.specs.Sound.{Stands}
-use Rattle.lock_rules.proofs.Marks.{below-refl, below-sup, sup-some}
+use Rattle.lock_rules.proofs.Marks.{below-sup, sup-some}
 use Rattle.lock_rules.proofs.Sound.{Rises, granted-alters, unfit_at-alters}
 use Rattle.lock_rules.proofs.Promote.{granted-follows}
 use Rattle.lock_rules.proofs.Cuts.{IsAtRest, released-lawful, ended-lawful}
@@ -43,7 +44,7 @@ pub record IsKept (t t' : Table) : Type 0 where
   pub rises : Rises t t'
 
 same-kept : (t : Table) → IsAtRest t → IsKept t t
-same-kept t i = record { lawful = i; rises = λ s x. below-refl (mode_or_nothing (held_mode t s x)) }
+same-kept t i = record { lawful = i; rises = λ s x. at_or_below-refl (mode_or_nothing (held_mode t s x)) }
 
 -- a request is granted, or begins to wait and its deadlocks are resolved
 pub asked-kept : (st : State) (s : ℕ) (r : List ℕ) (m : Mode) → IsAtRest st.table → request_of s st.table.requests ≡ None → at_or_below (mode_or_nothing (held_mode st.table s r)) m ≡ true → Stands st.table s r m → IsKept st.table (after_asking st s r m).table

@@ -1,7 +1,7 @@
 -- What a release and the end of a transaction take away, and what the others have then.
 use Rattle.std.proofs.Common.{◌≡◌, ◌≢◌, ℕ, Bool, true, false, cond, eqb, ◌||◌, ◌⊎◌, inl, inr, List, [], ◌∷◌, ◌++◌, length, Option, Some, None, map, refl, sym, ◌∙◌, ap, arith, subst, is_some}
 use Rattle.std.proofs.lemmas.Bool.Decides.{nat_tests, Decides-eqb}
-use Rattle.std.proofs.lemmas.Bool.{or_left, or_right}
+use Rattle.std.proofs.lemmas.Bool.{or_left, or_right, cases_Bool}
 use Rattle.lock_modes.specs.declared.Mode.{Mode}
 use Rattle.lock_modes.specs.Order.{at_or_below}
 use Rattle.lock_modes.proofs.Order.{order-from}
@@ -17,7 +17,7 @@ use Rattle.lock_rules.specs.Step.{Outcome, tests, first_failing, act, outcome_of
 use Rattle.lock_rules.specs.Laws.{HoldsAtLeast}
 use Rattle.lock_rules.specs.Effects.{IsNotRefused, IsAsBefore, IsPromotionOf, IsReleaseOf, DoesReleaseTakeOneLock, IsApart, resources_touched, IsEndOf, DoesCommitTakeAllLocks, DoesAbortTakeAllLocks}
 use Rattle.lock_rules.specs.Sound.{IsOnce, IsSound}
-use Rattle.lock_rules.proofs.Lists.{times-claims_but, bool_cases, eqb-refl, same_path-refl, same_path-true, other, differs, mode_in-with_lock, mode_in-with_lock_path, mode_in-with_lock_other, mode_in-locks_but, mode_in-locks_but_path, mode_in-locks_but_other, mode_in-claims_but, mode_in-claims_but_other, request_of-claims_but, request_of-claims_but_other}
+use Rattle.lock_rules.proofs.Lists.{times-claims_but, eqb-refl, same_path-refl, same_path-true, other, differs, mode_in-with_lock, mode_in-with_lock_path, mode_in-with_lock_other, mode_in-locks_but, mode_in-locks_but_path, mode_in-locks_but_other, mode_in-claims_but, mode_in-claims_but_other, request_of-claims_but, request_of-claims_but_other}
 use Rattle.lock_rules.proofs.Alters.{true≢false}
 use Rattle.lock_rules.proofs.Fronts.{promotions-longest}
 use Rattle.lock_rules.proofs.Sound.{head-request, queue-rest, granted-alters}
@@ -91,13 +91,10 @@ front-served : (r : List ℕ) (qs : List Claim) (t : Table) → IsOnce t.request
 front-served r [] t o e u = inl (refl-same u t)
 front-served r (q ∷ qs) t o e u = go (fits t q.session q.resource q.mode) (front-served r qs (after_grant q.session q.resource q.mode t) (granted-once q t o) (queue-rest t (after_grant q.session q.resource q.mode t) r q qs o e (granted-alters q.session q.resource q.mode t)) u)
   where
-    request : (request_of q.session t.requests ≡ Some q) × (same_path q.resource r ≡ true)
-    request = head-request t r q qs o e
-
     first : (w : Table) → IsServed u (λ x. x ≡ r) (after_grant q.session q.resource q.mode t) w → IsServed u (λ x. x ≡ r) t w
-    first w h = elim (bool_cases (eqb u q.session)) [
+    first w h = elim (cases_Bool (eqb u q.session)) [
       | inr n ↦ after-same u (λ x. x ≡ r) t (after_grant q.session q.resource q.mode t) w (granted-other u q t n) h
-      | inl y ↦ let f = (Decides-eqb u q.session).0 y in after-promotion u q (λ x. x ≡ r) (λ x. x ≡ r) t (after_grant q.session q.resource q.mode t) w (rw f (granted-own q t request.0)) (same_path-true q.resource r request.1) h
+      | inl y ↦ let f = (Decides-eqb u q.session).0 y in after-promotion u q (λ x. x ≡ r) (λ x. x ≡ r) t (after_grant q.session q.resource q.mode t) w (rw f (granted-own q t (head-request t r q qs o e).0)) (same_path-true q.resource r (head-request t r q qs o e).1) h
     ]
 
     go : (b : Bool) → IsServed u (λ x. x ≡ r) (after_grant q.session q.resource q.mode t) (granted_while_fitting qs (after_grant q.session q.resource q.mode t))
@@ -163,7 +160,7 @@ among-both (z ∷ xs) ys x h k = go (same_path z x) h (among-both xs ys x)
 
 unheld : (s : ℕ) (x : List ℕ) (cs : List Claim) → mode_in s x cs ≡ None → among (map (λ (c : Claim). c.resource) (claims_of s cs)) x ≡ false
 unheld s x [] h = refl
-unheld s x (c ∷ cs) h = grind (arith, nat_tests, bool_cases (same_path c.resource x), unheld s x cs)
+unheld s x (c ∷ cs) h = grind (arith, nat_tests, cases_Bool (same_path c.resource x), unheld s x cs)
 
 unwanted : (o : Option Claim) (x : List ℕ) → ((q : Claim) → o ≡ Some q → q.resource ≢ x) → among (resource_of_request o) x ≡ false
 unwanted None x h = refl

@@ -2,7 +2,7 @@
 use Rattle.std.proofs.Common.{◌≡◌, ◌≢◌, ℕ, Bool, true, false, not, eqb, ◌&&◌, inl, inr, List, [], ◌∷◌, ◌++◌, Option, Some, None, refl, ◌∙◌, ap, arith}
 use Rattle.std.specs.Prelude.{filter, is_some}
 use Rattle.std.proofs.lemmas.Bool.Decides.{nat_tests, Decides-eqb}
-use Rattle.std.proofs.lemmas.Bool.{not-true, and_parts, and_from, or_cases, or_left, or_right}
+use Rattle.std.proofs.lemmas.Bool.{not-true, and_parts, and_from, or_cases, or_left, or_right, cases_Bool}
 use Rattle.lock_modes.specs.declared.Mode.{Mode}
 use Rattle.lock_modes.specs.Compatibility.{IsCompatible, are_compatible}
 use Rattle.lock_modes.proofs.Compatibility.{compatible-from, compatible-tests}
@@ -11,7 +11,7 @@ use Rattle.lock_rules.specs.State.{Claim, Table, held_mode, request_of}
 use Rattle.lock_rules.specs.Queue.{queue, conversions, fresh_requests}
 use Rattle.lock_rules.specs.Waits.{conflicts, stands_before, keeps_waiting, waits_for}
 use Rattle.lock_rules.specs.Laws.{StandsBefore, WaitsFor, DoWaitsTell}
-use Rattle.lock_rules.proofs.Lists.{bool_cases, same_path-refl, other, apart, request_of-session}
+use Rattle.lock_rules.proofs.Lists.{same_path-refl, other, apart, request_of-session}
 use Rattle.lock_rules.proofs.Alters.{true≢false}
 
 -- holders
@@ -21,13 +21,13 @@ conflict-told m None h = absurd (cc)
 conflict-told m (Some k) h = (k, refl, λ c. true≢false h (ap not (compatible-tests m k c)))
 
 conflict-tests : (m k : Mode) → (IsCompatible m k → ⊥) → conflicts m (Some k) ≡ true
-conflict-tests m k n = elim (bool_cases (are_compatible m k)) [ inl e ↦ absurd (n (compatible-from m k e)) | inr e ↦ ap not e ]
+conflict-tests m k n = elim (cases_Bool (are_compatible m k)) [ inl e ↦ absurd (n (compatible-from m k e)) | inr e ↦ ap not e ]
 
 -- the request of a session is in the queue of its resource
 
 pub request_of-filter : (s : ℕ) (p : Claim → Bool) (qs : List Claim) (q : Claim) → request_of s qs ≡ Some q → p q ≡ true → request_of s (filter p qs) ≡ Some q
 request_of-filter s p [] q h e = absurd (cc)
-request_of-filter s p (c ∷ qs) q h e = grind (arith, nat_tests, bool_cases (p c), request_of-filter s p qs q)
+request_of-filter s p (c ∷ qs) q h e = grind (arith, nat_tests, cases_Bool (p c), request_of-filter s p qs q)
 
 pub request_of-front : (s : ℕ) (xs ys : List Claim) (q : Claim) → request_of s xs ≡ Some q → request_of s (xs ++ ys) ≡ Some q
 request_of-front s [] ys q h = absurd (cc)
@@ -48,7 +48,7 @@ met-rest s xs ys q h = go (request_of s xs) refl
     go (Some c) e = (c, request_of-front s xs ys c e)
 
 met-queue : (t : Table) (s : ℕ) (q : Claim) → request_of s t.requests ≡ Some q → IsMet s (queue t q.resource)
-met-queue t s q h = elim (bool_cases (is_some (held_mode t q.session q.resource))) [
+met-queue t s q h = elim (cases_Bool (is_some (held_mode t q.session q.resource))) [
   | inl e ↦ (q, request_of-front s (conversions t q.resource) (fresh_requests t q.resource) q (request_of-filter s (λ c. same_path c.resource q.resource && is_some (held_mode t c.session q.resource)) t.requests q h (and_from (same_path q.resource q.resource) (is_some (held_mode t q.session q.resource)) (same_path-refl q.resource) e)))
   | inr e ↦ met-rest s (conversions t q.resource) (fresh_requests t q.resource) q (request_of-filter s (λ c. same_path c.resource q.resource && not (is_some (held_mode t c.session q.resource))) t.requests q h (and_from (same_path q.resource q.resource) (not (is_some (held_mode t q.session q.resource))) (same_path-refl q.resource) (ap not e)))
 ]
@@ -64,7 +64,7 @@ cut-later s q qs n (before, after, f, e, same, none) = (q ∷ before, after, f, 
 
 cut : (s : ℕ) (qs : List Claim) (c : Claim) → request_of s qs ≡ Some c → IsCut s qs
 cut s [] c h = absurd (cc)
-cut s (q ∷ qs) c h = elim (bool_cases (eqb q.session s)) [
+cut s (q ∷ qs) c h = elim (cases_Bool (eqb q.session s)) [
   | inl e ↦ ([], qs, q, refl, (Decides-eqb q.session s).0 e, refl)
   | inr n ↦ cut-later s q qs n (cut s qs c (grind (arith, nat_tests)))
 ]
@@ -77,9 +77,9 @@ before-later u s q qs n o (before, after, f, p, e, same, none, some) = (q ∷ be
 
 before-told : (u s : ℕ) (qs : List Claim) (c : Claim) → request_of s qs ≡ Some c → stands_before u s qs ≡ true → StandsBefore u s qs
 before-told u s [] c h b = absurd (cc)
-before-told u s (q ∷ qs) c h b = elim (bool_cases (eqb q.session s)) [
+before-told u s (q ∷ qs) c h b = elim (cases_Bool (eqb q.session s)) [
   | inl e ↦ absurd (grind (arith, nat_tests))
-  | inr n ↦ elim (bool_cases (eqb q.session u)) [
+  | inr n ↦ elim (cases_Bool (eqb q.session u)) [
     | inl e ↦ before-here u s q qs n e (cut s qs c (grind (arith, nat_tests)))
     | inr o ↦ before-later u s q qs n o (before-told u s qs c (grind (arith, nat_tests)) (grind (arith, nat_tests)))
   ]

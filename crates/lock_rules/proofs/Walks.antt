@@ -3,10 +3,9 @@ use Rattle.std.proofs.Common.{◌≡◌, ℕ, zero, suc, ◌<◌, ◌≤◌, Boo
 use Rattle.std.specs.List.{list_any}
 use Rattle.std.specs.Prelude.{filter}
 use Rattle.std.proofs.lemmas.Bool.Decides.{nat_tests, Decides-eqb}
-use Rattle.std.proofs.lemmas.Bool.{and_parts, and_from, or_cases, or_left, or_right}
+use Rattle.std.proofs.lemmas.Bool.{and_parts, and_from, or_cases, or_left, or_right, cases_Bool}
 use Rattle.waits_for.specs.Walks.{IsWalk}
 use Rattle.lock_rules.specs.Waits.{walks_within}
-use Rattle.lock_rules.proofs.Lists.{bool_cases}
 
 abbrev pub has : ℕ → List ℕ → Bool
 has x vs = list_any (λ y. eqb y x) vs
@@ -56,7 +55,7 @@ module _ (pairs : ℕ → ℕ → Bool) where
   clean-or t v u vs [] walk all = inr tt
   clean-or t v u vs (w ∷ ws) walk all = elim (clean-or w v u vs ws walk.1 all.1) [
     | inl r ↦ inl r
-    | inr rest ↦ elim (bool_cases (eqb w v)) [
+    | inr rest ↦ elim (cases_Bool (eqb w v)) [
       | inl e ↦ inl (ws, (rw ((Decides-eqb w v).0 e) at walk.1, rest))
       | inr e ↦ inr (has-without w v vs all.0 e, rest)
     ]

@@ -1,4 +1,4 @@
--- All laws of a state that a history leads to: of its table, of its transactions, and of what calls bring about in it.
+-- All laws of a state that a history leads to: of its table, of its transactions, and of the calls that are asked in it, refused or not.
 use Rattle.lock_rules.specs.State.{State}
 use Rattle.lock_rules.specs.Laws.{AreHoldersListed, AreLocksOnce, IsOneRequestEach, AreLocksFew, DoesFitTell, AreHoldersCompatible, DoesNobodyWaitNeedlessly, AreLocksUnderParents, AreRequestsUnderParents, AreChildrenHeld, IsAccessCompatible, HasNoCircle, DoDoomedWaitForNothing, AreOwnersOpen, AreNumbersApart, AreNumbersCounted, AreVictimsDetermined}
 use Rattle.lock_rules.specs.Effects.{DoesBeginOpen, DoesPollTell, DoVictimsKeepTheirLocks, DoesDoomPromote, IsLockAnswered, IsConvertAnswered, IsLockOfHeldConvert, IsGrantedHeld, IsConversionHeld, DoesReleaseTakeOneLock, DoesCommitTakeAllLocks, DoesAbortTakeAllLocks}

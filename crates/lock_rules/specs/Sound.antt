@@ -9,20 +9,20 @@ use Rattle.lock_rules.specs.State.{Claim, Table, State, held_mode, mode_or_nothi
 use Rattle.lock_rules.specs.Step.{is_nothing, lacks_parent}
 use Rattle.lock_rules.specs.Laws.{AreNumbersApart}
 
--- how many requests the session has
+-- how many of these requests are the session's
 abbrev pub times : ℕ → List Claim → ℕ
 times s [] = 0
 times s (q ∷ qs) = (if q.session == s then 1 else 0) + times s qs
 
--- no session has two
+-- no session has two of them; IsOneRequestEach of Laws says it of a state
 abbrev pub IsOnce : List Claim → Type 0
 IsOnce qs = (s : ℕ) → times s qs ≤ 1
 
--- each of these holders has a greater number
+-- each of these holders has a greater session number
 abbrev pub after : ℕ → List (ℕ × Mode) → Bool
 after s hs = list_all (λ k. nat_lt s k.0) hs
 
--- the numbers rise
+-- the session numbers of these holders rise: AreSessionsRising of Laws as a test that computes
 abbrev pub ascend : List (ℕ × Mode) → Bool
 ascend [] = true
 ascend (h ∷ hs) = after h.0 hs && ascend hs
@@ -35,7 +35,7 @@ IsOrdered cs = (r : List ℕ) → ascend (holders r cs) ≡ true
 abbrev pub Stands : Table → ℕ → List ℕ → Mode → Type 0
 Stands t s r m = (lacks_parent t s r m ≡ false) × (is_nothing m ≡ false)
 
--- one order at least is compatible
+-- the modes go together: GoTogether of Laws by the table of modes
 abbrev pub Agree : Mode → Mode → Type 0
 Agree a b = (are_compatible a b ≡ true) ⊎ (are_compatible b a ≡ true)
 
