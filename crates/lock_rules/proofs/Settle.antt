@@ -4,7 +4,7 @@ use Rattle.std.specs.Prelude.{filter}
 use Rattle.std.proofs.lemmas.Bool.Decides.{nat_tests, Decides-eqb}
 use Rattle.std.proofs.lemmas.Bool.{and_parts, and_from, or_right, cases_Bool}
 use Rattle.waits_for.specs.Walks.{IsWalk, Reaches}
-use Rattle.lock_rules.specs.State.{Claim, Table, State, request_of, number_of}
+use Rattle.lock_rules.specs.State.{Claim, Table, State, request_of}
 use Rattle.lock_rules.specs.Waits.{waits_for, reaches, waiting_sessions, youngest_of, victim_of, after_victim, after_cancel, after_victims}
 use Rattle.lock_rules.specs.Sound.{IsSound}
 use Rattle.lock_rules.proofs.Walks.{has, walk-found}
@@ -53,7 +53,7 @@ filter-has p v (x ∷ vs) h k = grind (arith, nat_tests, cases_Bool (p x), filte
 
 -- the victim is on a circle with the asker
 pub victim-on : (st : State) (s : ℕ) → reaches st.table s s ≡ true → on_circle st.table s (victim_of st s) ≡ true
-victim-on st s h = youngest-pick (on_circle st.table s) (number_of st) s (filter (on_circle st.table s) (waiting_sessions st.table)) (and_from (reaches st.table s s) (reaches st.table s s) h h) (λ v k. (has-filter (on_circle st.table s) v (waiting_sessions st.table) k).1)
+victim-on st s h = youngest-pick (on_circle st.table s) _ s (filter (on_circle st.table s) (waiting_sessions st.table)) (and_from (reaches st.table s s) (reaches st.table s s) h h) (λ v k. (has-filter (on_circle st.table s) v (waiting_sessions st.table) k).1)
 
 -- the bounded test tells whether a walk leads there
 pub reached-walk : (t : Table) (s u : ℕ) → reaches t s u ≡ true → Reaches (waits_for t) s u

@@ -8,6 +8,7 @@ use Rattle.lock_rules.specs.declared.calls.Reply.TheVariants.{Began, Granted, Wa
 use Rattle.lock_rules.specs.declared.calls.Why.TheVariants.{AlreadyOpen, NoTransaction, IsWaiting, IsDoomed, NothingAsked, NotHeld, ParentNotHeld, ChildHeld}
 use Rattle.lock_rules.specs.declared.calls.Entry.{Entry}
 
+-- a session's call with its reply
 abbrev pub entry : ℕ → Call → Reply → Entry
 entry s c r = record { session = s; call = c; reply = r }
 
@@ -17,6 +18,7 @@ with_reply place r [] = []
 with_reply zero r (e ∷ es) = entry e.session e.call r ∷ es
 with_reply (suc place) r (e ∷ es) = e ∷ with_reply place r es
 
+-- the resource at the root of the lock tree with this number
 abbrev pub database : ℕ → List ℕ
 database n = n ∷ []
 

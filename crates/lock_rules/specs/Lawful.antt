@@ -4,6 +4,7 @@ use Rattle.lock_rules.specs.Laws.{AreHoldersListed, AreLocksOnce, IsOneRequestEa
 use Rattle.lock_rules.specs.Effects.{DoesBeginOpen, DoesPollTell, DoVictimsKeepTheirLocks, DoesDoomPromote, IsLockAnswered, IsConvertAnswered, IsLockOfHeldConvert, IsGrantedHeld, IsConversionHeld, DoesReleaseTakeOneLock, DoesCommitTakeAllLocks, DoesAbortTakeAllLocks}
 use Rattle.lock_rules.specs.Refusals.{AreRefusalsMeant, AreOthersAccepted, DoesAbortNeedTransaction, IsClearCommitAccepted}
 
+-- the state is as the laws say
 pub record IsLawfulState (st : State) : Type 0 where
   pub holders_listed : AreHoldersListed st
   pub locks_once : AreLocksOnce st

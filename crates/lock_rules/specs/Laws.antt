@@ -41,6 +41,7 @@ ArePlacesRising (a ∷ b ∷ rest) = (a.place < b.place) × ArePlacesRising (b �
 abbrev pub IsRefusalExact : State → Type 0
 IsRefusalExact st = (s : ℕ) (c : Call) (why : Why) → ((step st s c).reply ≡ Refused why) ↔ (first_failing (tests st s c) ≡ Some why)
 
+-- a refused call changes nothing
 abbrev pub DoesRefusalKeep : State → Type 0
 DoesRefusalKeep st = (s : ℕ) (c : Call) (why : Why) → (step st s c).reply ≡ Refused why → (step st s c).state ≡ st
 
@@ -60,6 +61,7 @@ abbrev pub after_grants : List Claim → Table → Table
 after_grants [] t = t
 after_grants (q ∷ qs) t = after_grants qs (after_grant q.session q.resource q.mode t)
 
+-- the list begins with these requests
 abbrev pub IsFront : List Claim → List Claim → Type 0
 IsFront front qs = (rest : List Claim) × (qs ≡ front ++ rest)
 

@@ -20,6 +20,7 @@ abbrev pub IsLegalFrom : State → List Entry → Type 0
 IsLegalFrom st [] = Unit {0}
 IsLegalFrom st (e ∷ es) = (e.reply ≡ (step st e.session e.call).reply) × IsLegalFrom (step st e.session e.call).state es
 
+-- a history that a lock manager gives that has nothing in mind before the first call
 abbrev pub IsLegal : List Entry → Type 0
 IsLegal es = IsLegalFrom empty es
 
@@ -33,6 +34,7 @@ pub record Answered : Type 0 where
   pub call : Call
   pub reply : Reply
 
+-- the calls of a session among these entries, the first of which has this place
 abbrev pub calls_from : ℕ → ℕ → List Entry → List Answered
 calls_from s place [] = []
 calls_from s place (e ∷ es) =

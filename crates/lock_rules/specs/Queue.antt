@@ -18,6 +18,7 @@ fresh_requests t r = filter (λ q. same_path q.resource r && not (is_some (held_
 abbrev pub queue : Table → List ℕ → List Claim
 queue t r = conversions t r ++ fresh_requests t r
 
+-- no request is in the list
 abbrev pub is_empty : List Claim → Bool
 is_empty [] = true
 is_empty (q ∷ qs) = false
@@ -60,6 +61,7 @@ granted_while_fitting (q ∷ qs) t = if fits t q.session q.resource q.mode then 
 abbrev pub after_promotion : List ℕ → Table → Table
 after_promotion r t = granted_while_fitting (queue t r) t
 
+-- one resource after another is promoted
 abbrev pub after_promotions : List (List ℕ) → Table → Table
 after_promotions [] t = t
 after_promotions (r ∷ rs) t = after_promotions rs (after_promotion r t)

@@ -27,7 +27,7 @@ HoldsBelow t s r = (x : List ℕ) × (k : Mode) × (is_ancestor r x ≡ true) ×
 abbrev pub HoldsAllItMay : Table → ℕ → List ℕ → Type 0
 HoldsAllItMay t s r = (held_mode t s r ≡ None) × (length (claims_of s t.held) ≡ MAX_LOCKS)
 
--- the test that has this refusal fails, where it is one of the call's
+-- what a refusal says of the session and its call; nothing is so where the call has no such test
 abbrev pub Fails : State → ℕ → Call → Why → Type 0
 Fails st s c AlreadyOpen = HasTransaction st s
 Fails st s c NoTransaction = HasTransaction st s → ⊥
@@ -57,7 +57,7 @@ refusals_of Abort = NoTransaction ∷ []
 abbrev pub IsFirstToFail : State → ℕ → Call → Why → Type 0
 IsFirstToFail st s c why = (before after : List Why) × (refusals_of c ≡ before ++ why ∷ after) × Fails st s c why × All (λ w. Fails st s c w → ⊥) before
 
--- a call is refused for that exactly
+-- a call is refused for a reason exactly where that is the first of its tests that fails
 abbrev pub AreRefusalsMeant : State → Type 0
 AreRefusalsMeant st = (s : ℕ) (c : Call) (why : Why) → ((step st s c).reply ≡ Refused why) ↔ IsFirstToFail st s c why
 

@@ -22,10 +22,11 @@ pub record State : Type 0 where
   pub begun : ℕ → Option Transaction
   pub table : Table
 
+-- nobody holds or waits
 abbrev pub no_locks : Table
 no_locks = record { held = []; requests = [] }
 
--- before the first call
+-- before the first call: no transaction, no lock, no request
 abbrev pub empty : State
 empty = record { count = 0; begun = λ s. None; table = no_locks }
 
@@ -61,19 +62,24 @@ claims_of s cs = filter (λ c. c.session == s) cs
 abbrev pub claims_but : ℕ → List Claim → List Claim
 claims_but s cs = filter (λ c. not (c.session == s)) cs
 
+-- the session has an open transaction
 abbrev pub is_open : State → ℕ → Bool
 is_open st s = is_some (st.begun s)
 
+-- the session has a request that waits
 abbrev pub is_waiting : State → ℕ → Bool
 is_waiting st s = is_some (request_of s st.table.requests)
 
+-- the transaction, if there is one, is doomed
 abbrev pub doomed_in : Option Transaction → Bool
 doomed_in None = false
 doomed_in (Some x) = x.doomed
 
+-- the session's transaction was chosen as a deadlock's victim
 abbrev pub is_doomed : State → ℕ → Bool
 is_doomed st s = doomed_in (st.begun s)
 
+-- the number of the transaction, 0 where there is none
 abbrev pub number_in : Option Transaction → ℕ
 number_in None = 0
 number_in (Some x) = x.number
@@ -86,5 +92,6 @@ number_of st s = number_in (st.begun s)
 abbrev pub with_begun : ℕ → Option Transaction → State → State
 with_begun s o st = record { count = st.count; begun = λ u. if u == s then o else st.begun u; table = st.table }
 
+-- the same with this table
 abbrev pub with_table : Table → State → State
 with_table t st = record { count = st.count; begun = st.begun; table = t }

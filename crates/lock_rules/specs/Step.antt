@@ -21,6 +21,7 @@ pub record Outcome : Type 0 where
   pub state : State
   pub reply : Reply
 
+-- NL, which asks for nothing
 abbrev pub is_nothing : Mode → Bool
 is_nothing NL = true
 is_nothing _ = false
@@ -124,6 +125,7 @@ act st s Abort = record {
   reply = Aborted (length (claims_of s st.table.held));
 }
 
+-- a refusal changes nothing; a call that isn't refused acts
 abbrev pub outcome_of : Option Why → State → ℕ → Call → Outcome
 outcome_of (Some why) st s call = record { state = st; reply = Refused why }
 outcome_of None st s call = act st s call

@@ -26,6 +26,7 @@ keeps_waiting t u (Some q) = conflicts q.mode (held_mode t u q.resource) || stan
 abbrev pub waits_for : Table → ℕ → ℕ → Bool
 waits_for t s u = not (u == s) && keeps_waiting t u (request_of s t.requests)
 
+-- the sessions that wait, in order of arrival
 abbrev pub waiting_sessions : Table → List ℕ
 waiting_sessions t = map (λ q. q.session) t.requests
 
@@ -47,6 +48,7 @@ youngest_of age best (v ∷ vs) = youngest_of age (if nat_lt (age best) (age v) 
 abbrev pub victim_of : State → ℕ → ℕ
 victim_of st s = youngest_of (number_of st) s (filter (λ v. reaches st.table s v && reaches st.table v s) (waiting_sessions st.table))
 
+-- the same transaction, doomed
 abbrev pub doom : Option Transaction → Option Transaction
 doom None = None
 doom (Some x) = Some (record { number = x.number; doomed = true })
