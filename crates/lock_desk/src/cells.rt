@@ -1,15 +1,18 @@
 //! Cells: one for each resource that is held or waited for, with its holders and its queue.
 
-ghost use Rattle.std.specs.Prelude.{◌≡◌, ℕ, ◌+◌, ◌<◌, ◌≤◌, insert, Bool, false, true, not, List, [], ◌∷◌, ◌++◌, map, IfOk, OnOk, OnErr, length, vec_len, vec_capacity};
+ghost use Rattle.std.specs.Prelude.{◌≡◌, ℕ, ◌+◌, ◌<◌, ◌≤◌, insert, Bool, false, true, not, List, [], ◌∷◌, ◌++◌, map, ◌&&◌, ◌||◌, ◌==◌, IfOk, OnOk, OnErr, length, vec_len, vec_capacity};
 ghost use Rattle.std.specs.Option.{option_copied};
+ghost use Rattle.waits_for.specs.Pairs.{pairs_of};
 ghost use Rattle.lock_tree.specs.Paths.{same_path};
 ghost use Rattle.lock_desk.specs.declared.cells.SessionMode.{SessionMode as SessionModeValue};
 ghost use Rattle.lock_desk.specs.Cells.{View, view_of, has_session, mode_of, pair_of, with_holder, view_after_giving_up, fits_among, next_grant, view_after_next_grant, can_grant, is_granted, behind_conversions, queue_with, view_after_asking, HasRoom, IsKeptCell, AreKeptCells, is_busy, cell_at, cell_view, CellsBecame, ViewBecame};
+ghost use Rattle.lock_desk.specs.Finding.{holder_blocks, stands_first, cell_blocks, AreOfSessions};
 
 use indexmap::IndexMap;
 use lock_modes::Mode;
 use lock_tree::{Resource, same_path_is_equality};
 use std::alloc::AllocError;
+use waits_for::Rows;
 
 /// A session with the mode that it holds, or that its request waits for.
 #[derive(Clone, Copy, Debug, PartialEq, Eq)]
@@ -58,7 +61,7 @@ pub(crate) fn is_among(list: &[SessionMode], session: u16) -> bool
     list.iter().any(|one| one.session == session)
 }
 
-/// The mode of the session's asker.
+/// The mode of the session among them.
 pub(crate) fn mode_among(list: &[SessionMode], session: u16) -> Option<Mode>
     ensures { result ≡ mode_of session list.now }
 {
@@ -68,23 +71,6 @@ pub(crate) fn mode_among(list: &[SessionMode], session: u16) -> Option<Mode>
         }
     }
     None
-}
-
-/// Writes the list to the list, in their order.
-pub(crate) fn list_holders(
-    holders: &[SessionMode],
-    list: &mut Vec<(u16, Mode)>,
-) -> Result<(), AllocError>
-    ensures ok { OnOk result (list.new.items ≡ map pair_of holders.now) }
-    ensures err { OnErr result (list.new.items ≡ list.old.items) }
-{
-    let more = holders.len().saturating_sub(list.len());
-    list.reserve(more)?;
-    list.clear();
-    for holder in holders {
-        list.push_reserved((holder.session, holder.mode));
-    }
-    Ok(())
 }
 
 /// Whether the asker's mode is compatible with what each other session holds.
@@ -105,7 +91,7 @@ fn insert_at(list: &mut Vec<SessionMode>, place: usize, one: SessionMode)
     let _inserted = list.insert(place, one);
 }
 
-/// The asker comes in the place of the session's own, or between its neighbours by session number.
+/// The holder comes in the place of the session's own lock, or between its neighbours by session number.
 pub(crate) fn put(holders: &mut Vec<SessionMode>, holder: SessionMode)
     requires { vec_len holders.old < vec_capacity holders.old }
     ensures items { holders.new.items ≡ with_holder holder holders.old.items }
@@ -126,52 +112,6 @@ pub(crate) fn put(holders: &mut Vec<SessionMode>, holder: SessionMode)
     holders.push_reserved(holder);
 }
 
-/// Grants the first request of the queue where it fits, and says which.
-pub(crate) fn grant_next(cell: &mut Cell) -> Option<SessionMode>
-    requires { HasRoom cell.old }
-    ensures next { result ≡ next_grant cell.old.holders.items cell.old.waiting.items }
-    ensures view { view_of cell.new ≡ view_after_next_grant cell.old.holders.items cell.old.waiting.items }
-    ensures room { HasRoom cell.new }
-{
-    if cell.waiting.is_empty() {
-        return None;
-    }
-    let first = cell.waiting[0];
-    if !fits(&cell.holders, first) {
-        return None;
-    }
-    cell.waiting.remove(0);
-    put(&mut cell.holders, first);
-    Some(first)
-}
-
-/// Takes away what the session holds, or its request.
-pub(crate) fn give_up(cell: &mut Cell, session: u16, part: Part)
-    requires { HasRoom cell.old }
-    ensures view { view_of cell.new ≡ view_after_giving_up part session (view_of cell.old) }
-    ensures room { HasRoom cell.new }
-{
-    match part {
-        Part::Lock => cell.holders.retain(|held| held.session != session),
-        Part::Request => cell.waiting.retain(|request| request.session != session),
-    }
-}
-
-/// Whether nobody holds the resource and nobody waits for it.
-pub(crate) fn is_idle(cell: &Cell) -> bool
-    ensures { result ≡ not (is_busy (view_of cell.now)) }
-{
-    cell.holders.is_empty() && cell.waiting.is_empty()
-}
-
-/// The cell of the resource.
-pub(crate) fn cell_of(cells: &IndexMap<Resource, Cell>, resource: Resource) -> Option<&Cell>
-    ensures { option_copied result ≡ cell_at resource cells.now.entries }
-{
-    same_path_is_equality();
-    cells.get(&resource)
-}
-
 /// How many conversions wait: the place of the next one in the queue.
 fn conversions(holders: &[SessionMode], waiting: &[SessionMode]) -> usize
     ensures within { result ≤ length waiting.now }
@@ -186,45 +126,163 @@ fn conversions(holders: &[SessionMode], waiting: &[SessionMode]) -> usize
     waiting.len()
 }
 
-/// The request comes into the queue at its place.
-fn enqueue(cell: &mut Cell, asker: SessionMode)
-    requires room { HasRoom cell.old }
-    requires holders { vec_len cell.old.holders + vec_len cell.old.waiting < vec_capacity cell.old.holders }
-    requires waiting { vec_len cell.old.waiting < vec_capacity cell.old.waiting }
-    ensures view { let before = view_of cell.old in view_of cell.new ≡ record before {
-      waiting = queue_with asker before.holders before.waiting;
-    } }
-    ensures room { HasRoom cell.new }
+/// Writes down the holders that the session waits for: those whose mode conflicts with its target.
+fn write_holders(rows: &mut Rows, holders: &[SessionMode], session: u16, target: Mode)
+    requires some { 1 ≤ session }
+    requires within { session ≤ rows.old.sessions }
+    requires numbered { AreOfSessions rows.old.sessions holders.now }
+    ensures sessions { rows.new.sessions ≡ rows.old.sessions }
+    ensures pairs { (a b : ℕ) → pairs_of rows.new a b
+        ≡ (pairs_of rows.old a b || ((a + 1 == session) && holder_blocks session target (b + 1) holders.now)) }
 {
-    let place = if is_among(&cell.holders, asker.session) {
-        conversions(&cell.holders, &cell.waiting)
-    } else {
-        cell.waiting.len()
-    };
-    insert_at(&mut cell.waiting, place, asker);
+    for holder in holders {
+        if holder.session != session && !Mode::compatible(target, holder.mode) {
+            rows.set(session as usize - 1, holder.session as usize - 1);
+        }
+    }
 }
 
-/// A session that doesn't wait for the cell's resource asks for it.
-fn join(cell: &mut Cell, asker: SessionMode) -> Result<RequestStatus, AllocError>
-    requires some { 1 ≤ asker.session }
-    requires kept { IsKeptCell cell.old }
-    requires idle { has_session asker.session (view_of cell.old).waiting ≡ false }
-    ensures granted { IfOk result (λ status. is_granted status ≡ can_grant asker (view_of cell.old)) }
-    ensures view { IfOk result (λ _. view_of cell.new ≡ view_after_asking asker (view_of cell.old)) }
-    ensures err { OnErr result (view_of cell.new ≡ view_of cell.old) }
-    ensures kept { IsKeptCell cell.new }
+/// Writes down the sessions whose requests stand before that of the session.
+fn write_queue(rows: &mut Rows, waiting: &[SessionMode], session: u16)
+    requires some { 1 ≤ session }
+    requires within { session ≤ rows.old.sessions }
+    requires numbered { AreOfSessions rows.old.sessions waiting.now }
+    ensures sessions { rows.new.sessions ≡ rows.old.sessions }
+    ensures pairs { (a b : ℕ) → pairs_of rows.new a b
+        ≡ (pairs_of rows.old a b || ((a + 1 == session) && stands_first (b + 1) session waiting.now)) }
 {
-    let waiting = cell.waiting.len();
-    cell.holders.reserve(waiting + 1)?;
-    let unhindered = is_among(&cell.holders, asker.session) || cell.waiting.is_empty();
-    if unhindered && fits(&cell.holders, asker) {
-        put(&mut cell.holders, asker);
-        Ok(RequestStatus::Granted)
-    } else {
-        cell.waiting.reserve(1)?;
-        enqueue(cell, asker);
-        Ok(RequestStatus::Waiting)
+    for request in waiting {
+        if request.session == session {
+            return;
+        }
+        rows.set(session as usize - 1, request.session as usize - 1);
     }
+}
+
+impl Cell {
+    /// The mode that the session holds.
+    pub(crate) fn mode_held(&self, session: u16) -> Option<Mode>
+        ensures { result ≡ mode_of session (view_of self.now).holders }
+    {
+        mode_among(&self.holders, session)
+    }
+
+    /// Writes the holders to the list, by session number.
+    pub(crate) fn list_holders(&self, list: &mut Vec<(u16, Mode)>) -> Result<(), AllocError>
+        ensures ok { OnOk result (list.new.items ≡ map pair_of self.now.holders.items) }
+        ensures err { OnErr result (list.new.items ≡ list.old.items) }
+    {
+        let more = self.holders.len().saturating_sub(list.len());
+        list.reserve(more)?;
+        list.clear();
+        for holder in &self.holders {
+            list.push_reserved((holder.session, holder.mode));
+        }
+        Ok(())
+    }
+
+    /// Whether nobody holds the resource and nobody waits for it.
+    pub(crate) fn is_idle(&self) -> bool
+        ensures { result ≡ not (is_busy (view_of self.now)) }
+    {
+        self.holders.is_empty() && self.waiting.is_empty()
+    }
+
+    /// Grants the first request of the queue where it fits, and says which.
+    pub(crate) fn grant_next(&mut self) -> Option<SessionMode>
+        requires { HasRoom self.old }
+        ensures next { result ≡ next_grant self.old.holders.items self.old.waiting.items }
+        ensures view { view_of self.new ≡ view_after_next_grant self.old.holders.items self.old.waiting.items }
+        ensures room { HasRoom self.new }
+    {
+        if self.waiting.is_empty() {
+            return None;
+        }
+        let first = self.waiting[0];
+        if !fits(&self.holders, first) {
+            return None;
+        }
+        self.waiting.remove(0);
+        put(&mut self.holders, first);
+        Some(first)
+    }
+
+    /// Takes away what the session holds, or its request.
+    pub(crate) fn give_up(&mut self, session: u16, part: Part)
+        requires { HasRoom self.old }
+        ensures view { view_of self.new ≡ view_after_giving_up part session (view_of self.old) }
+        ensures room { HasRoom self.new }
+    {
+        match part {
+            Part::Lock => self.holders.retain(|held| held.session != session),
+            Part::Request => self.waiting.retain(|request| request.session != session),
+        }
+    }
+
+    /// The request comes into the queue at its place.
+    fn enqueue(&mut self, asker: SessionMode)
+        requires room { HasRoom self.old }
+        requires holders { vec_len self.old.holders + vec_len self.old.waiting < vec_capacity self.old.holders }
+        requires waiting { vec_len self.old.waiting < vec_capacity self.old.waiting }
+        ensures view { let before = view_of self.old in view_of self.new ≡ record before {
+          waiting = queue_with asker before.holders before.waiting;
+        } }
+        ensures room { HasRoom self.new }
+    {
+        let place = if is_among(&self.holders, asker.session) {
+            conversions(&self.holders, &self.waiting)
+        } else {
+            self.waiting.len()
+        };
+        insert_at(&mut self.waiting, place, asker);
+    }
+
+    /// A session that doesn't wait for the cell's resource asks for it.
+    fn ask(&mut self, asker: SessionMode) -> Result<RequestStatus, AllocError>
+        requires some { 1 ≤ asker.session }
+        requires kept { IsKeptCell self.old }
+        requires idle { has_session asker.session (view_of self.old).waiting ≡ false }
+        ensures granted { IfOk result (λ status. is_granted status ≡ can_grant asker (view_of self.old)) }
+        ensures view { IfOk result (λ _. view_of self.new ≡ view_after_asking asker (view_of self.old)) }
+        ensures err { OnErr result (view_of self.new ≡ view_of self.old) }
+        ensures kept { IsKeptCell self.new }
+    {
+        let waiting = self.waiting.len();
+        self.holders.reserve(waiting + 1)?;
+        let unhindered = is_among(&self.holders, asker.session) || self.waiting.is_empty();
+        if unhindered && fits(&self.holders, asker) {
+            put(&mut self.holders, asker);
+            Ok(RequestStatus::Granted)
+        } else {
+            self.waiting.reserve(1)?;
+            self.enqueue(asker);
+            Ok(RequestStatus::Waiting)
+        }
+    }
+
+    /// Writes down for whom the session waits here.
+    pub(crate) fn write_waits(&self, rows: &mut Rows, session: u16)
+        requires some { 1 ≤ session }
+        requires within { session ≤ rows.old.sessions }
+        requires holders { AreOfSessions rows.old.sessions self.now.holders.items }
+        requires waiting { AreOfSessions rows.old.sessions self.now.waiting.items }
+        ensures sessions { rows.new.sessions ≡ rows.old.sessions }
+        ensures pairs { (a b : ℕ) → pairs_of rows.new a b
+            ≡ (pairs_of rows.old a b || ((a + 1 == session) && cell_blocks session (b + 1) self.now)) }
+    {
+        if let Some(target) = mode_among(&self.waiting, session) {
+            write_holders(rows, &self.holders, session, target);
+            write_queue(rows, &self.waiting, session);
+        }
+    }
+}
+
+/// The cell of the resource.
+pub(crate) fn cell_of(cells: &IndexMap<Resource, Cell>, resource: Resource) -> Option<&Cell>
+    ensures { option_copied result ≡ cell_at resource cells.now.entries }
+{
+    same_path_is_equality();
+    cells.get(&resource)
 }
 
 /// A new cell, with its first holder.
@@ -267,7 +325,7 @@ pub(crate) fn ask(
 {
     same_path_is_equality();
     match cells.get_mut(&resource) {
-        Some(cell) => join(cell, asker),
+        Some(cell) => cell.ask(asker),
         None => {
             open(cells, resource, asker)?;
             Ok(RequestStatus::Granted)

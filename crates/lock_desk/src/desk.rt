@@ -12,9 +12,7 @@ ghost use Rattle.lock_desk.specs.Changes.{view_at, standing, IsWhole, DoesKeep, 
 ghost use Rattle.lock_desk.specs.Ready.{IsReadyDesk};
 ghost use Rattle.lock_desk.specs.Shows.{Shows, DoesAnswer};
 
-use crate::cells::{
-    Cell, Part, RequestStatus, SessionMode, ask, cell_of, list_holders, mode_among,
-};
+use crate::cells::{Cell, Part, RequestStatus, SessionMode, ask, cell_of};
 use crate::lockers::{
     Locker, Request, doom, drop_lock, hold, is_doomed, make_room, resource_of, want,
 };
@@ -44,7 +42,7 @@ impl Desk {
         ensures { result ≡ mode_held self.now session resource }
     {
         match cell_of(&self.cells, resource) {
-            Some(cell) => mode_among(&cell.holders, session),
+            Some(cell) => cell.mode_held(session),
             None => None,
         }
     }
@@ -59,7 +57,7 @@ impl Desk {
         ensures err { OnErr result (list.new.items ≡ list.old.items) }
     {
         match cell_of(&self.cells, resource) {
-            Some(cell) => list_holders(&cell.holders, list),
+            Some(cell) => cell.list_holders(list),
             None => {
                 list.clear();
                 Ok(())

@@ -5,7 +5,7 @@ ghost use Rattle.std.specs.List.{All};
 ghost use Rattle.lock_desk.specs.Cells.{view_of, cell_view, view_after_promotion, view_after_giving_up, view_after_freeing, HasRoom, IsOnce, AreKeptCells, ViewBecame};
 ghost use Rattle.lock_desk.specs.Lockers.{standings_of, IsKeptLocker, AreSameOrGranted, DoAgree};
 
-use crate::cells::{Cell, Part, give_up, grant_next, is_idle};
+use crate::cells::{Cell, Part};
 use crate::lockers::{Locker, admit};
 use indexmap::IndexMap;
 use lock_tree::{Resource, same_path_is_equality};
@@ -24,7 +24,7 @@ pub(crate) fn promote(cell: &mut Cell, resource: Resource, lockers: &mut Vec<Loc
     ensures granted { AreSameOrGranted resource (standings_of lockers.old.items) (standings_of lockers.new.items) }
     ensures len { vec_len lockers.new ≡ vec_len lockers.old }
 {
-    while let Some(granted) = grant_next(cell) {
+    while let Some(granted) = cell.grant_next() {
         let locker = &mut lockers[granted.session as usize];
         admit(locker, resource);
     }
@@ -54,9 +54,9 @@ pub(crate) fn free(
     let Some(cell) = cells.get_mut(&resource) else {
         return;
     };
-    give_up(cell, session, part);
+    cell.give_up(session, part);
     promote(cell, resource, lockers);
-    if is_idle(cell) {
+    if cell.is_idle() {
         cells.swap_remove(&resource);
     }
 }

@@ -1,7 +1,11 @@
 //! What a book answers, call by call. A call that finds no memory is made again, so that each test may also be run with
 //! each of its allocations refused in turn.
 
-use crate::{Book, Call, Entry, Mode, NoMemory, Reply, Resource, Why};
+ghost use Rattle.std.specs.Prelude.{◌≡◌, true};
+ghost use Rattle.std.specs.List.{All};
+ghost use Rattle.lock_desk.specs.Batches.{IsItemWithin};
+
+use crate::{Book, Call, Entry, Item, Mode, NoMemory, Reply, Resource, Why};
 use std::alloc::Global;
 use std::process::Abort;
 use std::test::Fail;
@@ -71,6 +75,34 @@ fn entry(session: u16, call: Call, reply: Reply) -> Entry {
         call,
         reply,
     }
+}
+
+fn item(session: u16, call: Call) -> Item {
+    Item {
+        session,
+        call,
+        reply: None,
+    }
+}
+
+fn is_within(items: &[Item], sessions: u16) -> bool
+    ensures { result ≡ true → All (IsItemWithin sessions) items.now }
+{
+    for item in items {
+        if item.session < 1 || sessions < item.session {
+            return false;
+        }
+    }
+    true
+}
+
+/// Serves the items, and what is left of them once more where memory was refused.
+fn serve_batch(rt: &impl Abort, book: &mut Book, items: &mut [Item]) -> usize {
+    assert!(rt; is_within(items, book.sessions()));
+    let served = book.serve_batch(items);
+    let rest = &mut items[served..];
+    assert!(rt; is_within(rest, book.sessions()));
+    served + book.serve_batch(rest)
 }
 
 #[test]
@@ -348,5 +380,34 @@ fn a_victim_keeps_its_locks_until_it_aborts(rt: HostRuntime) -> Result<(), Fail>
     assert_eq!(rt; book.held(2, one), Some(Mode::S));
     serve_all(&rt, &mut book, &after)?;
     assert_eq!(rt; book.held(2, one), Some(Mode::S));
+    Ok(())
+}
+
+#[test]
+fn a_batch_is_served_in_its_order(rt: HostRuntime) -> Result<(), Fail> {
+    let one = resource(1)?;
+    let mut book = new_book(&rt, rt.alloc(), 2)?;
+    let mut items = [
+        item(1, Call::Begin),
+        item(2, Call::Begin),
+        item(1, Call::Lock(one, Mode::X)),
+        item(2, Call::Lock(one, Mode::X)),
+        item(1, Call::Commit),
+        item(2, Call::Poll),
+    ];
+    let served = serve_batch(&rt, &mut book, &mut items);
+    assert_eq!(rt; served, 6);
+    let replies = [
+        Reply::Began(1),
+        Reply::Began(2),
+        Reply::Granted(Mode::X),
+        Reply::Waiting,
+        Reply::Committed(1),
+        Reply::Clear,
+    ];
+    for (item, reply) in items.iter().zip(&replies) {
+        assert_eq!(rt; item.reply, Some(*reply));
+    }
+    assert_eq!(rt; book.history().len(), 6);
     Ok(())
 }

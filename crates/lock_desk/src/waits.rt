@@ -8,10 +8,9 @@ ghost use Rattle.lock_desk.specs.Cells.{has_session, cell_view};
 ghost use Rattle.lock_desk.specs.Lockers.{standings_of, standing_at};
 ghost use Rattle.lock_desk.specs.Finding.{holder_blocks, stands_first, cell_blocks, blocks, IsReady, IsFilled, AreOfSessions, IsOfSessions};
 
-use crate::cells::{Cell, SessionMode, cell_of, mode_among};
+use crate::cells::{Cell, cell_of};
 use crate::lockers::{Locker, number_of, resource_of};
 use indexmap::IndexMap;
-use lock_modes::Mode;
 use lock_tree::Resource;
 use std::alloc::{AllocError, Global};
 use waits_for::{MAX_SESSIONS, Rows};
@@ -43,55 +42,6 @@ pub(crate) fn new_waits(alloc: Global, sessions: u16) -> Result<Waits, AllocErro
         numbers,
         filled,
     })
-}
-
-/// Writes down the holders that the session waits for: those whose mode conflicts with its target.
-fn fill_holders(rows: &mut Rows, holders: &[SessionMode], session: u16, target: Mode)
-    requires some { 1 ≤ session }
-    requires within { session ≤ rows.old.sessions }
-    requires numbered { AreOfSessions rows.old.sessions holders.now }
-    ensures sessions { rows.new.sessions ≡ rows.old.sessions }
-    ensures pairs { (a b : ℕ) → pairs_of rows.new a b
-        ≡ (pairs_of rows.old a b || ((a + 1 == session) && holder_blocks session target (b + 1) holders.now)) }
-{
-    for holder in holders {
-        if holder.session != session && !Mode::compatible(target, holder.mode) {
-            rows.set(session as usize - 1, holder.session as usize - 1);
-        }
-    }
-}
-
-/// Writes down the sessions whose requests stand before that of the session.
-fn fill_queue(rows: &mut Rows, waiting: &[SessionMode], session: u16)
-    requires some { 1 ≤ session }
-    requires within { session ≤ rows.old.sessions }
-    requires numbered { AreOfSessions rows.old.sessions waiting.now }
-    ensures sessions { rows.new.sessions ≡ rows.old.sessions }
-    ensures pairs { (a b : ℕ) → pairs_of rows.new a b
-        ≡ (pairs_of rows.old a b || ((a + 1 == session) && stands_first (b + 1) session waiting.now)) }
-{
-    for request in waiting {
-        if request.session == session {
-            return;
-        }
-        rows.set(session as usize - 1, request.session as usize - 1);
-    }
-}
-
-/// Writes down for whom the session waits in this cell.
-fn fill_cell(rows: &mut Rows, cell: &Cell, session: u16)
-    requires some { 1 ≤ session }
-    requires within { session ≤ rows.old.sessions }
-    requires holders { AreOfSessions rows.old.sessions cell.now.holders.items }
-    requires waiting { AreOfSessions rows.old.sessions cell.now.waiting.items }
-    ensures sessions { rows.new.sessions ≡ rows.old.sessions }
-    ensures pairs { (a b : ℕ) → pairs_of rows.new a b
-        ≡ (pairs_of rows.old a b || ((a + 1 == session) && cell_blocks session (b + 1) cell.now)) }
-{
-    if let Some(target) = mode_among(&cell.waiting, session) {
-        fill_holders(rows, &cell.holders, session, target);
-        fill_queue(rows, &cell.waiting, session);
-    }
 }
 
 /// The row of the session at this position is emptied, if it was filled.
@@ -137,7 +87,7 @@ fn fill_session(
         let resource = resource_of(request);
         if let Some(cell) = cell_of(cells, resource) {
             waits.filled[place] = true;
-            fill_cell(&mut waits.rows, cell, session);
+            cell.write_waits(&mut waits.rows, session);
         }
     }
 }

@@ -6,32 +6,32 @@ use Rattle.lock_desk.proofs.Results.{on-ok, on-err, on-err-from}
 use Rattle.lock_desk.proofs.Seen.{found, written, kept-at, became-same, became-view}
 use Rattle.lock_desk.proofs.cells.ask.Goals as goal
 
-pub join-requires-clause-kept : goal.join-requires-clause-kept
-join-requires-clause-kept c = kept-at c.args.resource c.args.cells.now.entries c.in-Some.cell.now c.requires.kept (c.in-Some.ensures.value ∙ found _ c.same_path_is_equality.ensures.code c.args.resource c.args.cells.now.entries)
+pub ask-requires-clause-kept : goal.ask-requires-clause-kept
+ask-requires-clause-kept c = kept-at c.args.resource c.args.cells.now.entries c.in-Some.cell.now c.requires.kept (c.in-Some.ensures.value ∙ found _ c.same_path_is_equality.ensures.code c.args.resource c.args.cells.now.entries)
 
-pub join-requires-clause-idle : goal.join-requires-clause-idle
-join-requires-clause-idle c =
+pub ask-requires-clause-idle : goal.ask-requires-clause-idle
+ask-requires-clause-idle c =
     let there = c.in-Some.ensures.value ∙ found _ c.same_path_is_equality.ensures.code c.args.resource c.args.cells.now.entries in
     ap (λ (o : Option Cell). has_session c.args.asker.session (view_in o).waiting) there ∙ c.requires.idle
 
 pub returns-in-Some-clause-granted : goal.returns-in-Some-clause-granted
 returns-in-Some-clause-granted c =
     let there = c.in-Some.ensures.value ∙ found _ c.same_path_is_equality.ensures.code c.args.resource c.args.cells.now.entries in
-    subst (λ (v : View). IfOk c.join.result (λ (g : RequestStatus). is_granted g ≡ can_grant c.args.asker v)) (ap view_in there) c.join.ensures.granted
+    subst (λ (v : View). IfOk c.ask.result (λ (g : RequestStatus). is_granted g ≡ can_grant c.args.asker v)) (ap view_in there) c.ask.ensures.granted
 
 pub returns-in-Some-clause-ok : goal.returns-in-Some-clause-ok
 returns-in-Some-clause-ok c =
     let x = c.in-Some.cell.now in
     let there = c.in-Some.ensures.value ∙ found _ c.same_path_is_equality.ensures.code c.args.resource c.args.cells.now.entries in
-    on-ok c.join.result (λ (g : RequestStatus). view_of c.join.new.cell ≡ view_after_asking c.args.asker (view_of x)) _ c.join.ensures.view
-    (λ g h. written _ c.same_path_is_equality.ensures.code c.args.resource c.args.cells.now _ x c.join.new.cell _ c.requires.kept c.in-Some.ensures.value c.join.ensures.kept (c.get_mut.follows.holds c.join.new.cell) (h ∙ ap (λ (o : Option Cell). view_after_asking c.args.asker (view_in o)) there))
+    on-ok c.ask.result (λ (g : RequestStatus). view_of c.ask.new.self ≡ view_after_asking c.args.asker (view_of x)) _ c.ask.ensures.view
+    (λ g h. written _ c.same_path_is_equality.ensures.code c.args.resource c.args.cells.now _ x c.ask.new.self _ c.requires.kept c.in-Some.ensures.value c.ask.ensures.kept (c.get_mut.follows.holds c.ask.new.self) (h ∙ ap (λ (o : Option Cell). view_after_asking c.args.asker (view_in o)) there))
 
 pub returns-in-Some-clause-err : goal.returns-in-Some-clause-err
 returns-in-Some-clause-err c =
     let x = c.in-Some.cell.now in
     let there = c.in-Some.ensures.value ∙ found _ c.same_path_is_equality.ensures.code c.args.resource c.args.cells.now.entries in
-    on-err c.join.result (view_of c.join.new.cell ≡ view_of x) _ c.join.ensures.err
-    (λ h. written _ c.same_path_is_equality.ensures.code c.args.resource c.args.cells.now _ x c.join.new.cell _ c.requires.kept c.in-Some.ensures.value c.join.ensures.kept (c.get_mut.follows.holds c.join.new.cell) (h ∙ ap view_in there))
+    on-err c.ask.result (view_of c.ask.new.self ≡ view_of x) _ c.ask.ensures.err
+    (λ h. written _ c.same_path_is_equality.ensures.code c.args.resource c.args.cells.now _ x c.ask.new.self _ c.requires.kept c.in-Some.ensures.value c.ask.ensures.kept (c.get_mut.follows.holds c.ask.new.self) (h ∙ ap view_in there))
 
 pub returns-in_ok-open-in-None-clause-granted : goal.returns-in_ok-open-in-None-clause-granted
 returns-in_ok-open-in-None-clause-granted c =

@@ -25,12 +25,12 @@ pub promote-requires-clause-once : goal.promote-requires-clause-once
 promote-requires-clause-once c =
     let x = c.in-Some.cell.now in
     let there = c.in-Some.ensures.value ∙ found _ c.same_path_is_equality.ensures.code c.args.resource c.args.cells.now.entries in
-    once-there c.args.part c.args.resource c.args.session c.args.cells.now.entries x c.give_up.new.cell there c.give_up.ensures.view (kept-at c.args.resource c.args.cells.now.entries x c.requires.cells there).once
+    once-there c.args.part c.args.resource c.args.session c.args.cells.now.entries x c.give_up.new.self there c.give_up.ensures.view (kept-at c.args.resource c.args.cells.now.entries x c.requires.cells there).once
 
 pub promote-requires-clause-agree : goal.promote-requires-clause-agree
 promote-requires-clause-agree c =
     let there = c.in-Some.ensures.value ∙ found _ c.same_path_is_equality.ensures.code c.args.resource c.args.cells.now.entries in
-    let v = view-left c.args.part c.args.resource c.args.session c.args.cells.now.entries c.in-Some.cell.now c.give_up.new.cell there c.give_up.ensures.view in
+    let v = view-left c.args.part c.args.resource c.args.session c.args.cells.now.entries c.in-Some.cell.now c.give_up.new.self there c.give_up.ensures.view in
     subst (λ (w : View). DoAgree c.args.resource w (standings_of c.args.lockers.now.items)) (sym v) c.requires.agree
 
 pub returns-then-is_idle-clause-cells : goal.returns-then-is_idle-clause-cells
@@ -38,7 +38,7 @@ returns-then-is_idle-clause-cells c =
     let new = c.promote.new.cell in
     let there = c.in-Some.ensures.value ∙ found _ c.same_path_is_equality.ensures.code c.args.resource c.args.cells.now.entries in
     let lent = ((c.get_mut.follows.holds new).3 (subst IsSome c.in-Some.ensures.value refl)).0 in
-    free-idle c.args.part c.args.resource c.args.session c.args.cells.now.entries c.in-Some.cell.now c.give_up.new.cell there c.give_up.ensures.view
+    free-idle c.args.part c.args.resource c.args.session c.args.cells.now.entries c.in-Some.cell.now c.give_up.new.self there c.give_up.ensures.view
     new c.promote.ensures.view _ c.same_path_is_equality.ensures.code c.requires.cells c.swap_remove.new.self.entries _ (not-true (is_busy (view_of new)) (sym c.is_idle.ensures ∙ c.if-is_idle.true)) lent c.swap_remove.ensures.updates.0
 
 pub returns-else-is_idle-clause-cells : goal.returns-else-is_idle-clause-cells
@@ -46,15 +46,15 @@ returns-else-is_idle-clause-cells c =
     let new = c.promote.new.cell in
     let there = c.in-Some.ensures.value ∙ found _ c.same_path_is_equality.ensures.code c.args.resource c.args.cells.now.entries in
     let lent = ((c.get_mut.follows.holds new).3 (subst IsSome c.in-Some.ensures.value refl)).0 in
-    free-kept c.args.part c.args.resource c.args.session c.args.cells.now.entries c.in-Some.cell.now c.give_up.new.cell there c.give_up.ensures.view
+    free-kept c.args.part c.args.resource c.args.session c.args.cells.now.entries c.in-Some.cell.now c.give_up.new.self there c.give_up.ensures.view
     new c.promote.ensures.view _ c.same_path_is_equality.ensures.code c.requires.cells _ c.promote.ensures.room c.promote.ensures.once (not-false (is_busy (view_of new)) (sym c.is_idle.ensures ∙ c.if-is_idle.false)) lent
 
 pub returns-then-is_idle-clause-agree : goal.returns-then-is_idle-clause-agree
 returns-then-is_idle-clause-agree c =
     let there = c.in-Some.ensures.value ∙ found _ c.same_path_is_equality.ensures.code c.args.resource c.args.cells.now.entries in
-    agree-there c.args.part c.args.resource c.args.session c.args.cells.now.entries c.in-Some.cell.now c.give_up.new.cell there c.give_up.ensures.view c.promote.new.cell c.promote.ensures.view _ c.promote.ensures.agree
+    agree-there c.args.part c.args.resource c.args.session c.args.cells.now.entries c.in-Some.cell.now c.give_up.new.self there c.give_up.ensures.view c.promote.new.cell c.promote.ensures.view _ c.promote.ensures.agree
 
 pub returns-else-is_idle-clause-agree : goal.returns-else-is_idle-clause-agree
 returns-else-is_idle-clause-agree c =
     let there = c.in-Some.ensures.value ∙ found _ c.same_path_is_equality.ensures.code c.args.resource c.args.cells.now.entries in
-    agree-there c.args.part c.args.resource c.args.session c.args.cells.now.entries c.in-Some.cell.now c.give_up.new.cell there c.give_up.ensures.view c.promote.new.cell c.promote.ensures.view _ c.promote.ensures.agree
+    agree-there c.args.part c.args.resource c.args.session c.args.cells.now.entries c.in-Some.cell.now c.give_up.new.self there c.give_up.ensures.view c.promote.new.cell c.promote.ensures.view _ c.promote.ensures.agree

@@ -8,28 +8,28 @@ use Rattle.lock_desk.proofs.releases.promote.Goals as goal
 
 pub index_mut-locker-requires : goal.index_mut-locker-requires
 index_mut-locker-requires c =
-    let n = next-cell c.loop-granted.cell.holders.items c.loop-granted.cell.waiting.items c.in-Some.granted (view_of c.grant_next.new.cell) c.in-Some.ensures.next c.in-Some.ensures.view in
-    omega (arith, grant-within c.args.resource (view_of c.loop-granted.cell) (view_of c.grant_next.new.cell) c.in-Some.granted c.loop-granted.lockers.items n c.loop-granted.invariant.agree, c.loop-granted.lockers.ok.0)
+    let n = next-cell c.loop-granted.cell.holders.items c.loop-granted.cell.waiting.items c.in-Some.granted (view_of c.grant_next.new.self) c.in-Some.ensures.next c.in-Some.ensures.view in
+    omega (arith, grant-within c.args.resource (view_of c.loop-granted.cell) (view_of c.grant_next.new.self) c.in-Some.granted c.loop-granted.lockers.items n c.loop-granted.invariant.agree, c.loop-granted.lockers.ok.0)
 
 pub admit-requires-clause-kept : goal.admit-requires-clause-kept
 admit-requires-clause-kept c =
-    let n = next-cell c.loop-granted.cell.holders.items c.loop-granted.cell.waiting.items c.in-Some.granted (view_of c.grant_next.new.cell) c.in-Some.ensures.next c.in-Some.ensures.view in
-    let lt = grant-within c.args.resource (view_of c.loop-granted.cell) (view_of c.grant_next.new.cell) c.in-Some.granted c.loop-granted.lockers.items n c.loop-granted.invariant.agree in
+    let n = next-cell c.loop-granted.cell.holders.items c.loop-granted.cell.waiting.items c.in-Some.granted (view_of c.grant_next.new.self) c.in-Some.ensures.next c.in-Some.ensures.view in
+    let lt = grant-within c.args.resource (view_of c.loop-granted.cell) (view_of c.grant_next.new.self) c.in-Some.granted c.loop-granted.lockers.items n c.loop-granted.invariant.agree in
     subst IsKeptLocker (sym c.index_mut-locker.ensures.value) (All-get_or IsKeptLocker c.loop-granted.lockers.items c.in-Some.granted.session c.index_mut-locker.result.now lt c.loop-granted.invariant.lockers)
 
 pub admit-requires-clause-waits : goal.admit-requires-clause-waits
 admit-requires-clause-waits c =
-    let n = next-cell c.loop-granted.cell.holders.items c.loop-granted.cell.waiting.items c.in-Some.granted (view_of c.grant_next.new.cell) c.in-Some.ensures.next c.in-Some.ensures.view in
-    grant-waits_locker c.args.resource (view_of c.loop-granted.cell) (view_of c.grant_next.new.cell) c.in-Some.granted c.loop-granted.lockers.items n c.loop-granted.invariant.agree c.index_mut-locker.result.now c.index_mut-locker.ensures.value
+    let n = next-cell c.loop-granted.cell.holders.items c.loop-granted.cell.waiting.items c.in-Some.granted (view_of c.grant_next.new.self) c.in-Some.ensures.next c.in-Some.ensures.view in
+    grant-waits_locker c.args.resource (view_of c.loop-granted.cell) (view_of c.grant_next.new.self) c.in-Some.granted c.loop-granted.lockers.items n c.loop-granted.invariant.agree c.index_mut-locker.result.now c.index_mut-locker.ensures.value
 
 pub loop-granted-preserved : goal.loop-granted-preserved
 loop-granted-preserved c =
     let k = c.loop-granted.invariant in
     let v = view_of c.loop-granted.cell in
-    let w = view_of c.grant_next.new.cell in
+    let w = view_of c.grant_next.new.self in
     let r = c.args.resource in
     let lockers = c.loop-granted.lockers.items in
-    let n = next-cell c.loop-granted.cell.holders.items c.loop-granted.cell.waiting.items c.in-Some.granted (view_of c.grant_next.new.cell) c.in-Some.ensures.next c.in-Some.ensures.view in
+    let n = next-cell c.loop-granted.cell.holders.items c.loop-granted.cell.waiting.items c.in-Some.granted (view_of c.grant_next.new.self) c.in-Some.ensures.next c.in-Some.ensures.view in
     record {
       view = promoted-next v c.in-Some.granted w n ∙ k.view;
       room = c.in-Some.ensures.room;

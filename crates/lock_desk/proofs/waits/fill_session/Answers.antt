@@ -7,13 +7,13 @@ use Rattle.lock_desk.proofs.Standings.{standing-here}
 use Rattle.lock_desk.proofs.Fills.{written, blocks-there, blocks-nowhere}
 use Rattle.lock_desk.proofs.waits.fill_session.Goals as goal
 
-pub fill_cell-requires-clause-holders : goal.fill_cell-requires-clause-holders
-fill_cell-requires-clause-holders c =
+pub write_waits-requires-clause-holders : goal.write_waits-requires-clause-holders
+write_waits-requires-clause-holders c =
     let r = c.resource_of-resource.result in
     rw c.clear.ensures.sessions (subst (λ (v : View). AreOfSessions c.args.waits.now.rows.sessions v.holders) (sym (ap view_in c.in-Some-cell_of.ensures)) (c.requires.numbered r).holders)
 
-pub fill_cell-requires-clause-waiting : goal.fill_cell-requires-clause-waiting
-fill_cell-requires-clause-waiting c =
+pub write_waits-requires-clause-waiting : goal.write_waits-requires-clause-waiting
+write_waits-requires-clause-waiting c =
     let r = c.resource_of-resource.result in
     rw c.clear.ensures.sessions (subst (λ (v : View). AreOfSessions c.args.waits.now.rows.sessions v.waiting) (sym (ap view_in c.in-Some-cell_of.ensures)) (c.requires.numbered r).waiting)
 
@@ -25,7 +25,7 @@ returns-in-Some-cell_of-clause-pairs c = λ a b.
     let there : (standing_at s (map standing_of c.args.lockers.now)).wanted ≡ Some r =
     ap (λ (x : Standing). x.wanted) (standing-here c.args.lockers.now s locker c.requires.within c.index-lockers-session.is) ∙ (ap wanted_in c.in-Some.is ∙ ap Some (sym c.resource_of-resource.ensures)) in
     let same : view_blocks s (b + 1) (cell_view r c.args.cells.now.entries) ≡ blocks c.args.cells.now.entries (map standing_of c.args.lockers.now) s (b + 1) = sym (blocks-there c.args.cells.now.entries (map standing_of c.args.lockers.now) s (b + 1) r there) in
-    c.fill_cell.ensures.pairs a b
+    c.write_waits.ensures.pairs a b
     ∙ (ap (λ (x : Bool). x || (eqb (a + 1) s && view_blocks s (b + 1) (record { holders = c.in-Some-cell_of.cell.now.holders.items; waiting = c.in-Some-cell_of.cell.now.waiting.items }))) (c.clear.ensures.pairs a b)
     ∙ (ap (λ (v : View). (pairs_of c.args.waits.now.rows a b && not (eqb a (s - 1))) || (eqb (a + 1) s && view_blocks s (b + 1) v)) (ap view_in c.in-Some-cell_of.ensures)
     ∙ (written s a (pairs_of c.args.waits.now.rows a b) (view_blocks s (b + 1) (cell_view r c.args.cells.now.entries)) c.requires.some

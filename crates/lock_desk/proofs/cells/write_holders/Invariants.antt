@@ -1,7 +1,7 @@
 use Rattle.std.proofs.Common.{◌≡◌, ℕ, ◌+◌, ◌||◌, ◌&&◌, eqb, take}
 use Rattle.waits_for.specs.Pairs.{pairs_of}
 use Rattle.lock_desk.specs.Finding.{holder_blocks}
-use Rattle.lock_desk.proofs.waits.fill_holders.Given as goal
+use Rattle.lock_desk.proofs.cells.write_holders.Given as goal
 
 abbrev pub invariant-loop-holder : goal.invariant-loop-holder
 invariant-loop-holder l = record {
