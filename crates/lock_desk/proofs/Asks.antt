@@ -5,8 +5,8 @@ use Rattle.std.specs.List.{All}
 use Rattle.std.proofs.lemmas.Bool.Decides.{Decides-eqb}
 use Rattle.std.proofs.lemmas.List.{get_or-set_same}
 use Rattle.std.proofs.lemmas.List.Elements.{All-set}
+use Rattle.std.proofs.lemmas.Bool.{cases_Bool}
 use Rattle.lock_modes.specs.declared.Mode.{Mode}
-use Rattle.lock_rules.proofs.Lists.{bool_cases}
 use Rattle.lock_desk.specs.declared.lockers.Locker.{Locker}
 use Rattle.lock_desk.specs.declared.desk.Desk.{Desk}
 use Rattle.lock_desk.specs.Cells.{View, has_session, has_path, can_grant, view_after_asking, CellsBecame}
@@ -120,7 +120,7 @@ module _ (d : Desk) (s : ℕ) (r : List ℕ) (m : Mode) (granted : Bool) (e : De
   has-asked count = record {
     granted_is = is;
     count = count;
-    transactions = λ u. ap (λ (ss : List Standing). (standing_at u ss).transaction) own ∙ elim (bool_cases (eqb s u)) [
+    transactions = λ u. ap (λ (ss : List Standing). (standing_at u ss).transaction) own ∙ elim (cases_Bool (eqb s u)) [
       | inl h ↦ let f = (Decides-eqb s u).0 h in
           subst (λ (i : ℕ). (standing_at i (set (standings d) s (standing_after_asking granted r (standing s d)))).transaction ≡ (standing i d).transaction) f
           (ap (λ (x : Standing). x.transaction) (own-standing (standings d) s (standing_after_asking granted r (standing s d)) long) ∙ asked-transaction granted (standing s d))

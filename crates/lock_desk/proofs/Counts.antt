@@ -5,13 +5,13 @@ use Rattle.lock_rules.proofs.Once.{none-behind}
 use Rattle.std.specs.List.{list_any}
 use Rattle.std.specs.Prelude.{filter}
 use Rattle.std.proofs.lemmas.Bool.Decides.{nat_tests, Decides-eqb}
-use Rattle.std.proofs.lemmas.Bool.{and_parts}
+use Rattle.std.proofs.lemmas.Bool.{and_parts, cases_Bool}
 use Rattle.lock_tree.specs.Paths.{same_path}
 use Rattle.lock_rules.specs.State as rules
 use Rattle.lock_rules.specs.Queue.{queue, conversions, fresh_requests}
 use Rattle.lock_rules.specs.Waits.{resource_of_request}
 use Rattle.lock_rules.specs.Sound.{IsOrdered, IsSound, after, ascend, times}
-use Rattle.lock_rules.proofs.Lists.{bool_cases, same_path-refl, same_path_tells}
+use Rattle.lock_rules.proofs.Lists.{same_path-refl, same_path_tells}
 use Rattle.lock_desk.specs.Cells.{has_session, has_path, AreApart}
 use Rattle.lock_desk.specs.Lockers.{is_wanted, paths_but}
 use Rattle.lock_desk.specs.Shows.{short, claims_on}
@@ -31,7 +31,7 @@ has-append u (x ∷ xs) ys = ap (λ (b : Bool). eqb x.session u || b) (has-appen
 
 two-kinds : (u : ℕ) (x : List ℕ) (p : rules.Claim → Bool) (ws : List rules.Claim) → (has_session u (map short (filter (λ q. same_path q.resource x && p q) ws)) || has_session u (map short (filter (λ q. same_path q.resource x && not (p q)) ws))) ≡ waits_on u x ws
 two-kinds u x p [] = refl
-two-kinds u x p (q ∷ ws) = grind (arith, bool_cases (eqb q.session u), bool_cases (same_path q.resource x), bool_cases (p q), two-kinds u x p ws)
+two-kinds u x p (q ∷ ws) = grind (arith, cases_Bool (eqb q.session u), cases_Bool (same_path q.resource x), cases_Bool (p q), two-kinds u x p ws)
 
 -- who waits for a resource stands in its queue
 pub queue-has : (u : ℕ) (x : List ℕ) (t : rules.Table) → has_session u (map short (queue t x)) ≡ waits_on u x t.requests
@@ -61,7 +61,7 @@ waits_on-some u x (q ∷ ws) h = go (eqb q.session u) h (waits_on-some u x ws)
 
 waits_on-none : (u : ℕ) (x : List ℕ) (ws : List rules.Claim) → times u ws ≡ 0 → waits_on u x ws ≡ false
 waits_on-none u x [] h = refl
-waits_on-none u x (q ∷ ws) h = grind (arith, nat_tests, bool_cases (same_path q.resource x), waits_on-none u x ws)
+waits_on-none u x (q ∷ ws) h = grind (arith, nat_tests, cases_Bool (same_path q.resource x), waits_on-none u x ws)
 
 -- a session that waits once waits where its request is
 pub waits_on-once : (u : ℕ) (x : List ℕ) (ws : List rules.Claim) → times u ws ≤ 1 → waits_on u x ws ≡ has_path x (resource_of_request (rules.request_of u ws))
@@ -114,7 +114,7 @@ locks_in s cs = map (λ (c : rules.Claim). c.resource) (rules.claims_of s cs)
 -- they are those that are seen
 pub listed : (s : ℕ) (x : List ℕ) (cs : List rules.Claim) → has_path x (locks_in s cs) ≡ has_session s (claims_on x cs)
 listed s x [] = refl
-listed s x (c ∷ cs) = grind (arith, bool_cases (eqb c.session s), bool_cases (same_path c.resource x), listed s x cs)
+listed s x (c ∷ cs) = grind (arith, cases_Bool (eqb c.session s), cases_Bool (same_path c.resource x), listed s x cs)
 
 rest-ordered : (c : rules.Claim) (cs : List rules.Claim) → IsOrdered (c ∷ cs) → IsOrdered cs
 rest-ordered c cs o r = go (same_path c.resource r) (o r)

@@ -1,5 +1,6 @@
 -- A transaction begins or ends: its locker is with_transaction.
 use Rattle.std.proofs.Common.{◌≡◌, ℕ, zero, suc, ◌+◌, ◌<◌, ◌≤◌, Bool, true, false, cond, eqb, inl, inr, List, [], ◌∷◌, length, map, get_or, set, Option, Some, None, refl, sym, ◌∙◌, ap, arith, subst}
+use Rattle.std.proofs.lemmas.Bool.{cases_Bool}
 use Rattle.lock_rules.proofs.Sound.{eqb-swap}
 use Rattle.std.specs.List.{All}
 use Rattle.std.specs.Prelude.{vec_len, vec_capacity}
@@ -7,7 +8,7 @@ use Rattle.std.proofs.lemmas.Bool.Decides.{Decides-eqb}
 use Rattle.std.proofs.lemmas.List.Elements.{All-set, All-get_or, All-head, All-tail}
 use Rattle.lock_tree.specs.Paths.{same_path}
 use Rattle.lock_rules.specs.declared.calls.TheConstants.{MAX_LOCKS}
-use Rattle.lock_rules.proofs.Lists.{bool_cases, same_path_tells}
+use Rattle.lock_rules.proofs.Lists.{same_path_tells}
 use Rattle.lock_desk.specs.declared.cells.Part.TheVariants as part
 use Rattle.lock_rules.specs.declared.calls.Transaction.{Transaction}
 use Rattle.lock_rules.specs.Waits.{doom}
@@ -50,7 +51,7 @@ module _ (d : Desk) (s : ℕ) (o : Option Transaction) (locker new : Locker) (e 
 
   -- both in one
   pub each-told : (u : ℕ) → standing u e ≡ cond (eqb u s) (with_transaction o (standing u d)) (standing u d)
-  each-told u = elim (bool_cases (eqb u s)) [
+  each-told u = elim (cases_Bool (eqb u s)) [
     | inl h ↦ let f = (Decides-eqb u s).0 h in sym (ap (λ (b : Bool). cond b (with_transaction o (standing u d)) (standing u d)) h ∙ subst (λ (i : ℕ). with_transaction o (standing i d) ≡ standing i e) (sym f) (sym own-told))
     | inr h ↦ other-told u (eqb-swap u s h) ∙ sym (ap (λ (b : Bool). cond b (with_transaction o (standing u d)) (standing u d)) h)
   ]

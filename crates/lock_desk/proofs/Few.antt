@@ -1,9 +1,10 @@
 -- No more requests wait than there are sessions.
 use Rattle.std.proofs.Common.{◌≡◌, ℕ, zero, suc, ◌+◌, ◌<◌, ◌≤◌, false, eqb, inl, inr, List, [], ◌∷◌, length, Option, Some, None, is_some, refl, sym, ◌∙◌, ap, arith}
 use Rattle.std.proofs.lemmas.Bool.Decides.{nat_tests, Decides-eqb}
+use Rattle.std.proofs.lemmas.Bool.{cases_Bool}
 use Rattle.lock_rules.specs.State as rules
 use Rattle.lock_rules.specs.Sound.{IsOnce, IsSound, times}
-use Rattle.lock_rules.proofs.Lists.{bool_cases, same_path-refl, times-none, times-claims_but}
+use Rattle.lock_rules.proofs.Lists.{same_path-refl, times-none, times-claims_but}
 use Rattle.lock_rules.proofs.Steps.{is-none}
 use Rattle.lock_desk.specs.declared.desk.Desk.{Desk}
 use Rattle.lock_desk.specs.Cells.{View, has_session}
@@ -38,7 +39,7 @@ pigeons (suc n) qs o z h =
     omega (arith, rest, length-but (suc n) qs, o (suc n))
   where
     more : (s : ℕ) → n < s → times s (rules.claims_but (suc n) qs) ≡ 0
-    more s lt = elim (bool_cases (eqb s (suc n))) [
+    more s lt = elim (cases_Bool (eqb s (suc n))) [
       | inl e ↦ let f = (Decides-eqb s (suc n)).0 e in rw f (times-but (suc n) qs)
       | inr e ↦ let k = h s (differ e) in omega (arith, times-claims_but s (suc n) qs, k)
     ]

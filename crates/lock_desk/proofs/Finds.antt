@@ -3,7 +3,7 @@ use Rattle.std.proofs.Common.{◌≡◌, ℕ, ◌+◌, ◌≤◌, Bool, true, fa
 use Rattle.std.proofs.Math.Bool.{and-false, or-false}
 use Rattle.std.specs.Prelude.{filter}
 use Rattle.std.proofs.lemmas.Bool.Decides.{nat_tests, Decides-eqb}
-use Rattle.std.proofs.lemmas.Bool.{both_ways, and_parts, and_from}
+use Rattle.std.proofs.lemmas.Bool.{both_ways, and_parts, and_from, cases_Bool}
 use Rattle.lock_modes.specs.declared.Mode.{Mode}
 use Rattle.lock_modes.specs.Compatibility.{are_compatible}
 use Rattle.lock_tree.specs.Paths.{same_path}
@@ -11,7 +11,7 @@ use Rattle.lock_rules.specs.State as rules
 use Rattle.lock_rules.specs.Queue.{queue}
 use Rattle.lock_rules.specs.Waits.{conflicts, stands_before, keeps_waiting, waits_for, resource_of_request}
 use Rattle.lock_rules.specs.Sound.{IsSound, after, ascend, times}
-use Rattle.lock_rules.proofs.Lists.{bool_cases, same_path-refl, same_path-true, request_of-session}
+use Rattle.lock_rules.proofs.Lists.{same_path-refl, same_path-true, request_of-session}
 use Rattle.lock_rules.proofs.Steps.{is-none}
 use Rattle.lock_rules.proofs.Waiting.{request_of-filter, request_of-front, request_of-rest}
 use Rattle.lock_desk.specs.declared.cells.SessionMode.{SessionMode}
@@ -51,7 +51,7 @@ mode-short s (p ∷ qs) q h = go (eqb p.session s) h (mode-short s qs q)
 
 none-kept : (s : ℕ) (p : rules.Claim → Bool) (qs : List rules.Claim) → times s qs ≡ 0 → rules.request_of s (filter p qs) ≡ None
 none-kept s p [] h = refl
-none-kept s p (c ∷ qs) h = grind (arith, nat_tests, bool_cases (p c), none-kept s p qs)
+none-kept s p (c ∷ qs) h = grind (arith, nat_tests, cases_Bool (p c), none-kept s p qs)
 
 lost-request : (s : ℕ) (p : rules.Claim → Bool) (qs : List rules.Claim) (q : rules.Claim) → times s qs ≤ 1 → rules.request_of s qs ≡ Some q → p q ≡ false → rules.request_of s (filter p qs) ≡ None
 lost-request s p [] q o h e = refl
@@ -95,7 +95,7 @@ holder-seen : (s u : ℕ) (m : Mode) (hs : List SessionMode) → Ascends hs → 
 holder-seen s u m [] h = sym (and-false (not (eqb u s)))
 holder-seen s u m (k ∷ hs) h =
     let p = and_parts (after k.session (map pair_of hs)) (ascend (map pair_of hs)) h in
-    go (bool_cases (eqb k.session u)) p.0 (holder-seen s u m hs p.1)
+    go (cases_Bool (eqb k.session u)) p.0 (holder-seen s u m hs p.1)
   where
     go : (eqb k.session u ≡ true) ⊎ (eqb k.session u ≡ false) → after k.session (map pair_of hs) ≡ true → holder_blocks s m u hs ≡ (not (eqb u s) && conflicts m (mode_of u hs))
         → holder_blocks s m u (k ∷ hs) ≡ (not (eqb u s) && conflicts m (mode_of u (k ∷ hs)))

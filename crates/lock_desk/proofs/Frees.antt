@@ -1,10 +1,10 @@
 -- A session gives up one lock, wherever it stands in its list, or its request.
 use Rattle.std.proofs.Common.{◌≡◌, ℕ, ◌+◌, ◌<◌, ◌≤◌, Bool, true, false, cond, not, eqb, ◌⊎◌, inl, inr, List, [], ◌∷◌, ◌++◌, length, map, get_or, set, Some, None, refl, sym, ◌∙◌, ap, arith, subst}
-use Rattle.std.proofs.lemmas.Bool.{or_parts}
+use Rattle.std.proofs.lemmas.Bool.{or_parts, cases_Bool}
 use Rattle.std.specs.List.{All}
 use Rattle.std.proofs.lemmas.Bool.Decides.{Decides-eqb}
 use Rattle.lock_tree.specs.Paths.{same_path}
-use Rattle.lock_rules.proofs.Lists.{bool_cases, same_path_tells}
+use Rattle.lock_rules.proofs.Lists.{same_path_tells}
 use Rattle.lock_desk.specs.declared.cells.Part.{Part}
 use Rattle.lock_desk.specs.declared.cells.Part.TheVariants as part
 use Rattle.lock_desk.specs.declared.lockers.Locker.{Locker}
@@ -25,16 +25,16 @@ transaction-granted r a b (inr e) = ap (λ (x : Standing). x.transaction) e.1
 -- the resource is gone
 pub gone-but : (r : List ℕ) (rs : List (List ℕ)) → has_path r (paths_but r rs) ≡ false
 gone-but r [] = refl
-gone-but r (p ∷ rs) = grind (arith, bool_cases (same_path p r), gone-but r rs)
+gone-but r (p ∷ rs) = grind (arith, cases_Bool (same_path p r), gone-but r rs)
 
 -- each other one is there as before
 pub other-but : (r x : List ℕ) (rs : List (List ℕ)) → same_path r x ≡ false → has_path x (paths_but r rs) ≡ has_path x rs
 other-but r x [] h = refl
-other-but r x (p ∷ rs) h = grind (arith, same_path_tells p r, bool_cases (same_path p x), other-but r x rs h)
+other-but r x (p ∷ rs) h = grind (arith, same_path_tells p r, cases_Bool (same_path p x), other-but r x rs h)
 
 none-but : (x r : List ℕ) (rs : List (List ℕ)) → has_path x rs ≡ false → has_path x (paths_but r rs) ≡ false
 none-but x r [] h = refl
-none-but x r (p ∷ rs) h = let k = or_parts (same_path p x) (has_path x rs) h in grind (arith, bool_cases (same_path p r), none-but x r rs k.1)
+none-but x r (p ∷ rs) h = let k = or_parts (same_path p x) (has_path x rs) h in grind (arith, cases_Bool (same_path p r), none-but x r rs k.1)
 
 -- they stand only once
 pub apart-but : (r : List ℕ) (rs : List (List ℕ)) → AreApart rs → AreApart (paths_but r rs)
@@ -48,7 +48,7 @@ apart-but r (p ∷ rs) a = go (same_path p r) (apart-but r rs a.1)
 -- they are no more
 pub few-but : (r : List ℕ) (rs : List (List ℕ)) → length (paths_but r rs) ≤ length rs
 few-but r [] = omega arith
-few-but r (p ∷ rs) = grind (arith, bool_cases (same_path p r), few-but r rs)
+few-but r (p ∷ rs) = grind (arith, cases_Bool (same_path p r), few-but r rs)
 
 same-but : (r : List ℕ) (rs : List (List ℕ)) → has_path r rs ≡ false → paths_but r rs ≡ rs
 same-but r [] h = refl
@@ -95,7 +95,7 @@ module _ (d : Desk) (p : Part) (s : ℕ) (r : List ℕ) (locker new : Locker) (l
     pub has-freed : e.count ≡ d.count → HasFreed p s r d e
     has-freed count = record {
       count = count;
-      transactions = λ u. elim (bool_cases (eqb s u)) [
+      transactions = λ u. elim (cases_Bool (eqb s u)) [
         | inl h ↦ let f = (Decides-eqb s u).0 h in subst (λ (i : ℕ). (standing i e).transaction ≡ (standing i d).transaction) f (ap (λ (x : Standing). x.transaction) freed-own ∙ here.transaction)
         | inr h ↦ transaction-granted r _ (standing u e) (granted-mid u) ∙ ap (λ (x : Standing). x.transaction) (other-standing (standings d) s u (standing_of new) h)
       ];

@@ -2,9 +2,9 @@
 use Rattle.lock_rules.specs.Sound.{after, ascend}
 use Rattle.std.proofs.Common.{◌≡◌, ℕ, ◌<◌, Bool, true, false, cond, not, eqb, ◌&&◌, ◌||◌, List, [], ◌∷◌, map, refl, sym, ◌∙◌, ap, arith}
 use Rattle.std.proofs.lemmas.Bool.Decides.{nat_tests}
-use Rattle.std.proofs.lemmas.Bool.{and_parts}
+use Rattle.std.proofs.lemmas.Bool.{and_parts, cases_Bool}
 use Rattle.lock_modes.specs.Compatibility.{are_compatible}
-use Rattle.lock_rules.proofs.Lists.{bool_cases, after-trans}
+use Rattle.lock_rules.proofs.Lists.{after-trans}
 use Rattle.lock_desk.specs.declared.cells.SessionMode.{SessionMode}
 use Rattle.lock_desk.specs.declared.cells.Part.TheVariants as part
 use Rattle.lock_desk.specs.Cells.{View, has_session, pair_of, with_holder, without, fits_among, view_after_grants, view_after_promotion, view_after_freeing}
@@ -46,7 +46,7 @@ without-with s c (k ∷ hs) n h =
 
 fits-without : (c : SessionMode) (s : ℕ) (hs : List SessionMode) → fits_among c hs ≡ true → fits_among c (without s hs) ≡ true
 fits-without c s [] h = h
-fits-without c s (k ∷ hs) h = grind (arith, bool_cases (eqb k.session s), bool_cases (eqb k.session c.session), bool_cases (are_compatible c.mode k.mode), fits-without c s hs)
+fits-without c s (k ∷ hs) h = grind (arith, cases_Bool (eqb k.session s), cases_Bool (eqb k.session c.session), cases_Bool (are_compatible c.mode k.mode), fits-without c s hs)
 
 apart-first : (s : ℕ) (q : SessionMode) (qs : List SessionMode) → has_session s (q ∷ qs) ≡ false → (eqb q.session s ≡ false) × (has_session s qs ≡ false)
 apart-first s q qs h = go (eqb q.session s) h

@@ -1,12 +1,13 @@
 -- What is seen after a release.
 use Rattle.std.proofs.Common.{◌≡◌, ℕ, Bool, false, cond, inl, inr, List, [], ◌∷◌, map, None, refl, sym, ◌∙◌, ap, arith}
 use Rattle.std.proofs.lemmas.Bool.Decides.{nat_tests}
+use Rattle.std.proofs.lemmas.Bool.{cases_Bool}
 use Rattle.lock_tree.specs.Paths.{same_path}
 use Rattle.lock_rules.specs.State as rules
 use Rattle.lock_rules.specs.Queue.{queue, locks_but}
 use Rattle.lock_rules.specs.Step.{holds_child, after_release}
 use Rattle.lock_rules.specs.Sound.{IsSound}
-use Rattle.lock_rules.proofs.Lists.{bool_cases, same_path_tells}
+use Rattle.lock_rules.proofs.Lists.{same_path_tells}
 use Rattle.lock_rules.proofs.Alters.{queue-alters}
 use Rattle.lock_rules.proofs.Cuts.{one_less, less-alters, less-sound}
 use Rattle.lock_desk.specs.declared.cells.Part.TheVariants as part
@@ -17,11 +18,11 @@ use Rattle.lock_desk.proofs.Tables.{queue-apart, promoted-seen}
 module _ (s : ℕ) (r : List ℕ) (t : rules.Table) (i : IsSound t) (free : holds_child t s r ≡ false) (n : rules.request_of s t.requests ≡ None) where
   holders-own : (cs : List rules.Claim) → claims_on r (locks_but s r cs) ≡ without s (claims_on r cs)
   holders-own [] = refl
-  holders-own (c ∷ cs) = grind (arith, nat_tests, bool_cases (same_path c.resource r), holders-own cs)
+  holders-own (c ∷ cs) = grind (arith, nat_tests, cases_Bool (same_path c.resource r), holders-own cs)
 
   holders-other : (x : List ℕ) (cs : List rules.Claim) → same_path r x ≡ false → claims_on x (locks_but s r cs) ≡ claims_on x cs
   holders-other x [] h = refl
-  holders-other x (c ∷ cs) h = grind (arith, nat_tests, same_path_tells c.resource r, bool_cases (same_path c.resource x), holders-other x cs h)
+  holders-other x (c ∷ cs) h = grind (arith, nat_tests, same_path_tells c.resource r, cases_Bool (same_path c.resource x), holders-other x cs h)
 
   queue-less : (x : List ℕ) → queue (one_less s r t) x ≡ queue t x
   queue-less x = queue-alters s t (one_less s r t) (less-alters s r t n) x ∙ queue-apart t s x i.once (λ q e. absurd (cc))

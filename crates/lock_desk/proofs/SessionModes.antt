@@ -2,7 +2,7 @@
 use Rattle.std.proofs.Common.{◌≡◌, ℕ, ◌+◌, ◌<◌, ◌≤◌, Bool, true, false, is_some, cond, not, eqb, ◌&&◌, ◌||◌, ◌⊎◌, inr, List, [], ◌∷◌, ◌++◌, length, get_or, take, drop, set, refl, sym, ◌∙◌, ap, arith, add-one}
 use Rattle.std.proofs.lemmas.List.{set_split, drop_more}
 use Rattle.std.proofs.lemmas.Bool.Decides.{nat_tests}
-use Rattle.lock_rules.proofs.Lists.{bool_cases}
+use Rattle.std.proofs.lemmas.Bool.{cases_Bool}
 use Rattle.lock_desk.specs.declared.cells.SessionMode.{SessionMode}
 use Rattle.lock_desk.specs.Cells.{with_holder, has_session, mode_of, times, without, is_nobody, behind_conversions, queue_with}
 
@@ -74,7 +74,7 @@ mode-has s (c ∷ cs) = grind (arith, nat_tests, mode-has s cs)
 
 times-behind : (s : ℕ) (c : SessionMode) (hs qs : List SessionMode) → times s (behind_conversions c hs qs) ≡ times s qs + cond (eqb c.session s) 1 0
 times-behind s c hs [] = grind (arith, nat_tests)
-times-behind s c hs (q ∷ qs) = grind (arith, nat_tests, bool_cases (has_session q.session hs), times-behind s c hs qs)
+times-behind s c hs (q ∷ qs) = grind (arith, nat_tests, cases_Bool (has_session q.session hs), times-behind s c hs qs)
 
 -- a request that comes into the queue adds one
 pub times-queued : (s : ℕ) (c : SessionMode) (hs qs : List SessionMode) → times s (queue_with c hs qs) ≡ times s qs + cond (eqb c.session s) 1 0
@@ -86,7 +86,7 @@ times-queued s c hs qs = go (has_session c.session hs)
 
 has_session-behind : (s : ℕ) (c : SessionMode) (hs qs : List SessionMode) → has_session s (behind_conversions c hs qs) ≡ (eqb c.session s || has_session s qs)
 has_session-behind s c hs [] = refl
-has_session-behind s c hs (q ∷ qs) = grind (arith, nat_tests, bool_cases (has_session q.session hs), has_session-behind s c hs qs)
+has_session-behind s c hs (q ∷ qs) = grind (arith, nat_tests, cases_Bool (has_session q.session hs), has_session-behind s c hs qs)
 
 -- who waits once a request has come into the queue
 pub has_session-queued : (s : ℕ) (c : SessionMode) (hs qs : List SessionMode) → has_session s (queue_with c hs qs) ≡ (eqb c.session s || has_session s qs)

@@ -1,6 +1,6 @@
 -- A desk that shows a state makes its tests, and shows the next state after each act.
 use Rattle.std.proofs.Common.{◌≡◌, ℕ, ◌+◌, ◌<◌, Bool, true, false, cond, not, eqb, ◌&&◌, leb, inl, inr, List, [], ◌∷◌, ◌++◌, length, length-append, map, Option, Some, None, is_some, refl, sym, ◌∙◌, ap, arith, subst}
-use Rattle.std.proofs.lemmas.Bool.{not-false}
+use Rattle.std.proofs.lemmas.Bool.{not-false, cases_Bool}
 use Rattle.lock_modes.specs.declared.Mode.{Mode}
 use Rattle.lock_modes.specs.Order.{at_or_below, need_of}
 use Rattle.lock_tree.specs.Paths.{same_path, parent_of, has_parent}
@@ -17,7 +17,7 @@ use Rattle.lock_rules.specs.Queue.{after_grant, is_granted_at_once, with_request
 use Rattle.lock_rules.specs.Waits.{after_victims}
 use Rattle.lock_rules.specs.Step.{is_nothing, lacks_parent, holds_child, target_of, tests, first_failing, is_held, after_asking, after_wait, ask, after_end, act}
 use Rattle.lock_rules.specs.Sound.{IsNumbered, IsSound, Stands}
-use Rattle.lock_rules.proofs.Lists.{bool_cases, request_of-claims_but}
+use Rattle.lock_rules.proofs.Lists.{request_of-claims_but}
 use Rattle.lock_rules.proofs.Marks.{below-sup, sup-some}
 use Rattle.lock_rules.proofs.Begins.{begins-sound}
 use Rattle.lock_rules.proofs.Victims.{settled-enough}
@@ -198,7 +198,7 @@ module _ (d e : Desk) (st : rules.State) (s : ℕ) (r : List ℕ) (asks m : Mode
 
   -- what it asked for is held then
   pub granted-answer : (is_held (mode_held d s r) m ≡ true → IsSameSeen d e) → (is_held (mode_held d s r) m ≡ false → HasAsked s r m true d e) → DoesAnswer (ask st s r (target_of (rules.held_mode st.table s r) asks)) e (Granted m)
-  granted-answer held more = elim (bool_cases (is_held (mode_held d s r) m)) [
+  granted-answer held more = elim (cases_Bool (is_held (mode_held d s r) m)) [
     | inl y ↦ answered st (asked-held y) (let same = held y in record {
       count = same.count ∙ h.count;
       transactions = λ u. ap (λ ss. (standing_at u ss).transaction) same.standings_same ∙ h.transactions u;

@@ -1,11 +1,11 @@
 -- What a grant does to the lockers.
 use Rattle.std.proofs.Common.{◌≡◌, ℕ, zero, suc, ◌<◌, Bool, true, false, cond, eqb, ◌||◌, inl, inr, List, [], ◌∷◌, ◌++◌, length, map, get_or, set, refl, sym, ◌∙◌, ap, arith}
 use Rattle.std.proofs.Math.Bool.{or-false, or_assoc}
-use Rattle.std.proofs.lemmas.Bool.{or_right, or_parts}
+use Rattle.std.proofs.lemmas.Bool.{or_right, or_parts, cases_Bool}
 use Rattle.std.proofs.lemmas.Bool.Decides.{nat_tests, Decides-eqb}
 use Rattle.std.proofs.lemmas.List.{get_or-set_same, get_or-set_other}
 use Rattle.lock_tree.specs.Paths.{same_path}
-use Rattle.lock_rules.proofs.Lists.{bool_cases, same_path-refl, same_path_tells}
+use Rattle.lock_rules.proofs.Lists.{same_path-refl, same_path_tells}
 use Rattle.lock_rules.proofs.Alters.{true≢false}
 use Rattle.lock_desk.specs.declared.cells.SessionMode.{SessionMode}
 use Rattle.lock_desk.specs.declared.lockers.Locker.{Locker}
@@ -100,7 +100,7 @@ waits-within (x ∷ ss) r (suc s) h = omega (arith, waits-within ss r s h)
 pub agree-next : (r : List ℕ) (v : View) (c : SessionMode) (w : View) (ss : List Standing) → IsNext v c w → IsOnce v → DoAgree r v ss → c.session < length ss
     → DoAgree r w (set ss c.session (standing_after_grant r (standing_at c.session ss)))
 agree-next r v c w ss n o a lt = record {
-  held = λ s. elim (bool_cases (eqb c.session s)) [
+  held = λ s. elim (cases_Bool (eqb c.session s)) [
     | inl e ↦ let f = (Decides-eqb c.session s).0 e in
         rw (← f) (ap (λ (x : Standing). has_path r x.held) (get_or-set_same ss c.session (standing_after_grant r (standing_at c.session ss)) no_standing lt)
         ∙ has_path-with r (standing_at c.session ss).held
@@ -108,7 +108,7 @@ agree-next r v c w ss n o a lt = record {
     | inr e ↦ ap (λ (x : Standing). has_path r x.held) (other s e)
         ∙ (a.held s ∙ sym (ap (has_session s) n.holders ∙ (has_session-with_holder s c v.holders ∙ ap (λ (b : Bool). b || has_session s v.holders) e)))
   ];
-  wanted = λ s. elim (bool_cases (eqb c.session s)) [
+  wanted = λ s. elim (cases_Bool (eqb c.session s)) [
     | inl e ↦ let f = (Decides-eqb c.session s).0 e in
         rw (← f) (ap (λ (x : Standing). is_wanted r x.wanted) (get_or-set_same ss c.session (standing_after_grant r (standing_at c.session ss)) no_standing lt) ∙ sym gone)
     | inr e ↦ ap (λ (x : Standing). is_wanted r x.wanted) (other s e)
@@ -127,7 +127,7 @@ agree-next r v c w ss n o a lt = record {
 
 -- nobody is granted the resource twice
 pub same-next : (r : List ℕ) (old ss : List Standing) (s : ℕ) → s < length ss → is_wanted r (standing_at s ss).wanted ≡ true → AreSameOrGranted r old ss → AreSameOrGranted r old (set ss s (standing_after_grant r (standing_at s ss)))
-same-next r old ss s lt w h u = elim (bool_cases (eqb s u)) [
+same-next r old ss s lt w h u = elim (cases_Bool (eqb s u)) [
   | inl e ↦ let f = (Decides-eqb s u).0 e in rw (← f) (own (h s))
   | inr e ↦ let k : standing_at u (set ss s (standing_after_grant r (standing_at s ss))) ≡ standing_at u ss = grind (arith, nat_tests, get_or-set_other {A = Standing}) in rw k (h u)
 ]

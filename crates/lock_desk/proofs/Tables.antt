@@ -2,13 +2,14 @@
 use Rattle.std.proofs.Common.{◌≡◌, ℕ, Bool, true, false, cond, not, eqb, ◌||◌, inl, inr, List, [], ◌∷◌, map, Some, is_some, refl, sym, ◌∙◌, ap, arith, subst}
 use Rattle.std.specs.List.{list_all}
 use Rattle.std.proofs.lemmas.Bool.Decides.{nat_tests, Decides-eqb}
+use Rattle.std.proofs.lemmas.Bool.{cases_Bool}
 use Rattle.lock_modes.specs.declared.Mode.{Mode}
 use Rattle.lock_modes.specs.Compatibility.{are_compatible}
 use Rattle.lock_tree.specs.Paths.{same_path}
 use Rattle.lock_rules.specs.State as rules
 use Rattle.lock_rules.specs.Queue.{queue, fits, with_lock, after_grant, granted_while_fitting, after_promotion, after_promotions}
 use Rattle.lock_rules.specs.Sound.{IsOnce, IsSound}
-use Rattle.lock_rules.proofs.Lists.{bool_cases, same_path-refl, same_path-true, same_path_tells, In, In-request}
+use Rattle.lock_rules.proofs.Lists.{same_path-refl, same_path-true, same_path_tells, In, In-request}
 use Rattle.lock_rules.proofs.Alters.{queue-alters, true≢false}
 use Rattle.lock_rules.proofs.Sound.{In-queue, head-request, queue-rest, granted-alters, granted-sound}
 use Rattle.lock_rules.proofs.Promote.{promoted-promoted}
@@ -26,7 +27,7 @@ in_mode s m = record { session = s; mode = m }
 -- a mode fits in a table where it fits among the holders that are seen
 pub fits-seen : (s : ℕ) (m : Mode) (r : List ℕ) (cs : List rules.Claim) → list_all (λ h. eqb h.0 s || are_compatible m h.1) (rules.holders r cs) ≡ fits_among (in_mode s m) (claims_on r cs)
 fits-seen s m r [] = refl
-fits-seen s m r (c ∷ cs) = grind (arith, bool_cases (same_path c.resource r), fits-seen s m r cs)
+fits-seen s m r (c ∷ cs) = grind (arith, cases_Bool (same_path c.resource r), fits-seen s m r cs)
 
 -- the holders of the resource once a lock is put
 pub claims_on-with_lock : (s : ℕ) (r : List ℕ) (m : Mode) (cs : List rules.Claim) → claims_on r (with_lock s r m cs) ≡ with_holder (in_mode s m) (claims_on r cs)
@@ -41,22 +42,22 @@ claims_on-with_lock_path s q r m (c ∷ cs) h = grind (arith, nat_tests, same_pa
 -- the holders without a session
 pub claims_on-claims_but : (s : ℕ) (r : List ℕ) (cs : List rules.Claim) → claims_on r (rules.claims_but s cs) ≡ without s (claims_on r cs)
 claims_on-claims_but s r [] = refl
-claims_on-claims_but s r (c ∷ cs) = grind (arith, nat_tests, bool_cases (same_path c.resource r), claims_on-claims_but s r cs)
+claims_on-claims_but s r (c ∷ cs) = grind (arith, nat_tests, cases_Bool (same_path c.resource r), claims_on-claims_but s r cs)
 
 -- who holds a resource is seen among its holders
 pub held-seen : (s : ℕ) (r : List ℕ) (cs : List rules.Claim) → is_some (rules.mode_in s r cs) ≡ has_session s (claims_on r cs)
 held-seen s r [] = refl
-held-seen s r (c ∷ cs) = grind (arith, nat_tests, bool_cases (same_path c.resource r), held-seen s r cs)
+held-seen s r (c ∷ cs) = grind (arith, nat_tests, cases_Bool (same_path c.resource r), held-seen s r cs)
 
 -- the mode that it holds there is seen too
 pub mode-seen : (s : ℕ) (r : List ℕ) (cs : List rules.Claim) → rules.mode_in s r cs ≡ mode_of s (claims_on r cs)
 mode-seen s r [] = refl
-mode-seen s r (c ∷ cs) = grind (arith, nat_tests, bool_cases (same_path c.resource r), mode-seen s r cs)
+mode-seen s r (c ∷ cs) = grind (arith, nat_tests, cases_Bool (same_path c.resource r), mode-seen s r cs)
 
 -- the holders with their modes are those that are seen
 pub pairs-seen : (r : List ℕ) (cs : List rules.Claim) → map pair_of (claims_on r cs) ≡ rules.holders r cs
 pairs-seen r [] = refl
-pairs-seen r (c ∷ cs) = grind (arith, bool_cases (same_path c.resource r), pairs-seen r cs)
+pairs-seen r (c ∷ cs) = grind (arith, cases_Bool (same_path c.resource r), pairs-seen r cs)
 
 -- queues
 
@@ -73,7 +74,7 @@ claims_but-others s (q ∷ qs) h =
 
 -- a session whose request is elsewhere, or that has none, doesn't wait in this queue
 pub queue-apart : (t : rules.Table) (s : ℕ) (x : List ℕ) → IsOnce t.requests → ((q : rules.Claim) → rules.request_of s t.requests ≡ Some q → same_path q.resource x ≡ false) → rules.claims_but s (queue t x) ≡ queue t x
-queue-apart t s x o h = claims_but-others s (queue t x) (λ p i. elim (bool_cases (eqb p.session s)) [
+queue-apart t s x o h = claims_but-others s (queue t x) (λ p i. elim (cases_Bool (eqb p.session s)) [
   | inr n ↦ n
   | inl e ↦
       let k = In-queue t x p i in
@@ -122,7 +123,7 @@ front-seen r (q ∷ qs) t i e x = go (fits t q.session q.resource q.mode) refl (
     go true f more =
         more (granted-sound q.session q.resource q.mode t i (i.raising q.session q request.0) (i.asked_under q.session q request.0) f) (queue-rest t (after_grant q.session q.resource q.mode t) r q qs i.once e (granted-alters q.session q.resource q.mode t))
         ∙ (ap (λ (hs : List SessionMode). cond (same_path r x) (view_after_grants hs (map short qs)) (view x (after_grant q.session q.resource q.mode t))) holders-next
-        ∙ (elim (bool_cases (same_path r x)) [
+        ∙ (elim (cases_Bool (same_path r x)) [
           | inl h ↦ rw h refl
           | inr h ↦ ap (λ (b : Bool). cond b (view_after_grants (with_holder (short q) (claims_on r t.held)) (map short qs)) (view x (after_grant q.session q.resource q.mode t))) h ∙ (there h ∙ sym (ap (λ (b : Bool). cond b (view_after_grants (with_holder (short q) (claims_on r t.held)) (map short qs)) (view x t)) h))
         ]

@@ -1,12 +1,13 @@
 -- The lockers say what the cells say, after each change.
 use Rattle.std.proofs.Common.{◌≡◌, ℕ, zero, suc, ◌<◌, Bool, true, false, cond, not, eqb, ◌&&◌, ◌||◌, inl, inr, List, [], ◌∷◌, length, map, get_or, set, Option, Some, None, refl, sym, ◌∙◌, ap, arith, subst}
+use Rattle.std.proofs.lemmas.Bool.{cases_Bool}
 use Rattle.lock_rules.proofs.Sound.{eqb-swap}
 use Rattle.std.specs.List.{All}
 use Rattle.std.proofs.lemmas.Bool.Decides.{nat_tests, Decides-eqb}
 use Rattle.std.proofs.lemmas.List.{get_or_default, get_or-set_same, get_or-set_other}
 use Rattle.std.proofs.lemmas.List.Elements.{All-head, All-tail}
 use Rattle.lock_tree.specs.Paths.{same_path}
-use Rattle.lock_rules.proofs.Lists.{bool_cases, same_path-refl, same_path-true, same_path_tells}
+use Rattle.lock_rules.proofs.Lists.{same_path-refl, same_path-true, same_path_tells}
 use Rattle.lock_desk.specs.declared.cells.SessionMode.{SessionMode}
 use Rattle.lock_desk.specs.declared.lockers.Locker.{Locker}
 use Rattle.lock_desk.specs.declared.desk.Desk.{Desk}
@@ -90,12 +91,12 @@ module _ (ss : List Standing) (p : Part) (s : ℕ) (r : List ℕ) (y : Standing)
   -- lockers and cell agree where it was given up
   pub given-agree : (v : View) → DoAgree r v ss → DoAgree r (view_after_giving_up p s v) (set ss s y)
   given-agree v a = record {
-    held = λ u. elim (bool_cases (eqb s u)) [
+    held = λ u. elim (cases_Bool (eqb s u)) [
       | inl h ↦ let f = (Decides-eqb s u).0 h in
           rw (← f) (ap (λ (x : Standing). has_path r x.held) (own-standing ss s y lt) ∙ (gives.held ∙ (ap (still_held p) (a.held s) ∙ sym (own-holders p s v))))
       | inr h ↦ ap (λ (x : Standing). has_path r x.held) (other-standing ss s u y h) ∙ (a.held u ∙ sym (other-holders p s u v h))
     ];
-    wanted = λ u. elim (bool_cases (eqb s u)) [
+    wanted = λ u. elim (cases_Bool (eqb s u)) [
       | inl h ↦ let f = (Decides-eqb s u).0 h in
           rw (← f) (ap (λ (x : Standing). is_wanted r x.wanted) (own-standing ss s y lt) ∙ (gives.wanted ∙ (ap (still_wanted p) (a.wanted s) ∙ sym (own-waiting p s v))))
       | inr h ↦ ap (λ (x : Standing). is_wanted r x.wanted) (other-standing ss s u y h) ∙ (a.wanted u ∙ sym (other-waiting p s u v h))
@@ -105,12 +106,12 @@ module _ (ss : List Standing) (p : Part) (s : ℕ) (r : List ℕ) (y : Standing)
   -- and elsewhere as before
   pub given-other : (x : List ℕ) → same_path r x ≡ false → (v : View) → DoAgree x v ss → DoAgree x v (set ss s y)
   given-other x n v a = record {
-    held = λ u. elim (bool_cases (eqb s u)) [
+    held = λ u. elim (cases_Bool (eqb s u)) [
       | inl h ↦ let f = (Decides-eqb s u).0 h in
           rw (← f) (ap (λ (z : Standing). has_path x z.held) (own-standing ss s y lt) ∙ (gives.held_elsewhere x n ∙ a.held s))
       | inr h ↦ ap (λ (z : Standing). has_path x z.held) (other-standing ss s u y h) ∙ a.held u
     ];
-    wanted = λ u. elim (bool_cases (eqb s u)) [
+    wanted = λ u. elim (cases_Bool (eqb s u)) [
       | inl h ↦ let f = (Decides-eqb s u).0 h in
           rw (← f) (ap (λ (z : Standing). is_wanted x z.wanted) (own-standing ss s y lt) ∙ (gives.wanted_elsewhere x n ∙ a.wanted s))
       | inr h ↦ ap (λ (z : Standing). is_wanted x z.wanted) (other-standing ss s u y h) ∙ a.wanted u
@@ -164,21 +165,21 @@ module _ (ss : List Standing) (s : ℕ) (r : List ℕ) (c : SessionMode) (lt : s
 
   asked-either : (standing_at s ss).wanted ≡ None → (v : View) (b : Bool) → DoAgree r v ss → DoAgree r (cond b (record { holders = with_holder c v.holders; waiting = v.waiting }) (record { holders = v.holders; waiting = queue_with c v.holders v.waiting })) (standings_after_asking b)
   asked-either idle v true a = record {
-    held = λ u. elim (bool_cases (eqb s u)) [
+    held = λ u. elim (cases_Bool (eqb s u)) [
       | inl h ↦ let f = (Decides-eqb s u).0 h in rw (← f) (ap (λ (x : Standing). has_path r x.held) (own-standing ss s (standing_after_asking true r (standing_at s ss)) lt) ∙ (has_path-with r (standing_at s ss).held ∙ sym (own-holder v.holders)))
       | inr h ↦ ap (λ (x : Standing). has_path r x.held) (other-standing ss s u (standing_after_asking true r (standing_at s ss)) h) ∙ (a.held u ∙ sym (other-holder u v.holders h))
     ];
-    wanted = λ u. elim (bool_cases (eqb s u)) [
+    wanted = λ u. elim (cases_Bool (eqb s u)) [
       | inl h ↦ let f = (Decides-eqb s u).0 h in rw (← f) (ap (λ (x : Standing). is_wanted r x.wanted) (own-standing ss s (standing_after_asking true r (standing_at s ss)) lt) ∙ (sym (ap (is_wanted r) idle) ∙ a.wanted s))
       | inr h ↦ ap (λ (x : Standing). is_wanted r x.wanted) (other-standing ss s u (standing_after_asking true r (standing_at s ss)) h) ∙ a.wanted u
     ];
   }
   asked-either idle v false a = record {
-    held = λ u. elim (bool_cases (eqb s u)) [
+    held = λ u. elim (cases_Bool (eqb s u)) [
       | inl h ↦ let f = (Decides-eqb s u).0 h in rw (← f) (ap (λ (x : Standing). has_path r x.held) (own-standing ss s (standing_after_asking false r (standing_at s ss)) lt) ∙ a.held s)
       | inr h ↦ ap (λ (x : Standing). has_path r x.held) (other-standing ss s u (standing_after_asking false r (standing_at s ss)) h) ∙ a.held u
     ];
-    wanted = λ u. elim (bool_cases (eqb s u)) [
+    wanted = λ u. elim (cases_Bool (eqb s u)) [
       | inl h ↦ let f = (Decides-eqb s u).0 h in rw (← f) (ap (λ (x : Standing). is_wanted r x.wanted) (own-standing ss s (standing_after_asking false r (standing_at s ss)) lt) ∙ (same_path-refl r ∙ sym (own-queued v.holders v.waiting)))
       | inr h ↦ ap (λ (x : Standing). is_wanted r x.wanted) (other-standing ss s u (standing_after_asking false r (standing_at s ss)) h) ∙ (a.wanted u ∙ sym (other-queued u v.holders v.waiting h))
     ];
@@ -199,11 +200,11 @@ module _ (ss : List Standing) (s : ℕ) (r : List ℕ) (c : SessionMode) (lt : s
   -- and about the others as before
   pub asked-other : (x : List ℕ) (v : View) (b : Bool) → same_path r x ≡ false → (standing_at s ss).wanted ≡ None → DoAgree x v ss → DoAgree x v (standings_after_asking b)
   asked-other x v b n idle a = record {
-    held = λ u. elim (bool_cases (eqb s u)) [
+    held = λ u. elim (cases_Bool (eqb s u)) [
       | inl h ↦ let f = (Decides-eqb s u).0 h in rw (← f) (ap (λ (y : Standing). has_path x y.held) (own-standing ss s (standing_after_asking b r (standing_at s ss)) lt) ∙ (held-asked x b n ∙ a.held s))
       | inr h ↦ ap (λ (y : Standing). has_path x y.held) (other-standing ss s u (standing_after_asking b r (standing_at s ss)) h) ∙ a.held u
     ];
-    wanted = λ u. elim (bool_cases (eqb s u)) [
+    wanted = λ u. elim (cases_Bool (eqb s u)) [
       | inl h ↦ let f = (Decides-eqb s u).0 h in rw (← f) (ap (λ (y : Standing). is_wanted x y.wanted) (own-standing ss s (standing_after_asking b r (standing_at s ss)) lt) ∙ (wanted-asked x b n idle ∙ a.wanted s))
       | inr h ↦ ap (λ (y : Standing). is_wanted x y.wanted) (other-standing ss s u (standing_after_asking b r (standing_at s ss)) h) ∙ a.wanted u
     ];

@@ -1,6 +1,6 @@
 use Rattle.std.proofs.Common.{◌∙◌, Bool, false, inl, inr, vec_len, ap, arith, subst}
+use Rattle.std.proofs.lemmas.Bool.{cases_Bool}
 use Rattle.lock_rules.specs.Step.{target_of, is_held}
-use Rattle.lock_rules.proofs.Lists.{bool_cases}
 use Rattle.lock_desk.specs.Cells.{is_granted}
 use Rattle.lock_desk.specs.Changes.{mode_held, HasAsked}
 use Rattle.lock_desk.proofs.Steps.{first_state}
@@ -25,7 +25,7 @@ returns-in-Waiting-clause-ask c = λ st i j h.
     let r = c.args.resource in
     let m = c.target_of-target.result in
     let target = c.target_of-target.ensures ∙ ap (λ o. target_of o c.args.mode) c.held-held.ensures in
-    elim (bool_cases (is_held (mode_held c.args.self.now c.args.session c.args.resource) c.target_of-target.result)) [
+    elim (cases_Bool (is_held (mode_held c.args.self.now c.args.session c.args.resource) c.target_of-target.result)) [
       | inl y ↦ absurd (let a = (c.in_ok-seek.ensures.held y).0 in let b = ap is_granted c.in-Waiting.is in cc)
       | inr n ↦
           let k = subst (λ (b : Bool). HasAsked c.args.session c.args.resource c.target_of-target.result b c.args.self.now c.seek.new.self) (ap is_granted c.in-Waiting.is) (c.in_ok-seek.ensures.asked n) in
