@@ -1,8 +1,8 @@
-pub mod Numerals
 pub mod Names
 pub mod Resources
 pub mod Sessions
 pub mod RowLaws
+pub mod TestLaws
 pub mod RecordSteps
 pub mod CsvRecords
 pub mod TraceLaws

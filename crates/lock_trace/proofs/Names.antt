@@ -3,6 +3,7 @@ use Rattle.std.proofs.Common.{◌≡◌, ℕ, Bool, true, false, List, [], ◌�
 use Rattle.std.specs.Prelude.{if◌then◌else◌, bytes_eq, nat_lt, ◌<◌}
 use Rattle.std.specs.List.{list_all}
 use Rattle.std.specs.Str.{is_utf8, IsAscii}
+use Rattle.std.proofs.lemmas.Bool.{and_parts}
 use Rattle.std.proofs.lemmas.Bool.Decides.{nat_tests}
 use Rattle.std.proofs.lemmas.Slice.Eq.{bytes_eq-Decides}
 use Rattle.std.proofs.lemmas.Str.{is_utf8-from_IsUtf8, IsUtf8-from_ascii}
@@ -14,8 +15,7 @@ use Rattle.lock_trace.specs.declared.faults.TraceKind.{TraceKind}
 use Rattle.lock_trace.specs.declared.faults.TraceKind.TheVariants as kind
 use Rattle.lock_trace.specs.declared.words.Op.{Op}
 use Rattle.lock_trace.specs.Words.{word_of, ops}
-use Rattle.lock_trace.specs.Fields.{named, op_in, mode_in}
-use Rattle.lock_trace.proofs.Numerals.{and_parts}
+use Rattle.lock_trace.specs.Fields.{named, modes, op_in, mode_in}
 
 -- the name of none of them
 abbrev pub Misses : {A : Type 0} → (A → List ℕ) → List A → List ℕ → Type 0
@@ -55,7 +55,7 @@ pub op_is : (bs : List ℕ) (o : Op) → op_in bs ≡ Ok o → bs ≡ word_of o
 op_is bs o e = named_ok word_of kind.Op ops bs o e
 
 pub mode_is : (bs : List ℕ) (m : Mode) → mode_in bs ≡ Ok m → bs ≡ name_of m
-mode_is bs m e = named_ok name_of kind.Mode (NL ∷ IS ∷ IX ∷ S ∷ SIX ∷ X ∷ []) bs m e
+mode_is bs m e = named_ok name_of kind.Mode modes bs m e
 
 pub mode_by_name : (m : Mode) (bs : List ℕ) → bs ≡ name_of m → mode_in bs ≡ Ok m
 mode_by_name NL bs e = rw e refl
@@ -86,7 +86,7 @@ mode_text SIX = is_text _ refl
 mode_text X = is_text _ refl
 
 pub no_mode : (bs : List ℕ) → ((m : Mode) → bs ≡ name_of m → ⊥) → mode_in bs ≡ Err kind.Mode
-no_mode bs none = named_none name_of kind.Mode (NL ∷ IS ∷ IX ∷ S ∷ SIX ∷ X ∷ []) bs (none NL, (none IS, (none IX, (none S, (none SIX, (none X, tt))))))
+no_mode bs none = named_none name_of kind.Mode modes bs (none NL, (none IS, (none IX, (none S, (none SIX, (none X, tt))))))
 
 pub no_text_no_mode : (bs : List ℕ) → is_utf8 bs ≡ false → mode_in bs ≡ Err kind.Mode
 no_text_no_mode bs not = no_mode bs (λ m e. let is : is_utf8 bs ≡ true = ap is_utf8 e ∙ mode_text m in let bad : true ≡ false = sym is ∙ not in cc)

@@ -1,18 +1,17 @@
 -- A session is read from the one text of it.
-use Rattle.std.proofs.Common.{◌≡◌, ◌↔◌, ℕ, ◌<◌, ◌≤◌, ◌^◌, Bool, true, false, List, Result, Ok, Err, refl, sym, ap, ◌∙◌, arith}
-use Rattle.std.specs.Prelude.{if◌then◌else◌, ◌&&◌, nat_lt, nat_le, decimal}
-use Rattle.std.proofs.lemmas.Bool.{le-leb, lt-ltb}
-use Rattle.std.proofs.lemmas.Bool.Decides.{nat_tests}
+use Rattle.std.proofs.Common.{◌≡◌, ◌↔◌, ℕ, ◌<◌, ◌≤◌, ◌^◌, Bool, true, false, List, Result, Ok, Err, refl, ap, ◌∙◌, subst, arith, ne_eqb}
+use Rattle.std.specs.Prelude.{if◌then◌else◌, ◌==◌, decimal}
+use Rattle.std.proofs.lemmas.Bool.{eqb-false}
+use Rattle.lock_tree.specs.declared.numeral.NumeralFault.{NumeralFault}
+use Rattle.lock_tree.specs.Numerals.{reading_of_numeral}
+use Rattle.lock_tree.proofs.Numerals.{reading_iff}
 use Rattle.lock_trace.specs.declared.faults.TraceKind.{TraceKind}
 use Rattle.lock_trace.specs.declared.faults.TraceKind.TheVariants as kind
-use Rattle.lock_trace.specs.Fields.{is_numeral, number_in, session_in, IsSessionText}
-use Rattle.lock_trace.proofs.Numerals.{and_parts, decimal_is_numeral, numeral_is_decimal}
+use Rattle.lock_trace.specs.Fields.{above_zero, session_in, IsSessionText}
 
-above : (m : ℕ) → nat_lt 0 m ≡ true → 0 < m
-above m is = grind (arith, nat_tests)
-
-within : (m n : ℕ) → nat_le m n ≡ true → m ≤ n
-within m n is = grind (arith, nat_tests)
+-- a number that was read is one of so many
+pub number_within : (n s : ℕ) (field : List ℕ) → n < 2 ^ 16 → reading_of_numeral n field ≡ Ok s → s ≤ n
+number_within n s field lt e = ((reading_iff field n s (omega (arith, lt))).0 e).0
 
 abbrev ok : ℕ → Result ℕ TraceKind
 ok a = Ok a
@@ -20,27 +19,25 @@ ok a = Ok a
 same_ok : (a b : ℕ) → ok a ≡ ok b → a ≡ b
 same_ok a b e = cc
 
-read_session : (b : Bool) (n s : ℕ) (field : List ℕ) → n < 2 ^ 16 → (is_numeral field && nat_lt 0 (number_in field) && nat_le (number_in field) n) ≡ b
-    → (if b then ok (number_in field) else Err kind.Session) ≡ ok s → IsSessionText n s field
-read_session true n s field lt is e =
-    let outer = and_parts (is_numeral field && nat_lt 0 (number_in field)) (nat_le (number_in field) n) is in
-    let inner = and_parts (is_numeral field) (nat_lt 0 (number_in field)) outer.0 in
-    let last = within (number_in field) n outer.1 in
-    let same = same_ok (number_in field) s e in
-    record {
-      first = rw (← same) (above (number_in field) inner.1);
-      last = rw (← same) last;
-      text = sym (numeral_is_decimal field inner.0 (omega (arith, lt, last))) ∙ ap decimal same;
-    }
-read_session false n s field lt is e = absurd cc
+-- what is read and is not 0 is the session
+read_number : (b : Bool) (a s : ℕ) → (a == 0) ≡ b → (if b then Err kind.Session else ok a) ≡ ok s → (0 < a) × (a ≡ s)
+read_number true a s is e = absurd cc
+read_number false a s is e = let some = eqb-false a 0 is in (omega (arith, some), same_ok a s e)
+
+read_session : (n s : ℕ) (field : List ℕ) (r : Result ℕ NumeralFault) → n < 2 ^ 16 → reading_of_numeral n field ≡ r → above_zero r ≡ Ok s → IsSessionText n s field
+read_session n s field (Ok a) lt is e =
+    let (some, same) = read_number (a == 0) a s refl e in
+    let (last, text) = (reading_iff field n a (omega (arith, lt))).0 is in
+    subst (λ (x : ℕ). IsSessionText n x field) same (record { first = some; last = last; text = text })
+read_session n s field (Err f) lt is e = absurd cc
 
 pub session_back : (n s : ℕ) → n < 2 ^ 16 → 0 < s → s ≤ n → session_in n (decimal s) ≡ Ok s
 session_back n s lt some le =
-    let is = decimal_is_numeral s (omega (arith, lt, le)) in
-    rw (is.0, is.1, lt-ltb 0 s some, le-leb s n le) refl
+    let read : reading_of_numeral n (decimal s) ≡ Ok s = (reading_iff (decimal s) n s (omega (arith, lt))).1 (le, refl) in
+    ap above_zero read ∙ rw (ne_eqb s 0 (λ e. omega (arith, e, some))) refl
 
 pub session_iff : (n s : ℕ) (field : List ℕ) → n < 2 ^ 16 → (session_in n field ≡ Ok s) ↔ IsSessionText n s field
 session_iff n s field lt = (
-  read_session (is_numeral field && nat_lt 0 (number_in field) && nat_le (number_in field) n) n s field lt refl,
+  read_session n s field (reading_of_numeral n field) lt refl,
   λ h. ap (session_in n) h.text ∙ session_back n s lt h.first h.last,
 )

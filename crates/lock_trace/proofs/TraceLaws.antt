@@ -9,6 +9,7 @@ use Rattle.lock_trace.specs.Rows.{IsRow, fields_of_row, row_of}
 use Rattle.lock_trace.specs.Records.{records_of}
 use Rattle.lock_trace.specs.Traces.{then_rows, rows_from, trace_of, IsFirstBadRow}
 use Rattle.lock_trace.proofs.RowLaws.{row_iff, row_back}
+use Rattle.lock_trace.proofs.TestLaws.{fault_iff}
 
 -- the fields of rows are read as those rows
 rows_back : (n k : ℕ) (rows : List TraceRow) → n < 2 ^ 16 → AllByRecursion (IsRow n) rows → rows_from n k (map fields_of_row rows) ≡ Ok rows
@@ -103,11 +104,11 @@ trace_fault n bytes fault lt = (
       record {
         bad = of.bad;
         rest = of.rest;
-        fails = of.fails;
+        fails = (fault_iff n of.bad fault.kind).0 of.fails;
         read = record { front = of.front; are_rows = All-from_recursion (IsRow n) of.front of.are; records_are = of.is; number = of.number ∙ omega arith };
       },
   λ h.
       ap (rows_from n 1) h.read.records_are
-      ∙ bad_back n 1 h.read.front h.bad h.rest fault.kind lt (recursion_from_All (IsRow n) h.read.front h.read.are_rows) h.fails
+      ∙ bad_back n 1 h.read.front h.bad h.rest fault.kind lt (recursion_from_All (IsRow n) h.read.front h.read.are_rows) ((fault_iff n h.bad fault.kind).1 h.fails)
       ∙ ap (λ (j : ℕ). refused (fault_at j fault.kind)) (from_one (length h.read.front) fault.row h.read.number),
 )

@@ -10,6 +10,7 @@ use Rattle.lock_trace.specs.Records.{records_on, records_of}
 use Rattle.lock_trace.specs.Traces.{trace_of, IsReadTo, is_of_machine, Tells}
 use Rattle.lock_trace.specs.Reading.{IsPast, IsNextRecord, IsFaulty, IsNextRow}
 use Rattle.lock_trace.proofs.RowLaws.{row_iff}
+use Rattle.lock_trace.proofs.TestLaws.{fault_iff}
 use Rattle.lock_trace.proofs.TraceLaws.{trace_rows, trace_fault}
 
 was_past : {R : Type 0} (rem : R → Option (List ℕ)) (all : List (List (List ℕ))) (reader : Reader R) (fields : List (List ℕ)) (b : Bool) → b ≡ true → IsNextRecord rem all reader fields (Ok b) → IsPast rem all reader fields
@@ -52,7 +53,7 @@ tells rem n bytes all rows k reader e lt are so_far number next = record {
       (trace_fault n bytes (record { row = k; kind = e }) lt).1 (record {
         bad = faulty.bad;
         rest = rest;
-        fails = faulty.fails;
+        fails = (fault_iff n faulty.bad e).0 faulty.fails;
         read = machine_fault n bytes (faulty.bad ∷ rest) rows k are (so_far ∙ ap (λ (x : List (List (List ℕ))). map fields_of_row rows ++ x) faulty.past.all_are) number;
       });
   machine = λ is. (all, machine_fault n bytes all rows k are so_far number);

@@ -1,5 +1,6 @@
 pub mod Words
 pub mod Fields
+pub mod Tests
 pub mod Rows
 pub mod Records
 pub mod Traces

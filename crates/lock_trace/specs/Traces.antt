@@ -1,11 +1,12 @@
 -- What a whole trace is read as: its rows, or its first bad row.
-use Rattle.std.specs.Prelude.{◌≡◌, ℕ, ◌+◌, Bool, true, false, List, [], ◌∷◌, ◌++◌, length, map, All, Result, Ok, Err}
+use Rattle.std.specs.Prelude.{◌≡◌, ℕ, ◌+◌, Bool, true, false, List, [], ◌∷◌, ◌++◌, length, map, All, Some, Result, Ok, Err}
 use Rattle.std.specs.Global.{Vec}
 use Rattle.lock_trace.specs.declared.faults.TraceKind.{TraceKind}
 use Rattle.lock_trace.specs.declared.faults.TraceKind.TheVariants as kind
 use Rattle.lock_trace.specs.declared.faults.TraceFault.{TraceFault}
 use Rattle.lock_trace.specs.declared.rows.TraceRow.{TraceRow}
 use Rattle.lock_trace.specs.Rows.{IsRow, fields_of_row, row_of}
+use Rattle.lock_trace.specs.Tests.{tests_of_row, first_failing}
 use Rattle.lock_trace.specs.Records.{records_of}
 
 -- a row before the rows that were read after it
@@ -39,7 +40,7 @@ pub record IsFirstBadRow (n : ℕ) (records : List (List (List ℕ))) (fault : T
   pub bad : List (List ℕ)
   pub rest : List (List (List ℕ))
   pub read : IsReadTo n records fault.row (bad ∷ rest)
-  pub fails : row_of n bad ≡ Err fault.kind
+  pub fails : first_failing (tests_of_row n bad) ≡ Some fault.kind
 
 -- a fault of the device or of memory, and not of the text
 abbrev pub is_of_machine : TraceKind → Bool

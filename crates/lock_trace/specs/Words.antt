@@ -23,6 +23,14 @@ word_of op.Abort = codes "abort"
 abbrev pub ops : List Op
 ops = op.Begin ∷ op.Lock ∷ op.Convert ∷ op.Poll ∷ op.Release ∷ op.Commit ∷ op.Abort ∷ []
 
+-- the operations that take a resource
+abbrev pub ops_with_resource : List Op
+ops_with_resource = op.Lock ∷ op.Convert ∷ op.Release ∷ []
+
+-- the operations that take a mode
+abbrev pub ops_with_mode : List Op
+ops_with_mode = op.Lock ∷ op.Convert ∷ []
+
 -- the operation of a call
 abbrev pub op_of_call : Call → Op
 op_of_call call.Begin = op.Begin

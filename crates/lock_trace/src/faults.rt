@@ -1,5 +1,8 @@
 //! What is wrong with a trace, and in which row.
 
+ghost use Rattle.std.specs.Prelude.{◌≡◌};
+ghost use Rattle.lock_trace.specs.Tests.{number_of_kind};
+
 use lock_tree::PathFault;
 use thiserror::Error;
 
@@ -42,4 +45,22 @@ pub enum TraceKind {
     /// Memory was refused while this row was read.
     #[error("NoMemory")]
     NoMemory,
+}
+
+impl TraceKind {
+    /// The number of the fault. The first six are those of the tests of a row, in their order.
+    pub fn number(&self) -> u8
+        ensures { result ≡ number_of_kind self.now }
+    {
+        match self {
+            TraceKind::Shape => 1,
+            TraceKind::Session => 2,
+            TraceKind::Op => 3,
+            TraceKind::Path(_) => 4,
+            TraceKind::Mode => 5,
+            TraceKind::Extra => 6,
+            TraceKind::Device => 7,
+            TraceKind::NoMemory => 8,
+        }
+    }
 }

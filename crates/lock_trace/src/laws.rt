@@ -1,6 +1,6 @@
 //! What holds of the formats. A caller's proof cites a law by calling it, which costs nothing at run time.
 
-ghost use Rattle.std.specs.Prelude.{◌≡◌, ◌<◌, ◌^◌, ◌↔◌, ℕ, List, length, map, All, Ok, Err};
+ghost use Rattle.std.specs.Prelude.{◌≡◌, ◌<◌, ◌^◌, ◌↔◌, ℕ, List, [], ◌∷◌, length, map, All, Some, None, Ok, Err};
 ghost use Rattle.csv.specs.Reading.{AreRecords, default_config, strip_bom};
 ghost use Rattle.csv.specs.declared.parser.State.TheVariants as st;
 ghost use Rattle.lock_modes.specs.declared.Mode.{Mode};
@@ -13,6 +13,8 @@ ghost use Rattle.lock_trace.specs.declared.words.Op.{Op as OpValue};
 ghost use Rattle.lock_trace.specs.declared.faults.TraceFault.{TraceFault as FaultValue};
 ghost use Rattle.lock_trace.specs.Words.{word_of};
 ghost use Rattle.lock_trace.specs.Fields.{session_in, op_in, resource_in, mode_in, IsSessionText};
+ghost use Rattle.lock_trace.specs.declared.faults.TraceKind.{TraceKind as KindValue};
+ghost use Rattle.lock_trace.specs.Tests.{tests_of_row, first_failing, number_of_kind};
 ghost use Rattle.lock_trace.specs.Rows.{IsRow, fields_of_row, row_of};
 ghost use Rattle.lock_trace.specs.Records.{records_of};
 ghost use Rattle.lock_trace.specs.Traces.{IsFirstBadRow, trace_of};
@@ -32,6 +34,18 @@ pub fn tests_pass_texts()
 pub fn rows_are_their_fields()
     ensures { (n : ℕ) (row : RowValue) (fields : List (List ℕ)) → n < 2 ^ 16 →
         (row_of n fields ≡ Ok row) ↔ (IsRow n row × (fields ≡ fields_of_row row)) }
+{}
+
+/// No test of a row fails exactly where its fields are those of a row, which is then read. Otherwise
+/// the fault is that of the first test that fails. The tests stand in the order of their numbers.
+pub fn the_first_test_that_fails_decides()
+    ensures none { (n : ℕ) (fields : List (List ℕ)) → n < 2 ^ 16 →
+        (first_failing (tests_of_row n fields) ≡ None)
+        ↔ ((row : RowValue) × IsRow n row × (fields ≡ fields_of_row row)) }
+    ensures fault { (n : ℕ) (fields : List (List ℕ)) (fault : KindValue) →
+        (row_of n fields ≡ Err fault) ↔ (first_failing (tests_of_row n fields) ≡ Some fault) }
+    ensures order { (n : ℕ) (fields : List (List ℕ)) →
+        map (λ test. number_of_kind test.1) (tests_of_row n fields) ≡ 1 ∷ 2 ∷ 3 ∷ 4 ∷ 5 ∷ 6 ∷ [] }
 {}
 
 /// A text is a trace exactly where its records are the fields of rows. Otherwise there is a first

@@ -213,6 +213,22 @@ fn shows_faults(rt: HostRuntime) -> Result<(), Fail> {
     Ok(())
 }
 
+#[test]
+fn numbers_faults(rt: HostRuntime) {
+    for (kind, number) in [
+        (TraceKind::Shape, 1),
+        (TraceKind::Session, 2),
+        (TraceKind::Op, 3),
+        (TraceKind::Path(PathFault::LeadingZero), 4),
+        (TraceKind::Mode, 5),
+        (TraceKind::Extra, 6),
+        (TraceKind::Device, 7),
+        (TraceKind::NoMemory, 8),
+    ] {
+        assert_eq!(rt; kind.number(), number, "of {kind}");
+    }
+}
+
 // Gives one byte at a time, and fails after the last one where the text is cut there.
 #[derive(Drop)]
 struct Dribble<'a> {
