@@ -1,0 +1,278 @@
+-- The kinds of step of a combiner on a record: the look, open, answer and put back; and its slot, laid down and picked up.
+use Rattle.std.proofs.Common.{◌≡◌, ◌≢◌, ℕ, ◌+◌, ◌^◌, ◌<◌, ◌≤◌, true, eqb, Some, None, List, [], ◌∷◌, ◌++◌, length, get_or, set, sym, refl, ap, ◌∙◌, subst, arith, length-append, length-set}
+use mathlib.Core.Option as opt
+use prog.Atomic.{either}
+use lib.ListN.{get_elem?}
+use Rattle.atomic_table.specs.Table.{keeps, takes, gives, step, Allows}
+use Rattle.atomic_table.proofs.Lists.{exchanged, set_here, set_else, at_last}
+use Rattle.lock_rules.specs.declared.calls.Call.{Call}
+use Rattle.lock_rules.specs.declared.calls.Reply.{Reply}
+use Rattle.lock_rules.specs.declared.calls.Entry.{Entry}
+use Rattle.lock_rules.specs.Legal.{Answered, IsLegal, calls_of}
+use Rattle.publication.specs.Words.{word_of, session_of_word, POSTED, BUSY, SERVED}
+use Rattle.publication.specs.Views.{Combiner, entry, answer, asks}
+use Rattle.publication.specs.Rule.{blank, BoardState, word, home, seat, own_at, published, IsPosted, IsBusy, Stands, HasBook, IsOpened, IsOrderly}
+use Rattle.publication.specs.Rule.Stands.{posted, busy, served}
+use Rattle.publication.specs.Kinds.{combiner, called, call_at, HasEntered, looks_at, looks_at_record, opening, Opened, opens_record, opens, in_hand, lays, picks_slot, picks, answering, answers, putting_back, puts_back}
+use Rattle.publication.specs.declared.view.View.{View}
+use Rattle.publication.specs.declared.slot.Held.{Held}
+use Rattle.publication.specs.declared.slot.Held.TheVariants.{Nothing, Asked, Replied}
+use Rattle.publication.proofs.Lists.{at_there, at_home, prefix_self}
+use Rattle.publication.proofs.Histories.{calls-mine}
+use Rattle.publication.proofs.Records.{is_posted, is_busy, all_entered, posted_entered, grown, as_called}
+use Rattle.publication.proofs.Sessions.{Goes, seated, unmoved}
+use Rattle.publication.proofs.Combines.{IsRecordStep, combined}
+
+-- the words of the sessions lie apart
+pub session_of_its_word : (number : ℕ) → session_of_word (word_of number) ≡ number
+session_of_its_word number = omega arith
+
+module _ (i : ℕ) (v : View) (is : v.number ≡ i) (some_number : 0 < i) (s : BoardState) (o : IsOrderly s) (me : get_elem? s.views i ≡ opt.some v) (small : i < o.slots)
+    (has : v.combiner.has_book ≡ true) (j : ℕ) (some_record : 0 < j) (few : j < o.slots) (wide : length v.combiner.opened ≡ o.slots) where
+  is_me : seat s i ≡ v
+  is_me = (at_there s.views i v blank me).0
+
+  book : HasBook o.history (word s 0) i v
+  book = subst (λ (u : View). u.combiner.has_book ≡ true → HasBook o.history (word s 0) i u) is_me (o.books i) has
+
+  stands_at : Stands o.history j (word s j) (home s j) (own_at o.owns j)
+  stands_at = o.stands j some_record few
+
+  heard_at : get_or v.heard j 0 ≤ published (own_at o.owns j)
+  heard_at = subst (λ (u : View). get_or u.heard j 0 ≤ published (own_at o.owns j)) is_me (o.heard i j)
+
+  known : length (calls_of j v.front) ≡ length (calls_of j o.history)
+  known = ap (λ (f : List Entry). length (calls_of j f)) book.whole
+
+  -- a step on the record that leaves the history as it is
+  same_history : (n : ℕ) (at : opt.Option Held) (d : Combiner) → d.has_book ≡ true → length d.opened ≡ length v.combiner.opened
+      → ((k : ℕ) → k ≢ j → get_elem? d.opened k ≡ get_elem? v.combiner.opened k) → ((k : ℕ) → 0 < k → k ≢ j → v.combiner.hand ≢ k)
+      → ((call : Call) → get_elem? d.opened j ≡ opt.some (Some call) → (n ≡ BUSY) × ((floor : ℕ) × ((own_at o.owns j).pending ≡ Some (asks call floor))) × (d.hand ≢ j → at ≡ opt.some Nothing))
+      → (n ≡ BUSY → (call : Call) × (get_elem? d.opened j ≡ opt.some (Some call)))
+      → Stands o.history j n at (own_at o.owns j) → IsRecordStep s o i v j n at v.front d me some_number o.history
+  same_history n at d still as_wide others hands new_open new_busy stands = record {
+    has = has;
+    still = still;
+    some_record = some_record;
+    few = few;
+    legal = o.legal;
+    short = o.short;
+    grows = prefix_self o.history;
+    whole = book.whole;
+    wide = as_wide;
+    others = others;
+    hands = hands;
+    new_open = new_open;
+    new_busy = new_busy;
+    stands = stands;
+    grow = λ k w a u ne t. t;
+  }
+
+  -- the look
+
+  entered : word s j ≢ POSTED → HasEntered v j
+  entered miss shut =
+      let not_busy : word s j ≢ BUSY = λ busy_now.
+      let t = o.opened j some_record busy_now in
+      let here : get_elem? v.combiner.opened j ≡ opt.some (Some t.0)
+      = ap (λ (u : View). get_elem? u.combiner.opened j) (sym is_me) ∙ (ap (λ (k : ℕ). get_elem? (seat s k).combiner.opened j) (sym book.lock_is) ∙ t.1) in
+      let q : Some t.0 ≡ None = sym (at_there v.combiner.opened j (Some t.0) None here).0 ∙ shut in absurd (cc q) in
+      omega (arith, heard_at, known, all_entered o.history j (word s j) (home s j) (own_at o.owns j) stands_at miss not_busy)
+
+  look_goes : (more : List (ℕ × Held)) → Goes s j i (v, more) (looks_at j (v, more)) (word s j)
+  look_goes more = (v, keeps, tt, unmoved s o j i v me, (refl, entered))
+
+  -- open
+
+  module _ (call : Call) (floor : ℕ) (f : IsPosted o.history j (word s j) (home s j) (own_at o.owns j) call floor) where
+    now_open : get_elem? (set v.combiner.opened j (Some call)) j ≡ opt.some (Some call)
+    now_open = set_here v.combiner.opened j (Some call) (omega arith)
+
+    open_step : v.combiner.hand ≡ 0 → IsRecordStep s o i v j BUSY opt.none v.front (combiner true (set v.combiner.opened j (Some call)) j) me some_number o.history
+    open_step empty = same_history BUSY opt.none (combiner true (set v.combiner.opened j (Some call)) j) refl (length-set v.combiner.opened j (Some call))
+        (λ k ne. set_else v.combiner.opened j k (Some call) ne)
+        (λ k some ne e. absurd (omega arith))
+        (λ c there. (
+          refl,
+          (floor, f.some ∙ ap (λ (z : Call). Some (asks z floor)) (let p : Some call ≡ Some c = opt.some-injective (Some call) (Some c) (sym now_open ∙ there) in cc p)),
+          λ away. absurd (away refl),
+        ))
+        (λ _. (call, now_open))
+        (busy call floor record { is = refl; some = f.some; early = f.early; publishes = f.publishes; calls = f.calls })
+
+    opened_now : Opened v j call
+    opened_now = record {
+      call_is = (at_there (set v.combiner.opened j (Some call)) j (Some call) None now_open).0;
+      heard = omega (arith, heard_at, known, posted_entered o.history j (word s j) (home s j) (own_at o.owns j) call floor f);
+    }
+
+    open_won : (more : List (ℕ × Held)) → v.combiner.hand ≡ 0 → word s j ≡ POSTED → Goes s j i (v, more) (opens_record j (v, more)) BUSY
+    open_won more empty hit = (
+      opening v j call,
+      takes j (Asked call),
+      at_home s.homes j (Asked call) f.asked,
+      combined s o i v j BUSY opt.none v.front (combiner true (set v.combiner.opened j (Some call)) j) me some_number o.history (open_step empty),
+      ((λ _. (call, refl, opened_now)), λ miss. absurd (miss hit)),
+    )
+
+  open_lost : (more : List (ℕ × Held)) → word s j ≢ POSTED → Goes s j i (v, more) (opens_record j (v, more)) (word s j)
+  open_lost more miss = (v, keeps, tt, unmoved s o j i v me, ((λ hit. absurd (miss hit)), λ _. (refl, entered miss)))
+
+  open_goes : (more : List (ℕ × Held)) → v.combiner.hand ≡ 0 → Goes s j i (v, more) (opens_record j (v, more)) (either (eqb (word s j) POSTED) BUSY (word s j))
+  open_goes more empty = exchanged (word s j) POSTED BUSY (Goes s j i (v, more) (opens_record j (v, more)))
+      (λ hit. let t = is_posted stands_at hit in open_won t.0 t.1 t.2 more empty hit) (open_lost more)
+
+  -- the record is opened, with this call
+  module _ (call : Call) (shown : get_elem? v.combiner.opened j ≡ opt.some (Some call)) where
+    was : IsOpened s o.owns v.combiner j call
+    was = subst (λ (u : View). get_elem? u.combiner.opened j ≡ opt.some (Some call) → IsOpened s o.owns u.combiner j call) is_me (o.opens i j call) shown
+
+    busy_is : IsBusy o.history j (word s j) (home s j) (own_at o.owns j) call was.call_of.0
+    busy_is = let t = is_busy stands_at was.is_busy in as_called o.history j (word s j) (home s j) (own_at o.owns j) t.0 t.1 call was.call_of.0 t.2 was.call_of.1
+
+    -- lay and pick: it stays open, with its slot at home or in hand
+
+    still_open : (at : opt.Option Held) (hand : ℕ) → (hand ≢ j → at ≡ opt.some Nothing) → (c : Call) → get_elem? v.combiner.opened j ≡ opt.some (Some c)
+        → (word s j ≡ BUSY) × ((floor : ℕ) × ((own_at o.owns j).pending ≡ Some (asks c floor))) × (hand ≢ j → at ≡ opt.some Nothing)
+    still_open at hand laid c there = (
+      was.is_busy,
+      (was.call_of.0, was.call_of.1 ∙ ap (λ (z : Call). Some (asks z was.call_of.0)) (let p : Some call ≡ Some c = opt.some-injective (Some call) (Some c) (sym shown ∙ there) in cc p)),
+      laid,
+    )
+
+    hand_step : (at : opt.Option Held) (hand : ℕ) → (hand ≢ j → at ≡ opt.some Nothing) → ((k : ℕ) → 0 < k → k ≢ j → v.combiner.hand ≢ k)
+        → IsRecordStep s o i v j (word s j) at v.front (combiner true v.combiner.opened hand) me some_number o.history
+    hand_step at hand laid hands = same_history (word s j) at (combiner true v.combiner.opened hand) refl refl (λ k ne. refl) hands (still_open at hand laid)
+        (λ _. (call, shown))
+        (busy call was.call_of.0 record { is = was.is_busy; some = busy_is.some; early = busy_is.early; publishes = busy_is.publishes; calls = busy_is.calls })
+
+    lay_goes : (more : List (ℕ × Held)) → v.combiner.hand ≡ j → Goes s j i (v, (j, Nothing) ∷ more) (lays (step o.slots (word_of j) 0 0 opt.none) (v, (j, Nothing) ∷ more)) (word s j)
+    lay_goes more held = (
+      in_hand v 0,
+      gives,
+      tt,
+      combined s o i v j (word s j) (opt.some Nothing) v.front (combiner true v.combiner.opened 0) me some_number o.history
+          (hand_step (opt.some Nothing) 0 (λ away. refl) (λ k some ne e. ne (sym e ∙ held))),
+      refl,
+    )
+
+    pick_goes : (more : List (ℕ × Held)) → v.combiner.hand ≡ 0 → Goes s j i (v, more) (picks_slot j (v, more)) (word s j)
+    pick_goes more empty = (
+      in_hand v j,
+      takes j Nothing,
+      at_home s.homes j Nothing (was.laid (λ e. omega arith)),
+      combined s o i v j (word s j) opt.none v.front (combiner true v.combiner.opened j) me some_number o.history
+          (hand_step opt.none j (λ away. absurd (away refl)) (λ k some ne e. absurd (omega arith))),
+      refl,
+    )
+
+    -- answer and put back: it is opened no more
+
+    abbrev cleared : Combiner
+    cleared = combiner true (set v.combiner.opened j None) 0
+
+    no_more : (c : Call) → get_elem? cleared.opened j ≢ opt.some (Some c)
+    no_more c there = let p : None ≡ Some c = opt.some-injective None (Some c) (sym (set_here v.combiner.opened j None (omega arith)) ∙ there) in absurd (cc p)
+
+    put_back_step : v.combiner.hand ≡ j → IsRecordStep s o i v j POSTED (opt.some (Asked call)) v.front cleared me some_number o.history
+    put_back_step held = same_history POSTED (opt.some (Asked call)) cleared refl (length-set v.combiner.opened j None)
+        (λ k ne. set_else v.combiner.opened j k None ne) (λ k some ne e. ne (sym e ∙ held)) (λ c there. absurd (no_more c there)) (λ two. absurd (omega arith))
+        (posted call was.call_of.0 record { is = refl; some = busy_is.some; asked = refl; early = busy_is.early; publishes = busy_is.publishes; calls = busy_is.calls })
+
+    put_back_goes : (more : List (ℕ × Held)) → v.combiner.hand ≡ j
+        → Goes s j i (v, (j, Asked call) ∷ more) (λ _. puts_back (step o.slots (word_of j) POSTED 0 opt.none) (v, (j, Asked call) ∷ more) POSTED) POSTED
+    put_back_goes more held = (
+      putting_back v j,
+      gives,
+      tt,
+      combined s o i v j POSTED (opt.some (Asked call)) v.front cleared me some_number o.history (put_back_step held),
+      ap (λ (k : ℕ). (putting_back v k, more)) (sym held),
+    )
+
+    module _ (reply : Reply) (legal : IsLegal (v.front ++ entry j call reply ∷ [])) (short : length v.front + 1 < 2 ^ 64) where
+      abbrev longer : List Entry
+      longer = v.front ++ entry j call reply ∷ []
+
+      longer_is : longer ≡ o.history ++ entry j call reply ∷ []
+      longer_is = ap (λ (f : List Entry). f ++ entry j call reply ∷ []) book.whole
+
+      served_now : Stands longer j SERVED (opt.some (Replied (length v.front) reply)) (own_at o.owns j)
+      served_now = served call was.call_of.0 (length v.front) reply record {
+        is = refl;
+        some = busy_is.some;
+        replied = refl;
+        stands = at_last v.front (entry j call reply) (length v.front) refl;
+        late = subst (λ (f : List Entry). was.call_of.0 ≤ length f) (sym book.whole) busy_is.early;
+        publishes = busy_is.publishes;
+        calls = calls-mine j v.front call reply ∙ ap (λ (cs : List Answered). cs ++ answer (length v.front) call reply ∷ []) (ap (calls_of j) book.whole ∙ busy_is.calls);
+      }
+
+      answer_step : v.combiner.hand ≡ j → IsRecordStep s o i v j SERVED (opt.some (Replied (length v.front) reply)) longer cleared me some_number longer
+      answer_step held = record {
+        has = has;
+        still = refl;
+        some_record = some_record;
+        few = few;
+        legal = legal;
+        short = omega (arith, short, length-append v.front (entry j call reply ∷ []));
+        grows = (entry j call reply ∷ [], sym longer_is);
+        whole = refl;
+        wide = length-set v.combiner.opened j None;
+        others = λ k ne. set_else v.combiner.opened j k None ne;
+        hands = λ k some ne e. ne (sym e ∙ held);
+        new_open = λ c there. absurd (no_more c there);
+        new_busy = λ two. absurd (omega arith);
+        stands = served_now;
+        grow = λ k w a u ne t. subst (λ (f : List Entry). Stands f k w a u) (sym longer_is) (grown o.history k j call reply ne t);
+      }
+
+      call_is : call_at v j ≡ call
+      call_is = ap called (at_there v.combiner.opened j (Some call) None shown).0
+
+      answer_goes : (more : List (ℕ × Held)) → v.combiner.hand ≡ j
+          → Goes s j i (v, (j, Replied (length v.front) reply) ∷ more) (λ _. answers (step o.slots (word_of j) SERVED 0 opt.none) (v, (j, Replied (length v.front) reply) ∷ more) SERVED) SERVED
+      answer_goes more held = (
+        answering v j (call_at v j) reply,
+        gives,
+        tt,
+        rw call_is (combined s o i v j SERVED (opt.some (Replied (length v.front) reply)) longer cleared me some_number longer (answer_step held)),
+        ap (λ (k : ℕ). (answering v k (call_at v k) reply, more)) (sym held),
+      )
+
+-- what the table asks of each of these steps
+module _ (slots id : ℕ) (v : View) (is : v.number ≢ 0) (has : v.combiner.has_book ≡ true) (j : ℕ) (some_record : 0 < j) (few : j < slots) where
+  some_number : 0 < v.number
+  some_number = omega arith
+
+  pub look_at_record_kept : (more : List (ℕ × Held)) → Allows IsOrderly slots id (v, more) (word_of j) (λ n. n) (looks_at_record (step slots (word_of j) 0 0 opt.none) (v, more))
+  look_at_record_kept more = subst (λ (k : ℕ). Allows IsOrderly slots id (v, more) (word_of j) (λ n. n) (looks_at k (v, more))) (sym (session_of_its_word j))
+      (seated slots id v.number j v more (λ n. n) (looks_at j (v, more)) refl some_number
+      (λ s o me small wide e. look_goes v.number v refl some_number s o me small has j some_record (omega arith) wide more))
+
+  pub open_kept : (more : List (ℕ × Held)) → v.combiner.hand ≡ 0
+      → Allows IsOrderly slots id (v, more) (word_of j) (λ n. either (eqb n POSTED) BUSY n) (opens (step slots (word_of j) POSTED BUSY opt.none) (v, more))
+  open_kept more empty = subst (λ (k : ℕ). Allows IsOrderly slots id (v, more) (word_of j) (λ n. either (eqb n POSTED) BUSY n) (opens_record k (v, more))) (sym (session_of_its_word j))
+      (seated slots id v.number j v more (λ n. either (eqb n POSTED) BUSY n) (opens_record j (v, more)) refl some_number
+      (λ s o me small wide e. open_goes v.number v refl some_number s o me small has j some_record (omega arith) wide more empty))
+
+  module _ (call : Call) (shown : get_elem? v.combiner.opened j ≡ opt.some (Some call)) (more : List (ℕ × Held)) where
+    pub lay_kept : v.combiner.hand ≡ j → Allows IsOrderly slots id (v, (j, Nothing) ∷ more) (word_of j) (λ n. n) (lays (step slots (word_of j) 0 0 opt.none) (v, (j, Nothing) ∷ more))
+    lay_kept held = seated slots id v.number j v ((j, Nothing) ∷ more) (λ n. n) (lays (step slots (word_of j) 0 0 opt.none) (v, (j, Nothing) ∷ more)) refl some_number
+        (λ s o me small wide e. lay_goes v.number v refl some_number s o me small has j some_record (omega arith) wide call shown more held)
+
+    pub pick_kept : v.combiner.hand ≡ 0 → Allows IsOrderly slots id (v, more) (word_of j) (λ n. n) (picks (step slots (word_of j) 0 0 opt.none) (v, more))
+    pick_kept empty = subst (λ (k : ℕ). Allows IsOrderly slots id (v, more) (word_of j) (λ n. n) (picks_slot k (v, more))) (sym (session_of_its_word j))
+        (seated slots id v.number j v more (λ n. n) (picks_slot j (v, more)) refl some_number
+        (λ s o me small wide e. pick_goes v.number v refl some_number s o me small has j some_record (omega arith) wide call shown more empty))
+
+    pub put_back_kept : v.combiner.hand ≡ j
+        → Allows IsOrderly slots id (v, (j, Asked call) ∷ more) (word_of j) (λ _. POSTED) (λ _. puts_back (step slots (word_of j) POSTED 0 opt.none) (v, (j, Asked call) ∷ more) POSTED)
+    put_back_kept held = seated slots id v.number j v ((j, Asked call) ∷ more) (λ _. POSTED) (λ _. puts_back (step slots (word_of j) POSTED 0 opt.none) (v, (j, Asked call) ∷ more) POSTED) refl some_number
+        (λ s o me small wide e. put_back_goes v.number v refl some_number s o me small has j some_record (omega arith) wide call shown more held)
+
+    pub answer_kept : (place : ℕ) (reply : Reply) → v.combiner.hand ≡ j → place ≡ length v.front → IsLegal (v.front ++ entry j call reply ∷ []) → length v.front + 1 < 2 ^ 64
+        → Allows IsOrderly slots id (v, (j, Replied place reply) ∷ more) (word_of j) (λ _. SERVED) (λ _. answers (step slots (word_of j) SERVED 0 opt.none) (v, (j, Replied place reply) ∷ more) SERVED)
+    answer_kept place reply held here legal short =
+        subst (λ (p : ℕ). Allows IsOrderly slots id (v, (j, Replied p reply) ∷ more) (word_of j) (λ _. SERVED) (λ _. answers (step slots (word_of j) SERVED 0 opt.none) (v, (j, Replied p reply) ∷ more) SERVED)) (sym here)
+        (seated slots id v.number j v ((j, Replied (length v.front) reply) ∷ more) (λ _. SERVED) (λ _. answers (step slots (word_of j) SERVED 0 opt.none) (v, (j, Replied (length v.front) reply) ∷ more) SERVED) refl some_number
+        (λ s o me small wide e. answer_goes v.number v refl some_number s o me small has j some_record (omega arith) wide call shown reply legal short more held))

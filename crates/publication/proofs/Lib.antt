@@ -1,0 +1,9 @@
+pub mod Lists
+pub mod Histories
+pub mod Records
+pub mod Moves
+pub mod Combines
+pub mod Sessions
+pub mod Locks
+pub mod Combiners
+pub mod Making

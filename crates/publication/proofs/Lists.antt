@@ -1,0 +1,86 @@
+-- Beginnings of one list, and a list that changes at one place or at its end.
+use Rattle.std.proofs.Common.{◌≡◌, ◌≢◌, ℕ, zero, suc, ◌<◌, ◌≤◌, Option, Some, None, List, [], ◌∷◌, ◌++◌, length, get_or, set, take, replicate, refl, ap, sym, subst, ◌∙◌, arith, append_assoc, get_or-set_same, get_or-set_other}
+use mathlib.Core.Option as opt
+use mathlib.Core.Logic.{dite}
+use mathlib.Core.List.{IsPrefix}
+use native.Mathlib.Decide.{ℕ_discrete}
+use lib.ListN.{get_elem?}
+
+module _ {A : Type 0} where
+  -- beginnings
+
+  pub prefix_self : (xs : List A) → IsPrefix xs xs
+  prefix_self [] = ([], refl)
+  prefix_self (x ∷ xs) = let r = prefix_self xs in (r.0, ap (λ ys. x ∷ ys) r.1)
+
+  pub prefix_trans : (xs ys zs : List A) → IsPrefix xs ys → IsPrefix ys zs → IsPrefix xs zs
+  prefix_trans xs ys zs p q = (p.0 ++ q.0, sym (append_assoc xs p.0 q.0) ∙ (ap (λ w. w ++ q.0) p.1 ∙ q.1))
+
+  -- the first n elements of zs, which begin with xs
+  pub record IsCut (xs zs : List A) (n : ℕ) : Type 0 where
+    pub longer : IsPrefix xs (take n zs)
+    pub front : IsPrefix (take n zs) zs
+    pub long : length (take n zs) ≡ n
+
+  pub cut : (xs zs : List A) (n : ℕ) → IsPrefix xs zs → length xs ≤ n → n ≤ length zs → IsCut xs zs n
+  cut [] zs zero p a b = record { longer = ([], refl); front = (zs, refl); long = refl }
+  cut [] [] (suc n) p a b = absurd (omega arith)
+  cut [] (z ∷ zs) (suc n) p a b =
+      let r = cut [] zs n (zs, refl) (omega arith) (omega arith) in
+      record { longer = (z ∷ take n zs, refl); front = (r.front.0, ap (λ l. z ∷ l) r.front.1); long = omega (arith, r.long) }
+  cut (x ∷ xs) zs zero p a b = absurd (omega arith)
+  cut (x ∷ xs) [] (suc n) p a b = absurd (omega arith)
+  cut (x ∷ xs) (z ∷ zs) (suc n) p a b =
+      let r = cut xs zs n (p.0, cc (p.1)) (omega arith) (omega arith) in
+      record { longer = (r.longer.0, let e = r.longer.1 in cc (p.1, e)); front = (r.front.0, ap (λ l. z ∷ l) r.front.1); long = omega (arith, r.long) }
+
+  -- what stands at a place
+
+  pub at_there : (l : List A) (i : ℕ) (a d : A) → get_elem? l i ≡ opt.some a → (get_or l i d ≡ a) × (i < length l)
+  at_there [] i a d e = absurd (opt.some-ne-none a (sym e))
+  at_there (x ∷ xs) zero a d e = (opt.some-injective x a e, omega arith)
+  at_there (x ∷ xs) (suc i) a d e = let r = at_there xs i a d e in (r.0, omega (arith, r.1))
+
+  pub at_taken : (l : List A) (n i : ℕ) (a : A) → i < n → get_elem? l i ≡ opt.some a → get_elem? (take n l) i ≡ opt.some a
+  at_taken [] n i a h e = absurd (opt.some-ne-none a (sym e))
+  at_taken (x ∷ xs) zero i a h e = absurd (omega arith)
+  at_taken (x ∷ xs) (suc n) zero a h e = e
+  at_taken (x ∷ xs) (suc n) (suc i) a h e = at_taken xs n i a (omega arith) e
+
+  pub at_home : (l : List (opt.Option A)) (i : ℕ) (a : A) → get_or l i opt.none ≡ opt.some a → get_elem? l i ≡ opt.some (opt.some a)
+  at_home [] i a e = absurd (opt.some-ne-none a (sym e))
+  at_home (x ∷ xs) zero a e = ap opt.some e
+  at_home (x ∷ xs) (suc i) a e = at_home xs i a e
+
+  -- what stands in a list that is everywhere the same, and beyond it
+  pub same_all : (n i : ℕ) (a : A) → get_or (replicate n a) i a ≡ a
+  same_all zero i a = refl
+  same_all (suc n) zero a = refl
+  same_all (suc n) (suc i) a = same_all n i a
+
+  pub past_end : (l : List A) (d : A) → get_or l (length l) d ≡ d
+  past_end [] d = refl
+  past_end (x ∷ xs) d = past_end xs d
+
+  -- what holds at each place still holds after a write, and after one more element
+
+  pub each_set : (l : List A) (i : ℕ) (a d : A) (P : ℕ → A → Type 0) → i < length l → P i a → ((k : ℕ) → k ≢ i → P k (get_or l k d)) → (k : ℕ) → P k (get_or (set l i a) k d)
+  each_set l i a d P h here else k = dite (ℕ_discrete k i)
+      (λ e. subst (λ (x : A). P k x) (sym (ap (λ (n : ℕ). get_or (set l i a) n d) e ∙ get_or-set_same l i a d h)) (subst (λ (n : ℕ). P n a) (sym e) here))
+      (λ ne. subst (λ (x : A). P k x) (sym (get_or-set_other l i k a d ne)) (else k ne))
+
+  pub each_snoc : (l : List A) (b d : A) (P : ℕ → A → Type 0) → P (length l) b → ((k : ℕ) → P k (get_or l k d)) → (k : ℕ) → P k (get_or (l ++ b ∷ []) k d)
+  each_snoc [] b d P here all zero = here
+  each_snoc [] b d P here all (suc k) = all (suc k)
+  each_snoc (x ∷ xs) b d P here all zero = all zero
+  each_snoc (x ∷ xs) b d P here all (suc k) = each_snoc xs b d (λ j u. P (suc j) u) here (λ j. all (suc j)) k
+
+-- what a look-up with nothing as its default finds is there
+
+pub there_at : {A : Type 0} (l : List (Option A)) (i : ℕ) (a : A) → get_or l i None ≡ Some a → get_elem? l i ≡ opt.some (Some a)
+there_at [] i a e = absurd (cc e)
+there_at (x ∷ xs) zero a e = ap opt.some e
+there_at (x ∷ xs) (suc i) a e = there_at xs i a e
+
+pub none_there : {A : Type 0} (l : List (Option A)) (i : ℕ) (a : A) → get_or l i None ≡ None → get_elem? l i ≢ opt.some (Some a)
+none_there l i a none e = let t : Some a ≡ None = sym (at_there l i (Some a) None e).0 ∙ none in absurd (cc t)

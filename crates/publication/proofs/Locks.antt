@@ -1,0 +1,159 @@
+-- The kinds of step on the lock word: the look, seize and release.
+use Rattle.std.proofs.Common.{◌≡◌, ◌≢◌, ℕ, zero, suc, ◌<◌, true, false, eqb, Some, None, List, ◌∷◌, set, sym, refl, ap, ◌∙◌, subst, arith}
+use Rattle.std.proofs.lemmas.Bool.{false_from_ne_true}
+use mathlib.Core.Option as opt
+use mathlib.Core.Logic.{dite}
+use mathlib.Core.List.{IsPrefix}
+use native.Mathlib.Decide.{ℕ_discrete}
+use prog.Atomic.{either}
+use lib.ListN.{get_elem?}
+use Rattle.std.specs.Global.{Box}
+use Rattle.atomic_table.specs.Table.{keeps, takes, gives, step, Allows}
+use Rattle.atomic_table.proofs.Lists.{exchanged}
+use Rattle.lock_rules.specs.declared.calls.Entry.{Entry}
+use Rattle.lock_rules.specs.Legal.{IsLegal}
+use Rattle.publication.specs.Words.{word_of, FREE, BUSY}
+use Rattle.publication.specs.Rule.{blank, BoardState, word, seat, no_combiner, IsHome, HasBook, IsOrderly}
+use Rattle.publication.specs.Kinds.{combiner, as_combiner, HasOthers, looks_at_lock, seizing, Seized, seizes, releasing, releases}
+use Rattle.publication.specs.declared.view.View.{View}
+use Rattle.publication.specs.declared.slot.Load.{Load}
+use Rattle.publication.specs.declared.slot.Held.{Held}
+use Rattle.publication.specs.declared.slot.Held.TheVariants.{Home}
+use Rattle.publication.proofs.Lists.{at_there, at_home}
+use Rattle.publication.proofs.Sessions.{Goes, seated, unmoved}
+use Rattle.publication.proofs.Combines.{IsNothingOpened, IsLockStep, relocked}
+
+pub nothing_at : (slots : ℕ) → IsNothingOpened (no_combiner slots)
+nothing_at zero j call e = opt.some-ne-none (Some call) (sym e)
+nothing_at (suc n) zero call e = let t : None ≡ Some call = opt.some-injective None (Some call) e in absurd (cc t)
+nothing_at (suc n) (suc j) call e = nothing_at n j call e
+
+module _ (i : ℕ) (v : View) (is : v.number ≡ i) (some_number : 0 < i) (s : BoardState) (o : IsOrderly s) (me : get_elem? s.views i ≡ opt.some v) (small : i < o.slots) where
+  is_me : seat s i ≡ v
+  is_me = (at_there s.views i v blank me).0
+
+  book_here : (seat s i).combiner.has_book ≡ v.combiner.has_book
+  book_here = ap (λ (u : View). u.combiner.has_book) is_me
+
+  -- the look
+
+  another : word s 0 ≢ FREE → HasOthers o.slots v
+  another miss lacks =
+      let t = o.taken miss in
+      let ne : word s 0 ≢ i = λ e. let has : v.combiner.has_book ≡ true = sym book_here ∙ (ap (λ (k : ℕ). (seat s k).combiner.has_book) (sym e) ∙ t.0) in absurd (cc (has, lacks)) in
+      omega (arith, t.1)
+
+  look_goes : (more : List (ℕ × Held)) → Goes s 0 i (v, more) (looks_at_lock (step o.slots 0 0 0 opt.none) (v, more)) (word s 0)
+  look_goes more = (v, keeps, tt, unmoved s o 0 i v me, (refl, another))
+
+  -- seize
+
+  module _ (hit : word s 0 ≡ FREE) where
+    nobody : (k : ℕ) → (seat s k).combiner.has_book ≢ true
+    nobody k has = let b = o.books k has in absurd (omega (arith, b.lock_is, b.session))
+
+    idle_all : (j : ℕ) → 0 < j → word s j ≢ BUSY
+    idle_all j some_record is_busy = let b = o.opened j some_record is_busy in nobody (word s 0) (o.opens (word s 0) j b.0 b.1).book
+
+    seize_step : IsLockStep s o i v 0 i opt.none o.history (combiner true v.combiner.opened 0) me some_number
+    seize_step = record {
+      lock = refl;
+      whole = refl;
+      named = is;
+      same = refl;
+      none = λ k j call shown. nobody k (o.opens k j call shown).book;
+      idle_all = idle_all;
+      alone = λ k ne has. nobody k has;
+      free = λ z. absurd (omega arith);
+      taken = λ _. (refl, refl, small, refl);
+      mine_then = λ _. refl;
+    }
+
+    seized : (load : Load) → IsHome o.history o.slots load → Seized v o.slots load
+    seized load home = record {
+      lacked = false_from_ne_true v.combiner.has_book (λ has. nobody i (book_here ∙ has));
+      home = record { history = refl; sessions = home.sessions; empty = home.empty; room = home.room };
+      legal = subst IsLegal (sym home.history) o.legal;
+      longer = subst (λ (f : List Entry). IsPrefix v.front f) (sym home.history) (subst (λ (u : View). IsPrefix u.front o.history) is_me (o.fronts i));
+    }
+
+    seize_won : (more : List (ℕ × Held)) → Goes s 0 i (v, more) (seizes (step o.slots 0 FREE i opt.none) (v, more)) i
+    seize_won more = let t = o.free hit in let load = t.0 in (
+      seizing v load.value.book.history,
+      takes 0 (Home load),
+      at_home s.homes 0 (Home load) t.1,
+      subst (λ (f : List Entry). IsOrderly record { words = set s.words (word_of 0) i; homes = set s.homes 0 opt.none; views = set s.views i (seizing v f) }) (sym t.2.history)
+          (relocked s o i v 0 i opt.none o.history (combiner true v.combiner.opened 0) me some_number seize_step),
+      ((λ _. (load, refl, seized load.value t.2)), λ miss. absurd (miss hit)),
+    )
+
+  seize_lost : (more : List (ℕ × Held)) → word s 0 ≢ FREE → Goes s 0 i (v, more) (seizes (step o.slots 0 FREE i opt.none) (v, more)) (word s 0)
+  seize_lost more miss = (v, keeps, tt, unmoved s o 0 i v me, ((λ hit. absurd (miss hit)), λ _. (refl, another miss)))
+
+  seize_goes : (more : List (ℕ × Held)) → Goes s 0 i (v, more) (seizes (step o.slots 0 FREE i opt.none) (v, more)) (either (eqb (word s 0) FREE) i (word s 0))
+  seize_goes more = exchanged (word s 0) FREE i (Goes s 0 i (v, more) (seizes (step o.slots 0 FREE i opt.none) (v, more))) (λ hit. seize_won hit more) (seize_lost more)
+
+  -- release
+
+  module _ (has : v.combiner.has_book ≡ true) (load : Box Load) (full : IsHome v.front o.slots load.value) (none : IsNothingOpened v.combiner) where
+    book : HasBook o.history (word s 0) i v
+    book = subst (λ (u : View). u.combiner.has_book ≡ true → HasBook o.history (word s 0) i u) is_me (o.books i) has
+
+    nobody_else : (k : ℕ) → k ≢ i → (seat s k).combiner.has_book ≢ true
+    nobody_else k ne too = ne (sym (o.books k too).lock_is ∙ book.lock_is)
+
+    none_here : IsNothingOpened (seat s i).combiner
+    none_here = subst (λ (u : View). IsNothingOpened u.combiner) (sym is_me) none
+
+    none_all : (k : ℕ) → IsNothingOpened (seat s k).combiner
+    none_all k = dite (ℕ_discrete k i)
+        (λ e. subst (λ (l : ℕ). IsNothingOpened (seat s l).combiner) (sym e) none_here)
+        (λ ne j call shown. nobody_else k ne (o.opens k j call shown).book)
+
+    release_step : IsLockStep s o i v 0 FREE (opt.some (Home load)) o.history (combiner false v.combiner.opened 0) me some_number
+    release_step = record {
+      lock = refl;
+      whole = refl;
+      named = is;
+      same = refl;
+      none = none_all;
+      idle_all = λ j some_record is_busy. let t = o.opened j some_record is_busy in none_all (word s 0) j t.0 t.1;
+      alone = nobody_else;
+      free = λ _. (load, refl, record { history = full.history ∙ book.whole; sessions = full.sessions; empty = full.empty; room = full.room });
+      taken = λ z. absurd (z refl);
+      mine_then = λ e. absurd (cc e);
+    }
+
+    release_goes : (more : List (ℕ × Held)) → Goes s 0 i (v, (0, Home load) ∷ more) (λ _. releases (step o.slots 0 FREE 0 opt.none) (v, (0, Home load) ∷ more) FREE) FREE
+    release_goes more = (
+      releasing v,
+      gives,
+      tt,
+      subst (λ (f : List Entry). IsOrderly record {
+        words = set s.words (word_of 0) FREE;
+        homes = set s.homes 0 (opt.some (Home load));
+        views = set s.views i (as_combiner v f (combiner false v.combiner.opened 0));
+      }) (sym book.whole)
+          (relocked s o i v 0 FREE (opt.some (Home load)) o.history (combiner false v.combiner.opened 0) me some_number release_step),
+      refl,
+    )
+
+-- what the table asks of each of these steps
+
+module _ (slots id i : ℕ) (v : View) (more : List (ℕ × Held)) (is : v.number ≡ i) (some_number : 0 < i) where
+  pub look_at_lock_kept : Allows IsOrderly slots id (v, more) 0 (λ n. n) (looks_at_lock (step slots 0 0 0 opt.none) (v, more))
+  look_at_lock_kept = seated slots id i 0 v more (λ n. n) (looks_at_lock (step slots 0 0 0 opt.none) (v, more)) is some_number
+      (λ s o me small wide e. subst (λ (n : ℕ). Goes s 0 i (v, more) (looks_at_lock (step n 0 0 0 opt.none) (v, more)) (word s 0)) e (look_goes i v is some_number s o me small more))
+
+  pub seize_kept : Allows IsOrderly slots id (v, more) 0 (λ n. either (eqb n FREE) i n) (seizes (step slots 0 FREE i opt.none) (v, more))
+  seize_kept = seated slots id i 0 v more (λ n. either (eqb n FREE) i n) (seizes (step slots 0 FREE i opt.none) (v, more)) is some_number
+      (λ s o me small wide e. subst (λ (n : ℕ). Goes s 0 i (v, more) (seizes (step n 0 FREE i opt.none) (v, more)) (either (eqb (word s 0) FREE) i (word s 0))) e (seize_goes i v is some_number s o me small more))
+
+module _ (slots id : ℕ) (v : View) (is : v.number ≢ 0) (has : v.combiner.has_book ≡ true) where
+  some_number : 0 < v.number
+  some_number = omega arith
+
+  pub release_kept : (load : Box Load) (more : List (ℕ × Held)) → IsHome v.front slots load.value → IsNothingOpened v.combiner
+      → Allows IsOrderly slots id (v, (0, Home load) ∷ more) 0 (λ _. FREE) (λ _. releases (step slots 0 FREE 0 opt.none) (v, (0, Home load) ∷ more) FREE)
+  release_kept load more full none = seated slots id v.number 0 v ((0, Home load) ∷ more) (λ _. FREE) (λ _. releases (step slots 0 FREE 0 opt.none) (v, (0, Home load) ∷ more) FREE) refl some_number
+      (λ s o me small wide e. release_goes v.number v refl some_number s o me small has load (subst (λ (n : ℕ). IsHome v.front n load.value) (sym e) full) none more)

@@ -1,0 +1,186 @@
+-- A board begins in order, and stays so while its sessions are made.
+use Rattle.std.proofs.Common.{◌≡◌, ◌≢◌, ℕ, zero, suc, ◌+◌, ◌<◌, ◌≤◌, true, false, Some, None, List, [], ◌∷◌, ◌++◌, length, map, replicate, get_or, set, sym, refl, ap, ◌∙◌, subst, arith, length-set, length-append}
+use Rattle.std.proofs.lemmas.List.{length-map, length-replicate}
+use mathlib.Core.Option as opt
+use mathlib.Core.List.{IsPrefix}
+use lib.ListN.{get_elem?}
+use Rattle.std.specs.Global.{Box}
+use Rattle.atomic_table.specs.Table.{opening, Splits}
+use Rattle.lock_rules.specs.declared.calls.Call.{Call}
+use Rattle.publication.specs.Words.{word_of, EMPTY}
+use Rattle.publication.specs.Rule.{BoardState, blank, fresh, own_at, published, maker, newcomer, word, home, seat, IsHome, IsIdle, Stands, HasBook, IsOpened, IsSession, IsMaker, IsOrderly}
+use Rattle.publication.specs.Rule.Stands.{idle}
+use Rattle.publication.specs.declared.view.View.{View}
+use Rattle.publication.specs.declared.slot.Load.{Load}
+use Rattle.publication.specs.declared.slot.Held.TheVariants.{Nothing, Home}
+use Rattle.publication.proofs.Lists.{at_there, each_set, each_snoc, prefix_self, same_all, past_end}
+use Rattle.publication.proofs.Locks.{nothing_at}
+
+-- what is at home in the slots that are laid out
+nothings : (n i : ℕ) → i < n → get_or (map opt.some (replicate n Nothing)) i opt.none ≡ opt.some Nothing
+nothings zero i h = absurd (omega arith)
+nothings (suc n) zero h = refl
+nothings (suc n) (suc i) h = nothings n i (omega arith)
+
+-- with one seat
+first_seats : (v : View) (P : View → Type 0) → P v → P blank → (k : ℕ) → P (get_or (v ∷ []) k blank)
+first_seats v P here else zero = here
+first_seats v P here else (suc k) = else
+
+-- the board of n sessions, none of which is made yet
+module _ (n : ℕ) (load : Box Load) (ready : IsHome [] (n + 1) load.value) where
+  abbrev first : View
+  first = maker (n + 1) 0
+
+  abbrev laid_out : BoardState
+  laid_out = opening (replicate (word_of (n + 1)) 0) (Home load ∷ replicate n Nothing) first
+
+  each : (P : View → Type 0) → P first → P blank → (k : ℕ) → P (seat laid_out k)
+  each = first_seats first
+
+  words_zero : (i : ℕ) → word laid_out i ≡ 0
+  words_zero i = same_all (word_of (n + 1)) (word_of i) 0
+
+  idle_first : (i : ℕ) → IsIdle [] i EMPTY (opt.some Nothing) fresh
+  idle_first i = record { is = refl; none = refl; out = λ e. absurd (cc e); laid = λ _. refl; publishes = refl; calls = refl }
+
+  stands_first : (i : ℕ) → 0 < i → i < n + 1 → Stands [] i 0 (home laid_out i) (own_at (replicate (n + 1) fresh) i)
+  stands_first zero h few = absurd (omega arith)
+  stands_first (suc i) h few = rw (nothings n i (omega arith), same_all (n + 1) (suc i) fresh) (idle (idle_first (suc i)))
+
+  heard_first : (k j : ℕ) → get_or (seat laid_out k).heard j 0 ≤ published (own_at (replicate (n + 1) fresh) j)
+  heard_first k j = each (λ u. get_or u.heard j 0 ≤ published (own_at (replicate (n + 1) fresh) j)) (omega arith) (omega arith) k
+
+  pub begins : IsOrderly laid_out
+  begins = record {
+    history = [];
+    slots = n + 1;
+    owns = replicate (n + 1) fresh;
+    legal = tt;
+    short = omega arith;
+    owns_are = length-replicate (n + 1) fresh;
+    words_are = length-replicate (word_of (n + 1)) 0;
+    homes_are = omega (arith, length-map (replicate n Nothing) opt.some, length-replicate n Nothing);
+    makes = record { slots_are = refl; number = refl; none = refl; there = omega arith; some_slot = omega arith; made = λ _. refl };
+    unmade = λ j past. same_all (n + 1) j fresh;
+    sessions = λ k. each (λ u. u.number ≢ 0 → IsSession (n + 1) (replicate (n + 1) fresh) k u) (λ no_number. absurd (no_number refl)) (λ no_number. absurd (no_number refl)) k;
+    fronts = each (λ u. IsPrefix u.front []) (prefix_self []) (prefix_self []);
+    heard = heard_first;
+    stands = λ i some_session small. rw (words_zero i) (stands_first i some_session small);
+    books = λ k. each (λ u. u.combiner.has_book ≡ true → HasBook [] (word laid_out 0) k u) (λ e. absurd (cc e)) (λ e. absurd (cc e)) k;
+    free = λ _. (load, refl, ready);
+    taken = λ some_lock. absurd (some_lock (words_zero 0));
+    opens = λ k j call is. absurd (each (λ u. get_elem? u.combiner.opened j ≡ opt.some (Some call) → ⊥) (nothing_at 0 j call) (nothing_at 0 j call) k is);
+    opened = λ j some_session is. absurd (omega (arith, words_zero j));
+  }
+
+-- the first seat of a board in order makes one session more
+module _ (slots made : ℕ) (some_left : made + 1 < slots) (s : BoardState) (o : IsOrderly s) (me : get_elem? s.views 0 ≡ opt.some (maker slots made)) where
+  abbrev more : View
+  more = maker slots (made + 1)
+
+  abbrev joined : View
+  joined = newcomer slots (made + 1)
+
+  abbrev seats_after : List View
+  seats_after = set s.views 0 more ++ joined ∷ []
+
+  abbrev enrolled : BoardState
+  enrolled = record { words = s.words; homes = s.homes; views = seats_after }
+
+  is_me : seat s 0 ≡ maker slots made
+  is_me = (at_there s.views 0 (maker slots made) blank me).0
+
+  sits : 0 < length s.views
+  sits = (at_there s.views 0 (maker slots made) blank me).1
+
+  before : IsMaker o.slots (length s.views) (maker slots made)
+  before = subst (λ (u : View). IsMaker o.slots (length s.views) u) is_me o.makes
+
+  seats : made + 1 ≡ length s.views
+  seats = before.made (omega (arith, before.slots_are))
+
+  long_now : length (set s.views 0 more) ≡ length s.views
+  long_now = length-set s.views 0 more
+
+  one_more : length seats_after ≡ length s.views + 1
+  one_more = omega (arith, long_now, length-append (set s.views 0 more) (joined ∷ []))
+
+  -- what holds of the new seat, of the first one and of the others
+  each_seat : (P : ℕ → View → Type 0) → P (length s.views) joined → P 0 more → ((k : ℕ) → k ≢ 0 → P k (seat s k)) → (k : ℕ) → P k (seat enrolled k)
+  each_seat P new here else = each_snoc (set s.views 0 more) joined blank P (subst (λ (k : ℕ). P k joined) (sym long_now) new) (each_set s.views 0 more blank P sits here else)
+
+  -- the first seat and the one behind the last had no book and had opened nothing
+  first_had : (seat s 0).combiner ≡ (maker slots made).combiner
+  first_had = ap (λ (u : View). u.combiner) is_me
+
+  past_had : (seat s (length s.views)).combiner ≡ blank.combiner
+  past_had = ap (λ (u : View). u.combiner) (past_end s.views blank)
+
+  heads : (l : List View) → 0 < length l → get_or (set l 0 more ++ joined ∷ []) 0 blank ≡ more
+  heads [] h = absurd (omega arith)
+  heads (x ∷ xs) h = refl
+
+  makes_more : IsMaker o.slots (length seats_after) (seat enrolled 0)
+  makes_more = rw (heads s.views sits) (record {
+    slots_are = before.slots_are;
+    number = refl;
+    none = refl;
+    there = omega (arith, one_more);
+    some_slot = o.makes.some_slot;
+    made = λ _. omega (arith, one_more, seats);
+  })
+
+  sessions_after : (k : ℕ) → (seat enrolled k).number ≢ 0 → IsSession o.slots o.owns k (seat enrolled k)
+  sessions_after = each_seat (λ k u. u.number ≢ 0 → IsSession o.slots o.owns k u)
+      (λ _. record {
+        own_is = sym (o.unmade (length s.views) (omega arith));
+        is = seats;
+        small = omega (arith, seats, before.slots_are);
+        wide = length-replicate slots None ∙ before.slots_are;
+      })
+      (λ no_number. absurd (no_number refl)) (λ k ne. o.sessions k)
+
+  heard_after : (k j : ℕ) → get_or (seat enrolled k).heard j 0 ≤ published (own_at o.owns j)
+  heard_after k j = each_seat (λ k u. get_or u.heard j 0 ≤ published (own_at o.owns j)) (omega (arith, same_all {A = ℕ} slots j 0)) (omega arith) (λ k ne. o.heard k j) k
+
+  still_has : (k : ℕ) → (seat s k).combiner.has_book ≡ true → (seat enrolled k).combiner.has_book ≡ true
+  still_has = each_seat (λ k u. (seat s k).combiner.has_book ≡ true → u.combiner.has_book ≡ true)
+      (λ has. absurd (let z : (seat s (length s.views)).combiner.has_book ≡ false = ap (λ c. c.has_book) past_had in cc (has, z))) (λ has. absurd (let z : (seat s 0).combiner.has_book ≡ false = ap (λ c. c.has_book) first_had in cc (has, z))) (λ k n has. has)
+
+  opens_after : (k j : ℕ) (call : Call) → get_elem? (seat enrolled k).combiner.opened j ≡ opt.some (Some call) → IsOpened enrolled o.owns (seat enrolled k).combiner j call
+  opens_after = each_seat (λ k u. (j : ℕ) (call : Call) → get_elem? u.combiner.opened j ≡ opt.some (Some call) → IsOpened enrolled o.owns u.combiner j call)
+      (λ j call is. absurd (nothing_at slots j call is)) (λ j call is. absurd (nothing_at 0 j call is))
+      (λ k ne j call is. let p = o.opens k j call is in record { book = p.book; record_of = p.record_of; is_busy = p.is_busy; call_of = p.call_of; laid = p.laid })
+
+  still_open : (j : ℕ) (call : Call) (k : ℕ) → get_elem? (seat s k).combiner.opened j ≡ opt.some (Some call) → get_elem? (seat enrolled k).combiner.opened j ≡ opt.some (Some call)
+  still_open j call = each_seat (λ k u. get_elem? (seat s k).combiner.opened j ≡ opt.some (Some call) → get_elem? u.combiner.opened j ≡ opt.some (Some call))
+      (λ was. absurd (nothing_at 0 j call (sym (ap (λ c. get_elem? c.opened j) past_had) ∙ was)))
+      (λ was. absurd (nothing_at 0 j call (sym (ap (λ c. get_elem? c.opened j) first_had) ∙ was)))
+      (λ k n was. was)
+
+  enrols_one : IsOrderly enrolled
+  enrols_one = record {
+    history = o.history;
+    slots = o.slots;
+    owns = o.owns;
+    legal = o.legal;
+    short = o.short;
+    owns_are = o.owns_are;
+    words_are = o.words_are;
+    homes_are = o.homes_are;
+    makes = makes_more;
+    unmade = λ j past. o.unmade j (omega (arith, one_more));
+    sessions = sessions_after;
+    fronts = each_seat (λ k u. IsPrefix u.front o.history) (o.history, refl) (o.history, refl) (λ k ne. o.fronts k);
+    heard = heard_after;
+    stands = o.stands;
+    books = each_seat (λ k u. u.combiner.has_book ≡ true → HasBook o.history (word s 0) k u) (λ e. absurd (cc e)) (λ e. absurd (cc e)) (λ k ne. o.books k);
+    free = o.free;
+    taken = λ some_lock. let q = o.taken some_lock in (still_has (word s 0) q.0, q.1, q.2);
+    opens = opens_after;
+    opened = λ j some_session is. let p = o.opened j some_session is in (p.0, still_open j p.0 (word s 0) p.1);
+  }
+
+pub enrols : (id slots made : ℕ) → id ≡ 0 → made + 1 < slots → Splits IsOrderly id (maker slots made) (maker slots (made + 1)) (newcomer slots (made + 1))
+enrols id slots made first few = subst (λ (i : ℕ). Splits IsOrderly i (maker slots made) (maker slots (made + 1)) (newcomer slots (made + 1))) (sym first) (λ s o me. enrols_one slots made few s o me)

@@ -1,0 +1,237 @@
+-- The kinds of step of a session on its own record: start, post, the look for the reply, and take.
+use Rattle.std.proofs.Common.{◌≡◌, ◌≢◌, ℕ, zero, suc, ◌+◌, ◌<◌, ◌≤◌, max, true, false, Some, None, List, [], ◌∷◌, ◌++◌, length, get_or, set, take, sym, refl, ap, ◌∙◌, subst, arith, length-append, eqb, is_some, get_or-set_other}
+use Rattle.std.proofs.lemmas.List.{set-get_or}
+use Rattle.std.proofs.Math.Seq.{take-length}
+use mathlib.Core.Option as opt
+use mathlib.Core.List.{IsPrefix}
+use prog.Atomic.{either}
+use lib.ListN.{get_elem?}
+use Rattle.atomic_table.specs.Table.{Act, keeps, takes, gives, Valid, carried_after, stepped, step, Allows}
+use Rattle.atomic_table.proofs.Lists.{exchanged, set_again}
+use Rattle.lock_rules.specs.declared.calls.Call.{Call}
+use Rattle.lock_rules.specs.declared.calls.Call.TheVariants.{Poll}
+use Rattle.lock_rules.specs.declared.calls.Reply.{Reply}
+use Rattle.lock_rules.specs.declared.calls.Reply.TheVariants.{Clear}
+use Rattle.lock_rules.specs.declared.calls.Entry.{Entry}
+use Rattle.lock_rules.specs.Legal.{Answered, calls_of}
+use Rattle.publication.specs.Words.{word_of, EMPTY, POSTED, SERVED}
+use Rattle.publication.specs.Views.{Own, entry, answer, asks}
+use Rattle.publication.specs.Rule.{blank, BoardState, word, home, seat, own_at, published, IsIdle, IsServed, Stands, HasBook, IsSession, IsOrderly}
+use Rattle.publication.specs.Rule.Stands.{idle, posted}
+use Rattle.publication.specs.Kinds.{Seated, own, started, starts, posting, posts, IsUnanswered, looks_for_reply, taking, Took, takes_reply}
+use Rattle.publication.specs.declared.view.View.{View}
+use Rattle.publication.specs.declared.slot.Held.{Held}
+use Rattle.publication.specs.declared.slot.Held.TheVariants.{Nothing, Asked, Replied}
+use Rattle.publication.proofs.Lists.{at_there, at_home, at_taken, IsCut, cut}
+use Rattle.publication.proofs.Histories.{legal-begins, length-begins, calls-cut, calls-fewer}
+use Rattle.publication.proofs.Records.{is_idle, is_served, is_waiting, lacks, idle_published, waits_published}
+use Rattle.publication.proofs.Moves.{IsOwnStep, moved}
+
+-- a step that changes nothing
+pub unmoved : (s : BoardState) → IsOrderly s → (i id : ℕ) (v : View) → get_elem? s.views id ≡ opt.some v
+    → IsOrderly record { words = set s.words (word_of i) (word s i); homes = s.homes; views = set s.views id v }
+unmoved s o i id v me = rw (set-get_or s.words (word_of i) 0, set_again s.views id v me) o
+
+-- the seat id, which is m, has a step on word i that keeps the rule, after which the word is k and `then` is told
+abbrev pub Goes : BoardState → ℕ → ℕ → Seated → (ℕ → Seated → Type 0) → ℕ → Type 0
+Goes s i id m then k = (w : View) × (a : Act Held) × Valid s.homes m.1 a × IsOrderly (stepped s (word_of i) k id m.1 w a) × then (word s i) (w, carried_after m.1 a)
+
+-- which seat a session's is
+pub named : (s : BoardState) (o : IsOrderly s) (id i : ℕ) (v : View) → get_elem? s.views id ≡ opt.some v → v.number ≡ i → 0 < i → (id ≡ i) × (i < o.slots) × (length v.combiner.opened ≡ o.slots)
+named s o id i v me is some_number =
+    let e : seat s id ≡ v = (at_there s.views id v blank me).0 in
+    let t : IsSession o.slots o.owns id v = subst (λ (u : View). u.number ≢ 0 → IsSession o.slots o.owns id u) e (o.sessions id) (λ z. omega arith) in
+    (omega (arith, t.is), omega (arith, t.is, t.small), t.wide)
+
+-- a step of the seat of session i: its seat has its number
+pub seated : (slots id i x : ℕ) (v : View) (more : List (ℕ × Held)) (f : ℕ → ℕ) (then : ℕ → Seated → Type 0) → v.number ≡ i → 0 < i
+    → ((s : BoardState) (o : IsOrderly s) → get_elem? s.views i ≡ opt.some v → i < o.slots → length v.combiner.opened ≡ o.slots → o.slots ≡ slots → Goes s x i (v, more) then (f (word s x)))
+    → Allows IsOrderly slots id (v, more) (word_of x) f then
+seated slots id i x v more f then is some_number goes s o wide me _ =
+    let t = named s o id i v me is some_number in
+    subst (λ (k : ℕ). Goes s x k (v, more) then (f (word s x))) (sym t.0) (goes s o (subst (λ (k : ℕ). get_elem? s.views k ≡ opt.some v) t.0 me) t.1 t.2 (sym o.homes_are ∙ wide))
+
+module _ (i : ℕ) (v : View) (is : v.number ≡ i) (some_number : 0 < i) (s : BoardState) (o : IsOrderly s) (me : get_elem? s.views i ≡ opt.some v) (small : i < o.slots) where
+  lives : v.number ≢ 0
+  lives e = omega arith
+
+  is_me : seat s i ≡ v
+  is_me = (at_there s.views i v blank me).0
+
+  own_is : v.own ≡ own_at o.owns i
+  own_is = (subst (λ (u : View). u.number ≢ 0 → IsSession o.slots o.owns i u) is_me (o.sessions i) lives).own_is
+
+  pub stand : Stands o.history i (word s i) (home s i) v.own
+  stand = subst (λ (u : Own). Stands o.history i (word s i) (home s i) u) (sym own_is) (o.stands i some_number small)
+
+  pub begins : IsPrefix v.front o.history
+  begins = subst (λ (u : View). IsPrefix u.front o.history) is_me (o.fronts i)
+
+  pub whole : v.combiner.has_book ≡ true → v.front ≡ o.history
+  whole has = (subst (λ (u : View). u.combiner.has_book ≡ true → HasBook o.history (word s 0) i u) is_me (o.books i) has).whole
+
+  heard_own : get_or v.heard i 0 ≤ published v.own
+  heard_own = subst (λ (u : Own). get_or v.heard i 0 ≤ published u) (sym own_is) (subst (λ (u : View). get_or u.heard i 0 ≤ published (own_at o.owns i)) is_me (o.heard i i))
+
+  -- start
+
+  start_step : IsIdle o.history i (word s i) (home s i) v.own
+      → IsOwnStep s o i v (word s i) opt.none v.front (own None v.own.collected) v.heard me some_number small lives
+  start_step t = record {
+    more = omega (arith, idle_published v.own t.none);
+    hears = λ j ne. refl;
+    hears_own = omega (arith, heard_own, idle_published v.own t.none);
+    was_shut = λ e. omega (arith, t.is);
+    is_shut = λ e. omega (arith, t.is);
+    begins = begins;
+    whole = whole;
+    stands = idle record { is = t.is; none = refl; out = λ _. refl; laid = λ e. absurd (cc e); publishes = refl; calls = t.calls };
+  }
+
+  start_goes : (more : List (ℕ × Held)) → v.own.started ≡ false → IsIdle o.history i (word s i) (home s i) v.own
+      → Goes s i i (v, more) (starts (step o.slots (word_of i) 0 0 opt.none) (v, more)) (word s i)
+  start_goes more unstarted t = (
+    started v,
+    takes i Nothing,
+    at_home s.homes i Nothing (t.laid unstarted),
+    moved s o i v (word s i) opt.none v.front (own None v.own.collected) v.heard me some_number small lives (start_step t),
+    ap (λ (k : ℕ). (started v, (k, Nothing) ∷ more)) (sym is),
+  )
+
+  -- post
+
+  abbrev own_posted : Call → Own
+  own_posted call = own (Some (asks call (length v.front))) v.own.collected
+
+  abbrev heard_posted : List ℕ
+  heard_posted = set v.heard v.number (length v.own.collected + 1)
+
+  -- a write at a place of the list, or past its end
+  at_most : (l : List ℕ) (k n : ℕ) → get_or (set l k n) k 0 ≤ n
+  at_most [] k n = omega arith
+  at_most (x ∷ xs) zero n = omega arith
+  at_most (x ∷ xs) (suc k) n = at_most xs k n
+
+  post_step : (call : Call) → IsIdle o.history i (word s i) (home s i) v.own
+      → IsOwnStep s o i v POSTED (opt.some (Asked call)) v.front (own_posted call) heard_posted me some_number small lives
+  post_step call t = record {
+    more = omega (arith, idle_published v.own t.none);
+    hears = λ j ne. get_or-set_other v.heard v.number j (length v.own.collected + 1) 0 (λ e. ne (e ∙ is));
+    hears_own = subst (λ (k : ℕ). get_or (set v.heard k (length v.own.collected + 1)) i 0 ≤ length v.own.collected + 1) (sym is) (at_most v.heard i (length v.own.collected + 1));
+    was_shut = λ e. omega (arith, t.is);
+    is_shut = λ e. omega arith;
+    begins = begins;
+    whole = whole;
+    stands = posted call (length v.front) record { is = refl; some = refl; asked = refl; early = length-begins v.front o.history begins; publishes = refl; calls = t.calls };
+  }
+
+  post_goes : (call : Call) (more : List (ℕ × Held)) → IsIdle o.history i (word s i) (home s i) v.own
+      → Goes s i i (v, (i, Asked call) ∷ more) (λ _. posts (step o.slots (word_of i) POSTED 0 opt.none) (v, (i, Asked call) ∷ more) POSTED) POSTED
+  post_goes call more t = (
+    posting v call,
+    gives,
+    tt,
+    moved s o i v POSTED (opt.some (Asked call)) v.front (own_posted call) heard_posted me some_number small lives (post_step call t),
+    refl,
+  )
+
+  -- look for the reply
+
+  unanswered : word s i ≢ SERVED → IsUnanswered v
+  unanswered miss some = subst (λ (k : ℕ). length (calls_of k v.front) ≤ length v.own.collected) (sym is)
+      (subst (λ (l : List Answered). length (calls_of i v.front) ≤ length l) (is_waiting stand miss some) (calls-fewer i v.front o.history begins))
+
+  look_goes : (more : List (ℕ × Held)) → Goes s i i (v, more) (looks_for_reply (step o.slots (word_of i) 0 0 opt.none) (v, more)) (word s i)
+  look_goes more = (v, keeps, tt, unmoved s o i i v me, (refl, unanswered))
+
+  -- take
+
+  module _ (call : Call) (floor place : ℕ) (reply : Reply) (f : IsServed o.history i (word s i) (home s i) v.own call floor place reply) where
+    abbrev known : ℕ
+    known = max (length v.front) (place + 1)
+
+    abbrev front : List Entry
+    front = take known o.history
+
+    abbrev collected : List Answered
+    collected = v.own.collected ++ answer place call reply ∷ []
+
+    abbrev own_taken : Own
+    own_taken = record { started = true; retired = v.own.retired; pending = None; collected = collected }
+
+    stands_there : place < length o.history
+    stands_there = (at_there o.history place (entry i call reply) (entry 0 Poll Clear) f.stands).1
+
+    cut_off : IsCut v.front o.history known
+    cut_off = cut v.front o.history known begins (omega arith) (omega (arith, stands_there, length-begins v.front o.history begins))
+
+    calls_known : calls_of i front ≡ collected
+    calls_known = calls-cut i 0 known o.history v.own.collected (answer place call reply) f.calls (omega arith) ∙ f.calls
+
+    known_whole : v.combiner.has_book ≡ true → front ≡ o.history
+    known_whole has = let e : known ≡ length o.history = omega (arith, stands_there, ap (λ (l : List Entry). length l) (whole has)) in rw e (take-length o.history)
+
+    took : Took v.number v.front v.own.collected call floor place reply front
+    took = record {
+      legal = legal-begins front o.history cut_off.front o.legal;
+      short = omega (arith, o.short, length-begins front o.history cut_off.front);
+      longer = cut_off.longer;
+      long = cut_off.long;
+      stands = subst (λ (k : ℕ). get_elem? front place ≡ opt.some (entry k call reply)) (sym is) (at_taken o.history known place (entry i call reply) (omega arith) f.stands);
+      late = f.late;
+      calls = subst (λ (k : ℕ). calls_of k front ≡ collected) (sym is) calls_known;
+    }
+
+    one_more : published v.own ≡ length collected
+    one_more = omega (arith, waits_published v.own (asks call floor) f.some, length-append v.own.collected (answer place call reply ∷ []))
+
+    take_step : IsOwnStep s o i v EMPTY opt.none front own_taken v.heard me some_number small lives
+    take_step = record {
+      more = omega (arith, one_more);
+      hears = λ j ne. refl;
+      hears_own = omega (arith, heard_own, one_more);
+      was_shut = λ e. omega (arith, f.is);
+      is_shut = λ e. omega arith;
+      begins = cut_off.front;
+      whole = known_whole;
+      stands = idle record { is = refl; none = refl; out = λ _. refl; laid = λ e. absurd (cc e); publishes = f.publishes; calls = f.calls };
+    }
+
+    take_won : (more : List (ℕ × Held)) → word s i ≡ SERVED → Goes s i i (v, more) (takes_reply (step o.slots (word_of i) SERVED EMPTY opt.none) (v, more)) EMPTY
+    take_won more hit = (
+      taking v front call place reply,
+      takes i (Replied place reply),
+      at_home s.homes i (Replied place reply) f.replied,
+      moved s o i v EMPTY opt.none front own_taken v.heard me some_number small lives take_step,
+      (
+        (λ _. (place, reply, (call, floor, front, f.some, ap (λ (k : ℕ). (taking v front call place reply, (k, Replied place reply) ∷ more)) (sym is), took))),
+        λ miss. absurd (miss hit),
+      ),
+    )
+
+  take_lost : (more : List (ℕ × Held)) → word s i ≢ SERVED → Goes s i i (v, more) (takes_reply (step o.slots (word_of i) SERVED EMPTY opt.none) (v, more)) (word s i)
+  take_lost more miss = (v, keeps, tt, unmoved s o i i v me, ((λ hit. absurd (miss hit)), λ _. (refl, unanswered miss)))
+
+  take_goes : (more : List (ℕ × Held)) → Goes s i i (v, more) (takes_reply (step o.slots (word_of i) SERVED EMPTY opt.none) (v, more)) (either (eqb (word s i) SERVED) EMPTY (word s i))
+  take_goes more = exchanged (word s i) SERVED EMPTY (Goes s i i (v, more) (takes_reply (step o.slots (word_of i) SERVED EMPTY opt.none) (v, more)))
+      (λ hit. let t = is_served stand hit in take_won t.0 t.1 t.2 t.3 t.4 more hit) (take_lost more)
+
+-- what the table asks of each of these steps
+module _ (slots id i : ℕ) (v : View) (more : List (ℕ × Held)) (is : v.number ≡ i) (some_number : 0 < i) where
+  pub start_kept : v.own.started ≡ false → v.own.pending ≡ None → v.own.retired ≡ false
+      → Allows IsOrderly slots id (v, more) (word_of i) (λ n. n) (starts (step slots (word_of i) 0 0 opt.none) (v, more))
+  start_kept unstarted none live = seated slots id i i v more (λ n. n) (starts (step slots (word_of i) 0 0 opt.none) (v, more)) is some_number
+      (λ s o me small wide e. start_goes i v is some_number s o me small more unstarted (is_idle (stand i v is some_number s o me small) none live))
+
+  pub post_kept : (call : Call) → is_some v.own.pending ≡ false → v.own.retired ≡ false
+      → Allows IsOrderly slots id (v, (i, Asked call) ∷ more) (word_of i) (λ _. POSTED) (λ _. posts (step slots (word_of i) POSTED 0 opt.none) (v, (i, Asked call) ∷ more) POSTED)
+  post_kept call none live = seated slots id i i v ((i, Asked call) ∷ more) (λ _. POSTED) (λ _. posts (step slots (word_of i) POSTED 0 opt.none) (v, (i, Asked call) ∷ more) POSTED) is some_number
+      (λ s o me small wide e. post_goes i v is some_number s o me small call more (is_idle (stand i v is some_number s o me small) (lacks v.own.pending none) live))
+
+  pub look_kept : Allows IsOrderly slots id (v, more) (word_of i) (λ n. n) (looks_for_reply (step slots (word_of i) 0 0 opt.none) (v, more))
+  look_kept = seated slots id i i v more (λ n. n) (looks_for_reply (step slots (word_of i) 0 0 opt.none) (v, more)) is some_number
+      (λ s o me small wide e. look_goes i v is some_number s o me small more)
+
+  pub take_kept : Allows IsOrderly slots id (v, more) (word_of i) (λ n. either (eqb n SERVED) EMPTY n) (takes_reply (step slots (word_of i) SERVED EMPTY opt.none) (v, more))
+  take_kept = seated slots id i i v more (λ n. either (eqb n SERVED) EMPTY n) (takes_reply (step slots (word_of i) SERVED EMPTY opt.none) (v, more)) is some_number
+      (λ s o me small wide e. take_goes i v is some_number s o me small more)

@@ -1,0 +1,31 @@
+use Rattle.std.proofs.Common.{rules, ◌≡◌, ◌∷◌, ℕ, List, [], Bool, true, false, cond, is_some, length-append, refl, sym, ap, ◌∙◌, subst, arith}
+use Rattle.atomic_table.specs.Table.{turned}
+use Rattle.publication.specs.Views.{answer, asks}
+use Rattle.publication.specs.Kinds.{Seated, taking}
+use Rattle.publication.specs.Tickets.{own_slot, book_slot, IsSettled}
+use Rattle.publication.specs.declared.slot.Held.{Held}
+use Rattle.publication.specs.declared.slot.Held.TheVariants.{Nothing}
+use Rattle.publication.proofs.Records.{waits_published}
+use Rattle.publication.proofs.board.Board.take.Goals as goal
+
+swapped : (b : Bool) (n : ℕ) → cond b (turned ((n, Nothing) ∷ book_slot b [])) ((n, Nothing) ∷ book_slot b []) ≡ book_slot b ((n, Nothing) ∷ [])
+swapped true n = refl
+swapped false n = refl
+
+pub invariant_of-ticket-2 : goal.invariant_of-ticket-2
+invariant_of-ticket-2 c =
+    let a = c.ticket.inside in let t = c.ticket.invariant.settled in let m = a.seat.me in let n = a.number in let b = a.has_book in
+    let e = c.in_ok-place.ensures.some in
+    let place = c.in_ok-place.place in let reply = c.in_ok-place.reply in
+    let was_pending : a.is_pending ≡ true = sym t.pending ∙ ap is_some e.3 in
+    let carried : m.1 ≡ book_slot b [] = t.carried ∙ ap (λ (p : Bool). book_slot b (own_slot p n)) was_pending in
+    let w = taking m.0 e.2 e.0 place reply in
+    let after : c.turn_if.new.seat.me ≡ (w, book_slot b ((n, Nothing) ∷ [])) =
+    c.turn_if.ensures.1 ∙ (ap (λ (x : Seated). (x.0, cond b (turned x.1) x.1)) e.4 ∙ (ap (λ (l : List (ℕ × Held)). (w, cond b (turned ((m.0.number, Nothing) ∷ l)) ((m.0.number, Nothing) ∷ l))) carried
+    ∙ (ap (λ (k : ℕ). (w, cond b (turned ((k, Nothing) ∷ book_slot b [])) ((k, Nothing) ∷ book_slot b []))) t.number_is ∙ ap (λ (l : List (ℕ × Held)). (w, l)) (swapped b n)))) in
+    let longer = length-append m.0.own.collected (answer place e.0 reply ∷ []) in
+    record {
+      small = search rules;
+      settled = subst (λ (x : Seated). IsSettled x n c.max-ticket-inside.result b false a.is_retired) (sym after)
+          record { number_is = t.number_is; some_number = t.some_number; seen_is = omega (arith, e.5.long, t.seen_is, c.max-ticket-inside.ensures); started = refl; retired = t.retired; pending = refl; book = t.book; hand = t.hand; heard = omega (arith, t.heard, waits_published m.0.own (asks e.0 e.1) e.3, longer); wide = t.wide; carried = refl };
+    }

@@ -1,0 +1,45 @@
+use Rattle.std.proofs.Common.{rules, ◌≡◌, ◌∷◌, ◌∙◌, ℕ, refl, sym, ap, subst, arith}
+use mathlib.Core.Option as opt
+use Rattle.atomic_table.specs.Table.{Allows, step, rest}
+use Rattle.publication.specs.Words.{word_of, SERVED}
+use Rattle.publication.specs.Rule.{IsOrderly}
+use Rattle.publication.specs.Kinds.{Seated, answers, call_at, replied, in_hand, answering}
+use Rattle.publication.specs.declared.slot.Held.{Held}
+use Rattle.publication.specs.declared.slot.Held.TheVariants.{Nothing, Replied}
+use Rattle.publication.proofs.Combiners.{session_of_its_word, pick_kept, answer_kept}
+use Rattle.publication.proofs.Lists.{there_at}
+use Rattle.publication.proofs.steps.answer_record.Goals as goal
+
+pub load-requires : goal.load-requires
+load-requires c =
+    let m = c.args.seat.now.me in
+    let at = c.args.at in
+    let mine = c.requires.mine in
+    let there = there_at m.0.combiner.opened at (call_at m.0 at) c.requires.opened in
+    (search rules, search rules, pick_kept c.args.shared.now.table_id.slots c.args.seat.now.id m.0 mine.session mine.book at c.requires.at.some c.requires.at.there (call_at m.0 at) there m.1 mine.empty)
+
+pub store-requires : goal.store-requires
+store-requires c =
+    let m = c.args.seat.now.me in
+    let at = c.args.at in
+    let slots = c.args.shared.now.table_id.slots in
+    let id = c.exchange.new.seat.id in
+    let held : Held = Replied c.args.place c.args.reply in
+    let there = there_at m.0.combiner.opened at (call_at m.0 at) c.requires.opened in
+    let picked = subst (λ (k : ℕ). c.load.new.seat.me ≡ (in_hand m.0 k, (k, Nothing) ∷ m.1)) (session_of_its_word at) c.load.ensures.2 in
+    let after : c.exchange.new.seat.me ≡ (in_hand m.0 at, (at, held) ∷ m.1) = c.exchange.ensures.3 ∙ ap (λ (x : Seated). (x.0, (at, held) ∷ rest x.1)) picked in (
+      search rules,
+      search rules,
+      subst (λ (x : Seated). Allows IsOrderly slots id x (word_of at) (λ _. SERVED) (λ _. answers (step slots (word_of at) SERVED 0 opt.none) x SERVED)) (sym after)
+          (answer_kept slots id (in_hand m.0 at) c.requires.mine.session refl at c.requires.at.some c.requires.at.there (call_at m.0 at) there m.1 c.args.place c.args.reply refl
+          c.requires.place.0 c.requires.legal (omega (arith, c.requires.place.0, c.requires.place.1))),
+    )
+
+pub returns-clause-step : goal.returns-clause-step
+returns-clause-step c =
+    let m = c.args.seat.now.me in
+    let at = c.args.at in
+    let held : Held = Replied c.args.place c.args.reply in
+    let picked = subst (λ (k : ℕ). c.load.new.seat.me ≡ (in_hand m.0 k, (k, Nothing) ∷ m.1)) (session_of_its_word at) c.load.ensures.2 in
+    let after : c.exchange.new.seat.me ≡ (in_hand m.0 at, (at, held) ∷ m.1) = c.exchange.ensures.3 ∙ ap (λ (x : Seated). (x.0, (at, held) ∷ rest x.1)) picked in
+    c.store.ensures.2 ∙ ap (λ (x : Seated). (answering x.0 x.0.combiner.hand (call_at x.0 x.0.combiner.hand) (replied x.1), rest x.1)) after

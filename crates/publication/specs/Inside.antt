@@ -1,0 +1,31 @@
+-- How boards and tickets are seen, and what they keep.
+use Rattle.std.specs.Prelude.{◌≡◌, ◌+◌, ◌<◌}
+use Rattle.publication.specs.Views.{Placed, Known}
+use Rattle.publication.specs.Tickets.{IsBoard, IsSettled}
+use Rattle.publication.specs.declared.board.Board.TheInside.{Inside as BoardInside}
+use Rattle.publication.specs.declared.board.Ticket.TheInside.{Inside as TicketInside}
+
+abbrev pub placed_of : BoardInside → Placed
+placed_of b = record { id = b.table.shared.table_id; sessions = b.sessions }
+
+-- a word and a slot for the book, and for each session
+pub record IsSized (b : BoardInside) : Type 0 where
+  pub board : IsBoard b.table.shared.table_id
+  pub slots : b.table.shared.table_id.slots ≡ b.sessions + 1
+
+abbrev pub known_of : TicketInside → Known
+known_of t = record {
+  board = t.seat.table_id;
+  number = t.number;
+  front = t.seat.me.0.front;
+  pending = t.seat.me.0.own.pending;
+  collected = t.seat.me.0.own.collected;
+  heard = t.seat.me.0.heard;
+  retired = t.is_retired;
+  has_book = t.has_book;
+  opened = t.seat.me.0.combiner.opened;
+}
+
+pub record IsKept (t : TicketInside) : Type 0 where
+  pub small : t.number < t.seat.table_id.slots
+  pub settled : IsSettled t.seat.me t.number t.seen t.has_book t.is_pending t.is_retired

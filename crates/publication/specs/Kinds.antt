@@ -1,0 +1,219 @@
+-- The kinds of step: whose view changes, and which word. Beside them stand the looks, which change nothing and tell what a lost exchange would.
+--
+--   start           a new session's   its record's word is read; the slot leaves
+--   post            the session's     its record, EMPTY to POSTED; the call goes into the slot
+--   look for reply  nobody's          its record's word is read
+--   take            the session's     its record, SERVED to EMPTY, by compare-exchange; the reply leaves the slot
+--   look at lock    nobody's          the lock word is read
+--   seize           the combiner's    the lock word, FREE to its number, by compare-exchange; the book leaves its slot
+--   release         the combiner's    the lock word, to FREE; the book goes into its slot
+--   look at record  nobody's          a record's word is read
+--   open            the combiner's    a record, POSTED to BUSY, by compare-exchange; the call leaves the slot
+--   lay             the combiner's    that record's word is read; the slot goes home with nothing in it
+--   pick            the combiner's    that record's word is read; the slot is taken again
+--   answer          the combiner's    that record, BUSY to SERVED; the reply goes into the slot, and the entry joins the history
+--   put back        the combiner's    that record, BUSY to POSTED; the call goes into the slot
+use Rattle.std.specs.Prelude.{◌≡◌, ◌≢◌, ℕ, ◌+◌, ◌^◌, ◌<◌, ◌≤◌, max, Bool, true, false, Option, Some, None, List, [], ◌∷◌, ◌++◌, length, slice_set, slice_index_or}
+use mathlib.Core.Option as opt
+use mathlib.Core.List.{IsPrefix}
+use lib.ListN.{get_elem?}
+use Rattle.atomic_table.specs.Table.{Me, Step, rest}
+use Rattle.std.specs.Global.{Box}
+use Rattle.lock_rules.specs.declared.calls.Call.{Call}
+use Rattle.lock_rules.specs.declared.calls.Call.TheVariants.{Poll}
+use Rattle.lock_rules.specs.declared.calls.Reply.{Reply}
+use Rattle.lock_rules.specs.declared.calls.Reply.TheVariants.{Clear}
+use Rattle.lock_rules.specs.declared.calls.Entry.{Entry}
+use Rattle.lock_rules.specs.Legal.{Answered, IsLegal, calls_of}
+use Rattle.publication.specs.Words.{session_of_word, FREE, POSTED, SERVED}
+use Rattle.publication.specs.Views.{Pending, Own, Combiner, entry, answer, asks}
+use Rattle.publication.specs.Rule.{IsHome, heard_of}
+use Rattle.publication.specs.declared.view.View.{View}
+use Rattle.publication.specs.declared.slot.Load.{Load}
+use Rattle.publication.specs.declared.slot.Held.{Held}
+use Rattle.publication.specs.declared.slot.Held.TheVariants.{Nothing, Asked, Replied, Home}
+
+-- a seat's view, and the slots that are out with it
+abbrev pub Seated : Type 0
+Seated = Me Held View
+
+-- what is told of a step: by the seat before, the number found, and the seat after
+abbrev pub Tells : Type 1
+Tells = Seated → ℕ → Seated → Type 0
+
+-- what a kind of step tells, by the step's word and operands
+abbrev pub Kind : Type 1
+Kind = Step Held → Tells
+
+-- a session that publishes, with what it waits for and what it has collected
+abbrev pub own : Option Pending → List Answered → Own
+own pending collected = record { started = true; retired = false; pending = pending; collected = collected }
+
+abbrev pub combiner : Bool → List (Option Call) → ℕ → Combiner
+combiner has_book opened hand = record { has_book = has_book; opened = opened; hand = hand }
+
+-- a session's step: its front, what it knows of its own calls, and what it heard
+abbrev pub as_session : View → List Entry → Own → List ℕ → View
+as_session v front o heard = record { number = v.number; slots = v.slots; made = v.made; front = front; own = o; combiner = v.combiner; heard = heard }
+
+-- a combiner's step: its front, and what it has
+abbrev pub as_combiner : View → List Entry → Combiner → View
+as_combiner v front c = record { number = v.number; slots = v.slots; made = v.made; front = front; own = v.own; combiner = c; heard = v.heard }
+
+-- Start.
+
+abbrev pub started : View → View
+started v = as_session v v.front (own None v.own.collected) v.heard
+
+abbrev pub starts : Kind
+starts st m found n = n ≡ (started m.0, (m.0.number, Nothing) ∷ m.1)
+
+-- Post.
+
+-- the call in the slot that was taken last
+abbrev pub asked : List (ℕ × Held) → Call
+asked [] = Poll
+asked (x ∷ xs) = elim x.1 [ Nothing ↦ Poll | Asked call ↦ call | Replied place reply ↦ Poll | Home load ↦ Poll ]
+
+abbrev pub posting : View → Call → View
+posting v call = as_session v v.front (own (Some (asks call (length v.front))) v.own.collected) (slice_set v.heard v.number (length v.own.collected + 1))
+
+abbrev pub posts : Kind
+posts st m found n = n ≡ (posting m.0 (asked m.1), rest m.1)
+
+-- Look for the reply, and take it.
+
+-- where a call is pending, the history that its session knows hasn't its entry
+abbrev pub IsUnanswered : View → Type 0
+IsUnanswered v = v.own.pending ≢ None → length (calls_of v.number v.front) ≤ length v.own.collected
+
+abbrev pub looks_for_reply : Kind
+looks_for_reply st m found n = (n ≡ m) × (found ≢ SERVED → IsUnanswered m.0)
+
+abbrev pub taking : View → List Entry → Call → ℕ → Reply → View
+taking v front call place reply = as_session v front (record { started = true; retired = v.own.retired; pending = None; collected = v.own.collected ++ answer place call reply ∷ [] }) v.heard
+
+-- what a session that takes a reply learns: a legal front of the history, which begins with the one that it knew and has the longer length of that one and of the one that ends with the call's entry;
+-- the entry is its call with this reply, at a place not below the floor; and the session has collected all its calls in that front
+pub record Took (number : ℕ) (known : List Entry) (collected : List Answered) (call : Call) (floor place : ℕ) (reply : Reply) (front : List Entry) : Type 0 where
+  pub legal : IsLegal front
+  pub short : length front < 2 ^ 64
+  pub longer : IsPrefix known front
+  pub long : length front ≡ max (length known) (place + 1)
+  pub stands : get_elem? front place ≡ opt.some (entry number call reply)
+  pub late : floor ≤ place
+  pub calls : calls_of number front ≡ collected ++ answer place call reply ∷ []
+
+-- the pending call is answered with this reply at this place, and its slot, with what is held in it, is out with the session again
+abbrev pub HasTaken : Seated → Seated → Held → ℕ → Reply → Type 0
+HasTaken m n held place reply = (call : Call) × (floor : ℕ) × (front : List Entry) × (m.0.own.pending ≡ Some (asks call floor))
+    × (n ≡ (taking m.0 front call place reply, (m.0.number, held) ∷ m.1))
+    × Took m.0.number m.0.front m.0.own.collected call floor place reply front
+
+abbrev pub takes_reply : Kind
+takes_reply st m found n = (found ≡ SERVED → (place : ℕ) × (reply : Reply) × HasTaken m n (Replied place reply) place reply)
+    × (found ≢ SERVED → (n ≡ m) × IsUnanswered m.0)
+
+-- Look at the lock word, and seize the book.
+
+-- who hasn't the book isn't the only session
+abbrev pub HasOthers : ℕ → View → Type 0
+HasOthers slots v = v.combiner.has_book ≡ false → 2 < slots
+
+abbrev pub looks_at_lock : Kind
+looks_at_lock st m found n = (n ≡ m) × (found ≢ FREE → HasOthers st.slots m.0)
+
+abbrev pub seizing : View → List Entry → View
+seizing v front = as_combiner v front (combiner true v.combiner.opened 0)
+
+-- what a session that seizes the book learns
+pub record Seized (v : View) (slots : ℕ) (load : Load) : Type 0 where
+  pub lacked : v.combiner.has_book ≡ false
+  pub home : IsHome load.book.history slots load
+  pub legal : IsLegal load.book.history
+  pub longer : IsPrefix v.front load.book.history
+
+abbrev pub seizes : Kind
+seizes st m found n = (found ≡ FREE → (load : Box Load) × (n ≡ (seizing m.0 load.value.book.history, (0, Home load) ∷ m.1)) × Seized m.0 st.slots load.value)
+    × (found ≢ FREE → (n ≡ m) × HasOthers st.slots m.0)
+
+-- Release.
+
+abbrev pub releasing : View → View
+releasing v = as_combiner v v.front (combiner false v.combiner.opened 0)
+
+abbrev pub releases : Kind
+releases st m found n = n ≡ (releasing m.0, rest m.1)
+
+-- Look at a record, and open it.
+
+-- the call of a record, where the combiner has opened it
+abbrev pub opened_in : View → ℕ → Option Call
+opened_in v j = slice_index_or v.combiner.opened j None
+
+-- the calls of a session that were heard of are in the history, where its record isn't opened
+abbrev pub HasEntered : View → ℕ → Type 0
+HasEntered v j = opened_in v j ≡ None → heard_of v j ≤ length (calls_of j v.front)
+
+abbrev pub looks_at : ℕ → Tells
+looks_at j m found n = (n ≡ m) × (found ≢ POSTED → HasEntered m.0 j)
+
+abbrev pub looks_at_record : Kind
+looks_at_record st = looks_at (session_of_word st.word)
+
+abbrev pub opening : View → ℕ → Call → View
+opening v j call = as_combiner v v.front (combiner true (slice_set v.combiner.opened j (Some call)) j)
+
+-- what a combiner that opens a record learns: it has opened it, and of its session it had heard of at most one call that isn't in the history
+pub record Opened (v : View) (j : ℕ) (call : Call) : Type 0 where
+  pub call_is : opened_in (opening v j call) j ≡ Some call
+  pub heard : heard_of v j ≤ length (calls_of j v.front) + 1
+
+abbrev pub opens_record : ℕ → Tells
+opens_record j m found n = (found ≡ POSTED → (call : Call) × (n ≡ (opening m.0 j call, (j, Asked call) ∷ m.1)) × Opened m.0 j call)
+    × (found ≢ POSTED → (n ≡ m) × HasEntered m.0 j)
+
+abbrev pub opens : Kind
+opens st = opens_record (session_of_word st.word)
+
+-- Lay the slot of an opened record down, and pick it up again.
+
+abbrev pub in_hand : View → ℕ → View
+in_hand v j = as_combiner v v.front (combiner true v.combiner.opened j)
+
+abbrev pub lays : Kind
+lays st m found n = n ≡ (in_hand m.0 0, rest m.1)
+
+abbrev pub picks_slot : ℕ → Tells
+picks_slot j m found n = n ≡ (in_hand m.0 j, (j, Nothing) ∷ m.1)
+
+abbrev pub picks : Kind
+picks st = picks_slot (session_of_word st.word)
+
+-- Answer the call of the record whose slot is in hand.
+
+abbrev pub called : Option Call → Call
+called None = Poll
+called (Some call) = call
+
+abbrev pub call_at : View → ℕ → Call
+call_at v j = called (opened_in v j)
+
+-- the reply in the slot that was taken last
+abbrev pub replied : List (ℕ × Held) → Reply
+replied [] = Clear
+replied (x ∷ xs) = elim x.1 [ Nothing ↦ Clear | Asked call ↦ Clear | Replied place reply ↦ reply | Home load ↦ Clear ]
+
+abbrev pub answering : View → ℕ → Call → Reply → View
+answering v j call reply = as_combiner v (v.front ++ entry j call reply ∷ []) (combiner true (slice_set v.combiner.opened j None) 0)
+
+abbrev pub answers : Kind
+answers st m found n = n ≡ (answering m.0 m.0.combiner.hand (call_at m.0 m.0.combiner.hand) (replied m.1), rest m.1)
+
+-- Put back the call of the record whose slot is in hand.
+
+abbrev pub putting_back : View → ℕ → View
+putting_back v j = as_combiner v v.front (combiner true (slice_set v.combiner.opened j None) 0)
+
+abbrev pub puts_back : Kind
+puts_back st m found n = n ≡ (putting_back m.0 m.0.combiner.hand, rest m.1)

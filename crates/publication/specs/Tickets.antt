@@ -1,0 +1,46 @@
+-- What a seat is for a move of it, and what a ticket's seat is between two calls.
+use Rattle.std.specs.Prelude.{◌≡◌, ◌≢◌, ℕ, ◌<◌, ◌≤◌, Bool, true, cond, is_some, List, [], ◌∷◌, length, slice_index}
+use Rattle.atomic_table.specs.Seated.{TableId}
+use Rattle.publication.specs.Words.{word_of}
+use Rattle.publication.specs.Rule.{published}
+use Rattle.publication.specs.Kinds.{Seated}
+use Rattle.publication.specs.declared.view.View.{View}
+use Rattle.publication.specs.declared.slot.Held.{Held}
+use Rattle.publication.specs.declared.slot.Held.TheVariants.{Nothing}
+
+abbrev pub own_slot : Bool → ℕ → List (ℕ × Held)
+own_slot is_pending number = cond is_pending [] ((number, Nothing) ∷ [])
+
+abbrev pub book_slot : Bool → List (ℕ × Held) → List (ℕ × Held)
+book_slot has_book others = cond has_book ((0, Nothing) ∷ others) others
+
+-- a seat whose session has this number, and has or hasn't the book, a call pending, retired; so many entries are known
+pub record IsSettled (m : Seated) (number seen : ℕ) (has_book is_pending is_retired : Bool) : Type 0 where
+  pub number_is : m.0.number ≡ number
+  pub some_number : 0 < number
+  pub seen_is : length m.0.front ≡ seen
+  pub started : m.0.own.started ≡ true
+  pub retired : m.0.own.retired ≡ is_retired
+  pub pending : is_some m.0.own.pending ≡ is_pending
+  pub book : m.0.combiner.has_book ≡ has_book
+  pub hand : m.0.combiner.hand ≡ 0
+  pub heard : slice_index m.0.heard number ≡ published m.0.own
+  pub wide : number < length m.0.heard
+  pub carried : m.1 ≡ book_slot has_book (own_slot is_pending number)
+
+-- a combiner with no slot in hand but the book's
+pub record IsCombiner (v : View) : Type 0 where
+  pub session : v.number ≢ 0
+  pub book : v.combiner.has_book ≡ true
+  pub empty : v.combiner.hand ≡ 0
+
+-- a table with a word and a slot for the lock and for each session
+pub record IsBoard (id : TableId) : Type 0 where
+  pub words : id.words ≡ word_of id.slots
+  pub some : 0 < id.slots
+  pub few : id.slots ≤ 65536
+
+-- the place of a record
+pub record IsAt (id : TableId) (at : ℕ) : Type 0 where
+  pub some : 0 < at
+  pub there : at < id.slots

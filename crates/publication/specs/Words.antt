@@ -1,0 +1,34 @@
+-- The words of the board: where they lie, and what they say.
+use Rattle.std.specs.Prelude.{ℕ, ◌*◌, ◌/◌}
+
+-- where the lock word (number 0) or the word of a session's record lies: one word in eight is used, so that two of them, 64 bytes apart, share no line of the cache
+abbrev pub word_of : ℕ → ℕ
+word_of number = number * 8
+
+-- whose word lies there
+abbrev pub session_of_word : ℕ → ℕ
+session_of_word at = at / 8
+
+-- the lock word: nobody has the book; any other number is that of the session that has it
+abbrev pub FREE : ℕ
+FREE = 0
+
+-- a record: its session has published nothing that it hasn't collected
+abbrev pub EMPTY : ℕ
+EMPTY = 0
+
+-- a record: a call is in its slot
+abbrev pub POSTED : ℕ
+POSTED = 1
+
+-- a record: the combiner has its call
+abbrev pub BUSY : ℕ
+BUSY = 2
+
+-- a record: the reply is in its slot
+abbrev pub SERVED : ℕ
+SERVED = 3
+
+-- a record: its session publishes no more
+abbrev pub CLOSED : ℕ
+CLOSED = 4

@@ -1,0 +1,17 @@
+// What the words of the board say. The lock word is 0, or the number of the session that has the book.
+pub const FREE: u64 = 0;
+
+// One word in eight is used: two that are in use share no line of the cache.
+pub const WORDS_APART: usize = 8;
+
+// A publication record: nothing is published.
+pub const EMPTY: u64 = 0;
+
+// A call is in its slot.
+pub const POSTED: u64 = 1;
+
+// The combiner has its call.
+pub const BUSY: u64 = 2;
+
+// The reply is in its slot.
+pub const SERVED: u64 = 3;
