@@ -166,9 +166,9 @@ asked-few max st s r m i n h = go (is_held (held_mode st.table s r) m) (is_grant
     go false false = settled-few max (length st.table.requests + 2) s (with_table (with_request s r m st.table) st) (begins-few max s r m st.table i n h)
 
 -- who passes the test of its locks has room
-fresh-room : (max n : ℕ) (o : Option Mode) → n ≤ max → (not (is_some o) && leb max n) ≡ false → n + more o ≤ max
-fresh-room max n None l h = grind (arith, nat_tests)
-fresh-room max n (Some k) l h = omega arith
+fresh-room : (max limit n : ℕ) (o : Option Mode) → limit ≤ max → n ≤ max → (not (is_some o) && leb limit n) ≡ false → n + more o ≤ max
+fresh-room max limit n None m l h = grind (arith, nat_tests)
+fresh-room max limit n (Some k) m l h = omega arith
 
 -- who holds the resource needs none
 held-room : (max n : ℕ) (o : Option Mode) → n ≤ max → not (is_some o) ≡ false → n + more o ≤ max
@@ -181,7 +181,7 @@ act-few : (st : State) (s : ℕ) (c : Call) → IsFew MAX_LOCKS st.table → fir
 act-few st s Begin i h = i
 act-few st s (Lock r m) i h =
     let p = all-pass (tests st s (Lock r m)) h in
-    asked-few MAX_LOCKS st s r (target_of (held_mode st.table s r) m) i (is-none (request_of s st.table.requests) p.1.0) (fresh-room MAX_LOCKS (count s st.table.held) (held_mode st.table s r) (few-count MAX_LOCKS st.table i s) p.1.1.1.1.1.0)
+    asked-few MAX_LOCKS st s r (target_of (held_mode st.table s r) m) i (is-none (request_of s st.table.requests) p.1.0) (fresh-room MAX_LOCKS _ (count s st.table.held) (held_mode st.table s r) (omega arith) (few-count MAX_LOCKS st.table i s) p.1.1.1.1.1.0)
 act-few st s (Convert r m) i h =
     let p = all-pass (tests st s (Convert r m)) h in
     asked-few MAX_LOCKS st s r (target_of (held_mode st.table s r) m) i (is-none (request_of s st.table.requests) p.1.0) (held-room MAX_LOCKS (count s st.table.held) (held_mode st.table s r) (few-count MAX_LOCKS st.table i s) p.1.1.1.1.0)

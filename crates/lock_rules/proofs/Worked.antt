@@ -1,7 +1,7 @@
 -- The worked histories are legal: the checker serves their calls.
 use Rattle.std.proofs.Common.{refl}
 use Rattle.lock_rules.specs.Legal.{IsLegal}
-use Rattle.lock_rules.specs.Examples.{queue_in_order, promotion_stops, readers_together, promotion_in_order, intentions, refusals, down_the_tree, up_the_tree, release_promotes, release_of_one, asks_again, conversion_first, conversion_at_once, conversion_under_parent, abort_while_waiting, readers_that_convert, youngest_of_two, victim_in_the_way, conversions_that_meet, circle_through_the_queue, two_victims}
+use Rattle.lock_rules.specs.Examples.{queue_in_order, promotion_stops, readers_together, promotion_in_order, intentions, refusals, down_the_tree, up_the_tree, release_promotes, release_of_one, asks_again, conversion_first, conversion_at_once, conversion_under_parent, abort_while_waiting, readers_that_convert, youngest_of_two, victim_in_the_way, conversions_that_meet, circle_through_the_queue, two_victims, begin_beside_others, polls, release_above_another, commit_of_four}
 use Rattle.lock_rules.proofs.Histories.{legal-served}
 
 pub legal-queue_in_order : IsLegal queue_in_order
@@ -66,3 +66,15 @@ legal-circle_through_the_queue = legal-served circle_through_the_queue refl
 
 pub legal-two_victims : IsLegal two_victims
 legal-two_victims = legal-served two_victims refl
+
+pub legal-begin_beside_others : IsLegal begin_beside_others
+legal-begin_beside_others = legal-served begin_beside_others refl
+
+pub legal-polls : IsLegal polls
+legal-polls = legal-served polls refl
+
+pub legal-release_above_another : IsLegal release_above_another
+legal-release_above_another = legal-served release_above_another refl
+
+pub legal-commit_of_four : IsLegal commit_of_four
+legal-commit_of_four = legal-served commit_of_four refl

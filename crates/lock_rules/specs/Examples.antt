@@ -302,3 +302,58 @@ two_victims =
     ∷ entry 2 Abort (Aborted 1)
     ∷ entry 1 Poll Clear
     ∷ []
+
+-- A begin changes nothing of the others: who waits waits on, and who is doomed stays so.
+abbrev pub begin_beside_others : List Entry
+begin_beside_others =
+    entry 1 Begin (Began 1) ∷ entry 2 Begin (Began 2)
+    ∷ entry 1 (Lock (database 1) S) (Granted S)
+    ∷ entry 2 (Lock (database 1) S) (Granted S)
+    ∷ entry 1 (Lock (database 1) X) Waiting
+    ∷ entry 2 (Lock (database 1) X) Deadlock
+    ∷ entry 3 Begin (Began 3)
+    ∷ entry 1 Poll Waiting
+    ∷ entry 2 Poll Deadlock
+    ∷ entry 3 Poll Clear
+    ∷ entry 2 Abort (Aborted 1)
+    ∷ entry 1 Poll Clear
+    ∷ []
+
+-- A poll tells of the session's own request: one that holds is clear, though another waits for what it holds.
+abbrev pub polls : List Entry
+polls =
+    entry 1 Begin (Began 1) ∷ entry 2 Begin (Began 2)
+    ∷ entry 1 Poll Clear
+    ∷ entry 1 (Lock (database 1) S) (Granted S)
+    ∷ entry 1 (Lock (database 2) X) (Granted X)
+    ∷ entry 1 Poll Clear
+    ∷ entry 2 (Lock (database 1) X) Waiting
+    ∷ entry 1 Poll Clear
+    ∷ entry 2 Poll Waiting
+    ∷ entry 1 Commit (Committed 2)
+    ∷ entry 2 Poll Clear
+    ∷ []
+
+-- What another session holds below is no hindrance to a release.
+abbrev pub release_above_another : List Entry
+release_above_another =
+    entry 1 Begin (Began 1) ∷ entry 2 Begin (Began 2)
+    ∷ entry 1 (Lock (database 1) IX) (Granted IX)
+    ∷ entry 2 (Lock (database 1) IX) (Granted IX)
+    ∷ entry 2 (Lock (1 ∷ 1 ∷ []) X) (Granted X)
+    ∷ entry 1 (Release (database 1)) Released
+    ∷ entry 2 (Release (database 1)) (Refused ChildHeld)
+    ∷ entry 1 Commit (Committed 0)
+    ∷ entry 2 Commit (Committed 2)
+    ∷ []
+
+-- A commit of four locks: it is no matter to a commit how many there are.
+abbrev pub commit_of_four : List Entry
+commit_of_four =
+    entry 1 Begin (Began 1)
+    ∷ entry 1 (Lock (database 1) IX) (Granted IX)
+    ∷ entry 1 (Lock (1 ∷ 1 ∷ []) X) (Granted X)
+    ∷ entry 1 (Lock (database 2) S) (Granted S)
+    ∷ entry 1 (Lock (database 3) IS) (Granted IS)
+    ∷ entry 1 Commit (Committed 4)
+    ∷ []

@@ -6,7 +6,7 @@ ghost use Rattle.lock_modes.specs.declared.Mode.TheVariants.{IS, IX, S, X};
 ghost use Rattle.lock_rules.specs.declared.calls.Call.{Call as CallValue};
 ghost use Rattle.lock_rules.specs.declared.calls.Entry.{Entry as EntryValue};
 ghost use Rattle.lock_rules.specs.declared.calls.Reply.TheVariants.{Began, Granted, Waiting, Deadlock, Clear, Released, Committed, Aborted, Refused};
-ghost use Rattle.lock_rules.specs.declared.calls.Why.TheVariants.{IsWaiting, NothingAsked, NotHeld, ParentNotHeld};
+ghost use Rattle.lock_rules.specs.declared.calls.Why.TheVariants.{IsWaiting, NothingAsked, NotHeld, ParentNotHeld, ChildHeld, TooManyLocks};
 ghost use Rattle.lock_rules.specs.State.{State, Table, empty};
 ghost use Rattle.lock_rules.specs.Queue.{after_grant};
 ghost use Rattle.lock_rules.specs.Step.{step};
@@ -15,7 +15,7 @@ ghost use Rattle.lock_rules.specs.Laws.{AreRepliesOfSteps, IsEntryOf, ArePlacesR
 ghost use Rattle.lock_rules.specs.Effects.{DoesBeginOpen, DoesPollTell, IsLockAnswered, IsConvertAnswered, IsLockOfHeldConvert, IsGrantedHeld, IsConversionHeld, DoVictimsKeepTheirLocks, DoesDoomPromote, DoesReleaseTakeOneLock, DoesCommitTakeAllLocks, DoesAbortTakeAllLocks};
 ghost use Rattle.lock_rules.specs.Refusals.{AreRefusalsMeant, AreOthersAccepted, DoesAbortNeedTransaction, IsClearCommitAccepted};
 ghost use Rattle.lock_rules.specs.Lawful.{IsLawfulState};
-ghost use Rattle.lock_rules.specs.Examples.{with_reply, queue_in_order, promotion_stops, readers_together, promotion_in_order, intentions, refusals, down_the_tree, up_the_tree, release_promotes, release_of_one, asks_again, conversion_first, conversion_at_once, conversion_under_parent, abort_while_waiting, readers_that_convert, youngest_of_two, victim_in_the_way, conversions_that_meet, circle_through_the_queue, two_victims};
+ghost use Rattle.lock_rules.specs.Examples.{with_reply, queue_in_order, promotion_stops, readers_together, promotion_in_order, intentions, refusals, down_the_tree, up_the_tree, release_promotes, release_of_one, asks_again, conversion_first, conversion_at_once, conversion_under_parent, abort_while_waiting, readers_that_convert, youngest_of_two, victim_in_the_way, conversions_that_meet, circle_through_the_queue, two_victims, begin_beside_others, polls, release_above_another, commit_of_four};
 
 /// A history is legal exactly where each reply is the one that the step gives at its place. So each
 /// front of a legal history is legal.
@@ -317,4 +317,18 @@ pub fn examples_are_legal()
     ensures two_victims { IsLegal two_victims }
     ensures one_victim_only { IsLegal (with_reply 11 Waiting two_victims) → ⊥ }
     ensures first_victim_spared { IsLegal (with_reply 10 Waiting two_victims) → ⊥ }
+    ensures begin_beside_others { IsLegal begin_beside_others }
+    ensures begin_drops_requests { IsLegal (with_reply 7 Clear begin_beside_others) → ⊥ }
+    ensures begin_lifts_dooms { IsLegal (with_reply 8 Clear begin_beside_others) → ⊥ }
+    ensures begun_session_waits { IsLegal (with_reply 9 Waiting begin_beside_others) → ⊥ }
+    ensures polls { IsLegal polls }
+    ensures clear_session_waits { IsLegal (with_reply 2 Waiting polls) → ⊥ }
+    ensures holder_waits { IsLegal (with_reply 5 Waiting polls) → ⊥ }
+    ensures holder_waits_with_others { IsLegal (with_reply 7 Waiting polls) → ⊥ }
+    ensures release_above_another { IsLegal release_above_another }
+    ensures child_of_another { IsLegal (with_reply 5 (Refused ChildHeld) release_above_another) → ⊥ }
+    ensures child_of_its_own { IsLegal (with_reply 6 Released release_above_another) → ⊥ }
+    ensures commit_of_four { IsLegal commit_of_four }
+    ensures four_locks_refused { IsLegal (with_reply 5 (Refused TooManyLocks) commit_of_four) → ⊥ }
+    ensures four_locks_counted_as_three { IsLegal (with_reply 5 (Committed 3) commit_of_four) → ⊥ }
 {}

@@ -1,9 +1,9 @@
 use Rattle.std.proofs.Common.{refl}
 use Rattle.lock_modes.specs.declared.Mode.TheVariants.{IS, IX, S, X}
 use Rattle.lock_rules.specs.declared.calls.Reply.TheVariants.{Began, Granted, Waiting, Deadlock, Clear, Released, Committed, Aborted, Refused}
-use Rattle.lock_rules.specs.declared.calls.Why.TheVariants.{IsWaiting, NothingAsked, NotHeld, ParentNotHeld}
-use Rattle.lock_rules.specs.Examples.{queue_in_order, promotion_stops, readers_together, promotion_in_order, intentions, refusals, down_the_tree, up_the_tree, release_promotes, release_of_one, asks_again, conversion_first, conversion_at_once, conversion_under_parent, abort_while_waiting, readers_that_convert, youngest_of_two, victim_in_the_way, conversions_that_meet, circle_through_the_queue, two_victims}
-use Rattle.lock_rules.proofs.Worked.{legal-queue_in_order, legal-promotion_stops, legal-readers_together, legal-promotion_in_order, legal-intentions, legal-refusals, legal-down_the_tree, legal-up_the_tree, legal-release_promotes, legal-release_of_one, legal-asks_again, legal-conversion_first, legal-conversion_at_once, legal-conversion_under_parent, legal-abort_while_waiting, legal-readers_that_convert, legal-youngest_of_two, legal-victim_in_the_way, legal-conversions_that_meet, legal-circle_through_the_queue, legal-two_victims}
+use Rattle.lock_rules.specs.declared.calls.Why.TheVariants.{IsWaiting, NothingAsked, NotHeld, ParentNotHeld, ChildHeld, TooManyLocks}
+use Rattle.lock_rules.specs.Examples.{queue_in_order, promotion_stops, readers_together, promotion_in_order, intentions, refusals, down_the_tree, up_the_tree, release_promotes, release_of_one, asks_again, conversion_first, conversion_at_once, conversion_under_parent, abort_while_waiting, readers_that_convert, youngest_of_two, victim_in_the_way, conversions_that_meet, circle_through_the_queue, two_victims, begin_beside_others, polls, release_above_another, commit_of_four}
+use Rattle.lock_rules.proofs.Worked.{legal-queue_in_order, legal-promotion_stops, legal-readers_together, legal-promotion_in_order, legal-intentions, legal-refusals, legal-down_the_tree, legal-up_the_tree, legal-release_promotes, legal-release_of_one, legal-asks_again, legal-conversion_first, legal-conversion_at_once, legal-conversion_under_parent, legal-abort_while_waiting, legal-readers_that_convert, legal-youngest_of_two, legal-victim_in_the_way, legal-conversions_that_meet, legal-circle_through_the_queue, legal-two_victims, legal-begin_beside_others, legal-polls, legal-release_above_another, legal-commit_of_four}
 use Rattle.lock_rules.proofs.WrongReplies.{wrong}
 use Rattle.lock_rules.proofs.laws.examples_are_legal.Goals as goal
 
@@ -234,3 +234,45 @@ returns-clause-one_victim_only c = wrong 11 Waiting two_victims refl legal-two_v
 
 pub returns-clause-first_victim_spared : goal.returns-clause-first_victim_spared
 returns-clause-first_victim_spared c = wrong 10 Waiting two_victims refl legal-two_victims
+
+pub returns-clause-begin_beside_others : goal.returns-clause-begin_beside_others
+returns-clause-begin_beside_others c = legal-begin_beside_others
+
+pub returns-clause-begin_drops_requests : goal.returns-clause-begin_drops_requests
+returns-clause-begin_drops_requests c = wrong 7 Clear begin_beside_others refl legal-begin_beside_others
+
+pub returns-clause-begin_lifts_dooms : goal.returns-clause-begin_lifts_dooms
+returns-clause-begin_lifts_dooms c = wrong 8 Clear begin_beside_others refl legal-begin_beside_others
+
+pub returns-clause-begun_session_waits : goal.returns-clause-begun_session_waits
+returns-clause-begun_session_waits c = wrong 9 Waiting begin_beside_others refl legal-begin_beside_others
+
+pub returns-clause-polls : goal.returns-clause-polls
+returns-clause-polls c = legal-polls
+
+pub returns-clause-clear_session_waits : goal.returns-clause-clear_session_waits
+returns-clause-clear_session_waits c = wrong 2 Waiting polls refl legal-polls
+
+pub returns-clause-holder_waits : goal.returns-clause-holder_waits
+returns-clause-holder_waits c = wrong 5 Waiting polls refl legal-polls
+
+pub returns-clause-holder_waits_with_others : goal.returns-clause-holder_waits_with_others
+returns-clause-holder_waits_with_others c = wrong 7 Waiting polls refl legal-polls
+
+pub returns-clause-release_above_another : goal.returns-clause-release_above_another
+returns-clause-release_above_another c = legal-release_above_another
+
+pub returns-clause-child_of_another : goal.returns-clause-child_of_another
+returns-clause-child_of_another c = wrong 5 (Refused ChildHeld) release_above_another refl legal-release_above_another
+
+pub returns-clause-child_of_its_own : goal.returns-clause-child_of_its_own
+returns-clause-child_of_its_own c = wrong 6 Released release_above_another refl legal-release_above_another
+
+pub returns-clause-commit_of_four : goal.returns-clause-commit_of_four
+returns-clause-commit_of_four c = legal-commit_of_four
+
+pub returns-clause-four_locks_refused : goal.returns-clause-four_locks_refused
+returns-clause-four_locks_refused c = wrong 5 (Refused TooManyLocks) commit_of_four refl legal-commit_of_four
+
+pub returns-clause-four_locks_counted_as_three : goal.returns-clause-four_locks_counted_as_three
+returns-clause-four_locks_counted_as_three c = wrong 5 (Committed 3) commit_of_four refl legal-commit_of_four
