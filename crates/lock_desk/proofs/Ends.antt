@@ -12,11 +12,10 @@ use Rattle.lock_rules.proofs.Lists.{same_path_tells}
 use Rattle.lock_desk.specs.declared.cells.Part.TheVariants as part
 use Rattle.lock_rules.specs.declared.calls.Transaction.{Transaction}
 use Rattle.lock_rules.specs.Waits.{doom}
-use Rattle.lock_desk.specs.declared.lockers.Request.{Request}
 use Rattle.lock_desk.specs.declared.lockers.Locker.{Locker}
 use Rattle.lock_desk.specs.declared.desk.Desk.{Desk}
 use Rattle.lock_desk.specs.Cells.{View, has_session, view_after_giving_up, view_after_freeing, cell_view, has_path, AreApart, AreKeptCells, CellsBecame}
-use Rattle.lock_desk.specs.Lockers.{Standing, resource_asked, wanted_in, standing_of, standing_at, is_wanted, locks_to_come, IsOfKind, IsKeptLocker, AreSameOrGranted, DoAgree}
+use Rattle.lock_desk.specs.Lockers.{Standing, wanted_in, standing_of, standing_at, is_wanted, locks_to_come, IsOfKind, IsKeptLocker, AreSameOrGranted, DoAgree}
 use Rattle.lock_desk.specs.Changes.{view_at, standings, standing, view_after_unlock, view_after_cancel, IsWhole, HasFreed, HasGivenBackAll, HasCancelled, HasDoomed, HasBegun, HasEnded}
 use Rattle.lock_desk.proofs.Standings.{standings-set, standing-here, length-standings}
 use Rattle.lock_desk.proofs.Wholes.{own-standing, other-standing, GivesUp}
@@ -144,11 +143,8 @@ ended-after s d f e w c h = record {
 
 -- a request is cancelled
 
-module _ (d : Desk) (s : ℕ) (r : List ℕ) (q : Request) (locker new : Locker) (w : IsWhole d) (lt : s < length d.lockers.items) (at : locker ≡ get_or d.lockers.items s locker)
-    (waits : locker.wanted ≡ Some q) (there : r ≡ resource_asked q) (transaction : new.transaction ≡ locker.transaction) (held : new.held ≡ locker.held) (gone : new.wanted ≡ None) where
-  asks : (standing_of locker).wanted ≡ Some r
-  asks = ap wanted_in waits ∙ ap Some (sym there)
-
+module _ (d : Desk) (s : ℕ) (r : List ℕ) (locker new : Locker) (w : IsWhole d) (lt : s < length d.lockers.items) (at : locker ≡ get_or d.lockers.items s locker)
+    (asks : (standing_of locker).wanted ≡ Some r) (transaction : new.transaction ≡ locker.transaction) (held : new.held ≡ locker.held) (gone : new.wanted ≡ None) where
   gives : GivesUp part.Request r (standing_of locker) (standing_of new)
   gives = gives-request r (standing_of locker) (standing_of new) transaction (ap (λ v. v.items) held) asks (ap wanted_in gone)
 
@@ -199,6 +195,14 @@ module _ (d : Desk) (s : ℕ) (r : List ℕ) (q : Request) (locker new : Locker)
     -- and the desk is whole
     pub cancel-whole : IsWhole e
     cancel-whole = freed-whole d part.Request s r locker new lt at gives w e (ap wanted_in gone) b agree lockers granted
+
+-- a desk with the same lockers and cells is whole too
+pub same-whole : (d e : Desk) → IsWhole d → e.lockers.items ≡ d.lockers.items → e.cells ≡ d.cells → IsWhole e
+same-whole d e w lockers cells = record {
+  cells = subst (λ cs. AreKeptCells cs.entries) (sym cells) w.cells;
+  lockers = subst (All IsKeptLocker) (sym lockers) w.lockers;
+  agree = λ r. subst (λ (ws : List Locker). DoAgree r (view_at r e) (map standing_of ws)) (sym lockers) (subst (λ cs. DoAgree r (cell_view r cs.entries) (standings d)) (sym cells) (w.agree r));
+}
 
 -- a session that doesn't wait is as if cancelled
 pub same-cancelled : (s : ℕ) (d e : Desk) → IsWhole d → (standing s d).wanted ≡ None → e.count ≡ d.count → e.lockers.items ≡ d.lockers.items → e.cells ≡ d.cells → HasCancelled s d e

@@ -13,9 +13,6 @@ ghost use Rattle.lock_desk.specs.Kept.{IsEntryWithin};
 
 use crate::batch::Item;
 use crate::desk::Desk;
-use crate::lockers::new_locker;
-use crate::waits::new_waits;
-use indexmap::IndexMap;
 use lock_modes::Mode;
 use lock_rules::{Call, Entry, MAX_SESSIONS, Reply, laws};
 use lock_tree::Resource;
@@ -52,17 +49,7 @@ impl Book {
         ensures sessions { IfOk result (λ book. book.sessions ≡ sessions) }
         ensures empty { IfOk result (λ book. book.history ≡ []) }
     {
-        let waits = new_waits(alloc, sessions)?;
-        let mut lockers = Vec::new(alloc);
-        for _locker in 0..sessions + 1 {
-            lockers.push(new_locker(alloc))?;
-        }
-        let desk = Desk {
-            count: 0,
-            lockers,
-            cells: IndexMap::new(alloc),
-            waits,
-        };
+        let desk = Desk::new(alloc, sessions)?;
         Ok(Book {
             sessions,
             desk,

@@ -2,7 +2,7 @@
 
 ghost use Rattle.std.specs.Prelude.{◌≡◌, ℕ, ◌+◌, ◌<◌, ◌≤◌, true, false, None, is_some, if◌then◌else◌, map, length, IfOk, OnOk, OnErr, vec_len};
 ghost use Rattle.lock_rules.specs.declared.calls.Reply.TheVariants.{Waiting, Deadlock};
-ghost use Rattle.lock_rules.specs.State.{State, held_mode, doomed_in};
+ghost use Rattle.lock_rules.specs.State.{State, empty, held_mode, doomed_in};
 ghost use Rattle.lock_rules.specs.Step.{target_of, is_held, first_failing, ask, act, step};
 ghost use Rattle.lock_rules.specs.Waits.{after_victims};
 ghost use Rattle.lock_rules.specs.Sound.{IsNumbered, IsSound};
@@ -13,17 +13,15 @@ ghost use Rattle.lock_desk.specs.Ready.{IsReadyDesk};
 ghost use Rattle.lock_desk.specs.Shows.{Shows, DoesAnswer};
 
 use crate::cells::{Cell, Part, RequestStatus, SessionMode, ask, cell_of};
-use crate::lockers::{
-    Locker, Request, doom, drop_lock, hold, is_doomed, make_room, resource_of, want,
-};
+use crate::lockers::{Locker, Request};
 use crate::refusals::target_of;
 use crate::releases::free;
-use crate::waits::{Waits, fill, victim};
+use crate::waits::{Waits, fill, new_waits, victim};
 use indexmap::IndexMap;
 use lock_modes::Mode;
-use lock_rules::{Call, MAX_LOCKS, Reply, Transaction};
+use lock_rules::{Call, MAX_LOCKS, MAX_SESSIONS, Reply};
 use lock_tree::Resource;
-use std::alloc::AllocError;
+use std::alloc::{AllocError, Global};
 
 /// How many transactions have begun, a locker for each session, at the place of its number, and a cell for each
 /// resource that is held or waited for. The locker at place 0 is nobody's. Who waits for whom is written down only to look
@@ -37,6 +35,28 @@ pub struct Desk {
 }
 
 impl Desk {
+    /// No transaction, and a locker for each of these sessions.
+    pub(crate) fn new(alloc: Global, sessions: u16) -> Result<Desk, AllocError>
+        requires some { 1 ≤ sessions }
+        requires few { sessions ≤ MAX_SESSIONS }
+        ensures shows { IfOk result (λ desk. Shows desk empty) }
+        ensures whole { IfOk result IsWhole }
+        ensures ready { IfOk result IsReadyDesk }
+        ensures lockers { IfOk result (λ desk. vec_len desk.lockers ≡ sessions + 1) }
+    {
+        let waits = new_waits(alloc, sessions)?;
+        let mut lockers = Vec::new(alloc);
+        for _locker in 0..sessions + 1 {
+            lockers.push(Locker::new(alloc))?;
+        }
+        Ok(Desk {
+            count: 0,
+            lockers,
+            cells: IndexMap::new(alloc),
+            waits,
+        })
+    }
+
     /// The mode that the session holds on the resource outright.
     pub(crate) fn held(&self, session: u16, resource: Resource) -> Option<Mode>
         ensures { result ≡ mode_held self.now session resource }
@@ -81,12 +101,12 @@ impl Desk {
         ensures kept { DoesKeep self.old self.new }
     {
         let locker = &mut self.lockers[session as usize];
-        make_room(locker)?;
+        locker.make_room()?;
         let status = ask(&mut self.cells, resource, SessionMode { session, mode })?;
         let locker = &mut self.lockers[session as usize];
         match status {
-            RequestStatus::Granted => hold(locker, resource),
-            RequestStatus::Waiting => want(locker, Request::Fresh(resource)),
+            RequestStatus::Granted => locker.hold(resource),
+            RequestStatus::Waiting => locker.wait_for(Request::Fresh(resource)),
         }
         Ok(status)
     }
@@ -111,7 +131,7 @@ impl Desk {
             RequestStatus::Granted => {}
             RequestStatus::Waiting => {
                 let locker = &mut self.lockers[session as usize];
-                want(locker, Request::Conversion(resource));
+                locker.wait_for(Request::Conversion(resource));
             }
         }
         Ok(status)
@@ -153,7 +173,7 @@ impl Desk {
         ensures kept { DoesKeep self.old self.new }
     {
         let locker = &mut self.lockers[session as usize];
-        drop_lock(locker, resource);
+        locker.release(resource);
         free(
             &mut self.cells,
             &mut self.lockers,
@@ -173,7 +193,7 @@ impl Desk {
         ensures kept { DoesKeep self.old self.new }
     {
         let locker = &mut self.lockers[session as usize];
-        if let Some(resource) = locker.held.pop() {
+        if let Some(resource) = locker.release_last() {
             free(
                 &mut self.cells,
                 &mut self.lockers,
@@ -195,7 +215,7 @@ impl Desk {
         ensures kept { DoesKeep self.old self.new }
     {
         let locker = &self.lockers[session as usize];
-        let locks = locker.held.len();
+        let locks = locker.locks();
         for _lock in 0..locks {
             self.give_back(session);
         }
@@ -213,10 +233,7 @@ impl Desk {
     {
         self.count += 1;
         let locker = &mut self.lockers[session as usize];
-        locker.transaction = Some(Transaction {
-            number: self.count,
-            doomed: false,
-        });
+        locker.begin(self.count);
         self.count
     }
 
@@ -228,9 +245,7 @@ impl Desk {
         ensures kept { DoesKeep self.old self.new }
     {
         let locker = &mut self.lockers[session as usize];
-        if let Some(request) = locker.wanted {
-            let resource = resource_of(request);
-            locker.wanted = None;
+        if let Some(resource) = locker.cancel() {
             free(
                 &mut self.cells,
                 &mut self.lockers,
@@ -253,7 +268,7 @@ impl Desk {
     {
         let locks = self.give_back_all(session);
         let locker = &mut self.lockers[session as usize];
-        locker.transaction = None;
+        locker.end();
         locks
     }
 
@@ -279,7 +294,7 @@ impl Desk {
     {
         self.cancel(session);
         let locker = &mut self.lockers[session as usize];
-        locker.transaction = doom(locker.transaction);
+        locker.doom();
     }
 
     /// While the session lies on a circle of waits, the youngest transaction on one becomes a victim. A victim waited,
@@ -312,10 +327,10 @@ impl Desk {
             else (if is_some x.wanted then Waiting else otherwise)) }
     {
         let locker = &self.lockers[session as usize];
-        if is_doomed(locker.transaction) {
+        if locker.is_doomed() {
             return Reply::Deadlock;
         }
-        if locker.wanted.is_some() {
+        if locker.is_waiting() {
             return Reply::Waiting;
         }
         otherwise

@@ -1,6 +1,6 @@
 //! Lockers: one for each session, with its transaction and with what the cells say of it.
 
-ghost use Rattle.std.specs.Prelude.{◌≡◌, ◌+◌, ◌<◌, ◌≤◌, false, true, None, Some, length, OnOk, vec_len, vec_capacity};
+ghost use Rattle.std.specs.Prelude.{◌≡◌, ◌+◌, ◌<◌, ◌≤◌, false, true, None, Some, length, List, [], ◌∷◌, ◌++◌, is_some, OnOk, IfSome, IfNone, vec_len, vec_capacity};
 ghost use Rattle.lock_rules.specs.State.{number_in, doomed_in};
 ghost use Rattle.lock_rules.specs.Waits.{doom};
 ghost use Rattle.lock_desk.specs.Cells.{has_path};
@@ -29,7 +29,7 @@ pub struct Locker {
     pub wanted: Option<Request>,
 }
 
-pub(crate) fn resource_of(request: Request) -> Resource
+fn resource_of(request: Request) -> Resource
     ensures { result ≡ resource_asked request }
 {
     match request {
@@ -38,7 +38,7 @@ pub(crate) fn resource_of(request: Request) -> Resource
 }
 
 /// The number of a transaction, 0 for none.
-pub(crate) fn number_of(transaction: Option<Transaction>) -> u64
+fn number_of(transaction: Option<Transaction>) -> u64
     ensures { result ≡ number_in transaction }
 {
     match transaction {
@@ -47,7 +47,7 @@ pub(crate) fn number_of(transaction: Option<Transaction>) -> u64
     }
 }
 
-pub(crate) fn is_doomed(transaction: Option<Transaction>) -> bool
+fn is_doomed(transaction: Option<Transaction>) -> bool
     ensures { result ≡ doomed_in transaction }
 {
     match transaction {
@@ -57,7 +57,7 @@ pub(crate) fn is_doomed(transaction: Option<Transaction>) -> bool
 }
 
 /// The transaction as a deadlock's victim.
-pub(crate) fn doom(transaction: Option<Transaction>) -> Option<Transaction>
+fn doom(transaction: Option<Transaction>) -> Option<Transaction>
     ensures { result ≡ doom transaction }
 {
     match transaction {
@@ -75,80 +75,173 @@ fn is_fresh(wanted: Option<Request>) -> bool
     matches!(wanted, Some(Request::Fresh(_)))
 }
 
-/// The request that the session waits for is granted.
-pub(crate) fn admit(locker: &mut Locker, resource: Resource)
-    requires kept { IsKeptLocker locker.old }
-    requires waits { is_wanted resource (wanted_in locker.old.wanted) ≡ true }
-    ensures standing { standing_of locker.new ≡ standing_after_grant resource (standing_of locker.old) }
-    ensures kept { IsKeptLocker locker.new }
-{
-    if is_fresh(locker.wanted) {
-        locker.held.push_reserved(resource);
+impl Locker {
+    /// The locker of a session with no transaction.
+    pub(crate) fn new(alloc: Global) -> Locker
+        ensures standing { standing_of result ≡ no_standing }
+        ensures kept { IsKeptLocker result }
+    {
+        Locker {
+            transaction: None,
+            held: Vec::new(alloc),
+            wanted: None,
+        }
     }
-    locker.wanted = None;
-}
 
-/// Makes room for one lock more.
-pub(crate) fn make_room(locker: &mut Locker) -> Result<(), AllocError>
-    requires kept { IsKeptLocker locker.old }
-    requires idle { locker.old.wanted ≡ None }
-    ensures room { OnOk result (vec_len locker.new.held < vec_capacity locker.new.held) }
-    ensures standing { standing_of locker.new ≡ standing_of locker.old }
-    ensures kept { IsKeptLocker locker.new }
-{
-    locker.held.reserve(1)
-}
+    /// The number of its transaction, 0 where it has none.
+    pub(crate) fn number(&self) -> u64
+        ensures { result ≡ number_in self.now.transaction }
+    {
+        number_of(self.transaction)
+    }
 
-/// The session holds one resource more.
-pub(crate) fn hold(locker: &mut Locker, resource: Resource)
-    requires kept { IsKeptLocker locker.old }
-    requires idle { locker.old.wanted ≡ None }
-    requires new { has_path resource locker.old.held.items ≡ false }
-    requires few { length locker.old.held.items < MAX_LOCKS }
-    requires room { vec_len locker.old.held < vec_capacity locker.old.held }
-    ensures standing { standing_of locker.new ≡ standing_after_asking true resource (standing_of locker.old) }
-    ensures kept { IsKeptLocker locker.new }
-{
-    locker.held.push_reserved(resource);
-}
+    /// Whether it has an open transaction.
+    pub(crate) fn is_open(&self) -> bool
+        ensures { result ≡ is_some self.now.transaction }
+    {
+        self.transaction.is_some()
+    }
 
-/// Whether the session holds a resource below this one.
-pub(crate) fn holds_below(locker: &Locker, resource: Resource) -> bool
-    ensures { result ≡ has_below resource locker.now.held.items }
-{
-    locker.held.iter().any(|held| resource.is_ancestor_of(held))
-}
+    /// Whether its transaction was chosen as a deadlock's victim.
+    pub(crate) fn is_doomed(&self) -> bool
+        ensures { result ≡ doomed_in self.now.transaction }
+    {
+        is_doomed(self.transaction)
+    }
 
-/// The session holds the resource no more.
-pub(crate) fn drop_lock(locker: &mut Locker, resource: Resource)
-    requires kept { IsKeptLocker locker.old }
-    requires idle { locker.old.wanted ≡ None }
-    ensures standing { standing_of locker.new ≡ standing_after_release resource (standing_of locker.old) }
-    ensures kept { IsKeptLocker locker.new }
-{
-    locker.held.retain(|held| !is_same(*held, resource));
-}
+    /// Whether it has a request that waits.
+    pub(crate) fn is_waiting(&self) -> bool
+        ensures { result ≡ is_some (wanted_in self.now.wanted) }
+    {
+        self.wanted.is_some()
+    }
 
-/// The session waits.
-pub(crate) fn want(locker: &mut Locker, request: Request)
-    requires kept { IsKeptLocker locker.old }
-    requires kind { IsOfKind (Some request) locker.old.held.items }
-    requires few { length locker.old.held.items + locks_to_come (Some request) ≤ MAX_LOCKS }
-    requires room { vec_len locker.old.held + locks_to_come (Some request) ≤ vec_capacity locker.old.held }
-    ensures standing { standing_of locker.new ≡ standing_after_asking false (resource_asked request) (standing_of locker.old) }
-    ensures kept { IsKeptLocker locker.new }
-{
-    locker.wanted = Some(request);
-}
+    /// The resource that it waits for.
+    pub(crate) fn resource_wanted(&self) -> Option<Resource>
+        ensures { result ≡ wanted_in self.now.wanted }
+    {
+        match self.wanted {
+            Some(request) => Some(resource_of(request)),
+            None => None,
+        }
+    }
 
-/// The locker of a session with no transaction.
-pub(crate) fn new_locker(alloc: Global) -> Locker
-    ensures standing { standing_of result ≡ no_standing }
-    ensures kept { IsKeptLocker result }
-{
-    Locker {
-        transaction: None,
-        held: Vec::new(alloc),
-        wanted: None,
+    /// How many locks it holds.
+    pub(crate) fn locks(&self) -> usize
+        ensures { result ≡ vec_len self.now.held }
+    {
+        self.held.len()
+    }
+
+    /// Whether the session holds a resource below this one.
+    pub(crate) fn holds_below(&self, resource: Resource) -> bool
+        ensures { result ≡ has_below resource self.now.held.items }
+    {
+        self.held.iter().any(|held| resource.is_ancestor_of(held))
+    }
+
+    /// A transaction begins, with this number.
+    pub(crate) fn begin(&mut self, number: u64)
+        ensures { self.new ≡ record self.old { transaction = Some (record { number = number; doomed = false }) } }
+    {
+        self.transaction = Some(Transaction {
+            number,
+            doomed: false,
+        });
+    }
+
+    /// The transaction ends.
+    pub(crate) fn end(&mut self)
+        ensures { self.new ≡ record self.old { transaction = None } }
+    {
+        self.transaction = None;
+    }
+
+    /// The transaction becomes a deadlock's victim.
+    pub(crate) fn doom(&mut self)
+        ensures { self.new ≡ record self.old { transaction = doom self.old.transaction } }
+    {
+        self.transaction = doom(self.transaction);
+    }
+
+    /// Makes room for one lock more.
+    pub(crate) fn make_room(&mut self) -> Result<(), AllocError>
+        requires kept { IsKeptLocker self.old }
+        requires idle { self.old.wanted ≡ None }
+        ensures room { OnOk result (vec_len self.new.held < vec_capacity self.new.held) }
+        ensures standing { standing_of self.new ≡ standing_of self.old }
+        ensures kept { IsKeptLocker self.new }
+    {
+        self.held.reserve(1)
+    }
+
+    /// The session holds one resource more.
+    pub(crate) fn hold(&mut self, resource: Resource)
+        requires kept { IsKeptLocker self.old }
+        requires idle { self.old.wanted ≡ None }
+        requires new { has_path resource self.old.held.items ≡ false }
+        requires few { length self.old.held.items < MAX_LOCKS }
+        requires room { vec_len self.old.held < vec_capacity self.old.held }
+        ensures standing { standing_of self.new ≡ standing_after_asking true resource (standing_of self.old) }
+        ensures kept { IsKeptLocker self.new }
+    {
+        self.held.push_reserved(resource);
+    }
+
+    /// The session waits.
+    pub(crate) fn wait_for(&mut self, request: Request)
+        requires kept { IsKeptLocker self.old }
+        requires kind { IsOfKind (Some request) self.old.held.items }
+        requires few { length self.old.held.items + locks_to_come (Some request) ≤ MAX_LOCKS }
+        requires room { vec_len self.old.held + locks_to_come (Some request) ≤ vec_capacity self.old.held }
+        ensures standing { standing_of self.new ≡ standing_after_asking false (resource_asked request) (standing_of self.old) }
+        ensures kept { IsKeptLocker self.new }
+    {
+        self.wanted = Some(request);
+    }
+
+    /// The request that the session waits for is granted.
+    pub(crate) fn grant(&mut self, resource: Resource)
+        requires kept { IsKeptLocker self.old }
+        requires waits { is_wanted resource (wanted_in self.old.wanted) ≡ true }
+        ensures standing { standing_of self.new ≡ standing_after_grant resource (standing_of self.old) }
+        ensures kept { IsKeptLocker self.new }
+    {
+        if is_fresh(self.wanted) {
+            self.held.push_reserved(resource);
+        }
+        self.wanted = None;
+    }
+
+    /// The session holds the resource no more.
+    pub(crate) fn release(&mut self, resource: Resource)
+        requires kept { IsKeptLocker self.old }
+        requires idle { self.old.wanted ≡ None }
+        ensures standing { standing_of self.new ≡ standing_after_release resource (standing_of self.old) }
+        ensures kept { IsKeptLocker self.new }
+    {
+        self.held.retain(|held| !is_same(*held, resource));
+    }
+
+    /// The session waits no more: for which resource it waited.
+    pub(crate) fn cancel(&mut self) -> Option<Resource>
+        ensures resource { result ≡ wanted_in self.old.wanted }
+        ensures value { self.new ≡ record self.old { wanted = None } }
+    {
+        let resource = self.resource_wanted();
+        self.wanted = None;
+        resource
+    }
+
+    /// The session doesn't hold the resource that it was granted last any more: which one that was.
+    pub(crate) fn release_last(&mut self) -> Option<Resource>
+        ensures some { IfSome result (λ r. self.old.held.items ≡ self.new.held.items ++ r ∷ []) }
+        ensures len { IfSome result (λ _. vec_len self.new.held + 1 ≡ vec_len self.old.held) }
+        ensures capacity { IfSome result (λ _. vec_capacity self.new.held ≡ vec_capacity self.old.held) }
+        ensures none { IfNone result (self.old.held.items ≡ []) }
+        ensures transaction { self.new.transaction ≡ self.old.transaction }
+        ensures wanted { self.new.wanted ≡ self.old.wanted }
+    {
+        self.held.pop()
     }
 }

@@ -5,7 +5,6 @@ ghost use Rattle.lock_rules.specs.Step.{is_nothing, target_of, first_failing};
 ghost use Rattle.lock_desk.specs.Changes.{lacks_need, open_tests, idle_tests, standing_tests, lock_tests, convert_tests, release_tests, request_tests, desk_tests};
 
 use crate::desk::Desk;
-use crate::lockers::{holds_below, is_doomed};
 use lock_modes::Mode;
 use lock_rules::{Call, MAX_LOCKS, Why};
 use lock_tree::Resource;
@@ -30,7 +29,7 @@ impl Desk {
         requires { session < vec_len self.now.lockers }
         ensures { result ≡ first_failing (open_tests self.now session) }
     {
-        if self.lockers[session as usize].transaction.is_none() {
+        if !self.lockers[session as usize].is_open() {
             return Some(Why::NoTransaction);
         }
         None
@@ -45,10 +44,10 @@ impl Desk {
             return Some(why);
         }
         let locker = &self.lockers[session as usize];
-        if locker.wanted.is_some() {
+        if locker.is_waiting() {
             return Some(Why::IsWaiting);
         }
-        if is_doomed(locker.transaction) {
+        if locker.is_doomed() {
             return Some(Why::IsDoomed);
         }
         None
@@ -66,7 +65,7 @@ impl Desk {
             return Some(Why::ParentNotHeld);
         }
         let locker = &self.lockers[session as usize];
-        if held.is_none() && locker.held.len() >= MAX_LOCKS {
+        if held.is_none() && locker.locks() >= MAX_LOCKS {
             return Some(Why::TooManyLocks);
         }
         None
@@ -95,7 +94,7 @@ impl Desk {
         if self.held(session, resource).is_none() {
             return Some(Why::NotHeld);
         }
-        if holds_below(&self.lockers[session as usize], resource) {
+        if self.lockers[session as usize].holds_below(resource) {
             return Some(Why::ChildHeld);
         }
         None
@@ -120,9 +119,7 @@ impl Desk {
         ensures { result ≡ first_failing (standing_tests self.now session call) }
     {
         match call {
-            Call::Begin if self.lockers[session as usize].transaction.is_some() => {
-                Some(Why::AlreadyOpen)
-            }
+            Call::Begin if self.lockers[session as usize].is_open() => { Some(Why::AlreadyOpen) }
             Call::Begin => None,
             Call::Poll | Call::Abort => self.open_refusal(session),
             Call::Lock(_, _) | Call::Convert(_, _) | Call::Release(_) | Call::Commit => {

@@ -6,7 +6,7 @@ ghost use Rattle.lock_desk.specs.Cells.{view_of, cell_view, view_after_promotion
 ghost use Rattle.lock_desk.specs.Lockers.{standings_of, IsKeptLocker, AreSameOrGranted, DoAgree};
 
 use crate::cells::{Cell, Part};
-use crate::lockers::{Locker, admit};
+use crate::lockers::Locker;
 use indexmap::IndexMap;
 use lock_tree::{Resource, same_path_is_equality};
 
@@ -26,7 +26,7 @@ pub(crate) fn promote(cell: &mut Cell, resource: Resource, lockers: &mut Vec<Loc
 {
     while let Some(granted) = cell.grant_next() {
         let locker = &mut lockers[granted.session as usize];
-        admit(locker, resource);
+        locker.grant(resource);
     }
 }
 

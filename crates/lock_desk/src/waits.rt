@@ -9,7 +9,7 @@ ghost use Rattle.lock_desk.specs.Lockers.{standings_of, standing_at};
 ghost use Rattle.lock_desk.specs.Finding.{holder_blocks, stands_first, cell_blocks, blocks, IsReady, IsFilled, AreOfSessions, IsOfSessions};
 
 use crate::cells::{Cell, cell_of};
-use crate::lockers::{Locker, number_of, resource_of};
+use crate::lockers::Locker;
 use indexmap::IndexMap;
 use lock_tree::Resource;
 use std::alloc::{AllocError, Global};
@@ -82,9 +82,8 @@ fn fill_session(
     let place = session as usize - 1;
     clear(waits, place);
     let locker = &lockers[session as usize];
-    waits.numbers[place] = number_of(locker.transaction);
-    if let Some(request) = locker.wanted {
-        let resource = resource_of(request);
+    waits.numbers[place] = locker.number();
+    if let Some(resource) = locker.resource_wanted() {
         if let Some(cell) = cell_of(cells, resource) {
             waits.filled[place] = true;
             cell.write_waits(&mut waits.rows, session);

@@ -11,14 +11,14 @@ index_mut-locker-requires c =
     let n = next-cell c.loop-granted.cell.holders.items c.loop-granted.cell.waiting.items c.in-Some.granted (view_of c.grant_next.new.self) c.in-Some.ensures.next c.in-Some.ensures.view in
     omega (arith, grant-within c.args.resource (view_of c.loop-granted.cell) (view_of c.grant_next.new.self) c.in-Some.granted c.loop-granted.lockers.items n c.loop-granted.invariant.agree, c.loop-granted.lockers.ok.0)
 
-pub admit-requires-clause-kept : goal.admit-requires-clause-kept
-admit-requires-clause-kept c =
+pub grant-requires-clause-kept : goal.grant-requires-clause-kept
+grant-requires-clause-kept c =
     let n = next-cell c.loop-granted.cell.holders.items c.loop-granted.cell.waiting.items c.in-Some.granted (view_of c.grant_next.new.self) c.in-Some.ensures.next c.in-Some.ensures.view in
     let lt = grant-within c.args.resource (view_of c.loop-granted.cell) (view_of c.grant_next.new.self) c.in-Some.granted c.loop-granted.lockers.items n c.loop-granted.invariant.agree in
     subst IsKeptLocker (sym c.index_mut-locker.ensures.value) (All-get_or IsKeptLocker c.loop-granted.lockers.items c.in-Some.granted.session c.index_mut-locker.result.now lt c.loop-granted.invariant.lockers)
 
-pub admit-requires-clause-waits : goal.admit-requires-clause-waits
-admit-requires-clause-waits c =
+pub grant-requires-clause-waits : goal.grant-requires-clause-waits
+grant-requires-clause-waits c =
     let n = next-cell c.loop-granted.cell.holders.items c.loop-granted.cell.waiting.items c.in-Some.granted (view_of c.grant_next.new.self) c.in-Some.ensures.next c.in-Some.ensures.view in
     grant-waits_locker c.args.resource (view_of c.loop-granted.cell) (view_of c.grant_next.new.self) c.in-Some.granted c.loop-granted.lockers.items n c.loop-granted.invariant.agree c.index_mut-locker.result.now c.index_mut-locker.ensures.value
 
@@ -34,8 +34,8 @@ loop-granted-preserved c =
       view = promoted-next v c.in-Some.granted w n ∙ k.view;
       room = c.in-Some.ensures.room;
       once = once-next v c.in-Some.granted w n k.once;
-      agree = grant-agree r v w c.in-Some.granted lockers n k.agree c.index_mut-locker.result.now c.index_mut-locker.ensures.value c.admit.new.locker r c.admit.ensures.standing refl k.once;
-      lockers = All-set IsKeptLocker lockers c.in-Some.granted.session c.admit.new.locker c.admit.ensures.kept k.lockers;
-      granted = grant-same r v w c.in-Some.granted lockers n k.agree c.index_mut-locker.result.now c.index_mut-locker.ensures.value c.admit.new.locker r c.admit.ensures.standing refl _ k.granted;
+      agree = grant-agree r v w c.in-Some.granted lockers n k.agree c.index_mut-locker.result.now c.index_mut-locker.ensures.value c.grant.new.self r c.grant.ensures.standing refl k.once;
+      lockers = All-set IsKeptLocker lockers c.in-Some.granted.session c.grant.new.self c.grant.ensures.kept k.lockers;
+      granted = grant-same r v w c.in-Some.granted lockers n k.agree c.index_mut-locker.result.now c.index_mut-locker.ensures.value c.grant.new.self r c.grant.ensures.standing refl _ k.granted;
       len = k.len;
     }

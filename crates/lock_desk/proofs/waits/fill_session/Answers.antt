@@ -1,7 +1,7 @@
 use Rattle.std.proofs.Common.{◌≡◌, ◌+◌, ◌-◌, Bool, true, false, ◌&&◌, ◌||◌, not, cond, eqb, Some, refl, map, ap, sym, ◌∙◌, subst}
 use Rattle.waits_for.specs.Pairs.{pairs_of}
 use Rattle.lock_desk.specs.Cells.{View, view_in, cell_view}
-use Rattle.lock_desk.specs.Lockers.{Standing, standing_of, standing_at, wanted_in}
+use Rattle.lock_desk.specs.Lockers.{Standing, standing_of, standing_at}
 use Rattle.lock_desk.specs.Finding.{AreOfSessions, view_blocks, blocks}
 use Rattle.lock_desk.proofs.Standings.{standing-here}
 use Rattle.lock_desk.proofs.Fills.{written, blocks-there, blocks-nowhere}
@@ -9,21 +9,21 @@ use Rattle.lock_desk.proofs.waits.fill_session.Goals as goal
 
 pub write_waits-requires-clause-holders : goal.write_waits-requires-clause-holders
 write_waits-requires-clause-holders c =
-    let r = c.resource_of-resource.result in
+    let r = c.in-Some.resource in
     rw c.clear.ensures.sessions (subst (λ (v : View). AreOfSessions c.args.waits.now.rows.sessions v.holders) (sym (ap view_in c.in-Some-cell_of.ensures)) (c.requires.numbered r).holders)
 
 pub write_waits-requires-clause-waiting : goal.write_waits-requires-clause-waiting
 write_waits-requires-clause-waiting c =
-    let r = c.resource_of-resource.result in
+    let r = c.in-Some.resource in
     rw c.clear.ensures.sessions (subst (λ (v : View). AreOfSessions c.args.waits.now.rows.sessions v.waiting) (sym (ap view_in c.in-Some-cell_of.ensures)) (c.requires.numbered r).waiting)
 
 pub returns-in-Some-cell_of-clause-pairs : goal.returns-in-Some-cell_of-clause-pairs
 returns-in-Some-cell_of-clause-pairs c = λ a b.
     let s = c.args.session in
-    let r = c.resource_of-resource.result in
+    let r = c.in-Some.resource in
     let locker = c.index-lockers-session.result in
     let there : (standing_at s (map standing_of c.args.lockers.now)).wanted ≡ Some r =
-    ap (λ (x : Standing). x.wanted) (standing-here c.args.lockers.now s locker c.requires.within c.index-lockers-session.is) ∙ (ap wanted_in c.in-Some.is ∙ ap Some (sym c.resource_of-resource.ensures)) in
+    ap (λ (x : Standing). x.wanted) (standing-here c.args.lockers.now s locker c.requires.within c.index-lockers-session.is) ∙ sym c.in-Some.ensures in
     let same : view_blocks s (b + 1) (cell_view r c.args.cells.now.entries) ≡ blocks c.args.cells.now.entries (map standing_of c.args.lockers.now) s (b + 1) = sym (blocks-there c.args.cells.now.entries (map standing_of c.args.lockers.now) s (b + 1) r there) in
     c.write_waits.ensures.pairs a b
     ∙ (ap (λ (x : Bool). x || (eqb (a + 1) s && view_blocks s (b + 1) (record { holders = c.in-Some-cell_of.cell.now.holders.items; waiting = c.in-Some-cell_of.cell.now.waiting.items }))) (c.clear.ensures.pairs a b)
@@ -34,10 +34,10 @@ returns-in-Some-cell_of-clause-pairs c = λ a b.
 pub returns-in_default-cell_of-clause-pairs : goal.returns-in_default-cell_of-clause-pairs
 returns-in_default-cell_of-clause-pairs c = λ a b.
     let s = c.args.session in
-    let r = c.resource_of-resource.result in
+    let r = c.in-Some.resource in
     let locker = c.index-lockers-session.result in
     let there : (standing_at s (map standing_of c.args.lockers.now)).wanted ≡ Some r =
-    ap (λ (x : Standing). x.wanted) (standing-here c.args.lockers.now s locker c.requires.within c.index-lockers-session.is) ∙ (ap wanted_in c.in-Some.is ∙ ap Some (sym c.resource_of-resource.ensures)) in
+    ap (λ (x : Standing). x.wanted) (standing-here c.args.lockers.now s locker c.requires.within c.index-lockers-session.is) ∙ sym c.in-Some.ensures in
     let none = blocks-nowhere c.args.cells.now.entries (map standing_of c.args.lockers.now) s (b + 1) r there c.in_default-cell_of.ensures in
     c.clear.ensures.pairs a b
     ∙ (sym (or-none (pairs_of c.args.waits.now.rows a b && not (eqb a (s - 1))) (eqb (a + 1) s))

@@ -1,21 +1,24 @@
-use Rattle.std.proofs.Common.{rules, refl, Some, false, ◌+◌}
+use Rattle.std.proofs.Common.{rules, refl, Some, false, ◌+◌, ap}
 use Rattle.lock_desk.specs.declared.lockers.Locker.{Locker}
+use Rattle.lock_desk.specs.Lockers.{standing_of}
 use Rattle.lock_desk.proofs.Asks.{within}
 use Rattle.lock_desk.proofs.Ends.{told-whole, has-begun}
 use Rattle.lock_desk.proofs.desk.Desk.begin.Goals as goal
 
 pub returns-clause-begun : goal.returns-clause-begun
 returns-clause-begun c =
-    let locker = c.index_mut-locker.result.now in
-    let new : Locker = record { transaction = Some (record { number = c.args.self.now.count + 1; doomed = false }); held = locker.held; wanted = locker.wanted } in
-    has-begun c.args.self.now c.args.session (Some (record { number = c.args.self.now.count + 1; doomed = false })) locker new _ c.requires.whole (within c.args.self.now c.args.session c.requires.within) c.index_mut-locker.ensures.value refl refl refl refl refl refl refl
+    let d = c.args.self.now in
+    let new = c.begin.ensures in
+    has-begun d c.args.session (Some (record { number = d.count + 1; doomed = false })) c.index_mut-locker.result.now c.begin.new.self _ c.requires.whole (within d c.args.session c.requires.within) c.index_mut-locker.ensures.value
+    (ap standing_of new) (ap (λ (x : Locker). x.held) new) (ap (λ (x : Locker). x.wanted) new) refl refl refl refl
 
 pub returns-clause-kept : goal.returns-clause-kept
 returns-clause-kept c =
-    let locker = c.index_mut-locker.result.now in
-    let new : Locker = record { transaction = Some (record { number = c.args.self.now.count + 1; doomed = false }); held = locker.held; wanted = locker.wanted } in
+    let d = c.args.self.now in
+    let new = c.begin.ensures in
     record {
-      whole = told-whole c.args.self.now c.args.session (Some (record { number = c.args.self.now.count + 1; doomed = false })) locker new _ c.requires.whole (within c.args.self.now c.args.session c.requires.within) c.index_mut-locker.ensures.value refl refl refl refl refl;
+      whole = told-whole d c.args.session (Some (record { number = d.count + 1; doomed = false })) c.index_mut-locker.result.now c.begin.new.self _ c.requires.whole (within d c.args.session c.requires.within) c.index_mut-locker.ensures.value
+          (ap standing_of new) (ap (λ (x : Locker). x.held) new) (ap (λ (x : Locker). x.wanted) new) refl refl;
       lockers = search rules;
       waits = search rules;
     }

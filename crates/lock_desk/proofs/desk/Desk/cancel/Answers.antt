@@ -1,23 +1,38 @@
-use Rattle.std.proofs.Common.{rules, refl, None, ◌∙◌, ap, set}
+use Rattle.std.proofs.Common.{rules, ◌≡◌, refl, sym, ◌∙◌, ap, set}
 use Rattle.std.proofs.lemmas.List.{set-get_or}
-use Rattle.lock_desk.specs.Lockers.{Standing, wanted_in}
+use Rattle.lock_desk.specs.declared.lockers.Locker.{Locker}
+use Rattle.lock_desk.specs.Lockers.{Standing}
 use Rattle.lock_desk.proofs.Standings.{standing-here}
 use Rattle.lock_desk.proofs.Asks.{within}
-use Rattle.lock_desk.proofs.Ends.{cancel-agree, has-cancelled, cancel-whole, same-cancelled}
+use Rattle.lock_desk.proofs.Backs.{none-in}
+use Rattle.lock_desk.proofs.Ends.{cancel-agree, cancel-lockers, has-cancelled, cancel-whole, same-cancelled, same-whole}
 use Rattle.lock_desk.proofs.desk.Desk.cancel.Goals as goal
 
 pub free-requires-clause-agree : goal.free-requires-clause-agree
-free-requires-clause-agree c = cancel-agree c.args.self.now c.args.session c.resource_of-resource.result c.in-Some.request c.index_mut-locker.result.now (record { transaction = c.index_mut-locker.result.now.transaction; held = c.index_mut-locker.result.now.held; wanted = None }) c.requires.whole (within c.args.self.now c.args.session c.requires.within) c.index_mut-locker.ensures.value c.in-Some.is c.resource_of-resource.ensures refl refl refl
+free-requires-clause-agree c =
+    let is = c.in-Some.ensures.value in
+    cancel-agree c.args.self.now c.args.session c.in-Some.resource c.index_mut-locker.result.now c.cancel.new.self c.requires.whole (within c.args.self.now c.args.session c.requires.within) c.index_mut-locker.ensures.value
+    (sym c.in-Some.ensures.resource) (ap (λ (x : Locker). x.transaction) is) (ap (λ (x : Locker). x.held) is) (ap (λ (x : Locker). x.wanted) is)
+
+pub free-requires-clause-lockers : goal.free-requires-clause-lockers
+free-requires-clause-lockers c =
+    let is = c.in-Some.ensures.value in
+    cancel-lockers c.args.self.now c.args.session c.in-Some.resource c.index_mut-locker.result.now c.cancel.new.self c.requires.whole (within c.args.self.now c.args.session c.requires.within) c.index_mut-locker.ensures.value
+    (sym c.in-Some.ensures.resource) (ap (λ (x : Locker). x.transaction) is) (ap (λ (x : Locker). x.held) is) (ap (λ (x : Locker). x.wanted) is)
 
 pub returns-in-Some-clause-cancelled : goal.returns-in-Some-clause-cancelled
 returns-in-Some-clause-cancelled c =
-    has-cancelled c.args.self.now c.args.session c.resource_of-resource.result c.in-Some.request c.index_mut-locker.result.now (record { transaction = c.index_mut-locker.result.now.transaction; held = c.index_mut-locker.result.now.held; wanted = None }) c.requires.whole (within c.args.self.now c.args.session c.requires.within) c.index_mut-locker.ensures.value c.in-Some.is c.resource_of-resource.ensures refl refl refl
+    let is = c.in-Some.ensures.value in
+    has-cancelled c.args.self.now c.args.session c.in-Some.resource c.index_mut-locker.result.now c.cancel.new.self c.requires.whole (within c.args.self.now c.args.session c.requires.within) c.index_mut-locker.ensures.value
+    (sym c.in-Some.ensures.resource) (ap (λ (x : Locker). x.transaction) is) (ap (λ (x : Locker). x.held) is) (ap (λ (x : Locker). x.wanted) is)
     _ c.free.ensures.cells c.free.ensures.agree c.free.ensures.lockers c.free.ensures.granted refl
 
 pub returns-in-Some-clause-kept : goal.returns-in-Some-clause-kept
 returns-in-Some-clause-kept c =
+    let is = c.in-Some.ensures.value in
     record {
-      whole = cancel-whole c.args.self.now c.args.session c.resource_of-resource.result c.in-Some.request c.index_mut-locker.result.now (record { transaction = c.index_mut-locker.result.now.transaction; held = c.index_mut-locker.result.now.held; wanted = None }) c.requires.whole (within c.args.self.now c.args.session c.requires.within) c.index_mut-locker.ensures.value c.in-Some.is c.resource_of-resource.ensures refl refl refl
+      whole = cancel-whole c.args.self.now c.args.session c.in-Some.resource c.index_mut-locker.result.now c.cancel.new.self c.requires.whole (within c.args.self.now c.args.session c.requires.within) c.index_mut-locker.ensures.value
+          (sym c.in-Some.ensures.resource) (ap (λ (x : Locker). x.transaction) is) (ap (λ (x : Locker). x.held) is) (ap (λ (x : Locker). x.wanted) is)
           _ c.free.ensures.cells c.free.ensures.agree c.free.ensures.lockers c.free.ensures.granted;
       lockers = search rules;
       waits = search rules;
@@ -26,6 +41,22 @@ returns-in-Some-clause-kept c =
 pub returns-in_default-clause-cancelled : goal.returns-in_default-clause-cancelled
 returns-in_default-clause-cancelled c =
     let d = c.args.self.now in
+    let s = c.args.session in
     let locker = c.index_mut-locker.result.now in
-    let idle = ap (λ (x : Standing). x.wanted) (standing-here d.lockers.items c.args.session locker (within d c.args.session c.requires.within) c.index_mut-locker.ensures.value) ∙ ap wanted_in c.in_default.is in
-    same-cancelled c.args.session d _ c.requires.whole idle refl (ap (set d.lockers.items c.args.session) c.index_mut-locker.ensures.value ∙ set-get_or d.lockers.items c.args.session locker) refl
+    let none = none-in locker.wanted (sym c.in_default.ensures.resource) in
+    let same : c.cancel.new.self ≡ locker = c.in_default.ensures.value ∙ (λ i. record { transaction = locker.transaction; held = locker.held; wanted = sym none i }) in
+    let idle = ap (λ (x : Standing). x.wanted) (standing-here d.lockers.items s locker (within d s c.requires.within) c.index_mut-locker.ensures.value) ∙ sym c.in_default.ensures.resource in
+    same-cancelled s d _ c.requires.whole idle refl (ap (set d.lockers.items s) (same ∙ c.index_mut-locker.ensures.value) ∙ set-get_or d.lockers.items s locker) refl
+
+pub returns-in_default-clause-kept : goal.returns-in_default-clause-kept
+returns-in_default-clause-kept c =
+    let d = c.args.self.now in
+    let s = c.args.session in
+    let locker = c.index_mut-locker.result.now in
+    let none = none-in locker.wanted (sym c.in_default.ensures.resource) in
+    let same : c.cancel.new.self ≡ locker = c.in_default.ensures.value ∙ (λ i. record { transaction = locker.transaction; held = locker.held; wanted = sym none i }) in
+    record {
+      whole = same-whole d _ c.requires.whole (ap (set d.lockers.items s) (same ∙ c.index_mut-locker.ensures.value) ∙ set-get_or d.lockers.items s locker) refl;
+      lockers = search rules;
+      waits = search rules;
+    }

@@ -1,7 +1,8 @@
-use Rattle.std.proofs.Common.{rules, ◌<◌, length, refl, None, arith}
+use Rattle.std.proofs.Common.{ap, rules, ◌<◌, length, refl, None, arith}
 use Rattle.std.specs.Vec.{with_item}
 use Rattle.lock_desk.specs.declared.lockers.Locker.{Locker}
 use Rattle.lock_desk.specs.declared.desk.Desk.{Desk}
+use Rattle.lock_desk.specs.Lockers.{standing_of}
 use Rattle.lock_desk.proofs.Ends.{few-at, told-whole, transaction-each, has-ended}
 use Rattle.lock_desk.proofs.desk.Desk.end.Goals as goal
 
@@ -13,23 +14,25 @@ returns-clause-ended c =
     let f = c.give_back_all-locks.new.self in
     let s = c.args.session in
     let locker = c.index_mut-locker.result.now in
-    let new : Locker = record { transaction = None; held = locker.held; wanted = locker.wanted } in
+    let new = c.end.new.self in
+    let is = c.end.ensures in
     let e : Desk = record { count = f.count; lockers = with_item f.lockers s new; cells = f.cells; waits = f.waits } in
     let lt : s < length f.lockers.items = omega (arith, c.requires.within, c.give_back_all-locks.ensures.kept.lockers, f.lockers.ok.0) in
     let at = c.index_mut-locker.ensures.value in
     let w = c.give_back_all-locks.ensures.kept.whole in
     has-ended s c.args.self.now f e c.requires.whole c.requires.idle c.give_back_all-locks.ensures.back c.give_back_all-locks.ensures.none refl (λ q. refl)
-    (transaction-each f s None locker new e w lt at refl refl refl refl refl)
+    (transaction-each f s None locker new e w lt at (ap standing_of is) (ap (λ (x : Locker). x.held) is) (ap (λ (x : Locker). x.wanted) is) refl refl)
 
 pub returns-clause-kept : goal.returns-clause-kept
 returns-clause-kept c =
     let f = c.give_back_all-locks.new.self in
     let s = c.args.session in
     let locker = c.index_mut-locker.result.now in
-    let new : Locker = record { transaction = None; held = locker.held; wanted = locker.wanted } in
+    let new = c.end.new.self in
+    let is = c.end.ensures in
     let lt : s < length f.lockers.items = omega (arith, c.requires.within, c.give_back_all-locks.ensures.kept.lockers, f.lockers.ok.0) in
     record {
-      whole = told-whole f s None locker new _ c.give_back_all-locks.ensures.kept.whole lt c.index_mut-locker.ensures.value refl refl refl refl refl;
+      whole = told-whole f s None locker new _ c.give_back_all-locks.ensures.kept.whole lt c.index_mut-locker.ensures.value (ap standing_of is) (ap (λ (x : Locker). x.held) is) (ap (λ (x : Locker). x.wanted) is) refl refl;
       lockers = search rules;
       waits = search rules;
     }

@@ -14,7 +14,7 @@ loop-lock-init c =
     record {
       back = back-none c.args.session c.args.self.now c.requires.whole c.requires.idle;
       kept = record { whole = c.requires.whole; lockers = refl; waits = refl };
-      left = omega (arith, c.len-locks.ensures, long, c.index-locker.result.now.held.ok.0);
+      left = omega (arith, c.locks-locks.ensures, long, c.index-locker.result.now.held.ok.0);
     }
 
 pub loop-lock-preserved : goal.loop-lock-preserved

@@ -1,14 +1,14 @@
 use Rattle.std.proofs.Common.{arith, ap}
 use Rattle.lock_desk.specs.Lockers.{locks_to_come}
 use Rattle.lock_desk.proofs.Standings.{apart-push}
-use Rattle.lock_desk.proofs.lockers.hold.Goals as goal
+use Rattle.lock_desk.proofs.lockers.Locker.hold.Goals as goal
 
 pub returns-clause-kept : goal.returns-clause-kept
 returns-clause-kept c =
     let none = ap locks_to_come c.requires.idle in
     record {
-      apart = rw c.push_reserved.ensures.items (apart-push c.args.locker.now.held.items c.args.resource c.requires.kept.apart c.requires.new);
+      apart = rw c.push_reserved.ensures.items (apart-push c.args.self.now.held.items c.args.resource c.requires.kept.apart c.requires.new);
       kind = rw c.requires.idle tt;
       room = omega (arith, c.push_reserved.ensures.len, c.push_reserved.ensures.capacity, c.requires.room, none);
-      few = omega (arith, c.requires.few, none, c.push_reserved.ensures.len, c.push_reserved.new.self.ok.0, c.args.locker.now.held.ok.0);
+      few = omega (arith, c.requires.few, none, c.push_reserved.ensures.len, c.push_reserved.new.self.ok.0, c.args.self.now.held.ok.0);
     }

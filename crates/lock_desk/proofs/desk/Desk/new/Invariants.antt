@@ -1,7 +1,7 @@
 use Rattle.std.proofs.Common.{◌≡◌, ℕ, map, vec_len}
 use Rattle.std.specs.List.{All}
 use Rattle.lock_desk.specs.Lockers.{no_standing, standing_of, standing_at, IsKeptLocker}
-use Rattle.lock_desk.proofs.book.Book.new.Given as goal
+use Rattle.lock_desk.proofs.desk.Desk.new.Given as goal
 
 abbrev pub invariant-loop-locker : goal.invariant-loop-locker
 invariant-loop-locker l = record {
