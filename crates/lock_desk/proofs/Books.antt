@@ -16,7 +16,8 @@ use Rattle.lock_desk.specs.Lockers.{no_standing, standing_of, standing_at}
 use Rattle.lock_desk.specs.Changes.{IsWhole}
 use Rattle.lock_desk.specs.Ready.{IsReadyDesk}
 use Rattle.lock_desk.specs.Shows.{Shows}
-use Rattle.lock_desk.specs.Kept.{IsKept, IsEntryWithin}
+use Rattle.lock_desk.specs.Kept.{IsEntryWithin}
+use Rattle.lock_desk.specs.Invariant.{IsKept}
 
 -- one entry more
 pub kept-more : (a : Inside) (es : List Entry) (session : ℕ) (call : Call) (reply : Reply) → a.history.items ≡ es ++ record { session = session; call = call; reply = reply } ∷ []

@@ -1,4 +1,5 @@
--- What the cells say of a resource, and what is done there.
+-- Private parts speak to one another here, and no public contract of this crate: what
+-- the cells say of a resource, and what is done there.
 use Rattle.std.specs.Prelude.{◌≡◌, ℕ, ◌+◌, ◌≤◌, Bool, true, false, not, ◌&&◌, ◌||◌, if◌then◌else◌, ◌==◌, nat_lt, List, [], ◌∷◌, ◌++◌, filter, Option, Some, None, IfSome, vec_len, vec_capacity}
 use Rattle.std.specs.List.{list_any, list_all}
 use Rattle.std.specs.Map.{lookup}

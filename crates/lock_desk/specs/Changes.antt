@@ -1,4 +1,5 @@
--- What the desk keeps between two calls, and how a call changes it.
+-- Private parts speak to one another here, and no public contract of this crate: what
+-- the desk keeps between two calls, and how a call changes it.
 use Rattle.std.specs.Prelude.{◌≡◌, ℕ, ◌+◌, ◌<◌, Bool, true, false, not, ◌&&◌, ◌==◌, nat_le, if◌then◌else◌, List, [], ◌∷◌, ◌++◌, length, Option, Some, None, is_some, vec_len}
 use Rattle.std.specs.List.{All}
 use Rattle.lock_modes.specs.declared.Mode.{Mode}

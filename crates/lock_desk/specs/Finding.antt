@@ -1,4 +1,5 @@
--- Who waits for whom, by what cells and lockers say.
+-- Private parts speak to one another here, and no public contract of this crate: who
+-- waits for whom, by what cells and lockers say.
 use Rattle.std.specs.Prelude.{◌≡◌, ℕ, ◌+◌, ◌≤◌, Bool, false, not, ◌&&◌, ◌||◌, if◌then◌else◌, ◌==◌, List, [], ◌∷◌, Option, Some, None, slice_index_or, vec_len}
 use Rattle.std.specs.List.{All, list_any}
 use Rattle.waits_for.specs.declared.TheConstants.{MAX_SESSIONS}

@@ -1,13 +1,6 @@
--- What contracts see of a book, and what it keeps.
-use Rattle.std.specs.Prelude.{◌≡◌, ℕ, ◌+◌, ◌≤◌, List, length, vec_len}
-use Rattle.std.specs.List.{All}
-use Rattle.waits_for.specs.declared.TheConstants.{MAX_SESSIONS}
+-- What contracts see of a book.
+use Rattle.std.specs.Prelude.{ℕ, ◌≤◌, List}
 use Rattle.lock_rules.specs.declared.calls.Entry.{Entry}
-use Rattle.lock_rules.specs.Legal.{state_of, IsLegal}
-use Rattle.lock_desk.specs.Changes.{IsWhole}
-use Rattle.lock_desk.specs.Ready.{IsReadyDesk}
-use Rattle.lock_desk.specs.Shows.{Shows}
-use Rattle.lock_desk.specs.declared.book.Book.TheInside.{Inside}
 
 -- a book: its number of sessions, and the calls that it has served, oldest first
 pub record Told : Type 0 where
@@ -18,18 +11,3 @@ pub record Told : Type 0 where
 pub record IsEntryWithin (sessions : ℕ) (e : Entry) : Type 0 where
   pub some : 1 ≤ e.session
   pub within : e.session ≤ sessions
-
-abbrev pub told_of : Inside → Told
-told_of a = record { sessions = a.sessions; history = a.history.items }
-
--- the history is legal, and the desk shows the state that it leads to
-pub record IsKept (a : Inside) : Type 0 where
-  pub some : 1 ≤ a.sessions
-  pub few : a.sessions ≤ MAX_SESSIONS
-  pub legal : IsLegal a.history.items
-  pub within : All (IsEntryWithin a.sessions) a.history.items
-  pub shows : Shows a.desk (state_of a.history.items)
-  pub whole : IsWhole a.desk
-  pub ready : IsReadyDesk a.desk
-  pub lockers : vec_len a.desk.lockers ≡ a.sessions + 1
-  pub counted : a.desk.count ≤ length a.history.items

@@ -1,8 +1,11 @@
+-- what public contracts speak of
+pub mod Kept
+pub mod Batches
+-- what private parts say to one another
 pub mod Cells
 pub mod Lockers
 pub mod Changes
 pub mod Finding
 pub mod Ready
 pub mod Shows
-pub mod Kept
-pub mod Batches
+pub mod Invariant

@@ -1,4 +1,5 @@
--- What the lockers say of each session.
+-- Private parts speak to one another here, and no public contract of this crate: what
+-- the lockers say of each session.
 use Rattle.std.specs.Prelude.{◌≡◌, ℕ, ◌+◌, ◌≤◌, Bool, true, false, not, if◌then◌else◌, ◌⊎◌, List, [], ◌∷◌, ◌++◌, length, map, filter, Option, Some, None, slice_index_or, vec_len, vec_capacity}
 use Rattle.std.specs.List.{list_any}
 use Rattle.lock_tree.specs.Paths.{same_path, is_ancestor}

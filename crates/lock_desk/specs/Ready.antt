@@ -1,4 +1,5 @@
--- When a desk is ready to look for deadlocks.
+-- Private parts speak to one another here, and no public contract of this crate: when
+-- a desk is ready to look for deadlocks.
 use Rattle.std.specs.Prelude.{◌≡◌, ◌+◌, vec_len}
 use Rattle.lock_desk.specs.declared.desk.Desk.{Desk}
 use Rattle.lock_desk.specs.Finding.{IsReady}

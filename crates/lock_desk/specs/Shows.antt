@@ -1,4 +1,5 @@
--- When a desk shows a state of the sequential lock manager.
+-- Private parts speak to one another here, and no public contract of this crate: when
+-- a desk shows a state of the sequential lock manager.
 use Rattle.std.specs.Prelude.{◌≡◌, ℕ, List, [], ◌∷◌, if◌then◌else◌, map}
 use Rattle.lock_tree.specs.Paths.{same_path}
 use Rattle.lock_rules.specs.State as rules

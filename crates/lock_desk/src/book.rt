@@ -31,7 +31,8 @@ pub struct Book {
 }
 
 impl Model for Book {
-    ghost use Rattle.lock_desk.specs.Kept.{Told, told_of, IsKept};
+    ghost use Rattle.lock_desk.specs.Kept.{Told};
+    ghost use Rattle.lock_desk.specs.Invariant.{told_of, IsKept};
 
     ghost Value = { Told };
 
