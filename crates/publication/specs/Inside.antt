@@ -5,14 +5,16 @@ use Rattle.publication.specs.Tickets.{IsBoard, IsSettled}
 use Rattle.publication.specs.declared.board.Board.TheInside.{Inside as BoardInside}
 use Rattle.publication.specs.declared.board.Ticket.TheInside.{Inside as TicketInside}
 
+-- what contracts see of the board
 abbrev pub placed_of : BoardInside → Placed
 placed_of b = record { id = b.table.shared.table_id; sessions = b.sessions }
 
--- a word and a slot for the book, and for each session
+-- a word and a slot for the lock, and for each session
 pub record IsSized (b : BoardInside) : Type 0 where
   pub board : IsBoard b.table.shared.table_id
   pub slots : b.table.shared.table_id.slots ≡ b.sessions + 1
 
+-- what contracts see of the ticket
 abbrev pub known_of : TicketInside → Known
 known_of t = record {
   board = t.seat.table_id;
@@ -26,6 +28,7 @@ known_of t = record {
   opened = t.seat.me.0.combiner.opened;
 }
 
+-- its session is one of the board's, and its seat is as it is between two calls
 pub record IsKept (t : TicketInside) : Type 0 where
   pub small : t.number < t.seat.table_id.slots
   pub settled : IsSettled t.seat.me t.number t.seen t.has_book t.is_pending t.is_retired

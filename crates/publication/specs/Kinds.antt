@@ -49,6 +49,7 @@ Kind = Step Held → Tells
 abbrev pub own : Option Pending → List Answered → Own
 own pending collected = record { started = true; retired = false; pending = pending; collected = collected }
 
+-- what a combiner has
 abbrev pub combiner : Bool → List (Option Call) → ℕ → Combiner
 combiner has_book opened hand = record { has_book = has_book; opened = opened; hand = hand }
 
@@ -62,9 +63,11 @@ as_combiner v front c = record { number = v.number; slots = v.slots; made = v.ma
 
 -- Start.
 
+-- the session has its record's slot
 abbrev pub started : View → View
 started v = as_session v v.front (own None v.own.collected) v.heard
 
+-- start: the slot has nothing in it
 abbrev pub starts : Kind
 starts st m found n = n ≡ (started m.0, (m.0.number, Nothing) ∷ m.1)
 
@@ -75,9 +78,11 @@ abbrev pub asked : List (ℕ × Held) → Call
 asked [] = Poll
 asked (x ∷ xs) = elim x.1 [ Nothing ↦ Poll | Asked call ↦ call | Replied place reply ↦ Poll | Home load ↦ Poll ]
 
+-- the call is pending, the floor is the number of entries that are known, and the session has heard of this call of its own
 abbrev pub posting : View → Call → View
 posting v call = as_session v v.front (own (Some (asks call (length v.front))) v.own.collected) (slice_set v.heard v.number (length v.own.collected + 1))
 
+-- post: the call that is asked is the one in the slot
 abbrev pub posts : Kind
 posts st m found n = n ≡ (posting m.0 (asked m.1), rest m.1)
 
@@ -87,9 +92,11 @@ posts st m found n = n ≡ (posting m.0 (asked m.1), rest m.1)
 abbrev pub IsUnanswered : View → Type 0
 IsUnanswered v = v.own.pending ≢ None → length (calls_of v.number v.front) ≤ length v.own.collected
 
+-- the look tells it where the record isn't served
 abbrev pub looks_for_reply : Kind
 looks_for_reply st m found n = (n ≡ m) × (found ≢ SERVED → IsUnanswered m.0)
 
+-- nothing is pending, and the answer is collected
 abbrev pub taking : View → List Entry → Call → ℕ → Reply → View
 taking v front call place reply = as_session v front (record { started = true; retired = v.own.retired; pending = None; collected = v.own.collected ++ answer place call reply ∷ [] }) v.heard
 
@@ -110,6 +117,7 @@ HasTaken m n held place reply = (call : Call) × (floor : ℕ) × (front : List 
     × (n ≡ (taking m.0 front call place reply, (m.0.number, held) ∷ m.1))
     × Took m.0.number m.0.front m.0.own.collected call floor place reply front
 
+-- take: where the record is served the answer is taken, else nothing changes
 abbrev pub takes_reply : Kind
 takes_reply st m found n = (found ≡ SERVED → (place : ℕ) × (reply : Reply) × HasTaken m n (Replied place reply) place reply)
     × (found ≢ SERVED → (n ≡ m) × IsUnanswered m.0)
@@ -120,9 +128,11 @@ takes_reply st m found n = (found ≡ SERVED → (place : ℕ) × (reply : Reply
 abbrev pub HasOthers : ℕ → View → Type 0
 HasOthers slots v = v.combiner.has_book ≡ false → 2 < slots
 
+-- the look tells it where somebody has the book
 abbrev pub looks_at_lock : Kind
 looks_at_lock st m found n = (n ≡ m) × (found ≢ FREE → HasOthers st.slots m.0)
 
+-- it has the book, and knows the history that the book has
 abbrev pub seizing : View → List Entry → View
 seizing v front = as_combiner v front (combiner true v.combiner.opened 0)
 
@@ -133,15 +143,18 @@ pub record Seized (v : View) (slots : ℕ) (load : Load) : Type 0 where
   pub legal : IsLegal load.book.history
   pub longer : IsPrefix v.front load.book.history
 
+-- seize: where the lock word is free the load leaves its slot, else nothing changes
 abbrev pub seizes : Kind
 seizes st m found n = (found ≡ FREE → (load : Box Load) × (n ≡ (seizing m.0 load.value.book.history, (0, Home load) ∷ m.1)) × Seized m.0 st.slots load.value)
     × (found ≢ FREE → (n ≡ m) × HasOthers st.slots m.0)
 
 -- Release.
 
+-- it has the book no more
 abbrev pub releasing : View → View
 releasing v = as_combiner v v.front (combiner false v.combiner.opened 0)
 
+-- release: the load that goes home is the one in the slot
 abbrev pub releases : Kind
 releases st m found n = n ≡ (releasing m.0, rest m.1)
 
@@ -155,12 +168,15 @@ opened_in v j = slice_index_or v.combiner.opened j None
 abbrev pub HasEntered : View → ℕ → Type 0
 HasEntered v j = opened_in v j ≡ None → heard_of v j ≤ length (calls_of j v.front)
 
+-- the look tells it where no call is posted in the record
 abbrev pub looks_at : ℕ → Tells
 looks_at j m found n = (n ≡ m) × (found ≢ POSTED → HasEntered m.0 j)
 
+-- it is the record whose word was read
 abbrev pub looks_at_record : Kind
 looks_at_record st = looks_at (session_of_word st.word)
 
+-- record j is opened with this call, and its slot is in hand
 abbrev pub opening : View → ℕ → Call → View
 opening v j call = as_combiner v v.front (combiner true (slice_set v.combiner.opened j (Some call)) j)
 
@@ -169,33 +185,41 @@ pub record Opened (v : View) (j : ℕ) (call : Call) : Type 0 where
   pub call_is : opened_in (opening v j call) j ≡ Some call
   pub heard : heard_of v j ≤ length (calls_of j v.front) + 1
 
+-- open: where a call is posted in the record it leaves the slot, else nothing changes
 abbrev pub opens_record : ℕ → Tells
 opens_record j m found n = (found ≡ POSTED → (call : Call) × (n ≡ (opening m.0 j call, (j, Asked call) ∷ m.1)) × Opened m.0 j call)
     × (found ≢ POSTED → (n ≡ m) × HasEntered m.0 j)
 
+-- it is the record whose word was exchanged
 abbrev pub opens : Kind
 opens st = opens_record (session_of_word st.word)
 
 -- Lay the slot of an opened record down, and pick it up again.
 
+-- the slot of record j is in hand, or with 0 none
 abbrev pub in_hand : View → ℕ → View
 in_hand v j = as_combiner v v.front (combiner true v.combiner.opened j)
 
+-- lay: nothing is in hand
 abbrev pub lays : Kind
 lays st m found n = n ≡ (in_hand m.0 0, rest m.1)
 
+-- pick: the slot of record j is in hand, with nothing in it
 abbrev pub picks_slot : ℕ → Tells
 picks_slot j m found n = n ≡ (in_hand m.0 j, (j, Nothing) ∷ m.1)
 
+-- it is the record whose word was read
 abbrev pub picks : Kind
 picks st = picks_slot (session_of_word st.word)
 
 -- Answer the call of the record whose slot is in hand.
 
+-- the call that is there, of which no use is made where none is
 abbrev pub called : Option Call → Call
 called None = Poll
 called (Some call) = call
 
+-- the call of a record that is opened
 abbrev pub call_at : View → ℕ → Call
 call_at v j = called (opened_in v j)
 
@@ -204,16 +228,20 @@ abbrev pub replied : List (ℕ × Held) → Reply
 replied [] = Clear
 replied (x ∷ xs) = elim x.1 [ Nothing ↦ Clear | Asked call ↦ Clear | Replied place reply ↦ reply | Home load ↦ Clear ]
 
+-- the entry is the last that is known, and record j isn't opened any more
 abbrev pub answering : View → ℕ → Call → Reply → View
 answering v j call reply = as_combiner v (v.front ++ entry j call reply ∷ []) (combiner true (slice_set v.combiner.opened j None) 0)
 
+-- answer: the reply is the one in the slot
 abbrev pub answers : Kind
 answers st m found n = n ≡ (answering m.0 m.0.combiner.hand (call_at m.0 m.0.combiner.hand) (replied m.1), rest m.1)
 
 -- Put back the call of the record whose slot is in hand.
 
+-- record j isn't opened any more
 abbrev pub putting_back : View → ℕ → View
 putting_back v j = as_combiner v v.front (combiner true (slice_set v.combiner.opened j None) 0)
 
+-- put back: the history stays as it is
 abbrev pub puts_back : Kind
 puts_back st m found n = n ≡ (putting_back m.0 m.0.combiner.hand, rest m.1)

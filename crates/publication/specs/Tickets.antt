@@ -8,13 +8,15 @@ use Rattle.publication.specs.declared.view.View.{View}
 use Rattle.publication.specs.declared.slot.Held.{Held}
 use Rattle.publication.specs.declared.slot.Held.TheVariants.{Nothing}
 
+-- the slot of its record is with a session that has nothing pending
 abbrev pub own_slot : Bool → ℕ → List (ℕ × Held)
 own_slot is_pending number = cond is_pending [] ((number, Nothing) ∷ [])
 
+-- the slot of the lock is with the session that has the book, on top of the others
 abbrev pub book_slot : Bool → List (ℕ × Held) → List (ℕ × Held)
 book_slot has_book others = cond has_book ((0, Nothing) ∷ others) others
 
--- a seat whose session has this number, and has or hasn't the book, a call pending, retired; so many entries are known
+-- the seat of a ticket between two calls: its session has this number, knows so many entries, and has or hasn't the book, a call pending, retired
 pub record IsSettled (m : Seated) (number seen : ℕ) (has_book is_pending is_retired : Bool) : Type 0 where
   pub number_is : m.0.number ≡ number
   pub some_number : 0 < number
@@ -40,7 +42,7 @@ pub record IsBoard (id : TableId) : Type 0 where
   pub some : 0 < id.slots
   pub few : id.slots ≤ 65536
 
--- the place of a record
+-- the number of a session, as a place among the slots
 pub record IsAt (id : TableId) (at : ℕ) : Type 0 where
   pub some : 0 < at
   pub there : at < id.slots

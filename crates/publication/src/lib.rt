@@ -11,6 +11,8 @@ mod board;
 mod kinds;
 mod slot;
 mod steps;
+#[cfg(test)]
+mod tests;
 mod view;
 mod words;
 

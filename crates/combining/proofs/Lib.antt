@@ -1,0 +1,4 @@
+pub mod NewSessions
+pub mod Opened
+pub mod Heard
+pub mod Same

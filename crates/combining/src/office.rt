@@ -1,0 +1,150 @@
+//! The office and the calls of its sessions.
+
+ghost use Rattle.std.specs.Prelude.{◌≡◌, ◌≢◌, ◌<◌, ◌≤◌, ◌↔◌, false, Some, None, Err, IfOk, IfSome, IfNone, length, slice_set};
+ghost use Rattle.std.specs.List.{All};
+ghost use Rattle.lock_rules.specs.Legal.{calls_of};
+ghost use Rattle.publication.specs.Views.{asks};
+ghost use Rattle.publication.specs.Boards.{heard_from, published_by, new_tickets};
+ghost use Rattle.combining.specs.Sessions.{IsSessionOf, IsIdle, IsPendingServed, IsPassed, IsCollected};
+
+use crate::pass::serve_published;
+use lock_desk::{Book, Call, Reply};
+use lock_rules::MAX_SESSIONS;
+use publication::{Board, Posted, Ticket as Session};
+use std::alloc::Global;
+use std::marker::Model;
+use thiserror::Error;
+
+/// Why an office was not opened.
+#[derive(Clone, Copy, Debug, PartialEq, Eq, Error, Drop)]
+pub enum OpenFault {
+    /// No session was asked for.
+    #[error("no sessions")]
+    NoSessions = 1,
+    /// More than `MAX_SESSIONS` were asked for.
+    #[error("too many sessions")]
+    TooManySessions = 2,
+    /// Memory was refused.
+    #[error("out of memory")]
+    NoMemory = 3,
+}
+
+/// What one try to serve came to.
+#[derive(Clone, Copy, Debug, PartialEq, Eq)]
+pub enum Turn {
+    /// The lock table was with another session.
+    Elsewhere,
+    /// This session was the combiner.
+    Pass {
+        /// How many calls it served.
+        served: u32,
+        /// Whether memory was refused for a call. That call and those behind it in the pass stay published.
+        starved: bool,
+    },
+}
+
+/// The answer to a call that was published.
+#[derive(Clone, Copy, Debug, PartialEq, Eq)]
+pub struct Answer {
+    /// Where the call stands in the history, from 0 on.
+    pub place: u64,
+    /// What the session is told.
+    pub reply: Reply,
+}
+
+/// A lock table that threads share by reference, each with sessions of its own.
+///
+/// A session publishes a call, then tries to serve and to collect until the answer is there. All answers stand in one
+/// history, in which each reply is the one that the sequential lock manager of `lock_rules` gives at its place.
+#[derive(Drop)]
+pub struct Office {
+    board: Board,
+}
+
+impl Model for Office {
+    ghost use Rattle.publication.specs.Views.{Placed};
+
+    ghost Value = { Placed };
+
+    ghost use Rattle.combining.specs.declared.office.Office.TheInside.{Inside};
+
+    ghost view = { λ (office : Inside). office.board };
+}
+
+impl Office {
+    /// An office with an empty lock table, and its sessions 1 to `sessions` in order, all idle. No call takes memory but
+    /// this one and `serve`.
+    pub fn open(alloc: Global, sessions: u16) -> Result<(Office, Vec<Session>), OpenFault>
+        ensures none { (result ≡ Err OpenFault.NoSessions) ↔ (sessions ≡ 0) }
+        ensures many { (result ≡ Err OpenFault.TooManySessions) ↔ (MAX_SESSIONS < sessions) }
+        ensures office { IfOk result (λ made. made.0.sessions ≡ sessions) }
+        ensures sessions { IfOk result (λ made. made.1.items ≡ new_tickets made.0.id sessions sessions) }
+        ensures ready { IfOk result (λ made. All (λ session. IsSessionOf made.0 session × IsIdle session) made.1.items) }
+    {
+        if sessions == 0 {
+            return Err(OpenFault::NoSessions);
+        }
+        if sessions > MAX_SESSIONS {
+            return Err(OpenFault::TooManySessions);
+        }
+        let Ok(book) = Book::new(alloc, sessions) else {
+            return Err(OpenFault::NoMemory);
+        };
+        match Board::new(alloc, book) {
+            Ok((board, tickets)) => Ok((Office { board }, tickets)),
+            Err(_) => Err(OpenFault::NoMemory),
+        }
+    }
+
+    /// The session publishes a call, and is pending until it collects the answer.
+    pub fn publish(&self, session: &mut Session, call: Call) -> Posted
+        requires ours { IsSessionOf self.now session.old }
+        requires idle { IsIdle session.old }
+        ensures ours { IsSessionOf self.now session.new }
+        ensures session { session.new ≡ record session.old {
+          pending = Some (asks call (length session.old.front));
+          heard = slice_set session.old.heard session.old.number (published_by session.new);
+        } }
+        ensures heard { heard_from session.new session.new.number ≡ published_by session.new }
+    {
+        self.board.post(session, call)
+    }
+
+    /// One try to become the combiner, and a pass where it is won: all that is published is served, until memory is
+    /// refused for a call. Whether the session is pending is of no matter.
+    ///
+    /// Commits, aborts and releases are served before the other calls, each part by session number: what gives locks back
+    /// makes room for what asks for them (this project's choice).
+    pub fn serve(&self, session: &mut Session) -> Turn
+        requires ours { IsSessionOf self.now session.old }
+        ensures ours { IsSessionOf self.now session.new }
+        ensures elsewhere { result ≡ Turn.Elsewhere → (session.new ≡ session.old) × (1 < self.now.sessions) }
+        ensures pass { (served : _) (starved : _) → result ≡ Turn.Pass served starved → IsPassed session.old session.new served }
+        ensures own { (served : _) → result ≡ Turn.Pass served false → session.old.pending ≢ None → IsPendingServed session.new }
+        ensures heard { (served j : _) → result ≡ Turn.Pass served false → 0 < j → j ≤ self.now.sessions
+            → heard_from session.old j ≤ length (calls_of j session.new.front) }
+    {
+        let Some(mut load) = self.board.seize(session) else {
+            return Turn::Elsewhere;
+        };
+        let pass = serve_published(&self.board, session, &mut load);
+        self.board.release(session, load);
+        Turn::Pass {
+            served: pass.served,
+            starved: pass.starved,
+        }
+    }
+
+    /// Takes the answer to the call that the session published, once it is served: each answer once.
+    pub fn collect(&self, session: &mut Session) -> Option<Answer>
+        requires ours { IsSessionOf self.now session.old }
+        ensures ours { IsSessionOf self.now session.new }
+        ensures some { IfSome result (λ answer. IsCollected session.old session.new answer.place answer.reply) }
+        ensures idle { IfSome result (λ _. IsIdle session.new) }
+        ensures none { IfNone result (session.new ≡ session.old) }
+        ensures late { IfNone result (session.old.pending ≢ None → ¬ (IsPendingServed session.old)) }
+    {
+        let (place, reply) = self.board.take(session)?;
+        Some(Answer { place, reply })
+    }
+}
