@@ -27,11 +27,15 @@ stands-all s u (q ∷ ws) h = go (eqb q.session s) h (stands-all s u ws)
 
 -- a row that was emptied, and written
 
-pub written : (s a : ℕ) (old x : Bool) → 1 ≤ s → ((old && not (eqb a (s - 1))) || (eqb (a + 1) s && x)) ≡ cond (eqb (a + 1) s) x old
-written s a true true h = grind (arith, nat_tests)
-written s a true false h = grind (arith, nat_tests)
-written s a false true h = grind (arith, nat_tests)
-written s a false false h = grind (arith, nat_tests)
+at-position : (s a : ℕ) (old x : Bool) → 1 ≤ s → ((old && not (eqb a (s - 1))) || (eqb (a + 1) s && x)) ≡ cond (eqb (a + 1) s) x old
+at-position s a true true h = grind (arith, nat_tests)
+at-position s a true false h = grind (arith, nat_tests)
+at-position s a false true h = grind (arith, nat_tests)
+at-position s a false false h = grind (arith, nat_tests)
+
+-- at the session's position, and nowhere else
+pub written : (s p a : ℕ) (old x : Bool) → 1 ≤ s → p ≡ s - 1 → ((old && not (eqb a p)) || (eqb (a + 1) s && x)) ≡ cond (eqb (a + 1) s) x old
+written s p a old x h e = ap (λ (i : ℕ). (old && not (eqb a i)) || (eqb (a + 1) s && x)) e ∙ at-position s a old x h
 
 -- where the session waits
 pub blocks-there : (cs : Cells) (ss : List Standing) (s u : ℕ) (r : List ℕ) → (standing_at s ss).wanted ≡ Some r → blocks cs ss s u ≡ view_blocks s u (cell_view r cs)

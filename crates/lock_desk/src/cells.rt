@@ -8,6 +8,7 @@ ghost use Rattle.lock_desk.specs.declared.cells.SessionMode.{SessionMode as Sess
 ghost use Rattle.lock_desk.specs.Cells.{View, view_of, has_session, mode_of, pair_of, with_holder, view_after_giving_up, fits_among, next_grant, view_after_next_grant, can_grant, is_granted, behind_conversions, queue_with, view_after_asking, HasRoom, IsKeptCell, AreKeptCells, is_busy, cell_at, cell_view, CellsBecame, ViewBecame};
 ghost use Rattle.lock_desk.specs.Finding.{holder_blocks, stands_first, cell_blocks, AreOfSessions};
 
+use crate::positions::position_of;
 use indexmap::IndexMap;
 use lock_modes::Mode;
 use lock_tree::{Resource, same_path_is_equality};
@@ -137,7 +138,7 @@ fn write_holders(rows: &mut Rows, holders: &[SessionMode], session: u16, target:
 {
     for holder in holders {
         if holder.session != session && !Mode::compatible(target, holder.mode) {
-            rows.set(session as usize - 1, holder.session as usize - 1);
+            rows.set(position_of(session), position_of(holder.session));
         }
     }
 }
@@ -155,7 +156,7 @@ fn write_queue(rows: &mut Rows, waiting: &[SessionMode], session: u16)
         if request.session == session {
             return;
         }
-        rows.set(session as usize - 1, request.session as usize - 1);
+        rows.set(position_of(session), position_of(request.session));
     }
 }
 

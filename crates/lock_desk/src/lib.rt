@@ -11,6 +11,7 @@ mod book;
 mod cells;
 mod desk;
 mod lockers;
+mod positions;
 mod refusals;
 mod releases;
 #[cfg(test)]

@@ -10,6 +10,7 @@ ghost use Rattle.lock_desk.specs.Finding.{holder_blocks, stands_first, cell_bloc
 
 use crate::cells::{Cell, cell_of};
 use crate::lockers::Locker;
+use crate::positions::{position_of, session_at};
 use indexmap::IndexMap;
 use lock_tree::Resource;
 use std::alloc::{AllocError, Global};
@@ -45,17 +46,17 @@ pub(crate) fn new_waits(alloc: Global, sessions: u16) -> Result<Waits, AllocErro
 }
 
 /// The row of the session at this position is emptied, if it was filled.
-fn clear(waits: &mut Waits, place: usize)
-    requires within { place < waits.old.rows.sessions }
+fn clear(waits: &mut Waits, position: usize)
+    requires within { position < waits.old.rows.sessions }
     requires ready { IsReady waits.old.rows.sessions waits.old }
     ensures sessions { waits.new.rows.sessions ≡ waits.old.rows.sessions }
     ensures ready { IsReady waits.old.rows.sessions waits.new }
-    ensures pairs { (a b : ℕ) → pairs_of waits.new.rows a b ≡ (pairs_of waits.old.rows a b && not (a == place)) }
+    ensures pairs { (a b : ℕ) → pairs_of waits.new.rows a b ≡ (pairs_of waits.old.rows a b && not (a == position)) }
     ensures numbers { waits.new.numbers ≡ waits.old.numbers }
 {
-    if waits.filled[place] {
-        waits.rows.clear_row(place);
-        waits.filled[place] = false;
+    if waits.filled[position] {
+        waits.rows.clear_row(position);
+        waits.filled[position] = false;
     }
 }
 
@@ -79,13 +80,13 @@ fn fill_session(
         ≡ (if a + 1 == session then number_in (standing_at session standings).transaction
         else slice_index_or waits.old.numbers.items a 0) }
 {
-    let place = session as usize - 1;
-    clear(waits, place);
+    let position = position_of(session);
+    clear(waits, position);
     let locker = &lockers[session as usize];
-    waits.numbers[place] = locker.number();
+    waits.numbers[position] = locker.number();
     if let Some(resource) = locker.resource_wanted() {
         if let Some(cell) = cell_of(cells, resource) {
-            waits.filled[place] = true;
+            waits.filled[position] = true;
             cell.write_waits(&mut waits.rows, session);
         }
     }
@@ -116,8 +117,8 @@ pub(crate) fn victim(waits: &mut Waits, session: u16) -> Option<u16>
         × IsYoungestOnCircle (pairs_of waits.old.rows) waits.old.numbers.items (session - 1) (v - 1)) }
     ensures same { waits.new ≡ waits.old }
 {
-    let place = waits
+    let position = waits
         .rows
-        .youngest_on_circle(session as usize - 1, &waits.numbers)?;
-    Some(place as u16 + 1)
+        .youngest_on_circle(position_of(session), &waits.numbers)?;
+    Some(session_at(position))
 }

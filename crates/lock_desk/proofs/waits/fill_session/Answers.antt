@@ -1,4 +1,4 @@
-use Rattle.std.proofs.Common.{◌≡◌, ◌+◌, ◌-◌, Bool, true, false, ◌&&◌, ◌||◌, not, cond, eqb, Some, refl, map, ap, sym, ◌∙◌, subst}
+use Rattle.std.proofs.Common.{◌≡◌, ◌+◌, Bool, true, false, ◌&&◌, ◌||◌, not, cond, eqb, Some, refl, map, ap, sym, ◌∙◌, subst}
 use Rattle.waits_for.specs.Pairs.{pairs_of}
 use Rattle.lock_desk.specs.Cells.{View, view_in, cell_view}
 use Rattle.lock_desk.specs.Lockers.{Standing, standing_of, standing_at}
@@ -20,6 +20,7 @@ write_waits-requires-clause-waiting c =
 pub returns-in-Some-cell_of-clause-pairs : goal.returns-in-Some-cell_of-clause-pairs
 returns-in-Some-cell_of-clause-pairs c = λ a b.
     let s = c.args.session in
+    let p = c.position_of-position.result in
     let r = c.in-Some.resource in
     let locker = c.index-lockers-session.result in
     let there : (standing_at s (map standing_of c.args.lockers.now)).wanted ≡ Some r =
@@ -27,21 +28,22 @@ returns-in-Some-cell_of-clause-pairs c = λ a b.
     let same : view_blocks s (b + 1) (cell_view r c.args.cells.now.entries) ≡ blocks c.args.cells.now.entries (map standing_of c.args.lockers.now) s (b + 1) = sym (blocks-there c.args.cells.now.entries (map standing_of c.args.lockers.now) s (b + 1) r there) in
     c.write_waits.ensures.pairs a b
     ∙ (ap (λ (x : Bool). x || (eqb (a + 1) s && view_blocks s (b + 1) (record { holders = c.in-Some-cell_of.cell.now.holders.items; waiting = c.in-Some-cell_of.cell.now.waiting.items }))) (c.clear.ensures.pairs a b)
-    ∙ (ap (λ (v : View). (pairs_of c.args.waits.now.rows a b && not (eqb a (s - 1))) || (eqb (a + 1) s && view_blocks s (b + 1) v)) (ap view_in c.in-Some-cell_of.ensures)
-    ∙ (written s a (pairs_of c.args.waits.now.rows a b) (view_blocks s (b + 1) (cell_view r c.args.cells.now.entries)) c.requires.some
+    ∙ (ap (λ (v : View). (pairs_of c.args.waits.now.rows a b && not (eqb a p)) || (eqb (a + 1) s && view_blocks s (b + 1) v)) (ap view_in c.in-Some-cell_of.ensures)
+    ∙ (written s p a (pairs_of c.args.waits.now.rows a b) (view_blocks s (b + 1) (cell_view r c.args.cells.now.entries)) c.requires.some c.position_of-position.ensures
     ∙ ap (λ (x : Bool). cond (eqb (a + 1) s) x (pairs_of c.args.waits.now.rows a b)) same)))
 
 pub returns-in_default-cell_of-clause-pairs : goal.returns-in_default-cell_of-clause-pairs
 returns-in_default-cell_of-clause-pairs c = λ a b.
     let s = c.args.session in
+    let p = c.position_of-position.result in
     let r = c.in-Some.resource in
     let locker = c.index-lockers-session.result in
     let there : (standing_at s (map standing_of c.args.lockers.now)).wanted ≡ Some r =
     ap (λ (x : Standing). x.wanted) (standing-here c.args.lockers.now s locker c.requires.within c.index-lockers-session.is) ∙ sym c.in-Some.ensures in
     let none = blocks-nowhere c.args.cells.now.entries (map standing_of c.args.lockers.now) s (b + 1) r there c.in_default-cell_of.ensures in
     c.clear.ensures.pairs a b
-    ∙ (sym (or-none (pairs_of c.args.waits.now.rows a b && not (eqb a (s - 1))) (eqb (a + 1) s))
-    ∙ (written s a (pairs_of c.args.waits.now.rows a b) false c.requires.some
+    ∙ (sym (or-none (pairs_of c.args.waits.now.rows a b && not (eqb a p)) (eqb (a + 1) s))
+    ∙ (written s p a (pairs_of c.args.waits.now.rows a b) false c.requires.some c.position_of-position.ensures
     ∙ ap (λ (x : Bool). cond (eqb (a + 1) s) x (pairs_of c.args.waits.now.rows a b)) (sym none)))
   where
     or-none : (a b : Bool) → (a || (b && false)) ≡ a
