@@ -45,8 +45,8 @@ pub enum RequestStatus {
 /// promotion takes no memory.
 #[derive(Drop)]
 pub struct Cell {
-    pub holders: Vec<SessionMode>,
-    pub waiting: Vec<SessionMode>,
+    holders: Vec<SessionMode>,
+    waiting: Vec<SessionMode>,
 }
 
 pub(crate) fn is_same(a: Resource, b: Resource) -> bool

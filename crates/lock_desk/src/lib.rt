@@ -1,9 +1,12 @@
 //! The lock table: transactions lock, convert and release resources of the tree, wait, poll, commit and abort,
 //! deadlocks end with their victims, and each call is in the history with its reply.
 //!
-//! Three layers, each of which knows only the contracts of the one below: the cells, by resource, and the lockers, by
-//! session, with who waits for whom; the desk, which does what each call does to all of them; and the book, which is
-//! the desk with its history, and what callers see.
+//! Three layers, each of which knows only the contracts of the one below:
+//!
+//! 1. the cells, by resource (`cells.rt`), and the lockers, by session (`lockers.rt`), each with methods that alone read
+//!    its fields; what is promoted in both (`releases.rt`); who waits for whom (`waits.rt`, `positions.rt`);
+//! 2. the desk, which does what each call does to all of them (`desk.rt`) once its tests are passed (`refusals.rt`);
+//! 3. the book, which is the desk with its history, and what callers see (`book.rt`, `batch.rt`).
 #![tactic(auto)]
 
 mod batch;

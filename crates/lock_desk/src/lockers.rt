@@ -24,9 +24,9 @@ pub enum Request {
 /// The list of what it holds has room for a lock that it waits for.
 #[derive(Drop)]
 pub struct Locker {
-    pub transaction: Option<Transaction>,
-    pub held: Vec<Resource>,
-    pub wanted: Option<Request>,
+    transaction: Option<Transaction>,
+    held: Vec<Resource>,
+    wanted: Option<Request>,
 }
 
 fn resource_of(request: Request) -> Resource

@@ -20,9 +20,9 @@ use waits_for::{MAX_SESSIONS, Rows};
 /// position 0. A row of a session that is not marked as filled is empty.
 #[derive(Drop)]
 pub struct Waits {
-    pub rows: Rows,
-    pub numbers: Vec<u64>,
-    pub filled: Vec<bool>,
+    rows: Rows,
+    numbers: Vec<u64>,
+    filled: Vec<bool>,
 }
 
 /// Room for so many sessions.
