@@ -2,59 +2,59 @@
 -- lists of sessions, each with its mode: the holders and the queue of one resource
 pub mod SessionModes
 -- one resource: a grant, a request, a release
-pub mod Grants
+pub mod ResourceViews
 -- the table of cells after a change of one of them
-pub mod Seen
+pub mod CellTable
 -- a lock or a request is given up in its cell
-pub mod GivenBack
+pub mod CellGivesUp
 -- the lockers
 -- a grant in the lockers; lists of resources
-pub mod Standings
+pub mod LockerStandings
 -- the locker of a session whose request is granted
-pub mod Admits
+pub mod LockerGrant
 -- one grant of a promotion, in cell and locker
 pub mod Promotions
 -- the desk: cells and lockers agree after each act
 -- how lockers and cells agree after a change
-pub mod Wholes
+pub mod Agreement
 -- a session asks
-pub mod Asks
+pub mod Asking
 -- a session gives up a lock or its request
-pub mod Frees
+pub mod GivingUp
 -- a session gives back all its locks
-pub mod Backs
+pub mod GivingAllBack
 -- a transaction begins, is cancelled, is doomed, ends
-pub mod Ends
+pub mod BeginAndEnd
 -- from one clause of a result to another
 pub mod Results
 -- the desk shows the state of the rules
 -- a table seen resource by resource: grants and promotions
-pub mod Tables
+pub mod TableViews
 -- whether a session holds a resource below another
-pub mod Below
+pub mod Children
 -- how many locks a session holds, and whether it waits
-pub mod Counts
+pub mod LockCounts
 -- a session leaves one resource
-pub mod Leaves
+pub mod LeavingAResource
 -- what is seen after a release
-pub mod Less
+pub mod AfterRelease
 -- what is seen after a request, and after an end
-pub mod Steps
+pub mod AfterStep
 -- tests and acts of the desk are those of the state
-pub mod Shown
+pub mod Simulation
 -- deadlocks
 -- what is written down of one session
-pub mod Fills
+pub mod WritingWaits
 -- whoever holds or waits has a locker
-pub mod Numbered
+pub mod SessionsInRange
 -- the pairs that are written down are the waits of the state
-pub mod Finds
+pub mod WaitsOfTheState
 -- the victim that is found is the victim of the state
-pub mod Rounds
+pub mod VictimRounds
 -- no more requests wait than there are sessions
-pub mod Few
+pub mod FewRequests
 -- the book
 -- what a book keeps
-pub mod Books
+pub mod BookInvariant
 -- a batch, one item further
 pub mod Batches

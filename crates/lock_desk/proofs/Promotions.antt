@@ -4,8 +4,8 @@ use Rattle.lock_desk.specs.declared.cells.SessionMode.{SessionMode}
 use Rattle.lock_desk.specs.declared.lockers.Locker.{Locker}
 use Rattle.lock_desk.specs.Cells.{View, IsOnce}
 use Rattle.lock_desk.specs.Lockers.{Standing, wanted_in, standing_of, standing_at, is_wanted, standing_after_grant, AreSameOrGranted, DoAgree}
-use Rattle.lock_desk.proofs.Grants.{IsNext, next-waits}
-use Rattle.lock_desk.proofs.Standings.{standing-here, standings-set, length-standings, waits-within, agree-next, same-next}
+use Rattle.lock_desk.proofs.ResourceViews.{IsNext, next-waits}
+use Rattle.lock_desk.proofs.LockerStandings.{standing-here, standings-set, length-standings, waits-within, agree-next, same-next}
 
 module _ (r : List ℕ) (v w : View) (c : SessionMode) (lockers : List Locker) (n : IsNext v c w) (agree : DoAgree r v (map standing_of lockers)) where
   -- the session waits for the resource

@@ -3,7 +3,7 @@ use Rattle.lock_desk.specs.declared.cells.RequestStatus.{RequestStatus}
 use Rattle.lock_desk.specs.declared.cells.Cell.{Cell}
 use Rattle.lock_desk.specs.Cells.{View, view_of, Cells, view_in, cell_view, has_session, view_after_asking, can_grant, is_granted, CellsBecame}
 use Rattle.lock_desk.proofs.Results.{on-ok, on-err, on-err-from}
-use Rattle.lock_desk.proofs.Seen.{found, written, kept-at, became-same, became-view}
+use Rattle.lock_desk.proofs.CellTable.{found, written, kept-at, became-same, became-view}
 use Rattle.lock_desk.proofs.cells.ask.Goals as goal
 
 pub ask-requires-clause-kept : goal.ask-requires-clause-kept

@@ -2,8 +2,8 @@ use Rattle.std.proofs.Common.{◌≡◌, ◌≤◌, ◌∙◌, ap, arith, ◌++�
 use Rattle.lock_desk.specs.declared.cells.SessionMode.{SessionMode}
 use Rattle.lock_desk.specs.declared.cells.Cell.{Cell}
 use Rattle.lock_desk.specs.Cells.{view_of, no_view}
-use Rattle.lock_desk.proofs.Grants.{kept-view, once-put, once-nobody, busy-put}
-use Rattle.lock_desk.proofs.Seen.{became, became-view}
+use Rattle.lock_desk.proofs.ResourceViews.{kept-view, once-put, once-nobody, busy-put}
+use Rattle.lock_desk.proofs.CellTable.{became, became-view}
 use Rattle.lock_desk.proofs.cells.open.Goals as goal
 
 pub returns-clause-ok : goal.returns-clause-ok

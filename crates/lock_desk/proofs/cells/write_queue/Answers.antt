@@ -2,7 +2,7 @@ use Rattle.std.proofs.Common.{◌≡◌, ◌+◌, ◌∙◌, ap, sym, Bool, fals
 use Rattle.std.proofs.lemmas.List.{take_all}
 use Rattle.waits_for.specs.Pairs.{pairs_of}
 use Rattle.lock_desk.specs.Cells.{has_session}
-use Rattle.lock_desk.proofs.Fills.{stands-until, stands-all}
+use Rattle.lock_desk.proofs.WritingWaits.{stands-until, stands-all}
 use Rattle.lock_desk.proofs.cells.write_queue.Goals as goal
 
 pub returns-then-request-session-clause-pairs : goal.returns-then-request-session-clause-pairs

@@ -2,8 +2,8 @@ use Rattle.std.proofs.Common.{◌∙◌, sym, subst, refl, IsSome}
 use Rattle.std.proofs.lemmas.Bool.{not-true, not-false}
 use Rattle.lock_desk.specs.Cells.{View, view_of, is_busy}
 use Rattle.lock_desk.specs.Lockers.{standings_of, DoAgree}
-use Rattle.lock_desk.proofs.Seen.{found, kept-at}
-use Rattle.lock_desk.proofs.GivenBack.{free-absent, agree-absent, view-left, once-there, free-kept, free-idle, agree-there}
+use Rattle.lock_desk.proofs.CellTable.{found, kept-at}
+use Rattle.lock_desk.proofs.CellGivesUp.{free-absent, agree-absent, view-left, once-there, free-kept, free-idle, agree-there}
 use Rattle.lock_desk.proofs.releases.free.Goals as goal
 
 pub returns-in_default-clause-cells : goal.returns-in_default-clause-cells

@@ -2,7 +2,7 @@ use Rattle.std.proofs.Common.{◌∙◌, arith, sym, refl, subst}
 use Rattle.std.proofs.lemmas.List.Elements.{All-get_or, All-set}
 use Rattle.lock_desk.specs.Cells.{view_of}
 use Rattle.lock_desk.specs.Lockers.{IsKeptLocker}
-use Rattle.lock_desk.proofs.Grants.{next-cell, promoted-next, once-next}
+use Rattle.lock_desk.proofs.ResourceViews.{next-cell, promoted-next, once-next}
 use Rattle.lock_desk.proofs.Promotions.{grant-within, grant-waits_locker, grant-agree, grant-same}
 use Rattle.lock_desk.proofs.releases.promote.Goals as goal
 

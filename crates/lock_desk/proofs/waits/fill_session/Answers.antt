@@ -3,8 +3,8 @@ use Rattle.waits_for.specs.Pairs.{pairs_of}
 use Rattle.lock_desk.specs.Cells.{View, view_in, cell_view}
 use Rattle.lock_desk.specs.Lockers.{Standing, standing_of, standing_at}
 use Rattle.lock_desk.specs.Finding.{AreOfSessions, view_blocks, blocks}
-use Rattle.lock_desk.proofs.Standings.{standing-here}
-use Rattle.lock_desk.proofs.Fills.{written, blocks-there, blocks-nowhere}
+use Rattle.lock_desk.proofs.LockerStandings.{standing-here}
+use Rattle.lock_desk.proofs.WritingWaits.{written, blocks-there, blocks-nowhere}
 use Rattle.lock_desk.proofs.waits.fill_session.Goals as goal
 
 pub write_waits-requires-clause-holders : goal.write_waits-requires-clause-holders

@@ -3,7 +3,7 @@ use Rattle.lock_rules.specs.State.{holders}
 use Rattle.lock_rules.specs.Legal.{state_of}
 use Rattle.lock_desk.specs.Kept.{Told}
 use Rattle.lock_desk.proofs.Results.{to-ok}
-use Rattle.lock_desk.proofs.Shown.{holders-shown}
+use Rattle.lock_desk.proofs.Simulation.{holders-shown}
 use Rattle.lock_desk.proofs.book.Book.holders.Goals as goal
 
 pub returns-clause-ok : goal.returns-clause-ok

@@ -5,7 +5,7 @@ use Rattle.lock_rules.specs.Legal.{state_of}
 use Rattle.lock_rules.proofs.Steps.{state-lawful}
 use Rattle.lock_rules.proofs.Owners.{state-numbered}
 use Rattle.lock_desk.specs.Kept.{Told}
-use Rattle.lock_desk.proofs.Books.{kept-more, kept-same, bound}
+use Rattle.lock_desk.proofs.BookInvariant.{kept-more, kept-same, bound}
 use Rattle.lock_desk.proofs.book.Book.serve.Goals as goal
 
 pub invariant_of-self-in_err-reply : goal.invariant_of-self-in_err-reply

@@ -1,6 +1,6 @@
 use Rattle.std.proofs.Common.{◌∙◌, ap, arith}
 use Rattle.lock_desk.specs.Cells.{view_of, with_holder, queue_with}
-use Rattle.lock_desk.proofs.Grants.{kept-view, once-put, once-queued, busy-put, busy-queued}
+use Rattle.lock_desk.proofs.ResourceViews.{kept-view, once-put, once-queued, busy-put, busy-queued}
 use Rattle.lock_desk.proofs.cells.Cell.ask.Goals as goal
 
 pub returns-in_ok-reserve-2-clause-kept : goal.returns-in_ok-reserve-2-clause-kept

@@ -1,5 +1,5 @@
-use Rattle.lock_desk.proofs.Wholes.{keeps-on}
-use Rattle.lock_desk.proofs.Ends.{ended-after}
+use Rattle.lock_desk.proofs.Agreement.{keeps-on}
+use Rattle.lock_desk.proofs.BeginAndEnd.{ended-after}
 use Rattle.lock_desk.proofs.desk.Desk.abort.Goals as goal
 
 pub returns-clause-ended : goal.returns-clause-ended

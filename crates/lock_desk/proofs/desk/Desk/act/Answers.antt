@@ -1,6 +1,6 @@
 use Rattle.std.proofs.Common.{◌+◌, cond, inl, inr, refl, ◌∙◌, ap}
 use Rattle.lock_rules.specs.declared.calls.Reply.TheVariants.{Began, Waiting, Deadlock, Clear, Committed, Aborted}
-use Rattle.lock_desk.proofs.Shown.{begun-shown, waits-shown, doom-shown, lock-may, convert-may, release-can, released-shown, ended-shown, locks-shown}
+use Rattle.lock_desk.proofs.Simulation.{begun-shown, waits-shown, doom-shown, lock-may, convert-may, release-can, released-shown, ended-shown, locks-shown}
 use Rattle.lock_desk.proofs.desk.Desk.act.Goals as goal
 
 pub returns-in-Begin-clause-act : goal.returns-in-Begin-clause-act

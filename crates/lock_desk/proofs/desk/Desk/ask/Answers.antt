@@ -3,9 +3,9 @@ use Rattle.std.proofs.lemmas.Bool.{cases_Bool}
 use Rattle.lock_rules.specs.Step.{target_of, is_held}
 use Rattle.lock_desk.specs.Cells.{is_granted}
 use Rattle.lock_desk.specs.Changes.{mode_held, HasAsked}
-use Rattle.lock_desk.proofs.Steps.{first_state}
-use Rattle.lock_desk.proofs.Shown.{granted-answer, waits-shown_first, waits-sound, waits-numbered, waits-answer}
-use Rattle.lock_desk.proofs.Few.{few-waits}
+use Rattle.lock_desk.proofs.AfterStep.{first_state}
+use Rattle.lock_desk.proofs.Simulation.{granted-answer, waits-shown_first, waits-sound, waits-numbered, waits-answer}
+use Rattle.lock_desk.proofs.FewRequests.{few-waits}
 use Rattle.lock_desk.proofs.desk.Desk.ask.Goals as goal
 
 pub returns-in-Granted-clause-ask : goal.returns-in-Granted-clause-ask

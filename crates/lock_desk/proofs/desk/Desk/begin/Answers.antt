@@ -1,8 +1,8 @@
 use Rattle.std.proofs.Common.{rules, refl, Some, false, ◌+◌, ap}
 use Rattle.lock_desk.specs.declared.lockers.Locker.{Locker}
 use Rattle.lock_desk.specs.Lockers.{standing_of}
-use Rattle.lock_desk.proofs.Asks.{within}
-use Rattle.lock_desk.proofs.Ends.{told-whole, has-begun}
+use Rattle.lock_desk.proofs.Asking.{within}
+use Rattle.lock_desk.proofs.BeginAndEnd.{told-whole, has-begun}
 use Rattle.lock_desk.proofs.desk.Desk.begin.Goals as goal
 
 pub returns-clause-begun : goal.returns-clause-begun

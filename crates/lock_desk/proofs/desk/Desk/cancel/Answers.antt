@@ -2,10 +2,10 @@ use Rattle.std.proofs.Common.{rules, ◌≡◌, refl, sym, ◌∙◌, ap, set}
 use Rattle.std.proofs.lemmas.List.{set-get_or}
 use Rattle.lock_desk.specs.declared.lockers.Locker.{Locker}
 use Rattle.lock_desk.specs.Lockers.{Standing}
-use Rattle.lock_desk.proofs.Standings.{standing-here}
-use Rattle.lock_desk.proofs.Asks.{within}
-use Rattle.lock_desk.proofs.Backs.{none-in}
-use Rattle.lock_desk.proofs.Ends.{cancel-agree, cancel-lockers, has-cancelled, cancel-whole, same-cancelled, same-whole}
+use Rattle.lock_desk.proofs.LockerStandings.{standing-here}
+use Rattle.lock_desk.proofs.Asking.{within}
+use Rattle.lock_desk.proofs.GivingAllBack.{none-in}
+use Rattle.lock_desk.proofs.BeginAndEnd.{cancel-agree, cancel-lockers, has-cancelled, cancel-whole, same-cancelled, same-whole}
 use Rattle.lock_desk.proofs.desk.Desk.cancel.Goals as goal
 
 pub free-requires-clause-agree : goal.free-requires-clause-agree

@@ -4,8 +4,8 @@ use Rattle.std.proofs.lemmas.List.Elements.{All-set}
 use Rattle.lock_desk.specs.Lockers.{Standing, standing_of, standing_after_asking, IsKeptLocker}
 use Rattle.lock_desk.specs.Changes.{standing, standings}
 use Rattle.lock_desk.proofs.Results.{on-err-from}
-use Rattle.lock_desk.proofs.Standings.{standing-here}
-use Rattle.lock_desk.proofs.Asks.{within, idle-there, held-locker, there-same, there-whole, once-own, never-own, has-asked, asked-whole}
+use Rattle.lock_desk.proofs.LockerStandings.{standing-here}
+use Rattle.lock_desk.proofs.Asking.{within, idle-there, held-locker, there-same, there-whole, once-own, never-own, has-asked, asked-whole}
 use Rattle.lock_desk.proofs.desk.Desk.convert.Goals as goal
 
 pub ask-requires-clause-idle : goal.ask-requires-clause-idle

@@ -4,7 +4,7 @@ use Rattle.lock_desk.specs.declared.lockers.Locker.{Locker}
 use Rattle.lock_desk.specs.declared.desk.Desk.{Desk}
 use Rattle.lock_rules.specs.Waits.{doom}
 use Rattle.lock_desk.specs.Lockers.{standing_of}
-use Rattle.lock_desk.proofs.Ends.{told-whole, transaction-each, has-doomed, doomed-each}
+use Rattle.lock_desk.proofs.BeginAndEnd.{told-whole, transaction-each, has-doomed, doomed-each}
 use Rattle.lock_desk.proofs.desk.Desk.doom.Goals as goal
 
 pub returns-clause-doomed : goal.returns-clause-doomed

@@ -3,7 +3,7 @@ use Rattle.std.specs.Vec.{with_item}
 use Rattle.lock_desk.specs.declared.lockers.Locker.{Locker}
 use Rattle.lock_desk.specs.declared.desk.Desk.{Desk}
 use Rattle.lock_desk.specs.Lockers.{standing_of}
-use Rattle.lock_desk.proofs.Ends.{few-at, told-whole, transaction-each, has-ended}
+use Rattle.lock_desk.proofs.BeginAndEnd.{few-at, told-whole, transaction-each, has-ended}
 use Rattle.lock_desk.proofs.desk.Desk.end.Goals as goal
 
 pub returns-clause-few : goal.returns-clause-few

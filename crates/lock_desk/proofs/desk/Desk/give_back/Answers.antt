@@ -1,6 +1,6 @@
 use Rattle.std.proofs.Common.{rules, refl}
-use Rattle.lock_desk.proofs.Asks.{within}
-use Rattle.lock_desk.proofs.Backs.{back-agree, back-lockers, back-gives, back-whole}
+use Rattle.lock_desk.proofs.Asking.{within}
+use Rattle.lock_desk.proofs.GivingAllBack.{back-agree, back-lockers, back-gives, back-whole}
 use Rattle.lock_desk.proofs.desk.Desk.give_back.Goals as goal
 
 pub free-requires-clause-agree : goal.free-requires-clause-agree

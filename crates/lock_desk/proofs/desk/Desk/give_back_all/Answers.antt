@@ -1,10 +1,10 @@
 use Rattle.std.proofs.Common.{refl, ap, arith, length, length-append, [], ◌∷◌}
 use Rattle.lock_desk.specs.Lockers.{Standing}
 use Rattle.lock_desk.specs.Changes.{standing}
-use Rattle.lock_desk.proofs.Standings.{standing-here}
-use Rattle.lock_desk.proofs.Asks.{within}
-use Rattle.lock_desk.proofs.Backs.{back-none, back-more}
-use Rattle.lock_desk.proofs.Wholes.{keeps-on}
+use Rattle.lock_desk.proofs.LockerStandings.{standing-here}
+use Rattle.lock_desk.proofs.Asking.{within}
+use Rattle.lock_desk.proofs.GivingAllBack.{back-none, back-more}
+use Rattle.lock_desk.proofs.Agreement.{keeps-on}
 use Rattle.lock_desk.proofs.desk.Desk.give_back_all.Goals as goal
 
 pub loop-lock-init : goal.loop-lock-init

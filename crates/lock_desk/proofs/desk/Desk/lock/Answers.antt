@@ -2,8 +2,8 @@ use Rattle.std.proofs.Common.{ap, rules, ◌≡◌, refl, sym, ◌∙◌, subst,
 use Rattle.lock_desk.specs.Cells.{is_granted}
 use Rattle.lock_desk.specs.Lockers.{standing_of, standing_after_asking}
 use Rattle.lock_desk.proofs.Results.{on-err-from}
-use Rattle.lock_desk.proofs.Seen.{became-same}
-use Rattle.lock_desk.proofs.Asks.{within, idle-there, held-locker, mid-held, room-same, room-whole, twice-own, twice-kept, has-asked, asked-whole}
+use Rattle.lock_desk.proofs.CellTable.{became-same}
+use Rattle.lock_desk.proofs.Asking.{within, idle-there, held-locker, mid-held, room-same, room-whole, twice-own, twice-kept, has-asked, asked-whole}
 use Rattle.lock_desk.proofs.desk.Desk.lock.Goals as goal
 
 pub returns-in_err-make_room-clause-err : goal.returns-in_err-make_room-clause-err

@@ -1,7 +1,7 @@
 use Rattle.std.proofs.Common.{arith}
 use Rattle.std.proofs.lemmas.List.Elements.{All-push}
 use Rattle.lock_desk.specs.Lockers.{IsKeptLocker}
-use Rattle.lock_desk.proofs.Books.{none-push}
+use Rattle.lock_desk.proofs.BookInvariant.{none-push}
 use Rattle.lock_desk.proofs.desk.Desk.new.Goals as goal
 
 pub loop-locker-preserved : goal.loop-locker-preserved

@@ -1,8 +1,8 @@
 use Rattle.std.proofs.Common.{rules, refl, ap, sym, ◌∙◌}
 use Rattle.lock_desk.specs.Lockers.{Standing}
-use Rattle.lock_desk.proofs.Standings.{standing-here}
-use Rattle.lock_desk.proofs.Asks.{within}
-use Rattle.lock_desk.proofs.Frees.{gives-lock, freed-agree, has-freed, freed-whole}
+use Rattle.lock_desk.proofs.LockerStandings.{standing-here}
+use Rattle.lock_desk.proofs.Asking.{within}
+use Rattle.lock_desk.proofs.GivingUp.{gives-lock, freed-agree, has-freed, freed-whole}
 use Rattle.lock_desk.proofs.desk.Desk.release.Goals as goal
 
 pub free-requires-clause-agree : goal.free-requires-clause-agree

@@ -5,7 +5,7 @@ use Rattle.lock_rules.specs.declared.calls.Reply.TheVariants.{Refused}
 use Rattle.lock_rules.specs.Step.{first_failing, outcome_of}
 use Rattle.lock_desk.specs.Shows.{Shows}
 use Rattle.lock_desk.proofs.Results.{on-err}
-use Rattle.lock_desk.proofs.Shown.{tests-shown, same-shown}
+use Rattle.lock_desk.proofs.Simulation.{tests-shown, same-shown}
 use Rattle.lock_desk.proofs.desk.Desk.serve.Goals as goal
 
 pub returns-in-Some-clause-step : goal.returns-in-Some-clause-step

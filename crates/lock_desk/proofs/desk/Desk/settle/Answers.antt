@@ -1,8 +1,8 @@
 use Rattle.std.proofs.Common.{◌+◌, vec_len, ap, sym, ◌∙◌, arith, subst}
 use Rattle.lock_desk.specs.declared.waits.Waits.{Waits}
 use Rattle.lock_desk.specs.Finding.{IsReady}
-use Rattle.lock_desk.proofs.Numbered.{numbered-whole}
-use Rattle.lock_desk.proofs.Rounds.{rewaited, none-found, found, next-round, last-round}
+use Rattle.lock_desk.proofs.SessionsInRange.{numbered-whole}
+use Rattle.lock_desk.proofs.VictimRounds.{rewaited, none-found, found, next-round, last-round}
 use Rattle.lock_desk.proofs.desk.Desk.settle.Goals as goal
 
 pub fill-requires-clause-numbered : goal.fill-requires-clause-numbered

@@ -4,7 +4,7 @@ use Rattle.lock_rules.specs.Sound.{IsNumbered, IsSound}
 use Rattle.lock_desk.specs.Changes.{IsWhole}
 use Rattle.lock_desk.specs.Ready.{IsReadyDesk}
 use Rattle.lock_desk.specs.Shows.{Shows}
-use Rattle.lock_desk.proofs.Rounds.{IsRound}
+use Rattle.lock_desk.proofs.VictimRounds.{IsRound}
 use Rattle.lock_desk.proofs.desk.Desk.settle.Given as goal
 
 abbrev pub invariant-loop-round : goal.invariant-loop-round

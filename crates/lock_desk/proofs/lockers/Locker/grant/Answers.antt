@@ -1,5 +1,5 @@
 use Rattle.std.proofs.Common.{true, false, refl, None, sym, ◌∙◌}
-use Rattle.lock_desk.proofs.Admits.{granted-standing, fresh-kept, converted-kept}
+use Rattle.lock_desk.proofs.LockerGrant.{granted-standing, fresh-kept, converted-kept}
 use Rattle.lock_desk.proofs.lockers.Locker.grant.Goals as goal
 use Rattle.lock_desk.proofs.lockers.Locker.grant.Goals.{then-is_fresh, else-is_fresh}
 

@@ -1,6 +1,6 @@
 use Rattle.std.proofs.Common.{arith, ap}
 use Rattle.lock_desk.specs.Lockers.{locks_to_come}
-use Rattle.lock_desk.proofs.Standings.{apart-push}
+use Rattle.lock_desk.proofs.LockerStandings.{apart-push}
 use Rattle.lock_desk.proofs.lockers.Locker.hold.Goals as goal
 
 pub returns-clause-kept : goal.returns-clause-kept

@@ -2,7 +2,7 @@ use Rattle.std.proofs.Common.{◌≡◌, ℕ, List, length, arith, ap, subst, sy
 use Rattle.std.proofs.lemmas.Fn.{filter_same}
 use Rattle.lock_desk.specs.Cells.{AreApart}
 use Rattle.lock_desk.specs.Lockers.{paths_but, wanted_in}
-use Rattle.lock_desk.proofs.Frees.{apart-but, few-but}
+use Rattle.lock_desk.proofs.GivingUp.{apart-but, few-but}
 use Rattle.lock_desk.proofs.lockers.Locker.release.Goals as goal
 
 pub returns-clause-standing : goal.returns-clause-standing

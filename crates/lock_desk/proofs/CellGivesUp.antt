@@ -7,8 +7,8 @@ use Rattle.lock_desk.specs.declared.cells.Part.{Part}
 use Rattle.lock_desk.specs.declared.cells.Part.TheVariants as part
 use Rattle.lock_desk.specs.Cells.{View, no_view, view_of, Cells, cell_at, view_in, cell_view, view_after_giving_up, view_after_freeing, view_after_promotion, HasRoom, IsOnce, is_busy, AreKeptCells, CellsBecame}
 use Rattle.lock_desk.specs.Lockers.{Standing, DoAgree}
-use Rattle.lock_desk.proofs.Grants.{once-giving_up}
-use Rattle.lock_desk.proofs.Seen.{became-same, became-view, became, idle-view}
+use Rattle.lock_desk.proofs.ResourceViews.{once-giving_up}
+use Rattle.lock_desk.proofs.CellTable.{became-same, became-view, became, idle-view}
 
 -- there is no such cell
 

@@ -13,7 +13,7 @@ use Rattle.lock_rules.proofs.Cuts.{one_less, less-alters, less-sound}
 use Rattle.lock_desk.specs.declared.cells.Part.TheVariants as part
 use Rattle.lock_desk.specs.Cells.{without, view_after_giving_up, view_after_freeing, view_after_promotion}
 use Rattle.lock_desk.specs.Shows.{short, claims_on, view}
-use Rattle.lock_desk.proofs.Tables.{queue-apart, promoted-seen}
+use Rattle.lock_desk.proofs.TableViews.{queue-apart, promoted-seen}
 
 module _ (s : ℕ) (r : List ℕ) (t : rules.Table) (i : IsSound t) (free : holds_child t s r ≡ false) (n : rules.request_of s t.requests ≡ None) where
   holders-own : (cs : List rules.Claim) → claims_on r (locks_but s r cs) ≡ without s (claims_on r cs)

@@ -29,13 +29,13 @@ use Rattle.lock_desk.specs.Cells.{View, has_session, mode_of, pair_of, view_afte
 use Rattle.lock_desk.specs.Lockers.{Standing, standing_at, has_below}
 use Rattle.lock_desk.specs.Changes.{view_at, standing, view_after_end, IsWhole, mode_held, lacks_need, lock_tests, convert_tests, release_tests, idle_tests, desk_tests, IsSameSeen, MayAsk, HasAsked, CanRelease, HasFreed, HasBegun, HasEnded}
 use Rattle.lock_desk.specs.Shows.{view, Shows, DoesAnswer}
-use Rattle.lock_desk.proofs.Wholes.{apart-at}
-use Rattle.lock_desk.proofs.Asks.{held-locker}
-use Rattle.lock_desk.proofs.Tables.{in_mode, mode-seen, pairs-seen}
-use Rattle.lock_desk.proofs.Counts.{waits-told, locks-told}
-use Rattle.lock_desk.proofs.Below.{path-below, below-path, child-there, there-child, both-ways}
-use Rattle.lock_desk.proofs.Less.{released-seen}
-use Rattle.lock_desk.proofs.Steps.{ended-seen, granted-seen, first_state, first-seen}
+use Rattle.lock_desk.proofs.Agreement.{apart-at}
+use Rattle.lock_desk.proofs.Asking.{held-locker}
+use Rattle.lock_desk.proofs.TableViews.{in_mode, mode-seen, pairs-seen}
+use Rattle.lock_desk.proofs.LockCounts.{waits-told, locks-told}
+use Rattle.lock_desk.proofs.Children.{path-below, below-path, child-there, there-child, both-ways}
+use Rattle.lock_desk.proofs.AfterRelease.{released-seen}
+use Rattle.lock_desk.proofs.AfterStep.{ended-seen, granted-seen, first_state, first-seen}
 
 -- tests
 

@@ -6,7 +6,7 @@ use Rattle.lock_desk.specs.declared.lockers.Request.{Request}
 use Rattle.lock_desk.specs.declared.lockers.Locker.{Locker}
 use Rattle.lock_desk.specs.Cells.{has_path, AreApart}
 use Rattle.lock_desk.specs.Lockers.{resource_asked, is_fresh, wanted_in, is_wanted, with_path, standing_after_grant, locks_to_come, IsOfKind, IsKeptLocker, standing_of}
-use Rattle.lock_desk.proofs.Standings.{apart-push}
+use Rattle.lock_desk.proofs.LockerStandings.{apart-push}
 
 module _ (r : List ℕ) (locker : Locker) (kept : IsKeptLocker locker) (waits : is_wanted r (wanted_in locker.wanted) ≡ true) where
   -- what the kind of the request tells of the locks

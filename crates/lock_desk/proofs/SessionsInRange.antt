@@ -9,8 +9,8 @@ use Rattle.lock_desk.specs.Cells.{Cells, cell_at, view_in, cell_view, has_sessio
 use Rattle.lock_desk.specs.Lockers.{Standing, standing_at}
 use Rattle.lock_desk.specs.Changes.{view_at, standings, IsWhole}
 use Rattle.lock_desk.specs.Finding.{AreOfSessions, IsOfSessions}
-use Rattle.lock_desk.proofs.Grants.{once-nobody}
-use Rattle.lock_desk.proofs.Standings.{waits-within, length-standings}
+use Rattle.lock_desk.proofs.ResourceViews.{once-nobody}
+use Rattle.lock_desk.proofs.LockerStandings.{waits-within, length-standings}
 
 -- what is kept of a cell is kept of what is seen of its resource
 pub once-at : (r : List ℕ) (cs : Cells) → AreKeptCells cs → IsOnce (cell_view r cs)

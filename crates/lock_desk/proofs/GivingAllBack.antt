@@ -13,9 +13,9 @@ use Rattle.lock_desk.specs.declared.desk.Desk.{Desk}
 use Rattle.lock_desk.specs.Cells.{View, has_session, view_after_giving_up, view_after_freeing, has_path, AreApart, CellsBecame}
 use Rattle.lock_desk.specs.Lockers.{Standing, wanted_in, standing_of, locks_to_come, IsKeptLocker, AreSameOrGranted, DoAgree}
 use Rattle.lock_desk.specs.Changes.{view_at, standings, standing, view_after_unlock, IsWhole, HasGivenBack, HasGivenBackAll}
-use Rattle.lock_desk.proofs.Standings.{standing-here, apart-pop, has_path-push, has_path-push_other}
-use Rattle.lock_desk.proofs.Wholes.{apart-at, GivesUp}
-use Rattle.lock_desk.proofs.Frees.{gives-last, freed-agree, freed-own, has-freed, freed-whole}
+use Rattle.lock_desk.proofs.LockerStandings.{standing-here, apart-pop, has_path-push, has_path-push_other}
+use Rattle.lock_desk.proofs.Agreement.{apart-at, GivesUp}
+use Rattle.lock_desk.proofs.GivingUp.{gives-last, freed-agree, freed-own, has-freed, freed-whole}
 
 -- no request is none
 pub none-in : (o : Option Request) → wanted_in o ≡ None → o ≡ None

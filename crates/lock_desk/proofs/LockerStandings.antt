@@ -12,7 +12,7 @@ use Rattle.lock_desk.specs.declared.lockers.Locker.{Locker}
 use Rattle.lock_desk.specs.Cells.{View, has_session, times, has_path, AreApart, IsOnce}
 use Rattle.lock_desk.specs.Lockers.{Standing, no_standing, standing_of, standing_at, is_wanted, with_path, standing_after_grant, IsSameOrGranted, AreSameOrGranted, DoAgree}
 use Rattle.lock_desk.proofs.SessionModes.{has_tells, has_session-with_holder}
-use Rattle.lock_desk.proofs.Grants.{IsNext}
+use Rattle.lock_desk.proofs.ResourceViews.{IsNext}
 
 -- lists of resources
 

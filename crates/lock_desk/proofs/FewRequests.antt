@@ -11,9 +11,9 @@ use Rattle.lock_desk.specs.Cells.{View, has_session}
 use Rattle.lock_desk.specs.Lockers.{Standing, standing_at, is_wanted}
 use Rattle.lock_desk.specs.Changes.{standings, standing, IsWhole}
 use Rattle.lock_desk.specs.Shows.{Shows}
-use Rattle.lock_desk.proofs.Standings.{length-standings}
-use Rattle.lock_desk.proofs.Counts.{waits-told}
-use Rattle.lock_desk.proofs.Numbered.{once-at}
+use Rattle.lock_desk.proofs.LockerStandings.{length-standings}
+use Rattle.lock_desk.proofs.LockCounts.{waits-told}
+use Rattle.lock_desk.proofs.SessionsInRange.{once-at}
 
 length-but : (s : ℕ) (qs : List rules.Claim) → length qs ≡ length (rules.claims_but s qs) + times s qs
 length-but s [] = omega arith

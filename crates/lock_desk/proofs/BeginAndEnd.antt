@@ -17,10 +17,10 @@ use Rattle.lock_desk.specs.declared.desk.Desk.{Desk}
 use Rattle.lock_desk.specs.Cells.{View, has_session, view_after_giving_up, view_after_freeing, cell_view, has_path, AreApart, AreKeptCells, CellsBecame}
 use Rattle.lock_desk.specs.Lockers.{Standing, wanted_in, standing_of, standing_at, is_wanted, locks_to_come, IsOfKind, IsKeptLocker, AreSameOrGranted, DoAgree}
 use Rattle.lock_desk.specs.Changes.{view_at, standings, standing, view_after_unlock, view_after_cancel, IsWhole, HasFreed, HasGivenBackAll, HasCancelled, HasDoomed, HasBegun, HasEnded}
-use Rattle.lock_desk.proofs.Standings.{standings-set, standing-here, length-standings}
-use Rattle.lock_desk.proofs.Wholes.{own-standing, other-standing, GivesUp}
-use Rattle.lock_desk.proofs.Asks.{idle-there}
-use Rattle.lock_desk.proofs.Frees.{gives-request, freed-agree, freed-own, has-freed, freed-whole}
+use Rattle.lock_desk.proofs.LockerStandings.{standings-set, standing-here, length-standings}
+use Rattle.lock_desk.proofs.Agreement.{own-standing, other-standing, GivesUp}
+use Rattle.lock_desk.proofs.Asking.{idle-there}
+use Rattle.lock_desk.proofs.GivingUp.{gives-request, freed-agree, freed-own, has-freed, freed-whole}
 
 -- no session holds more than its limit
 pub few-at : (ws : List Locker) (s : ℕ) → All IsKeptLocker ws → length (standing_at s (map standing_of ws)).held ≤ MAX_LOCKS

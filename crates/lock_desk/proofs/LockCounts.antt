@@ -15,9 +15,9 @@ use Rattle.lock_rules.proofs.Lists.{same_path-refl, same_path_tells}
 use Rattle.lock_desk.specs.Cells.{has_session, has_path, AreApart}
 use Rattle.lock_desk.specs.Lockers.{is_wanted, paths_but}
 use Rattle.lock_desk.specs.Shows.{short, claims_on}
-use Rattle.lock_desk.proofs.Tables.{held-seen}
-use Rattle.lock_desk.proofs.Below.{both-ways}
-use Rattle.lock_desk.proofs.Frees.{apart-but, other-but, gone-but, less-but}
+use Rattle.lock_desk.proofs.TableViews.{held-seen}
+use Rattle.lock_desk.proofs.Children.{both-ways}
+use Rattle.lock_desk.proofs.GivingUp.{apart-but, other-but, gone-but, less-but}
 
 -- where a session waits
 

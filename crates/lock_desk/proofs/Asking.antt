@@ -13,9 +13,9 @@ use Rattle.lock_desk.specs.Cells.{View, has_session, has_path, can_grant, view_a
 use Rattle.lock_desk.specs.Lockers.{Standing, standing_of, standing_at, is_wanted, standing_after_asking, IsKeptLocker, DoAgree}
 use Rattle.lock_desk.specs.Changes.{view_at, standings, standing, mode_held, IsWhole, IsSameSeen, HasAsked}
 use Rattle.lock_desk.proofs.SessionModes.{mode-has}
-use Rattle.lock_desk.proofs.Standings.{standings-set, standing-here, length-standings}
-use Rattle.lock_desk.proofs.Seen.{same-view}
-use Rattle.lock_desk.proofs.Wholes.{own-standing, other-standing, standings-same, all-agree, asked-agree, asked-other}
+use Rattle.lock_desk.proofs.LockerStandings.{standings-set, standing-here, length-standings}
+use Rattle.lock_desk.proofs.CellTable.{same-view}
+use Rattle.lock_desk.proofs.Agreement.{own-standing, other-standing, standings-same, all-agree, asked-agree, asked-other}
 
 -- a session that waits for nothing has no request there
 pub idle-there : (s : ℕ) (r : List ℕ) (d : Desk) → IsWhole d → (standing s d).wanted ≡ None → has_session s (view_at r d).waiting ≡ false

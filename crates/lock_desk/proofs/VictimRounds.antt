@@ -20,9 +20,9 @@ use Rattle.lock_desk.specs.Cells.{mode_of, has_session}
 use Rattle.lock_desk.specs.Changes.{view_at, standings, standing, view_after_cancel, IsWhole, HasDoomed}
 use Rattle.lock_desk.specs.Finding.{blocks, blocks_at, target_blocks, IsFilled}
 use Rattle.lock_desk.specs.Shows.{Shows}
-use Rattle.lock_desk.proofs.Numbered.{once-at}
-use Rattle.lock_desk.proofs.Finds.{pairs-shown}
-use Rattle.lock_desk.proofs.Steps.{cancelled-seen}
+use Rattle.lock_desk.proofs.SessionsInRange.{once-at}
+use Rattle.lock_desk.proofs.WaitsOfTheState.{pairs-shown}
+use Rattle.lock_desk.proofs.AfterStep.{cancelled-seen}
 
 -- positions and sessions: position a is session a + 1
 

@@ -16,7 +16,7 @@ use Rattle.lock_rules.proofs.Promote.{promoted-promoted}
 use Rattle.lock_desk.specs.declared.cells.SessionMode.{SessionMode}
 use Rattle.lock_desk.specs.Cells.{View, has_session, mode_of, pair_of, with_holder, without, fits_among, view_after_grants, view_after_promotion, has_path}
 use Rattle.lock_desk.specs.Shows.{short, claims_on, view}
-use Rattle.lock_desk.proofs.Grants.{promoted-again}
+use Rattle.lock_desk.proofs.ResourceViews.{promoted-again}
 
 -- a session with a mode
 abbrev pub in_mode : ℕ → Mode → SessionMode

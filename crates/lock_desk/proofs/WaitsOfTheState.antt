@@ -21,10 +21,10 @@ use Rattle.lock_desk.specs.Lockers.{is_wanted}
 use Rattle.lock_desk.specs.Changes.{standings, standing, IsWhole}
 use Rattle.lock_desk.specs.Finding.{holder_blocks, stands_first, target_blocks, view_blocks, blocks_at, blocks}
 use Rattle.lock_desk.specs.Shows.{short, claims_on, view, Shows}
-use Rattle.lock_desk.proofs.Tables.{mode-seen}
-use Rattle.lock_desk.proofs.Counts.{queue-has, waits_on-once, waits-told}
-use Rattle.lock_desk.proofs.Leaves.{Ascends}
-use Rattle.lock_desk.proofs.Steps.{ascends-seen}
+use Rattle.lock_desk.proofs.TableViews.{mode-seen}
+use Rattle.lock_desk.proofs.LockCounts.{queue-has, waits_on-once, waits-told}
+use Rattle.lock_desk.proofs.LeavingAResource.{Ascends}
+use Rattle.lock_desk.proofs.AfterStep.{ascends-seen}
 
 -- the queue
 

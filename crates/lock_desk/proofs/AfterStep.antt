@@ -21,9 +21,9 @@ use Rattle.lock_desk.specs.Cells.{View, has_session, with_holder, is_nobody, vie
 use Rattle.lock_desk.specs.Changes.{view_after_cancel, view_after_end}
 use Rattle.lock_desk.specs.Shows.{short, claims_on, view}
 use Rattle.lock_desk.proofs.SessionModes.{AreAll, behind-between, without-none}
-use Rattle.lock_desk.proofs.Tables.{in_mode, fits-seen, held-seen, pairs-seen, claims_on-with_lock, claims_on-with_lock_path, claims_on-claims_but, queue-without, queue-apart, all-seen}
-use Rattle.lock_desk.proofs.Counts.{queue-has, waits_on-once, locks_in, listed}
-use Rattle.lock_desk.proofs.Leaves.{Ascends, view_without, gone-ended}
+use Rattle.lock_desk.proofs.TableViews.{in_mode, fits-seen, held-seen, pairs-seen, claims_on-with_lock, claims_on-with_lock_path, claims_on-claims_but, queue-without, queue-apart, all-seen}
+use Rattle.lock_desk.proofs.LockCounts.{queue-has, waits_on-once, locks_in, listed}
+use Rattle.lock_desk.proofs.LeavingAResource.{Ascends, view_without, gone-ended}
 
 -- the end of a transaction
 

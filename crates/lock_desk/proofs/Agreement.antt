@@ -17,8 +17,8 @@ use Rattle.lock_desk.specs.Cells.{View, with_holder, has_session, view_after_giv
 use Rattle.lock_desk.specs.Lockers.{Standing, no_standing, standing_of, standing_at, is_wanted, standing_after_asking, IsKeptLocker, IsSameOrGranted, AreSameOrGranted, DoAgree}
 use Rattle.lock_desk.specs.Changes.{view_at, standings, DoesKeep}
 use Rattle.lock_desk.proofs.SessionModes.{has_session-with_holder, has_session-queued, has_session-without}
-use Rattle.lock_desk.proofs.Standings.{has_path-with, has_path-with_other}
-use Rattle.lock_desk.proofs.Seen.{map-set_same}
+use Rattle.lock_desk.proofs.LockerStandings.{has_path-with, has_path-with_other}
+use Rattle.lock_desk.proofs.CellTable.{map-set_same}
 
 -- an act after another keeps what both keep
 pub keeps-on : {d e f : Desk} → DoesKeep d e → DoesKeep e f → DoesKeep d f

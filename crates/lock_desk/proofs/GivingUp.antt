@@ -12,8 +12,8 @@ use Rattle.lock_desk.specs.declared.desk.Desk.{Desk}
 use Rattle.lock_desk.specs.Cells.{view_after_giving_up, view_after_freeing, has_path, AreApart, CellsBecame}
 use Rattle.lock_desk.specs.Lockers.{Standing, standing_of, standing_at, is_wanted, paths_but, standing_after_release, IsKeptLocker, IsSameOrGranted, AreSameOrGranted, DoAgree}
 use Rattle.lock_desk.specs.Changes.{view_at, standings, standing, IsWhole, HasFreed}
-use Rattle.lock_desk.proofs.Standings.{standings-set, standing-here, length-standings, apart-pop, has_path-push_other}
-use Rattle.lock_desk.proofs.Wholes.{own-standing, other-standing, all-agree, GivesUp, given-agree, given-other, granted-other, not-granted}
+use Rattle.lock_desk.proofs.LockerStandings.{standings-set, standing-here, length-standings, apart-pop, has_path-push_other}
+use Rattle.lock_desk.proofs.Agreement.{own-standing, other-standing, all-agree, GivesUp, given-agree, given-other, granted-other, not-granted}
 
 -- a session that is admitted has its transaction
 transaction-granted : (r : List ℕ) (a b : Standing) → IsSameOrGranted r a b → b.transaction ≡ a.transaction
