@@ -23,9 +23,9 @@ use lock_rules::{Call, MAX_LOCKS, MAX_SESSIONS, Reply};
 use lock_tree::Resource;
 use std::alloc::{AllocError, Global};
 
-/// How many transactions have begun, a locker for each session, at the place of its number, and a cell for each
-/// resource that is held or waited for. The locker at place 0 is nobody's. Who waits for whom is written down only to look
-/// for deadlocks.
+/// How many transactions have begun, a locker for each session, at the index of its number, and a cell for each resource
+/// that is held or waited for. The locker at index 0 is nobody's. Who waits for whom is written down only to look for
+/// deadlocks.
 #[derive(Drop)]
 pub struct Desk {
     pub count: u64,
