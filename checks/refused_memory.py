@@ -1,12 +1,14 @@
 #!/usr/bin/env python3
-"""Refuses each allocation in turn: of a small replay by ./glm, and of the tests of the lock table.
+"""Refuses each allocation in turn: of a small replay by ./glm, and of the tests of the lock table and
+of the office.
 
 Usage: checks/refused_memory.py
 
 The program has to end with status 4, its line on standard error and nothing on standard output, or
 to meet the refusal and write the whole history. A test has to pass: it makes a call that found no
-memory once more, and wants the answer that ample memory gives. Builds the program and the tests
-first, where that is needed. The last line is 'N passed, M failed', one for each allocation.
+memory once more, and wants the answer that ample memory gives. One test of the office has to say
+that a pass of it was starved. Builds the program and the tests first, where that is needed. The last
+line is 'N passed, M failed', one for each allocation.
 """
 import os
 import subprocess
@@ -16,16 +18,21 @@ from pathlib import Path
 
 TOP = Path(__file__).resolve().parent.parent
 PROGRAM = TOP / "crates/glm_main/out/glm_main"
-DESK = TOP / "crates/lock_desk"
-TESTS = DESK / "out/lock_desk_tests"
-# a transaction of 4096 locks allocates too often to go through
-LONG_TEST = "a_transaction_holds_4096_locks_and_no_more"
+TESTED = ["lock_desk", "combining"]
+# what allocates too often to go through: a transaction of 4096 locks, and threads, which don't ask again either
+LONG_TESTS = [
+    "a_transaction_holds_4096_locks_and_no_more",
+    "eight_threads_poll",
+    "eight_threads_are_told_what_one_book_tells",
+]
+STARVED_TEST = "a_call_that_found_no_memory_is_served_by_the_next_pass"
 
 
 def build(folder):
     """Builds the program, the tests, and the library that refuses."""
     subprocess.run([TOP / "glm", "--help"], stdout=subprocess.DEVNULL, check=True)
-    subprocess.run(["rt", "test"], cwd=DESK, stdout=subprocess.DEVNULL, check=True)
+    for crate in TESTED:
+        subprocess.run(["rt", "test"], cwd=TOP / "crates" / crate, stdout=subprocess.DEVNULL, check=True)
     library = folder / "refuse.so"
     source = TOP / "checks/refuse_allocation.c"
     subprocess.run(["cc", "-shared", "-fPIC", "-O1", "-o", library, source, "-ldl"], check=True)
@@ -62,16 +69,21 @@ def main():
                 passed += 1
             else:
                 failed.append(f"replay, allocation {number}: status {ran.returncode}")
-        listed = subprocess.run([TESTS, "--list"], capture_output=True, text=True, check=True).stdout
-        tests = [line.split(": ")[0] for line in listed.splitlines() if line.endswith(": test")]
-        for test in tests:
-            if test.endswith(LONG_TEST):
-                continue
-            for number, ran in refusals([TESTS, test], library, folder):
-                if ran.returncode == 0:
-                    passed += 1
-                else:
-                    failed.append(f"{test}, allocation {number}: status {ran.returncode}")
+        for crate in TESTED:
+            tests = TOP / "crates" / crate / "out" / f"{crate}_tests"
+            listed = subprocess.run([tests, "--list"], capture_output=True, text=True, check=True).stdout
+            for test in (line.split(": ")[0] for line in listed.splitlines() if line.endswith(": test")):
+                if test.split("::")[-1] in LONG_TESTS:
+                    continue
+                starved = False
+                for number, ran in refusals([tests, test], library, folder):
+                    starved = starved or b"starved" in ran.stdout
+                    if ran.returncode == 0:
+                        passed += 1
+                    else:
+                        failed.append(f"{test}, allocation {number}: status {ran.returncode}")
+                if test.endswith(STARVED_TEST) and not starved:
+                    failed.append(f"{test}: no pass was starved")
     for line in failed:
         print(line)
     print(f"{passed} passed, {len(failed)} failed")

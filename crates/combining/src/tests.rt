@@ -112,6 +112,7 @@ fn a_call_that_found_no_memory_is_served_by_the_next_pass(rt: HostRuntime) -> Re
     };
     let mut turn = office.serve(&mut only);
     if turn == starved {
+        println!(&rt; "starved")?;
         assert_eq!(rt; office.collect(&mut only), None);
         turn = office.serve(&mut only);
     }
