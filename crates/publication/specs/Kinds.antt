@@ -1,4 +1,5 @@
--- The kinds of step: whose view changes, and which word. Beside them stand the looks, which change nothing and tell what a lost exchange would.
+-- The kinds of step: whose view changes, and which word. Beside them stand the looks, which change nothing and tell what a
+-- lost exchange would.
 --
 --   start           a new session's   its record's word is read; the slot leaves
 --   post            the session's     its record, EMPTY to POSTED; the call goes into the slot
@@ -78,7 +79,8 @@ abbrev pub asked : List (ℕ × Held) → Call
 asked [] = Poll
 asked (x ∷ xs) = elim x.1 [ Nothing ↦ Poll | Asked call ↦ call | Replied place reply ↦ Poll | Home load ↦ Poll ]
 
--- the call is pending, the floor is the number of entries that are known, and the session has heard of this call of its own
+-- the call is pending, the floor is the number of entries that are known, and the session has heard of this call of its
+-- own
 abbrev pub posting : View → Call → View
 posting v call = as_session v v.front (own (Some (asks call (length v.front))) v.own.collected) (slice_set v.heard v.number (length v.own.collected + 1))
 
@@ -100,8 +102,9 @@ looks_for_reply st m found n = (n ≡ m) × (found ≢ SERVED → IsUnanswered m
 abbrev pub taking : View → List Entry → Call → ℕ → Reply → View
 taking v front call place reply = as_session v front (record { started = true; retired = v.own.retired; pending = None; collected = v.own.collected ++ answer place call reply ∷ [] }) v.heard
 
--- what a session that takes a reply learns: a legal front of the history, which begins with the one that it knew and has the longer length of that one and of the one that ends with the call's entry;
--- the entry is its call with this reply, at a place not below the floor; and the session has collected all its calls in that front
+-- what a session that takes a reply learns: a legal front of the history, which begins with the one that it knew, and is as
+-- long as the longer of that one and the one that ends with the call's entry; the entry is its call with this reply, at a
+-- place not below the floor; and the session has then collected all its calls in that front
 pub record Took (number : ℕ) (known : List Entry) (collected : List Answered) (call : Call) (floor place : ℕ) (reply : Reply) (front : List Entry) : Type 0 where
   pub legal : IsLegal front
   pub short : length front < 2 ^ 64
@@ -180,7 +183,8 @@ looks_at_record st = looks_at (session_of_word st.word)
 abbrev pub opening : View → ℕ → Call → View
 opening v j call = as_combiner v v.front (combiner true (slice_set v.combiner.opened j (Some call)) j)
 
--- what a combiner that opens a record learns: it has opened it, and of its session it had heard of at most one call that isn't in the history
+-- what a combiner that opens a record learns: it has opened it, and of its session it had heard of at most one call that
+-- isn't in the history
 pub record Opened (v : View) (j : ℕ) (call : Call) : Type 0 where
   pub call_is : opened_in (opening v j call) j ≡ Some call
   pub heard : heard_of v j ≤ length (calls_of j v.front) + 1

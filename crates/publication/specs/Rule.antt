@@ -1,4 +1,5 @@
--- The rule of the board, which holds between any two atomic steps. The lock has the number 0, and the record of session i the number i; each has a word and a slot by its number.
+-- The rule of the board, which holds between any two atomic steps. The lock has the number 0, and the record of session i the
+-- number i; each has a word and a slot by its number.
 use Rattle.std.specs.Prelude.{◌≡◌, ◌≢◌, ℕ, ◌+◌, ◌^◌, ◌<◌, ◌≤◌, true, false, cond, is_some, Some, None, List, [], ◌∷◌, ◌++◌, length, slice_index, slice_index_or, replicate, vec_len, vec_capacity}
 use mathlib.Core.Option as opt
 use mathlib.Core.List.{IsPrefix}
@@ -71,7 +72,8 @@ heard_of v j = slice_index v.heard j
 -- How the record of session i may stand: by the history h, its word w, what is at home in its slot, and what its session knows of its own calls.
 
 module _ (h : List Entry) (i w : ℕ) (slot : opt.Option Held) (own : Own) where
-  -- EMPTY: nothing is pending, all calls in the history are collected, and the slot is with the session, once that has started
+  -- EMPTY: nothing is pending, all calls in the history are collected, and the slot is with the session, once that has
+  -- started
   pub record IsIdle : Type 0 where
     pub is : w ≡ EMPTY
     pub none : own.pending ≡ None
@@ -97,7 +99,8 @@ module _ (h : List Entry) (i w : ℕ) (slot : opt.Option Held) (own : Own) where
     pub publishes : own.retired ≡ false
     pub calls : calls_of i h ≡ own.collected
 
-  -- SERVED: the slot has place and reply of the pending call's entry, which is the last of this session, and the only one that isn't collected
+  -- SERVED: the slot has place and reply of the pending call's entry, which is the last of this session, and the only one
+  -- that isn't collected
   pub record IsServed (call : Call) (floor place : ℕ) (reply : Reply) : Type 0 where
     pub is : w ≡ SERVED
     pub some : own.pending ≡ Some (asks call floor)
@@ -125,7 +128,8 @@ pub data Stands (h : List Entry) (i w : ℕ) (slot : opt.Option Held) (own : Own
 
 -- Where the book is, and what is opened.
 
--- a load that may go home: the book has this history and one session less than there are slots, and the row is empty with room for one item a session
+-- a load that may go home: the book has this history, and the board's sessions, of which there is one less than there are
+-- slots; and the row is empty, with room for one item a session
 pub record IsHome (h : List Entry) (slots : ℕ) (l : Load) : Type 0 where
   pub history : l.book.history ≡ h
   pub sessions : l.book.sessions + 1 ≡ slots
@@ -139,7 +143,8 @@ pub record HasBook (h : List Entry) (lock k : ℕ) (v : View) : Type 0 where
   pub named : v.number ≡ k
   pub whole : v.front ≡ h
 
--- the combiner c has opened record j with this call: it has the book, the record is BUSY, its session waits for this call, and the slot is in hand or at home with nothing in it
+-- the combiner c has opened record j with this call: it has the book, the record is BUSY, its session waits for this call, and
+-- the slot is in hand or at home with nothing in it
 pub record IsOpened (s : BoardState) (owns : List Own) (c : Combiner) (j : ℕ) (call : Call) : Type 0 where
   pub book : c.has_book ≡ true
   pub record_of : 0 < j
@@ -165,7 +170,8 @@ pub record IsMaker (slots seats : ℕ) (v : View) : Type 0 where
   pub some_slot : 0 < slots
   pub made : v.made + 1 < slots → v.made + 1 ≡ seats
 
--- The rule. While the book is out it may be ahead of the history, by calls that were performed and not answered yet; it comes home with the history.
+-- The rule. While the book is out it may be ahead of the history, by calls that were performed and not answered yet; it comes
+-- home with the history.
 
 pub record IsOrderly (s : BoardState) : Type 0 where
   -- what was answered, oldest first
@@ -184,9 +190,9 @@ pub record IsOrderly (s : BoardState) : Type 0 where
   pub homes_are : length s.homes ≡ slots
   -- the first seat makes the sessions
   pub makes : IsMaker slots (length s.views) (seat s 0)
-  -- who isn't made yet has published nothing
+  -- a session that isn't made yet has published nothing
   pub unmade : (j : ℕ) → length s.views ≤ j → own_at owns j ≡ fresh
-  -- every seat but the first is a session's
+  -- a seat that has a number is that session's
   pub sessions : (k : ℕ) → (seat s k).number ≢ 0 → IsSession slots owns k (seat s k)
   -- every seat knows a front of the history
   pub fronts : (k : ℕ) → IsPrefix (seat s k).front history

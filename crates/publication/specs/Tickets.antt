@@ -16,7 +16,8 @@ own_slot is_pending number = cond is_pending [] ((number, Nothing) ∷ [])
 abbrev pub book_slot : Bool → List (ℕ × Held) → List (ℕ × Held)
 book_slot has_book others = cond has_book ((0, Nothing) ∷ others) others
 
--- the seat of a ticket between two calls: its session has this number, knows so many entries, and has or hasn't the book, a call pending, retired
+-- the seat of a ticket between two calls: its session has this number, knows so many entries, has the book or hasn't, has a
+-- call pending or hasn't, and has retired or hasn't
 pub record IsSettled (m : Seated) (number seen : ℕ) (has_book is_pending is_retired : Bool) : Type 0 where
   pub number_is : m.0.number ≡ number
   pub some_number : 0 < number

@@ -11,14 +11,16 @@ pub record Pending : Type 0 where
   pub call : Call
   pub floor : ℕ
 
--- what a session knows of its own calls: whether it has its record's slot, whether it publishes no more, the call that it waits for, and the answers that it took, oldest first
+-- what a session knows of its own calls: whether it has taken its record's slot, whether it publishes no more, the call that
+-- it waits for, and the answers that it took, oldest first
 pub record Own : Type 0 where
   pub started : Bool
   pub retired : Bool
   pub pending : Option Pending
   pub collected : List Answered
 
--- what a combiner has: whether the book; at each record's number its call, where it is opened; the record whose slot is in hand, or 0
+-- what a combiner has: whether the book; at each record's number its call, where it is opened; the record whose slot is in
+-- hand, or 0
 pub record Combiner : Type 0 where
   pub has_book : Bool
   pub opened : List (Option Call)
@@ -29,8 +31,9 @@ pub record Placed : Type 0 where
   pub id : TableId
   pub sessions : ℕ
 
--- what contracts see of a ticket: of which board and session it is, the front of the history that it knows, the call that it waits for,
--- the answers that it took, how many calls of each session it knows to be published, whether it publishes no more, whether it has the book, and what it has opened
+-- what contracts see of a ticket: of which board and session it is, the front of the history that it knows, the call that it
+-- waits for, the answers that it took, how many calls of each session it knows to be published, whether it publishes no
+-- more, whether it has the book, and the call of each record that it has opened
 pub record Known : Type 0 where
   pub board : TableId
   pub number : ℕ
