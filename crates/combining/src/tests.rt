@@ -156,6 +156,37 @@ fn locks_are_given_back_before_others_are_asked_for(rt: HostRuntime) -> Result<(
     Ok(())
 }
 
+#[test]
+fn a_pass_serves_what_gives_locks_back_first(rt: HostRuntime) -> Result<(), Fail> {
+    let one = database(1)?;
+    let refused = Reply::Refused(Why::NoTransaction);
+    for (giver, reply) in [
+        (Call::Commit, Reply::Committed(1)),
+        (Call::Abort, Reply::Aborted(1)),
+        (Call::Release(one), Reply::Released),
+    ] {
+        let (office, mut sessions) = new_office(rt.alloc(), 4)?;
+        let mut fourth = sessions.pop().expect(&rt, "session 4");
+        let mut third = sessions.pop().expect(&rt, "session 3");
+        let mut second = sessions.pop().expect(&rt, "session 2");
+        let mut first = sessions.pop().expect(&rt, "session 1");
+        let _began = ask(&rt, &office, &mut first, Call::Begin);
+        let _began = ask(&rt, &office, &mut second, Call::Begin);
+        let _locked = ask(&rt, &office, &mut second, Call::Lock(one, Mode::X));
+        let _posted = office.publish(&mut first, Call::Lock(one, Mode::S));
+        let _posted = office.publish(&mut second, giver);
+        let _posted = office.publish(&mut third, Call::Poll);
+        let _posted = office.publish(&mut fourth, Call::Commit);
+        assert_eq!(rt; served_by(&rt, &office, &mut third), 4);
+        assert_eq!(rt; office.collect(&mut second), Some(answer(3, reply)));
+        assert_eq!(rt; office.collect(&mut fourth), Some(answer(4, refused)));
+        let granted = Reply::Granted(Mode::S);
+        assert_eq!(rt; office.collect(&mut first), Some(answer(5, granted)));
+        assert_eq!(rt; office.collect(&mut third), Some(answer(6, refused)));
+    }
+    Ok(())
+}
+
 /// What the sessions of a test with threads call.
 #[derive(Clone, Copy)]
 enum Load {

@@ -1,4 +1,4 @@
-use Rattle.std.proofs.Common.{◌≡◌, ◌+◌, ◌≤◌, length, drop}
+use Rattle.std.proofs.Common.{◌≡◌, ◌+◌, length, drop}
 use mathlib.Core.List.{IsPrefix}
 use Rattle.combining.specs.Passes.{AreOpened, HasHeardCalls, IsSameSession, IsBookInHand}
 use Rattle.combining.proofs.pass.serve_row.Given as goal

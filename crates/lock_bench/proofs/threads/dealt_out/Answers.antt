@@ -1,6 +1,5 @@
-use Rattle.std.proofs.Common.{rules, ◌≡◌, ◌++◌, List, Option, IfSome, sym, ap, subst, ◌∙◌}
+use Rattle.std.proofs.Common.{rules, List, Option, IfSome, subst}
 use Rattle.std.specs.List.{All}
-use Rattle.std.specs.Option.{option_to_list}
 use Rattle.std.proofs.lemmas.List.Elements.{All-pop, All-push}
 use Rattle.publication.specs.Views.{Placed, Known}
 use Rattle.combining.specs.Sessions.{IsSessionOf, IsIdle}
