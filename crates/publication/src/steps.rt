@@ -21,7 +21,7 @@ pub type Seat = atomic_table::Seat<Held, View>;
 pub type Shared = atomic_table::Shared<Held, View, u16, Law>;
 
 /// A session posts a call in its own record.
-pub fn put_call(shared: &Shared, seat: &mut Seat, at: usize, call: Call)
+pub(crate) fn put_call(shared: &Shared, seat: &mut Seat, at: usize, call: Call)
     requires ours { seat.old.table_id ≡ shared.now.table_id }
     requires board { IsBoard shared.now.table_id }
     requires at { IsAt shared.now.table_id at }
@@ -49,7 +49,7 @@ fn is_served(shared: &Shared, seat: &mut Seat, at: usize) -> bool
 }
 
 /// A session takes the reply out of its own record, where it was served.
-pub fn take_reply(shared: &Shared, seat: &mut Seat, at: usize) -> Option<(u64, Reply)>
+pub(crate) fn take_reply(shared: &Shared, seat: &mut Seat, at: usize) -> Option<(u64, Reply)>
     requires ours { seat.old.table_id ≡ shared.now.table_id }
     requires board { IsBoard shared.now.table_id }
     requires at { IsAt shared.now.table_id at }
@@ -84,7 +84,7 @@ fn is_free(shared: &Shared, seat: &mut Seat) -> bool
 }
 
 /// A session tries to become the combiner, and has the load then.
-pub fn take_load(shared: &Shared, seat: &mut Seat, number: u64) -> Option<Box<Load>>
+pub(crate) fn take_load(shared: &Shared, seat: &mut Seat, number: u64) -> Option<Box<Load>>
     requires ours { seat.old.table_id ≡ shared.now.table_id }
     requires board { IsBoard shared.now.table_id }
     requires mine { (seat.old.me.0.number ≡ number) × (0 < number) }
@@ -107,7 +107,7 @@ pub fn take_load(shared: &Shared, seat: &mut Seat, number: u64) -> Option<Box<Lo
 }
 
 /// A combiner that has opened no record any more gives the load back.
-pub fn give_load(shared: &Shared, seat: &mut Seat, load: Box<Load>)
+pub(crate) fn give_load(shared: &Shared, seat: &mut Seat, load: Box<Load>)
     requires ours { seat.old.table_id ≡ shared.now.table_id }
     requires board { IsBoard shared.now.table_id }
     requires mine { (seat.old.me.0.number ≢ 0) × (seat.old.me.0.combiner.has_book ≡ true) }
@@ -138,7 +138,7 @@ fn is_posted(shared: &Shared, seat: &mut Seat, at: usize) -> bool
 #[tactic(auto, using(crate::proofs::Combiners::session_of_its_word))]
 /// A combiner opens a record, where a call is posted. The slot goes back at once, since only the slot that was taken last
 /// can be reached.
-pub fn open_record(shared: &Shared, seat: &mut Seat, at: usize) -> Option<Call>
+pub(crate) fn open_record(shared: &Shared, seat: &mut Seat, at: usize) -> Option<Call>
     requires ours { seat.old.table_id ≡ shared.now.table_id }
     requires board { IsBoard shared.now.table_id }
     requires at { IsAt shared.now.table_id at }
@@ -162,7 +162,7 @@ pub fn open_record(shared: &Shared, seat: &mut Seat, at: usize) -> Option<Call>
 }
 
 /// A combiner answers a call that it opened; its entry joins the history.
-pub fn answer_record(shared: &Shared, seat: &mut Seat, at: usize, place: u64, reply: Reply)
+pub(crate) fn answer_record(shared: &Shared, seat: &mut Seat, at: usize, place: u64, reply: Reply)
     requires ours { seat.old.table_id ≡ shared.now.table_id }
     requires board { IsBoard shared.now.table_id }
     requires at { IsAt shared.now.table_id at }
@@ -179,7 +179,7 @@ pub fn answer_record(shared: &Shared, seat: &mut Seat, at: usize, place: u64, re
 }
 
 /// A combiner puts a call back that it opened.
-pub fn put_back_record(shared: &Shared, seat: &mut Seat, at: usize, call: Call)
+pub(crate) fn put_back_record(shared: &Shared, seat: &mut Seat, at: usize, call: Call)
     requires ours { seat.old.table_id ≡ shared.now.table_id }
     requires board { IsBoard shared.now.table_id }
     requires at { IsAt shared.now.table_id at }
