@@ -1,5 +1,5 @@
 -- The lockers say what the cells say, after each change.
-use Rattle.std.proofs.Common.{◌≡◌, ℕ, zero, suc, ◌<◌, Bool, true, false, cond, not, eqb, ◌&&◌, ◌||◌, inl, inr, List, [], ◌∷◌, length, map, get_or, set, Option, Some, None, refl, sym, ◌∙◌, ap, arith, subst}
+use Rattle.std.proofs.Common.{◌≡◌, ℕ, zero, suc, ◌<◌, Bool, true, false, cond, not, eqb, ◌&&◌, ◌||◌, inl, inr, List, [], ◌∷◌, length, get_or, set, Option, Some, None, refl, sym, ◌∙◌, ap, arith, subst}
 use Rattle.std.proofs.lemmas.Bool.{cases_Bool}
 use Rattle.lock_rules.proofs.Sound.{eqb-swap}
 use Rattle.std.specs.List.{All}
@@ -14,10 +14,10 @@ use Rattle.lock_desk.specs.declared.desk.Desk.{Desk}
 use Rattle.lock_desk.specs.declared.cells.Part.{Part}
 use Rattle.lock_desk.specs.declared.cells.Part.TheVariants as part
 use Rattle.lock_desk.specs.Cells.{View, with_holder, has_session, view_after_giving_up, queue_with, can_grant, view_after_asking, has_path, AreApart}
-use Rattle.lock_desk.specs.Lockers.{Standing, no_standing, standing_of, standing_at, is_wanted, standing_after_asking, IsKeptLocker, IsSameOrGranted, AreSameOrGranted, DoAgree}
+use Rattle.lock_desk.specs.Lockers.{Standing, no_standing, standing_of, standings_of, standing_at, is_wanted, standing_after_asking, IsKeptLocker, IsSameOrGranted, AreSameOrGranted, DoAgree}
 use Rattle.lock_desk.specs.Changes.{view_at, standings, DoesKeep}
 use Rattle.lock_desk.proofs.SessionModes.{has_session-with_holder, has_session-queued, has_session-without}
-use Rattle.lock_desk.proofs.LockerStandings.{has_path-with, has_path-with_other}
+use Rattle.lock_desk.proofs.LockerStandings.{IsPositionOf, has_path-with, has_path-with_other}
 use Rattle.lock_desk.proofs.CellTable.{map-set_same}
 
 -- an act after another keeps what both keep
@@ -35,14 +35,15 @@ pub own-standing : (ss : List Standing) (s : ℕ) (x : Standing) → s < length 
 own-standing ss s x lt = get_or-set_same ss s x no_standing lt
 
 -- a locker that says the same changes nothing
-pub standings-same : (ws : List Locker) (s : ℕ) (w new : Locker) → s < length ws → w ≡ get_or ws s w → standing_of new ≡ standing_of w → map standing_of (set ws s new) ≡ map standing_of ws
-standings-same ws s w new lt at e = map-set_same standing_of ws s new (e ∙ ap standing_of (at ∙ get_or_default ws s w new lt))
+pub standings-same : (ws : List Locker) (s : ℕ) {i : ℕ} (w new : Locker) → IsPositionOf s i ws → w ≡ get_or ws i w → standing_of new ≡ standing_of w → standings_of (set ws i new) ≡ standings_of ws
+standings-same ws s {i} w new p at e = ap (λ (ss : List Standing). no_standing ∷ ss) (map-set_same standing_of ws i new (e ∙ ap standing_of (at ∙ get_or_default ws i w new p.within)))
 
 -- no session holds a resource twice
-pub apart-at : (ws : List Locker) (s : ℕ) → All IsKeptLocker ws → AreApart (standing_at s (map standing_of ws)).held
-apart-at [] s k = tt
-apart-at (w ∷ ws) zero k = (All-head IsKeptLocker w ws k).apart
-apart-at (w ∷ ws) (suc s) k = apart-at ws s (All-tail IsKeptLocker w ws k)
+pub apart-at : (ws : List Locker) (s : ℕ) → All IsKeptLocker ws → AreApart (standing_at s (standings_of ws)).held
+apart-at ws zero k = tt
+apart-at [] (suc s) k = tt
+apart-at (w ∷ ws) (suc zero) k = (All-head IsKeptLocker w ws k).apart
+apart-at (w ∷ ws) (suc (suc s)) k = apart-at ws (suc s) (All-tail IsKeptLocker w ws k)
 
 -- the lockers and the cells agree about the resource that has changed, and about the others as before
 pub all-agree : (r : List ℕ) (v : View) (d e : Desk) → ((q : List ℕ) → view_at q e ≡ cond (same_path r q) v (view_at q d)) → DoAgree r v (standings e)

@@ -1,5 +1,5 @@
 -- A session asks: the desk stays whole, and what is seen is what the answer says.
-use Rattle.std.proofs.Common.{◌≡◌, ℕ, zero, suc, ◌<◌, Bool, true, false, cond, eqb, inl, inr, List, [], ◌∷◌, ◌++◌, length, map, get_or, set, None, is_some, refl, sym, ◌∙◌, ap, arith, subst}
+use Rattle.std.proofs.Common.{◌≡◌, ℕ, zero, suc, ◌-◌, ◌<◌, ◌≤◌, Bool, true, false, cond, eqb, inl, inr, List, [], ◌∷◌, ◌++◌, length, get_or, set, None, is_some, refl, sym, ◌∙◌, ap, arith, subst}
 use Rattle.std.specs.Prelude.{vec_len}
 use Rattle.std.specs.List.{All}
 use Rattle.std.proofs.lemmas.Bool.Decides.{Decides-eqb}
@@ -10,10 +10,10 @@ use Rattle.lock_modes.specs.declared.Mode.{Mode}
 use Rattle.lock_desk.specs.declared.lockers.Locker.{Locker}
 use Rattle.lock_desk.specs.declared.desk.Desk.{Desk}
 use Rattle.lock_desk.specs.Cells.{View, has_session, has_path, can_grant, view_after_asking, CellsBecame}
-use Rattle.lock_desk.specs.Lockers.{Standing, standing_of, standing_at, is_wanted, standing_after_asking, IsKeptLocker, DoAgree}
+use Rattle.lock_desk.specs.Lockers.{Standing, standing_of, standings_of, standing_at, is_wanted, standing_after_asking, IsKeptLocker, DoAgree}
 use Rattle.lock_desk.specs.Changes.{view_at, standings, standing, mode_held, IsWhole, IsSameSeen, HasAsked}
 use Rattle.lock_desk.proofs.SessionModes.{mode-has}
-use Rattle.lock_desk.proofs.LockerStandings.{standings-set, standing-here, length-standings}
+use Rattle.lock_desk.proofs.LockerStandings.{IsPositionOf, standings-set, standing-here, length-standings}
 use Rattle.lock_desk.proofs.CellTable.{same-view}
 use Rattle.lock_desk.proofs.Agreement.{own-standing, other-standing, standings-same, all-agree, asked-agree, asked-other}
 
@@ -25,9 +25,9 @@ idle-there s r d w idle = sym ((w.agree r).wanted s) ∙ ap (is_wanted r) idle
 pub held-locker : (s : ℕ) (r : List ℕ) (d : Desk) → IsWhole d → has_path r (standing s d).held ≡ is_some (mode_held d s r)
 held-locker s r d w = (w.agree r).held s ∙ sym (mode-has s (view_at r d).holders)
 
--- a session within the lockers has one
-pub within : (d : Desk) (s : ℕ) → s < vec_len d.lockers → s < length d.lockers.items
-within d s h = omega (arith, h, d.lockers.ok.0)
+-- a session within the lockers has one, at its position
+pub within : (d : Desk) (s : ℕ) {i : ℕ} → i ≡ s - 1 → 1 ≤ s → s ≤ vec_len d.lockers → IsPositionOf s i d.lockers.items
+within d s is some h = record { session = omega (arith, is, some); within = omega (arith, is, some, h, d.lockers.ok.0) }
 
 -- writing what is there changes nothing
 set-there : (ss : List Standing) (s : ℕ) → set ss s (standing_at s ss) ≡ ss
@@ -36,13 +36,13 @@ set-there (x ∷ ss) zero = refl
 set-there (x ∷ ss) (suc s) = ap (λ (xs : List Standing). x ∷ xs) (set-there ss s)
 
 -- a locker that got room says the same
-module _ (d : Desk) (s : ℕ) (locker new : Locker) (w : IsWhole d) (lt : s < length d.lockers.items) (at : locker ≡ get_or d.lockers.items s locker) (same : standing_of new ≡ standing_of locker) (kept : IsKeptLocker new) where
+module _ (d : Desk) (s : ℕ) (locker new : Locker) (w : IsWhole d) {i : ℕ} (lt : IsPositionOf s i d.lockers.items) (at : locker ≡ get_or d.lockers.items i locker) (same : standing_of new ≡ standing_of locker) (kept : IsKeptLocker new) where
   seen-again : (r : List ℕ) (e : Desk) → CellsBecame r (view_at r d) d.cells.entries e.cells.entries → (q : List ℕ) → view_at q e ≡ view_at q d
   seen-again r e b q = b.views q ∙ sym (same-view r q d.cells.entries)
 
-  module _ (r : List ℕ) (e : Desk) (count : e.count ≡ d.count) (lockers : e.lockers.items ≡ set d.lockers.items s new) (b : CellsBecame r (view_at r d) d.cells.entries e.cells.entries) where
+  module _ (r : List ℕ) (e : Desk) (count : e.count ≡ d.count) (lockers : e.lockers.items ≡ set d.lockers.items i new) (b : CellsBecame r (view_at r d) d.cells.entries e.cells.entries) where
     standings-again : standings e ≡ standings d
-    standings-again = ap (map standing_of) lockers ∙ standings-same d.lockers.items s locker new lt at same
+    standings-again = ap standings_of lockers ∙ standings-same d.lockers.items s locker new lt at same
 
     -- nothing is seen of the room that was made
     pub room-same : IsSameSeen d e
@@ -52,34 +52,34 @@ module _ (d : Desk) (s : ℕ) (locker new : Locker) (w : IsWhole d) (lt : s < le
     pub room-whole : IsWhole e
     room-whole = record {
       cells = b.kept;
-      lockers = rw lockers (All-set IsKeptLocker d.lockers.items s new kept w.lockers);
+      lockers = rw lockers (All-set IsKeptLocker d.lockers.items i new kept w.lockers);
       agree = λ x. subst (λ (v : View). DoAgree x v (standings e)) (sym (seen-again r e b x)) (subst (DoAgree x (view_at x d)) (sym standings-again) (w.agree x));
     }
 
   -- it holds what it held
-  pub mid-held : (r : List ℕ) (mid : Locker) → mid ≡ get_or (set d.lockers.items s new) s mid → has_path r mid.held.items ≡ has_path r (standing s d).held
-  mid-held r mid at-mid = ap (λ (x : Standing). has_path r x.held) (ap standing_of (at-mid ∙ get_or-set_same d.lockers.items s new mid lt) ∙ (same ∙ sym (standing-here d.lockers.items s locker lt at)))
+  pub mid-held : (r : List ℕ) (mid : Locker) → mid ≡ get_or (set d.lockers.items i new) i mid → has_path r mid.held.items ≡ has_path r (standing s d).held
+  mid-held r mid at-mid = ap (λ (x : Standing). has_path r x.held) (ap standing_of (at-mid ∙ get_or-set_same d.lockers.items i new mid lt.within) ∙ (same ∙ sym (standing-here d.lockers.items s locker lt at)))
 
   -- and then is written once more
-  module _ (r : List ℕ) (granted : Bool) (mid last : Locker) (items : List Locker) (at-mid : mid ≡ get_or (set d.lockers.items s new) s mid) (then : standing_of last ≡ standing_after_asking granted r (standing_of mid)) (last-kept : IsKeptLocker last)
-      (lockers : items ≡ set (set d.lockers.items s new) s last) where
+  module _ (r : List ℕ) (granted : Bool) (mid last : Locker) (items : List Locker) (at-mid : mid ≡ get_or (set d.lockers.items i new) i mid) (then : standing_of last ≡ standing_after_asking granted r (standing_of mid)) (last-kept : IsKeptLocker last)
+      (lockers : items ≡ set (set d.lockers.items i new) i last) where
     mid-new : mid ≡ new
-    mid-new = at-mid ∙ get_or-set_same d.lockers.items s new mid lt
+    mid-new = at-mid ∙ get_or-set_same d.lockers.items i new mid lt.within
 
-    pub twice-own : map standing_of items ≡ set (standings d) s (standing_after_asking granted r (standing s d))
+    pub twice-own : standings_of items ≡ set (standings d) s (standing_after_asking granted r (standing s d))
     twice-own =
-        ap (map standing_of) lockers ∙ (standings-set (set d.lockers.items s new) s last
+        ap standings_of lockers ∙ (standings-set (set d.lockers.items i new) s last lt.session
         ∙ (ap (λ (ss : List Standing). set ss s (standing_of last)) (standings-same d.lockers.items s locker new lt at same)
         ∙ ap (λ (x : Standing). set (standings d) s x) (then ∙ ap (standing_after_asking granted r) (ap standing_of mid-new ∙ (same ∙ sym (standing-here d.lockers.items s locker lt at))))))
 
     pub twice-kept : All IsKeptLocker items
-    twice-kept = rw lockers (All-set IsKeptLocker (set d.lockers.items s new) s last last-kept (All-set IsKeptLocker d.lockers.items s new kept w.lockers))
+    twice-kept = rw lockers (All-set IsKeptLocker (set d.lockers.items i new) i last last-kept (All-set IsKeptLocker d.lockers.items i new kept w.lockers))
 
 -- a locker is written once
-pub once-own : (d : Desk) (s : ℕ) (r : List ℕ) (locker last : Locker) (items : List Locker) (granted : Bool) → s < length d.lockers.items → locker ≡ get_or d.lockers.items s locker → standing_of last ≡ standing_after_asking granted r (standing_of locker) → items ≡ set d.lockers.items s last
-    → map standing_of items ≡ set (standings d) s (standing_after_asking granted r (standing s d))
+pub once-own : (d : Desk) (s : ℕ) {i : ℕ} (r : List ℕ) (locker last : Locker) (items : List Locker) (granted : Bool) → IsPositionOf s i d.lockers.items → locker ≡ get_or d.lockers.items i locker → standing_of last ≡ standing_after_asking granted r (standing_of locker) → items ≡ set d.lockers.items i last
+    → standings_of items ≡ set (standings d) s (standing_after_asking granted r (standing s d))
 once-own d s r locker last items granted lt at then lockers =
-    ap (map standing_of) lockers ∙ (standings-set d.lockers.items s last ∙ ap (λ (x : Standing). set (standings d) s x) (then ∙ ap (standing_after_asking granted r) (sym (standing-here d.lockers.items s locker lt at))))
+    ap standings_of lockers ∙ (standings-set d.lockers.items s last lt.session ∙ ap (λ (x : Standing). set (standings d) s x) (then ∙ ap (standing_after_asking granted r) (sym (standing-here d.lockers.items s locker lt at))))
 
 -- or not at all, where the resource is held already
 pub never-own : (d : Desk) (s : ℕ) (r : List ℕ) → has_path r (standing s d).held ≡ true → (standing s d).wanted ≡ None → standings d ≡ set (standings d) s (standing_after_asking true r (standing s d))
@@ -94,7 +94,7 @@ never-own d s r held idle =
 -- a cell that got room says the same
 
 pub there-same : (r : List ℕ) (d e : Desk) → e.count ≡ d.count → e.lockers ≡ d.lockers → CellsBecame r (view_at r d) d.cells.entries e.cells.entries → IsSameSeen d e
-there-same r d e count lockers b = record { count = count; standings_same = ap (λ v. map standing_of v.items) lockers; views = λ q. b.views q ∙ sym (same-view r q d.cells.entries) }
+there-same r d e count lockers b = record { count = count; standings_same = ap (λ v. standings_of v.items) lockers; views = λ q. b.views q ∙ sym (same-view r q d.cells.entries) }
 
 pub there-whole : (r : List ℕ) (d e : Desk) → e.count ≡ d.count → e.lockers ≡ d.lockers → CellsBecame r (view_at r d) d.cells.entries e.cells.entries → IsWhole d → IsWhole e
 there-whole r d e count lockers b w =
@@ -106,10 +106,10 @@ there-whole r d e count lockers b w =
     }
 
 -- the session has asked
-module _ (d : Desk) (s : ℕ) (r : List ℕ) (m : Mode) (granted : Bool) (e : Desk) (w : IsWhole d) (lt : s < length d.lockers.items) (idle : (standing s d).wanted ≡ None) (is : granted ≡ can_grant (record { session = s; mode = m }) (view_at r d))
+module _ (d : Desk) (s : ℕ) (r : List ℕ) (m : Mode) (granted : Bool) (e : Desk) (w : IsWhole d) {i : ℕ} (lt : IsPositionOf s i d.lockers.items) (idle : (standing s d).wanted ≡ None) (is : granted ≡ can_grant (record { session = s; mode = m }) (view_at r d))
     (own : standings e ≡ set (standings d) s (standing_after_asking granted r (standing s d))) (b : CellsBecame r (view_after_asking (record { session = s; mode = m }) (view_at r d)) d.cells.entries e.cells.entries) where
   long : s < length (standings d)
-  long = omega (arith, lt, length-standings d.lockers.items)
+  long = omega (arith, lt.session, lt.within, length-standings d.lockers.items)
 
   asked-transaction : (g : Bool) (x : Standing) → (standing_after_asking g r x).transaction ≡ x.transaction
   asked-transaction true x = refl

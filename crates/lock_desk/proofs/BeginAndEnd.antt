@@ -1,5 +1,5 @@
 -- A transaction begins or ends: its locker is with_transaction.
-use Rattle.std.proofs.Common.{◌≡◌, ℕ, zero, suc, ◌+◌, ◌<◌, ◌≤◌, Bool, true, false, cond, eqb, inl, inr, List, [], ◌∷◌, length, map, get_or, set, Option, Some, None, refl, sym, ◌∙◌, ap, arith, subst}
+use Rattle.std.proofs.Common.{◌≡◌, ℕ, zero, suc, ◌+◌, ◌<◌, ◌≤◌, Bool, true, false, cond, eqb, inl, inr, List, [], ◌∷◌, length, get_or, set, Option, Some, None, refl, sym, ◌∙◌, ap, arith, subst}
 use Rattle.std.proofs.lemmas.Bool.{cases_Bool}
 use Rattle.lock_rules.proofs.Sound.{eqb-swap}
 use Rattle.std.specs.List.{All}
@@ -15,30 +15,31 @@ use Rattle.lock_rules.specs.Waits.{doom}
 use Rattle.lock_desk.specs.declared.lockers.Locker.{Locker}
 use Rattle.lock_desk.specs.declared.desk.Desk.{Desk}
 use Rattle.lock_desk.specs.Cells.{View, has_session, view_after_giving_up, view_after_freeing, cell_view, has_path, AreApart, AreKeptCells, CellsBecame}
-use Rattle.lock_desk.specs.Lockers.{Standing, wanted_in, standing_of, standing_at, is_wanted, locks_to_come, IsOfKind, IsKeptLocker, AreSameOrGranted, DoAgree}
+use Rattle.lock_desk.specs.Lockers.{Standing, wanted_in, standing_of, standings_of, standing_at, is_wanted, locks_to_come, IsOfKind, IsKeptLocker, AreSameOrGranted, DoAgree}
 use Rattle.lock_desk.specs.Changes.{view_at, standings, standing, view_after_unlock, view_after_cancel, IsWhole, HasFreed, HasGivenBackAll, HasCancelled, HasDoomed, HasBegun, HasEnded}
-use Rattle.lock_desk.proofs.LockerStandings.{standings-set, standing-here, length-standings}
+use Rattle.lock_desk.proofs.LockerStandings.{IsPositionOf, standings-set, standing-here, length-standings}
 use Rattle.lock_desk.proofs.Agreement.{own-standing, other-standing, GivesUp}
 use Rattle.lock_desk.proofs.Asking.{idle-there}
 use Rattle.lock_desk.proofs.GivingUp.{gives-request, freed-agree, freed-own, has-freed, freed-whole}
 
 -- no session holds more than its limit
-pub few-at : (ws : List Locker) (s : ℕ) → All IsKeptLocker ws → length (standing_at s (map standing_of ws)).held ≤ MAX_LOCKS
-few-at [] s k = omega arith
-few-at (w ∷ ws) zero k = let f = (All-head IsKeptLocker w ws k).few in omega arith
-few-at (w ∷ ws) (suc s) k = few-at ws s (All-tail IsKeptLocker w ws k)
+pub few-at : (ws : List Locker) (s : ℕ) → All IsKeptLocker ws → length (standing_at s (standings_of ws)).held ≤ MAX_LOCKS
+few-at ws zero k = omega arith
+few-at [] (suc s) k = omega arith
+few-at (w ∷ ws) (suc zero) k = let f = (All-head IsKeptLocker w ws k).few in omega arith
+few-at (w ∷ ws) (suc (suc s)) k = few-at ws (suc s) (All-tail IsKeptLocker w ws k)
 
 -- the standing with this transaction
 abbrev pub with_transaction : Option Transaction → Standing → Standing
 with_transaction o x = record { transaction = o; held = x.held; wanted = x.wanted }
 
-module _ (d : Desk) (s : ℕ) (o : Option Transaction) (locker new : Locker) (e : Desk) (w : IsWhole d) (lt : s < length d.lockers.items) (at : locker ≡ get_or d.lockers.items s locker)
-    (same : standing_of new ≡ with_transaction o (standing_of locker)) (held : new.held ≡ locker.held) (wanted : new.wanted ≡ locker.wanted) (lockers : e.lockers.items ≡ set d.lockers.items s new) (cells : e.cells ≡ d.cells) where
+module _ (d : Desk) (s : ℕ) (o : Option Transaction) (locker new : Locker) (e : Desk) (w : IsWhole d) {i : ℕ} (lt : IsPositionOf s i d.lockers.items) (at : locker ≡ get_or d.lockers.items i locker)
+    (same : standing_of new ≡ with_transaction o (standing_of locker)) (held : new.held ≡ locker.held) (wanted : new.wanted ≡ locker.wanted) (lockers : e.lockers.items ≡ set d.lockers.items i new) (cells : e.cells ≡ d.cells) where
   all-told : standings e ≡ set (standings d) s (with_transaction o (standing s d))
-  all-told = ap (map standing_of) lockers ∙ (standings-set d.lockers.items s new ∙ ap (λ (x : Standing). set (standings d) s x) (same ∙ ap (with_transaction o) (sym (standing-here d.lockers.items s locker lt at))))
+  all-told = ap standings_of lockers ∙ (standings-set d.lockers.items s new lt.session ∙ ap (λ (x : Standing). set (standings d) s x) (same ∙ ap (with_transaction o) (sym (standing-here d.lockers.items s locker lt at))))
 
   long : s < length (standings d)
-  long = omega (arith, lt, length-standings d.lockers.items)
+  long = omega (arith, lt.session, lt.within, length-standings d.lockers.items)
 
   -- what is then said of the session
   pub own-told : standing s e ≡ with_transaction o (standing s d)
@@ -86,14 +87,14 @@ module _ (d : Desk) (s : ℕ) (o : Option Transaction) (locker new : Locker) (e 
   -- the desk stays whole
   pub told-whole : IsWhole e
   told-whole =
-      let k : IsKeptLocker locker = subst IsKeptLocker (sym at) (All-get_or IsKeptLocker d.lockers.items s locker lt w.lockers) in
+      let k : IsKeptLocker locker = subst IsKeptLocker (sym at) (All-get_or IsKeptLocker d.lockers.items i locker lt.within w.lockers) in
       let to_come = ap locks_to_come wanted in
       let len = ap vec_len held in
       let cap = ap vec_capacity held in
       let long = ap (λ v. length v.items) held in
       record {
         cells = subst (λ cs. AreKeptCells cs.entries) (sym cells) w.cells;
-        lockers = rw lockers (All-set IsKeptLocker d.lockers.items s new (record {
+        lockers = rw lockers (All-set IsKeptLocker d.lockers.items i new (record {
           apart = subst (λ v. AreApart v.items) (sym held) k.apart;
           kind = subst (λ q. IsOfKind q new.held.items) (sym wanted) (subst (λ v. IsOfKind locker.wanted v.items) (sym held) k.kind);
           room = omega (arith, k.room, len, cap, to_come);
@@ -143,24 +144,24 @@ ended-after s d f e w c h = record {
 
 -- a request is cancelled
 
-module _ (d : Desk) (s : ℕ) (r : List ℕ) (locker new : Locker) (w : IsWhole d) (lt : s < length d.lockers.items) (at : locker ≡ get_or d.lockers.items s locker)
+module _ (d : Desk) (s : ℕ) (r : List ℕ) (locker new : Locker) (w : IsWhole d) {i : ℕ} (lt : IsPositionOf s i d.lockers.items) (at : locker ≡ get_or d.lockers.items i locker)
     (asks : (standing_of locker).wanted ≡ Some r) (transaction : new.transaction ≡ locker.transaction) (held : new.held ≡ locker.held) (gone : new.wanted ≡ None) where
   gives : GivesUp part.Request r (standing_of locker) (standing_of new)
   gives = gives-request r (standing_of locker) (standing_of new) transaction (ap (λ v. v.items) held) asks (ap wanted_in gone)
 
   -- the locker without the request agrees with the cell
-  pub cancel-agree : DoAgree r (view_after_giving_up part.Request s (view_at r d)) (map standing_of (set d.lockers.items s new))
+  pub cancel-agree : DoAgree r (view_after_giving_up part.Request s (view_at r d)) (standings_of (set d.lockers.items i new))
   cancel-agree = freed-agree d part.Request s r locker new lt at gives w
 
   -- the lockers are kept
-  pub cancel-lockers : All IsKeptLocker (set d.lockers.items s new)
+  pub cancel-lockers : All IsKeptLocker (set d.lockers.items i new)
   cancel-lockers =
-      let k : IsKeptLocker locker = subst IsKeptLocker (sym at) (All-get_or IsKeptLocker d.lockers.items s locker lt w.lockers) in
+      let k : IsKeptLocker locker = subst IsKeptLocker (sym at) (All-get_or IsKeptLocker d.lockers.items i locker lt.within w.lockers) in
       let none = ap locks_to_come gone in
       let len = ap vec_len held in
       let cap = ap vec_capacity held in
       let long = ap (λ v. length v.items) held in
-      All-set IsKeptLocker d.lockers.items s new (record {
+      All-set IsKeptLocker d.lockers.items i new (record {
         apart = subst (λ v. AreApart v.items) (sym held) k.apart;
         kind = rw gone tt;
         room = omega (arith, k.room, len, cap, none);
@@ -168,7 +169,7 @@ module _ (d : Desk) (s : ℕ) (r : List ℕ) (locker new : Locker) (w : IsWhole 
       }) w.lockers
 
   module _ (e : Desk) (b : CellsBecame r (view_after_freeing part.Request s (view_at r d)) d.cells.entries e.cells.entries)
-      (agree : DoAgree r (view_after_freeing part.Request s (view_at r d)) (standings e)) (lockers : All IsKeptLocker e.lockers.items) (granted : AreSameOrGranted r (map standing_of (set d.lockers.items s new)) (standings e)) where
+      (agree : DoAgree r (view_after_freeing part.Request s (view_at r d)) (standings e)) (lockers : All IsKeptLocker e.lockers.items) (granted : AreSameOrGranted r (standings_of (set d.lockers.items i new)) (standings e)) where
     freed : e.count ≡ d.count → HasFreed part.Request s r d e
     freed count = has-freed d part.Request s r locker new lt at gives w e (ap wanted_in gone) b agree lockers granted count
 
@@ -201,13 +202,13 @@ pub same-whole : (d e : Desk) → IsWhole d → e.lockers.items ≡ d.lockers.it
 same-whole d e w lockers cells = record {
   cells = subst (λ cs. AreKeptCells cs.entries) (sym cells) w.cells;
   lockers = subst (All IsKeptLocker) (sym lockers) w.lockers;
-  agree = λ r. subst (λ (ws : List Locker). DoAgree r (view_at r e) (map standing_of ws)) (sym lockers) (subst (λ cs. DoAgree r (cell_view r cs.entries) (standings d)) (sym cells) (w.agree r));
+  agree = λ r. subst (λ (ws : List Locker). DoAgree r (view_at r e) (standings_of ws)) (sym lockers) (subst (λ cs. DoAgree r (cell_view r cs.entries) (standings d)) (sym cells) (w.agree r));
 }
 
 -- a session that doesn't wait is as if cancelled
 pub same-cancelled : (s : ℕ) (d e : Desk) → IsWhole d → (standing s d).wanted ≡ None → e.count ≡ d.count → e.lockers.items ≡ d.lockers.items → e.cells ≡ d.cells → HasCancelled s d e
 same-cancelled s d e w idle count lockers cells =
-    let stands = λ (u : ℕ). ap (λ (ws : List Locker). standing_at u (map standing_of ws)) lockers in
+    let stands = λ (u : ℕ). ap (λ (ws : List Locker). standing_at u (standings_of ws)) lockers in
     record {
       count = count;
       idle = ap (λ (x : Standing). x.wanted) (stands s) ∙ idle;
@@ -230,6 +231,6 @@ has-doomed s d f e c count views transactions = record {
     go u false e = c.transactions u
 
 -- which transaction that is
-pub doomed-each : (f : Desk) (s : ℕ) (locker : Locker) (o : Option Transaction) → s < length f.lockers.items → locker ≡ get_or f.lockers.items s locker → o ≡ doom locker.transaction
+pub doomed-each : (f : Desk) (s : ℕ) {i : ℕ} (locker : Locker) (o : Option Transaction) → IsPositionOf s i f.lockers.items → locker ≡ get_or f.lockers.items i locker → o ≡ doom locker.transaction
     → (e : Desk) → ((u : ℕ) → (standing u e).transaction ≡ cond (eqb u s) o (standing u f).transaction) → (u : ℕ) → (standing u e).transaction ≡ cond (eqb u s) (doom (standing s f).transaction) (standing u f).transaction
-doomed-each f s locker o lt at is e h u = h u ∙ ap (λ (x : Option Transaction). cond (eqb u s) x (standing u f).transaction) (is ∙ ap (λ (x : Standing). doom x.transaction) (sym (standing-here f.lockers.items s locker lt at)))
+doomed-each f s {i} locker o lt at is e h u = h u ∙ ap (λ (x : Option Transaction). cond (eqb u s) x (standing u f).transaction) (is ∙ ap (λ (x : Standing). doom x.transaction) (sym (standing-here f.lockers.items s locker lt at)))

@@ -12,7 +12,7 @@ use Rattle.lock_rules.specs.Legal.{state_of, IsLegal}
 use Rattle.lock_rules.proofs.Histories.{legal-push, state_of-push}
 use Rattle.lock_desk.specs.declared.book.Book.TheInside.{Inside}
 use Rattle.lock_desk.specs.declared.lockers.Locker.{Locker}
-use Rattle.lock_desk.specs.Lockers.{no_standing, standing_of, standing_at}
+use Rattle.lock_desk.specs.Lockers.{no_standing, standing_of, standings_of, standing_at}
 use Rattle.lock_desk.specs.Changes.{IsWhole}
 use Rattle.lock_desk.specs.Ready.{IsReadyDesk}
 use Rattle.lock_desk.specs.Shows.{Shows}
@@ -22,7 +22,7 @@ use Rattle.lock_desk.specs.Invariant.{IsKept}
 -- one entry more
 pub kept-more : (a : Inside) (es : List Entry) (session : ℕ) (call : Call) (reply : Reply) → a.history.items ≡ es ++ record { session = session; call = call; reply = reply } ∷ []
     → 1 ≤ a.sessions → a.sessions ≤ MAX_SESSIONS → IsLegal es → All (IsEntryWithin a.sessions) es → 1 ≤ session → session ≤ a.sessions
-    → reply ≡ (step (state_of es) session call).reply → Shows a.desk (step (state_of es) session call).state → IsWhole a.desk → IsReadyDesk a.desk → vec_len a.desk.lockers ≡ a.sessions + 1 → a.desk.count ≤ length es + 1 → IsKept a
+    → reply ≡ (step (state_of es) session call).reply → Shows a.desk (step (state_of es) session call).state → IsWhole a.desk → IsReadyDesk a.desk → vec_len a.desk.lockers ≡ a.sessions → a.desk.count ≤ length es + 1 → IsKept a
 kept-more a es session call reply h any few legal within some most same shows whole ready lockers counted =
     let e : Entry = record { session = session; call = call; reply = reply } in
     record {
@@ -38,7 +38,7 @@ kept-more a es session call reply h any few legal within some most same shows wh
     }
 
 -- the same history
-pub kept-same : (a : Inside) (es : List Entry) → a.history.items ≡ es → 1 ≤ a.sessions → a.sessions ≤ MAX_SESSIONS → IsLegal es → All (IsEntryWithin a.sessions) es → Shows a.desk (state_of es) → IsWhole a.desk → IsReadyDesk a.desk → vec_len a.desk.lockers ≡ a.sessions + 1 → (n : ℕ) → n ≡ (state_of es).count → n ≤ length es → IsKept a
+pub kept-same : (a : Inside) (es : List Entry) → a.history.items ≡ es → 1 ≤ a.sessions → a.sessions ≤ MAX_SESSIONS → IsLegal es → All (IsEntryWithin a.sessions) es → Shows a.desk (state_of es) → IsWhole a.desk → IsReadyDesk a.desk → vec_len a.desk.lockers ≡ a.sessions → (n : ℕ) → n ≡ (state_of es).count → n ≤ length es → IsKept a
 kept-same a es h any few legal within shows whole ready lockers n c least = record {
   some = any;
   few = few;
@@ -56,8 +56,12 @@ pub bound : {a b c : ℕ} → a ≤ b + 1 → b ≤ c → a ≤ c + 1
 bound h k = omega arith
 
 -- one locker more of no transaction
-pub none-push : (ws : List Locker) (w : Locker) → ((s : ℕ) → standing_at s (map standing_of ws) ≡ no_standing) → standing_of w ≡ no_standing → (s : ℕ) → standing_at s (map standing_of (ws ++ w ∷ [])) ≡ no_standing
-none-push [] w h e zero = e
-none-push [] w h e (suc s) = refl
-none-push (x ∷ ws) w h e zero = h zero
-none-push (x ∷ ws) w h e (suc s) = none-push ws w (λ i. h (suc i)) e s
+pub none-push : (ws : List Locker) (w : Locker) → ((s : ℕ) → standing_at s (standings_of ws) ≡ no_standing) → standing_of w ≡ no_standing → (s : ℕ) → standing_at s (standings_of (ws ++ w ∷ [])) ≡ no_standing
+none-push ws w h e zero = refl
+none-push ws w h e (suc s) = go ws (λ i. h (suc i)) s
+  where
+    go : (xs : List Locker) → ((i : ℕ) → standing_at i (map standing_of xs) ≡ no_standing) → (i : ℕ) → standing_at i (map standing_of (xs ++ w ∷ [])) ≡ no_standing
+    go [] k zero = e
+    go [] k (suc i) = refl
+    go (x ∷ xs) k zero = k zero
+    go (x ∷ xs) k (suc i) = go xs (λ j. k (suc j)) i

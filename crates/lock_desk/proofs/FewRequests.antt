@@ -66,5 +66,5 @@ module _ (d : Desk) (st : rules.State) (w : IsWhole d) (i : IsSound st.table) (h
   beyond (x ∷ ss) zero le = absurd (omega arith)
   beyond (x ∷ ss) (suc s) le = beyond ss s (omega arith)
 
-  pub few-waits : (n : ℕ) → n + 1 ≡ length d.lockers.items → length st.table.requests ≤ n
+  pub few-waits : (n : ℕ) → n ≡ length d.lockers.items → length st.table.requests ≤ n
   few-waits n long = pigeons n st.table.requests i.once (idle-times 0 nobody-waits) (λ s lt. idle-times s (beyond (standings d) s (omega (arith, lt, long, length-standings d.lockers.items))))

@@ -1,5 +1,5 @@
 -- A session gives back all its locks, the last one first.
-use Rattle.std.proofs.Common.{◌≡◌, ℕ, ◌+◌, ◌<◌, Bool, true, false, cond, inl, inr, List, [], ◌∷◌, ◌++◌, length, map, get_or, set, Option, Some, None, refl, sym, ◌∙◌, ap, arith, subst}
+use Rattle.std.proofs.Common.{◌≡◌, ℕ, ◌+◌, Bool, true, false, cond, inl, inr, List, [], ◌∷◌, ◌++◌, get_or, set, Option, Some, None, refl, sym, ◌∙◌, ap, arith, subst}
 use Rattle.std.proofs.lemmas.Bool.{or_right}
 use Rattle.std.specs.List.{All}
 use Rattle.std.specs.Prelude.{vec_len, vec_capacity}
@@ -11,9 +11,9 @@ use Rattle.lock_desk.specs.declared.lockers.Request.{Request}
 use Rattle.lock_desk.specs.declared.lockers.Locker.{Locker}
 use Rattle.lock_desk.specs.declared.desk.Desk.{Desk}
 use Rattle.lock_desk.specs.Cells.{View, has_session, view_after_giving_up, view_after_freeing, has_path, AreApart, CellsBecame}
-use Rattle.lock_desk.specs.Lockers.{Standing, wanted_in, standing_of, locks_to_come, IsKeptLocker, AreSameOrGranted, DoAgree}
+use Rattle.lock_desk.specs.Lockers.{Standing, wanted_in, standing_of, standings_of, locks_to_come, IsKeptLocker, AreSameOrGranted, DoAgree}
 use Rattle.lock_desk.specs.Changes.{view_at, standings, standing, view_after_unlock, IsWhole, HasGivenBack, HasGivenBackAll}
-use Rattle.lock_desk.proofs.LockerStandings.{standing-here, apart-pop, has_path-push, has_path-push_other}
+use Rattle.lock_desk.proofs.LockerStandings.{IsPositionOf, standing-here, apart-pop, has_path-push, has_path-push_other}
 use Rattle.lock_desk.proofs.Agreement.{apart-at, GivesUp}
 use Rattle.lock_desk.proofs.GivingUp.{gives-last, freed-agree, freed-own, has-freed, freed-whole}
 
@@ -24,10 +24,10 @@ none-in (Some q) h = absurd (cc)
 
 -- the last lock goes
 
-module _ (d : Desk) (s : ℕ) (r : List ℕ) (locker new : Locker) (w : IsWhole d) (lt : s < length d.lockers.items) (at : locker ≡ get_or d.lockers.items s locker)
+module _ (d : Desk) (s : ℕ) (r : List ℕ) (locker new : Locker) (w : IsWhole d) {i : ℕ} (lt : IsPositionOf s i d.lockers.items) (at : locker ≡ get_or d.lockers.items i locker)
     (pops : locker.held.items ≡ new.held.items ++ r ∷ []) (transaction : new.transaction ≡ locker.transaction) (wanted : new.wanted ≡ locker.wanted) (idle : (standing s d).wanted ≡ None) where
   kept : IsKeptLocker locker
-  kept = subst IsKeptLocker (sym at) (All-get_or IsKeptLocker d.lockers.items s locker lt w.lockers)
+  kept = subst IsKeptLocker (sym at) (All-get_or IsKeptLocker d.lockers.items i locker lt.within w.lockers)
 
   waits-not : (standing_of locker).wanted ≡ None
   waits-not = ap (λ (x : Standing). x.wanted) (sym (standing-here d.lockers.items s locker lt at)) ∙ idle
@@ -36,15 +36,15 @@ module _ (d : Desk) (s : ℕ) (r : List ℕ) (locker new : Locker) (w : IsWhole 
   gives = gives-last r (standing_of locker) (standing_of new) kept.apart transaction (ap wanted_in wanted) pops
 
   -- the locker without the lock agrees with the cell that its holder has left
-  pub back-agree : DoAgree r (view_after_giving_up part.Lock s (view_at r d)) (map standing_of (set d.lockers.items s new))
+  pub back-agree : DoAgree r (view_after_giving_up part.Lock s (view_at r d)) (standings_of (set d.lockers.items i new))
   back-agree = freed-agree d part.Lock s r locker new lt at gives w
 
   -- the lockers are kept
-  pub back-lockers : vec_len new.held + 1 ≡ vec_len locker.held → vec_capacity new.held ≡ vec_capacity locker.held → All IsKeptLocker (set d.lockers.items s new)
+  pub back-lockers : vec_len new.held + 1 ≡ vec_len locker.held → vec_capacity new.held ≡ vec_capacity locker.held → All IsKeptLocker (set d.lockers.items i new)
   back-lockers len cap =
       let one = ap locks_to_come wanted in
       let none : new.wanted ≡ None = wanted ∙ none-in locker.wanted waits-not in
-      All-set IsKeptLocker d.lockers.items s new (record {
+      All-set IsKeptLocker d.lockers.items i new (record {
         apart = (apart-pop new.held.items r (subst AreApart pops kept.apart)).0;
         kind = rw none tt;
         room = omega (arith, len, cap, kept.room, one);
@@ -52,7 +52,7 @@ module _ (d : Desk) (s : ℕ) (r : List ℕ) (locker new : Locker) (w : IsWhole 
       }) w.lockers
 
   module _ (e : Desk) (count : e.count ≡ d.count)
-      (b : CellsBecame r (view_after_freeing part.Lock s (view_at r d)) d.cells.entries e.cells.entries) (agree : DoAgree r (view_after_freeing part.Lock s (view_at r d)) (standings e)) (lockers : All IsKeptLocker e.lockers.items) (granted : AreSameOrGranted r (map standing_of (set d.lockers.items s new)) (standings e)) where
+      (b : CellsBecame r (view_after_freeing part.Lock s (view_at r d)) d.cells.entries e.cells.entries) (agree : DoAgree r (view_after_freeing part.Lock s (view_at r d)) (standings e)) (lockers : All IsKeptLocker e.lockers.items) (granted : AreSameOrGranted r (standings_of (set d.lockers.items i new)) (standings e)) where
     none-left : (standing_of new).wanted ≡ None
     none-left = ap wanted_in wanted ∙ waits-not
 

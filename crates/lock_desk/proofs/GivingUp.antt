@@ -1,5 +1,5 @@
 -- A session gives up one lock, wherever it stands in its list, or its request.
-use Rattle.std.proofs.Common.{◌≡◌, ℕ, ◌+◌, ◌<◌, ◌≤◌, Bool, true, false, cond, not, eqb, ◌⊎◌, inl, inr, List, [], ◌∷◌, ◌++◌, length, map, get_or, set, Some, None, refl, sym, ◌∙◌, ap, arith, subst}
+use Rattle.std.proofs.Common.{◌≡◌, ℕ, ◌+◌, ◌<◌, ◌≤◌, Bool, true, false, cond, not, eqb, ◌⊎◌, inl, inr, List, [], ◌∷◌, ◌++◌, length, get_or, set, Some, None, refl, sym, ◌∙◌, ap, arith, subst}
 use Rattle.std.proofs.lemmas.Bool.{or_parts, cases_Bool}
 use Rattle.std.specs.List.{All}
 use Rattle.std.proofs.lemmas.Bool.Decides.{Decides-eqb}
@@ -10,9 +10,9 @@ use Rattle.lock_desk.specs.declared.cells.Part.TheVariants as part
 use Rattle.lock_desk.specs.declared.lockers.Locker.{Locker}
 use Rattle.lock_desk.specs.declared.desk.Desk.{Desk}
 use Rattle.lock_desk.specs.Cells.{view_after_giving_up, view_after_freeing, has_path, AreApart, CellsBecame}
-use Rattle.lock_desk.specs.Lockers.{Standing, standing_of, standing_at, is_wanted, paths_but, standing_after_release, IsKeptLocker, IsSameOrGranted, AreSameOrGranted, DoAgree}
+use Rattle.lock_desk.specs.Lockers.{Standing, standing_of, standings_of, standing_at, is_wanted, paths_but, standing_after_release, IsKeptLocker, IsSameOrGranted, AreSameOrGranted, DoAgree}
 use Rattle.lock_desk.specs.Changes.{view_at, standings, standing, IsWhole, HasFreed}
-use Rattle.lock_desk.proofs.LockerStandings.{standings-set, standing-here, length-standings, apart-pop, has_path-push_other}
+use Rattle.lock_desk.proofs.LockerStandings.{IsPositionOf, standings-set, standing-here, length-standings, apart-pop, has_path-push_other}
 use Rattle.lock_desk.proofs.Agreement.{own-standing, other-standing, all-agree, GivesUp, given-agree, given-other, granted-other, not-granted}
 
 -- a session that is admitted has its transaction
@@ -65,22 +65,22 @@ less-but r (p ∷ rs) a h = go (same_path_tells p r) (less-but r rs a.1)
 
 -- one session gives something up
 
-module _ (d : Desk) (p : Part) (s : ℕ) (r : List ℕ) (locker new : Locker) (lt : s < length d.lockers.items) (at : locker ≡ get_or d.lockers.items s locker) (gives : GivesUp p r (standing_of locker) (standing_of new)) (w : IsWhole d) where
+module _ (d : Desk) (p : Part) (s : ℕ) (r : List ℕ) (locker new : Locker) {i : ℕ} (lt : IsPositionOf s i d.lockers.items) (at : locker ≡ get_or d.lockers.items i locker) (gives : GivesUp p r (standing_of locker) (standing_of new)) (w : IsWhole d) where
   long : s < length (standings d)
-  long = omega (arith, lt, length-standings d.lockers.items)
+  long = omega (arith, lt.session, lt.within, length-standings d.lockers.items)
 
-  mid : map standing_of (set d.lockers.items s new) ≡ set (standings d) s (standing_of new)
-  mid = standings-set d.lockers.items s new
+  mid : standings_of (set d.lockers.items i new) ≡ set (standings d) s (standing_of new)
+  mid = standings-set d.lockers.items s new lt.session
 
   here : GivesUp p r (standing s d) (standing_of new)
   here = subst (λ (x : Standing). GivesUp p r x (standing_of new)) (sym (standing-here d.lockers.items s locker lt at)) gives
 
   -- the locker agrees then with the cell where it was given up
-  pub freed-agree : DoAgree r (view_after_giving_up p s (view_at r d)) (map standing_of (set d.lockers.items s new))
+  pub freed-agree : DoAgree r (view_after_giving_up p s (view_at r d)) (standings_of (set d.lockers.items i new))
   freed-agree = subst (DoAgree r (view_after_giving_up p s (view_at r d))) (sym mid) (given-agree (standings d) p s r (standing_of new) long here (view_at r d) (w.agree r))
 
   module _ (e : Desk) (idle : (standing_of new).wanted ≡ None) (b : CellsBecame r (view_after_freeing p s (view_at r d)) d.cells.entries e.cells.entries)
-      (agree : DoAgree r (view_after_freeing p s (view_at r d)) (standings e)) (lockers : All IsKeptLocker e.lockers.items) (granted : AreSameOrGranted r (map standing_of (set d.lockers.items s new)) (standings e)) where
+      (agree : DoAgree r (view_after_freeing p s (view_at r d)) (standings e)) (lockers : All IsKeptLocker e.lockers.items) (granted : AreSameOrGranted r (standings_of (set d.lockers.items i new)) (standings e)) where
     granted-mid : AreSameOrGranted r (set (standings d) s (standing_of new)) (standings e)
     granted-mid = subst (λ (ss : List Standing). AreSameOrGranted r ss (standings e)) mid granted
 

@@ -1,5 +1,5 @@
 -- What a grant does to the lockers.
-use Rattle.std.proofs.Common.{◌≡◌, ℕ, zero, suc, ◌<◌, Bool, true, false, cond, eqb, ◌||◌, inl, inr, List, [], ◌∷◌, ◌++◌, length, map, get_or, set, refl, sym, ◌∙◌, ap, arith}
+use Rattle.std.proofs.Common.{◌≡◌, ℕ, zero, suc, ◌+◌, ◌<◌, Bool, true, false, cond, eqb, ◌||◌, inl, inr, List, [], ◌∷◌, ◌++◌, length, map, get_or, set, refl, sym, ◌∙◌, ap, arith}
 use Rattle.std.proofs.Math.Bool.{or-false, or_assoc}
 use Rattle.std.proofs.lemmas.Bool.{or_right, or_parts, cases_Bool}
 use Rattle.std.proofs.lemmas.Bool.Decides.{nat_tests, Decides-eqb}
@@ -10,7 +10,7 @@ use Rattle.lock_rules.proofs.Alters.{true≢false}
 use Rattle.lock_desk.specs.declared.cells.SessionMode.{SessionMode}
 use Rattle.lock_desk.specs.declared.lockers.Locker.{Locker}
 use Rattle.lock_desk.specs.Cells.{View, has_session, times, has_path, AreApart, IsOnce}
-use Rattle.lock_desk.specs.Lockers.{Standing, no_standing, standing_of, standing_at, is_wanted, with_path, standing_after_grant, IsSameOrGranted, AreSameOrGranted, DoAgree}
+use Rattle.lock_desk.specs.Lockers.{Standing, no_standing, standing_of, standings_of, standing_at, is_wanted, with_path, standing_after_grant, IsSameOrGranted, AreSameOrGranted, DoAgree}
 use Rattle.lock_desk.proofs.SessionModes.{has_tells, has_session-with_holder}
 use Rattle.lock_desk.proofs.ResourceViews.{IsNext}
 
@@ -49,20 +49,31 @@ apart-pop (r ∷ rs) q a =
 
 -- lockers
 
+-- the session has a locker, at its position
+pub record IsPositionOf (s i : ℕ) (ws : List Locker) : Type 0 where
+  pub session : suc i ≡ s
+  pub within : i < length ws
+
 -- writing a locker writes its standing
-pub standings-set : (ws : List Locker) (i : ℕ) (w : Locker) → map standing_of (set ws i w) ≡ set (map standing_of ws) i (standing_of w)
-standings-set [] i w = refl
-standings-set (x ∷ ws) zero w = refl
-standings-set (x ∷ ws) (suc i) w = ap (λ (ss : List Standing). standing_of x ∷ ss) (standings-set ws i w)
+pub standings-set : (ws : List Locker) (s : ℕ) {i : ℕ} (w : Locker) → suc i ≡ s → standings_of (set ws i w) ≡ set (standings_of ws) s (standing_of w)
+standings-set ws s {i} w e = rw (← e) (ap (λ (ss : List Standing). no_standing ∷ ss) (go ws i))
+  where
+    go : (xs : List Locker) (j : ℕ) → map standing_of (set xs j w) ≡ set (map standing_of xs) j (standing_of w)
+    go [] j = refl
+    go (x ∷ xs) zero = refl
+    go (x ∷ xs) (suc j) = ap (λ (ss : List Standing). standing_of x ∷ ss) (go xs j)
 
--- what the locker at its place says
-pub standing-here : (ws : List Locker) (i : ℕ) (w : Locker) → i < length ws → w ≡ get_or ws i w → standing_at i (map standing_of ws) ≡ standing_of w
-standing-here [] i w lt at = absurd (omega arith)
-standing-here (x ∷ ws) zero w lt at = ap standing_of (sym at)
-standing-here (x ∷ ws) (suc i) w lt at = standing-here ws i w (omega arith) at
+-- what the locker at its position says
+pub standing-here : (ws : List Locker) (s : ℕ) {i : ℕ} (w : Locker) → IsPositionOf s i ws → w ≡ get_or ws i w → standing_at s (standings_of ws) ≡ standing_of w
+standing-here ws s {i} w p at = rw (← p.session) (go ws i p.within at)
+  where
+    go : (xs : List Locker) (j : ℕ) → j < length xs → w ≡ get_or xs j w → standing_at j (map standing_of xs) ≡ standing_of w
+    go [] j lt h = absurd (omega arith)
+    go (x ∷ xs) zero lt h = ap standing_of (sym h)
+    go (x ∷ xs) (suc j) lt h = go xs j (omega arith) h
 
--- as many standings as lockers
-pub length-standings : (ws : List Locker) → length (map standing_of ws) ≡ length ws
+-- one standing more than lockers
+pub length-standings : (ws : List Locker) → length (standings_of ws) ≡ length ws + 1
 length-standings [] = refl
 length-standings (w ∷ ws) = omega (arith, length-standings ws)
 

@@ -1,5 +1,5 @@
 -- Whoever holds or waits in a whole desk is one of its sessions.
-use Rattle.std.proofs.Common.{◌≡◌, ℕ, zero, suc, ◌+◌, ◌<◌, ◌≤◌, Bool, true, false, eqb, ◌||◌, List, [], ◌∷◌, length, Option, Some, None, IfSome, refl, ◌∙◌, ap, arith}
+use Rattle.std.proofs.Common.{◌≡◌, ℕ, zero, suc, ◌<◌, ◌≤◌, Bool, true, false, eqb, ◌||◌, List, [], ◌∷◌, length, Option, Some, None, IfSome, refl, ◌∙◌, ap, arith}
 use Rattle.std.proofs.lemmas.Bool.Decides.{nat_tests, Decides-eqb}
 use Rattle.std.proofs.lemmas.List.Elements.{All-nil, All-cons}
 use Rattle.lock_desk.specs.declared.cells.SessionMode.{SessionMode}
@@ -45,7 +45,7 @@ all-numbered n (c ∷ cs) h k =
     more u false e = e
 
 -- each session that holds or waits has a locker
-pub numbered-whole : (d : Desk) (n : ℕ) → n + 1 ≡ length d.lockers.items → IsWhole d → (r : List ℕ) → IsOfSessions n (view_at r d)
+pub numbered-whole : (d : Desk) (n : ℕ) → n ≡ length d.lockers.items → IsWhole d → (r : List ℕ) → IsOfSessions n (view_at r d)
 numbered-whole d n long w r =
     let o = once-at r d.cells.entries w.cells in
     record {

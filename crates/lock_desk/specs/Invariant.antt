@@ -1,6 +1,6 @@
 -- Private parts speak to one another here, and no public contract of this crate: what
 -- a book keeps.
-use Rattle.std.specs.Prelude.{◌≡◌, ◌+◌, ◌≤◌, length, vec_len}
+use Rattle.std.specs.Prelude.{◌≡◌, ◌≤◌, length, vec_len}
 use Rattle.std.specs.List.{All}
 use Rattle.waits_for.specs.declared.TheConstants.{MAX_SESSIONS}
 use Rattle.lock_rules.specs.Legal.{state_of, IsLegal}
@@ -23,5 +23,5 @@ pub record IsKept (a : Inside) : Type 0 where
   pub shows : Shows a.desk (state_of a.history.items)
   pub whole : IsWhole a.desk
   pub ready : IsReadyDesk a.desk
-  pub lockers : vec_len a.desk.lockers ≡ a.sessions + 1
+  pub lockers : vec_len a.desk.lockers ≡ a.sessions
   pub counted : a.desk.count ≤ length a.history.items

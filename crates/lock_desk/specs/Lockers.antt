@@ -32,9 +32,9 @@ wanted_in (Some q) = Some (resource_asked q)
 abbrev pub standing_of : Locker → Standing
 standing_of w = record { transaction = w.transaction; held = w.held.items; wanted = wanted_in w.wanted }
 
--- what the lockers say of each session
+-- what the lockers say of each session; number 0 is no session's
 abbrev pub standings_of : List Locker → List Standing
-standings_of ws = map standing_of ws
+standings_of ws = no_standing ∷ map standing_of ws
 
 -- what they say of one
 abbrev pub standing_at : ℕ → List Standing → Standing

@@ -8,12 +8,14 @@ ghost use Rattle.lock_rules.specs.Waits.{after_victims};
 ghost use Rattle.lock_rules.specs.Sound.{IsNumbered, IsSound};
 ghost use Rattle.lock_desk.specs.Cells.{pair_of, is_granted};
 ghost use Rattle.lock_desk.specs.declared.cells.Part.TheVariants as part;
+ghost use Rattle.lock_desk.specs.Lockers.{standing_of};
 ghost use Rattle.lock_desk.specs.Changes.{view_at, standing, IsWhole, DoesKeep, mode_held, desk_tests, IsSameSeen, CanAsk, MayAsk, CanLock, CanConvert, HasAsked, CanRelease, HasFreed, HasGivenBack, HasGivenBackAll, HasCancelled, HasDoomed, HasBegun, HasEnded};
 ghost use Rattle.lock_desk.specs.Ready.{IsReadyDesk};
 ghost use Rattle.lock_desk.specs.Shows.{Shows, DoesAnswer};
 
 use crate::cells::{Cell, Part, RequestStatus, SessionMode, ask, cell_of};
 use crate::lockers::{Locker, Request};
+use crate::positions::position_of;
 use crate::refusals::target_of;
 use crate::releases::free;
 use crate::waits::{Waits, fill, new_waits, victim};
@@ -23,9 +25,8 @@ use lock_rules::{Call, MAX_LOCKS, MAX_SESSIONS, Reply};
 use lock_tree::Resource;
 use std::alloc::{AllocError, Global};
 
-/// How many transactions have begun, a locker for each session, at the index of its number, and a cell for each resource
-/// that is held or waited for. The locker at index 0 is nobody's. Who waits for whom is written down only to look for
-/// deadlocks.
+/// How many transactions have begun, a locker for each session, at its position, and a cell for each resource that is
+/// held or waited for. Who waits for whom is written down only to look for deadlocks.
 #[derive(Drop)]
 pub struct Desk {
     pub count: u64,
@@ -42,11 +43,11 @@ impl Desk {
         ensures shows { IfOk result (λ desk. Shows desk empty) }
         ensures whole { IfOk result IsWhole }
         ensures ready { IfOk result IsReadyDesk }
-        ensures lockers { IfOk result (λ desk. vec_len desk.lockers ≡ sessions + 1) }
+        ensures lockers { IfOk result (λ desk. vec_len desk.lockers ≡ sessions) }
     {
         let waits = new_waits(alloc, sessions)?;
         let mut lockers = Vec::new(alloc);
-        for _locker in 0..sessions + 1 {
+        for _locker in 0..sessions {
             lockers.push(Locker::new(alloc))?;
         }
         Ok(Desk {
@@ -55,6 +56,15 @@ impl Desk {
             cells: IndexMap::new(alloc),
             waits,
         })
+    }
+
+    /// The locker of the session.
+    pub(crate) fn locker(&self, session: u16) -> &Locker
+        requires some { 1 ≤ session }
+        requires within { session ≤ vec_len self.now.lockers }
+        ensures { standing_of result.now ≡ standing session self.now }
+    {
+        &self.lockers[position_of(session)]
     }
 
     /// The mode that the session holds on the resource outright.
@@ -93,17 +103,18 @@ impl Desk {
         mode: Mode,
     ) -> Result<RequestStatus, AllocError>
         requires some { 1 ≤ session }
-        requires within { session < vec_len self.old.lockers }
+        requires within { session ≤ vec_len self.old.lockers }
         requires whole { IsWhole self.old }
         requires can { CanLock session resource self.old }
         ensures asked { IfOk result (λ status. HasAsked session resource mode (is_granted status) self.old self.new) }
         ensures err { OnErr result (IsSameSeen self.old self.new) }
         ensures kept { DoesKeep self.old self.new }
     {
-        let locker = &mut self.lockers[session as usize];
+        let position = position_of(session);
+        let locker = &mut self.lockers[position];
         locker.make_room()?;
         let status = ask(&mut self.cells, resource, SessionMode { session, mode })?;
-        let locker = &mut self.lockers[session as usize];
+        let locker = &mut self.lockers[position];
         match status {
             RequestStatus::Granted => locker.hold(resource),
             RequestStatus::Waiting => locker.wait_for(Request::Fresh(resource)),
@@ -119,7 +130,7 @@ impl Desk {
         mode: Mode,
     ) -> Result<RequestStatus, AllocError>
         requires some { 1 ≤ session }
-        requires within { session < vec_len self.old.lockers }
+        requires within { session ≤ vec_len self.old.lockers }
         requires whole { IsWhole self.old }
         requires can { CanConvert session resource self.old }
         ensures asked { IfOk result (λ status. HasAsked session resource mode (is_granted status) self.old self.new) }
@@ -130,7 +141,7 @@ impl Desk {
         match status {
             RequestStatus::Granted => {}
             RequestStatus::Waiting => {
-                let locker = &mut self.lockers[session as usize];
+                let locker = &mut self.lockers[position_of(session)];
                 locker.wait_for(Request::Conversion(resource));
             }
         }
@@ -146,7 +157,7 @@ impl Desk {
         target: Mode,
     ) -> Result<RequestStatus, AllocError>
         requires some { 1 ≤ session }
-        requires within { session < vec_len self.old.lockers }
+        requires within { session ≤ vec_len self.old.lockers }
         requires view_at { held ≡ mode_held self.old session resource }
         requires whole { IsWhole self.old }
         requires can { CanAsk session resource self.old }
@@ -166,13 +177,14 @@ impl Desk {
 
     /// The session gives the resource back.
     fn release(&mut self, session: u16, resource: Resource)
-        requires within { session < vec_len self.old.lockers }
+        requires some { 1 ≤ session }
+        requires within { session ≤ vec_len self.old.lockers }
         requires whole { IsWhole self.old }
         requires can { CanRelease session resource self.old }
         ensures freed { HasFreed part.Lock session resource self.old self.new }
         ensures kept { DoesKeep self.old self.new }
     {
-        let locker = &mut self.lockers[session as usize];
+        let locker = &mut self.lockers[position_of(session)];
         locker.release(resource);
         free(
             &mut self.cells,
@@ -185,14 +197,15 @@ impl Desk {
 
     /// Gives back what the session was granted last.
     fn give_back(&mut self, session: u16)
-        requires within { session < vec_len self.old.lockers }
+        requires some { 1 ≤ session }
+        requires within { session ≤ vec_len self.old.lockers }
         requires whole { IsWhole self.old }
         requires idle { (standing session self.old).wanted ≡ None }
-        requires some { 0 < length (standing session self.old).held }
+        requires holds { 0 < length (standing session self.old).held }
         ensures back { HasGivenBack session self.old self.new }
         ensures kept { DoesKeep self.old self.new }
     {
-        let locker = &mut self.lockers[session as usize];
+        let locker = &mut self.lockers[position_of(session)];
         if let Some(resource) = locker.release_last() {
             free(
                 &mut self.cells,
@@ -206,7 +219,8 @@ impl Desk {
 
     /// Gives back all that the session holds, and says how many locks that was.
     fn give_back_all(&mut self, session: u16) -> usize
-        requires within { session < vec_len self.old.lockers }
+        requires some { 1 ≤ session }
+        requires within { session ≤ vec_len self.old.lockers }
         requires whole { IsWhole self.old }
         requires idle { (standing session self.old).wanted ≡ None }
         ensures locks { result ≡ length (standing session self.old).held }
@@ -214,7 +228,7 @@ impl Desk {
         ensures back { HasGivenBackAll session self.old self.new }
         ensures kept { DoesKeep self.old self.new }
     {
-        let locker = &self.lockers[session as usize];
+        let locker = self.locker(session);
         let locks = locker.locks();
         for _lock in 0..locks {
             self.give_back(session);
@@ -224,7 +238,8 @@ impl Desk {
 
     /// A transaction begins, with the next number.
     fn begin(&mut self, session: u16) -> u64
-        requires within { session < vec_len self.old.lockers }
+        requires some { 1 ≤ session }
+        requires within { session ≤ vec_len self.old.lockers }
         requires whole { IsWhole self.old }
         requires room { self.old.count < 18446744073709551615 }
         ensures number { result ≡ self.old.count + 1 }
@@ -232,19 +247,20 @@ impl Desk {
         ensures kept { DoesKeep self.old self.new }
     {
         self.count += 1;
-        let locker = &mut self.lockers[session as usize];
+        let locker = &mut self.lockers[position_of(session)];
         locker.begin(self.count);
         self.count
     }
 
     /// Takes away the request of the session, if it waits; the queue of its resource is promoted.
     fn cancel(&mut self, session: u16)
-        requires within { session < vec_len self.old.lockers }
+        requires some { 1 ≤ session }
+        requires within { session ≤ vec_len self.old.lockers }
         requires whole { IsWhole self.old }
         ensures cancelled { HasCancelled session self.old self.new }
         ensures kept { DoesKeep self.old self.new }
     {
-        let locker = &mut self.lockers[session as usize];
+        let locker = &mut self.lockers[position_of(session)];
         if let Some(resource) = locker.cancel() {
             free(
                 &mut self.cells,
@@ -258,7 +274,8 @@ impl Desk {
 
     /// The transaction ends, and all its locks are given back: how many they were.
     fn end(&mut self, session: u16) -> usize
-        requires within { session < vec_len self.old.lockers }
+        requires some { 1 ≤ session }
+        requires within { session ≤ vec_len self.old.lockers }
         requires whole { IsWhole self.old }
         requires idle { (standing session self.old).wanted ≡ None }
         ensures locks { result ≡ length (standing session self.old).held }
@@ -267,14 +284,15 @@ impl Desk {
         ensures kept { DoesKeep self.old self.new }
     {
         let locks = self.give_back_all(session);
-        let locker = &mut self.lockers[session as usize];
+        let locker = &mut self.lockers[position_of(session)];
         locker.end();
         locks
     }
 
     /// The transaction is given up, with its request that waits and all its locks: how many locks they were.
     fn abort(&mut self, session: u16) -> usize
-        requires within { session < vec_len self.old.lockers }
+        requires some { 1 ≤ session }
+        requires within { session ≤ vec_len self.old.lockers }
         requires whole { IsWhole self.old }
         ensures locks { result ≡ length (standing session self.old).held }
         ensures few { result ≤ MAX_LOCKS }
@@ -287,31 +305,32 @@ impl Desk {
 
     /// The session's transaction becomes a deadlock's victim: its request is taken away, and it keeps its locks.
     fn doom(&mut self, session: u16)
-        requires within { session < vec_len self.old.lockers }
+        requires some { 1 ≤ session }
+        requires within { session ≤ vec_len self.old.lockers }
         requires whole { IsWhole self.old }
         ensures doomed { HasDoomed session self.old self.new }
         ensures kept { DoesKeep self.old self.new }
     {
         self.cancel(session);
-        let locker = &mut self.lockers[session as usize];
+        let locker = &mut self.lockers[position_of(session)];
         locker.doom();
     }
 
     /// While the session lies on a circle of waits, the youngest transaction on one becomes a victim. A victim waited,
-    /// and waits no more, so there are fewer victims than sessions.
+    /// and waits no more, so there are no more victims than sessions, and the last round finds none.
     fn settle(&mut self, session: u16)
         requires some { 1 ≤ session }
-        requires within { session < vec_len self.old.lockers }
+        requires within { session ≤ vec_len self.old.lockers }
         requires whole { IsWhole self.old }
         requires ready { IsReadyDesk self.old }
         ensures settled { (st : State) → IsSound st.table → IsNumbered st → Shows self.old st
-            → Shows self.new (after_victims (vec_len self.old.lockers) session st) }
+            → Shows self.new (after_victims (vec_len self.old.lockers + 1) session st) }
         ensures whole { IsWhole self.new }
         ensures ready { IsReadyDesk self.new }
         ensures count { self.new.count ≡ self.old.count }
         ensures len { vec_len self.new.lockers ≡ vec_len self.old.lockers }
     {
-        for _round in 0..self.lockers.len() {
+        for _round in 0..self.lockers.len() + 1 {
             fill(&mut self.waits, &self.lockers, &self.cells);
             let Some(chosen) = victim(&mut self.waits, session) else {
                 return;
@@ -322,11 +341,12 @@ impl Desk {
 
     /// What a session is told of its transaction: that it is a deadlock's victim, or that it waits, or else this.
     fn standing_reply(&self, session: u16, otherwise: Reply) -> Reply
-        requires { session < vec_len self.now.lockers }
+        requires some { 1 ≤ session }
+        requires within { session ≤ vec_len self.now.lockers }
         ensures { let x = standing session self.now in result ≡ (if doomed_in x.transaction then Deadlock
             else (if is_some x.wanted then Waiting else otherwise)) }
     {
-        let locker = &self.lockers[session as usize];
+        let locker = self.locker(session);
         if locker.is_doomed() {
             return Reply::Deadlock;
         }
@@ -339,7 +359,7 @@ impl Desk {
     /// Asks for a mode on the resource, or for what covers it and what is held there.
     fn ask(&mut self, session: u16, resource: Resource, mode: Mode) -> Result<Reply, AllocError>
         requires some { 1 ≤ session }
-        requires within { session < vec_len self.old.lockers }
+        requires within { session ≤ vec_len self.old.lockers }
         requires whole { IsWhole self.old }
         requires ready { IsReadyDesk self.old }
         requires may { MayAsk session resource mode self.old }
@@ -366,7 +386,7 @@ impl Desk {
     /// What the call does where no test fails.
     fn act(&mut self, session: u16, call: Call) -> Result<Reply, AllocError>
         requires some { 1 ≤ session }
-        requires within { session < vec_len self.old.lockers }
+        requires within { session ≤ vec_len self.old.lockers }
         requires whole { IsWhole self.old }
         requires ready { IsReadyDesk self.old }
         requires passed { first_failing (desk_tests self.old session call) ≡ None }
@@ -397,7 +417,7 @@ impl Desk {
     /// One step of the sequential lock manager.
     pub(crate) fn serve(&mut self, session: u16, call: Call) -> Result<Reply, AllocError>
         requires some { 1 ≤ session }
-        requires within { session < vec_len self.old.lockers }
+        requires within { session ≤ vec_len self.old.lockers }
         requires whole { IsWhole self.old }
         requires ready { IsReadyDesk self.old }
         requires room { self.old.count < 18446744073709551615 }

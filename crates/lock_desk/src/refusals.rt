@@ -1,6 +1,6 @@
 //! The tests of each call: the first that fails gives the refusal.
 
-ghost use Rattle.std.specs.Prelude.{◌≡◌, ◌<◌, vec_len};
+ghost use Rattle.std.specs.Prelude.{◌≡◌, ◌≤◌, vec_len};
 ghost use Rattle.lock_rules.specs.Step.{is_nothing, target_of, first_failing};
 ghost use Rattle.lock_desk.specs.Changes.{lacks_need, open_tests, idle_tests, standing_tests, lock_tests, convert_tests, release_tests, request_tests, desk_tests};
 
@@ -26,10 +26,11 @@ impl Desk {
 
     /// The refusal of a session that has no transaction.
     fn open_refusal(&self, session: u16) -> Option<Why>
-        requires { session < vec_len self.now.lockers }
+        requires some { 1 ≤ session }
+        requires within { session ≤ vec_len self.now.lockers }
         ensures { result ≡ first_failing (open_tests self.now session) }
     {
-        if !self.lockers[session as usize].is_open() {
+        if !self.locker(session).is_open() {
             return Some(Why::NoTransaction);
         }
         None
@@ -37,13 +38,14 @@ impl Desk {
 
     /// The refusal of a session that has no transaction, or waits, or is doomed.
     fn idle_refusal(&self, session: u16) -> Option<Why>
-        requires { session < vec_len self.now.lockers }
+        requires some { 1 ≤ session }
+        requires within { session ≤ vec_len self.now.lockers }
         ensures { result ≡ first_failing (idle_tests self.now session) }
     {
         if let Some(why) = self.open_refusal(session) {
             return Some(why);
         }
-        let locker = &self.lockers[session as usize];
+        let locker = self.locker(session);
         if locker.is_waiting() {
             return Some(Why::IsWaiting);
         }
@@ -54,7 +56,8 @@ impl Desk {
     }
 
     fn lock_refusal(&self, session: u16, resource: Resource, mode: Mode) -> Option<Why>
-        requires { session < vec_len self.now.lockers }
+        requires some { 1 ≤ session }
+        requires within { session ≤ vec_len self.now.lockers }
         ensures { result ≡ first_failing (lock_tests self.now session resource mode) }
     {
         if is_nothing(mode) {
@@ -64,7 +67,7 @@ impl Desk {
         if self.lacks_parent(session, resource, target_of(held, mode)) {
             return Some(Why::ParentNotHeld);
         }
-        let locker = &self.lockers[session as usize];
+        let locker = self.locker(session);
         if held.is_none() && locker.locks() >= MAX_LOCKS {
             return Some(Why::TooManyLocks);
         }
@@ -88,13 +91,14 @@ impl Desk {
     }
 
     fn release_refusal(&self, session: u16, resource: Resource) -> Option<Why>
-        requires { session < vec_len self.now.lockers }
+        requires some { 1 ≤ session }
+        requires within { session ≤ vec_len self.now.lockers }
         ensures { result ≡ first_failing (release_tests self.now session resource) }
     {
         if self.held(session, resource).is_none() {
             return Some(Why::NotHeld);
         }
-        if self.lockers[session as usize].holds_below(resource) {
+        if self.locker(session).holds_below(resource) {
             return Some(Why::ChildHeld);
         }
         None
@@ -102,7 +106,8 @@ impl Desk {
 
     /// The refusal by the tests of a call that ask what it is for.
     fn request_refusal(&self, session: u16, call: Call) -> Option<Why>
-        requires { session < vec_len self.now.lockers }
+        requires some { 1 ≤ session }
+        requires within { session ≤ vec_len self.now.lockers }
         ensures { result ≡ first_failing (request_tests self.now session call) }
     {
         match call {
@@ -115,11 +120,12 @@ impl Desk {
 
     /// The refusal by the tests of a call that ask how the session stands.
     fn standing_refusal(&self, session: u16, call: Call) -> Option<Why>
-        requires { session < vec_len self.now.lockers }
+        requires some { 1 ≤ session }
+        requires within { session ≤ vec_len self.now.lockers }
         ensures { result ≡ first_failing (standing_tests self.now session call) }
     {
         match call {
-            Call::Begin if self.lockers[session as usize].is_open() => { Some(Why::AlreadyOpen) }
+            Call::Begin if self.locker(session).is_open() => { Some(Why::AlreadyOpen) }
             Call::Begin => None,
             Call::Poll | Call::Abort => self.open_refusal(session),
             Call::Lock(_, _) | Call::Convert(_, _) | Call::Release(_) | Call::Commit => {
@@ -130,7 +136,8 @@ impl Desk {
 
     /// The refusal of the first test of the call that fails.
     pub(crate) fn refusal(&self, session: u16, call: Call) -> Option<Why>
-        requires { session < vec_len self.now.lockers }
+        requires some { 1 ≤ session }
+        requires within { session ≤ vec_len self.now.lockers }
         ensures { result ≡ first_failing (desk_tests self.now session call) }
     {
         let asked = call;

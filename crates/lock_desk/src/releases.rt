@@ -7,6 +7,7 @@ ghost use Rattle.lock_desk.specs.Lockers.{standings_of, IsKeptLocker, AreSameOrG
 
 use crate::cells::{Cell, Part};
 use crate::lockers::Locker;
+use crate::positions::position_of;
 use indexmap::IndexMap;
 use lock_tree::{Resource, same_path_is_equality};
 
@@ -25,7 +26,7 @@ pub(crate) fn promote(cell: &mut Cell, resource: Resource, lockers: &mut Vec<Loc
     ensures len { vec_len lockers.new ≡ vec_len lockers.old }
 {
     while let Some(granted) = cell.grant_next() {
-        let locker = &mut lockers[granted.session as usize];
+        let locker = &mut lockers[position_of(granted.session)];
         locker.grant(resource);
     }
 }

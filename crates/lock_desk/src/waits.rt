@@ -68,8 +68,8 @@ fn fill_session(
     session: u16,
 )
     requires some { 1 ≤ session }
-    requires within { session < length lockers.now }
-    requires long { waits.old.rows.sessions + 1 ≡ length lockers.now }
+    requires within { session ≤ length lockers.now }
+    requires long { waits.old.rows.sessions ≡ length lockers.now }
     requires ready { IsReady waits.old.rows.sessions waits.old }
     requires numbered { (r : List ℕ) → IsOfSessions waits.old.rows.sessions (cell_view r cells.now.entries) }
     ensures sessions { waits.new.rows.sessions ≡ waits.old.rows.sessions }
@@ -82,7 +82,7 @@ fn fill_session(
 {
     let position = position_of(session);
     clear(waits, position);
-    let locker = &lockers[session as usize];
+    let locker = &lockers[position];
     waits.numbers[position] = locker.number();
     if let Some(resource) = locker.resource_wanted() {
         if let Some(cell) = cell_of(cells, resource) {
@@ -94,7 +94,7 @@ fn fill_session(
 
 /// Writes down for whom each session waits, and the numbers of the transactions.
 pub(crate) fn fill(waits: &mut Waits, lockers: &[Locker], cells: &IndexMap<Resource, Cell>)
-    requires long { waits.old.rows.sessions + 1 ≡ length lockers.now }
+    requires long { waits.old.rows.sessions ≡ length lockers.now }
     requires ready { IsReady waits.old.rows.sessions waits.old }
     requires numbered { (r : List ℕ) → IsOfSessions waits.old.rows.sessions (cell_view r cells.now.entries) }
     ensures sessions { waits.new.rows.sessions ≡ waits.old.rows.sessions }

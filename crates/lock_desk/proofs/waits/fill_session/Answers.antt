@@ -1,9 +1,9 @@
-use Rattle.std.proofs.Common.{◌≡◌, ◌+◌, Bool, true, false, ◌&&◌, ◌||◌, not, cond, eqb, Some, refl, map, ap, sym, ◌∙◌, subst}
+use Rattle.std.proofs.Common.{◌≡◌, ◌+◌, Bool, true, false, ◌&&◌, ◌||◌, not, cond, eqb, Some, refl, ap, sym, ◌∙◌, arith, subst}
 use Rattle.waits_for.specs.Pairs.{pairs_of}
 use Rattle.lock_desk.specs.Cells.{View, view_in, cell_view}
-use Rattle.lock_desk.specs.Lockers.{Standing, standing_of, standing_at}
+use Rattle.lock_desk.specs.Lockers.{Standing, standings_of, standing_at}
 use Rattle.lock_desk.specs.Finding.{AreOfSessions, view_blocks, blocks}
-use Rattle.lock_desk.proofs.LockerStandings.{standing-here}
+use Rattle.lock_desk.proofs.LockerStandings.{IsPositionOf, standing-here}
 use Rattle.lock_desk.proofs.WritingWaits.{written, blocks-there, blocks-nowhere}
 use Rattle.lock_desk.proofs.waits.fill_session.Goals as goal
 
@@ -22,10 +22,11 @@ returns-in-Some-cell_of-clause-pairs c = λ a b.
     let s = c.args.session in
     let p = c.position_of-position.result in
     let r = c.in-Some.resource in
-    let locker = c.index-lockers-session.result in
-    let there : (standing_at s (map standing_of c.args.lockers.now)).wanted ≡ Some r =
-    ap (λ (x : Standing). x.wanted) (standing-here c.args.lockers.now s locker c.requires.within c.index-lockers-session.is) ∙ sym c.in-Some.ensures in
-    let same : view_blocks s (b + 1) (cell_view r c.args.cells.now.entries) ≡ blocks c.args.cells.now.entries (map standing_of c.args.lockers.now) s (b + 1) = sym (blocks-there c.args.cells.now.entries (map standing_of c.args.lockers.now) s (b + 1) r there) in
+    let locker = c.index-lockers-position.result in
+    let position : IsPositionOf s p c.args.lockers.now = record { session = omega (arith, c.requires.some, c.position_of-position.ensures); within = omega (arith, c.requires.some, c.requires.within, c.position_of-position.ensures) } in
+    let there : (standing_at s (standings_of c.args.lockers.now)).wanted ≡ Some r =
+    ap (λ (x : Standing). x.wanted) (standing-here c.args.lockers.now s locker position c.index-lockers-position.is) ∙ sym c.in-Some.ensures in
+    let same : view_blocks s (b + 1) (cell_view r c.args.cells.now.entries) ≡ blocks c.args.cells.now.entries (standings_of c.args.lockers.now) s (b + 1) = sym (blocks-there c.args.cells.now.entries (standings_of c.args.lockers.now) s (b + 1) r there) in
     c.write_waits.ensures.pairs a b
     ∙ (ap (λ (x : Bool). x || (eqb (a + 1) s && view_blocks s (b + 1) (record { holders = c.in-Some-cell_of.cell.now.holders.items; waiting = c.in-Some-cell_of.cell.now.waiting.items }))) (c.clear.ensures.pairs a b)
     ∙ (ap (λ (v : View). (pairs_of c.args.waits.now.rows a b && not (eqb a p)) || (eqb (a + 1) s && view_blocks s (b + 1) v)) (ap view_in c.in-Some-cell_of.ensures)
@@ -37,10 +38,11 @@ returns-in_default-cell_of-clause-pairs c = λ a b.
     let s = c.args.session in
     let p = c.position_of-position.result in
     let r = c.in-Some.resource in
-    let locker = c.index-lockers-session.result in
-    let there : (standing_at s (map standing_of c.args.lockers.now)).wanted ≡ Some r =
-    ap (λ (x : Standing). x.wanted) (standing-here c.args.lockers.now s locker c.requires.within c.index-lockers-session.is) ∙ sym c.in-Some.ensures in
-    let none = blocks-nowhere c.args.cells.now.entries (map standing_of c.args.lockers.now) s (b + 1) r there c.in_default-cell_of.ensures in
+    let locker = c.index-lockers-position.result in
+    let position : IsPositionOf s p c.args.lockers.now = record { session = omega (arith, c.requires.some, c.position_of-position.ensures); within = omega (arith, c.requires.some, c.requires.within, c.position_of-position.ensures) } in
+    let there : (standing_at s (standings_of c.args.lockers.now)).wanted ≡ Some r =
+    ap (λ (x : Standing). x.wanted) (standing-here c.args.lockers.now s locker position c.index-lockers-position.is) ∙ sym c.in-Some.ensures in
+    let none = blocks-nowhere c.args.cells.now.entries (standings_of c.args.lockers.now) s (b + 1) r there c.in_default-cell_of.ensures in
     c.clear.ensures.pairs a b
     ∙ (sym (or-none (pairs_of c.args.waits.now.rows a b && not (eqb a p)) (eqb (a + 1) s))
     ∙ (written s p a (pairs_of c.args.waits.now.rows a b) false c.requires.some c.position_of-position.ensures

@@ -1,4 +1,4 @@
-use Rattle.std.proofs.Common.{◌∙◌, Bool, false, inl, inr, vec_len, ap, arith, subst}
+use Rattle.std.proofs.Common.{◌+◌, ◌∙◌, Bool, false, inl, inr, vec_len, ap, arith, subst}
 use Rattle.std.proofs.lemmas.Bool.{cases_Bool}
 use Rattle.lock_rules.specs.Step.{target_of, is_held}
 use Rattle.lock_desk.specs.Cells.{is_granted}
@@ -34,6 +34,6 @@ returns-in-Waiting-clause-ask c = λ st i j h.
           let numbered = waits-numbered d c.seek.new.self st s r c.args.mode m c.requires.whole i h c.requires.may target n k j in
           let long = c.requires.ready.long in
           let few = few-waits c.seek.new.self (first_state st s r m false) c.seek.ensures.kept.whole sound first c.args.self.now.waits.rows.sessions (omega (arith, long, c.seek.ensures.kept.lockers, c.seek.new.self.lockers.ok.0)) in
-          waits-answer d c.seek.new.self st s r c.args.mode m c.requires.whole i h c.requires.may target n k (vec_len c.seek.new.self.lockers) c.settle.new.self
+          waits-answer d c.seek.new.self st s r c.args.mode m c.requires.whole i h c.requires.may target n k (vec_len c.seek.new.self.lockers + 1) c.settle.new.self
           (omega (arith, few, long, c.seek.ensures.kept.lockers)) c.settle.ensures.whole (c.settle.ensures.settled (first_state st s r m false) sound numbered first) c.standing_reply.result c.standing_reply.ensures
     ]

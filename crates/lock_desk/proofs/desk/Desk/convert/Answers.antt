@@ -24,30 +24,30 @@ returns-in_err-status-clause-kept c =
 
 pub wait_for-requires-clause-kind : goal.wait_for-requires-clause-kind
 wait_for-requires-clause-kind c =
-    ap (λ (x : Standing). has_path c.args.resource x.held) (sym (standing-here c.args.self.now.lockers.items c.args.session c.index_mut-locker.result.now (within c.args.self.now c.args.session c.requires.within) c.index_mut-locker.ensures.value))
+    ap (λ (x : Standing). has_path c.args.resource x.held) (sym (standing-here c.args.self.now.lockers.items c.args.session c.index_mut-locker.result.now (within c.args.self.now c.args.session c.position_of.ensures c.requires.some c.requires.within) c.index_mut-locker.ensures.value))
     ∙ (held-locker c.args.session c.args.resource c.args.self.now c.requires.whole ∙ c.requires.can.held)
 
 pub returns-in-Waiting-clause-asked : goal.returns-in-Waiting-clause-asked
 returns-in-Waiting-clause-asked c =
-    has-asked c.args.self.now c.args.session c.args.resource c.args.mode (is_granted c.in_ok-status.status) _ c.requires.whole (within c.args.self.now c.args.session c.requires.within) c.requires.can.idle c.in_ok-status.ensures.granted
-    (once-own c.args.self.now c.args.session c.args.resource c.index_mut-locker.result.now c.wait_for.new.self _ (is_granted c.in_ok-status.status) (within c.args.self.now c.args.session c.requires.within) c.index_mut-locker.ensures.value
+    has-asked c.args.self.now c.args.session c.args.resource c.args.mode (is_granted c.in_ok-status.status) _ c.requires.whole (within c.args.self.now c.args.session c.position_of.ensures c.requires.some c.requires.within) c.requires.can.idle c.in_ok-status.ensures.granted
+    (once-own c.args.self.now c.args.session c.args.resource c.index_mut-locker.result.now c.wait_for.new.self _ (is_granted c.in_ok-status.status) (within c.args.self.now c.args.session c.position_of.ensures c.requires.some c.requires.within) c.index_mut-locker.ensures.value
     (subst (λ (b : Bool). standing_of c.wait_for.new.self ≡ standing_after_asking b c.args.resource (standing_of c.index_mut-locker.result.now)) (sym (ap is_granted c.in-Waiting.is)) c.wait_for.ensures.standing) refl)
     c.in_ok-status.ensures.ok refl
 
 pub returns-in-Waiting-clause-kept : goal.returns-in-Waiting-clause-kept
 returns-in-Waiting-clause-kept c =
     record {
-      whole = asked-whole c.args.self.now c.args.session c.args.resource c.args.mode (is_granted c.in_ok-status.status) _ c.requires.whole (within c.args.self.now c.args.session c.requires.within) c.requires.can.idle c.in_ok-status.ensures.granted
-          (once-own c.args.self.now c.args.session c.args.resource c.index_mut-locker.result.now c.wait_for.new.self _ (is_granted c.in_ok-status.status) (within c.args.self.now c.args.session c.requires.within) c.index_mut-locker.ensures.value
+      whole = asked-whole c.args.self.now c.args.session c.args.resource c.args.mode (is_granted c.in_ok-status.status) _ c.requires.whole (within c.args.self.now c.args.session c.position_of.ensures c.requires.some c.requires.within) c.requires.can.idle c.in_ok-status.ensures.granted
+          (once-own c.args.self.now c.args.session c.args.resource c.index_mut-locker.result.now c.wait_for.new.self _ (is_granted c.in_ok-status.status) (within c.args.self.now c.args.session c.position_of.ensures c.requires.some c.requires.within) c.index_mut-locker.ensures.value
           (subst (λ (b : Bool). standing_of c.wait_for.new.self ≡ standing_after_asking b c.args.resource (standing_of c.index_mut-locker.result.now)) (sym (ap is_granted c.in-Waiting.is)) c.wait_for.ensures.standing) refl)
-          c.in_ok-status.ensures.ok (All-set IsKeptLocker c.args.self.now.lockers.items c.args.session c.wait_for.new.self c.wait_for.ensures.kept c.requires.whole.lockers);
+          c.in_ok-status.ensures.ok (All-set IsKeptLocker c.args.self.now.lockers.items c.position_of.result c.wait_for.new.self c.wait_for.ensures.kept c.requires.whole.lockers);
       lockers = search rules;
       waits = search rules;
     }
 
 pub returns-in-Granted-clause-asked : goal.returns-in-Granted-clause-asked
 returns-in-Granted-clause-asked c =
-    has-asked c.args.self.now c.args.session c.args.resource c.args.mode (is_granted c.in_ok-status.status) _ c.requires.whole (within c.args.self.now c.args.session c.requires.within) c.requires.can.idle c.in_ok-status.ensures.granted
+    has-asked c.args.self.now c.args.session c.args.resource c.args.mode (is_granted c.in_ok-status.status) _ c.requires.whole (within c.args.self.now c.args.session refl c.requires.some c.requires.within) c.requires.can.idle c.in_ok-status.ensures.granted
     (subst (λ (b : Bool). standings c.args.self.now ≡ set (standings c.args.self.now) c.args.session (standing_after_asking b c.args.resource (standing c.args.session c.args.self.now))) (sym (ap is_granted c.in-Granted.is))
     (never-own c.args.self.now c.args.session c.args.resource (held-locker c.args.session c.args.resource c.args.self.now c.requires.whole ∙ c.requires.can.held) c.requires.can.idle))
     c.in_ok-status.ensures.ok refl
@@ -55,7 +55,7 @@ returns-in-Granted-clause-asked c =
 pub returns-in-Granted-clause-kept : goal.returns-in-Granted-clause-kept
 returns-in-Granted-clause-kept c =
     record {
-      whole = asked-whole c.args.self.now c.args.session c.args.resource c.args.mode (is_granted c.in_ok-status.status) _ c.requires.whole (within c.args.self.now c.args.session c.requires.within) c.requires.can.idle c.in_ok-status.ensures.granted
+      whole = asked-whole c.args.self.now c.args.session c.args.resource c.args.mode (is_granted c.in_ok-status.status) _ c.requires.whole (within c.args.self.now c.args.session refl c.requires.some c.requires.within) c.requires.can.idle c.in_ok-status.ensures.granted
           (subst (λ (b : Bool). standings c.args.self.now ≡ set (standings c.args.self.now) c.args.session (standing_after_asking b c.args.resource (standing c.args.session c.args.self.now))) (sym (ap is_granted c.in-Granted.is))
           (never-own c.args.self.now c.args.session c.args.resource (held-locker c.args.session c.args.resource c.args.self.now c.requires.whole ∙ c.requires.can.held) c.requires.can.idle))
           c.in_ok-status.ensures.ok c.requires.whole.lockers;

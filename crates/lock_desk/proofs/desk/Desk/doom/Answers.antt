@@ -1,9 +1,10 @@
-use Rattle.std.proofs.Common.{ap, rules, ◌<◌, length, refl, arith}
+use Rattle.std.proofs.Common.{ap, rules, refl, arith}
 use Rattle.std.specs.Vec.{with_item}
 use Rattle.lock_desk.specs.declared.lockers.Locker.{Locker}
 use Rattle.lock_desk.specs.declared.desk.Desk.{Desk}
 use Rattle.lock_rules.specs.Waits.{doom}
 use Rattle.lock_desk.specs.Lockers.{standing_of}
+use Rattle.lock_desk.proofs.Asking.{within}
 use Rattle.lock_desk.proofs.BeginAndEnd.{told-whole, transaction-each, has-doomed, doomed-each}
 use Rattle.lock_desk.proofs.desk.Desk.doom.Goals as goal
 
@@ -14,8 +15,8 @@ returns-clause-doomed c =
     let locker = c.index_mut-locker.result.now in
     let new = c.doom.new.self in
     let is = c.doom.ensures in
-    let e : Desk = record { count = f.count; lockers = with_item f.lockers s new; cells = f.cells; waits = f.waits } in
-    let lt : s < length f.lockers.items = omega (arith, c.requires.within, c.cancel.ensures.kept.lockers, f.lockers.ok.0) in
+    let e : Desk = record { count = f.count; lockers = with_item f.lockers c.position_of.result new; cells = f.cells; waits = f.waits } in
+    let lt = within f s c.position_of.ensures c.requires.some (omega (arith, c.requires.within, c.cancel.ensures.kept.lockers)) in
     let at = c.index_mut-locker.ensures.value in
     has-doomed s c.args.self.now f e c.cancel.ensures.cancelled refl (λ q. refl)
     (doomed-each f s locker (doom locker.transaction) lt at refl e (transaction-each f s (doom locker.transaction) locker new e c.cancel.ensures.kept.whole lt at (ap standing_of is) (ap (λ (x : Locker). x.held) is) (ap (λ (x : Locker). x.wanted) is) refl refl))
@@ -27,7 +28,7 @@ returns-clause-kept c =
     let locker = c.index_mut-locker.result.now in
     let new = c.doom.new.self in
     let is = c.doom.ensures in
-    let lt : s < length f.lockers.items = omega (arith, c.requires.within, c.cancel.ensures.kept.lockers, f.lockers.ok.0) in
+    let lt = within f s c.position_of.ensures c.requires.some (omega (arith, c.requires.within, c.cancel.ensures.kept.lockers)) in
     record {
       whole = told-whole f s (doom locker.transaction) locker new _ c.cancel.ensures.kept.whole lt c.index_mut-locker.ensures.value (ap standing_of is) (ap (λ (x : Locker). x.held) is) (ap (λ (x : Locker). x.wanted) is) refl refl;
       lockers = search rules;

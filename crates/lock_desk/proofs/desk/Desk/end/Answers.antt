@@ -1,8 +1,9 @@
-use Rattle.std.proofs.Common.{ap, rules, ◌<◌, length, refl, None, arith}
+use Rattle.std.proofs.Common.{ap, rules, refl, None, arith}
 use Rattle.std.specs.Vec.{with_item}
 use Rattle.lock_desk.specs.declared.lockers.Locker.{Locker}
 use Rattle.lock_desk.specs.declared.desk.Desk.{Desk}
 use Rattle.lock_desk.specs.Lockers.{standing_of}
+use Rattle.lock_desk.proofs.Asking.{within}
 use Rattle.lock_desk.proofs.BeginAndEnd.{few-at, told-whole, transaction-each, has-ended}
 use Rattle.lock_desk.proofs.desk.Desk.end.Goals as goal
 
@@ -16,8 +17,8 @@ returns-clause-ended c =
     let locker = c.index_mut-locker.result.now in
     let new = c.end.new.self in
     let is = c.end.ensures in
-    let e : Desk = record { count = f.count; lockers = with_item f.lockers s new; cells = f.cells; waits = f.waits } in
-    let lt : s < length f.lockers.items = omega (arith, c.requires.within, c.give_back_all-locks.ensures.kept.lockers, f.lockers.ok.0) in
+    let e : Desk = record { count = f.count; lockers = with_item f.lockers c.position_of.result new; cells = f.cells; waits = f.waits } in
+    let lt = within f s c.position_of.ensures c.requires.some (omega (arith, c.requires.within, c.give_back_all-locks.ensures.kept.lockers)) in
     let at = c.index_mut-locker.ensures.value in
     let w = c.give_back_all-locks.ensures.kept.whole in
     has-ended s c.args.self.now f e c.requires.whole c.requires.idle c.give_back_all-locks.ensures.back c.give_back_all-locks.ensures.none refl (λ q. refl)
@@ -30,7 +31,7 @@ returns-clause-kept c =
     let locker = c.index_mut-locker.result.now in
     let new = c.end.new.self in
     let is = c.end.ensures in
-    let lt : s < length f.lockers.items = omega (arith, c.requires.within, c.give_back_all-locks.ensures.kept.lockers, f.lockers.ok.0) in
+    let lt = within f s c.position_of.ensures c.requires.some (omega (arith, c.requires.within, c.give_back_all-locks.ensures.kept.lockers)) in
     record {
       whole = told-whole f s None locker new _ c.give_back_all-locks.ensures.kept.whole lt c.index_mut-locker.ensures.value (ap standing_of is) (ap (λ (x : Locker). x.held) is) (ap (λ (x : Locker). x.wanted) is) refl refl;
       lockers = search rules;

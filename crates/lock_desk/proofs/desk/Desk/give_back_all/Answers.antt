@@ -1,8 +1,6 @@
-use Rattle.std.proofs.Common.{refl, ap, arith, length, length-append, [], ◌∷◌}
+use Rattle.std.proofs.Common.{refl, sym, ap, arith, length, length-append, [], ◌∷◌}
 use Rattle.lock_desk.specs.Lockers.{Standing}
 use Rattle.lock_desk.specs.Changes.{standing}
-use Rattle.lock_desk.proofs.LockerStandings.{standing-here}
-use Rattle.lock_desk.proofs.Asking.{within}
 use Rattle.lock_desk.proofs.GivingAllBack.{back-none, back-more}
 use Rattle.lock_desk.proofs.Agreement.{keeps-on}
 use Rattle.lock_desk.proofs.desk.Desk.give_back_all.Goals as goal
@@ -10,11 +8,11 @@ use Rattle.lock_desk.proofs.desk.Desk.give_back_all.Goals as goal
 pub loop-lock-init : goal.loop-lock-init
 loop-lock-init c =
     let d = c.args.self.now in
-    let long = ap (λ (x : Standing). length x.held) (standing-here d.lockers.items c.args.session c.index-locker.result.now (within d c.args.session c.requires.within) c.index-locker.ensures) in
+    let long = ap (λ (x : Standing). length x.held) (sym c.locker-locker.ensures) in
     record {
       back = back-none c.args.session c.args.self.now c.requires.whole c.requires.idle;
       kept = record { whole = c.requires.whole; lockers = refl; waits = refl };
-      left = omega (arith, c.locks-locks.ensures, long, c.index-locker.result.now.held.ok.0);
+      left = omega (arith, c.locks-locks.ensures, long, c.locker-locker.result.now.held.ok.0);
     }
 
 pub loop-lock-preserved : goal.loop-lock-preserved

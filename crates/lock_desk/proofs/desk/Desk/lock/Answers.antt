@@ -9,12 +9,12 @@ use Rattle.lock_desk.proofs.desk.Desk.lock.Goals as goal
 pub returns-in_err-make_room-clause-err : goal.returns-in_err-make_room-clause-err
 returns-in_err-make_room-clause-err c =
     on-err-from c.from_residual.result
-    (room-same c.args.self.now c.args.session c.index_mut-locker.result.now c.make_room.new.self c.requires.whole (within c.args.self.now c.args.session c.requires.within) c.index_mut-locker.ensures.value c.make_room.ensures.standing c.make_room.ensures.kept c.args.resource _ refl refl (became-same c.args.resource c.args.self.now.cells.entries c.requires.whole.cells))
+    (room-same c.args.self.now c.args.session c.index_mut-locker.result.now c.make_room.new.self c.requires.whole (within c.args.self.now c.args.session c.position_of-position.ensures c.requires.some c.requires.within) c.index_mut-locker.ensures.value c.make_room.ensures.standing c.make_room.ensures.kept c.args.resource _ refl refl (became-same c.args.resource c.args.self.now.cells.entries c.requires.whole.cells))
 
 pub returns-in_err-make_room-clause-kept : goal.returns-in_err-make_room-clause-kept
 returns-in_err-make_room-clause-kept c =
     record {
-      whole = room-whole c.args.self.now c.args.session c.index_mut-locker.result.now c.make_room.new.self c.requires.whole (within c.args.self.now c.args.session c.requires.within) c.index_mut-locker.ensures.value c.make_room.ensures.standing c.make_room.ensures.kept c.args.resource _ refl refl (became-same c.args.resource c.args.self.now.cells.entries c.requires.whole.cells);
+      whole = room-whole c.args.self.now c.args.session c.index_mut-locker.result.now c.make_room.new.self c.requires.whole (within c.args.self.now c.args.session c.position_of-position.ensures c.requires.some c.requires.within) c.index_mut-locker.ensures.value c.make_room.ensures.standing c.make_room.ensures.kept c.args.resource _ refl refl (became-same c.args.resource c.args.self.now.cells.entries c.requires.whole.cells);
       lockers = search rules;
       waits = search rules;
     }
@@ -25,56 +25,56 @@ ask-requires-clause-idle c = idle-there c.args.session c.args.resource c.args.se
 pub returns-in_err-status-clause-err : goal.returns-in_err-status-clause-err
 returns-in_err-status-clause-err c =
     on-err-from c.from_residual-in_err-status.result
-    (room-same c.args.self.now c.args.session c.index_mut-locker.result.now c.make_room.new.self c.requires.whole (within c.args.self.now c.args.session c.requires.within) c.index_mut-locker.ensures.value c.make_room.ensures.standing c.make_room.ensures.kept c.args.resource _ refl refl c.in_err-status.ensures.err)
+    (room-same c.args.self.now c.args.session c.index_mut-locker.result.now c.make_room.new.self c.requires.whole (within c.args.self.now c.args.session c.position_of-position.ensures c.requires.some c.requires.within) c.index_mut-locker.ensures.value c.make_room.ensures.standing c.make_room.ensures.kept c.args.resource _ refl refl c.in_err-status.ensures.err)
 
 pub returns-in_err-status-clause-kept : goal.returns-in_err-status-clause-kept
 returns-in_err-status-clause-kept c =
     record {
-      whole = room-whole c.args.self.now c.args.session c.index_mut-locker.result.now c.make_room.new.self c.requires.whole (within c.args.self.now c.args.session c.requires.within) c.index_mut-locker.ensures.value c.make_room.ensures.standing c.make_room.ensures.kept c.args.resource _ refl refl c.in_err-status.ensures.err;
+      whole = room-whole c.args.self.now c.args.session c.index_mut-locker.result.now c.make_room.new.self c.requires.whole (within c.args.self.now c.args.session c.position_of-position.ensures c.requires.some c.requires.within) c.index_mut-locker.ensures.value c.make_room.ensures.standing c.make_room.ensures.kept c.args.resource _ refl refl c.in_err-status.ensures.err;
       lockers = search rules;
       waits = search rules;
     }
 
 pub returns-in-Granted-clause-asked : goal.returns-in-Granted-clause-asked
 returns-in-Granted-clause-asked c =
-    has-asked c.args.self.now c.args.session c.args.resource c.args.mode (is_granted c.in_ok-status.status) _ c.requires.whole (within c.args.self.now c.args.session c.requires.within) c.requires.can.idle c.in_ok-status.ensures.granted
-    (twice-own c.args.self.now c.args.session c.index_mut-locker.result.now c.make_room.new.self c.requires.whole (within c.args.self.now c.args.session c.requires.within) c.index_mut-locker.ensures.value c.make_room.ensures.standing c.make_room.ensures.kept c.args.resource (is_granted c.in_ok-status.status) c.index_mut-locker-2.result.now c.hold.new.self _ c.index_mut-locker-2.ensures.value (subst (λ (b : Bool). standing_of c.hold.new.self ≡ standing_after_asking b c.args.resource (standing_of c.index_mut-locker-2.result.now)) (sym (ap is_granted c.in-Granted.is)) c.hold.ensures.standing) c.hold.ensures.kept refl)
+    has-asked c.args.self.now c.args.session c.args.resource c.args.mode (is_granted c.in_ok-status.status) _ c.requires.whole (within c.args.self.now c.args.session c.position_of-position.ensures c.requires.some c.requires.within) c.requires.can.idle c.in_ok-status.ensures.granted
+    (twice-own c.args.self.now c.args.session c.index_mut-locker.result.now c.make_room.new.self c.requires.whole (within c.args.self.now c.args.session c.position_of-position.ensures c.requires.some c.requires.within) c.index_mut-locker.ensures.value c.make_room.ensures.standing c.make_room.ensures.kept c.args.resource (is_granted c.in_ok-status.status) c.index_mut-locker-2.result.now c.hold.new.self _ c.index_mut-locker-2.ensures.value (subst (λ (b : Bool). standing_of c.hold.new.self ≡ standing_after_asking b c.args.resource (standing_of c.index_mut-locker-2.result.now)) (sym (ap is_granted c.in-Granted.is)) c.hold.ensures.standing) c.hold.ensures.kept refl)
     c.in_ok-status.ensures.ok refl
 
 pub returns-in-Granted-clause-kept : goal.returns-in-Granted-clause-kept
 returns-in-Granted-clause-kept c =
     record {
-      whole = asked-whole c.args.self.now c.args.session c.args.resource c.args.mode (is_granted c.in_ok-status.status) _ c.requires.whole (within c.args.self.now c.args.session c.requires.within) c.requires.can.idle c.in_ok-status.ensures.granted
-          (twice-own c.args.self.now c.args.session c.index_mut-locker.result.now c.make_room.new.self c.requires.whole (within c.args.self.now c.args.session c.requires.within) c.index_mut-locker.ensures.value c.make_room.ensures.standing c.make_room.ensures.kept c.args.resource (is_granted c.in_ok-status.status) c.index_mut-locker-2.result.now c.hold.new.self _ c.index_mut-locker-2.ensures.value (subst (λ (b : Bool). standing_of c.hold.new.self ≡ standing_after_asking b c.args.resource (standing_of c.index_mut-locker-2.result.now)) (sym (ap is_granted c.in-Granted.is)) c.hold.ensures.standing) c.hold.ensures.kept refl)
+      whole = asked-whole c.args.self.now c.args.session c.args.resource c.args.mode (is_granted c.in_ok-status.status) _ c.requires.whole (within c.args.self.now c.args.session c.position_of-position.ensures c.requires.some c.requires.within) c.requires.can.idle c.in_ok-status.ensures.granted
+          (twice-own c.args.self.now c.args.session c.index_mut-locker.result.now c.make_room.new.self c.requires.whole (within c.args.self.now c.args.session c.position_of-position.ensures c.requires.some c.requires.within) c.index_mut-locker.ensures.value c.make_room.ensures.standing c.make_room.ensures.kept c.args.resource (is_granted c.in_ok-status.status) c.index_mut-locker-2.result.now c.hold.new.self _ c.index_mut-locker-2.ensures.value (subst (λ (b : Bool). standing_of c.hold.new.self ≡ standing_after_asking b c.args.resource (standing_of c.index_mut-locker-2.result.now)) (sym (ap is_granted c.in-Granted.is)) c.hold.ensures.standing) c.hold.ensures.kept refl)
           c.in_ok-status.ensures.ok
-          (twice-kept c.args.self.now c.args.session c.index_mut-locker.result.now c.make_room.new.self c.requires.whole (within c.args.self.now c.args.session c.requires.within) c.index_mut-locker.ensures.value c.make_room.ensures.standing c.make_room.ensures.kept c.args.resource (is_granted c.in_ok-status.status) c.index_mut-locker-2.result.now c.hold.new.self _ c.index_mut-locker-2.ensures.value (subst (λ (b : Bool). standing_of c.hold.new.self ≡ standing_after_asking b c.args.resource (standing_of c.index_mut-locker-2.result.now)) (sym (ap is_granted c.in-Granted.is)) c.hold.ensures.standing) c.hold.ensures.kept refl);
+          (twice-kept c.args.self.now c.args.session c.index_mut-locker.result.now c.make_room.new.self c.requires.whole (within c.args.self.now c.args.session c.position_of-position.ensures c.requires.some c.requires.within) c.index_mut-locker.ensures.value c.make_room.ensures.standing c.make_room.ensures.kept c.args.resource (is_granted c.in_ok-status.status) c.index_mut-locker-2.result.now c.hold.new.self _ c.index_mut-locker-2.ensures.value (subst (λ (b : Bool). standing_of c.hold.new.self ≡ standing_after_asking b c.args.resource (standing_of c.index_mut-locker-2.result.now)) (sym (ap is_granted c.in-Granted.is)) c.hold.ensures.standing) c.hold.ensures.kept refl);
       lockers = search rules;
       waits = search rules;
     }
 
 pub returns-in-Waiting-clause-asked : goal.returns-in-Waiting-clause-asked
 returns-in-Waiting-clause-asked c =
-    has-asked c.args.self.now c.args.session c.args.resource c.args.mode (is_granted c.in_ok-status.status) _ c.requires.whole (within c.args.self.now c.args.session c.requires.within) c.requires.can.idle c.in_ok-status.ensures.granted
-    (twice-own c.args.self.now c.args.session c.index_mut-locker.result.now c.make_room.new.self c.requires.whole (within c.args.self.now c.args.session c.requires.within) c.index_mut-locker.ensures.value c.make_room.ensures.standing c.make_room.ensures.kept c.args.resource (is_granted c.in_ok-status.status) c.index_mut-locker-2.result.now c.wait_for.new.self _ c.index_mut-locker-2.ensures.value (subst (λ (b : Bool). standing_of c.wait_for.new.self ≡ standing_after_asking b c.args.resource (standing_of c.index_mut-locker-2.result.now)) (sym (ap is_granted c.in-Waiting.is)) c.wait_for.ensures.standing) c.wait_for.ensures.kept refl)
+    has-asked c.args.self.now c.args.session c.args.resource c.args.mode (is_granted c.in_ok-status.status) _ c.requires.whole (within c.args.self.now c.args.session c.position_of-position.ensures c.requires.some c.requires.within) c.requires.can.idle c.in_ok-status.ensures.granted
+    (twice-own c.args.self.now c.args.session c.index_mut-locker.result.now c.make_room.new.self c.requires.whole (within c.args.self.now c.args.session c.position_of-position.ensures c.requires.some c.requires.within) c.index_mut-locker.ensures.value c.make_room.ensures.standing c.make_room.ensures.kept c.args.resource (is_granted c.in_ok-status.status) c.index_mut-locker-2.result.now c.wait_for.new.self _ c.index_mut-locker-2.ensures.value (subst (λ (b : Bool). standing_of c.wait_for.new.self ≡ standing_after_asking b c.args.resource (standing_of c.index_mut-locker-2.result.now)) (sym (ap is_granted c.in-Waiting.is)) c.wait_for.ensures.standing) c.wait_for.ensures.kept refl)
     c.in_ok-status.ensures.ok refl
 
 pub returns-in-Waiting-clause-kept : goal.returns-in-Waiting-clause-kept
 returns-in-Waiting-clause-kept c =
     record {
-      whole = asked-whole c.args.self.now c.args.session c.args.resource c.args.mode (is_granted c.in_ok-status.status) _ c.requires.whole (within c.args.self.now c.args.session c.requires.within) c.requires.can.idle c.in_ok-status.ensures.granted
-          (twice-own c.args.self.now c.args.session c.index_mut-locker.result.now c.make_room.new.self c.requires.whole (within c.args.self.now c.args.session c.requires.within) c.index_mut-locker.ensures.value c.make_room.ensures.standing c.make_room.ensures.kept c.args.resource (is_granted c.in_ok-status.status) c.index_mut-locker-2.result.now c.wait_for.new.self _ c.index_mut-locker-2.ensures.value (subst (λ (b : Bool). standing_of c.wait_for.new.self ≡ standing_after_asking b c.args.resource (standing_of c.index_mut-locker-2.result.now)) (sym (ap is_granted c.in-Waiting.is)) c.wait_for.ensures.standing) c.wait_for.ensures.kept refl)
+      whole = asked-whole c.args.self.now c.args.session c.args.resource c.args.mode (is_granted c.in_ok-status.status) _ c.requires.whole (within c.args.self.now c.args.session c.position_of-position.ensures c.requires.some c.requires.within) c.requires.can.idle c.in_ok-status.ensures.granted
+          (twice-own c.args.self.now c.args.session c.index_mut-locker.result.now c.make_room.new.self c.requires.whole (within c.args.self.now c.args.session c.position_of-position.ensures c.requires.some c.requires.within) c.index_mut-locker.ensures.value c.make_room.ensures.standing c.make_room.ensures.kept c.args.resource (is_granted c.in_ok-status.status) c.index_mut-locker-2.result.now c.wait_for.new.self _ c.index_mut-locker-2.ensures.value (subst (λ (b : Bool). standing_of c.wait_for.new.self ≡ standing_after_asking b c.args.resource (standing_of c.index_mut-locker-2.result.now)) (sym (ap is_granted c.in-Waiting.is)) c.wait_for.ensures.standing) c.wait_for.ensures.kept refl)
           c.in_ok-status.ensures.ok
-          (twice-kept c.args.self.now c.args.session c.index_mut-locker.result.now c.make_room.new.self c.requires.whole (within c.args.self.now c.args.session c.requires.within) c.index_mut-locker.ensures.value c.make_room.ensures.standing c.make_room.ensures.kept c.args.resource (is_granted c.in_ok-status.status) c.index_mut-locker-2.result.now c.wait_for.new.self _ c.index_mut-locker-2.ensures.value (subst (λ (b : Bool). standing_of c.wait_for.new.self ≡ standing_after_asking b c.args.resource (standing_of c.index_mut-locker-2.result.now)) (sym (ap is_granted c.in-Waiting.is)) c.wait_for.ensures.standing) c.wait_for.ensures.kept refl);
+          (twice-kept c.args.self.now c.args.session c.index_mut-locker.result.now c.make_room.new.self c.requires.whole (within c.args.self.now c.args.session c.position_of-position.ensures c.requires.some c.requires.within) c.index_mut-locker.ensures.value c.make_room.ensures.standing c.make_room.ensures.kept c.args.resource (is_granted c.in_ok-status.status) c.index_mut-locker-2.result.now c.wait_for.new.self _ c.index_mut-locker-2.ensures.value (subst (λ (b : Bool). standing_of c.wait_for.new.self ≡ standing_after_asking b c.args.resource (standing_of c.index_mut-locker-2.result.now)) (sym (ap is_granted c.in-Waiting.is)) c.wait_for.ensures.standing) c.wait_for.ensures.kept refl);
       lockers = search rules;
       waits = search rules;
     }
 
 pub hold-requires-clause-new : goal.hold-requires-clause-new
 hold-requires-clause-new c =
-    mid-held c.args.self.now c.args.session c.index_mut-locker.result.now c.make_room.new.self c.requires.whole (within c.args.self.now c.args.session c.requires.within) c.index_mut-locker.ensures.value c.make_room.ensures.standing c.make_room.ensures.kept c.args.resource c.index_mut-locker-2.result.now c.index_mut-locker-2.ensures.value
+    mid-held c.args.self.now c.args.session c.index_mut-locker.result.now c.make_room.new.self c.requires.whole (within c.args.self.now c.args.session c.position_of-position.ensures c.requires.some c.requires.within) c.index_mut-locker.ensures.value c.make_room.ensures.standing c.make_room.ensures.kept c.args.resource c.index_mut-locker-2.result.now c.index_mut-locker-2.ensures.value
     ∙ (held-locker c.args.session c.args.resource c.args.self.now c.requires.whole ∙ c.requires.can.new)
 
 pub wait_for-requires-clause-kind : goal.wait_for-requires-clause-kind
 wait_for-requires-clause-kind c =
-    mid-held c.args.self.now c.args.session c.index_mut-locker.result.now c.make_room.new.self c.requires.whole (within c.args.self.now c.args.session c.requires.within) c.index_mut-locker.ensures.value c.make_room.ensures.standing c.make_room.ensures.kept c.args.resource c.index_mut-locker-2.result.now c.index_mut-locker-2.ensures.value
+    mid-held c.args.self.now c.args.session c.index_mut-locker.result.now c.make_room.new.self c.requires.whole (within c.args.self.now c.args.session c.position_of-position.ensures c.requires.some c.requires.within) c.index_mut-locker.ensures.value c.make_room.ensures.standing c.make_room.ensures.kept c.args.resource c.index_mut-locker-2.result.now c.index_mut-locker-2.ensures.value
     ∙ (held-locker c.args.session c.args.resource c.args.self.now c.requires.whole ∙ c.requires.can.new)

@@ -1,6 +1,7 @@
-use Rattle.std.proofs.Common.{arith}
+use Rattle.std.proofs.Common.{◌≡◌, ℕ, List, refl, sym, ap, arith, subst, rules}
 use Rattle.std.proofs.lemmas.List.Elements.{All-push}
-use Rattle.lock_desk.specs.Lockers.{IsKeptLocker}
+use Rattle.lock_desk.specs.declared.lockers.Locker.{Locker}
+use Rattle.lock_desk.specs.Lockers.{Standing, no_standing, standings_of, standing_at, IsKeptLocker}
 use Rattle.lock_desk.proofs.BookInvariant.{none-push}
 use Rattle.lock_desk.proofs.desk.Desk.new.Goals as goal
 
@@ -10,5 +11,12 @@ loop-locker-preserved c =
     record {
       long = omega (arith, c.in_ok-push.ensures.len, k.long);
       kept = rw c.in_ok-push.ensures.items (All-push IsKeptLocker c.loop-locker.lockers.items c.new.result k.kept c.new.ensures.kept);
-      none = rw c.in_ok-push.ensures.items (none-push c.loop-locker.lockers.items c.new.result k.none c.new.ensures.standing);
+      none = subst (λ (ws : List Locker). (s : ℕ) → standing_at s (standings_of ws) ≡ no_standing) (sym c.in_ok-push.ensures.items) (none-push c.loop-locker.lockers.items c.new.result k.none c.new.ensures.standing);
     }
+
+pub returns-clause-shows : goal.returns-clause-shows
+returns-clause-shows c = record {
+  count = refl;
+  transactions = λ s. ap (λ (x : Standing). x.transaction) (c.loop-locker.invariant.none s);
+  views = search rules;
+}

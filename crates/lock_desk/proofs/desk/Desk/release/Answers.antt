@@ -7,22 +7,22 @@ use Rattle.lock_desk.proofs.desk.Desk.release.Goals as goal
 
 pub free-requires-clause-agree : goal.free-requires-clause-agree
 free-requires-clause-agree c =
-    freed-agree c.args.self.now _ c.args.session c.args.resource c.index_mut-locker.result.now c.release.new.self (within c.args.self.now c.args.session c.requires.within) c.index_mut-locker.ensures.value
+    freed-agree c.args.self.now _ c.args.session c.args.resource c.index_mut-locker.result.now c.release.new.self (within c.args.self.now c.args.session c.position_of.ensures c.requires.some c.requires.within) c.index_mut-locker.ensures.value
     (gives-lock c.args.resource _ _ c.release.ensures.standing) c.requires.whole
 
 pub returns-clause-freed : goal.returns-clause-freed
 returns-clause-freed c =
-    has-freed c.args.self.now _ c.args.session c.args.resource c.index_mut-locker.result.now c.release.new.self (within c.args.self.now c.args.session c.requires.within) c.index_mut-locker.ensures.value
+    has-freed c.args.self.now _ c.args.session c.args.resource c.index_mut-locker.result.now c.release.new.self (within c.args.self.now c.args.session c.position_of.ensures c.requires.some c.requires.within) c.index_mut-locker.ensures.value
     (gives-lock c.args.resource _ _ c.release.ensures.standing) c.requires.whole
-    _ (ap (λ (x : Standing). x.wanted) c.release.ensures.standing ∙ (ap (λ (x : Standing). x.wanted) (sym (standing-here c.args.self.now.lockers.items c.args.session c.index_mut-locker.result.now (within c.args.self.now c.args.session c.requires.within) c.index_mut-locker.ensures.value)) ∙ c.requires.can.idle))
+    _ (ap (λ (x : Standing). x.wanted) c.release.ensures.standing ∙ (ap (λ (x : Standing). x.wanted) (sym (standing-here c.args.self.now.lockers.items c.args.session c.index_mut-locker.result.now (within c.args.self.now c.args.session c.position_of.ensures c.requires.some c.requires.within) c.index_mut-locker.ensures.value)) ∙ c.requires.can.idle))
     c.free.ensures.cells c.free.ensures.agree c.free.ensures.lockers c.free.ensures.granted refl
 
 pub returns-clause-kept : goal.returns-clause-kept
 returns-clause-kept c =
     record {
-      whole = freed-whole c.args.self.now _ c.args.session c.args.resource c.index_mut-locker.result.now c.release.new.self (within c.args.self.now c.args.session c.requires.within) c.index_mut-locker.ensures.value
+      whole = freed-whole c.args.self.now _ c.args.session c.args.resource c.index_mut-locker.result.now c.release.new.self (within c.args.self.now c.args.session c.position_of.ensures c.requires.some c.requires.within) c.index_mut-locker.ensures.value
           (gives-lock c.args.resource _ _ c.release.ensures.standing) c.requires.whole
-          _ (ap (λ (x : Standing). x.wanted) c.release.ensures.standing ∙ (ap (λ (x : Standing). x.wanted) (sym (standing-here c.args.self.now.lockers.items c.args.session c.index_mut-locker.result.now (within c.args.self.now c.args.session c.requires.within) c.index_mut-locker.ensures.value)) ∙ c.requires.can.idle))
+          _ (ap (λ (x : Standing). x.wanted) c.release.ensures.standing ∙ (ap (λ (x : Standing). x.wanted) (sym (standing-here c.args.self.now.lockers.items c.args.session c.index_mut-locker.result.now (within c.args.self.now c.args.session c.position_of.ensures c.requires.some c.requires.within) c.index_mut-locker.ensures.value)) ∙ c.requires.can.idle))
           c.free.ensures.cells c.free.ensures.agree c.free.ensures.lockers c.free.ensures.granted;
       lockers = search rules;
       waits = search rules;

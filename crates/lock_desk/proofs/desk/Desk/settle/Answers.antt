@@ -17,7 +17,7 @@ returns-in_default-clause-settled c = λ st i j h.
     let k = c.loop-round.invariant in
     let r = k.rounds st i j (record { count = h.count; transactions = h.transactions; views = h.views }) in
     let filled = rw c.deref.ensures.value at c.fill.ensures.filled in
-    last-round (vec_len c.args.self.now.lockers) c.loop-round._round c.args.session st _ (rewaited (vec_len c.args.self.now.lockers) c.loop-round._round c.args.session st d c.victim.new.waits r)
+    last-round (vec_len c.args.self.now.lockers + 1) c.loop-round._round c.args.session st _ (rewaited (vec_len c.args.self.now.lockers + 1) c.loop-round._round c.args.session st d c.victim.new.waits r)
     (none-found d k.whole c.fill.new.waits filled r.state r.shows r.sound r.numbered c.args.session c.requires.some c.in_default.ensures.none)
 
 pub loop-round-preserved : goal.loop-round-preserved
@@ -29,7 +29,7 @@ loop-round-preserved c =
     record {
       whole = c.doom.ensures.kept.whole;
       ready = record {
-        long = ap (λ (w : Waits). w.rows.sessions + 1) waits ∙ omega (arith, c.fill.ensures.sessions, k.ready.long, c.doom.ensures.kept.lockers);
+        long = ap (λ (w : Waits). w.rows.sessions) waits ∙ omega (arith, c.fill.ensures.sessions, k.ready.long, c.doom.ensures.kept.lockers);
         ready = subst (λ (w : Waits). IsReady w.rows.sessions w) (sym waits) (subst (λ n. IsReady n c.fill.new.waits) (sym c.fill.ensures.sessions) c.fill.ensures.ready);
       };
       count = c.doom.ensures.doomed.count ∙ k.count;
@@ -38,6 +38,6 @@ loop-round-preserved c =
           let r = k.rounds st i j h in
           let y = c.in-Some.ensures.some in
           let f = found d k.whole c.fill.new.waits filled r.state r.shows r.sound r.numbered c.args.session c.in-Some.chosen c.requires.some y.0 y.2 in
-          next-round (vec_len c.args.self.now.lockers) c.loop-round._round c.args.session c.in-Some.chosen st _ c.doom.new.self
-          (rewaited (vec_len c.args.self.now.lockers) c.loop-round._round c.args.session st d c.victim.new.waits r) (omega (arith, c.loop-round-test.true, c.len-round-end.ensures)) f.0 f.1 c.doom.ensures.doomed;
+          next-round (vec_len c.args.self.now.lockers + 1) c.loop-round._round c.args.session c.in-Some.chosen st _ c.doom.new.self
+          (rewaited (vec_len c.args.self.now.lockers + 1) c.loop-round._round c.args.session st d c.victim.new.waits r) (omega (arith, c.loop-round-test.true, c.len-round-end.ensures)) f.0 f.1 c.doom.ensures.doomed;
     }

@@ -1,4 +1,4 @@
-use Rattle.std.proofs.Common.{◌≡◌, vec_len}
+use Rattle.std.proofs.Common.{◌≡◌, ◌+◌, vec_len}
 use Rattle.lock_rules.specs.State.{State}
 use Rattle.lock_rules.specs.Sound.{IsNumbered, IsSound}
 use Rattle.lock_desk.specs.Changes.{IsWhole}
@@ -13,5 +13,5 @@ invariant-loop-round l = record {
   ready : IsReadyDesk l.self;
   count : l.self.count ≡ l.initial.self.count;
   len : vec_len l.self.lockers ≡ vec_len l.initial.self.lockers;
-  rounds : (st : State) → IsSound st.table → IsNumbered st → Shows l.initial.self st → IsRound (vec_len l.initial.self.lockers) l._round l.session st l.self;
+  rounds : (st : State) → IsSound st.table → IsNumbered st → Shows l.initial.self st → IsRound (vec_len l.initial.self.lockers + 1) l._round l.session st l.self;
 }
