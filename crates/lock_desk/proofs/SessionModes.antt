@@ -6,12 +6,12 @@ use Rattle.std.proofs.lemmas.Bool.{cases_Bool}
 use Rattle.lock_desk.specs.declared.cells.SessionMode.{SessionMode}
 use Rattle.lock_desk.specs.Cells.{with_holder, has_session, mode_of, times, without, is_nobody, behind_conversions, queue_with}
 
--- a holder that is put at its place
+-- a holder that is put between its neighbours
 
 with_holder-same : (c h : SessionMode) (hs : List SessionMode) → h.session ≡ c.session → with_holder c (h ∷ hs) ≡ c ∷ hs
 with_holder-same c h hs e = grind (arith, nat_tests)
 
--- writing over the same session puts the holder at its place
+-- writing over the same session replaces its holder
 pub with_holder-set : (xs : List SessionMode) (i : ℕ) (c h : SessionMode) → i < length xs → h ≡ get_or xs i h → h.session ≡ c.session → with_holder c xs ≡ take i xs ++ with_holder c (drop i xs) → set xs i c ≡ with_holder c xs
 with_holder-set xs i c h lt at e passed =
     set_split xs i c lt

@@ -82,17 +82,17 @@ pub(crate) fn fits(holders: &[SessionMode], asker: SessionMode) -> bool
         || Mode::compatible(asker.mode, held.mode))
 }
 
-fn insert_at(list: &mut Vec<SessionMode>, place: usize, one: SessionMode)
-    requires place { place ≤ vec_len list.old }
+fn insert_at(list: &mut Vec<SessionMode>, index: usize, one: SessionMode)
+    requires index { index ≤ vec_len list.old }
     requires room { vec_len list.old < vec_capacity list.old }
-    ensures items { list.new.items ≡ insert list.old.items place one }
+    ensures items { list.new.items ≡ insert list.old.items index one }
     ensures len { vec_len list.new ≡ vec_len list.old + 1 }
     ensures capacity { vec_capacity list.old ≤ vec_capacity list.new }
 {
-    let _inserted = list.insert(place, one);
+    let _inserted = list.insert(index, one);
 }
 
-/// The holder comes in the place of the session's own lock, or between its neighbours by session number.
+/// The holder replaces the session's own lock, or comes between its neighbours by session number.
 pub(crate) fn put(holders: &mut Vec<SessionMode>, holder: SessionMode)
     requires { vec_len holders.old < vec_capacity holders.old }
     ensures items { holders.new.items ≡ with_holder holder holders.old.items }
@@ -113,15 +113,15 @@ pub(crate) fn put(holders: &mut Vec<SessionMode>, holder: SessionMode)
     holders.push_reserved(holder);
 }
 
-/// How many conversions wait: the place of the next one in the queue.
+/// How many conversions wait: the index of the next one in the queue.
 fn conversions(holders: &[SessionMode], waiting: &[SessionMode]) -> usize
     ensures within { result ≤ length waiting.now }
-    ensures place { (asker : SessionModeValue)
+    ensures index { (asker : SessionModeValue)
         → behind_conversions asker holders.now waiting.now ≡ insert waiting.now result asker }
 {
-    for (place, request) in waiting.iter().enumerate() {
+    for (index, request) in waiting.iter().enumerate() {
         if !is_among(holders, request.session) {
-            return place;
+            return index;
         }
     }
     waiting.len()
@@ -220,7 +220,7 @@ impl Cell {
         }
     }
 
-    /// The request comes into the queue at its place.
+    /// The request comes into the queue: a conversion behind those that wait, a fresh request at the end.
     fn enqueue(&mut self, asker: SessionMode)
         requires room { HasRoom self.old }
         requires holders { vec_len self.old.holders + vec_len self.old.waiting < vec_capacity self.old.holders }
@@ -230,12 +230,12 @@ impl Cell {
         } }
         ensures room { HasRoom self.new }
     {
-        let place = if is_among(&self.holders, asker.session) {
+        let index = if is_among(&self.holders, asker.session) {
             conversions(&self.holders, &self.waiting)
         } else {
             self.waiting.len()
         };
-        insert_at(&mut self.waiting, place, asker);
+        insert_at(&mut self.waiting, index, asker);
     }
 
     /// A session that doesn't wait for the cell's resource asks for it.

@@ -29,10 +29,10 @@ use std::alloc::{AllocError, Global};
 /// held or waited for. Who waits for whom is written down only to look for deadlocks.
 #[derive(Drop)]
 pub struct Desk {
-    pub count: u64,
-    pub lockers: Vec<Locker>,
-    pub cells: IndexMap<Resource, Cell>,
-    pub waits: Waits,
+    count: u64,
+    lockers: Vec<Locker>,
+    cells: IndexMap<Resource, Cell>,
+    waits: Waits,
 }
 
 impl Desk {

@@ -3,5 +3,5 @@ use Rattle.lock_desk.specs.declared.cells.SessionMode.{SessionMode}
 use Rattle.lock_desk.specs.Cells.{behind_conversions}
 use Rattle.lock_desk.proofs.cells.conversions.Given as goal
 
-abbrev pub invariant-loop-place : goal.invariant-loop-place
-invariant-loop-place l = (c : SessionMode) → behind_conversions c l.holders l.waiting ≡ take l.place l.waiting ++ behind_conversions c l.holders (drop l.place l.waiting)
+abbrev pub invariant-loop-index : goal.invariant-loop-index
+invariant-loop-index l = (c : SessionMode) → behind_conversions c l.holders l.waiting ≡ take l.index l.waiting ++ behind_conversions c l.holders (drop l.index l.waiting)
