@@ -66,7 +66,7 @@ module _ (g : Part) (r : List ℕ) (s : ℕ) (cs : Cells) (x l : Cell) (there : 
           became-view r no_view _ cs after (sym (idle-view (view_of new) idle) ∙ view-promoted)
           (became eq same r None cs after k tt (λ q. gone q ∙ (ap (λ (o : Option Cell). cond (eq r q) None o) (lent q) ∙ twice (eq r q) (Some new) None (lookup (eq q) cs))))
         where
-          -- of two changes at one index the last one stays
+          -- of two changes of one cell the last one stays
           twice : (b : Bool) (x y z : Option Cell) → cond b y (cond b x z) ≡ cond b y z
           twice true x y z = refl
           twice false x y z = refl

@@ -1,4 +1,4 @@
-//! Sessions are numbered from 1, positions in the lists of who waits for whom from 0.
+//! Sessions are numbered from 1, their positions in every list that has an item for each from 0.
 
 ghost use Rattle.std.specs.Prelude.{◌≡◌, ◌+◌, ◌-◌, ◌<◌, ◌≤◌};
 
