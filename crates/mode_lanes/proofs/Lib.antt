@@ -1,0 +1,3 @@
+pub mod Unions
+pub mod Written
+pub mod Hits
