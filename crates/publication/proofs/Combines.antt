@@ -1,5 +1,5 @@
 -- A combiner's step keeps the rule: a change of a record while it has the book, and the book's leaving and coming home.
-use Rattle.std.proofs.Common.{◌≡◌, ◌≢◌, ℕ, ◌^◌, ◌<◌, ◌≤◌, true, Option, Some, List, length, get_or, set, sym, ap, ◌∙◌, subst, arith, length-set, get_or-set_other, get_or-set_same}
+use Rattle.std.proofs.Common.{◌≡◌, ◌≢◌, ℕ, ◌^◌, ◌<◌, ◌≤◌, true, Option, Some, List, length, get_or, set, refl, sym, ap, ◌∙◌, subst, arith, length-set, get_or-set_other, get_or-set_same}
 use mathlib.Core.Option as opt
 use mathlib.Core.Logic.{dite}
 use mathlib.Core.List.{IsPrefix}
@@ -10,14 +10,15 @@ use Rattle.lock_rules.specs.declared.calls.Call.{Call}
 use Rattle.lock_rules.specs.declared.calls.Entry.{Entry}
 use Rattle.lock_rules.specs.Legal.{IsLegal}
 use Rattle.publication.specs.Words.{word_of, FREE, BUSY}
-use Rattle.publication.specs.Views.{Own, Combiner, asks}
-use Rattle.publication.specs.Rule.{blank, BoardState, word, home, seat, fresh, own_at, published, IsHome, Stands, HasBook, IsOpened, IsSession, IsMaker, IsOrderly}
+use Rattle.publication.specs.Views.{Own, Combiner, Others, asks}
+use Rattle.publication.specs.Rule.{blank, BoardState, word, home, seat, fresh, own_at, published, IsHome, Stands, HasBook, IsOpened, IsSession, IsMaker, AreTrue, IsOrderly}
 use Rattle.publication.specs.Kinds.{as_combiner}
 use Rattle.publication.specs.declared.view.View.{View}
 use Rattle.publication.specs.declared.slot.Load.{Load}
 use Rattle.publication.specs.declared.slot.Held.{Held}
 use Rattle.publication.specs.declared.slot.Held.TheVariants.{Nothing, Home}
 use Rattle.publication.proofs.Lists.{at_there, each_set, prefix_self, prefix_trans}
+use Rattle.publication.proofs.Others.{still-true}
 
 -- a combiner has opened no record
 abbrev pub IsNothingOpened : Combiner → Type 0
@@ -67,6 +68,17 @@ module _ (s : BoardState) (o : IsOrderly s) (k : ℕ) (v : View) (x n : ℕ) (at
   heard_kept : (i j : ℕ) → get_or (seat after i).heard j 0 ≤ published (own_at o.owns j)
   heard_kept i j = each_set s.views k u blank (λ i y. get_or y.heard j 0 ≤ published (own_at o.owns j)) sits
       (subst (λ (y : View). get_or y.heard j 0 ≤ published (own_at o.owns j)) is_me (o.heard k j)) (λ i ne. o.heard i j) i
+
+  number_kept : (j : ℕ) → (seat s j).number ≡ 0 → (seat after j).number ≡ 0
+  number_kept j = each_set s.views k u blank (λ j y. (seat s j).number ≡ 0 → y.number ≡ 0) sits
+      (λ gone. ap (λ (y : View). y.number) (sym is_me) ∙ gone) (λ j ne gone. gone) j
+
+  still : (h : List Entry) → IsPrefix o.history h → (x : Others) → AreTrue o.history s o.slots o.owns x → AreTrue h after o.slots o.owns x
+  still h grows x = still-true o.history h s after o.slots o.owns o.owns x grows (omega (arith, seats_kept)) (λ j some few gone. (number_kept j gone, refl))
+
+  others_kept : (h : List Entry) → IsPrefix o.history h → (i : ℕ) → AreTrue h after o.slots o.owns (seat after i).others
+  others_kept h grows = each_set s.views k u blank (λ i y. AreTrue h after o.slots o.owns y.others) sits
+      (still h grows v.others (subst (λ (y : View). AreTrue o.history s o.slots o.owns y.others) is_me (o.others k))) (λ i ne. still h grows (seat s i).others (o.others i))
 
   sessions_kept : length d.opened ≡ length v.combiner.opened → (j : ℕ) → (seat after j).number ≢ 0 → IsSession o.slots o.owns j (seat after j)
   sessions_kept wide = each_set s.views k u blank (λ j y. y.number ≢ 0 → IsSession o.slots o.owns j y) sits
@@ -180,6 +192,7 @@ module _ (s : BoardState) (o : IsOrderly s) (k : ℕ) (v : View) (x n : ℕ) (at
       sessions = sessions_kept t.wide;
       fronts = fronts_after;
       heard = heard_kept;
+      others = others_kept h t.grows;
       stands = stands_after;
       books = books_after;
       free = λ none. absurd (omega (arith, lock_after));
@@ -247,6 +260,7 @@ module _ (s : BoardState) (o : IsOrderly s) (k : ℕ) (v : View) (x n : ℕ) (at
       sessions = sessions_kept (ap (λ (l : List (Option Call)). length l) t.same);
       fronts = each_set s.views k u blank (λ j y. IsPrefix y.front o.history) sits (subst (λ (f : List Entry). IsPrefix f o.history) (sym t.whole) (prefix_self o.history)) (λ j ne. o.fronts j);
       heard = heard_kept;
+      others = others_kept o.history (prefix_self o.history);
       stands = λ j some_session small. rw (word_other j (not_record j some_session), home_other j (not_record j some_session)) (o.stands j some_session small);
       books = books_with;
       free = λ free_now. let r = t.free (sym lock_now ∙ free_now) in (r.0, slot_now ∙ r.1, r.2);

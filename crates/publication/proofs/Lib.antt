@@ -1,5 +1,6 @@
 pub mod Lists
 pub mod Histories
+pub mod Others
 pub mod Records
 pub mod Moves
 pub mod Combines
@@ -7,3 +8,9 @@ pub mod Sessions
 pub mod Locks
 pub mod Combiners
 pub mod Making
+pub mod Longer
+pub mod Seats
+pub mod Meets
+pub mod Hearing
+pub mod Ending
+pub mod Gathering

@@ -1,5 +1,5 @@
 -- Beginnings of one list, and a list that changes at one place or at its end.
-use Rattle.std.proofs.Common.{◌≡◌, ◌≢◌, ℕ, zero, suc, ◌<◌, ◌≤◌, Option, Some, None, List, [], ◌∷◌, ◌++◌, length, get_or, set, take, replicate, refl, ap, sym, subst, ◌∙◌, arith, append_assoc, get_or-set_same, get_or-set_other}
+use Rattle.std.proofs.Common.{◌≡◌, ◌≢◌, ℕ, zero, suc, ◌<◌, ◌≤◌, ◌⊎◌, inl, inr, Option, Some, None, List, [], ◌∷◌, ◌++◌, length, get_or, set, take, replicate, refl, ap, sym, subst, ◌∙◌, arith, append_assoc, get_or-set_same, get_or-set_other}
 use mathlib.Core.Option as opt
 use mathlib.Core.Logic.{dite}
 use mathlib.Core.List.{IsPrefix}
@@ -15,6 +15,20 @@ module _ {A : Type 0} where
 
   pub prefix_trans : (xs ys zs : List A) → IsPrefix xs ys → IsPrefix ys zs → IsPrefix xs zs
   prefix_trans xs ys zs p q = (p.0 ++ q.0, sym (append_assoc xs p.0 q.0) ∙ (ap (λ w. w ++ q.0) p.1 ∙ q.1))
+
+  -- of two beginnings the shorter begins the other
+  pub prefix_both : (xs ys zs : List A) → IsPrefix xs zs → IsPrefix ys zs → length xs ≤ length ys → IsPrefix xs ys
+  prefix_both [] ys zs p q h = (ys, refl)
+  prefix_both (x ∷ xs) [] zs p q h = absurd (omega arith)
+  prefix_both (x ∷ xs) (y ∷ ys) [] p q h = absurd (cc (p.1))
+  prefix_both (x ∷ xs) (y ∷ ys) (z ∷ zs) p q h = let r = prefix_both xs ys zs (p.0, cc (p.1)) (q.0, cc (q.1)) (omega arith) in (r.0, let e = r.1 in cc (p.1, q.1, e))
+
+  -- a beginning as long as the whole is the whole
+  pub prefix_whole : (xs zs : List A) → IsPrefix xs zs → length zs ≤ length xs → xs ≡ zs
+  prefix_whole [] [] p h = refl
+  prefix_whole [] (z ∷ zs) p h = absurd (omega arith)
+  prefix_whole (x ∷ xs) [] p h = absurd (cc (p.1))
+  prefix_whole (x ∷ xs) (z ∷ zs) p h = let r = prefix_whole xs zs (p.0, cc (p.1)) (omega arith) in cc (p.1, r)
 
   -- the first n elements of zs, which begin with xs
   pub record IsCut (xs zs : List A) (n : ℕ) : Type 0 where
@@ -74,6 +88,13 @@ module _ {A : Type 0} where
   each_snoc [] b d P here all (suc k) = all (suc k)
   each_snoc (x ∷ xs) b d P here all zero = all zero
   each_snoc (x ∷ xs) b d P here all (suc k) = each_snoc xs b d (λ j u. P (suc j) u) here (λ j. all (suc j)) k
+
+  -- what stands in a list with one more element stood there, or is that element
+  pub at_pushed : (l : List A) (x : A) (p : ℕ) (y : A) → get_elem? (l ++ x ∷ []) p ≡ opt.some y → (get_elem? l p ≡ opt.some y) ⊎ (x ≡ y)
+  at_pushed [] x zero y e = inr (opt.some-injective x y e)
+  at_pushed [] x (suc p) y e = absurd (opt.some-ne-none y (sym e))
+  at_pushed (z ∷ zs) x zero y e = inl e
+  at_pushed (z ∷ zs) x (suc p) y e = at_pushed zs x p y e
 
 -- what a look-up with nothing as its default finds is there
 

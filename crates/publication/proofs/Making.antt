@@ -1,19 +1,24 @@
 -- A board begins in order, and stays so while its sessions are made.
-use Rattle.std.proofs.Common.{◌≡◌, ◌≢◌, ℕ, zero, suc, ◌+◌, ◌<◌, ◌≤◌, true, false, Some, None, List, [], ◌∷◌, ◌++◌, length, map, replicate, get_or, set, sym, refl, ap, ◌∙◌, subst, arith, length-set, length-append}
+use Rattle.std.proofs.Common.{◌≡◌, ◌≢◌, ℕ, zero, suc, ◌+◌, ◌<◌, ◌≤◌, Bool, true, false, Some, None, List, [], ◌∷◌, ◌++◌, length, map, replicate, get_or, set, sym, refl, ap, ◌∙◌, subst, arith, length-set, length-append}
 use Rattle.std.proofs.lemmas.List.{length-map, length-replicate}
 use mathlib.Core.Option as opt
 use mathlib.Core.List.{IsPrefix}
 use lib.ListN.{get_elem?}
+use Rattle.std.specs.Prelude.{nat_le}
+use Rattle.std.proofs.lemmas.Bool.Decides.{nat_tests}
 use Rattle.std.specs.Global.{Box}
 use Rattle.atomic_table.specs.Table.{opening, Splits}
 use Rattle.lock_rules.specs.declared.calls.Call.{Call}
+use Rattle.lock_rules.specs.declared.calls.Entry.{Entry}
 use Rattle.publication.specs.Words.{word_of, EMPTY}
-use Rattle.publication.specs.Rule.{BoardState, blank, fresh, own_at, published, maker, newcomer, word, home, seat, IsHome, IsIdle, Stands, HasBook, IsOpened, IsSession, IsMaker, IsOrderly}
+use Rattle.publication.specs.Views.{Own}
+use Rattle.publication.specs.Rule.{BoardState, blank, apart, AreTrue, fresh, own_at, published, maker, newcomer, word, home, seat, IsHome, IsIdle, Stands, HasBook, IsOpened, IsSession, IsMaker, IsOrderly}
 use Rattle.publication.specs.Rule.Stands.{idle}
 use Rattle.publication.specs.declared.view.View.{View}
 use Rattle.publication.specs.declared.slot.Load.{Load}
 use Rattle.publication.specs.declared.slot.Held.TheVariants.{Nothing, Home}
 use Rattle.publication.proofs.Lists.{at_there, each_set, each_snoc, prefix_self, same_all, past_end}
+use Rattle.publication.proofs.Others.{StaysGone, still-true}
 use Rattle.publication.proofs.Locks.{nothing_at}
 
 -- what is at home in the slots that are laid out
@@ -21,6 +26,13 @@ nothings : (n i : ℕ) → i < n → get_or (map opt.some (replicate n Nothing))
 nothings zero i h = absurd (omega arith)
 nothings (suc n) zero h = refl
 nothings (suc n) (suc i) h = nothings n i (omega arith)
+
+at_most : (a b : ℕ) → nat_le a b ≡ true → a ≤ b
+at_most a b e = grind (arith, nat_tests)
+
+-- a seat that knows nothing of others, but whether all sessions are made
+pub told_nothing : (h : List Entry) (s : BoardState) (slots : ℕ) (owns : List Own) (all_made : Bool) → (all_made ≡ true → slots ≤ length s.views) → AreTrue h s slots owns (apart all_made)
+told_nothing h s slots owns all_made so = record { all_made = so; beside = (h, refl); handed = λ p x at. absurd (opt.some-ne-none x (sym at)) }
 
 -- with one seat
 first_seats : (v : View) (P : View → Type 0) → P v → P blank → (k : ℕ) → P (get_or (v ∷ []) k blank)
@@ -51,6 +63,11 @@ module _ (n : ℕ) (load : Box Load) (ready : IsHome [] (n + 1) load.value) wher
   heard_first : (k j : ℕ) → get_or (seat laid_out k).heard j 0 ≤ published (own_at (replicate (n + 1) fresh) j)
   heard_first k j = each (λ u. get_or u.heard j 0 ≤ published (own_at (replicate (n + 1) fresh) j)) (omega arith) (omega arith) k
 
+  others_first : (k : ℕ) → AreTrue [] laid_out (n + 1) (replicate (n + 1) fresh) (seat laid_out k).others
+  others_first = each (λ u. AreTrue [] laid_out (n + 1) (replicate (n + 1) fresh) u.others)
+      (told_nothing [] laid_out (n + 1) (replicate (n + 1) fresh) (nat_le (n + 1) 1) (at_most (n + 1) 1))
+      (told_nothing [] laid_out (n + 1) (replicate (n + 1) fresh) false (λ e. absurd (cc e)))
+
   pub begins : IsOrderly laid_out
   begins = record {
     history = [];
@@ -66,6 +83,7 @@ module _ (n : ℕ) (load : Box Load) (ready : IsHome [] (n + 1) load.value) wher
     sessions = λ k. each (λ u. u.number ≢ 0 → IsSession (n + 1) (replicate (n + 1) fresh) k u) (λ no_number. absurd (no_number refl)) (λ no_number. absurd (no_number refl)) k;
     fronts = each (λ u. IsPrefix u.front []) (prefix_self []) (prefix_self []);
     heard = heard_first;
+    others = others_first;
     stands = λ i some_session small. rw (words_zero i) (stands_first i some_session small);
     books = λ k. each (λ u. u.combiner.has_book ≡ true → HasBook [] (word laid_out 0) k u) (λ e. absurd (cc e)) (λ e. absurd (cc e)) k;
     free = λ _. (load, refl, ready);
@@ -144,6 +162,17 @@ module _ (slots made : ℕ) (some_left : made + 1 < slots) (s : BoardState) (o :
   heard_after : (k j : ℕ) → get_or (seat enrolled k).heard j 0 ≤ published (own_at o.owns j)
   heard_after k j = each_seat (λ k u. get_or u.heard j 0 ≤ published (own_at o.owns j)) (omega (arith, same_all {A = ℕ} slots j 0)) (omega arith) (λ k ne. o.heard k j) k
 
+  -- no seat that had no session has one, but the new one
+  none_joined : StaysGone s enrolled o.owns o.owns
+  none_joined j some few gone =
+      (each_seat (λ i u. i < length s.views → 0 < i → (seat s i).number ≡ 0 → u.number ≡ 0) (λ h. absurd (omega arith)) (λ h some. absurd (omega arith)) (λ i n h some z. z) j few some gone, refl)
+
+  others_after : (k : ℕ) → AreTrue o.history enrolled o.slots o.owns (seat enrolled k).others
+  others_after = each_seat (λ k u. AreTrue o.history enrolled o.slots o.owns u.others)
+      (told_nothing o.history enrolled o.slots o.owns false (λ e. absurd (cc e)))
+      (told_nothing o.history enrolled o.slots o.owns (nat_le slots (made + 1 + 1)) (λ e. omega (arith, at_most slots (made + 1 + 1) e, one_more, seats, before.slots_are)))
+      (λ k ne. still-true o.history o.history s enrolled o.slots o.owns o.owns (seat s k).others (prefix_self o.history) (omega (arith, one_more)) none_joined (o.others k))
+
   still_has : (k : ℕ) → (seat s k).combiner.has_book ≡ true → (seat enrolled k).combiner.has_book ≡ true
   still_has = each_seat (λ k u. (seat s k).combiner.has_book ≡ true → u.combiner.has_book ≡ true)
       (λ has. absurd (let z : (seat s (length s.views)).combiner.has_book ≡ false = ap (λ c. c.has_book) past_had in cc (has, z))) (λ has. absurd (let z : (seat s 0).combiner.has_book ≡ false = ap (λ c. c.has_book) first_had in cc (has, z))) (λ k n has. has)
@@ -174,6 +203,7 @@ module _ (slots made : ℕ) (some_left : made + 1 < slots) (s : BoardState) (o :
     sessions = sessions_after;
     fronts = each_seat (λ k u. IsPrefix u.front o.history) (o.history, refl) (o.history, refl) (λ k ne. o.fronts k);
     heard = heard_after;
+    others = others_after;
     stands = o.stands;
     books = each_seat (λ k u. u.combiner.has_book ≡ true → HasBook o.history (word s 0) k u) (λ e. absurd (cc e)) (λ e. absurd (cc e)) (λ k ne. o.books k);
     free = o.free;

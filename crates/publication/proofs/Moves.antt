@@ -8,12 +8,13 @@ use lib.ListN.{get_elem?}
 use Rattle.lock_rules.specs.declared.calls.Call.{Call}
 use Rattle.lock_rules.specs.declared.calls.Entry.{Entry}
 use Rattle.publication.specs.Words.{word_of, BUSY}
-use Rattle.publication.specs.Views.{Own, Combiner}
-use Rattle.publication.specs.Rule.{blank, BoardState, word, home, seat, fresh, own_at, published, Stands, HasBook, IsOpened, IsSession, IsMaker, IsOrderly}
+use Rattle.publication.specs.Views.{Own, Combiner, Others}
+use Rattle.publication.specs.Rule.{blank, BoardState, word, home, seat, fresh, own_at, published, Stands, HasBook, IsOpened, IsSession, IsMaker, AreTrue, IsOrderly}
 use Rattle.publication.specs.Kinds.{as_session}
 use Rattle.publication.specs.declared.view.View.{View}
 use Rattle.publication.specs.declared.slot.Held.{Held}
-use Rattle.publication.proofs.Lists.{at_there, each_set}
+use Rattle.publication.proofs.Lists.{at_there, each_set, prefix_self}
+use Rattle.publication.proofs.Others.{still-true}
 
 -- session i, whose seat has the view v, changes its word, its slot, its front, what it knows of its own calls, and what it heard
 module _ (s : BoardState) (o : IsOrderly s) (i : ℕ) (v : View) (n : ℕ) (at : opt.Option Held) (front : List Entry) (w : Own) (heard : List ℕ)
@@ -120,6 +121,15 @@ module _ (s : BoardState) (o : IsOrderly s) (i : ℕ) (v : View) (n : ℕ) (at :
     heard_after m j = each_set s.views i u blank (λ m x. get_or x.heard j 0 ≤ published (own_at owns_after j)) sits (heard_here j)
         (λ m ne. omega (arith, o.heard m j, published_more j)) m
 
+    still : (x : Others) → AreTrue o.history s o.slots o.owns x → AreTrue o.history after o.slots owns_after x
+    still x = still-true o.history o.history s after o.slots o.owns owns_after x (prefix_self o.history) (omega (arith, seats_kept))
+        (λ j some few gone. let ne : j ≢ i = λ e. lives (ap (λ (y : View). y.number) (sym is_me) ∙ (ap (λ (m : ℕ). (seat s m).number) (sym e) ∙ gone)) in
+        (ap (λ (y : View). y.number) (seat_other j ne) ∙ gone, own_other j ne))
+
+    others_after : (m : ℕ) → AreTrue o.history after o.slots owns_after (seat after m).others
+    others_after = each_set s.views i u blank (λ m x. AreTrue o.history after o.slots owns_after x.others) sits
+        (still v.others (subst (λ (x : View). AreTrue o.history s o.slots o.owns x.others) is_me (o.others i))) (λ m ne. still (seat s m).others (o.others m))
+
     stands_after : (j : ℕ) → 0 < j → j < o.slots → Stands o.history j (word after j) (home after j) (own_at owns_after j)
     stands_after j some_record few = dite (ℕ_discrete j i)
         (λ e. subst (λ (m : ℕ). Stands o.history m (word after m) (home after m) (own_at owns_after m)) (sym e) (rw (word_here, home_here, own_here) k.stands))
@@ -167,6 +177,7 @@ module _ (s : BoardState) (o : IsOrderly s) (i : ℕ) (v : View) (n : ℕ) (at :
       sessions = sessions_after;
       fronts = each_set s.views i u blank (λ j x. IsPrefix x.front o.history) sits k.begins (λ j ne. o.fronts j);
       heard = heard_after;
+      others = others_after;
       stands = stands_after;
       books = books_after;
       free = λ none. let t = o.free (sym (word_other 0 not_lock) ∙ none) in (t.0, home_other 0 not_lock ∙ t.1, t.2);

@@ -1,5 +1,5 @@
 -- How a record stands, read off its word or what its session knows; and how many calls a session has published.
-use Rattle.std.proofs.Common.{◌≡◌, ◌≢◌, ℕ, ◌+◌, ◌≤◌, false, cond, is_some, Option, Some, None, List, [], ◌∷◌, ◌++◌, length, sym, refl, ap, ◌∙◌, subst, arith, length-append}
+use Rattle.std.proofs.Common.{◌≡◌, ◌≢◌, ℕ, ◌+◌, ◌≤◌, true, false, cond, is_some, Option, Some, None, List, [], ◌∷◌, ◌++◌, length, sym, refl, ap, ◌∙◌, subst, arith, length-append}
 use mathlib.Core.Option as opt
 use Rattle.lock_rules.specs.declared.calls.Call.{Call}
 use Rattle.lock_rules.specs.declared.calls.Reply.{Reply}
@@ -10,6 +10,7 @@ use Rattle.publication.specs.Views.{Pending, Own, entry, answer, asks}
 use Rattle.publication.specs.Rule.{published, IsIdle, IsPosted, IsBusy, IsServed, Stands}
 use Rattle.publication.specs.Rule.Stands.{idle, posted, busy, served, closed}
 use Rattle.publication.specs.declared.slot.Held.{Held}
+use Rattle.publication.specs.declared.slot.Held.TheVariants.{Nothing}
 use Rattle.atomic_table.proofs.Lists.{at_longer}
 use Rattle.publication.proofs.Histories.{calls-other}
 
@@ -49,6 +50,31 @@ module _ {h : List Entry} {i w : ℕ} {at : opt.Option Held} {o : Own} where
   is_waiting (busy call floor t) other some = t.calls
   is_waiting (served call floor place reply t) other some = absurd (other t.is)
   is_waiting (closed t) other some = t.calls
+
+-- what a session knows of its calls once it has left
+abbrev pub left : Own → Own
+left o = record { started = false; retired = o.retired; pending = None; collected = o.collected }
+
+-- the record of a session that has nothing pending isn't BUSY; with its slot laid down it stands as before; and all calls of the session in the history are collected
+pub record IsLeft (h : List Entry) (i w : ℕ) (o : Own) : Type 0 where
+  pub shut : w ≢ BUSY
+  pub stands : Stands h i w (opt.some Nothing) (left o)
+  pub calls : calls_of i h ≡ o.collected
+
+pub leaves_record : (h : List Entry) (i w : ℕ) (at : opt.Option Held) (o : Own) → Stands h i w at o → o.pending ≡ None → IsLeft h i w o
+leaves_record h i w at o (idle t) none = record {
+  shut = λ e. omega (arith, t.is);
+  stands = idle record { is = t.is; none = refl; out = λ e. absurd (cc e); laid = λ _. refl; publishes = t.publishes; calls = t.calls };
+  calls = t.calls;
+}
+leaves_record h i w at o (posted call floor t) none = absurd (cc (t.some, none))
+leaves_record h i w at o (busy call floor t) none = absurd (cc (t.some, none))
+leaves_record h i w at o (served call floor place reply t) none = absurd (cc (t.some, none))
+leaves_record h i w at o (closed t) none = record {
+  shut = λ e. omega (arith, t.is);
+  stands = closed record { is = t.is; none = refl; out = λ e. absurd (cc e); laid = λ _. refl; retired = t.retired; calls = t.calls };
+  calls = t.calls;
+}
 
 pub lacks : (x : Option Pending) → is_some x ≡ false → x ≡ None
 lacks None e = refl
@@ -97,7 +123,7 @@ module _ (h : List Entry) (i j : ℕ) (call : Call) (reply : Reply) (ne : i ≢ 
     publishes = t.publishes;
     calls = same_calls ∙ t.calls;
   }
-  grown (closed t) = closed record { is = t.is; none = t.none; out = t.out; retired = t.retired; calls = same_calls ∙ t.calls }
+  grown (closed t) = closed record { is = t.is; none = t.none; out = t.out; laid = t.laid; retired = t.retired; calls = same_calls ∙ t.calls }
 
 -- a busy record's call and floor are those that its session waits for
 pub as_called : (h : List Entry) (i w : ℕ) (at : opt.Option Held) (o : Own) (c : Call) (f : ℕ) (call : Call) (floor : ℕ) → IsBusy h i w at o c f → o.pending ≡ Some (asks call floor) → IsBusy h i w at o call floor

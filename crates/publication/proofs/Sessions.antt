@@ -1,4 +1,4 @@
--- The kinds of step of a session on its own record: start, post, the look for the reply, and take.
+-- The kinds of step of a session on its own record: start, post, the look for the reply, take, retire and leave.
 use Rattle.std.proofs.Common.{◌≡◌, ◌≢◌, ℕ, zero, suc, ◌+◌, ◌<◌, ◌≤◌, max, true, false, Some, None, List, [], ◌∷◌, ◌++◌, length, get_or, set, take, sym, refl, ap, ◌∙◌, subst, arith, length-append, eqb, is_some, get_or-set_other}
 use Rattle.std.proofs.lemmas.List.{set-get_or}
 use Rattle.std.proofs.Math.Seq.{take-length}
@@ -14,17 +14,17 @@ use Rattle.lock_rules.specs.declared.calls.Reply.{Reply}
 use Rattle.lock_rules.specs.declared.calls.Reply.TheVariants.{Clear}
 use Rattle.lock_rules.specs.declared.calls.Entry.{Entry}
 use Rattle.lock_rules.specs.Legal.{Answered, calls_of}
-use Rattle.publication.specs.Words.{word_of, EMPTY, POSTED, SERVED}
+use Rattle.publication.specs.Words.{word_of, EMPTY, POSTED, SERVED, CLOSED}
 use Rattle.publication.specs.Views.{Own, entry, answer, asks}
 use Rattle.publication.specs.Rule.{blank, BoardState, word, home, seat, own_at, published, IsIdle, IsServed, Stands, HasBook, IsSession, IsOrderly}
-use Rattle.publication.specs.Rule.Stands.{idle, posted}
-use Rattle.publication.specs.Kinds.{Seated, own, started, starts, posting, posts, IsUnanswered, looks_for_reply, taking, Took, takes_reply}
+use Rattle.publication.specs.Rule.Stands.{idle, posted, closed}
+use Rattle.publication.specs.Kinds.{Seated, own, started, starts, posting, posts, IsUnanswered, looks_for_reply, taking, Took, takes_reply, retiring, retires, leaving, leaves}
 use Rattle.publication.specs.declared.view.View.{View}
 use Rattle.publication.specs.declared.slot.Held.{Held}
 use Rattle.publication.specs.declared.slot.Held.TheVariants.{Nothing, Asked, Replied}
 use Rattle.publication.proofs.Lists.{at_there, at_home, at_taken, IsCut, cut}
 use Rattle.publication.proofs.Histories.{legal-begins, length-begins, calls-cut, calls-fewer}
-use Rattle.publication.proofs.Records.{is_idle, is_served, is_waiting, lacks, idle_published, waits_published}
+use Rattle.publication.proofs.Records.{is_idle, is_served, is_waiting, left, IsLeft, leaves_record, lacks, idle_published, waits_published}
 use Rattle.publication.proofs.Moves.{IsOwnStep, moved}
 
 -- a step that changes nothing
@@ -216,6 +216,59 @@ module _ (i : ℕ) (v : View) (is : v.number ≡ i) (some_number : 0 < i) (s : B
   take_goes more = exchanged (word s i) SERVED EMPTY (Goes s i i (v, more) (takes_reply (step o.slots (word_of i) SERVED EMPTY opt.none) (v, more)))
       (λ hit. let t = is_served stand hit in take_won t.0 t.1 t.2 t.3 t.4 more hit) (take_lost more)
 
+  -- retire
+
+  abbrev own_retired : Own
+  own_retired = record { started = true; retired = true; pending = None; collected = v.own.collected }
+
+  retire_step : v.own.started ≡ true → IsIdle o.history i (word s i) (home s i) v.own
+      → IsOwnStep s o i v CLOSED (home s i) v.front own_retired v.heard me some_number small lives
+  retire_step has_started t = record {
+    more = omega (arith, idle_published v.own t.none);
+    hears = λ j ne. refl;
+    hears_own = omega (arith, heard_own, idle_published v.own t.none);
+    was_shut = λ e. omega (arith, t.is);
+    is_shut = λ e. omega arith;
+    begins = begins;
+    whole = whole;
+    stands = closed record { is = refl; none = refl; out = λ _. t.out has_started; laid = λ e. absurd (cc e); retired = refl; calls = t.calls };
+  }
+
+  retire_goes : (more : List (ℕ × Held)) → v.own.started ≡ true → IsIdle o.history i (word s i) (home s i) v.own
+      → Goes s i i (v, more) (λ _. retires (step o.slots (word_of i) CLOSED 0 opt.none) (v, more) CLOSED) CLOSED
+  retire_goes more has_started t = (
+    retiring v,
+    keeps,
+    tt,
+    subst (λ (hs : List (opt.Option Held)). IsOrderly record { words = set s.words (word_of i) CLOSED; homes = hs; views = set s.views i (retiring v) }) (set-get_or s.homes i opt.none)
+        (moved s o i v CLOSED (home s i) v.front own_retired v.heard me some_number small lives (retire_step has_started t)),
+    refl,
+  )
+
+  -- leave
+
+  leave_step : v.own.pending ≡ None → IsOwnStep s o i v (word s i) (opt.some Nothing) v.front (left v.own) v.heard me some_number small lives
+  leave_step none = let t = leaves_record o.history i (word s i) (home s i) v.own stand none in record {
+    more = omega (arith, idle_published v.own none);
+    hears = λ j ne. refl;
+    hears_own = omega (arith, heard_own, idle_published v.own none);
+    was_shut = t.shut;
+    is_shut = t.shut;
+    begins = begins;
+    whole = whole;
+    stands = t.stands;
+  }
+
+  leave_goes : (more : List (ℕ × Held)) → v.own.pending ≡ None
+      → Goes s i i (v, (i, Nothing) ∷ more) (leaves (step o.slots (word_of i) 0 0 opt.none) (v, (i, Nothing) ∷ more)) (word s i)
+  leave_goes more none = (
+    leaving v,
+    gives,
+    tt,
+    moved s o i v (word s i) (opt.some Nothing) v.front (left v.own) v.heard me some_number small lives (leave_step none),
+    refl,
+  )
+
 -- what the table asks of each of these steps
 module _ (slots id i : ℕ) (v : View) (more : List (ℕ × Held)) (is : v.number ≡ i) (some_number : 0 < i) where
   pub start_kept : v.own.started ≡ false → v.own.pending ≡ None → v.own.retired ≡ false
@@ -235,3 +288,13 @@ module _ (slots id i : ℕ) (v : View) (more : List (ℕ × Held)) (is : v.numbe
   pub take_kept : Allows IsOrderly slots id (v, more) (word_of i) (λ n. either (eqb n SERVED) EMPTY n) (takes_reply (step slots (word_of i) SERVED EMPTY opt.none) (v, more))
   take_kept = seated slots id i i v more (λ n. either (eqb n SERVED) EMPTY n) (takes_reply (step slots (word_of i) SERVED EMPTY opt.none) (v, more)) is some_number
       (λ s o me small wide e. take_goes i v is some_number s o me small more)
+
+  pub retire_kept : is_some v.own.pending ≡ false → v.own.retired ≡ false → v.own.started ≡ true
+      → Allows IsOrderly slots id (v, more) (word_of i) (λ _. CLOSED) (λ _. retires (step slots (word_of i) CLOSED 0 opt.none) (v, more) CLOSED)
+  retire_kept none live has_started = seated slots id i i v more (λ _. CLOSED) (λ _. retires (step slots (word_of i) CLOSED 0 opt.none) (v, more) CLOSED) is some_number
+      (λ s o me small wide e. retire_goes i v is some_number s o me small more has_started (is_idle (stand i v is some_number s o me small) (lacks v.own.pending none) live))
+
+  pub leave_kept : is_some v.own.pending ≡ false
+      → Allows IsOrderly slots id (v, (i, Nothing) ∷ more) (word_of i) (λ n. n) (leaves (step slots (word_of i) 0 0 opt.none) (v, (i, Nothing) ∷ more))
+  leave_kept none = seated slots id i i v ((i, Nothing) ∷ more) (λ n. n) (leaves (step slots (word_of i) 0 0 opt.none) (v, (i, Nothing) ∷ more)) is some_number
+      (λ s o me small wide e. leave_goes i v is some_number s o me small more (lacks v.own.pending none))

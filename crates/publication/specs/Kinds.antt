@@ -14,7 +14,13 @@
 --   pick            the combiner's    that record's word is read; the slot is taken again
 --   answer          the combiner's    that record, BUSY to SERVED; the reply goes into the slot, and the entry joins the history
 --   put back        the combiner's    that record, BUSY to POSTED; the call goes into the slot
-use Rattle.std.specs.Prelude.{◌≡◌, ◌≢◌, ℕ, ◌+◌, ◌^◌, ◌<◌, ◌≤◌, max, Bool, true, false, Option, Some, None, List, [], ◌∷◌, ◌++◌, length, slice_set, slice_index_or}
+--   cut             a new seat's      the lock word is read; the new seat has a copy of what another seat knows
+--   join            the hearing one's the lock word is read; the seat that was cut is taken in, and ends
+--   learn           the hearing one's the lock word is read; the longer of both fronts is known to be the history's
+--   retire          the session's     its record, EMPTY to CLOSED
+--   leave           the session's     its record's word is read; its slot goes home for good
+--   gather          the closing one's the lock word is read; the seat of a session that left is taken in, and ends
+use Rattle.std.specs.Prelude.{◌≡◌, ◌≢◌, ℕ, ◌+◌, ◌^◌, ◌<◌, ◌≤◌, max, nat_lt, ◌||◌, cond, Bool, true, false, Option, Some, None, List, [], ◌∷◌, ◌++◌, length, slice_set, slice_index_or}
 use mathlib.Core.Option as opt
 use mathlib.Core.List.{IsPrefix}
 use lib.ListN.{get_elem?}
@@ -27,8 +33,8 @@ use Rattle.lock_rules.specs.declared.calls.Reply.TheVariants.{Clear}
 use Rattle.lock_rules.specs.declared.calls.Entry.{Entry}
 use Rattle.lock_rules.specs.Legal.{Answered, IsLegal, calls_of}
 use Rattle.publication.specs.Words.{session_of_word, FREE, POSTED, SERVED}
-use Rattle.publication.specs.Views.{Pending, Own, Combiner, entry, answer, asks}
-use Rattle.publication.specs.Rule.{IsHome, heard_of}
+use Rattle.publication.specs.Views.{Pending, Own, Combiner, Handed, Others, entry, answer, asks}
+use Rattle.publication.specs.Rule.{fresh, no_combiner, apart, IsHome, published, heard_of}
 use Rattle.publication.specs.declared.view.View.{View}
 use Rattle.publication.specs.declared.slot.Load.{Load}
 use Rattle.publication.specs.declared.slot.Held.{Held}
@@ -56,11 +62,11 @@ combiner has_book opened hand = record { has_book = has_book; opened = opened; h
 
 -- a session's step: its front, what it knows of its own calls, and what it heard
 abbrev pub as_session : View → List Entry → Own → List ℕ → View
-as_session v front o heard = record { number = v.number; slots = v.slots; made = v.made; front = front; own = o; combiner = v.combiner; heard = heard }
+as_session v front o heard = record { number = v.number; slots = v.slots; made = v.made; front = front; own = o; combiner = v.combiner; heard = heard; others = v.others }
 
 -- a combiner's step: its front, and what it has
 abbrev pub as_combiner : View → List Entry → Combiner → View
-as_combiner v front c = record { number = v.number; slots = v.slots; made = v.made; front = front; own = v.own; combiner = c; heard = v.heard }
+as_combiner v front c = record { number = v.number; slots = v.slots; made = v.made; front = front; own = v.own; combiner = c; heard = v.heard; others = v.others }
 
 -- Start.
 
@@ -249,3 +255,76 @@ putting_back v j = as_combiner v v.front (combiner true (slice_set v.combiner.op
 -- put back: the history stays as it is
 abbrev pub puts_back : Kind
 puts_back st m found n = n ≡ (putting_back m.0 m.0.combiner.hand, rest m.1)
+
+-- Hear what another seat knows: that seat is cut in two, the new seat is taken in, and a load after it tells what follows.
+
+-- a seat's step by which it learns from another: its front, what it heard, and what it knows of others
+abbrev pub as_hearer : View → List Entry → List ℕ → Others → View
+as_hearer v front heard others = record { number = v.number; slots = v.slots; made = v.made; front = front; own = v.own; combiner = v.combiner; heard = heard; others = others }
+
+-- cut: the new seat has a copy of what this one knows of the history and of what is published
+abbrev pub copy_of : View → View
+copy_of v = record { number = 0; slots = 0; made = 0; front = v.front; own = fresh; combiner = no_combiner 0; heard = v.heard; others = apart true }
+
+-- number by number the larger
+abbrev pub maxes : List ℕ → List ℕ → List ℕ
+maxes [] ys = ys
+maxes (x ∷ xs) [] = x ∷ xs
+maxes (x ∷ xs) (y ∷ ys) = max x y ∷ maxes xs ys
+
+-- join: of each session the larger number of calls is heard, and the other's front is beside one's own
+abbrev pub joined : View → View → View
+joined v w = as_hearer v v.front (maxes v.heard w.heard) (record { all_made = v.others.all_made || w.others.all_made; beside = w.front; handed = v.others.handed })
+
+-- the longer of two fronts
+abbrev pub longer : List Entry → List Entry → List Entry
+longer f g = cond (nat_lt (length f) (length g)) g f
+
+-- the front is the longer of both
+abbrev pub learning : View → View
+learning v = as_hearer v (longer v.front v.others.beside) v.heard v.others
+
+-- what a seat that took another in learns: both knew fronts of one history, which is legal; and nobody has heard of more calls
+-- of this session than it has published
+pub record Learned (v : View) : Type 0 where
+  pub legal : IsLegal (longer v.front v.others.beside)
+  pub short : length (longer v.front v.others.beside) < 2 ^ 64
+  pub mine : IsPrefix v.front (longer v.front v.others.beside)
+  pub theirs : IsPrefix v.others.beside (longer v.front v.others.beside)
+  pub heard : heard_of v v.number ≤ published v.own
+
+-- learn: the load that follows a join
+abbrev pub learns : Kind
+learns st m found n = (n ≡ (learning m.0, m.1)) × Learned m.0
+
+-- all three: the seat knows what the other knows
+abbrev pub hearing : View → View → View
+hearing v w = learning (joined v (copy_of w))
+
+-- Retire.
+
+-- the session publishes no more
+abbrev pub retiring : View → View
+retiring v = as_session v v.front (record { started = true; retired = true; pending = None; collected = v.own.collected }) v.heard
+
+-- retire: the slot stays with the session
+abbrev pub retires : Kind
+retires st m found n = n ≡ (retiring m.0, m.1)
+
+-- Leave, and gather who left.
+
+-- the session has its record's slot no more
+abbrev pub leaving : View → View
+leaving v = as_session v v.front (record { started = false; retired = v.own.retired; pending = None; collected = v.own.collected }) v.heard
+
+-- leave: the slot that goes home has nothing in it
+abbrev pub leaves : Kind
+leaves st m found n = n ≡ (leaving m.0, rest m.1)
+
+-- what a closing seat keeps of a session that is handed in
+abbrev pub handed_in : View → Handed
+handed_in w = record { number = w.number; collected = w.own.collected; front = w.front }
+
+-- gather: the session is the last that was handed in
+abbrev pub gathered : View → View → View
+gathered v w = as_hearer v v.front v.heard (record { all_made = v.others.all_made; beside = v.others.beside; handed = v.others.handed ++ handed_in w ∷ [] })

@@ -1,6 +1,6 @@
 -- The rule of the board, which holds between any two atomic steps. The lock has the number 0, and the record of session i the
 -- number i; each has a word and a slot by its number.
-use Rattle.std.specs.Prelude.{◌≡◌, ◌≢◌, ℕ, ◌+◌, ◌^◌, ◌<◌, ◌≤◌, true, false, cond, is_some, Some, None, List, [], ◌∷◌, ◌++◌, length, slice_index, slice_index_or, replicate, vec_len, vec_capacity}
+use Rattle.std.specs.Prelude.{◌≡◌, ◌≢◌, ℕ, ◌+◌, ◌^◌, ◌<◌, ◌≤◌, nat_le, Bool, true, false, cond, is_some, Some, None, List, [], ◌∷◌, ◌++◌, length, slice_index, slice_index_or, replicate, vec_len, vec_capacity}
 use mathlib.Core.Option as opt
 use mathlib.Core.List.{IsPrefix}
 use lib.ListN.{get_elem?}
@@ -11,7 +11,7 @@ use Rattle.lock_rules.specs.declared.calls.Reply.{Reply}
 use Rattle.lock_rules.specs.declared.calls.Entry.{Entry}
 use Rattle.lock_rules.specs.Legal.{IsLegal, calls_of}
 use Rattle.publication.specs.Words.{word_of, FREE, EMPTY, POSTED, BUSY, SERVED, CLOSED}
-use Rattle.publication.specs.Views.{Own, Combiner, entry, answer, asks}
+use Rattle.publication.specs.Views.{Own, Combiner, Handed, Others, entry, answer, asks}
 use Rattle.publication.specs.declared.view.View.{View}
 use Rattle.publication.specs.declared.slot.Load.{Load}
 use Rattle.publication.specs.declared.slot.Held.{Held}
@@ -27,17 +27,21 @@ fresh = record { started = false; retired = false; pending = None; collected = [
 abbrev pub no_combiner : ℕ → Combiner
 no_combiner slots = record { has_book = false; opened = replicate slots None; hand = 0 }
 
+-- nothing is known of others, but whether all sessions are made
+abbrev pub apart : Bool → Others
+apart all_made = record { all_made = all_made; beside = []; handed = [] }
+
 -- the first seat, which makes the sessions: so many it has made
 abbrev pub maker : ℕ → ℕ → View
-maker slots made = record { number = 0; slots = slots; made = made; front = []; own = fresh; combiner = no_combiner 0; heard = [] }
+maker slots made = record { number = 0; slots = slots; made = made; front = []; own = fresh; combiner = no_combiner 0; heard = []; others = apart (nat_le slots (made + 1)) }
 
 -- no seat is there
 abbrev pub blank : View
-blank = maker 0 0
+blank = record { number = 0; slots = 0; made = 0; front = []; own = fresh; combiner = no_combiner 0; heard = []; others = apart false }
 
 -- the seat of a session that is just made
 abbrev pub newcomer : ℕ → ℕ → View
-newcomer slots number = record { number = number; slots = slots; made = 0; front = []; own = fresh; combiner = no_combiner slots; heard = replicate slots 0 }
+newcomer slots number = record { number = number; slots = slots; made = 0; front = []; own = fresh; combiner = no_combiner slots; heard = replicate slots 0; others = apart false }
 
 -- Look-ups on the board.
 
@@ -72,8 +76,8 @@ heard_of v j = slice_index v.heard j
 -- How the record of session i may stand: by the history h, its word w, what is at home in its slot, and what its session knows of its own calls.
 
 module _ (h : List Entry) (i w : ℕ) (slot : opt.Option Held) (own : Own) where
-  -- EMPTY: nothing is pending, all calls in the history are collected, and the slot is with the session, once that has
-  -- started
+  -- EMPTY: nothing is pending, all calls in the history are collected, and the slot is with the session, from its start until
+  -- it is handed in
   pub record IsIdle : Type 0 where
     pub is : w ≡ EMPTY
     pub none : own.pending ≡ None
@@ -110,11 +114,13 @@ module _ (h : List Entry) (i w : ℕ) (slot : opt.Option Held) (own : Own) where
     pub publishes : own.retired ≡ false
     pub calls : calls_of i h ≡ own.collected ++ answer place call reply ∷ []
 
-  -- CLOSED: nothing is pending, and the session publishes no more
+  -- CLOSED: nothing is pending, all calls in the history are collected, and the session publishes no more; the slot is with it
+  -- until it is handed in
   pub record IsClosed : Type 0 where
     pub is : w ≡ CLOSED
     pub none : own.pending ≡ None
-    pub out : slot ≡ opt.none
+    pub out : own.started ≡ true → slot ≡ opt.none
+    pub laid : own.started ≡ false → slot ≡ opt.some Nothing
     pub retired : own.retired ≡ true
     pub calls : calls_of i h ≡ own.collected
 
@@ -170,6 +176,26 @@ pub record IsMaker (slots seats : ℕ) (v : View) : Type 0 where
   pub some_slot : 0 < slots
   pub made : v.made + 1 < slots → v.made + 1 ≡ seats
 
+-- What a seat knows of others.
+
+-- a session that was handed in has no seat any more; it has nothing pending, has collected these answers, and the history begins
+-- with what it knew
+pub record IsHanded (h : List Entry) (s : BoardState) (slots : ℕ) (owns : List Own) (x : Handed) : Type 0 where
+  pub some : 0 < x.number
+  pub small : x.number < slots
+  pub there : x.number < length s.views
+  pub gone : (seat s x.number).number ≡ 0
+  pub settled : (own_at owns x.number).pending ≡ None
+  pub collected : (own_at owns x.number).collected ≡ x.collected
+  pub begins : IsPrefix x.front h
+
+-- what a seat knows of others is so: where all sessions are said to be made there is a seat for each, the front of another
+-- begins the history, and those that were handed in are
+pub record AreTrue (h : List Entry) (s : BoardState) (slots : ℕ) (owns : List Own) (others : Others) : Type 0 where
+  pub all_made : others.all_made ≡ true → slots ≤ length s.views
+  pub beside : IsPrefix others.beside h
+  pub handed : (p : ℕ) (x : Handed) → get_elem? others.handed p ≡ opt.some x → IsHanded h s slots owns x
+
 -- The rule. While the book is out it may be ahead of the history, by calls that were performed and not answered yet; it comes
 -- home with the history.
 
@@ -198,6 +224,8 @@ pub record IsOrderly (s : BoardState) : Type 0 where
   pub fronts : (k : ℕ) → IsPrefix (seat s k).front history
   -- nobody has heard of more calls of a session than that has published
   pub heard : (k j : ℕ) → heard_of (seat s k) j ≤ published (own_at owns j)
+  -- what a seat knows of others is so
+  pub others : (k : ℕ) → AreTrue history s slots owns (seat s k).others
   -- every record stands as its word says
   pub stands : (i : ℕ) → 0 < i → i < slots → Stands history i (word s i) (home s i) (own_at owns i)
   -- who has the book has its number in the lock word

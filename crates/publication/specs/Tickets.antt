@@ -1,8 +1,11 @@
 -- What a seat is for a move of it, and what a ticket's seat is between two calls.
-use Rattle.std.specs.Prelude.{◌≡◌, ◌≢◌, ℕ, ◌<◌, ◌≤◌, Bool, true, cond, is_some, List, [], ◌∷◌, length, slice_index}
+use Rattle.std.specs.Prelude.{◌≡◌, ◌≢◌, ℕ, ◌+◌, ◌<◌, ◌≤◌, Bool, true, cond, is_some, List, [], ◌∷◌, length, slice_index}
+use mathlib.Core.Option as opt
+use lib.ListN.{get_elem?}
 use Rattle.atomic_table.specs.Seated.{TableId}
+use Rattle.atomic_table.specs.declared.shared.Seat.{Seat}
 use Rattle.publication.specs.Words.{word_of}
-use Rattle.publication.specs.Rule.{published}
+use Rattle.publication.specs.Rule.{newcomer, published}
 use Rattle.publication.specs.Kinds.{Seated}
 use Rattle.publication.specs.declared.view.View.{View}
 use Rattle.publication.specs.declared.slot.Held.{Held}
@@ -18,7 +21,7 @@ book_slot has_book others = cond has_book ((0, Nothing) ∷ others) others
 
 -- the seat of a ticket between two calls: its session has this number, knows so many entries, has the book or hasn't, has a
 -- call pending or hasn't, and has retired or hasn't
-pub record IsSettled (m : Seated) (number seen : ℕ) (has_book is_pending is_retired : Bool) : Type 0 where
+pub record IsBetweenCalls (m : Seated) (number seen : ℕ) (has_book is_pending is_retired : Bool) : Type 0 where
   pub number_is : m.0.number ≡ number
   pub some_number : 0 < number
   pub seen_is : length m.0.front ≡ seen
@@ -29,6 +32,7 @@ pub record IsSettled (m : Seated) (number seen : ℕ) (has_book is_pending is_re
   pub hand : m.0.combiner.hand ≡ 0
   pub heard : slice_index m.0.heard number ≡ published m.0.own
   pub wide : number < length m.0.heard
+  pub all_made : m.0.others.all_made ≡ true
   pub carried : m.1 ≡ book_slot has_book (own_slot is_pending number)
 
 -- a combiner with no slot in hand but the book's
@@ -47,3 +51,7 @@ pub record IsBoard (id : TableId) : Type 0 where
 pub record IsAt (id : TableId) (at : ℕ) : Type 0 where
   pub some : 0 < at
   pub there : at < id.slots
+
+-- seats of sessions that are made and know nothing yet, by number
+abbrev pub AreNewcomers : TableId → ℕ → List (Seat Held View) → Type 0
+AreNewcomers id slots seats = (k : ℕ) (seat : Seat Held View) → get_elem? seats k ≡ opt.some seat → (seat.table_id ≡ id) × (seat.me ≡ (newcomer slots (k + 1), []))

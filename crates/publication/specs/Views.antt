@@ -11,8 +11,8 @@ pub record Pending : Type 0 where
   pub call : Call
   pub floor : ℕ
 
--- what a session knows of its own calls: whether it has taken its record's slot, whether it publishes no more, the call that
--- it waits for, and the answers that it took, oldest first
+-- what a session knows of its own calls: whether it has its record's slot to publish with, which it takes at its start and lays
+-- down as it is handed in; whether it publishes no more; the call that it waits for; and the answers that it took, oldest first
 pub record Own : Type 0 where
   pub started : Bool
   pub retired : Bool
@@ -25,6 +25,19 @@ pub record Combiner : Type 0 where
   pub has_book : Bool
   pub opened : List (Option Call)
   pub hand : ℕ
+
+-- a session that was handed in to be closed: its number, the answers that it took, oldest first, and the entries that it knew
+pub record Handed : Type 0 where
+  pub number : ℕ
+  pub collected : List Answered
+  pub front : List Entry
+
+-- what a seat knows of others: whether all sessions are made; the entries that the seat knew which it took in last; and the
+-- sessions that were handed in to it, in that order
+pub record Others : Type 0 where
+  pub all_made : Bool
+  pub beside : List Entry
+  pub handed : List Handed
 
 -- what contracts see of a board: which table it is, and how many sessions it has
 pub record Placed : Type 0 where

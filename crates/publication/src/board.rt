@@ -1,16 +1,19 @@
 //! The board and its tickets.
 
-ghost use Rattle.std.specs.Prelude.{◌≡◌, ◌≢◌, ◌+◌, ◌-◌, ◌^◌, ◌<◌, ◌≤◌, ◌∷◌, ◌++◌, [], true, false, Some, None, IfOk, IfSome, IfNone, length, cond, replicate, slice_set, IsTrue, ◌↔◌};
+ghost use Rattle.std.specs.Prelude.{◌≡◌, ◌≢◌, ◌+◌, ◌-◌, ◌^◌, ◌<◌, ◌≤◌, ◌∷◌, ◌++◌, [], true, false, Some, None, IfOk, IfErr, IfSome, IfNone, length, map, max, cond, slice_set, All, IsTrue, ◌↔◌};
 ghost use mathlib.Core.List.{IsPrefix};
 ghost use Rattle.atomic_table.specs.Table.{turned};
 ghost use Rattle.lock_rules.specs.Legal.{IsLegal, calls_of};
-ghost use Rattle.publication.specs.Tickets.{IsBoard};
+ghost use Rattle.publication.specs.Tickets.{IsBoard, IsAt};
 ghost use Rattle.publication.specs.Views.{entry, answer, asks};
-ghost use Rattle.publication.specs.Rule.{IsHome, maker};
-ghost use Rattle.publication.specs.Kinds.{Took};
-ghost use Rattle.publication.specs.Boards.{IsOf, IsNumber, OpensNone, opened_at, asked_at, heard_from, published_by, new_ticket, new_tickets};
+ghost use Rattle.publication.specs.Rule.{IsHome, maker, newcomer};
+ghost use Rattle.publication.specs.Kinds.{Took, longer, maxes};
+ghost use Rattle.publication.specs.Boards.{IsOf, IsNumber, OpensNone, opened_at, asked_at, heard_from, published_by, new_ticket, new_tickets, IsEachOnce, IsSettled, AccountsFor};
+ghost use Rattle.publication.specs.Closing.{is_settled, handed_by, WereHanded, AreEnded};
 
-use crate::kinds::{Enrol, Law, Start};
+use crate::closing::{CloseFault, are_settled, close_table, is_each_once};
+use crate::kinds::{Law, Start};
+use crate::new_board::{cut_all, laid};
 use crate::slot::{Held, Load};
 use crate::steps;
 use crate::steps::{Seat, Shared};
@@ -85,6 +88,20 @@ impl Ticket {
         !self.is_pending && !self.is_retired
     }
 
+    /// Whether it has retired, and publishes no more.
+    pub fn is_retired(&self) -> bool
+        ensures { result ≡ self.now.retired }
+    {
+        self.is_retired
+    }
+
+    /// Whether it has nothing pending, and isn't the combiner.
+    pub(crate) fn is_settled(&self) -> bool
+        ensures { result ≡ is_settled self.now }
+    {
+        !self.is_pending && !self.has_book
+    }
+
     /// How many entries of the history it knows, from the first on. The number never falls.
     pub fn seen(&self) -> u64
         ensures { result ≡ length self.now.front }
@@ -102,32 +119,21 @@ fn turn_if(seat: &mut Seat, turns: bool)
     }
 }
 
-// A slot for the load, and an empty one for each session.
-fn laid(alloc: Global, load: Box<Load>, sessions: u16) -> Result<Vec<Held>, NoMemory>
-    ensures { IfOk result (λ v. v.items ≡ Held.Home load ∷ replicate sessions Held.Nothing) }
-{
-    let mut slots = Vec::new(alloc);
-    slots.push(Held::Home(load))?;
-    for _session in 0..sessions {
-        slots.push(Held::Nothing)?;
-    }
-    Ok(slots)
-}
-
-// Makes the session of this number, whose turn it is.
-fn enrol(shared: &Shared, first: &mut Seat, sessions: u16, number: u16) -> Ticket
-    requires ours { first.old.table_id ≡ shared.now.table_id }
+// Makes the session of this number out of its seat, once all are made: it is told so by the first seat, and takes its record's
+// slot.
+fn enrol(shared: &Shared, first: &mut Seat, seat: Seat, sessions: u16, number: u16) -> Ticket
+    requires ours { (first.old.table_id ≡ shared.now.table_id) × (seat.table_id ≡ shared.now.table_id) }
     requires board { IsBoard shared.now.table_id }
     requires slots { shared.now.table_id.slots ≡ sessions + 1 }
-    requires first { first.old.id ≡ 0 }
-    requires made { first.old.me ≡ (maker (sessions + 1) (number - 1), []) }
+    requires made { first.old.me ≡ (maker (sessions + 1) sessions, []) }
+    requires new { seat.me ≡ (newcomer (sessions + 1) number, []) }
     requires number { (0 < number) × (number ≤ sessions) }
     ensures ours { first.new.table_id ≡ first.old.table_id }
-    ensures first { first.new.id ≡ 0 }
-    ensures made { first.new.me ≡ (maker (sessions + 1) number, []) }
+    ensures same { first.new.me ≡ first.old.me }
     ensures ticket { result ≡ new_ticket shared.now.table_id sessions number }
 {
-    let mut seat = shared.split_seat::<Enrol>(first);
+    let mut seat = seat;
+    steps::hear_seat(shared, &mut seat, first);
     shared.load::<Start>(&mut seat, usize::from(number) * WORDS_APART);
     Ticket {
         seat,
@@ -139,7 +145,8 @@ fn enrol(shared: &Shared, first: &mut Seat, sessions: u16, number: u16) -> Ticke
     }
 }
 
-// Makes all sessions, in order.
+// Makes all sessions, in order. All seats are cut first: a seat that was cut in between would take a number that is a
+// session's.
 fn enrol_all(
     alloc: Global,
     shared: &Shared,
@@ -153,9 +160,12 @@ fn enrol_all(
     requires made { first.old.me ≡ (maker (sessions + 1) 0, []) }
     ensures tickets { IfOk result (λ tickets. tickets.items ≡ new_tickets shared.now.table_id sessions sessions) }
 {
+    let seats = cut_all(alloc, shared, first, sessions)?;
     let mut tickets = Vec::new(alloc);
-    for made in 0..sessions {
-        tickets.push(enrol(shared, first, sessions, made + 1))?;
+    let mut number = 0;
+    for seat in seats {
+        number += 1;
+        tickets.push(enrol(shared, first, seat, sessions, number))?;
     }
     Ok(tickets)
 }
@@ -325,5 +335,117 @@ impl Board {
             usize::from(whose),
             call,
         );
+    }
+
+    /// The first session learns what the second knows: the longer of their fronts of the history, and of each session the larger
+    /// number of calls that it published. The second learns nothing.
+    pub fn hear(&self, ticket: &mut Ticket, other: &mut Ticket)
+        requires ours { IsOf self.now ticket.old × IsOf self.now other.old }
+        ensures other { other.new ≡ other.old }
+        ensures ticket { ticket.new ≡ record ticket.old {
+          front = longer ticket.old.front other.old.front;
+          heard = maxes ticket.old.heard other.old.heard;
+        } }
+        ensures fronts { IsPrefix ticket.old.front ticket.new.front × IsPrefix other.old.front ticket.new.front }
+        ensures legal { IsLegal ticket.new.front }
+        ensures heard { (j : _) → heard_from ticket.new j ≡ max (heard_from ticket.old j) (heard_from other.old j) }
+    {
+        steps::hear_seat(&self.table.shared, &mut ticket.seat, &mut other.seat);
+        ticket.seen = u64::max(ticket.seen, other.seen);
+    }
+
+    /// The session publishes no more, from now on.
+    pub fn retire(&self, ticket: &mut Ticket)
+        requires ours { IsOf self.now ticket.old }
+        requires idle { (ticket.old.pending ≡ None) × (ticket.old.retired ≡ false) }
+        ensures ticket { ticket.new ≡ record ticket.old { retired = true } }
+    {
+        steps::retire_record(
+            &self.table.shared,
+            &mut ticket.seat,
+            usize::from(ticket.number),
+        );
+        ticket.is_retired = true;
+    }
+
+    // A seat that knows what the ticket's does.
+    fn cut(&self, ticket: &mut Ticket) -> Seat
+        requires ours { IsOf self.now ticket.old }
+        ensures ticket { ticket.new ≡ ticket.old }
+        ensures seat { (result.table_id ≡ self.now.id) × (result.me.0.others.handed ≡ []) }
+    {
+        steps::cut_seat(&self.table.shared, &mut ticket.seat)
+    }
+
+    // Takes in the seat of one ticket.
+    fn take_in(&self, closing: &mut Seat, ticket: Ticket)
+        requires ours { (closing.old.table_id ≡ self.now.id) × IsOf self.now ticket }
+        requires settled { IsSettled ticket }
+        ensures ours { closing.new.table_id ≡ closing.old.table_id }
+        ensures handed { closing.new.me.0.others.handed ≡ closing.old.me.0.others.handed ++ handed_by ticket ∷ [] }
+    {
+        let Ticket {
+            seat,
+            number,
+            seen: _,
+            has_book: _,
+            is_pending: _,
+            is_retired: _,
+        } = ticket;
+        steps::gather_seat(&self.table.shared, closing, seat, usize::from(number));
+    }
+
+    // Takes in the seats of these tickets, in order.
+    fn take_in_all(&self, closing: &mut Seat, tickets: Vec<Ticket>)
+        requires ours { (closing.old.table_id ≡ self.now.id) × All (IsOf self.now) tickets.items }
+        requires settled { All IsSettled tickets.items }
+        ensures ours { closing.new.table_id ≡ closing.old.table_id }
+        ensures handed { closing.new.me.0.others.handed ≡ closing.old.me.0.others.handed ++ map handed_by tickets.items }
+    {
+        for ticket in tickets {
+            self.take_in(closing, ticket);
+        }
+    }
+
+    // The book, once each session was taken in by the closing seat.
+    fn finish(self, closing: Seat) -> Book
+        requires ours { closing.table_id ≡ self.id }
+        requires all { WereHanded (self.sessions + 1) closing.me.0.others.handed }
+        ensures sessions { result.sessions ≡ self.sessions }
+        ensures legal { IsLegal result.history }
+        ensures ends { AreEnded result.history closing.me.0.others.handed }
+    {
+        let Board { table, sessions: _ } = self;
+        close_table(table, closing)
+    }
+
+    /// Closes the board: the book with the whole history, where the tickets are those of all its sessions, each once and in any
+    /// order, and all are settled. Otherwise everything comes back, the tickets in their order: `Missing` where one is missing or
+    /// there twice, else `Unsettled`. It takes no memory.
+    pub fn gather(self, tickets: Vec<Ticket>) -> Result<Book, (CloseFault, Board, Vec<Ticket>)>
+        requires ours { All (IsOf self) tickets.items }
+        ensures all { IfOk result (λ _. IsEachOnce self.sessions tickets.items) }
+        ensures settled { IfOk result (λ _. All IsSettled tickets.items) }
+        ensures sessions { IfOk result (λ book. book.sessions ≡ self.sessions) }
+        ensures legal { IfOk result (λ book. IsLegal book.history) }
+        ensures accounts { IfOk result (λ book. All (AccountsFor book.history) tickets.items) }
+        ensures back { IfErr result (λ refused. (refused.1 ≡ self) × (refused.2.items ≡ tickets.items)) }
+        ensures missing { IfErr result (λ refused. refused.0 ≡ CloseFault.Missing → ¬ (IsEachOnce self.sessions tickets.items)) }
+        ensures unsettled { IfErr result (λ refused. refused.0 ≡ CloseFault.Unsettled → IsEachOnce self.sessions tickets.items × ¬ (All IsSettled tickets.items)) }
+    {
+        if !is_each_once(tickets.as_slice(), self.sessions) {
+            return Err((CloseFault::Missing, self, tickets));
+        }
+        if !are_settled(tickets.as_slice()) {
+            return Err((CloseFault::Unsettled, self, tickets));
+        }
+        let mut tickets = tickets;
+        let Some(mut last) = tickets.pop() else {
+            unreachable!()
+        };
+        let mut closing = self.cut(&mut last);
+        self.take_in_all(&mut closing, tickets);
+        self.take_in(&mut closing, last);
+        Ok(self.finish(closing))
     }
 }

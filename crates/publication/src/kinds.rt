@@ -1,7 +1,7 @@
 // The rule of the table, and the kinds of its steps.
 use crate::slot::Held;
 use crate::view::View;
-use atomic_table::{Play, Split, TableRule};
+use atomic_table::{Join, Play, Split, TableRule};
 
 #[derive(Clone, Copy)]
 pub struct Law;
@@ -129,4 +129,63 @@ impl Play<Held, View> for PutBack {
     ghost use Rattle.publication.specs.Kinds.{puts_back};
 
     ghost then = { puts_back };
+}
+
+// A copy of what a seat knows: the seat is cut in two.
+pub struct Cut;
+
+impl Split<View> for Cut {
+    ghost use Rattle.publication.specs.Kinds.{copy_of};
+
+    ghost left = { λ v. v };
+
+    ghost right = { copy_of };
+}
+
+// A seat takes such a copy in.
+pub struct TakeIn;
+
+impl Join<View> for TakeIn {
+    ghost use Rattle.publication.specs.Rule.{blank};
+    ghost use Rattle.publication.specs.Kinds.{joined};
+
+    ghost both = { joined };
+
+    ghost spent = { blank };
+}
+
+pub struct Learn;
+
+impl Play<Held, View> for Learn {
+    ghost use Rattle.publication.specs.Kinds.{learns};
+
+    ghost then = { learns };
+}
+
+pub struct Retire;
+
+impl Play<Held, View> for Retire {
+    ghost use Rattle.publication.specs.Kinds.{retires};
+
+    ghost then = { retires };
+}
+
+pub struct Leave;
+
+impl Play<Held, View> for Leave {
+    ghost use Rattle.publication.specs.Kinds.{leaves};
+
+    ghost then = { leaves };
+}
+
+// A seat takes in that of a session that left.
+pub struct Gather;
+
+impl Join<View> for Gather {
+    ghost use Rattle.publication.specs.Rule.{blank};
+    ghost use Rattle.publication.specs.Kinds.{gathered};
+
+    ghost both = { gathered };
+
+    ghost spent = { blank };
 }

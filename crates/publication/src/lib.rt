@@ -8,7 +8,9 @@
 #![tactic(auto)]
 
 mod board;
+mod closing;
 mod kinds;
+mod new_board;
 mod slot;
 mod steps;
 #[cfg(test)]
@@ -17,4 +19,5 @@ mod view;
 mod words;
 
 pub use board::{Board, Posted, Ticket};
+pub use closing::CloseFault;
 pub use slot::Load;

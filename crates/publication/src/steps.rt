@@ -4,16 +4,16 @@ ghost use Rattle.atomic_table.specs.Table.{rest};
 ghost use Rattle.lock_rules.specs.Legal.{IsLegal};
 ghost use Rattle.publication.specs.Views.{entry};
 ghost use Rattle.publication.specs.Rule.{IsHome};
-ghost use Rattle.publication.specs.Kinds.{IsUnanswered, HasOthers, HasEntered, opened_in, call_at, posting, HasTaken, Seized, seizing, releasing, opening, Opened, in_hand, answering, putting_back};
+ghost use Rattle.publication.specs.Kinds.{IsUnanswered, HasOthers, HasEntered, opened_in, call_at, posting, HasTaken, Seized, seizing, releasing, opening, Opened, in_hand, answering, putting_back, copy_of, joined, hearing, Learned, retiring, gathered};
 ghost use Rattle.publication.specs.Tickets.{IsBoard, IsAt, IsCombiner};
 
 use crate::kinds::{
-    Answer, Law, Lay, LookAtLock, LookAtRecord, LookForReply, Open, Pick, Post, PutBack, Release,
-    Seize, Take,
+    Answer, Cut, Gather, Law, Lay, Learn, Leave, LookAtLock, LookAtRecord, LookForReply, Open,
+    Pick, Post, PutBack, Release, Retire, Seize, Take, TakeIn,
 };
 use crate::slot::{Held, Load};
 use crate::view::View;
-use crate::words::{BUSY, EMPTY, FREE, POSTED, SERVED, WORDS_APART};
+use crate::words::{BUSY, CLOSED, EMPTY, FREE, POSTED, SERVED, WORDS_APART};
 use lock_desk::{Call, Reply};
 
 pub type Seat = atomic_table::Seat<Held, View>;
@@ -191,4 +191,64 @@ pub(crate) fn put_back_record(shared: &Shared, seat: &mut Seat, at: usize, call:
     shared.load::<Pick>(seat, at * WORDS_APART);
     drop(shared.exchange(seat, at, Held::Asked(call)));
     shared.store::<PutBack>(seat, at * WORDS_APART, POSTED);
+}
+
+/// A new seat that knows what this one does.
+pub(crate) fn cut_seat(shared: &Shared, seat: &mut Seat) -> Seat
+    requires ours { seat.old.table_id ≡ shared.now.table_id }
+    requires board { IsBoard shared.now.table_id }
+    requires made { seat.old.me.0.others.all_made ≡ true }
+    ensures ours { (seat.new.table_id ≡ seat.old.table_id) × (seat.new.id ≡ seat.old.id) }
+    ensures same { seat.new.me ≡ seat.old.me }
+    ensures copy { (result.table_id ≡ seat.old.table_id) × (result.me ≡ (copy_of seat.old.me.0, [])) }
+{
+    shared.split_seat::<Cut>(seat)
+}
+
+/// A session learns what another seat knows. That seat is cut in two and the copy is taken in; a load after it tells that the
+/// longer of both fronts is the history's, and that both begin it.
+pub(crate) fn hear_seat(shared: &Shared, seat: &mut Seat, other: &mut Seat)
+    requires ours { (seat.old.table_id ≡ shared.now.table_id) × (other.old.table_id ≡ shared.now.table_id) }
+    requires board { IsBoard shared.now.table_id }
+    requires session { 0 < seat.old.me.0.number }
+    requires made { other.old.me.0.others.all_made ≡ true }
+    ensures ours { seat.new.table_id ≡ seat.old.table_id }
+    ensures theirs { (other.new.table_id ≡ other.old.table_id) × (other.new.id ≡ other.old.id) }
+    ensures other { other.new.me ≡ other.old.me }
+    ensures step { seat.new.me ≡ (hearing seat.old.me.0 other.old.me.0, seat.old.me.1) }
+    ensures learned { Learned (joined seat.old.me.0 (copy_of other.old.me.0)) }
+{
+    let copy = cut_seat(shared, other);
+    shared.join_seat::<TakeIn>(seat, copy);
+    shared.load::<Learn>(seat, 0);
+}
+
+/// A session closes its own record, and publishes no more.
+pub(crate) fn retire_record(shared: &Shared, seat: &mut Seat, at: usize)
+    requires ours { seat.old.table_id ≡ shared.now.table_id }
+    requires board { IsBoard shared.now.table_id }
+    requires at { IsAt shared.now.table_id at }
+    requires mine { (seat.old.me.0.number ≡ at) × (seat.old.me.0.own.started ≡ true) }
+    requires idle { (is_some seat.old.me.0.own.pending ≡ false) × (seat.old.me.0.own.retired ≡ false) }
+    ensures ours { seat.new.table_id ≡ seat.old.table_id }
+    ensures step { seat.new.me ≡ (retiring seat.old.me.0, seat.old.me.1) }
+{
+    shared.store::<Retire>(seat, at * WORDS_APART, CLOSED);
+}
+
+/// The seat of a session that has nothing pending lays its record's slot down, since a seat that is taken in may carry none;
+/// then it is taken in, and ends.
+pub(crate) fn gather_seat(shared: &Shared, seat: &mut Seat, other: Seat, at: usize)
+    requires ours { (seat.old.table_id ≡ shared.now.table_id) × (other.table_id ≡ shared.now.table_id) }
+    requires board { IsBoard shared.now.table_id }
+    requires at { IsAt shared.now.table_id at }
+    requires theirs { other.me.0.number ≡ at }
+    requires settled { (is_some other.me.0.own.pending ≡ false) × (other.me.0.combiner.has_book ≡ false) }
+    requires carried { other.me.1 ≡ (at, Held.Nothing) ∷ [] }
+    ensures ours { seat.new.table_id ≡ seat.old.table_id }
+    ensures step { seat.new.me ≡ (gathered seat.old.me.0 other.me.0, seat.old.me.1) }
+{
+    let mut left = other;
+    shared.load::<Leave>(&mut left, at * WORDS_APART);
+    shared.join_seat::<Gather>(seat, left);
 }

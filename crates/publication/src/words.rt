@@ -15,3 +15,6 @@ pub const BUSY: u64 = 2;
 
 // The reply is in its slot.
 pub const SERVED: u64 = 3;
+
+// Its session publishes no more.
+pub const CLOSED: u64 = 4;

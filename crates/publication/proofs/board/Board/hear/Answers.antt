@@ -1,0 +1,34 @@
+use Rattle.std.proofs.Common.{rules, ◌≡◌, ◌||◌, ◌≤◌, ℕ, Bool, true, max, get_or, sym, ap, ◌∙◌, subst, arith}
+use Rattle.publication.specs.Rule.{published}
+use Rattle.publication.specs.Kinds.{Seated, maxes}
+use Rattle.publication.specs.Tickets.{IsBetweenCalls}
+use Rattle.publication.proofs.Longer.{longer-length, maxes-at, maxes-wide}
+use Rattle.publication.proofs.board.Board.hear.Goals as goal
+
+pub invariant_of-ticket : goal.invariant_of-ticket
+invariant_of-ticket c = let a = c.ticket.inside in let b = c.other.inside in let t = c.ticket.invariant.settled in let u = c.other.invariant.settled in
+    let v = a.seat.me.0 in let w = b.seat.me.0 in let n = a.number in
+    let at_most : get_or (maxes v.heard w.heard) n 0 ≤ published v.own = subst (λ (k : ℕ). get_or (maxes v.heard w.heard) k 0 ≤ published v.own) t.number_is c.hear_seat.ensures.learned.heard in
+    let wider = maxes-wide v.heard w.heard in record {
+      small = search rules;
+      settled = subst (λ (x : Seated). IsBetweenCalls x n c.max-ticket-inside.result a.has_book a.is_pending a.is_retired) (sym c.hear_seat.ensures.step)
+          record {
+            number_is = t.number_is;
+            some_number = t.some_number;
+            seen_is = omega (arith, longer-length v.front w.front, t.seen_is, u.seen_is, c.max-ticket-inside.ensures);
+            started = t.started;
+            retired = t.retired;
+            pending = t.pending;
+            book = t.book;
+            hand = t.hand;
+            heard = omega (arith, at_most, maxes-at v.heard w.heard n, t.heard);
+            wide = omega (arith, t.wide, wider);
+            all_made = ap (λ (x : Bool). x || true) t.all_made;
+            carried = t.carried;
+          };
+    }
+
+pub returns-clause-heard : goal.returns-clause-heard
+returns-clause-heard c j = let v = c.ticket.inside.seat.me.0 in let w = c.other.inside.seat.me.0 in
+    let now : get_or c.hear_seat.new.seat.me.0.heard j 0 ≡ max (get_or v.heard j 0) (get_or w.heard j 0) = ap (λ (x : Seated). get_or x.0.heard j 0) c.hear_seat.ensures.step ∙ maxes-at v.heard w.heard j in
+    rw (← c.ticket.view_is, ← c.other.view_is) now

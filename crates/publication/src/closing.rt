@@ -1,0 +1,76 @@
+// What a board that is closed asks of the tickets, and what it leaves.
+ghost use Rattle.std.specs.Prelude.{◌≡◌, ◌+◌, ◌<◌, ◌==◌, ◌↔◌, IsTrue};
+ghost use Rattle.std.specs.List.{list_any, list_all};
+ghost use Rattle.lock_rules.specs.Legal.{IsLegal};
+ghost use Rattle.publication.specs.Boards.{IsEachOnce};
+ghost use Rattle.publication.specs.Closing.{is_settled, WereHanded, AreEnded};
+
+use crate::board::Ticket;
+use crate::kinds::Law;
+use crate::slot::{Held, Load};
+use crate::steps::Seat;
+use crate::view::View;
+use atomic_table::Table;
+use lock_desk::Book;
+use std::alloc::Global;
+use thiserror::Error;
+
+/// Why a board was not closed.
+#[derive(Clone, Copy, Debug, PartialEq, Eq, Error, Drop)]
+pub enum CloseFault {
+    /// The vector doesn't hold each session once.
+    #[error("a session is missing")]
+    Missing = 1,
+    /// A session has a call pending, or is the combiner.
+    #[error("a session is pending")]
+    Unsettled = 2,
+}
+
+// Whether a ticket of this number is among them.
+fn has_number(tickets: &[Ticket], number: u16) -> bool
+    ensures { result ≡ list_any (λ ticket. ticket.number == number) tickets.now }
+{
+    tickets.iter().any(|ticket| ticket.number() == number)
+}
+
+/// Whether the tickets are those of so many sessions, each once. Each number is looked for in turn, which takes no memory.
+pub(crate) fn is_each_once(tickets: &[Ticket], sessions: u16) -> bool
+    ensures { IsTrue result ↔ IsEachOnce sessions tickets.now }
+{
+    let mut is_whole = tickets.len() == usize::from(sessions);
+    for before in 0..sessions {
+        is_whole = is_whole && has_number(tickets, before + 1);
+    }
+    is_whole
+}
+
+/// Whether no ticket has anything pending, or the book.
+pub(crate) fn are_settled(tickets: &[Ticket]) -> bool
+    ensures { result ≡ list_all is_settled tickets.now }
+{
+    tickets.iter().all(|ticket| ticket.is_settled())
+}
+
+/// The book of a table whose sessions were all taken in by the closing seat.
+pub(crate) fn close_table(table: Table<Held, View, u16, Law, Global>, closing: Seat) -> Book
+    requires ours { closing.table_id ≡ table.shared.table_id }
+    requires some { 0 < table.shared.table_id.slots }
+    requires all { WereHanded table.shared.table_id.slots closing.me.0.others.handed }
+    ensures sessions { result.sessions + 1 ≡ table.shared.table_id.slots }
+    ensures legal { IsLegal result.history }
+    ensures ends { AreEnded result.history closing.me.0.others.handed }
+{
+    let mut closed = table.close_with(closing);
+    let held = closed.take(0);
+    let mut i = 1;
+    while i < closed.slot_count() {
+        drop(closed.take(i));
+        i += 1;
+    }
+    closed.free();
+    let Held::Home(load) = held else {
+        unreachable!()
+    };
+    let Load { book, row: _ } = Box::into_inner(load);
+    book
+}
