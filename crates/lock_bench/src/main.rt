@@ -1,15 +1,22 @@
 //! The program that times the lock table and the office on a trace. `lock_bench --help` says how it is called.
 #![tactic(auto)]
 
+mod mutexes;
 mod single;
+mod spans;
 mod threads;
 mod timing;
 
-use crate::timing::Fault;
-use lock_trace::read_trace;
+ghost use Rattle.std.specs.Prelude.{◌<◌};
+ghost use Rattle.std.specs.List.{All};
+ghost use Rattle.lock_trace.specs.Rows.{IsRow};
+
+use crate::timing::{Fault, SESSIONS};
+use lock_trace::{TraceRow, read_trace};
 use std::alloc::Global;
 use std::process::ExitCode;
 use std::rt::Runtime;
+use std::sync::Wait;
 use std::thread::Threads;
 use std::{env, fs, io};
 
@@ -17,12 +24,13 @@ const USAGE: &str = "Times the lock table and the office on a trace.
 
     lock_bench seq FILE TIMES          serves the rows on a fresh book, TIMES times
     lock_bench threads FILE T TIMES    has T threads perform the rows through a fresh office, TIMES times
+    lock_bench mutex FILE T TIMES      has T threads perform the rows on a fresh book behind a mutex, TIMES times
     lock_bench count FILE TIMES        serves the rows as seq does, and looks at no clock
 
-seq and threads print ns_per_call=NUMBER: the nanoseconds of the best turn, divided by the number of rows.
-The clock starts when the trace is read. Each thread has the sessions whose number modulo T is its own, and
-performs their rows in the order of the trace; the clock of threads runs from the start of the first to the
-end of the last.
+seq, threads and mutex print ns_per_call=NUMBER: the nanoseconds of the best turn, divided by the number of
+rows. The clock starts when the trace is read. Each thread has the sessions whose number modulo T is its own,
+and performs their rows in the order of the trace; the clock of threads and mutex runs from the start of the
+first to the end of the last.
 
 The status is 0; 1 where the trace couldn't be read or served; 2 where the words are others.
 ";
@@ -35,8 +43,43 @@ fn number(word: &str) -> Result<u64, Fault> {
     word.parse::<u64>().map_err(|_| Fault::Misused)
 }
 
+/// How threads share the lock table.
+#[derive(Clone, Copy)]
+enum Sharing {
+    /// Each publishes its calls, and one serves them.
+    Office,
+    /// Each takes a lock for each call.
+    Mutex,
+}
+
+/// The least of as many turns with as many threads.
+fn best_turn<R: Runtime + Threads + Wait + Sync>(
+    rt: &R,
+    alloc: Global,
+    rows: &[TraceRow],
+    sharing: Sharing,
+    threads: u64,
+    times: u64,
+) -> Result<u64, Fault>
+    requires rows { All (IsRow SESSIONS) rows.now }
+{
+    let threads = u16::try_from(threads).unwrap_or(0);
+    if threads == 0 {
+        return Err(Fault::Misused);
+    }
+    let mut best = u64::MAX;
+    for _turn in 0..times {
+        let took = match sharing {
+            Sharing::Office => threads::turn(rt, alloc, rows, threads)?,
+            Sharing::Mutex => mutexes::turn(rt, alloc, rows, threads)?,
+        };
+        best = best.min(took);
+    }
+    Ok(best)
+}
+
 /// Does what the words ask, of which the first is the program's own name.
-fn perform<R: Runtime + Threads + Sync>(
+fn perform<R: Runtime + Threads + Wait + Sync>(
     rt: &R,
     alloc: Global,
     words: &[String],
@@ -45,14 +88,19 @@ fn perform<R: Runtime + Threads + Sync>(
         return Err(Fault::Misused);
     }
     let text = fs::read(rt, words[2].as_str()).map_err(|_| Fault::Device)?;
-    let rows = read_trace(alloc, text.as_slice(), timing::SESSIONS).map_err(|_| Fault::NoTrace)?;
+    let rows = read_trace(alloc, text.as_slice(), SESSIONS).map_err(|_| Fault::NoTrace)?;
     let first = number(words[3].as_str())?;
     let best = match (words[1].as_str(), words.len()) {
         ("seq", 4) => single::best_turn(rt, alloc, &rows, first)?,
         ("count", 4) => return single::serve_turns(alloc, &rows, first),
-        ("threads", 5) => {
+        ("threads", 5) | ("mutex", 5) => {
+            let sharing = if words[1].as_str() == "mutex" {
+                Sharing::Mutex
+            } else {
+                Sharing::Office
+            };
             let times = number(words[4].as_str())?;
-            threads::best_turn(rt, alloc, &rows, first, times)?
+            best_turn(rt, alloc, &rows, sharing, first, times)?
         }
         _ => return Err(Fault::Misused),
     };

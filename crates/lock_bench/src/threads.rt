@@ -5,7 +5,9 @@ ghost use Rattle.std.specs.Bool.{OnTrue};
 ghost use Rattle.std.specs.List.{All};
 ghost use Rattle.combining.specs.Sessions.{IsSessionOf, IsIdle};
 
-use crate::timing::{Fault, nanoseconds};
+use crate::spans;
+use crate::spans::Span;
+use crate::timing::Fault;
 use combining::{Office, Session};
 use lock_desk::{Call, NoMemory};
 use lock_trace::TraceRow;
@@ -14,8 +16,8 @@ use std::thread::Threads;
 use std::time::{Clock, Instant};
 use std::{hint, thread};
 
-/// How often a thread tries for one answer.
-const TURNS: u64 = 1_000_000_000;
+/// How often a thread looks for one answer.
+const LOOKS: u64 = 1_000_000_000;
 
 /// One row of a thread: which of its sessions calls, and what.
 #[derive(Clone, Copy)]
@@ -31,11 +33,25 @@ struct Job {
     rows: Vec<Row>,
 }
 
-/// When a thread began and when it was done.
-#[derive(Clone, Copy)]
-struct Span {
-    start: Instant,
-    end: Instant,
+/// How many looks for the answer lie between two tries for the lock table. A session that waits disturbs the combiner with
+/// each of them, so most looks are at its own record, and far apart.
+const LOOKS_A_TRY: u64 = 8;
+
+/// How many pauses lie between two looks.
+const PAUSES: u32 = 64;
+
+/// How many looks a session makes before it gives way to other threads.
+const LOOKS_A_YIELD: u64 = 64;
+
+/// Lets the combiner go on before the next look.
+fn give_way(look: u64) {
+    if look % LOOKS_A_YIELD == LOOKS_A_YIELD - 1 {
+        thread::yield_now();
+        return;
+    }
+    for _pause in 0..PAUSES {
+        hint::spin_loop();
+    }
 }
 
 /// Publishes a call, and tries to serve and to collect until the answer is there: whether it came.
@@ -44,16 +60,14 @@ fn perform(office: &Office, session: &mut Session, call: Call) -> bool
     ensures ours { OnTrue result (IsSessionOf office.now session.new × IsIdle session.new) }
 {
     let _posted = office.publish(session, call);
-    for turn in 1..TURNS {
-        let _turn = office.serve(session);
+    for look in 0..LOOKS {
+        if look % LOOKS_A_TRY == 0 {
+            let _turn = office.serve(session);
+        }
         if office.collect(session).is_some() {
             return true;
         }
-        if turn % 64 == 0 {
-            thread::yield_now();
-        } else {
-            hint::spin_loop();
-        }
+        give_way(look);
     }
     false
 }
@@ -130,7 +144,7 @@ fn dealt_out(alloc: Global, rows: &[TraceRow], threads: u16) -> Result<(Office, 
 }
 
 /// One turn through a fresh office: the nanoseconds from the start of the first thread to the end of the last.
-fn turn<R: Threads + Clock + Sync>(
+pub fn turn<R: Threads + Clock + Sync>(
     rt: &R,
     alloc: Global,
     rows: &[TraceRow],
@@ -143,37 +157,5 @@ fn turn<R: Threads + Clock + Sync>(
     let spans = thread::map_vec(rt, jobs, &|job: Job| work(rt, office, job)).map_err(
         |_| Fault::NoMemory,
     )?;
-    let mut whole: Option<Span> = None;
-    for span in spans {
-        let span = span?;
-        whole = Some(match whole {
-            None => span,
-            Some(before) => Span {
-                start: before.start.min(span.start),
-                end: before.end.max(span.end),
-            },
-        });
-    }
-    Ok(whole.map_or(0, |span| nanoseconds(span.end.duration_since(span.start))))
-}
-
-/// The least of as many turns with as many threads.
-pub fn best_turn<R: Threads + Clock + Sync>(
-    rt: &R,
-    alloc: Global,
-    rows: &[TraceRow],
-    threads: u64,
-    times: u64,
-) -> Result<u64, Fault> {
-    let Ok(threads) = u16::try_from(threads) else {
-        return Err(Fault::Misused);
-    };
-    if threads == 0 {
-        return Err(Fault::Misused);
-    }
-    let mut best = u64::MAX;
-    for _turn in 0..times {
-        best = best.min(turn(rt, alloc, rows, threads)?);
-    }
-    Ok(best)
+    spans::whole(spans)
 }

@@ -1,5 +1,5 @@
 use Rattle.combining.specs.Sessions.{IsSessionOf}
 use Rattle.lock_bench.proofs.threads.perform.Given as goal
 
-abbrev pub invariant-loop-turn : goal.invariant-loop-turn
-invariant-loop-turn l = IsSessionOf l.office l.session
+abbrev pub invariant-loop-look : goal.invariant-loop-look
+invariant-loop-look l = IsSessionOf l.office l.session
