@@ -1,34 +1,16 @@
 -- What is seen of a resource that a session leaves altogether: its request first and then its lock, or both at once.
 use Rattle.lock_rules.specs.Sound.{after, ascend}
-use Rattle.std.proofs.Common.{◌≡◌, ℕ, ◌<◌, Bool, true, false, cond, not, eqb, ◌&&◌, ◌||◌, List, [], ◌∷◌, map, refl, sym, ◌∙◌, ap, arith}
+use Rattle.std.proofs.Common.{◌≡◌, ℕ, Bool, true, false, cond, not, eqb, ◌&&◌, ◌||◌, List, [], ◌∷◌, map, refl, sym, ◌∙◌, ap, arith}
 use Rattle.std.proofs.lemmas.Bool.Decides.{nat_tests}
 use Rattle.std.proofs.lemmas.Bool.{and_parts, cases_Bool}
 use Rattle.lock_modes.specs.Compatibility.{are_compatible}
 use Rattle.lock_rules.proofs.Lists.{after-trans}
 use Rattle.lock_desk.specs.declared.cells.SessionMode.{SessionMode}
 use Rattle.lock_desk.specs.declared.cells.Part.TheVariants as part
-use Rattle.lock_desk.specs.Cells.{View, has_session, pair_of, with_holder, without, fits_among, view_after_grants, view_after_promotion, view_after_freeing}
+use Rattle.lock_desk.specs.Cells.{View, has_session, pair_of, with_holder, without, fits_among, Ascends, view_after_grants, view_after_promotion, view_after_freeing}
 use Rattle.lock_desk.specs.Changes.{view_after_unlock, view_after_end}
 use Rattle.lock_desk.proofs.SessionModes.{has_session-with_holder, has_session-without, without-none}
-
--- the holders ascend by session
-abbrev pub Ascends : List SessionMode → Type 0
-Ascends hs = ascend (map pair_of hs) ≡ true
-
-abbrev IsAfter : ℕ → List SessionMode → Type 0
-IsAfter s hs = after s (map pair_of hs) ≡ true
-
-after-with : (i : ℕ) (c : SessionMode) (hs : List SessionMode) → i < c.session → IsAfter i hs → IsAfter i (with_holder c hs)
-after-with i c [] l h = grind (arith, nat_tests)
-after-with i c (k ∷ hs) l h = grind (arith, nat_tests, after-with i c hs l)
-
-ascends-with : (c : SessionMode) (hs : List SessionMode) → Ascends hs → Ascends (with_holder c hs)
-ascends-with c [] h = refl
-ascends-with c (k ∷ hs) h = let n = after-with k.session c hs in let a = after-trans c.session k.session (map pair_of hs) in grind (arith, nat_tests, ascends-with c hs, n, a)
-
-after-without : (i s : ℕ) (hs : List SessionMode) → IsAfter i hs → IsAfter i (without s hs)
-after-without i s [] h = h
-after-without i s (k ∷ hs) h = grind (arith, nat_tests, after-without i s hs)
+use Rattle.lock_desk.proofs.Rising.{IsAfter, ascends-with, after-without}
 
 with-first : (c : SessionMode) (hs : List SessionMode) → IsAfter c.session hs → with_holder c hs ≡ c ∷ hs
 with-first c [] h = refl

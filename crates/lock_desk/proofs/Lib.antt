@@ -1,6 +1,8 @@
 -- the cells
 -- lists of sessions, each with its mode: the holders and the queue of one resource
 pub mod SessionModes
+-- holders whose session numbers rise
+pub mod Rising
 -- one resource: a grant, a request, a release
 pub mod ResourceViews
 -- the table of cells after a change of one of them

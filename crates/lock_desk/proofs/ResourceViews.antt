@@ -1,15 +1,17 @@
 -- What a grant, a request and a release do to the holders and the queue of one resource.
-use Rattle.std.proofs.Common.{◌≡◌, ℕ, ◌≤◌, Bool, true, false, cond, not, eqb, ◌&&◌, ◌||◌, inl, inr, List, [], ◌∷◌, Some, None, refl, sym, ◌∙◌, ap, arith, subst}
+use Rattle.std.proofs.Common.{◌≡◌, ℕ, zero, suc, ◌+◌, ◌<◌, ◌≤◌, Bool, true, false, cond, not, eqb, ◌&&◌, ◌||◌, inl, inr, List, [], ◌∷◌, length, drop, Some, None, refl, sym, ◌∙◌, ap, arith, subst}
 use Rattle.std.proofs.lemmas.Bool.{and_right, or_from, or_parts}
 use Rattle.std.proofs.lemmas.Bool.Decides.{nat_tests, Decides-eqb}
+use Rattle.std.proofs.lemmas.List.{drop-drop}
 use Rattle.lock_desk.specs.declared.cells.SessionMode.{SessionMode}
 use Rattle.lock_desk.specs.declared.cells.Cell.{Cell}
 use Rattle.lock_desk.specs.declared.cells.Part.{Part}
 use Rattle.lock_desk.specs.declared.cells.Part.TheVariants as part
-use Rattle.lock_desk.specs.Cells.{View, no_view, with_holder, has_session, times, is_nobody, fits_among, next_grant, view_after_next_grant, view_after_grants, view_after_promotion, view_after_giving_up, queue_with, IsOnce, is_busy, view_of, HasRoom, IsKeptCell}
+use Rattle.lock_desk.specs.Cells.{View, no_view, with_holder, has_session, times, is_nobody, fits_among, next_grant, view_after_grants, view_after_promotion, view_after_giving_up, queue_with, Ascends, IsOnce, is_busy, view_of, HasRoom, IsKeptCell}
+use Rattle.lock_desk.proofs.Rising.{ascends-with, ascends-without}
 use Rattle.lock_desk.proofs.SessionModes.{has_tells, has_session-with_holder, has_session-without, has_session-queued, times-queued, times-without, nobody-with_holder, nobody-queued}
 
-abbrev both : List SessionMode → List SessionMode → View
+abbrev pub both : List SessionMode → List SessionMode → View
 both hs ws = record { holders = hs; waiting = ws }
 
 -- the first of the queue was granted
@@ -18,22 +20,38 @@ pub record IsNext (v : View) (c : SessionMode) (w : View) : Type 0 where
   pub fits : fits_among c v.holders ≡ true
   pub holders : w.holders ≡ with_holder c v.holders
 
--- the grant that is made is that of the first
-pub next-some : (hs ws : List SessionMode) (c : SessionMode) → next_grant hs ws ≡ Some c → IsNext (both hs ws) c (view_after_next_grant hs ws)
-next-some hs [] c h = absurd (cc)
-next-some hs (q ∷ ws) c h = go (fits_among q hs) refl h
+-- the request that fits is granted
+pub next-granted : (hs ws : List SessionMode) (c : SessionMode) → Some c ≡ next_grant hs ws → IsNext (both hs ws) c (both (with_holder c hs) (drop 1 ws))
+next-granted hs [] c h = absurd (cc)
+next-granted hs (q ∷ ws) c h = go (fits_among q hs) refl h
   where
-    go : (b : Bool) → fits_among q hs ≡ b → cond b (Some q) None ≡ Some c → IsNext (both hs (q ∷ ws)) c (cond b (both (with_holder q hs) ws) (both hs (q ∷ ws)))
+    go : (b : Bool) → fits_among q hs ≡ b → Some c ≡ cond b (Some q) None → IsNext (both hs (q ∷ ws)) c (both (with_holder c hs) ws)
     go false e k = absurd (cc)
     go true e k = let same : q ≡ c = cc in record {
       first = ap (λ (x : SessionMode). x ∷ ws) same;
       fits = ap (λ (x : SessionMode). fits_among x hs) (sym same) ∙ e;
-      holders = ap (λ (x : SessionMode). with_holder x hs) same;
+      holders = refl;
     }
 
--- the same, of a cell
-pub next-cell : (hs ws : List SessionMode) (c : SessionMode) (w : View) → Some c ≡ next_grant hs ws → w ≡ view_after_next_grant hs ws → IsNext (both hs ws) c w
-next-cell hs ws c w e f = subst (IsNext (both hs ws) c) (sym f) (next-some hs ws c (sym e))
+-- the same, where so many were granted before
+pub next-passed : (hs ws : List SessionMode) (n : ℕ) (c : SessionMode) (new : List SessionMode) → Some c ≡ next_grant hs (drop n ws) → new ≡ with_holder c hs → IsNext (both hs (drop n ws)) c (both new (drop (n + 1) ws))
+next-passed hs ws n c new h e = subst (λ (v : View). IsNext (both hs (drop n ws)) c v) (λ i. both (sym e i) (drop-drop 1 n ws i)) (next-granted hs (drop n ws) c h)
+
+-- who was granted stands behind them in the queue
+pub next-within : (hs ws : List SessionMode) (n : ℕ) (c : SessionMode) → Some c ≡ next_grant hs (drop n ws) → n < length ws
+next-within hs [] zero c h = absurd (cc)
+next-within hs [] (suc n) c h = absurd (cc)
+next-within hs (q ∷ ws) zero c h = omega arith
+next-within hs (q ∷ ws) (suc n) c h = omega (arith, next-within hs ws n c h)
+
+-- where the first doesn't fit, nobody is granted
+pub none-granted : (hs ws : List SessionMode) → None ≡ next_grant hs ws → view_after_grants hs ws ≡ both hs ws
+none-granted hs [] h = refl
+none-granted hs (q ∷ ws) h = go (fits_among q hs) h
+  where
+    go : (b : Bool) → None ≡ cond b (Some q) None → cond b (view_after_grants (with_holder q hs) ws) (both hs (q ∷ ws)) ≡ both hs (q ∷ ws)
+    go false e = refl
+    go true e = absurd (cc)
 
 -- after a grant the rest of the promotion is the same
 pub promoted-next : (v : View) (c : SessionMode) (w : View) → IsNext v c w → view_after_promotion w ≡ view_after_promotion v
@@ -50,6 +68,7 @@ next-waits v c w n = ap (has_session c.session) n.first ∙ ap (λ (b : Bool). b
 -- a grant leaves the rest of the queue
 pub once-next : (v : View) (c : SessionMode) (w : View) → IsNext v c w → IsOnce v → IsOnce w
 once-next v c w n o = record {
+  rising = subst Ascends (sym n.holders) (ascends-with c v.holders o.rising);
   once = λ s. let f = ap (times s) n.first in let k = o.once s in grind (arith, nat_tests);
   holders = ap (has_session 0) n.holders ∙ (has_session-with_holder 0 c v.holders ∙ or_from (eqb c.session 0) (has_session 0 v.holders) (or_parts (eqb c.session 0) (has_session 0 w.waiting) waits).0 o.holders);
   waiting = (or_parts (eqb c.session 0) (has_session 0 w.waiting) waits).1;
@@ -61,6 +80,7 @@ once-next v c w n o = record {
 -- a request of a session that has none comes into the queue
 pub once-queued : (c : SessionMode) (v : View) → 1 ≤ c.session → has_session c.session v.waiting ≡ false → IsOnce v → IsOnce (record { holders = v.holders; waiting = queue_with c v.holders v.waiting })
 once-queued c v some k o = record {
+  rising = o.rising;
   once = λ s. let p = times-queued s c v.holders v.waiting in let q = o.once s in let n = none in grind (arith, nat_tests);
   holders = o.holders;
   waiting = has_session-queued 0 c v.holders v.waiting ∙ (let e = o.waiting in grind (arith, nat_tests));
@@ -71,12 +91,13 @@ once-queued c v some k o = record {
 
 -- what is given up adds none
 pub once-giving_up : (p : Part) (s : ℕ) (v : View) → IsOnce v → IsOnce (view_after_giving_up p s v)
-once-giving_up part.Lock s v o = record { once = o.once; holders = has_session-without s 0 v.holders ∙ and_right (not (eqb 0 s)) (has_session 0 v.holders) o.holders; waiting = o.waiting }
-once-giving_up part.Request s v o = record { once = λ u. omega (arith, o.once u, times-without s u v.waiting); holders = o.holders; waiting = has_session-without s 0 v.waiting ∙ and_right (not (eqb 0 s)) (has_session 0 v.waiting) o.waiting }
+once-giving_up part.Lock s v o = record { rising = ascends-without s v.holders o.rising; once = o.once; holders = has_session-without s 0 v.holders ∙ and_right (not (eqb 0 s)) (has_session 0 v.holders) o.holders; waiting = o.waiting }
+once-giving_up part.Request s v o = record { rising = o.rising; once = λ u. omega (arith, o.once u, times-without s u v.waiting); holders = o.holders; waiting = has_session-without s 0 v.waiting ∙ and_right (not (eqb 0 s)) (has_session 0 v.waiting) o.waiting }
 
 -- a grant at once leaves the queue
 pub once-put : (c : SessionMode) (v : View) → 1 ≤ c.session → IsOnce v → IsOnce (record { holders = with_holder c v.holders; waiting = v.waiting })
 once-put c v some o = record {
+  rising = ascends-with c v.holders o.rising;
   once = o.once;
   holders = has_session-with_holder 0 c v.holders ∙ (let e = o.holders in grind (arith, nat_tests));
   waiting = o.waiting;
@@ -84,7 +105,7 @@ once-put c v some o = record {
 
 -- nobody is there
 pub once-nobody : IsOnce no_view
-once-nobody = record { once = λ s. omega arith; holders = refl; waiting = refl }
+once-nobody = record { rising = refl; once = λ s. omega arith; holders = refl; waiting = refl }
 
 -- somebody is there
 

@@ -16,14 +16,13 @@ use Rattle.lock_rules.proofs.Steps.{is-none}
 use Rattle.lock_rules.proofs.Waiting.{request_of-filter, request_of-front, request_of-rest}
 use Rattle.lock_desk.specs.declared.cells.SessionMode.{SessionMode}
 use Rattle.lock_desk.specs.declared.desk.Desk.{Desk}
-use Rattle.lock_desk.specs.Cells.{View, has_session, mode_of, pair_of, has_path}
+use Rattle.lock_desk.specs.Cells.{View, has_session, mode_of, pair_of, Ascends, has_path}
 use Rattle.lock_desk.specs.Lockers.{is_wanted}
 use Rattle.lock_desk.specs.Changes.{standings, standing, IsWhole}
 use Rattle.lock_desk.specs.Finding.{holder_blocks, stands_first, target_blocks, view_blocks, blocks_at, blocks}
 use Rattle.lock_desk.specs.Shows.{short, claims_on, view, Shows}
 use Rattle.lock_desk.proofs.TableViews.{mode-seen}
 use Rattle.lock_desk.proofs.LockCounts.{queue-has, waits_on-once, waits-told}
-use Rattle.lock_desk.proofs.LeavingAResource.{Ascends}
 use Rattle.lock_desk.proofs.AfterStep.{ascends-seen}
 
 -- the queue

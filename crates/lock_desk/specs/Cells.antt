@@ -1,11 +1,12 @@
 -- Private parts speak to one another here, and no public contract of this crate: what
 -- the cells say of a resource, and what is done there.
-use Rattle.std.specs.Prelude.{◌≡◌, ℕ, ◌+◌, ◌≤◌, Bool, true, false, not, ◌&&◌, ◌||◌, if◌then◌else◌, ◌==◌, nat_lt, List, [], ◌∷◌, ◌++◌, filter, Option, Some, None, IfSome, vec_len, vec_capacity}
+use Rattle.std.specs.Prelude.{◌≡◌, ℕ, ◌+◌, ◌<◌, ◌≤◌, Bool, true, false, not, ◌&&◌, ◌||◌, if◌then◌else◌, ◌==◌, nat_lt, List, [], ◌∷◌, ◌++◌, filter, map, length, slice_index_or, Option, Some, None, IfSome, vec_len, vec_capacity}
 use Rattle.std.specs.List.{list_any, list_all}
 use Rattle.std.specs.Map.{lookup}
 use Rattle.lock_modes.specs.declared.Mode.{Mode}
 use Rattle.lock_modes.specs.Compatibility.{are_compatible}
 use Rattle.lock_tree.specs.Paths.{same_path}
+use Rattle.lock_rules.specs.Sound.{ascend}
 use Rattle.lock_desk.specs.declared.cells.SessionMode.{SessionMode}
 use Rattle.lock_desk.specs.declared.cells.Part.{Part}
 use Rattle.lock_desk.specs.declared.cells.Part.TheVariants as part
@@ -48,6 +49,22 @@ without s cs = filter (λ c. not (c.session == s)) cs
 abbrev pub fits_among : SessionMode → List SessionMode → Bool
 fits_among c hs = list_all (λ h. (h.session == c.session) || are_compatible c.mode h.mode) hs
 
+-- the mode is compatible with what each of them holds
+abbrev pub go_with : Mode → List SessionMode → Bool
+go_with m hs = list_all (λ h. are_compatible m h.mode) hs
+
+-- the session numbers rise
+abbrev pub Ascends : List SessionMode → Type 0
+Ascends hs = ascend (map pair_of hs) ≡ true
+
+-- the first ones, so many, are of lesser sessions
+abbrev pub AreLesser : ℕ → ℕ → List SessionMode → Type 0
+AreLesser s n cs = (i : ℕ) (d : SessionMode) → i < n → (slice_index_or cs i d).session < s
+
+-- and those behind them are not
+abbrev pub AreOthers : ℕ → ℕ → List SessionMode → Type 0
+AreOthers s n cs = (i : ℕ) (d : SessionMode) → n ≤ i → i < length cs → s ≤ (slice_index_or cs i d).session
+
 -- one resource
 
 -- the holders of a resource, and its queue
@@ -63,11 +80,6 @@ no_view = record { holders = []; waiting = [] }
 abbrev pub next_grant : List SessionMode → List SessionMode → Option SessionMode
 next_grant hs [] = None
 next_grant hs (q ∷ qs) = if fits_among q hs then Some q else None
-
--- and what there is once that one is granted
-abbrev pub view_after_next_grant : List SessionMode → List SessionMode → View
-view_after_next_grant hs [] = record { holders = hs; waiting = [] }
-view_after_next_grant hs (q ∷ qs) = if fits_among q hs then record { holders = with_holder q hs; waiting = qs } else record { holders = hs; waiting = q ∷ qs }
 
 -- one request after another is granted, up to the first that doesn't fit
 abbrev pub view_after_grants : List SessionMode → List SessionMode → View
@@ -121,8 +133,9 @@ view_of c = record { holders = c.holders.items; waiting = c.waiting.items }
 abbrev pub HasRoom : Cell → Type 0
 HasRoom c = vec_len c.holders + vec_len c.waiting ≤ vec_capacity c.holders
 
--- no session waits for it twice, and sessions are numbered from 1
+-- holders stand by session number, no session waits for it twice, and sessions are numbered from 1
 pub record IsOnce (v : View) : Type 0 where
+  pub rising : Ascends v.holders
   pub once : (s : ℕ) → times s v.waiting ≤ 1
   pub holders : has_session 0 v.holders ≡ false
   pub waiting : has_session 0 v.waiting ≡ false

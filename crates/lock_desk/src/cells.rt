@@ -1,11 +1,11 @@
 //! Cells: one for each resource that is held or waited for, with its holders and its queue.
 
-ghost use Rattle.std.specs.Prelude.{◌≡◌, ℕ, ◌+◌, ◌<◌, ◌≤◌, insert, Bool, false, true, not, List, [], ◌∷◌, ◌++◌, map, ◌&&◌, ◌||◌, ◌==◌, IfOk, OnOk, OnErr, length, vec_len, vec_capacity};
+ghost use Rattle.std.specs.Prelude.{◌≡◌, ℕ, ◌+◌, ◌<◌, ◌≤◌, insert, drop, Bool, true, false, true, not, List, [], ◌∷◌, ◌++◌, map, ◌&&◌, ◌||◌, ◌==◌, Some, IfOk, IfSome, OnOk, OnErr, length, vec_len, vec_capacity};
 ghost use Rattle.std.specs.Option.{option_copied};
 ghost use Rattle.waits_for.specs.Pairs.{pairs_of};
 ghost use Rattle.lock_tree.specs.Paths.{same_path};
 ghost use Rattle.lock_desk.specs.declared.cells.SessionMode.{SessionMode as SessionModeValue};
-ghost use Rattle.lock_desk.specs.Cells.{View, view_of, has_session, mode_of, pair_of, with_holder, view_after_giving_up, fits_among, next_grant, view_after_next_grant, can_grant, is_granted, behind_conversions, queue_with, view_after_asking, HasRoom, IsKeptCell, AreKeptCells, is_busy, cell_at, cell_view, CellsBecame, ViewBecame};
+ghost use Rattle.lock_desk.specs.Cells.{View, view_of, has_session, mode_of, pair_of, with_holder, view_after_giving_up, fits_among, go_with, Ascends, AreLesser, AreOthers, next_grant, can_grant, is_granted, behind_conversions, queue_with, view_after_asking, HasRoom, IsKeptCell, AreKeptCells, is_busy, cell_at, cell_view, CellsBecame, ViewBecame};
 ghost use Rattle.lock_desk.specs.Finding.{holder_blocks, stands_first, cell_blocks, AreOfSessions};
 
 use crate::positions::position_of;
@@ -74,6 +74,15 @@ pub(crate) fn mode_among(list: &[SessionMode], session: u16) -> Option<Mode>
     None
 }
 
+fn is_mode(shared: Option<Mode>, mode: Mode) -> bool
+    ensures { result ≡ true → shared ≡ Some mode }
+{
+    match shared {
+        Some(shared) => shared == mode,
+        None => false,
+    }
+}
+
 /// Whether the asker's mode is compatible with what each other session holds.
 pub(crate) fn fits(holders: &[SessionMode], asker: SessionMode) -> bool
     ensures { result ≡ fits_among asker holders.now }
@@ -92,25 +101,45 @@ fn insert_at(list: &mut Vec<SessionMode>, index: usize, one: SessionMode)
     let _inserted = list.insert(index, one);
 }
 
+/// How many of the holders have a lesser session number.
+fn rank(holders: &[SessionMode], session: u16) -> usize
+    requires rising { Ascends holders.now }
+    ensures within { result ≤ length holders.now }
+    ensures lesser { AreLesser session result holders.now }
+    ensures others { AreOthers session result holders.now }
+{
+    let mut low = 0;
+    let mut high = holders.len();
+    while low < high {
+        let middle = low + (high - low) / 2;
+        if holders[middle].session < session {
+            low = middle + 1;
+        } else {
+            high = middle;
+        }
+    }
+    low
+}
+
 /// The holder replaces the session's own lock, or comes between its neighbours by session number.
 pub(crate) fn put(holders: &mut Vec<SessionMode>, holder: SessionMode)
-    requires { vec_len holders.old < vec_capacity holders.old }
+    requires rising { Ascends holders.old.items }
+    requires room { vec_len holders.old < vec_capacity holders.old }
     ensures items { holders.new.items ≡ with_holder holder holders.old.items }
     ensures len { vec_len holders.new ≤ vec_len holders.old + 1 }
     ensures capacity { vec_capacity holders.old ≤ vec_capacity holders.new }
 {
-    for i in 0..holders.len() {
-        let session = holders[i].session;
-        if session == holder.session {
-            holders[i] = holder;
-            return;
-        }
-        if holder.session < session {
-            insert_at(holders, i, holder);
-            return;
-        }
+    let index = rank(holders, holder.session);
+    if index == holders.len() {
+        holders.push_reserved(holder);
+        return;
     }
-    holders.push_reserved(holder);
+    let session = holders[index].session;
+    if session == holder.session {
+        holders[index] = holder;
+        return;
+    }
+    insert_at(holders, index, holder);
 }
 
 /// How many conversions wait: the index of the next one in the queue.
@@ -189,23 +218,53 @@ impl Cell {
         self.holders.is_empty() && self.waiting.is_empty()
     }
 
-    /// Grants the first request of the queue where it fits, and says which.
-    pub(crate) fn grant_next(&mut self) -> Option<SessionMode>
-        requires { HasRoom self.old }
-        ensures next { result ≡ next_grant self.old.holders.items self.old.waiting.items }
-        ensures view { view_of self.new ≡ view_after_next_grant self.old.holders.items self.old.waiting.items }
-        ensures room { HasRoom self.new }
+    /// The request of the queue behind so many that were granted, where it fits. One in a mode that goes with all
+    /// holders needs no look at them.
+    pub(crate) fn next_grant(&self, granted: usize, shared: Option<Mode>) -> Option<SessionMode>
+        requires shared { IfSome shared (λ m. go_with m self.now.holders.items ≡ true) }
+        ensures { result ≡ next_grant self.now.holders.items (drop granted self.now.waiting.items) }
     {
-        if self.waiting.is_empty() {
+        if granted >= self.waiting.len() {
             return None;
         }
-        let first = self.waiting[0];
-        if !fits(&self.holders, first) {
-            return None;
+        let next = self.waiting[granted];
+        if is_mode(shared, next.mode) || fits(&self.holders, next) {
+            return Some(next);
         }
-        self.waiting.remove(0);
-        put(&mut self.holders, first);
-        Some(first)
+        None
+    }
+
+    /// The session holds the resource in this mode, which fits: and the mode, where it goes with itself and so with all
+    /// holders.
+    pub(crate) fn admit(&mut self, holder: SessionMode) -> Option<Mode>
+        requires rising { Ascends self.old.holders.items }
+        requires room { vec_len self.old.holders < vec_capacity self.old.holders }
+        requires fits { fits_among holder self.old.holders.items ≡ true }
+        ensures shared { IfSome result (λ m. go_with m self.new.holders.items ≡ true) }
+        ensures holders { self.new.holders.items ≡ with_holder holder self.old.holders.items }
+        ensures len { vec_len self.new.holders ≤ vec_len self.old.holders + 1 }
+        ensures capacity { vec_capacity self.old.holders ≤ vec_capacity self.new.holders }
+        ensures waiting { self.new.waiting ≡ self.old.waiting }
+    {
+        put(&mut self.holders, holder);
+        if Mode::compatible(holder.mode, holder.mode) {
+            return Some(holder.mode);
+        }
+        None
+    }
+
+    /// The first requests leave the queue, so many.
+    pub(crate) fn pass(&mut self, granted: usize)
+        requires { granted ≤ vec_len self.old.waiting }
+        ensures waiting { self.new.waiting.items ≡ drop granted self.old.waiting.items }
+        ensures len { vec_len self.new.waiting + granted ≡ vec_len self.old.waiting }
+        ensures holders { self.new.holders ≡ self.old.holders }
+    {
+        if granted == 0 {
+            return;
+        }
+        self.waiting.rotate_left(granted);
+        self.waiting.truncate(self.waiting.len() - granted);
     }
 
     /// Takes away what the session holds, or its request.

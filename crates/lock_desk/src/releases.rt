@@ -25,10 +25,15 @@ pub(crate) fn promote(cell: &mut Cell, resource: Resource, lockers: &mut Vec<Loc
     ensures granted { AreSameOrGranted resource (standings_of lockers.old.items) (standings_of lockers.new.items) }
     ensures len { vec_len lockers.new ≡ vec_len lockers.old }
 {
-    while let Some(granted) = cell.grant_next() {
-        let locker = &mut lockers[position_of(granted.session)];
+    let mut granted = 0;
+    let mut shared = None;
+    while let Some(next) = cell.next_grant(granted, shared) {
+        shared = cell.admit(next);
+        let locker = &mut lockers[position_of(next.session)];
         locker.grant(resource);
+        granted += 1;
     }
+    cell.pass(granted);
 }
 
 /// The session gives up its lock on the resource, or its request: the queue is promoted, and the cell goes
