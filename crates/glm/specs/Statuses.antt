@@ -20,6 +20,9 @@ status_of_kind kind.Op = REFUSED
 status_of_kind (kind.Path fault) = REFUSED
 status_of_kind kind.Mode = REFUSED
 status_of_kind kind.Extra = REFUSED
+status_of_kind kind.Place = REFUSED
+status_of_kind kind.Reply = REFUSED
+status_of_kind kind.Value = REFUSED
 
 -- the status of a fault
 abbrev pub status_for : ToolFault → ℕ

@@ -3,9 +3,13 @@ pub mod Resources
 pub mod Sessions
 pub mod RowLaws
 pub mod TestLaws
+pub mod EntryLaws
+pub mod EntryTests
 pub mod RecordSteps
 pub mod CsvRecords
+pub mod FileLaws
+pub mod FileSteps
 pub mod TraceLaws
-pub mod TraceSteps
 pub mod Lines
 pub mod ReadBack
+pub mod HistoryLaws

@@ -4,7 +4,8 @@ use Rattle.std.specs.Prelude.{decimal}
 use Rattle.std.proofs.lemmas.List.{append-nil}
 use Rattle.lock_tree.specs.Text.{text_of}
 use Rattle.lock_rules.specs.declared.calls.Entry.{Entry}
-use Rattle.lock_trace.specs.Histories.{after_commas, line_of, lines_of, fields_from, fields_of_entry, text_of_history}
+use Rattle.lock_trace.specs.Histories.{after_commas, line_of, lines_of, fields_of_entry, text_of_history}
+use Rattle.lock_trace.specs.Files.{fields_from}
 
 -- one number more of a resource
 
@@ -52,14 +53,14 @@ entry_line o o1 o2 o3 o4 o5 o6 p s cs rs e1 e2 e3 e4 e5 e6 = rw (e6, e5, e4, e3,
 
 -- one entry more of a history
 
-lines_push : (place : ℕ) (es : List Entry) (e : Entry) → lines_of (fields_from place (es ++ (e ∷ []))) ≡ lines_of (fields_from place es) ++ line_of (fields_of_entry (place + length es) e)
+lines_push : (place : ℕ) (es : List Entry) (e : Entry) → lines_of (fields_from fields_of_entry place (es ++ (e ∷ []))) ≡ lines_of (fields_from fields_of_entry place es) ++ line_of (fields_of_entry (place + length es) e)
 lines_push place [] e = append-nil (line_of (fields_of_entry place e)) ∙ ap (λ (k : ℕ). line_of (fields_of_entry k e)) (omega arith)
 lines_push place (x ∷ es) e =
     let there : place + 1 + length es ≡ place + length (x ∷ es) = omega arith in
-    let inner : lines_of (fields_from (place + 1) (es ++ (e ∷ []))) ≡ lines_of (fields_from (place + 1) es) ++ line_of (fields_of_entry (place + length (x ∷ es)) e) =
-    lines_push (place + 1) es e ∙ ap (λ (k : ℕ). lines_of (fields_from (place + 1) es) ++ line_of (fields_of_entry k e)) there in
+    let inner : lines_of (fields_from fields_of_entry (place + 1) (es ++ (e ∷ []))) ≡ lines_of (fields_from fields_of_entry (place + 1) es) ++ line_of (fields_of_entry (place + length (x ∷ es)) e) =
+    lines_push (place + 1) es e ∙ ap (λ (k : ℕ). lines_of (fields_from fields_of_entry (place + 1) es) ++ line_of (fields_of_entry k e)) there in
     ap (λ (t : List ℕ). line_of (fields_of_entry place x) ++ t) inner
-    ∙ sym (append_assoc (line_of (fields_of_entry place x)) (lines_of (fields_from (place + 1) es)) (line_of (fields_of_entry (place + length (x ∷ es)) e)))
+    ∙ sym (append_assoc (line_of (fields_of_entry place x)) (lines_of (fields_from fields_of_entry (place + 1) es)) (line_of (fields_of_entry (place + length (x ∷ es)) e)))
 
 pub next_entry : (es : List Entry) (i : ℕ) (e : Entry) (out out2 : List ℕ) → i < length es → e ≡ get_or es i e → out ≡ text_of_history (take i es) → out2 ≡ out ++ line_of (fields_of_entry i e)
     → out2 ≡ text_of_history (take (i + 1) es)

@@ -1,4 +1,4 @@
--- Operations and modes are found by their names, and nothing else is.
+-- Operations, modes, replies and refusals are found by their names, and nothing else is.
 use Rattle.std.proofs.Common.{◌≡◌, ℕ, Bool, true, false, List, [], ◌∷◌, length, drop, drop-cons, get_or, add-one, ◌+◌, Result, Ok, Err, refl, sym, ap, ◌∙◌, arith}
 use Rattle.std.specs.Prelude.{if◌then◌else◌, bytes_eq, nat_lt, ◌<◌}
 use Rattle.std.specs.List.{list_all}
@@ -11,11 +11,15 @@ use Rattle.std.proofs.lemmas.Str.Ascii.{IsAscii-nil, IsAscii-cons}
 use Rattle.lock_modes.specs.declared.Mode.{Mode}
 use Rattle.lock_modes.specs.declared.Mode.TheVariants.{NL, IS, IX, S, SIX, X}
 use Rattle.lock_modes.specs.Codes.{name_of}
+use Rattle.lock_rules.specs.declared.calls.Why.{Why}
+use Rattle.lock_rules.specs.declared.calls.Why.TheVariants as why
+use Rattle.lock_rules.specs.Names.{name_of_why}
 use Rattle.lock_trace.specs.declared.faults.TraceKind.{TraceKind}
 use Rattle.lock_trace.specs.declared.faults.TraceKind.TheVariants as kind
 use Rattle.lock_trace.specs.declared.words.Op.{Op}
-use Rattle.lock_trace.specs.Words.{word_of, ops}
-use Rattle.lock_trace.specs.Fields.{named, modes, op_in, mode_in}
+use Rattle.lock_trace.specs.declared.words.ReplyWord.{ReplyWord}
+use Rattle.lock_trace.specs.Words.{word_of, ops, word_of_reply, reply_words}
+use Rattle.lock_trace.specs.Fields.{named, modes, op_in, mode_in, reply_word_in, whys, why_in}
 
 -- the name of none of them
 abbrev pub Misses : {A : Type 0} → (A → List ℕ) → List A → List ℕ → Type 0
@@ -23,7 +27,7 @@ Misses name [] bs = Unit {0}
 Misses name (x ∷ xs) bs = (bs ≡ name x → ⊥) × Misses name xs bs
 
 -- a name of none of them is a fault
-named_none : {A : Type 0} (name : A → List ℕ) (fault : TraceKind) (xs : List A) (bs : List ℕ) → Misses name xs bs → named name fault xs bs ≡ Err fault
+pub named_none : {A : Type 0} (name : A → List ℕ) (fault : TraceKind) (xs : List A) (bs : List ℕ) → Misses name xs bs → named name fault xs bs ≡ Err fault
 named_none name fault [] bs miss = refl
 named_none {A} name fault (y ∷ ys) bs miss = cases (bytes_eq bs (name y)) refl (named_none name fault ys bs miss.1)
   where
@@ -43,7 +47,7 @@ same_ok : {A : Type 0} (a b : A) → ok a ≡ ok b → a ≡ b
 same_ok a b e = cc
 
 -- what is found has the name
-named_ok : {A : Type 0} (name : A → List ℕ) (fault : TraceKind) (xs : List A) (bs : List ℕ) (x : A) → named name fault xs bs ≡ Ok x → bs ≡ name x
+pub named_ok : {A : Type 0} (name : A → List ℕ) (fault : TraceKind) (xs : List A) (bs : List ℕ) (x : A) → named name fault xs bs ≡ Ok x → bs ≡ name x
 named_ok name fault [] bs x e = absurd cc
 named_ok {A} name fault (y ∷ ys) bs x e = cases (bytes_eq bs (name y)) refl (named_ok name fault ys bs x) e
   where
@@ -74,7 +78,7 @@ ascii_by_test (b ∷ bs) e =
     below : (b : ℕ) → nat_lt b 128 ≡ true → b < 128
     below b is = grind (arith, nat_tests)
 
-is_text : (bs : List ℕ) → list_all (λ b. nat_lt b 128) bs ≡ true → is_utf8 bs ≡ true
+pub is_text : (bs : List ℕ) → list_all (λ b. nat_lt b 128) bs ≡ true → is_utf8 bs ≡ true
 is_text bs e = is_utf8-from_IsUtf8 bs (IsUtf8-from_ascii bs (ascii_by_test bs e))
 
 mode_text : (m : Mode) → is_utf8 (name_of m) ≡ true
@@ -90,3 +94,39 @@ no_mode bs none = named_none name_of kind.Mode modes bs (none NL, (none IS, (non
 
 pub no_text_no_mode : (bs : List ℕ) → is_utf8 bs ≡ false → mode_in bs ≡ Err kind.Mode
 no_text_no_mode bs not = no_mode bs (λ m e. let is : is_utf8 bs ≡ true = ap is_utf8 e ∙ mode_text m in let bad : true ≡ false = sym is ∙ not in cc)
+
+pub reply_word_is : (bs : List ℕ) (w : ReplyWord) → reply_word_in bs ≡ Ok w → bs ≡ word_of_reply w
+reply_word_is bs w e = named_ok word_of_reply kind.Reply reply_words bs w e
+
+pub why_is : (bs : List ℕ) (w : Why) → why_in bs ≡ Ok w → bs ≡ name_of_why w
+why_is bs w e = named_ok name_of_why kind.Value whys bs w e
+
+pub why_by_name : (w : Why) (bs : List ℕ) → bs ≡ name_of_why w → why_in bs ≡ Ok w
+why_by_name why.AlreadyOpen bs e = rw e refl
+why_by_name why.NoTransaction bs e = rw e refl
+why_by_name why.IsWaiting bs e = rw e refl
+why_by_name why.IsDoomed bs e = rw e refl
+why_by_name why.NothingAsked bs e = rw e refl
+why_by_name why.NotHeld bs e = rw e refl
+why_by_name why.ParentNotHeld bs e = rw e refl
+why_by_name why.ChildHeld bs e = rw e refl
+why_by_name why.TooManyLocks bs e = rw e refl
+
+why_text : (w : Why) → is_utf8 (name_of_why w) ≡ true
+why_text why.AlreadyOpen = is_text _ refl
+why_text why.NoTransaction = is_text _ refl
+why_text why.IsWaiting = is_text _ refl
+why_text why.IsDoomed = is_text _ refl
+why_text why.NothingAsked = is_text _ refl
+why_text why.NotHeld = is_text _ refl
+why_text why.ParentNotHeld = is_text _ refl
+why_text why.ChildHeld = is_text _ refl
+why_text why.TooManyLocks = is_text _ refl
+
+pub no_why : (bs : List ℕ) → ((w : Why) → bs ≡ name_of_why w → ⊥) → why_in bs ≡ Err kind.Value
+no_why bs none =
+    named_none name_of_why kind.Value whys bs
+    (none why.AlreadyOpen, (none why.NoTransaction, (none why.IsWaiting, (none why.IsDoomed, (none why.NothingAsked, (none why.NotHeld, (none why.ParentNotHeld, (none why.ChildHeld, (none why.TooManyLocks, tt)))))))))
+
+pub no_text_no_why : (bs : List ℕ) → is_utf8 bs ≡ false → why_in bs ≡ Err kind.Value
+no_text_no_why bs not = no_why bs (λ w e. let is : is_utf8 bs ≡ true = ap is_utf8 e ∙ why_text w in let bad : true ≡ false = sym is ∙ not in cc)

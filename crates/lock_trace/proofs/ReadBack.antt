@@ -25,7 +25,8 @@ use Rattle.lock_rules.specs.declared.calls.Entry.{Entry}
 use Rattle.lock_rules.specs.Names.{name_of_why}
 use Rattle.lock_trace.specs.Rows.{fields_of_call, HasResources}
 use Rattle.lock_trace.specs.Records.{records_on, records_of}
-use Rattle.lock_trace.specs.Histories.{fields_of_reply, fields_of_entry, fields_from, records_of_history, after_commas, line_of, lines_of, text_of_history, ReplyFits, EntryFits, AllFit}
+use Rattle.lock_trace.specs.Histories.{fields_of_reply, fields_of_entry, records_of_history, after_commas, line_of, lines_of, text_of_history, ReplyFits, EntryFits, AllFit}
+use Rattle.lock_trace.specs.Files.{fields_from}
 use Rattle.lock_trace.proofs.RecordSteps.{after_next}
 
 -- a byte of the field keeps it from being written as it is
@@ -114,13 +115,13 @@ line_back f g fs rest plain =
     ap (λ (t : List ℕ). next_record default_config st.StartRecord [] [] (t ++ rest)) (sym (line_is f g fs plain)) ∙ read-write (f ∷ g ∷ fs) rest in
     after_next st.StartRecord [] [] (line_of (f ∷ g ∷ fs) ++ rest) ∙ rw next refl
 
-lines_back : (place : ℕ) (es : List Entry) → place + length es < 18446744073709551616 → AllByRecursion EntryFits es → records_on st.StartRecord [] [] (lines_of (fields_from place es)) ≡ fields_from place es
+lines_back : (place : ℕ) (es : List Entry) → place + length es < 18446744073709551616 → AllByRecursion EntryFits es → records_on st.StartRecord [] [] (lines_of (fields_from fields_of_entry place es)) ≡ fields_from fields_of_entry place es
 unfolding records_on
 lines_back place [] lt fits = refl
 lines_back place (e ∷ es) lt fits =
     let here : place < 18446744073709551616 = omega arith in
     let rest : place + 1 + length es < 18446744073709551616 = omega arith in
-    line_back (decimal place) (decimal e.session) (fields_of_call e.call ++ fields_of_reply e.reply) (lines_of (fields_from (place + 1) es)) (entry_plain place e here fits.0)
+    line_back (decimal place) (decimal e.session) (fields_of_call e.call ++ fields_of_reply e.reply) (lines_of (fields_from fields_of_entry (place + 1) es)) (entry_plain place e here fits.0)
     ∙ ap (λ (rs : List (List (List ℕ))). fields_of_entry place e ∷ rs) (lines_back (place + 1) es rest fits.1)
 
 -- and a text that begins with a place begins with no byte order mark
@@ -136,7 +137,7 @@ strip_text text b rest e = rw e (strip_plain b rest)
 no_mark : (es : List Entry) → strip_bom (text_of_history es) ≡ text_of_history es
 unfolding strip_bom after_commas
 no_mark [] = refl
-no_mark (e ∷ es) = strip_text (text_of_history (e ∷ es)) 44 (((decimal e.session ++ after_commas (fields_of_call e.call ++ fields_of_reply e.reply)) ++ (10 ∷ [])) ++ lines_of (fields_from 1 es)) (rw (decimal_digit 0 (omega arith)) refl)
+no_mark (e ∷ es) = strip_text (text_of_history (e ∷ es)) 44 (((decimal e.session ++ after_commas (fields_of_call e.call ++ fields_of_reply e.reply)) ++ (10 ∷ [])) ++ lines_of (fields_from fields_of_entry 1 es)) (rw (decimal_digit 0 (omega arith)) refl)
 
 pub history_back : (es : List Entry) → length es < 2 ^ 64 → AllFit es → records_of (text_of_history es) ≡ records_of_history es
 history_back es lt fits = ap (records_on st.StartRecord [] []) (no_mark es) ∙ lines_back 0 es (omega (arith, lt)) (recursion_from_All EntryFits es fits)

@@ -7,6 +7,7 @@ use Rattle.csv.specs.Records.{field_at}
 use Rattle.csv.specs.declared.reader.Reader.{Reader}
 use Rattle.csv.specs.declared.parser.State.{State}
 use Rattle.csv.proofs.ReadFacts.{rows-more, rows-end}
+use Rattle.lock_trace.specs.Tests.{field_of}
 use Rattle.lock_trace.specs.Records.{records_on}
 use Rattle.lock_trace.specs.Reading.{IsPast, IsNextRecord}
 
@@ -51,3 +52,10 @@ unfolding field_at
 some_field [] i lt = absurd (omega arith)
 some_field (f ∷ fs) zero lt = (f, refl)
 some_field (f ∷ fs) (suc i) lt = some_field fs i (omega arith)
+
+-- which is the field of that place
+pub field_is : (fs : List (List ℕ)) (i : ℕ) (f : List ℕ) → field_at fs i ≡ Some f → f ≡ field_of fs i
+unfolding field_at
+field_is [] i f e = absurd cc
+field_is (g ∷ gs) zero f e = cc
+field_is (g ∷ gs) (suc i) f e = field_is gs i f e

@@ -1,7 +1,6 @@
 -- Fields are read as a row where they are the fields of that row.
-use Rattle.std.proofs.Common.{◌≡◌, ◌↔◌, ℕ, ◌<◌, ◌≤◌, ◌^◌, Bool, true, false, List, [], ◌∷◌, length, Option, Some, Result, Ok, Err, refl, sym, ap, ◌∙◌, subst, arith, ne_eqb}
-use Rattle.std.specs.Prelude.{◌==◌, ◌||◌, not, if◌then◌else◌, decimal, IfOk}
-use Rattle.csv.specs.Records.{field_at}
+use Rattle.std.proofs.Common.{◌≡◌, ◌↔◌, ℕ, ◌<◌, ◌≤◌, ◌^◌, Bool, true, false, List, [], ◌∷◌, length, Result, Ok, Err, refl, sym, ap, ◌∙◌, subst, arith, ne_eqb}
+use Rattle.std.specs.Prelude.{◌==◌, ◌||◌, not, if◌then◌else◌, decimal}
 use Rattle.lock_modes.specs.declared.Mode.{Mode}
 use Rattle.lock_modes.specs.Codes.{name_of}
 use Rattle.lock_tree.specs.Paths.{IsResource}
@@ -15,20 +14,21 @@ use Rattle.lock_trace.specs.declared.words.Op.TheVariants as op
 use Rattle.lock_trace.specs.declared.rows.TraceRow.{TraceRow}
 use Rattle.lock_trace.specs.Words.{word_of}
 use Rattle.lock_trace.specs.Fields.{session_in, op_in, resource_in, mode_in}
+use Rattle.lock_trace.specs.Tests.{field_of}
 use Rattle.lock_trace.specs.Rows.{fields_of_call, fields_of_row, HasResources, IsRow, ◌>>=◌, bare, resource_and_mode_in, call_in, row_in, row_of}
 use Rattle.lock_trace.proofs.Names.{op_is, mode_is, mode_by_name}
 use Rattle.lock_trace.proofs.Resources.{resource_iff, resource_back}
 use Rattle.lock_trace.proofs.Sessions.{session_iff, session_back}
 
 -- what comes of two steps comes of the second, at what the first gave
-bind_ok : {A B : Type 0} (x : Result A TraceKind) (f : A → Result B TraceKind) (b : B) → (x >>= f) ≡ Ok b → (a : A) × (x ≡ Ok a) × (f a ≡ Ok b)
+pub bind_ok : {A B : Type 0} (x : Result A TraceKind) (f : A → Result B TraceKind) (b : B) → (x >>= f) ≡ Ok b → (a : A) × (x ≡ Ok a) × (f a ≡ Ok b)
 bind_ok (Ok a) f b e = (a, refl, e)
 bind_ok (Err k) f b e = absurd cc
 
 abbrev ok_call : Call → Result Call TraceKind
 ok_call c = Ok c
 
-empty : (xs : List ℕ) → (length xs == 0) ≡ true → xs ≡ []
+pub empty : (xs : List ℕ) → (length xs == 0) ≡ true → xs ≡ []
 empty [] e = refl
 empty (x ∷ xs) e =
     let not_none : (length (x ∷ xs) == 0) ≡ false = ne_eqb (length (x ∷ xs)) 0 (λ none. omega (arith, none)) in
@@ -110,7 +110,7 @@ ok_row x = Ok x
 same_row : (a b : TraceRow) → ok_row a ≡ ok_row b → a ≡ b
 same_row a b e = cc
 
-read_row : (n : ℕ) (s o r m : List ℕ) (row : TraceRow) → n < 2 ^ 16 → row_in n s o r m ≡ Ok row → IsRow n row × ((s ∷ o ∷ r ∷ m ∷ []) ≡ fields_of_row row)
+pub read_row : (n : ℕ) (s o r m : List ℕ) (row : TraceRow) → n < 2 ^ 16 → row_in n s o r m ≡ Ok row → IsRow n row × ((s ∷ o ∷ r ∷ m ∷ []) ≡ fields_of_row row)
 read_row n s o r m row lt e =
     let (session, read_s, then_op) = bind_ok (session_in n s) (λ session. op_in o >>= (λ asked. call_in asked r m >>= (λ made. Ok (record { session = session; call = made })))) row e in
     let (asked, read_o, then_call) = bind_ok (op_in o) (λ asked. call_in asked r m >>= (λ made. Ok (record { session = session; call = made }))) row then_op in
@@ -148,26 +148,14 @@ row_back n row lt is = fields_row n row.session row.call lt is.first is.last is.
 pub row_iff : (n : ℕ) (row : TraceRow) (fields : List (List ℕ)) → n < 2 ^ 16 → (row_of n fields ≡ Ok row) ↔ (IsRow n row × (fields ≡ fields_of_row row))
 row_iff n row fields lt = (row_fields n fields row lt, λ h. ap (row_of n) h.1 ∙ row_back n row lt h.0)
 
--- a row that was read is one
-pub is_row : (n : ℕ) (fields : List (List ℕ)) (result : Result TraceRow TraceKind) → n < 2 ^ 16 → result ≡ row_of n fields → IfOk result (λ row. IsRow n row)
-is_row n fields (Ok row) lt e = ((row_iff n row fields lt).0 (sym e)).0
-is_row n fields (Err k) lt e = tt
-
-abbrev some : List ℕ → Option (List ℕ)
-some x = Some x
-
-same : (x y : List ℕ) → some x ≡ some y → x ≡ y
-same x y e = cc
-
 -- four fields by their places
-pub four : (n : ℕ) (fs : List (List ℕ)) (s o r m : List ℕ) → length fs ≡ 4 → field_at fs 0 ≡ Some s → field_at fs 1 ≡ Some o → field_at fs 2 ≡ Some r → field_at fs 3 ≡ Some m → row_in n s o r m ≡ row_of n fs
-unfolding field_at
-four n [] s o r m len a b c d = absurd (omega (arith, len))
-four n (x ∷ []) s o r m len a b c d = absurd (omega (arith, len))
-four n (x ∷ y ∷ []) s o r m len a b c d = absurd (omega (arith, len))
-four n (x ∷ y ∷ z ∷ []) s o r m len a b c d = absurd (omega (arith, len))
-four n (x ∷ y ∷ z ∷ w ∷ []) s o r m len a b c d = rw (same x s a, same y o b, same z r c, same w m d) refl
-four n (x ∷ y ∷ z ∷ w ∷ v ∷ vs) s o r m len a b c d = absurd (omega (arith, len))
+pub four : (n : ℕ) (fs : List (List ℕ)) → length fs ≡ 4 → row_in n (field_of fs 0) (field_of fs 1) (field_of fs 2) (field_of fs 3) ≡ row_of n fs
+four n [] len = absurd (omega (arith, len))
+four n (x ∷ []) len = absurd (omega (arith, len))
+four n (x ∷ y ∷ []) len = absurd (omega (arith, len))
+four n (x ∷ y ∷ z ∷ []) len = absurd (omega (arith, len))
+four n (x ∷ y ∷ z ∷ w ∷ []) len = refl
+four n (x ∷ y ∷ z ∷ w ∷ v ∷ vs) len = absurd (omega (arith, len))
 
 pub not_four : (n : ℕ) (fs : List (List ℕ)) → (length fs ≡ 4 → ⊥) → Err kind.Shape ≡ row_of n fs
 not_four n [] h = refl

@@ -25,22 +25,22 @@ use Rattle.lock_trace.proofs.Names.{op_is}
 use Rattle.lock_trace.proofs.RowLaws.{row_iff}
 
 -- a test and a reading of the same field: both pass, or both fail
-data Agree {A : Type 0} (k : TraceKind) : Bool → Result A TraceKind → Type 0 where
+pub data Agree {A : Type 0} (k : TraceKind) : Bool → Result A TraceKind → Type 0 where
   passes : (a : A) → Agree k true (Ok a)
   fails : Agree k false (Err k)
 
-abbrev fault_in : {A : Type 0} → Result A TraceKind → Option TraceKind
+abbrev pub fault_in : {A : Type 0} → Result A TraceKind → Option TraceKind
 fault_in (Ok a) = None
 fault_in (Err k) = Some k
 
 -- a test that stands first decides, and else those after it
-then_tests : {A B : Type 0} (k : TraceKind) (b : Bool) (x : Result A TraceKind) (f : A → Result B TraceKind) (ts : List (Bool × TraceKind))
+pub then_tests : {A B : Type 0} (k : TraceKind) (b : Bool) (x : Result A TraceKind) (f : A → Result B TraceKind) (ts : List (Bool × TraceKind))
     → Agree k b x → ((a : A) → x ≡ Ok a → fault_in (f a) ≡ first_failing ts) → fault_in (x >>= f) ≡ first_failing ((not b, k) ∷ ts)
 then_tests k _ _ f ts (passes a) later = later a refl
 then_tests k _ _ f ts fails later = refl
 
 -- what is made of a reading has its fault
-fault_after : {A B : Type 0} (x : Result A TraceKind) (g : A → B) → fault_in (x >>= (λ a. Ok (g a))) ≡ fault_in x
+pub fault_after : {A B : Type 0} (x : Result A TraceKind) (g : A → B) → fault_in (x >>= (λ a. Ok (g a))) ≡ fault_in x
 fault_after (Ok a) g = refl
 fault_after (Err k) g = refl
 
@@ -61,7 +61,7 @@ name_agrees : {A : Type 0} (fault : TraceKind) (x : A) (b c : Bool) (later : Res
 name_agrees fault x true c later agree = passes x
 name_agrees fault x false c later agree = agree
 
-named_agrees : {A : Type 0} (name : A → List ℕ) (fault : TraceKind) (xs : List A) (field : List ℕ) → Agree fault (list_any (λ x. bytes_eq field (name x)) xs) (named name fault xs field)
+pub named_agrees : {A : Type 0} (name : A → List ℕ) (fault : TraceKind) (xs : List A) (field : List ℕ) → Agree fault (list_any (λ x. bytes_eq field (name x)) xs) (named name fault xs field)
 named_agrees name fault [] field = fails
 named_agrees name fault (x ∷ xs) field = name_agrees fault x (bytes_eq field (name x)) (list_any (λ y. bytes_eq field (name y)) xs) (named name fault xs field) (named_agrees name fault xs field)
 
@@ -110,7 +110,7 @@ call_fault op.Abort r m = extra_fault (not (length r == 0) || not (length m == 0
 abbrev row_by : ℕ → Call → TraceRow
 row_by s c = record { session = s; call = c }
 
-fields_fault : (n : ℕ) (s o r m : List ℕ) → fault_in (row_in n s o r m) ≡ first_failing (tests_of_fields n s o r m)
+pub fields_fault : (n : ℕ) (s o r m : List ℕ) → fault_in (row_in n s o r m) ≡ first_failing (tests_of_fields n s o r m)
 fields_fault n s o r m =
     then_tests kind.Session (is_session n s) (session_in n s) (λ session. op_in o >>= (λ asked. call_in asked r m >>= (λ made. Ok (row_by session made)))) ((not (is_word_of ops o), kind.Op) ∷ tests_after o r m) (session_agrees n s)
     (λ session read_s.
@@ -129,12 +129,12 @@ row_fault n (s ∷ o ∷ r ∷ m ∷ x ∷ xs) =
     let five : (length (s ∷ o ∷ r ∷ m ∷ x ∷ xs) == 4) ≡ false = ne_eqb (length (s ∷ o ∷ r ∷ m ∷ x ∷ xs)) 4 (λ e. omega (arith, e)) in
     rw five refl
 
-err_has : (x : Result TraceRow TraceKind) (k : TraceKind) → fault_in x ≡ Some k → x ≡ Err k
-err_has (Ok row) k e = absurd cc
+pub err_has : {A : Type 0} (x : Result A TraceKind) (k : TraceKind) → fault_in x ≡ Some k → x ≡ Err k
+err_has (Ok a) k e = absurd cc
 err_has (Err e) k is = cc
 
-ok_has : (x : Result TraceRow TraceKind) → fault_in x ≡ None → (row : TraceRow) × (x ≡ Ok row)
-ok_has (Ok row) e = (row, refl)
+pub ok_has : {A : Type 0} (x : Result A TraceKind) → fault_in x ≡ None → (a : A) × (x ≡ Ok a)
+ok_has (Ok a) e = (a, refl)
 ok_has (Err k) e = absurd cc
 
 pub fault_iff : (n : ℕ) (fields : List (List ℕ)) (k : TraceKind) → (row_of n fields ≡ Err k) ↔ (first_failing (tests_of_row n fields) ≡ Some k)

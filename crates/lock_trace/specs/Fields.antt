@@ -4,6 +4,9 @@ use Rattle.std.specs.Str.{is_utf8}
 use Rattle.lock_modes.specs.declared.Mode.{Mode}
 use Rattle.lock_modes.specs.declared.Mode.TheVariants.{NL, IS, IX, S, SIX, X}
 use Rattle.lock_modes.specs.Codes.{name_of}
+use Rattle.lock_rules.specs.declared.calls.Why.{Why}
+use Rattle.lock_rules.specs.declared.calls.Why.TheVariants.{AlreadyOpen, NoTransaction, IsWaiting, IsDoomed, NothingAsked, NotHeld, ParentNotHeld, ChildHeld, TooManyLocks}
+use Rattle.lock_rules.specs.Names.{name_of_why}
 use Rattle.lock_tree.specs.declared.path_fault.PathFault.{PathFault}
 use Rattle.lock_tree.specs.declared.path_fault.PathFault.TheVariants as path
 use Rattle.lock_tree.specs.Readings.{reading_of}
@@ -12,7 +15,8 @@ use Rattle.lock_tree.specs.declared.numeral.NumeralFault.{NumeralFault}
 use Rattle.lock_trace.specs.declared.faults.TraceKind.{TraceKind}
 use Rattle.lock_trace.specs.declared.faults.TraceKind.TheVariants as kind
 use Rattle.lock_trace.specs.declared.words.Op.{Op}
-use Rattle.lock_trace.specs.Words.{word_of, ops}
+use Rattle.lock_trace.specs.declared.words.ReplyWord.{ReplyWord}
+use Rattle.lock_trace.specs.Words.{word_of, ops, word_of_reply, reply_words}
 
 -- a number that was read, unless it is 0
 abbrev pub above_zero : Result ℕ NumeralFault → Result ℕ TraceKind
@@ -52,3 +56,38 @@ or_path (Err f) = Err (kind.Path f)
 -- a field that isn't UTF-8 has no number, whatever else is wrong with it
 abbrev pub resource_in : List ℕ → Result (List ℕ) TraceKind
 resource_in bs = if is_utf8 bs then or_path (reading_of bs) else Err (kind.Path path.NotANumber)
+
+-- a place is told by its one text
+abbrev pub place_in : ℕ → List ℕ → Result (Unit {0}) TraceKind
+place_in place bs = if bytes_eq bs (decimal place) then Ok tt else Err kind.Place
+
+abbrev pub reply_word_in : List ℕ → Result ReplyWord TraceKind
+reply_word_in bs = named word_of_reply kind.Reply reply_words bs
+
+-- what is wrong with a part of a value is wrong with the value
+abbrev pub or_value : {A F : Type 0} → Result A F → Result A TraceKind
+or_value (Ok x) = Ok x
+or_value (Err f) = Err kind.Value
+
+-- the greatest numbers of 64 and of 32 bits
+abbrev pub most_64 : ℕ
+most_64 = 18446744073709551615
+
+abbrev pub most_32 : ℕ
+most_32 = 4294967295
+
+-- a value that is a numeral of so much at most
+abbrev pub number_in : ℕ → List ℕ → Result ℕ TraceKind
+number_in most bs = or_value (reading_of_numeral most bs)
+
+-- a value that is the name of a mode
+abbrev pub granted_in : List ℕ → Result Mode TraceKind
+granted_in bs = or_value (mode_in bs)
+
+-- the refusals, each once
+abbrev pub whys : List Why
+whys = AlreadyOpen ∷ NoTransaction ∷ IsWaiting ∷ IsDoomed ∷ NothingAsked ∷ NotHeld ∷ ParentNotHeld ∷ ChildHeld ∷ TooManyLocks ∷ []
+
+-- a value that is the name of a refusal
+abbrev pub why_in : List ℕ → Result Why TraceKind
+why_in bs = named name_of_why kind.Value whys bs

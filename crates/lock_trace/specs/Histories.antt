@@ -1,5 +1,5 @@
 -- The text of a history.
-use Rattle.std.specs.Prelude.{ℕ, ◌+◌, ◌<◌, ◌^◌, List, [], ◌∷◌, ◌++◌, All, decimal}
+use Rattle.std.specs.Prelude.{ℕ, ◌<◌, ◌^◌, List, [], ◌∷◌, ◌++◌, All, decimal}
 use Rattle.lock_modes.specs.Codes.{name_of}
 use Rattle.lock_rules.specs.declared.calls.Reply.{Reply}
 use Rattle.lock_rules.specs.declared.calls.Reply.TheVariants as reply
@@ -8,6 +8,7 @@ use Rattle.lock_rules.specs.Names.{name_of_why}
 use Rattle.lock_trace.specs.declared.rows.TraceRow.{TraceRow}
 use Rattle.lock_trace.specs.Words.{word_of_reply, reply_word_of}
 use Rattle.lock_trace.specs.Rows.{HasResources, fields_of_row}
+use Rattle.lock_trace.specs.Files.{fields_from}
 
 -- what a reply tells beside its word, or nothing
 abbrev pub value_field : Reply → List ℕ
@@ -33,13 +34,8 @@ row_of_entry e = record { session = e.session; call = e.call }
 abbrev pub fields_of_entry : ℕ → Entry → List (List ℕ)
 fields_of_entry place e = decimal place ∷ (fields_of_row (row_of_entry e) ++ fields_of_reply e.reply)
 
--- the fields of each entry, from a place on
-abbrev pub fields_from : ℕ → List Entry → List (List (List ℕ))
-fields_from place [] = []
-fields_from place (e ∷ es) = fields_of_entry place e ∷ fields_from (place + 1) es
-
 abbrev pub records_of_history : List Entry → List (List (List ℕ))
-records_of_history es = fields_from 0 es
+records_of_history es = fields_from fields_of_entry 0 es
 
 -- fields with a comma before each
 unfoldable pub after_commas : List (List ℕ) → List ℕ

@@ -2,7 +2,10 @@ pub mod Words
 pub mod Fields
 pub mod Tests
 pub mod Rows
+pub mod Entries
 pub mod Records
+pub mod Files
 pub mod Traces
 pub mod Reading
 pub mod Histories
+pub mod ReadHistories

@@ -1,5 +1,5 @@
 -- The tests of a row, in their order.
-use Rattle.std.specs.Prelude.{ℕ, Bool, not, ◌&&◌, ◌||◌, ◌==◌, if◌then◌else◌, List, [], ◌∷◌, length, slice_index_or, Option, Some, None, is_some, unwrap_or, bytes_eq}
+use Rattle.std.specs.Prelude.{ℕ, Bool, not, ◌&&◌, ◌||◌, ◌==◌, if◌then◌else◌, List, [], ◌∷◌, ◌++◌, length, slice_index_or, Option, Some, None, is_some, unwrap_or, bytes_eq, decimal}
 use Rattle.std.specs.List.{list_any}
 use Rattle.std.specs.Str.{is_utf8}
 use Rattle.lock_modes.specs.Codes.{name_of}
@@ -7,15 +7,22 @@ use Rattle.lock_tree.specs.declared.path_fault.PathFault.{PathFault}
 use Rattle.lock_tree.specs.declared.path_fault.PathFault.TheVariants as path
 use Rattle.lock_tree.specs.Faults.{fault_of}
 use Rattle.lock_tree.specs.Numerals.{number_of, fault_of_numeral}
+use Rattle.lock_rules.specs.Names.{name_of_why}
 use Rattle.lock_trace.specs.declared.faults.TraceKind.{TraceKind}
 use Rattle.lock_trace.specs.declared.faults.TraceKind.TheVariants as kind
 use Rattle.lock_trace.specs.declared.words.Op.{Op}
-use Rattle.lock_trace.specs.Words.{word_of, ops, ops_with_resource, ops_with_mode}
-use Rattle.lock_trace.specs.Fields.{modes}
+use Rattle.lock_trace.specs.declared.words.ReplyWord.{ReplyWord}
+use Rattle.lock_trace.specs.declared.words.ReplyWord.TheVariants as told
+use Rattle.lock_trace.specs.Words.{word_of, ops, ops_with_resource, ops_with_mode, word_of_reply, reply_words}
+use Rattle.lock_trace.specs.Fields.{modes, whys, most_64, most_32}
+
+-- a numeral of so much at most
+abbrev pub is_numeral : ℕ → List ℕ → Bool
+is_numeral most field = not (is_some (fault_of_numeral most field))
 
 -- a numeral from 1 to so many
 abbrev pub is_session : ℕ → List ℕ → Bool
-is_session n field = not (is_some (fault_of_numeral n field)) && not (number_of field == 0)
+is_session n field = is_numeral n field && not (number_of field == 0)
 
 -- the word of one of these operations
 abbrev pub is_word_of : List Op → List ℕ → Bool
@@ -57,12 +64,48 @@ tests_of_row n fields =
     (not (length fields == 4), kind.Shape)
     ∷ tests_of_fields n (field_of fields 0) (field_of fields 1) (field_of fields 2) (field_of fields 3)
 
+-- the word of a reply
+abbrev pub is_reply_word : List ℕ → Bool
+is_reply_word field = list_any (λ r. bytes_eq field (word_of_reply r)) reply_words
+
+-- the name of a refusal
+abbrev pub is_why : List ℕ → Bool
+is_why field = list_any (λ w. bytes_eq field (name_of_why w)) whys
+
+-- a value of the form that replies with this word take
+abbrev pub has_form_of : ReplyWord → List ℕ → Bool
+has_form_of told.Began value = is_numeral most_64 value
+has_form_of told.Granted value = is_mode value
+has_form_of told.Waiting value = length value == 0
+has_form_of told.Deadlock value = length value == 0
+has_form_of told.Clear value = length value == 0
+has_form_of told.Released value = length value == 0
+has_form_of told.Committed value = is_numeral most_32 value
+has_form_of told.Aborted value = is_numeral most_32 value
+has_form_of told.Refused value = is_why value
+
+-- a value of the form that the reply takes
+abbrev pub is_value : List ℕ → List ℕ → Bool
+is_value word value = list_any (λ r. bytes_eq word (word_of_reply r) && has_form_of r value) reply_words
+
+-- the tests of the fields of a reply in their order
+abbrev pub tests_of_reply : List ℕ → List ℕ → List (Bool × TraceKind)
+tests_of_reply word value = (not (is_reply_word word), kind.Reply) ∷ (not (is_value word value), kind.Value) ∷ []
+
+-- the tests of a history's row in their order: those of the fields of a trace's row stand between its own
+abbrev pub tests_of_entry : ℕ → ℕ → List (List ℕ) → List (Bool × TraceKind)
+tests_of_entry n place fields =
+    (not (length fields == 7), kind.Shape)
+    ∷ (not (bytes_eq (field_of fields 0) (decimal place)), kind.Place)
+    ∷ (tests_of_fields n (field_of fields 1) (field_of fields 2) (field_of fields 3) (field_of fields 4)
+    ++ tests_of_reply (field_of fields 5) (field_of fields 6))
+
 -- the fault of the first test that fails
 abbrev pub first_failing : List (Bool × TraceKind) → Option TraceKind
 first_failing [] = None
 first_failing (t ∷ ts) = if t.0 then Some t.1 else first_failing ts
 
--- the number of each fault: that of its test, and then those of the machine
+-- the number of each fault: those of a trace's row, those of the machine, and then those of a history's row alone
 abbrev pub number_of_kind : TraceKind → ℕ
 number_of_kind kind.Shape = 1
 number_of_kind kind.Session = 2
@@ -72,3 +115,6 @@ number_of_kind kind.Mode = 5
 number_of_kind kind.Extra = 6
 number_of_kind kind.Device = 7
 number_of_kind kind.NoMemory = 8
+number_of_kind kind.Place = 9
+number_of_kind kind.Reply = 10
+number_of_kind kind.Value = 11

@@ -64,3 +64,17 @@ reply_word_of reply.Released = told.Released
 reply_word_of (reply.Committed n) = told.Committed
 reply_word_of (reply.Aborted n) = told.Aborted
 reply_word_of (reply.Refused w) = told.Refused
+
+-- the words of replies, each once
+abbrev pub reply_words : List ReplyWord
+reply_words =
+    told.Began
+    ∷ told.Granted
+    ∷ told.Waiting
+    ∷ told.Deadlock
+    ∷ told.Clear
+    ∷ told.Released
+    ∷ told.Committed
+    ∷ told.Aborted
+    ∷ told.Refused
+    ∷ []

@@ -3,11 +3,13 @@
 ghost use Rattle.std.specs.Prelude.{◌≡◌, ◌<◌, ◌≤◌, Bool, true, false, IfOk, IfSome, IfNone};
 ghost use Rattle.std.specs.Str.{is_utf8};
 ghost use Rattle.lock_tree.specs.Readings.{reading_of};
-ghost use Rattle.lock_trace.specs.Fields.{session_in, op_in, resource_in, mode_in};
+ghost use Rattle.lock_trace.specs.Fields.{session_in, op_in, resource_in, mode_in, place_in, reply_word_in, number_in, granted_in, why_in, most_32};
 
 use crate::faults::TraceKind;
-use crate::words::{OPS, Op};
+use crate::words::{OPS, Op, REPLY_WORDS, ReplyWord};
+use itoa::Buffer;
 use lock_modes::Mode;
+use lock_rules::Why;
 use lock_tree::{PathFault, Resource, parse_numeral};
 use std::str;
 
@@ -74,5 +76,63 @@ pub(crate) fn mode_of(field: &[u8]) -> Result<Mode, TraceKind>
     match Mode::parse(text) {
         Some(mode) => Ok(mode),
         None => Err(TraceKind::Mode),
+    }
+}
+
+pub(crate) fn place_of(field: &[u8], place: u64) -> Result<(), TraceKind>
+    ensures { result ≡ place_in place field.now }
+{
+    let mut buffer = Buffer::new();
+    if field != buffer.format(place).as_bytes() {
+        return Err(TraceKind::Place);
+    }
+    Ok(())
+}
+
+pub(crate) fn reply_word_of(field: &[u8]) -> Result<ReplyWord, TraceKind>
+    ensures { result ≡ reply_word_in field.now }
+{
+    for word in REPLY_WORDS {
+        if field == word.word().as_bytes() {
+            return Ok(word);
+        }
+    }
+    Err(TraceKind::Reply)
+}
+
+pub(crate) fn number_of(field: &[u8], most: u64) -> Result<u64, TraceKind>
+    ensures { result ≡ number_in most field.now }
+{
+    match parse_numeral(field, most) {
+        Ok(number) => Ok(number),
+        Err(_) => Err(TraceKind::Value),
+    }
+}
+
+pub(crate) fn count_of(field: &[u8]) -> Result<u32, TraceKind>
+    ensures { result ≡ number_in most_32 field.now }
+{
+    let count = number_of(field, u32::MAX as u64)?;
+    Ok(count as u32)
+}
+
+pub(crate) fn granted_of(field: &[u8]) -> Result<Mode, TraceKind>
+    ensures { result ≡ granted_in field.now }
+{
+    match mode_of(field) {
+        Ok(mode) => Ok(mode),
+        Err(_) => Err(TraceKind::Value),
+    }
+}
+
+pub(crate) fn why_of(field: &[u8]) -> Result<Why, TraceKind>
+    ensures { result ≡ why_in field.now }
+{
+    let Some(text) = text_in(field) else {
+        return Err(TraceKind::Value);
+    };
+    match Why::parse(text) {
+        Some(why) => Ok(why),
+        None => Err(TraceKind::Value),
     }
 }

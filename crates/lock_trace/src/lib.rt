@@ -1,8 +1,12 @@
 //! Traces and histories as text: rows of calls are read from bytes, and histories are written to bytes.
 #![tactic(auto)]
 
+mod entries;
 mod faults;
 mod fields;
+mod files;
+#[cfg(test)]
+mod history_tests;
 pub mod laws;
 mod reading;
 mod rows;
@@ -12,7 +16,7 @@ mod words;
 mod writing;
 
 pub use faults::{TraceFault, TraceKind};
-pub use reading::read_trace;
+pub use reading::{read_history, read_trace};
 pub use rows::TraceRow;
 pub use std::alloc::AllocError as NoMemory;
 pub use writing::history_text;

@@ -1,4 +1,4 @@
-//! Traces out of bytes.
+//! Traces and histories out of bytes.
 
 ghost use Rattle.std.specs.Prelude.{◌≡◌, ℕ, ◌+◌, Bool, true, List, [], Some, IsSome, IfSome, IfOk, OnOk, if◌then◌else◌, option_map, All};
 ghost use Rattle.csv.specs.Reading.{source_of, strip_bom, is_io, error_kind};
@@ -6,13 +6,18 @@ ghost use Rattle.csv.specs.Records.{fields_of};
 ghost use Rattle.csv.specs.declared.parser.State.TheVariants as st;
 ghost use Rattle.lock_trace.specs.declared.faults.TraceKind.TheVariants as kind;
 ghost use Rattle.lock_trace.specs.Rows.{IsRow};
-ghost use Rattle.lock_trace.specs.Records.{records_on};
+ghost use Rattle.lock_trace.specs.Entries.{IsEntry};
+ghost use Rattle.lock_trace.specs.Records.{records_on, records_of};
+ghost use Rattle.lock_trace.specs.Files.{AnswersWith, rows_from};
 ghost use Rattle.lock_trace.specs.Traces.{Answers};
-ghost use Rattle.lock_trace.specs.Reading.{IsReading, IsNextRecord, IsNextRow, is_of_device_or_memory};
+ghost use Rattle.lock_trace.specs.ReadHistories.{AnswersHistory};
+ghost use Rattle.lock_trace.specs.Reading.{IsReading, IsFormat, IsNextRecord, IsNextRow, is_of_device_or_memory};
 
 use crate::faults::{TraceFault, TraceKind};
-use crate::rows::{TraceRow, row_in_record};
+use crate::files::Row;
+use crate::rows::TraceRow;
 use csv::{ByteRecord, Error, ErrorKind, Reader, ReaderBuilder};
+use lock_rules::Entry;
 use std::alloc::Global;
 use std::io::Read;
 
@@ -54,24 +59,61 @@ fn next_record<R: Read>(reader: &mut Reader<R>, row: &mut ByteRecord) -> Result<
 }
 
 // The next row, or what is wrong with it.
-fn next_row<R: Read>(
+fn next_row<R: Read, T: Row>(
     reader: &mut Reader<R>,
     row: &mut ByteRecord,
     sessions: u16,
-) -> Result<Option<TraceRow>, TraceKind>
-    requires { IsReading reader.old }
+    place: u64,
+) -> Result<Option<T>, TraceKind>
+    requires reading { IsReading reader.old }
+    requires format { IsFormat (T.is sessions) T.records T.fields (T.read sessions) }
     ensures reading { IfOk result (λ found. IsSome found → IsReading reader.new) }
-    ensures row { IfOk result (λ found. IfSome found (λ row. IsRow sessions row)) }
+    ensures row { IfOk result (λ found. IfSome found (λ row. T.is sessions row)) }
     ensures next { (bytes : List ℕ) → source_of R.remaining reader.old ≡ Some bytes
-        → IsNextRow R.remaining sessions (records_on reader.old.state [] [] bytes) reader.new result }
+        → IsNextRow R.remaining (T.fields place) (T.read sessions place) (records_on reader.old.state [] [] bytes) reader.new result }
 {
     if !next_record(reader, row)? {
         return Ok(None);
     }
-    match row_in_record(row, sessions) {
+    match T::in_record(row, sessions, place) {
         Ok(found) => Ok(Some(found)),
         Err(kind) => Err(kind),
     }
+}
+
+// All rows, or the first that is none.
+fn read_rows<R: Read + Drop, T: Row>(
+    alloc: Global,
+    input: R,
+    sessions: u16,
+) -> Result<Vec<T>, TraceFault>
+    requires format { IsFormat (T.is sessions) T.records T.fields (T.read sessions) }
+    ensures rows { IfOk result (λ rows. All (T.is sessions) rows.items) }
+    ensures answer { (bytes : List ℕ) → R.remaining input ≡ Some bytes
+        → AnswersWith (T.is sessions) T.records (records_of bytes) (rows_from (T.read sessions) 0 (records_of bytes)) result }
+{
+    let mut reader = records(alloc, input);
+    let mut row = ByteRecord::new(alloc);
+    let mut rows = Vec::new(alloc);
+    for _ in 0..u64::MAX {
+        let place = rows.len() as u64;
+        let number = place + 1;
+        match next_row(&mut reader, &mut row, sessions, place) {
+            Ok(Some(found)) => {
+                if rows.push(found).is_err() {
+                    let kind = TraceKind::NoMemory;
+                    return Err(TraceFault { row: number, kind });
+                }
+            }
+            Ok(None) => return Ok(rows),
+            Err(kind) => return Err(TraceFault { row: number, kind }),
+        }
+    }
+    let kind = TraceKind::NoMemory;
+    Err(TraceFault {
+        row: rows.len() as u64 + 1,
+        kind,
+    })
 }
 
 /// Reads a whole trace, for sessions that are numbered from 1 to `sessions`, which is at most
@@ -92,25 +134,27 @@ pub fn read_trace<R: Read + Drop>(
     ensures answer { (bytes : List ℕ) → R.remaining input ≡ Some bytes
         → Answers sessions bytes result }
 {
-    let mut reader = records(alloc, input);
-    let mut row = ByteRecord::new(alloc);
-    let mut rows = Vec::new(alloc);
-    for _ in 0..u64::MAX {
-        let number = rows.len() as u64 + 1;
-        match next_row(&mut reader, &mut row, sessions) {
-            Ok(Some(found)) => {
-                if rows.push(found).is_err() {
-                    let kind = TraceKind::NoMemory;
-                    return Err(TraceFault { row: number, kind });
-                }
-            }
-            Ok(None) => return Ok(rows),
-            Err(kind) => return Err(TraceFault { row: number, kind }),
-        }
-    }
-    let kind = TraceKind::NoMemory;
-    Err(TraceFault {
-        row: rows.len() as u64 + 1,
-        kind,
-    })
+    read_rows(alloc, input, sessions)
+}
+
+/// Reads a whole history, for sessions that are numbered from 1 to `sessions`, which is at most
+/// `MAX_SESSIONS`. The text is comma-separated: seven fields a row, which docs/FORMATS.md describes.
+///
+/// Every record has to be an entry at its place. Otherwise nothing is given back but the first faulty
+/// row, with the first test that it fails; `Device` and `NoMemory` tell the row that was being read.
+/// The reader is consumed, and a fault doesn't tell how far it was read. Whether the history is legal
+/// isn't tested here.
+pub fn read_history<R: Read + Drop>(
+    alloc: Global,
+    input: R,
+    sessions: u16,
+) -> Result<Vec<Entry>, TraceFault>
+    // This holds whatever the reader gives.
+    ensures entries { IfOk result (λ entries. All (IsEntry sessions) entries.items) }
+
+    // This holds where the reader tells what it gives.
+    ensures answer { (bytes : List ℕ) → R.remaining input ≡ Some bytes
+        → AnswersHistory sessions bytes result }
+{
+    read_rows(alloc, input, sessions)
 }

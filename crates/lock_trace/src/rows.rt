@@ -1,11 +1,13 @@
 //! One row of a trace, from the fields of its record.
 
-ghost use Rattle.std.specs.Prelude.{◌≡◌, ◌<◌, Some, List, length, IfOk};
-ghost use Rattle.csv.specs.Records.{fields_of, field_at as field_in};
-ghost use Rattle.lock_trace.specs.Rows.{IsRow, HasResources, bare, resource_and_mode_in, call_in, row_in, row_of};
+ghost use Rattle.std.specs.Prelude.{◌≡◌, ◌<◌, length};
+ghost use Rattle.csv.specs.Records.{fields_of};
+ghost use Rattle.lock_trace.specs.Tests.{field_of};
+ghost use Rattle.lock_trace.specs.Rows.{bare, resource_and_mode_in, call_in, row_in};
 
 use crate::faults::TraceKind;
 use crate::fields::{mode_of, op_of, resource_of, session_of};
+use crate::files::Row;
 use crate::words::Op;
 use csv::ByteRecord;
 use lock_modes::Mode;
@@ -66,7 +68,7 @@ fn call_of(op: Op, resource: &[u8], mode: &[u8]) -> Result<Call, TraceKind>
     }
 }
 
-fn read_row(
+pub(crate) fn read_row(
     sessions: u16,
     session: &[u8],
     op: &[u8],
@@ -82,25 +84,35 @@ fn read_row(
 }
 
 // The field at a place.
-fn field_at<'a>(row: &'a ByteRecord, i: usize) -> &'a [u8]
+pub(crate) fn field_at<'a>(row: &'a ByteRecord, i: usize) -> &'a [u8]
     requires { i < length (fields_of row.now) }
-    ensures { field_in (fields_of row.now) i ≡ Some result.now }
+    ensures { result.now ≡ field_of (fields_of row.now) i }
 {
     row.get(i).unwrap()
 }
 
-pub(crate) fn row_in_record(row: &ByteRecord, sessions: u16) -> Result<TraceRow, TraceKind>
-    ensures value { result ≡ row_of sessions (fields_of row.now) }
-    ensures row { IfOk result (λ found. IsRow sessions found) }
-{
-    if row.len() != 4 {
-        return Err(TraceKind::Shape);
+impl Row for TraceRow {
+    ghost use Rattle.lock_trace.specs.Rows.{IsRow, fields_of_row, row_of};
+    ghost use Rattle.lock_trace.specs.Traces.{records_of_trace};
+
+    ghost is = { IsRow };
+
+    ghost records = { records_of_trace };
+
+    ghost fields = { λ place row. fields_of_row row };
+
+    ghost read = { λ n place fields. row_of n fields };
+
+    fn in_record(row: &ByteRecord, sessions: u16, _place: u64) -> Result<TraceRow, TraceKind> {
+        if row.len() != 4 {
+            return Err(TraceKind::Shape);
+        }
+        read_row(
+            sessions,
+            field_at(row, 0),
+            field_at(row, 1),
+            field_at(row, 2),
+            field_at(row, 3),
+        )
     }
-    read_row(
-        sessions,
-        field_at(row, 0),
-        field_at(row, 1),
-        field_at(row, 2),
-        field_at(row, 3),
-    )
 }

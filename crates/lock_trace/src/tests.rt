@@ -1,7 +1,6 @@
 //! Texts with what they are read as, by hand.
 
 use super::*;
-use csv::{ByteRecord, ReaderBuilder};
 use lock_modes::Mode;
 use lock_rules::{Call, Entry, Reply, Why};
 use lock_tree::{PathFault, Resource};
@@ -206,6 +205,9 @@ fn shows_faults(rt: HostRuntime) -> Result<(), Fail> {
         (TraceKind::Extra, "row 3: Extra"),
         (TraceKind::Device, "row 3: Device"),
         (TraceKind::NoMemory, "row 3: NoMemory"),
+        (TraceKind::Place, "row 3: Place"),
+        (TraceKind::Reply, "row 3: Reply"),
+        (TraceKind::Value, "row 3: Value"),
     ] {
         let text = TraceFault { row: 3, kind }.to_string(rt.alloc())?;
         assert_eq!(rt; text.as_str(), want);
@@ -224,6 +226,9 @@ fn numbers_faults(rt: HostRuntime) {
         (TraceKind::Extra, 6),
         (TraceKind::Device, 7),
         (TraceKind::NoMemory, 8),
+        (TraceKind::Place, 9),
+        (TraceKind::Reply, 10),
+        (TraceKind::Value, 11),
     ] {
         assert_eq!(rt; kind.number(), number, "of {kind}");
     }
@@ -231,9 +236,9 @@ fn numbers_faults(rt: HostRuntime) {
 
 // Gives one byte at a time, and fails after the last one where the text is cut there.
 #[derive(Drop)]
-struct Dribble<'a> {
-    left: &'a [u8],
-    is_cut: bool,
+pub(crate) struct Dribble<'a> {
+    pub(crate) left: &'a [u8],
+    pub(crate) is_cut: bool,
 }
 
 impl io::Read for Dribble<'_> {
@@ -288,7 +293,27 @@ fn entry(session: u16, call: Call, reply: Reply) -> Entry {
     }
 }
 
-fn history() -> Result<[Entry; 18], Fail> {
+pub(crate) const HISTORY_TEXT: &[u8] = b"0,1,begin,,,began,1
+1,256,begin,,,began,18446744073709551615
+2,1,lock,7,X,granted,X
+3,256,lock,4294967295,SIX,waiting,
+4,256,commit,,,refused,IsWaiting
+5,1,lock,0,NL,refused,NothingAsked
+6,1,commit,,,committed,1
+7,1,commit,,,refused,NoTransaction
+8,256,commit,,,committed,4294967295
+9,1,convert,7/2/40/1,IX,granted,SIX
+10,1,release,7/2/40/1,,released,
+11,1,poll,,,clear,
+12,1,abort,,,aborted,0
+13,256,poll,,,waiting,
+14,256,abort,,,aborted,4294967295
+15,1,lock,7,S,deadlock,
+16,1,commit,,,refused,IsDoomed
+17,1,poll,,,deadlock,
+";
+
+pub(crate) fn history() -> Result<[Entry; 18], Fail> {
     Ok([
         entry(1, Call::Begin, Reply::Began(1)),
         entry(256, Call::Begin, Reply::Began(18446744073709551615)),
@@ -322,55 +347,8 @@ fn history() -> Result<[Entry; 18], Fail> {
 #[test]
 fn writes_histories(rt: HostRuntime) -> Result<(), Fail> {
     let text = history_text(rt.alloc(), &history()?)?;
-    let want = b"0,1,begin,,,began,1
-1,256,begin,,,began,18446744073709551615
-2,1,lock,7,X,granted,X
-3,256,lock,4294967295,SIX,waiting,
-4,256,commit,,,refused,IsWaiting
-5,1,lock,0,NL,refused,NothingAsked
-6,1,commit,,,committed,1
-7,1,commit,,,refused,NoTransaction
-8,256,commit,,,committed,4294967295
-9,1,convert,7/2/40/1,IX,granted,SIX
-10,1,release,7/2/40/1,,released,
-11,1,poll,,,clear,
-12,1,abort,,,aborted,0
-13,256,poll,,,waiting,
-14,256,abort,,,aborted,4294967295
-15,1,lock,7,S,deadlock,
-16,1,commit,,,refused,IsDoomed
-17,1,poll,,,deadlock,
-";
-    assert_eq!(rt; text.as_slice(), want.as_slice());
+    assert_eq!(rt; text.as_slice(), HISTORY_TEXT);
     let none = history_text(rt.alloc(), &[])?;
     assert!(rt; none.is_empty());
-    Ok(())
-}
-
-#[test]
-fn reads_back_what_was_written(rt: HostRuntime) -> Result<(), Fail> {
-    let entries = history()?;
-    let text = history_text(rt.alloc(), &entries)?;
-    let mut reader = ReaderBuilder::new()
-        .has_headers(false)
-        .flexible(true)
-        .from_reader(rt.alloc(), text.as_slice());
-    let mut row = ByteRecord::new(rt.alloc());
-    for entry in &entries {
-        assert_eq!(rt; reader.read_byte_record(&mut row).ok(), Some(true));
-        assert_eq!(rt; row.len(), 7);
-        let mut trace = Vec::new(rt.alloc());
-        for place in 1..5 {
-            trace.extend_from_slice(row.get(place).unwrap_or(b"?"))?;
-            trace.push(if place < 4 { b',' } else { b'\n' })?;
-        }
-        let rows = read_trace(rt.alloc(), trace.as_slice(), ALL)?;
-        let want = TraceRow {
-            session: entry.session,
-            call: entry.call,
-        };
-        assert_eq!(rt; rows.as_slice(), [want].as_slice());
-    }
-    assert_eq!(rt; reader.read_byte_record(&mut row).ok(), Some(false));
     Ok(())
 }

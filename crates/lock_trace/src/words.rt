@@ -73,6 +73,19 @@ pub(crate) enum ReplyWord {
     Refused,
 }
 
+/// All words of replies, each once.
+pub(crate) const REPLY_WORDS: [ReplyWord; 9] = [
+    ReplyWord::Began,
+    ReplyWord::Granted,
+    ReplyWord::Waiting,
+    ReplyWord::Deadlock,
+    ReplyWord::Clear,
+    ReplyWord::Released,
+    ReplyWord::Committed,
+    ReplyWord::Aborted,
+    ReplyWord::Refused,
+];
+
 impl ReplyWord {
     pub(crate) fn of(reply: Reply) -> ReplyWord
         ensures { result ≡ reply_word_of reply }

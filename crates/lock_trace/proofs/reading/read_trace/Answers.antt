@@ -1,36 +1,5 @@
-use Rattle.std.proofs.Common.{◌≡◌, rules, true, ◌+◌, []}
-use Rattle.std.specs.Result.{is_ok}
-use Rattle.std.proofs.lemmas.List.Elements.{All-push}
-use Rattle.lock_trace.specs.Rows.{IsRow}
-use Rattle.lock_trace.specs.Records.{records_on, records_of}
-use Rattle.lock_trace.proofs.TraceSteps.{one_more_row, all_rows, tells}
+use Rattle.lock_trace.proofs.TraceLaws.{trace_format}
 use Rattle.lock_trace.proofs.reading.read_trace.Goals as goal
 
-pub returns-in-Ok-None-clause-answer : goal.returns-in-Ok-None-clause-answer
-returns-in-Ok-None-clause-answer g c bytes known =
-    let (left, at_left, so_far) = c.loop.invariant.so_far bytes known in
-    let next = rw (c.in-Ok-None.is, c.in-Ok-None.field-0-is) at (c.next_row.ensures.next left at_left) in
-    all_rows c.args.sessions bytes (records_on c.loop.reader.state [] [] left) c.loop.rows.items c.ranges.sessions.fits c.loop.invariant.rows so_far next
-
-pub returns-in-Err-clause-answer : goal.returns-in-Err-clause-answer
-returns-in-Err-clause-answer g c bytes known =
-    let (left, at_left, so_far) = c.loop.invariant.so_far bytes known in
-    let next = c.in-Err.ensures.next left at_left in
-    tells g.R.Read.remaining c.args.sessions bytes (records_on c.loop.reader.state [] [] left) c.loop.rows.items (c.len.result + 1) c.next_row.new.reader c.in-Err.kind
-    c.ranges.sessions.fits c.loop.invariant.rows so_far (search rules) next
-
-pub loop-preserved : goal.loop-preserved
-loop-preserved g c =
-    let good : is_ok c.push.result ≡ true = search rules in
-    let items = rw good at c.push.ensures.items in
-    let row = rw c.in-Ok-Some.field-0-is at c.in-Ok-Some.ensures.row in
-    record {
-      reading = (rw c.in-Ok-Some.field-0-is at c.in-Ok-Some.ensures.reading) (search rules);
-      rows = rw items (All-push (IsRow c.args.sessions) c.loop.rows.items c.in-Ok-Some.found c.loop.invariant.rows row);
-      so_far = λ bytes known.
-          let (left, at_left, so_far) = c.loop.invariant.so_far bytes known in
-          let past = rw (c.in-Ok-Some.is, c.in-Ok-Some.field-0-is) at (c.next_row.ensures.next left at_left) in
-          let rest = records_on c.next_row.new.reader.state [] [] past.bytes in
-          let more = one_more_row (records_of bytes) rest (records_on c.loop.reader.state [] [] left) c.loop.rows.items c.in-Ok-Some.found so_far past.all_are in
-          (past.bytes, past.source, rw items more);
-    }
+pub read_rows-requires : goal.read_rows-requires
+read_rows-requires g c = record { format = trace_format c.args.sessions c.ranges.sessions.fits }

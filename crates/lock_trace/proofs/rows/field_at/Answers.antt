@@ -1,7 +1,7 @@
-use Rattle.std.proofs.Common.{◌∙◌, ◌≡◌, Option, Some, None, refl, List, ℕ, Bor}
+use Rattle.std.proofs.Common.{◌∙◌, ◌≡◌, Option, Some, None, refl, List, ℕ, Bor, rules}
 use Rattle.std.specs.Prelude.{IsSome, option_map}
 use Rattle.csv.specs.Records.{fields_of}
-use Rattle.lock_trace.proofs.RecordSteps.{some_field}
+use Rattle.lock_trace.proofs.RecordSteps.{some_field, field_is}
 use Rattle.lock_trace.proofs.rows.field_at.Goals as goal
 
 is_there : (o : Option (Bor (List ℕ))) (f : List ℕ) → option_map (λ s. s.now) o ≡ Some f → IsSome o
@@ -12,3 +12,6 @@ pub unwrap-requires : goal.unwrap-requires
 unwrap-requires c =
     let s = some_field (fields_of c.args.row.now) c.args.i c.requires in
     is_there c.get.result s.0 (c.get.ensures.value ∙ s.1)
+
+pub returns : goal.returns
+returns c = field_is (fields_of c.args.row.now) c.args.i c.unwrap.result.now (search rules)

@@ -1,16 +1,15 @@
-use Rattle.std.proofs.Common.{◌≡◌, ℕ, List, [], ◌++◌, map, Some}
+use Rattle.std.proofs.Common.{◌≡◌, ℕ, List, [], ◌++◌, Some}
 use Rattle.std.specs.Prelude.{All}
 use Rattle.csv.specs.Reading.{source_of}
-use Rattle.lock_trace.specs.Rows.{IsRow, fields_of_row}
 use Rattle.lock_trace.specs.Records.{records_on, records_of}
 use Rattle.lock_trace.specs.Reading.{IsReading}
-use Rattle.lock_trace.proofs.reading.read_trace.Given as goal
+use Rattle.lock_trace.proofs.reading.read_rows.Given as goal
 
 abbrev pub invariant-loop : goal.invariant-loop
 invariant-loop g l = record {
   reading : IsReading l.reader;
-  rows : All (IsRow l.sessions) l.rows.items;
+  rows : All (g.T.Row.is l.sessions) l.rows.items;
   so_far : (bytes : List ℕ) → g.R.Read.remaining l.fn.input ≡ Some bytes
       → (left : List ℕ) × (source_of g.R.Read.remaining l.reader ≡ Some left)
-      × (records_of bytes ≡ map fields_of_row l.rows.items ++ records_on l.reader.state [] [] left);
+      × (records_of bytes ≡ g.T.Row.records l.rows.items ++ records_on l.reader.state [] [] left);
 }

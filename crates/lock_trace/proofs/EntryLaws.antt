@@ -1,0 +1,217 @@
+-- Fields are read as an entry where they are the fields of that entry at its place.
+use Rattle.std.proofs.Common.{◌≡◌, ◌↔◌, ℕ, ◌<◌, ◌≤◌, ◌^◌, Bool, true, false, List, [], ◌∷◌, ◌++◌, length, Result, Ok, Err, refl, ap, ◌∙◌, subst, arith}
+use Rattle.std.specs.Prelude.{◌==◌, not, if◌then◌else◌, decimal, bytes_eq}
+use Rattle.std.proofs.lemmas.Slice.Eq.{bytes_eq-Decides}
+use Rattle.lock_modes.specs.declared.Mode.{Mode}
+use Rattle.lock_modes.specs.Codes.{name_of}
+use Rattle.lock_tree.proofs.Numerals.{reading_iff}
+use Rattle.lock_rules.specs.declared.calls.Reply.{Reply}
+use Rattle.lock_rules.specs.declared.calls.Reply.TheVariants as reply
+use Rattle.lock_rules.specs.declared.calls.Entry.{Entry}
+use Rattle.lock_trace.specs.declared.faults.TraceKind.{TraceKind}
+use Rattle.lock_trace.specs.declared.faults.TraceKind.TheVariants as kind
+use Rattle.lock_trace.specs.declared.words.ReplyWord.{ReplyWord}
+use Rattle.lock_trace.specs.declared.words.ReplyWord.TheVariants as told
+use Rattle.lock_trace.specs.declared.rows.TraceRow.{TraceRow}
+use Rattle.lock_trace.specs.Words.{word_of_reply, reply_word_of}
+use Rattle.lock_trace.specs.Fields.{place_in, reply_word_in, or_value, number_in, granted_in, mode_in, why_in, most_64, most_32}
+use Rattle.lock_trace.specs.Rows.{fields_of_row, row_in, ◌>>=◌}
+use Rattle.lock_trace.specs.Tests.{field_of}
+use Rattle.lock_trace.specs.Entries.{IsReply, IsEntry, value_in, reply_in, with_reply, entry_in, entry_of}
+use Rattle.lock_trace.specs.Histories.{value_field, fields_of_reply, row_of_entry, fields_of_entry}
+use Rattle.lock_trace.proofs.Names.{reply_word_is, mode_is, mode_by_name, why_is, why_by_name}
+use Rattle.lock_trace.proofs.RowLaws.{bind_ok, empty, read_row, row_back}
+
+-- places
+
+abbrev at_place : Result (Unit {0}) TraceKind
+at_place = Ok tt
+
+place_is : (place : ℕ) (field : List ℕ) (b : Bool) → bytes_eq field (decimal place) ≡ b → (if b then at_place else Err kind.Place) ≡ at_place → field ≡ decimal place
+place_is place field true is e = (bytes_eq-Decides field (decimal place)).0 is
+place_is place field false is e = absurd cc
+
+pub place_back : (place : ℕ) → place_in place (decimal place) ≡ Ok tt
+place_back place = rw ((bytes_eq-Decides (decimal place) (decimal place)).1 refl) refl
+
+pub place_iff : (place : ℕ) (field : List ℕ) → (place_in place field ≡ Ok tt) ↔ (field ≡ decimal place)
+place_iff place field = (place_is place field (bytes_eq field (decimal place)) refl, λ e. ap (place_in place) e ∙ place_back place)
+
+-- values
+
+or_value_ok : {A F : Type 0} (x : Result A F) (a : A) → or_value x ≡ Ok a → x ≡ Ok a
+or_value_ok (Ok b) a e = cc
+or_value_ok (Err f) a e = absurd cc
+
+number_is : (most n : ℕ) (v : List ℕ) → most < 2 ^ 64 → number_in most v ≡ Ok n → (n ≤ most) × (v ≡ decimal n)
+number_is most n v lt e = (reading_iff v most n lt).0 (or_value_ok _ n e)
+
+number_back : (most n : ℕ) → most < 2 ^ 64 → n ≤ most → number_in most (decimal n) ≡ Ok n
+number_back most n lt le = ap or_value ((reading_iff (decimal n) most n lt).1 (le, refl))
+
+granted_is : (m : Mode) (v : List ℕ) → granted_in v ≡ Ok m → v ≡ name_of m
+granted_is m v e = mode_is v m (or_value_ok (mode_in v) m e)
+
+granted_back : (m : Mode) → granted_in (name_of m) ≡ Ok m
+granted_back m = ap or_value (mode_by_name m (name_of m) refl)
+
+abbrev ok_reply : Reply → Result Reply TraceKind
+ok_reply r = Ok r
+
+same_reply : (a b : Reply) → ok_reply a ≡ ok_reply b → a ≡ b
+same_reply a b e = cc
+
+-- the word and the value of what is read
+record AreReplys (w v : List ℕ) (r : Reply) : Type 0 where
+  reply : IsReply r
+  word : w ≡ word_of_reply (reply_word_of r)
+  value : v ≡ value_field r
+
+without_cases : (w v : List ℕ) (a r : Reply) (b : Bool) → IsReply a → w ≡ word_of_reply (reply_word_of a) → [] ≡ value_field a → (length v == 0) ≡ b → (if not b then Err kind.Value else ok_reply a) ≡ ok_reply r → AreReplys w v r
+without_cases w v a r true is word none no_v e = subst (AreReplys w v) (same_reply a r e) (record { reply = is; word = word; value = empty v no_v ∙ none })
+without_cases w v a r false is word none no_v e = absurd cc
+
+below_64 : (n : ℕ) → n ≤ most_64 → n < 2 ^ 64
+below_64 n le = omega (arith, le)
+
+below_32 : (n : ℕ) → n ≤ most_32 → n < 2 ^ 32
+below_32 n le = omega (arith, le)
+
+within_64 : (n : ℕ) → n < 2 ^ 64 → n ≤ most_64
+within_64 n lt = omega (arith, lt)
+
+within_32 : (n : ℕ) → n < 2 ^ 32 → n ≤ most_32
+within_32 n lt = omega (arith, lt)
+
+few_64 : most_64 < 2 ^ 64
+few_64 = omega arith
+
+few_32 : most_32 < 2 ^ 64
+few_32 = omega arith
+
+read_value : (t : ReplyWord) (w v : List ℕ) (r : Reply) → w ≡ word_of_reply t → value_in t v ≡ Ok r → AreReplys w v r
+read_value told.Began w v r word e =
+    let (n, read, is) = bind_ok (number_in most_64 v) (λ n. ok_reply (reply.Began n)) r e in
+    let of = number_is most_64 n v few_64 read in
+    subst (AreReplys w v) (same_reply (reply.Began n) r is) (record { reply = below_64 n of.0; word = word; value = of.1 })
+read_value told.Granted w v r word e =
+    let (m, read, is) = bind_ok (granted_in v) (λ m. ok_reply (reply.Granted m)) r e in
+    subst (AreReplys w v) (same_reply (reply.Granted m) r is) (record { reply = tt; word = word; value = granted_is m v read })
+read_value told.Waiting w v r word e = without_cases w v reply.Waiting r (length v == 0) tt word refl refl e
+read_value told.Deadlock w v r word e = without_cases w v reply.Deadlock r (length v == 0) tt word refl refl e
+read_value told.Clear w v r word e = without_cases w v reply.Clear r (length v == 0) tt word refl refl e
+read_value told.Released w v r word e = without_cases w v reply.Released r (length v == 0) tt word refl refl e
+read_value told.Committed w v r word e =
+    let (n, read, is) = bind_ok (number_in most_32 v) (λ n. ok_reply (reply.Committed n)) r e in
+    let of = number_is most_32 n v few_32 read in
+    subst (AreReplys w v) (same_reply (reply.Committed n) r is) (record { reply = below_32 n of.0; word = word; value = of.1 })
+read_value told.Aborted w v r word e =
+    let (n, read, is) = bind_ok (number_in most_32 v) (λ n. ok_reply (reply.Aborted n)) r e in
+    let of = number_is most_32 n v few_32 read in
+    subst (AreReplys w v) (same_reply (reply.Aborted n) r is) (record { reply = below_32 n of.0; word = word; value = of.1 })
+read_value told.Refused w v r word e =
+    let (why, read, is) = bind_ok (why_in v) (λ why. ok_reply (reply.Refused why)) r e in
+    subst (AreReplys w v) (same_reply (reply.Refused why) r is) (record { reply = tt; word = word; value = why_is v why read })
+
+read_reply : (w v : List ℕ) (r : Reply) → reply_in w v ≡ Ok r → AreReplys w v r
+read_reply w v r e =
+    let (t, read, then_value) = bind_ok (reply_word_in w) (λ t. value_in t v) r e in
+    read_value t w v r (reply_word_is w t read) then_value
+
+pub reply_back : (r : Reply) → IsReply r → reply_in (word_of_reply (reply_word_of r)) (value_field r) ≡ Ok r
+reply_back (reply.Began n) is = rw (number_back most_64 n few_64 (within_64 n is)) refl
+reply_back (reply.Granted m) is = rw (granted_back m) refl
+reply_back reply.Waiting is = refl
+reply_back reply.Deadlock is = refl
+reply_back reply.Clear is = refl
+reply_back reply.Released is = refl
+reply_back (reply.Committed n) is = rw (number_back most_32 n few_32 (within_32 n is)) refl
+reply_back (reply.Aborted n) is = rw (number_back most_32 n few_32 (within_32 n is)) refl
+reply_back (reply.Refused w) is = rw (why_by_name w _ refl) refl
+
+both : (w v w' v' : List ℕ) → w ≡ w' → v ≡ v' → (w ∷ v ∷ []) ≡ (w' ∷ v' ∷ [])
+both w v w' v' e f = rw (e, f) refl
+
+parts_back : (w v : List ℕ) (r : Reply) → IsReply r → (w ∷ v ∷ []) ≡ fields_of_reply r → reply_in w v ≡ Ok r
+parts_back w v r is e =
+    let word : w ≡ word_of_reply (reply_word_of r) = cc in
+    let value : v ≡ value_field r = cc in
+    rw (word, value) (reply_back r is)
+
+pub reply_iff : (w v : List ℕ) (r : Reply) → (reply_in w v ≡ Ok r) ↔ (IsReply r × ((w ∷ v ∷ []) ≡ fields_of_reply r))
+reply_iff w v r = (
+  λ e. let of = read_reply w v r e in (of.reply, both w v _ _ of.word of.value),
+  λ h. parts_back w v r h.0 h.1,
+)
+
+-- entries
+
+abbrev ok_entry : Entry → Result Entry TraceKind
+ok_entry e = Ok e
+
+same_entry : (a b : Entry) → ok_entry a ≡ ok_entry b → a ≡ b
+same_entry a b e = cc
+
+joined : (p p' s o r m w v : List ℕ) (row : TraceRow) (answer : Reply) → p ≡ p' → (s ∷ o ∷ r ∷ m ∷ []) ≡ fields_of_row row → (w ∷ v ∷ []) ≡ fields_of_reply answer
+    → (p ∷ s ∷ o ∷ r ∷ m ∷ w ∷ v ∷ []) ≡ (p' ∷ (fields_of_row row ++ fields_of_reply answer))
+joined p p' s o r m w v row answer place fields reply =
+    ap (λ (x : List ℕ). x ∷ s ∷ o ∷ r ∷ m ∷ w ∷ v ∷ []) place
+    ∙ ap (λ (fs : List (List ℕ)). p' ∷ (fs ++ (w ∷ v ∷ []))) fields
+    ∙ ap (λ (fs : List (List ℕ)). p' ∷ (fields_of_row row ++ fs)) reply
+
+read_entry : (n place : ℕ) (p s o r m w v : List ℕ) (e : Entry) → n < 2 ^ 16 → entry_in n place p s o r m w v ≡ Ok e → IsEntry n e × ((p ∷ s ∷ o ∷ r ∷ m ∷ w ∷ v ∷ []) ≡ fields_of_entry place e)
+read_entry n place p s o r m w v e lt is =
+    let (here, read_p, then_row) = bind_ok (place_in place p) (λ here. row_in n s o r m >>= (λ row. reply_in w v >>= (λ answer. ok_entry (with_reply row answer)))) e is in
+    let (row, read_r, then_reply) = bind_ok (row_in n s o r m) (λ row. reply_in w v >>= (λ answer. ok_entry (with_reply row answer))) e then_row in
+    let (answer, read_a, is_ok) = bind_ok (reply_in w v) (λ answer. ok_entry (with_reply row answer)) e then_reply in
+    let at = (place_iff place p).0 read_p in
+    let has = read_row n s o r m row lt read_r in
+    let told = (reply_iff w v answer).0 read_a in
+    let P : Entry → Type 0 = λ x. IsEntry n x × ((p ∷ s ∷ o ∷ r ∷ m ∷ w ∷ v ∷ []) ≡ fields_of_entry place x) in
+    subst P (same_entry (with_reply row answer) e is_ok) (
+      record { first = has.0.first; last = has.0.last; resources = has.0.resources; reply = told.0 },
+      joined p (decimal place) s o r m w v row answer at has.1 told.1,
+    )
+
+entry_fields : (n place : ℕ) (e : Entry) (fields : List (List ℕ)) → n < 2 ^ 16 → entry_of n place fields ≡ Ok e → IsEntry n e × (fields ≡ fields_of_entry place e)
+entry_fields n place e [] lt is = absurd cc
+entry_fields n place e (p ∷ []) lt is = absurd cc
+entry_fields n place e (p ∷ s ∷ []) lt is = absurd cc
+entry_fields n place e (p ∷ s ∷ o ∷ []) lt is = absurd cc
+entry_fields n place e (p ∷ s ∷ o ∷ r ∷ []) lt is = absurd cc
+entry_fields n place e (p ∷ s ∷ o ∷ r ∷ m ∷ []) lt is = absurd cc
+entry_fields n place e (p ∷ s ∷ o ∷ r ∷ m ∷ w ∷ []) lt is = absurd cc
+entry_fields n place e (p ∷ s ∷ o ∷ r ∷ m ∷ w ∷ v ∷ []) lt is = read_entry n place p s o r m w v e lt is
+entry_fields n place e (p ∷ s ∷ o ∷ r ∷ m ∷ w ∷ v ∷ x ∷ xs) lt is = absurd cc
+
+entry_back : (n place : ℕ) (e : Entry) → n < 2 ^ 16 → IsEntry n e → entry_of n place (fields_of_entry place e) ≡ Ok e
+entry_back n place e lt is =
+    let row = row_back n (row_of_entry e) lt (record { first = is.first; last = is.last; resources = is.resources }) in
+    rw (place_back place, row, reply_back e.reply is.reply) refl
+
+pub entry_iff : (n place : ℕ) (e : Entry) (fields : List (List ℕ)) → n < 2 ^ 16 → (entry_of n place fields ≡ Ok e) ↔ (IsEntry n e × (fields ≡ fields_of_entry place e))
+entry_iff n place e fields lt = (entry_fields n place e fields lt, λ h. ap (entry_of n place) h.1 ∙ entry_back n place e lt h.0)
+
+-- seven fields by their places
+pub seven : (n place : ℕ) (fs : List (List ℕ)) → length fs ≡ 7
+    → entry_in n place (field_of fs 0) (field_of fs 1) (field_of fs 2) (field_of fs 3) (field_of fs 4) (field_of fs 5) (field_of fs 6) ≡ entry_of n place fs
+seven n place [] len = absurd (omega (arith, len))
+seven n place (a ∷ []) len = absurd (omega (arith, len))
+seven n place (a ∷ b ∷ []) len = absurd (omega (arith, len))
+seven n place (a ∷ b ∷ c ∷ []) len = absurd (omega (arith, len))
+seven n place (a ∷ b ∷ c ∷ d ∷ []) len = absurd (omega (arith, len))
+seven n place (a ∷ b ∷ c ∷ d ∷ e ∷ []) len = absurd (omega (arith, len))
+seven n place (a ∷ b ∷ c ∷ d ∷ e ∷ f ∷ []) len = absurd (omega (arith, len))
+seven n place (a ∷ b ∷ c ∷ d ∷ e ∷ f ∷ g ∷ []) len = refl
+seven n place (a ∷ b ∷ c ∷ d ∷ e ∷ f ∷ g ∷ h ∷ hs) len = absurd (omega (arith, len))
+
+pub not_seven : (n place : ℕ) (fs : List (List ℕ)) → (length fs ≡ 7 → ⊥) → Err kind.Shape ≡ entry_of n place fs
+not_seven n place [] no_more = refl
+not_seven n place (a ∷ []) no_more = refl
+not_seven n place (a ∷ b ∷ []) no_more = refl
+not_seven n place (a ∷ b ∷ c ∷ []) no_more = refl
+not_seven n place (a ∷ b ∷ c ∷ d ∷ []) no_more = refl
+not_seven n place (a ∷ b ∷ c ∷ d ∷ e ∷ []) no_more = refl
+not_seven n place (a ∷ b ∷ c ∷ d ∷ e ∷ f ∷ []) no_more = refl
+not_seven n place (a ∷ b ∷ c ∷ d ∷ e ∷ f ∷ g ∷ []) no_more = absurd (no_more refl)
+not_seven n place (a ∷ b ∷ c ∷ d ∷ e ∷ f ∷ g ∷ h ∷ hs) no_more = refl

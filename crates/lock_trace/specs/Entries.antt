@@ -1,0 +1,87 @@
+-- The rows of a history: which fields are an entry.
+use Rattle.std.specs.Prelude.{◌==◌, ◌<◌, ◌≤◌, ◌^◌, ℕ, not, if◌then◌else◌, List, [], ◌∷◌, length, Result, Ok, Err}
+use Rattle.lock_rules.specs.declared.calls.Reply.{Reply}
+use Rattle.lock_rules.specs.declared.calls.Reply.TheVariants as reply
+use Rattle.lock_rules.specs.declared.calls.Entry.{Entry}
+use Rattle.lock_trace.specs.declared.faults.TraceKind.{TraceKind}
+use Rattle.lock_trace.specs.declared.faults.TraceKind.TheVariants as kind
+use Rattle.lock_trace.specs.declared.rows.TraceRow.{TraceRow}
+use Rattle.lock_trace.specs.declared.words.ReplyWord.{ReplyWord}
+use Rattle.lock_trace.specs.declared.words.ReplyWord.TheVariants as told
+use Rattle.lock_trace.specs.Fields.{place_in, reply_word_in, number_in, granted_in, why_in, most_64, most_32}
+use Rattle.lock_trace.specs.Rows.{◌>>=◌, HasResources, row_in}
+
+-- the number of a transaction has 64 bits, and a count of locks 32
+abbrev pub IsReply : Reply → Type 0
+IsReply (reply.Began n) = n < 2 ^ 64
+IsReply (reply.Granted m) = Unit {0}
+IsReply reply.Waiting = Unit {0}
+IsReply reply.Deadlock = Unit {0}
+IsReply reply.Clear = Unit {0}
+IsReply reply.Released = Unit {0}
+IsReply (reply.Committed n) = n < 2 ^ 32
+IsReply (reply.Aborted n) = n < 2 ^ 32
+IsReply (reply.Refused w) = Unit {0}
+
+-- an entry for so many sessions
+pub record IsEntry (sessions : ℕ) (e : Entry) : Type 0 where
+  pub first : 0 < e.session
+  pub last : e.session ≤ sessions
+  pub resources : HasResources e.call
+  pub reply : IsReply e.reply
+
+-- a reply that takes no value
+abbrev pub without_value : Reply → List ℕ → Result Reply TraceKind
+without_value r v = if not (length v == 0) then Err kind.Value else Ok r
+
+-- the reply that a word and a value are
+abbrev pub value_in : ReplyWord → List ℕ → Result Reply TraceKind
+value_in told.Began v = do
+  number ← number_in most_64 v
+  Ok (reply.Began number)
+value_in told.Granted v = do
+  mode ← granted_in v
+  Ok (reply.Granted mode)
+value_in told.Waiting v = without_value reply.Waiting v
+value_in told.Deadlock v = without_value reply.Deadlock v
+value_in told.Clear v = without_value reply.Clear v
+value_in told.Released v = without_value reply.Released v
+value_in told.Committed v = do
+  locks ← number_in most_32 v
+  Ok (reply.Committed locks)
+value_in told.Aborted v = do
+  locks ← number_in most_32 v
+  Ok (reply.Aborted locks)
+value_in told.Refused v = do
+  why ← why_in v
+  Ok (reply.Refused why)
+
+-- the reply that two fields are, or the first of their tests that fails
+abbrev pub reply_in : List ℕ → List ℕ → Result Reply TraceKind
+reply_in w v = do
+  word ← reply_word_in w
+  value_in word v
+
+-- a row with its reply
+abbrev pub with_reply : TraceRow → Reply → Entry
+with_reply row r = record { session = row.session; call = row.call; reply = r }
+
+-- the entry that seven fields are at a place, or the first test that fails
+abbrev pub entry_in : ℕ → ℕ → List ℕ → List ℕ → List ℕ → List ℕ → List ℕ → List ℕ → List ℕ → Result Entry TraceKind
+entry_in n place p s o r m w v = do
+  here ← place_in place p
+  row ← row_in n s o r m
+  answer ← reply_in w v
+  Ok (with_reply row answer)
+
+-- the same of any fields
+abbrev pub entry_of : ℕ → ℕ → List (List ℕ) → Result Entry TraceKind
+entry_of n place [] = Err kind.Shape
+entry_of n place (p ∷ []) = Err kind.Shape
+entry_of n place (p ∷ s ∷ []) = Err kind.Shape
+entry_of n place (p ∷ s ∷ o ∷ []) = Err kind.Shape
+entry_of n place (p ∷ s ∷ o ∷ r ∷ []) = Err kind.Shape
+entry_of n place (p ∷ s ∷ o ∷ r ∷ m ∷ []) = Err kind.Shape
+entry_of n place (p ∷ s ∷ o ∷ r ∷ m ∷ w ∷ []) = Err kind.Shape
+entry_of n place (p ∷ s ∷ o ∷ r ∷ m ∷ w ∷ v ∷ []) = entry_in n place p s o r m w v
+entry_of n place (p ∷ s ∷ o ∷ r ∷ m ∷ w ∷ v ∷ x ∷ xs) = Err kind.Shape
