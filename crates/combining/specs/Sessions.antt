@@ -22,6 +22,10 @@ pub record IsSessionOf (office : Placed) (session : Known) : Type 0 where
 abbrev pub IsIdle : Known → Type 0
 IsIdle session = (session.pending ≡ None) × (session.retired ≡ false)
 
+-- all that the session published is collected
+abbrev pub HasNothingPending : Known → Type 0
+HasNothingPending session = session.pending ≡ None
+
 -- the pending call stands in the history that the session knows: there it has one call more than it collected
 abbrev pub IsPendingServed : Known → Type 0
 IsPendingServed session = length session.collected < length (calls_of session.number session.front)

@@ -3,11 +3,12 @@
 //! 2010). No call blocks or waits for another thread, and nothing is claimed of progress, fairness or speed.
 #![tactic(auto)]
 
+pub mod laws;
 mod office;
 mod pass;
 
 pub use office::{Answer, Office, OpenFault, Turn};
-pub use publication::{Posted, Ticket as Session};
+pub use publication::{CloseFault, Posted, Ticket as Session};
 
 #[cfg(test)]
 mod tests;

@@ -1,16 +1,19 @@
 //! The office and the calls of its sessions.
 
-ghost use Rattle.std.specs.Prelude.{◌≡◌, ◌≢◌, ◌<◌, ◌≤◌, ◌↔◌, false, Some, None, Err, IfOk, IfSome, IfNone, length, slice_set};
+ghost use Rattle.std.specs.Prelude.{◌≡◌, ◌≢◌, ◌<◌, ◌≤◌, ◌↔◌, true, false, Some, None, Err, IfOk, IfErr, IfSome, IfNone, length, max, slice_set};
 ghost use Rattle.std.specs.List.{All};
-ghost use Rattle.lock_rules.specs.Legal.{calls_of};
+ghost use mathlib.Core.List.{IsPrefix};
+ghost use Rattle.lock_rules.specs.Legal.{IsLegal, calls_of};
 ghost use Rattle.publication.specs.Views.{asks};
-ghost use Rattle.publication.specs.Boards.{heard_from, published_by, new_tickets};
-ghost use Rattle.combining.specs.Sessions.{IsSessionOf, IsIdle, IsPendingServed, IsPassed, IsCollected};
+ghost use Rattle.publication.specs.Kinds.{longer, maxes};
+ghost use Rattle.publication.specs.Boards.{heard_from, published_by, new_tickets, IsEachOnce};
+ghost use Rattle.combining.specs.Sessions.{IsSessionOf, IsIdle, HasNothingPending, IsPendingServed, IsPassed, IsCollected};
+ghost use Rattle.combining.specs.Closed.{IsClosed};
 
 use crate::pass::serve_published;
 use lock_desk::{Book, Call, Reply};
 use lock_rules::MAX_SESSIONS;
-use publication::{Board, Posted, Ticket as Session};
+use publication::{Board, CloseFault, Posted, Ticket as Session};
 use std::alloc::Global;
 use std::marker::Model;
 use thiserror::Error;
@@ -146,5 +149,54 @@ impl Office {
     {
         let (place, reply) = self.board.take(session)?;
         Some(Answer { place, reply })
+    }
+
+    /// The first session learns what the other knows: the longer of their fronts of the history, of which the other is a front,
+    /// and of each session the larger number of calls that it published. The other learns nothing. What the session collects
+    /// from then on stands behind all that the other knew when it called.
+    pub fn hear(&self, session: &mut Session, other: &mut Session)
+        requires ours { IsSessionOf self.now session.old × IsSessionOf self.now other.old }
+        ensures ours { IsSessionOf self.now session.new × IsSessionOf self.now other.new }
+        ensures other { other.new ≡ other.old }
+        ensures session { session.new ≡ record session.old {
+          front = longer session.old.front other.old.front;
+          heard = maxes session.old.heard other.old.heard;
+        } }
+        ensures fronts { IsPrefix session.old.front session.new.front × IsPrefix other.old.front session.new.front }
+        ensures legal { IsLegal session.new.front }
+        ensures heard { (j : _) → heard_from session.new j ≡ max (heard_from session.old j) (heard_from other.old j) }
+    {
+        self.board.hear(session, other);
+    }
+
+    /// The session publishes no more, from now on. Its transaction and its locks stay as they are.
+    pub fn retire(&self, session: &mut Session)
+        requires ours { IsSessionOf self.now session.old }
+        requires idle { IsIdle session.old }
+        ensures ours { IsSessionOf self.now session.new }
+        ensures session { session.new ≡ record session.old { retired = true } }
+    {
+        self.board.retire(session);
+    }
+
+    /// Closes the office: the lock table with the whole history, where the vector holds each session of the office once, in any
+    /// order, and none is pending. Otherwise everything comes back, the sessions in their order: `Missing` where the vector isn't
+    /// that, else `Unsettled`. It takes no memory. What the history then is, `laws::closed_offices_have_one_history` says.
+    pub fn close(self, sessions: Vec<Session>) -> Result<Book, (CloseFault, Office, Vec<Session>)>
+        requires ours { All (IsSessionOf self) sessions.items }
+        ensures ok { IfOk result (λ book. IsClosed self sessions.items book) }
+        ensures back { IfErr result (λ refused. (refused.1 ≡ self) × (refused.2.items ≡ sessions.items)) }
+        ensures missing { IfErr result (λ refused. refused.0 ≡ CloseFault.Missing → ¬ (IsEachOnce self.sessions sessions.items)) }
+        ensures unsettled { IfErr result (λ refused. refused.0 ≡ CloseFault.Unsettled → IsEachOnce self.sessions sessions.items × ¬ (All HasNothingPending sessions.items)) }
+    {
+        let Office { board } = self;
+        match board.gather(sessions) {
+            Ok(book) => {
+                // what the book tells of its history: whose calls are in it
+                let _length = book.history().len();
+                Ok(book)
+            }
+            Err((fault, board, sessions)) => Err((fault, Office { board }, sessions)),
+        }
     }
 }
