@@ -7,10 +7,11 @@
 pub use rows::Rows;
 pub use std::alloc::AllocError as NoMemory;
 
+mod bits;
 pub mod laws;
+mod matrix;
 mod rows;
 mod search;
-mod square;
 #[cfg(test)]
 mod tests;
 

@@ -4,8 +4,9 @@ ghost use Rattle.std.specs.Prelude.{◌≡◌, ℕ, ◌<◌, ◌≤◌, ◌↔�
 ghost use Rattle.waits_for.specs.Pairs.{pairs_of};
 ghost use Rattle.waits_for.specs.Walks.{Reaches, IsYoungestOnCircle};
 
-use crate::search::{Direction, Found, youngest_in_both};
-use crate::square::Square;
+use crate::bits::{has, words_for};
+use crate::matrix::Matrix;
+use crate::search::{find_circle, find_reached, youngest_in};
 use crate::{MAX_SESSIONS, NoMemory};
 use std::alloc::Global;
 use std::marker::Model;
@@ -16,21 +17,26 @@ use std::marker::Model;
 /// needs, and leave the pairs as they are.
 #[derive(Drop)]
 pub struct Rows {
-    square: Square,
-    forward: Found,
-    backward: Found,
+    matrix: Matrix,
+    reached: Vec<u64>,
+    looked_at: Vec<u64>,
+    circle: Vec<u64>,
+    order: Vec<usize>,
 }
 
 impl Model for Rows {
+    ghost use Rattle.std.specs.Prelude.{◌≡◌, length};
     ghost use Rattle.waits_for.specs.Pairs.{Pairs};
-    ghost use Rattle.waits_for.specs.Search.{HasRoom};
+    ghost use Rattle.waits_for.specs.Bits.{words_for};
 
     ghost Value = { Pairs };
 
-    ghost view = { λ r. r.square };
+    ghost view = { λ r. r.matrix };
 
     ghost invariant = { λ r.
-        HasRoom r.square.sessions r.forward × HasRoom r.square.sessions r.backward };
+        (length r.reached.items ≡ words_for r.matrix.sessions)
+        × (length r.looked_at.items ≡ words_for r.matrix.sessions)
+        × (length r.circle.items ≡ words_for r.matrix.sessions) };
 }
 
 impl Rows {
@@ -41,13 +47,17 @@ impl Rows {
         ensures sessions { IfOk result (λ rows. rows.sessions ≡ sessions) }
         ensures no_pairs { IfOk result (λ rows. (t u : ℕ) → pairs_of rows t u ≡ false) }
     {
-        let square = Square::new(alloc, sessions)?;
-        let forward = Found::new(alloc, sessions)?;
-        let backward = Found::new(alloc, sessions)?;
+        let matrix = Matrix::new(alloc, sessions)?;
+        let reached = vec![in alloc; 0; words_for(sessions)]?;
+        let looked_at = vec![in alloc; 0; words_for(sessions)]?;
+        let circle = vec![in alloc; 0; words_for(sessions)]?;
+        let order = vec![in alloc; 0; sessions as usize]?;
         Ok(Rows {
-            square,
-            forward,
-            backward,
+            matrix,
+            reached,
+            looked_at,
+            circle,
+            order,
         })
     }
 
@@ -57,7 +67,7 @@ impl Rows {
         ensures within { (t u : ℕ) → pairs_of self.now t u ≡ true →
             (t < self.now.sessions) × (u < self.now.sessions) }
     {
-        self.square.sessions()
+        self.matrix.sessions()
     }
 
     /// From now on the session at position `t` waits for the one at position `u`.
@@ -68,7 +78,7 @@ impl Rows {
         ensures pairs { (a b : ℕ) →
             pairs_of self.new a b ≡ (pairs_of self.old a b || ((a == t) && (b == u))) }
     {
-        self.square.set(t, u);
+        self.matrix.set(t, u);
     }
 
     /// From now on the session at position `t` waits for nobody. Others may wait for it still.
@@ -78,7 +88,7 @@ impl Rows {
         ensures pairs { (a b : ℕ) →
             pairs_of self.new a b ≡ (pairs_of self.old a b && not (a == t)) }
     {
-        self.square.clear_row(t);
+        self.matrix.clear_row(t);
     }
 
     /// Whether the session at position `t` waits for the one at position `u`, at once or by way of
@@ -89,8 +99,14 @@ impl Rows {
         ensures walk { IsTrue result ↔ Reaches (pairs_of self.old) t u }
         ensures same { self.new ≡ self.old }
     {
-        self.forward.search(&self.square, Direction::Forward, t);
-        self.forward.marks[u]
+        find_reached(
+            &self.matrix,
+            t,
+            &mut self.reached,
+            &mut self.looked_at,
+            &mut self.order,
+        );
+        has(&self.reached, u)
     }
 
     /// Whether the session at position `t` waits for itself by way of others: it is in a deadlock.
@@ -114,12 +130,18 @@ impl Rows {
         ensures youngest { IfSome result (IsYoungestOnCircle (pairs_of self.old) ages.now t) }
         ensures same { self.new ≡ self.old }
     {
-        self.forward.search(&self.square, Direction::Forward, t);
-        if !self.forward.marks[t] {
+        let matrix = &self.matrix;
+        if !find_circle(
+            matrix,
+            t,
+            &mut self.reached,
+            &mut self.looked_at,
+            &mut self.circle,
+            &mut self.order,
+        ) {
             return None;
         }
-        self.backward.search(&self.square, Direction::Backward, t);
-        youngest_in_both(&self.forward, &self.backward, ages)
+        youngest_in(&self.circle, ages)
     }
 }
 
@@ -130,6 +152,6 @@ pub fn rows_are_their_pairs(a: &Rows, b: &Rows)
     requires pairs { (t u : ℕ) → pairs_of a.now t u ≡ pairs_of b.now t u }
     ensures { a.now ≡ b.now }
 {
-    let _ = a.square.sessions();
-    let _ = b.square.sessions();
+    let _ = a.matrix.sessions();
+    let _ = b.matrix.sessions();
 }

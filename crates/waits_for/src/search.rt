@@ -1,147 +1,151 @@
-//! The search for all that a walk leads to, forward or backward.
+//! The search for all that a walk leads to, forward from a session or back to it.
 
-ghost use Rattle.std.specs.Prelude.{◌≡◌, ℕ, ◌+◌, ◌<◌, ◌↔◌, false, true, ◌&&◌, ◌==◌, IfOk, IsTrue, length};
+ghost use Rattle.std.specs.Prelude.{◌≡◌, ℕ, ◌+◌, ◌<◌, ◌≤◌, ◌↔◌, true, false, ◌&&◌, IsTrue, MatchBool, length};
 ghost use Rattle.std.specs.Option.{ForSome};
 ghost use Rattle.waits_for.specs.Pairs.{pairs_of};
-ghost use Rattle.waits_for.specs.Walks.{Reaches};
-ghost use Rattle.waits_for.specs.Search.{directed, is_in, in_both, younger};
-ghost use Rattle.waits_for.specs.Search.{HasRoom, IsFound, Adds, IsBestBelow};
+ghost use Rattle.waits_for.specs.Walks.{Reaches, AreOnCircle};
+ghost use Rattle.waits_for.specs.Bits.{has_bit, words_for, unset_below};
+ghost use Rattle.waits_for.specs.Search.{IsBestBelow, IsClosedBack, TakesIn, younger};
 
-use crate::square::Square;
-use std::alloc::{AllocError, Global};
+use crate::bits::{clear, first_apart, has, have_common, set};
+use crate::matrix::Matrix;
+use mode_lanes::{and_into, or_into};
 
-/// Which way a search goes.
-#[derive(Clone, Copy)]
-pub enum Direction {
-    /// To those that a session waits for.
-    Forward,
-    /// To those that wait for a session.
-    Backward,
-}
-
-/// Those that a search found, marked, and listed in the order in which they were found.
-#[derive(Drop)]
-pub struct Found {
-    pub marks: Vec<bool>,
-    pub members: Vec<usize>,
-    pub count: usize,
-}
-
-impl Found {
-    pub(crate) fn new(alloc: Global, sessions: u16) -> Result<Found, AllocError>
-        ensures { IfOk result (HasRoom sessions) }
-    {
-        let marks = vec![in alloc; false; sessions as usize]?;
-        let members = vec![in alloc; 0; sessions as usize]?;
-        Ok(Found {
-            marks,
-            members,
-            count: 0,
-        })
-    }
-
-    /// Finds those that a walk from `t` leads to. It looks at the row of `t`, and once at that of each
-    /// member that it finds.
-    pub(crate) fn search(&mut self, square: &Square, direction: Direction, t: usize)
-        requires t_below { t < square.now.sessions }
-        requires room { HasRoom square.now.sessions self.old }
-        ensures room { HasRoom square.now.sessions self.new }
-        ensures found { IsFound self.new }
-        ensures reached { (u : ℕ) →
-            IsTrue (is_in self.new u) ↔ Reaches (directed direction (pairs_of square.now)) t u }
-    {
-        self.clear();
-        self.spread(square, direction, t);
-        let mut next = 0;
-        while next < self.count {
-            let v = self.members[next];
-            self.spread(square, direction, v);
-            next += 1;
-        }
-    }
-
-    fn clear(&mut self)
-        requires { length self.old.members.items ≡ length self.old.marks.items }
-        ensures found { IsFound self.new }
-        ensures none { (k : ℕ) → is_in self.new k ≡ false }
-        ensures room { length self.new.marks.items ≡ length self.old.marks.items }
-    {
-        for k in 0..self.marks.len() {
-            self.marks[k] = false;
-        }
-        self.count = 0;
-    }
-
-    /// Takes in those that a session leads to in one step.
-    fn spread(&mut self, square: &Square, direction: Direction, from: usize)
-        requires from_below { from < square.now.sessions }
-        requires room { HasRoom square.now.sessions self.old }
-        requires found { IsFound self.old }
-        ensures { Adds (directed direction (pairs_of square.now) from) self.old self.new }
-    {
-        let sessions = square.sessions() as usize;
-        for v in 0..sessions {
-            self.visit(square, direction, from, v);
-        }
-    }
-
-    fn visit(&mut self, square: &Square, direction: Direction, from: usize, v: usize)
-        requires from_below { from < square.now.sessions }
-        requires v_below { v < square.now.sessions }
-        requires room { HasRoom square.now.sessions self.old }
-        requires found { IsFound self.old }
-        ensures { Adds (λ k. (k == v) && directed direction (pairs_of square.now) from v) self.old self.new }
-    {
-        if !self.marks[v] && leads(square, direction, from, v) {
-            self.add(v);
-        }
-    }
-
-    fn add(&mut self, v: usize)
-        requires v_below { v < length self.old.marks.items }
-        requires found { IsFound self.old }
-        requires not_yet { is_in self.old v ≡ false }
-        ensures { Adds (λ k. k == v) self.old self.new }
-    {
-        let place = self.count;
-        self.members[place] = v;
-        self.marks[v] = true;
-        self.count = place + 1;
-    }
-}
-
-fn leads(square: &Square, direction: Direction, t: usize, u: usize) -> bool
-    requires t_below { t < square.now.sessions }
-    requires u_below { u < square.now.sessions }
-    ensures { result ≡ directed direction (pairs_of square.now) t u }
+/// Finds those that are on a circle with `t`, and tells whether there is one.
+pub(crate) fn find_circle(
+    matrix: &Matrix,
+    t: usize,
+    reached: &mut [u64],
+    looked_at: &mut [u64],
+    circle: &mut [u64],
+    order: &mut [usize],
+) -> bool
+    requires t_below { t < matrix.now.sessions }
+    requires reached_room { length reached.old ≡ words_for matrix.now.sessions }
+    requires looked_at_room { length looked_at.old ≡ words_for matrix.now.sessions }
+    requires circle_room { length circle.old ≡ words_for matrix.now.sessions }
+    ensures found { IsTrue result ↔ Reaches (pairs_of matrix.now) t t }
+    ensures circle { result ≡ true →
+        (u : ℕ) → IsTrue (has_bit circle.new u) ↔ AreOnCircle (pairs_of matrix.now) t u }
 {
-    match direction {
-        Direction::Forward => square.has(t, u),
-        Direction::Backward => square.has(u, t),
+    let count = find_reached(matrix, t, reached, looked_at, order);
+    if !has(reached, t) {
+        return false;
+    }
+    find_leading(matrix, t, circle, &order[..count]);
+    and_into(circle, reached);
+    true
+}
+
+/// Finds those that a walk from `t` leads to, and lists them in the order found, as far as `order` has
+/// room; it tells how many. `looked_at` is room for those whose rows were added: each row is added once
+/// at most.
+pub(crate) fn find_reached(
+    matrix: &Matrix,
+    t: usize,
+    reached: &mut [u64],
+    looked_at: &mut [u64],
+    order: &mut [usize],
+) -> usize
+    requires t_below { t < matrix.now.sessions }
+    requires reached_room { length reached.old ≡ words_for matrix.now.sessions }
+    requires looked_at_room { length looked_at.old ≡ words_for matrix.now.sessions }
+    ensures reached { (u : ℕ) →
+        IsTrue (has_bit reached.new u) ↔ Reaches (pairs_of matrix.now) t u }
+    ensures listed { result ≤ length order.new }
+{
+    clear(reached, 0, reached.len());
+    clear(looked_at, 0, looked_at.len());
+    or_into(reached, matrix.row(t));
+    let mut count = 0;
+    while let Some(v) = first_apart(reached, looked_at) {
+        set(looked_at, v);
+        or_into(reached, matrix.row(v));
+        if count < order.len() {
+            order[count] = v;
+            count += 1;
+        }
+    }
+    count
+}
+
+/// Finds those from whom a walk leads to `t`, which is on a circle.
+///
+/// Those listed are looked at first, the last one first: listed in the order found by a search forward,
+/// they all come in at once, mostly. Then all sessions are looked at until nobody is missing.
+pub(crate) fn find_leading(matrix: &Matrix, t: usize, leading: &mut [u64], listed: &[usize])
+    requires t_below { t < matrix.now.sessions }
+    requires room { length leading.old ≡ words_for matrix.now.sessions }
+    requires on_circle { Reaches (pairs_of matrix.now) t t }
+    ensures { (u : ℕ) → IsTrue (has_bit leading.new u) ↔ Reaches (pairs_of matrix.now) u t }
+{
+    clear(leading, 0, leading.len());
+    set(leading, t);
+    take_in_listed(matrix, leading, listed);
+    while take_in_all(matrix, leading) {}
+}
+
+/// Takes in those listed that wait for one of the set, from the last to the first.
+fn take_in_listed(matrix: &Matrix, leading: &mut [u64], listed: &[usize])
+    requires { length leading.old ≡ words_for matrix.now.sessions }
+    ensures { TakesIn (pairs_of matrix.now) leading.old leading.new }
+{
+    let sessions = matrix.sessions() as usize;
+    for k in (0..listed.len()).rev() {
+        let u = listed[k];
+        if u < sessions {
+            take_in(matrix, leading, u);
+        }
     }
 }
 
-/// Of those that both searches found, the one with the greatest age, the first of them on a tie.
-pub(crate) fn youngest_in_both(there: &Found, back: &Found, ages: &[u64]) -> Option<usize>
-    requires there_room { length there.now.marks.items ≡ length ages.now }
-    requires back_room { length back.now.marks.items ≡ length ages.now }
-    ensures { IsBestBelow (in_both there.now back.now) ages.now (length ages.now) result }
+/// Takes in each session that waits for one of the set, and tells whether there was any.
+fn take_in_all(matrix: &Matrix, leading: &mut [u64]) -> bool
+    requires { length leading.old ≡ words_for matrix.now.sessions }
+    ensures takes { TakesIn (pairs_of matrix.now) leading.old leading.new }
+    ensures more { result ≡ true →
+        unset_below matrix.now.sessions leading.new < unset_below matrix.now.sessions leading.old }
+    ensures closed { result ≡ false → IsClosedBack (pairs_of matrix.now) leading.new }
+{
+    let mut grew = false;
+    for u in 0..matrix.sessions() as usize {
+        if take_in(matrix, leading, u) {
+            grew = true;
+        }
+    }
+    grew
+}
+
+/// Takes one session in, if it waits for one of the set and isn't in it.
+fn take_in(matrix: &Matrix, leading: &mut [u64], u: usize) -> bool
+    requires u_below { u < matrix.now.sessions }
+    requires room { length leading.old ≡ words_for matrix.now.sessions }
+    ensures takes { TakesIn (pairs_of matrix.now) leading.old leading.new }
+    ensures more { result ≡ true →
+        unset_below matrix.now.sessions leading.new < unset_below matrix.now.sessions leading.old }
+    ensures same { result ≡ false → leading.new ≡ leading.old }
+    ensures closed { result ≡ false → (v : ℕ) → pairs_of matrix.now u v ≡ true →
+        has_bit leading.old v ≡ true → has_bit leading.old u ≡ true }
+{
+    if has(leading, u) || !have_common(matrix.row(u), leading) {
+        return false;
+    }
+    set(leading, u);
+    true
+}
+
+/// Of those in a set, the one with the greatest age, the first of them on a tie.
+pub(crate) fn youngest_in(set: &[u64], ages: &[u64]) -> Option<usize>
+    requires { words_for (length ages.now) ≤ length set.now }
+    ensures { IsBestBelow (has_bit set.now) ages.now (length ages.now) result }
 {
     let mut best = None;
     for u in 0..ages.len() {
-        if is_in_both(there, back, u) {
+        if has(set, u) {
             best = Some(younger_of(ages, best, u));
         }
     }
     best
-}
-
-fn is_in_both(there: &Found, back: &Found, u: usize) -> bool
-    requires there_room { u < length there.now.marks.items }
-    requires back_room { u < length back.now.marks.items }
-    ensures { result ≡ in_both there.now back.now u }
-{
-    there.marks[u] && back.marks[u]
 }
 
 fn younger_of(ages: &[u64], best: Option<usize>, u: usize) -> usize

@@ -1,14 +1,15 @@
-use Rattle.std.proofs.Common.{◌≡◌, length, sym, ◌∙◌, ap}
+use Rattle.std.proofs.Common.{◌≡◌, length, drop, ◌∙◌, ap, arith}
+use Rattle.std.proofs.lemmas.List.{take_at}
 use Rattle.waits_for.specs.Pairs.{Pairs, pairs_of}
-use Rattle.waits_for.proofs.Youngest.{youngest-on_circle, youngest-is}
+use Rattle.waits_for.proofs.Walks.{reaches-within}
+use Rattle.waits_for.proofs.Youngest.{youngest-is}
 use Rattle.waits_for.proofs.rows.Rows.youngest_on_circle.Goals as goal
-
-pub returns-clause-on_circle : goal.returns-clause-on_circle
-returns-clause-on_circle c =
-    let room : length c.search.new.self.marks.items ≡ length c.args.ages.now = c.search.ensures.room.marks ∙ (ap (λ (p : Pairs). p.sessions) c.self.view_is ∙ sym c.requires.an_age_each) in
-    rw (← c.self.view_is) (youngest-on_circle (pairs_of c.self.inside.square) c.args.ages.now c.args.t c.search.new.self c.search-2.new.self room c.search.ensures.reached c.search-2.ensures.reached c.youngest_in_both.result c.youngest_in_both.ensures)
 
 pub returns-clause-youngest : goal.returns-clause-youngest
 returns-clause-youngest c =
-    let room : length c.search.new.self.marks.items ≡ length c.args.ages.now = c.search.ensures.room.marks ∙ (ap (λ (p : Pairs). p.sessions) c.self.view_is ∙ sym c.requires.an_age_each) in
-    rw (← c.self.view_is) (youngest-is (pairs_of c.self.inside.square) c.args.ages.now c.args.t c.search.new.self c.search-2.new.self room c.search.ensures.reached c.search-2.ensures.reached c.youngest_in_both.result c.youngest_in_both.ensures)
+    let w = c.self.inside.circle in
+    let new = c.find_circle.new.circle in
+    let whole : c.deref.result.now ≡ new = c.deref.ensures.value ∙ take_at new (drop (length new) w.items) w.len (c.find_circle.auto.circle ∙ c.deref_mut-3.ensures.len) in
+    let sessions = ap (λ (p : Pairs). p.sessions) c.self.view_is in
+    let on = c.find_circle.ensures.circle c.if-not-find_circle.false in
+    rw (← c.self.view_is) (youngest-is (pairs_of c.self.inside.matrix) c.args.ages.now c.args.t new (λ u. (on u).0) (λ u. (on u).1) (λ u h. omega (arith, reaches-within c.self.inside.matrix c.args.t u h.there, sessions, c.requires.an_age_each)) c.youngest_in.result (rw whole at c.youngest_in.ensures))

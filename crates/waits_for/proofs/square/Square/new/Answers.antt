@@ -1,5 +1,0 @@
-use Rattle.waits_for.proofs.Places.{pairs_of-none}
-use Rattle.waits_for.proofs.square.Square.new.Goals as goal
-
-pub returns-clause-no_pairs : goal.returns-clause-no_pairs
-returns-clause-no_pairs c = pairs_of-none c.args.sessions c.in_ok-marks.marks.items (c.in_ok-marks.ensures.items_if_clones_equal (λ y e. e))

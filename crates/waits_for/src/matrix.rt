@@ -1,0 +1,91 @@
+//! The pairs, kept as a matrix of bits.
+
+ghost use Rattle.std.specs.Prelude.{◌≡◌, ℕ, ◌+◌, ◌*◌, ◌<◌, ◌≤◌, false, ◌&&◌, ◌||◌, not, ◌==◌, IfOk, length};
+ghost use Rattle.waits_for.specs.Bits.{has_bit, words_for};
+ghost use Rattle.waits_for.specs.Pairs.{pairs_of, seen_by};
+
+use crate::bits::{clear, set, words_for};
+use std::alloc::{AllocError, Global};
+use std::marker::Model;
+
+/// A row of bits for each session, which says of each whether it waits for it. Rows are whole words, one behind another,
+/// and bits past the last session stay 0, so that kernels over rows see sessions alone.
+#[derive(Drop)]
+pub struct Matrix {
+    sessions: u16,
+    words: Vec<u64>,
+}
+
+impl Model for Matrix {
+    ghost use Rattle.std.specs.Prelude.{◌≡◌, ◌*◌, length};
+    ghost use Rattle.waits_for.specs.Pairs.{Pairs, seen_by};
+    ghost use Rattle.waits_for.specs.Bits.{IsClearPast, marked_in, words_for};
+
+    ghost Value = { Pairs };
+
+    ghost view = { λ m. seen_by m.sessions (marked_in m.sessions m.words.items) };
+
+    ghost invariant = { λ m.
+        (length m.words.items ≡ m.sessions * words_for m.sessions)
+        × IsClearPast m.sessions m.words.items };
+}
+
+impl Matrix {
+    pub(crate) fn new(alloc: Global, sessions: u16) -> Result<Matrix, AllocError>
+        ensures sessions { IfOk result (λ matrix. matrix.sessions ≡ sessions) }
+        ensures no_pairs { IfOk result (λ matrix. (t u : ℕ) → pairs_of matrix t u ≡ false) }
+    {
+        let words = vec![in alloc; 0; sessions as usize * words_for(sessions)]?;
+        Ok(Matrix { sessions, words })
+    }
+
+    pub(crate) fn sessions(&self) -> u16
+        ensures sessions { result ≡ self.now.sessions }
+        ensures whole { self.now ≡ seen_by self.now.sessions (pairs_of self.now) }
+    {
+        self.sessions
+    }
+
+    /// The row of the session at position `t`: whom it waits for at once.
+    pub(crate) fn row(&self, t: usize) -> &[u64]
+        requires { t < self.now.sessions }
+        ensures room { length result.now ≡ words_for self.now.sessions }
+        ensures few { length result.now ≤ 1024 }
+        ensures bits { (u : ℕ) → has_bit result.now u ≡ pairs_of self.now t u }
+    {
+        let width = words_for(self.sessions);
+        let from = row_start(self.sessions, t);
+        &self.words[from..from + width]
+    }
+
+    pub(crate) fn set(&mut self, t: usize, u: usize)
+        requires t_below { t < self.old.sessions }
+        requires u_below { u < self.old.sessions }
+        ensures sessions { self.new.sessions ≡ self.old.sessions }
+        ensures pairs { (a b : ℕ) →
+            pairs_of self.new a b ≡ (pairs_of self.old a b || ((a == t) && (b == u))) }
+    {
+        let place = row_start(self.sessions, t) * 64 + u;
+        set(&mut self.words, place);
+    }
+
+    pub(crate) fn clear_row(&mut self, t: usize)
+        requires { t < self.old.sessions }
+        ensures sessions { self.new.sessions ≡ self.old.sessions }
+        ensures pairs { (a b : ℕ) →
+            pairs_of self.new a b ≡ (pairs_of self.old a b && not (a == t)) }
+    {
+        let from = row_start(self.sessions, t);
+        clear(&mut self.words, from, words_for(self.sessions));
+    }
+}
+
+/// Where the words of a row begin.
+fn row_start(sessions: u16, t: usize) -> usize
+    requires { t < sessions }
+    ensures start { result ≡ t * words_for sessions }
+    ensures within { result + words_for sessions ≤ sessions * words_for sessions }
+    ensures small { words_for sessions ≤ 1024 }
+{
+    t * words_for(sessions)
+}
