@@ -1,12 +1,10 @@
 -- The parent is what stands before the last number.
-use Rattle.std.proofs.Common.{◌≡◌, ℕ, suc, ◌-◌, ◌<◌, take, List, [], ◌∷◌, length, refl, ap, arith}
+use Rattle.std.proofs.Common.{◌≡◌, ℕ, zero, suc, ◌<◌, take, set, List, [], ◌∷◌, length, refl, ap, arith}
 use Rattle.lock_tree.specs.Paths.{parent_of}
 
-front-parent : (x : ℕ) (xs : List ℕ) → take (length xs) (x ∷ xs) ≡ parent_of (x ∷ xs)
-front-parent x [] = refl
-front-parent x (y ∷ ys) = ap (λ (zs : List ℕ). x ∷ zs) (front-parent y ys)
-
--- all numbers but the last
-pub parent_of-take : (r : List ℕ) → 0 < length r → take (length r - 1) r ≡ parent_of r
-parent_of-take [] h = absurd (omega (arith, h))
-parent_of-take (x ∷ xs) h = let n : suc (length xs) - 1 ≡ length xs = omega arith in rw n (front-parent x xs)
+-- with one number written over, what stands before it is the parent of what ends with it
+pub parent_of-set : (n : ℕ) (xs : List ℕ) (v : ℕ) → n < length xs → take n (set xs n v) ≡ parent_of (take (suc n) xs)
+parent_of-set n [] v lt = absurd (omega (arith, lt))
+parent_of-set zero (x ∷ xs) v lt = refl
+parent_of-set (suc n) (x ∷ []) v lt = absurd (omega (arith, lt))
+parent_of-set (suc n) (x ∷ y ∷ ys) v lt = ap (λ (zs : List ℕ). x ∷ zs) (parent_of-set n (y ∷ ys) v (omega (arith, lt)))

@@ -5,3 +5,4 @@ pub mod Digits
 pub mod Faults
 pub mod Readings
 pub mod Fields
+pub mod Hashes

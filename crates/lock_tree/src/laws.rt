@@ -1,12 +1,15 @@
 //! What holds of resources and of their text.
 
-ghost use Rattle.std.specs.Prelude.{◌≡◌, ℕ, ◌<◌, ◌≤◌, ◌^◌, ◌↔◌, ◌⊎◌, List, true, None, Ok, decimal};
+ghost use Rattle.std.specs.Prelude.{◌≡◌, ℕ, ◌+◌, ◌/◌, ◌<◌, ◌≤◌, ◌^◌, ◌↔◌, ◌⊎◌, List, length, true, None, Ok, decimal};
 ghost use Rattle.lock_tree.specs.Numerals.{fault_of_numeral, reading_of_numeral};
 ghost use Rattle.lock_tree.specs.Paths.{IsResource, IsAncestor, IsLongestAncestor, is_ancestor, has_parent, parent_of, same_path, path_cmp};
 ghost use Rattle.lock_tree.specs.Text.{text_of};
 ghost use Rattle.lock_tree.specs.Faults.{fault_of};
+ghost use Rattle.lock_tree.specs.Hashes.{hash_input_of};
 
+use crate::levels::LEVELS;
 use crate::resource::Resource;
+use std::hash::Hash;
 
 /// The test for the same resource is equality of all numbers, and `==` makes that test.
 pub fn same_path_is_equality()
@@ -41,6 +44,15 @@ pub fn parents_are_the_longest_ancestors()
         → has_parent r ≡ true → IsLongestAncestor (parent_of r) r }
     ensures above { (a r : List ℕ)
         → IsAncestor a r → (a ≡ parent_of r) ⊎ IsAncestor a (parent_of r) }
+{}
+
+/// Equal resources hash alike: what a hash is fed follows from the numbers. It is one write for every two numbers that
+/// a resource may have.
+pub fn equal_resources_hash_alike()
+    ensures alike { (a b : List ℕ) → same_path a b ≡ true
+        → ⟦<Resource as Hash>⟧.hash_input a ≡ ⟦<Resource as Hash>⟧.hash_input b }
+    ensures words { (r : List ℕ) → ⟦<Resource as Hash>⟧.hash_input r ≡ hash_input_of r }
+    ensures writes { (r : List ℕ) → length (hash_input_of r) ≡ (LEVELS + 1) / 2 }
 {}
 
 /// Resources are ordered by their numbers, a front before what continues it.

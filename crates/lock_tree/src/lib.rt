@@ -11,8 +11,8 @@ mod resource;
 mod tests;
 
 pub use laws::{
-    numerals_are_decimals, order_is_by_numbers, parents_are_the_longest_ancestors,
-    same_path_is_equality, texts_are_of_resources,
+    equal_resources_hash_alike, numerals_are_decimals, order_is_by_numbers,
+    parents_are_the_longest_ancestors, same_path_is_equality, texts_are_of_resources,
 };
 pub use levels::LEVELS;
 pub use numeral::{NumeralFault, parse_numeral};

@@ -1,9 +1,10 @@
 //! A resource: the numbers on the way down the lock tree.
 
-ghost use Rattle.std.specs.Prelude.{◌≡◌, ◌↔◌, ℕ, List, Some, Ok, Err, true, length, IsTrue, IsSome, IfSome};
+ghost use Rattle.std.specs.Prelude.{◌≡◌, ◌<◌, ◌↔◌, ℕ, List, Some, Ok, Err, true, length, IsTrue, IsSome, IfSome};
 ghost use Rattle.lock_tree.specs.Paths.{IsResource, IsAncestor, is_ancestor, is_front, has_parent, parent_of};
 ghost use Rattle.lock_tree.specs.Text.{text_of};
 ghost use Rattle.lock_tree.specs.Faults.{fault_of};
+ghost use Rattle.lock_tree.specs.Hashes.{word_at, hash_input_of};
 ghost use Rattle.lock_tree.specs.Readings.{reading_of};
 ghost use Rattle.lock_tree.specs.declared.path_fault.PathFault.{PathFault as FaultValue};
 
@@ -11,13 +12,17 @@ use crate::levels::LEVELS;
 use crate::path_fault::PathFault;
 use crate::piece::read_piece;
 use std::fmt;
+use std::hash::{Hash, Hasher};
 use std::marker::Model;
+
+// How many words of 64 bits have all numbers, two in each.
+const WORDS: usize = (LEVELS + 1) / 2;
 
 /// A node of the lock tree, by 1 to `LEVELS` numbers from 0 to 4294967295, that of the top first.
 ///
 /// It is small and copied freely. The order is number by number, a front before what continues
 /// it, so that an ancestor stands before its descendants.
-#[derive(Clone, Copy, Debug, PartialEq, Eq, PartialOrd, Ord, Hash)]
+#[derive(Clone, Copy, Debug, PartialEq, Eq, PartialOrd, Ord)]
 pub struct Resource {
     numbers: [u32; LEVELS],
     level: u8,
@@ -105,8 +110,16 @@ impl Resource {
         ensures some { IsSome result ↔ (has_parent self.now ≡ true) }
         ensures value { IfSome result (λ parent. parent ≡ parent_of self.now) }
     {
-        let numbers = self.numbers();
-        Resource::from_numbers(&numbers[..numbers.len() - 1])
+        if self.level <= 1 {
+            return None;
+        }
+        let last = self.level - 1;
+        let mut numbers = self.numbers;
+        numbers[last as usize] = 0;
+        Some(Resource {
+            numbers,
+            level: last,
+        })
     }
 
     /// Whether this resource stands above the other one, at any height. None stands above itself.
@@ -117,6 +130,20 @@ impl Resource {
         let numbers = self.numbers();
         let others = other.numbers();
         is_front(numbers, others)
+    }
+
+    // The numbers at 2k and 2k + 1, side by side.
+    fn word(&self, k: usize) -> u64
+        requires { k < WORDS }
+        ensures { result ≡ word_at self.now k }
+    {
+        let lower = self.numbers[2 * k] as u64;
+        let upper = if 2 * k + 1 < LEVELS {
+            self.numbers[2 * k + 1] as u64
+        } else {
+            0
+        };
+        (upper << 32) + lower
     }
 
     /// The numbers, that of the top first.
@@ -134,6 +161,22 @@ fn is_front(numbers: &[u32], others: &[u32]) -> bool
 {
     let count = numbers.len();
     count < others.len() && numbers == &others[..count]
+}
+
+/// Feeds two numbers at a time, since most hashers multiply once for each write. The level is left out, so that
+/// resources share a hash where they differ by zeros at the end alone. That is this project's own choice.
+impl Hash for Resource {
+    ghost use Rattle.lock_tree.specs.Hashes.{equal_hash_alike};
+
+    ghost hash_input = { hash_input_of };
+
+    ghost respects_eq = { equal_hash_alike };
+
+    fn hash<H: Hasher>(&self, state: &mut H) {
+        for k in 0..WORDS {
+            state.write_u64(self.word(k));
+        }
+    }
 }
 
 /// Writes the numbers in decimal, with a `/` between each two. That is this project's own choice.

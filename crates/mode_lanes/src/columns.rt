@@ -7,7 +7,7 @@ ghost use Rattle.mode_lanes.specs.Masks.{union_of, meets};
 
 use std::simd::prelude::*;
 
-// The widest vector that every processor of this kind has; wider ones gained nothing that lasts.
+// One vector register of every 64-bit x86 processor; wider ones gained nothing that lasted.
 const LANES: usize = 16;
 
 /// The bits that are set in some byte of the column, 0 where it is empty.

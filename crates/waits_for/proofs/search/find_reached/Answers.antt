@@ -1,4 +1,4 @@
-use Rattle.std.proofs.Common.{refl, eqb, ◌∙◌, length-set, arith}
+use Rattle.std.proofs.Common.{refl, eqb, length, ◌∙◌, length-set, arith}
 use Rattle.std.proofs.lemmas.Bool.{or_left, or_right, eq-eqb}
 use Rattle.waits_for.specs.Pairs.{pairs_of}
 use Rattle.waits_for.specs.Bits.{has_bit}
@@ -8,13 +8,13 @@ use Rattle.waits_for.proofs.search.find_reached.Goals as goal
 
 pub loop-v-init : goal.loop-v-init
 loop-v-init c =
-    let none = bit-all_cleared c.args.reached.now c.clear.new.words _ (omega arith) c.clear.ensures in
+    let none = bit-all_cleared c.args.reached.now c.clear.new.words (length c.args.reached.now) (omega arith) c.clear.ensures in
     record {
       room = omega (arith, c.or_into.auto.row, c.clear.auto.words, c.requires.reached_room);
       room_too = omega (arith, c.clear-2.auto.words, c.requires.looked_at_room);
       search = search_begun (pairs_of c.args.matrix.now) c.args.t c.row.result.now c.or_into.new.row c.clear-2.new.words c.row.ensures.bits
           (λ u. bit-or c.clear.new.words c.row.result.now c.or_into.new.row c.or_into.auto.row (omega (arith, c.clear.auto.words, c.requires.reached_room, c.row.ensures.room)) c.or_into.ensures.words u ∙ rw (none u) refl)
-          (bit-all_cleared c.args.looked_at.now c.clear-2.new.words _ (omega arith) c.clear-2.ensures);
+          (bit-all_cleared c.args.looked_at.now c.clear-2.new.words (length c.args.looked_at.now) (omega arith) c.clear-2.ensures);
       listed = omega arith;
     }
 
