@@ -25,22 +25,26 @@ hits mask n xs long le =
     ∙ ap (λ (l : List ℕ). mask_l (map (λ x. not (eqb x 0)) l)) (zip2_splat bit_and xs n mask long) ∙ ap mask_l (map-map (λ x. not (eqb x 0)) (λ x. bit_and x mask) xs)
 
 -- 1 at each lane that has a bit of the mask, and 0 elsewhere
-pub marked : (mask : ℕ) (n : ℕ) (xs : List ℕ) → length xs ≡ n → (j : ℕ) → j < n → ◌≡◌ {A = ℕ} (get_or (sel_l (map (top 7) (zip2 (λ a b. cond (not (eqb a b)) 255 0) (zip2 bit_and xs (replicate n mask)) (replicate n 0))) (replicate n 1) (replicate n 0)) j 0) (cond (meets mask (get_or xs j 0)) 1 0)
-marked mask n xs full j lt =
-    ap (λ (ms : List Bool). get_or (sel_l ms (replicate n 1) (replicate n 0)) j 0) (tops_compared w8 (λ a b. not (eqb a b)) (zip2 bit_and xs (replicate n mask)) (replicate n 0))
-    ∙ get_or-sel_l (zip2 (λ a b. not (eqb a b)) (zip2 bit_and xs (replicate n mask)) (replicate n 0)) (replicate n 1) (replicate n 0) j 0 (omega (arith, tests, lt)) (omega (arith, length-replicate {A = ℕ} n 1, lt)) (omega (arith, length-replicate {A = ℕ} n 0, lt))
-    ∙ rw (get_or-replicate {A = ℕ} n j 1 0 lt) (rw (get_or-replicate {A = ℕ} n j 0 0 lt) (ap (λ (b : Bool). cond b 1 0) test))
-  where
-    long : length (zip2 bit_and xs (replicate n mask)) ≡ n
-    long = length-zip2 bit_and xs (replicate n mask) (full ∙ sym (length-replicate {A = ℕ} n mask)) ∙ full
+module _ (mask n : ℕ) (xs : List ℕ) (full : length xs ≡ n) where
+  long : length (zip2 bit_and xs (replicate n mask)) ≡ n
+  long = length-zip2 bit_and xs (replicate n mask) (full ∙ sym (length-replicate {A = ℕ} n mask)) ∙ full
 
-    tests : length (zip2 (λ a b. not (eqb a b)) (zip2 bit_and xs (replicate n mask)) (replicate n 0)) ≡ n
-    tests = length-zip2 (λ a b. not (eqb a b)) (zip2 bit_and xs (replicate n mask)) (replicate n 0) (long ∙ sym (length-replicate {A = ℕ} n 0)) ∙ long
+  tests : length (zip2 (λ a b. not (eqb a b)) (zip2 bit_and xs (replicate n mask)) (replicate n 0)) ≡ n
+  tests = length-zip2 (λ a b. not (eqb a b)) (zip2 bit_and xs (replicate n mask)) (replicate n 0) (long ∙ sym (length-replicate {A = ℕ} n 0)) ∙ long
 
-    test : get_or (zip2 (λ a b. not (eqb a b)) (zip2 bit_and xs (replicate n mask)) (replicate n 0)) j false ≡ meets mask (get_or xs j 0)
-    test =
-        get_or-zip2 (λ a b. not (eqb a b)) (zip2 bit_and xs (replicate n mask)) (replicate n 0) j 0 0 false (omega (arith, long, lt)) (omega (arith, length-replicate {A = ℕ} n 0, lt))
-        ∙ rw (get_or-replicate {A = ℕ} n j 0 0 lt) (rw (get_or-zip2 bit_and xs (replicate n mask) j 0 0 0 (omega (arith, full, lt)) (omega (arith, length-replicate {A = ℕ} n mask, lt))) (rw (get_or-replicate n j mask 0 lt) refl))
+  test : (j : ℕ) → j < n → get_or (zip2 (λ a b. not (eqb a b)) (zip2 bit_and xs (replicate n mask)) (replicate n 0)) j false ≡ meets mask (get_or xs j 0)
+  test j lt =
+      get_or-zip2 (λ a b. not (eqb a b)) (zip2 bit_and xs (replicate n mask)) (replicate n 0) j 0 0 false (omega (arith, long, lt)) (omega (arith, length-replicate {A = ℕ} n 0, lt))
+      ∙ rw (get_or-replicate {A = ℕ} n j 0 0 lt) (rw (get_or-zip2 bit_and xs (replicate n mask) j 0 0 0 (omega (arith, full, lt)) (omega (arith, length-replicate {A = ℕ} n mask, lt))) (rw (get_or-replicate n j mask 0 lt) refl))
+
+  pub marked : (j : ℕ) → j < n → ◌≡◌ {A = ℕ} (get_or (sel_l (map (top 7) (zip2 (λ a b. cond (not (eqb a b)) 255 0) (zip2 bit_and xs (replicate n mask)) (replicate n 0))) (replicate n 1) (replicate n 0)) j 0) (cond (meets mask (get_or xs j 0)) 1 0)
+  marked j lt =
+      ap (λ (ms : List Bool). get_or (sel_l ms (replicate n 1) (replicate n 0)) j 0) (tops_compared w8 (λ a b. not (eqb a b)) (zip2 bit_and xs (replicate n mask)) (replicate n 0))
+      ∙ get_or-sel_l (zip2 (λ a b. not (eqb a b)) (zip2 bit_and xs (replicate n mask)) (replicate n 0)) (replicate n 1) (replicate n 0) j 0 (omega (arith, tests, lt)) (omega (arith, length-replicate {A = ℕ} n 1, lt)) (omega (arith, length-replicate {A = ℕ} n 0, lt))
+      ∙ rw (get_or-replicate {A = ℕ} n j 1 0 lt) (rw (get_or-replicate {A = ℕ} n j 0 0 lt) (ap (λ (b : Bool). cond b 1 0) (test j lt)))
+
+  pub length-marks : length {A = ℕ} (sel_l (map (top 7) (zip2 (λ a b. cond (not (eqb a b)) 255 0) (zip2 bit_and xs (replicate n mask)) (replicate n 0))) (replicate n 1) (replicate n 0)) ≡ n
+  length-marks = ap (λ (ms : List Bool). length {A = ℕ} (sel_l ms (replicate n 1) (replicate n 0))) (tops_compared w8 (λ a b. not (eqb a b)) (zip2 bit_and xs (replicate n mask)) (replicate n 0)) ∙ length-sel_l _ (replicate n 1) (replicate n 0) (tests ∙ sym (length-replicate {A = ℕ} n 1)) (tests ∙ sym (length-replicate {A = ℕ} n 0)) ∙ tests
 
 -- a chunk more of marks
 pub marks-chunk : (p : ℕ → Bool) (xs marks vs : List ℕ) (at w : ℕ) → length vs ≡ w → at + w ≤ length marks → ((k : ℕ) → k < at → ◌≡◌ {A = ℕ} (get_or marks k 0) (cond (p (get_or xs k 0)) 1 0)) → ((j : ℕ) → j < w → ◌≡◌ {A = ℕ} (get_or vs j 0) (cond (p (get_or xs (at + j) 0)) 1 0)) → (k : ℕ) → k < at + w → ◌≡◌ {A = ℕ} (get_or (put_chunk at marks vs) k 0) (cond (p (get_or xs k 0)) 1 0)
@@ -51,12 +55,3 @@ marks-chunk p xs marks vs at w long le before each k below = elim (cases_lt k at
       let small : k - at < w = omega (arith, below, not_less) in
       rw e at (get_or-put_chunk_at at marks vs (k - at) 0 (omega (arith, long, small)) (omega (arith, long, le)) ∙ each (k - at) small)
 ]
-
-pub length-marks : (mask : ℕ) (n : ℕ) (xs : List ℕ) → length xs ≡ n → length {A = ℕ} (sel_l (map (top 7) (zip2 (λ a b. cond (not (eqb a b)) 255 0) (zip2 bit_and xs (replicate n mask)) (replicate n 0))) (replicate n 1) (replicate n 0)) ≡ n
-length-marks mask n xs full = ap (λ (ms : List Bool). length {A = ℕ} (sel_l ms (replicate n 1) (replicate n 0))) (tops_compared w8 (λ a b. not (eqb a b)) (zip2 bit_and xs (replicate n mask)) (replicate n 0)) ∙ length-sel_l _ (replicate n 1) (replicate n 0) (tests ∙ sym (length-replicate {A = ℕ} n 1)) (tests ∙ sym (length-replicate {A = ℕ} n 0)) ∙ tests
-  where
-    long : length (zip2 bit_and xs (replicate n mask)) ≡ n
-    long = length-zip2 bit_and xs (replicate n mask) (full ∙ sym (length-replicate {A = ℕ} n mask)) ∙ full
-
-    tests : length (zip2 (λ a b. not (eqb a b)) (zip2 bit_and xs (replicate n mask)) (replicate n 0)) ≡ n
-    tests = length-zip2 (λ a b. not (eqb a b)) (zip2 bit_and xs (replicate n mask)) (replicate n 0) (long ∙ sym (length-replicate {A = ℕ} n 0)) ∙ long

@@ -1,9 +1,10 @@
-use Rattle.std.proofs.Common.{refl, eqb, length, ◌∙◌, length-set, arith}
+use Rattle.std.proofs.Common.{◌≡◌, ◌≢◌, ℕ, ◌<◌, true, false, ◌||◌, List, get_or, refl, eqb, length, ◌∙◌, length-set, arith}
+use Rattle.std.specs.Prelude.{bit_or}
 use Rattle.std.proofs.lemmas.Bool.{or_left, or_right, eq-eqb}
-use Rattle.waits_for.specs.Pairs.{pairs_of}
-use Rattle.waits_for.specs.Bits.{has_bit}
+use Rattle.waits_for.specs.Pairs.{Pairs, pairs_of}
+use Rattle.waits_for.specs.Bits.{has_bit, unset_below}
 use Rattle.waits_for.proofs.BitRows.{bit-or, bit-all_cleared, apart-parts, unset-lt}
-use Rattle.waits_for.proofs.Walks.{search_begun, search_more, search_all, reaches-within}
+use Rattle.waits_for.proofs.Walks.{IsSearch, search_begun, search_more, search_all, reaches-within}
 use Rattle.waits_for.proofs.search.find_reached.Goals as goal
 
 pub loop-v-init : goal.loop-v-init
@@ -18,51 +19,47 @@ loop-v-init c =
       listed = omega arith;
     }
 
+-- the first session that was found and not looked at
+new : (p : Pairs) (t v : ℕ) (reached looked_at : List ℕ) → IsSearch (pairs_of p) t reached looked_at → has_bit reached v ≢ has_bit looked_at v → (has_bit reached v ≡ true) × (has_bit looked_at v ≡ false) × (v < p.sessions)
+new p t v reached looked_at s apart = let h = apart-parts (has_bit reached v) (has_bit looked_at v) (s.within v) apart in (h.0, h.1, reaches-within p t v (s.sound v h.0))
+
+-- once it was looked at, there are fewer to look at
+fewer : (p : Pairs) (t v : ℕ) (reached looked_at now : List ℕ) → IsSearch (pairs_of p) t reached looked_at → has_bit reached v ≢ has_bit looked_at v → ((u : ℕ) → has_bit now u ≡ (has_bit looked_at u || eqb u v)) → unset_below p.sessions now < unset_below p.sessions looked_at
+fewer p t v reached looked_at now s apart one =
+    let h = new p t v reached looked_at s apart in
+    unset-lt p.sessions looked_at now (λ u was. one u ∙ or_left (has_bit looked_at u) (eqb u v) was) v h.2 h.1 (one v ∙ or_right (has_bit looked_at v) (eqb v v) (eq-eqb v v refl))
+
 pub row-requires-in-Some : goal.row-requires-in-Some
-row-requires-in-Some c =
-    let s = c.loop-v.invariant.search in
-    let v = c.in-Some.v in
-    let new = apart-parts (has_bit c.loop-v.reached v) (has_bit c.loop-v.looked_at v) (s.within v) c.in-Some.ensures in
-    reaches-within c.args.matrix.now c.args.t v (s.sound v new.0)
+row-requires-in-Some c = (new c.args.matrix.now c.args.t c.in-Some.v c.loop-v.reached c.loop-v.looked_at c.loop-v.invariant.search c.in-Some.ensures).2
 
 pub loop-v-smaller : goal.loop-v-smaller
-loop-v-smaller c =
-    let s = c.loop-v.invariant.search in
-    let v = c.in-Some.v in
-    let new = apart-parts (has_bit c.loop-v.reached v) (has_bit c.loop-v.looked_at v) (s.within v) c.in-Some.ensures in
-    unset-lt c.args.matrix.now.sessions c.loop-v.looked_at c.set.new.words (λ u h. c.set.ensures u ∙ or_left (has_bit c.loop-v.looked_at u) (eqb u v) h) v (reaches-within c.args.matrix.now c.args.t v (s.sound v new.0)) new.1 (c.set.ensures v ∙ or_right (has_bit c.loop-v.looked_at v) (eqb v v) (eq-eqb v v refl))
+loop-v-smaller c = fewer c.args.matrix.now c.args.t c.in-Some.v c.loop-v.reached c.loop-v.looked_at c.set.new.words c.loop-v.invariant.search c.in-Some.ensures c.set.ensures
+
+pub loop-v-smaller-then-count-order : goal.loop-v-smaller-then-count-order
+loop-v-smaller-then-count-order c = fewer c.args.matrix.now c.args.t c.in-Some.v c.loop-v.reached c.loop-v.looked_at c.set.new.words c.loop-v.invariant.search c.in-Some.ensures c.set.ensures
+
+-- the row of one more was taken in
+more : (p : Pairs) (t v : ℕ) (row reached after looked_at now : List ℕ) → IsSearch (pairs_of p) t reached looked_at → has_bit reached v ≢ has_bit looked_at v → ((u : ℕ) → has_bit row u ≡ pairs_of p v u) → length reached ≡ length row → length after ≡ length reached → ((k : ℕ) → k < length after → get_or after k 0 ≡ bit_or (get_or reached k 0) (get_or row k 0)) → ((u : ℕ) → has_bit now u ≡ (has_bit looked_at u || eqb u v)) → IsSearch (pairs_of p) t after now
+more p t v row reached after looked_at now s apart bits same room words one = search_more (pairs_of p) t v row reached after looked_at now s (new p t v reached looked_at s apart).0 bits (bit-or reached row after room same words) one
 
 pub loop-v-preserved : goal.loop-v-preserved
 loop-v-preserved c =
     let h = c.loop-v.invariant in
-    let s = h.search in
-    let v = c.in-Some.v in
-    let new = apart-parts (has_bit c.loop-v.reached v) (has_bit c.loop-v.looked_at v) (s.within v) c.in-Some.ensures in
     record {
       room = omega (arith, c.or_into-in-Some.auto.row, h.room);
       room_too = omega (arith, c.set.auto.words, h.room_too);
-      search = search_more (pairs_of c.args.matrix.now) c.args.t v c.row-in-Some.result.now c.loop-v.reached c.or_into-in-Some.new.row c.loop-v.looked_at c.set.new.words s new.0 c.row-in-Some.ensures.bits (bit-or c.loop-v.reached c.row-in-Some.result.now c.or_into-in-Some.new.row c.or_into-in-Some.auto.row (omega (arith, h.room, c.row-in-Some.ensures.room)) c.or_into-in-Some.ensures.words) c.set.ensures;
+      search = more c.args.matrix.now c.args.t c.in-Some.v c.row-in-Some.result.now c.loop-v.reached c.or_into-in-Some.new.row c.loop-v.looked_at c.set.new.words h.search c.in-Some.ensures c.row-in-Some.ensures.bits (omega (arith, h.room, c.row-in-Some.ensures.room)) c.or_into-in-Some.auto.row c.or_into-in-Some.ensures.words c.set.ensures;
       listed = h.listed;
     }
-
-pub loop-v-smaller-then-count-order : goal.loop-v-smaller-then-count-order
-loop-v-smaller-then-count-order c =
-    let s = c.loop-v.invariant.search in
-    let v = c.in-Some.v in
-    let new = apart-parts (has_bit c.loop-v.reached v) (has_bit c.loop-v.looked_at v) (s.within v) c.in-Some.ensures in
-    unset-lt c.args.matrix.now.sessions c.loop-v.looked_at c.set.new.words (λ u h. c.set.ensures u ∙ or_left (has_bit c.loop-v.looked_at u) (eqb u v) h) v (reaches-within c.args.matrix.now c.args.t v (s.sound v new.0)) new.1 (c.set.ensures v ∙ or_right (has_bit c.loop-v.looked_at v) (eqb v v) (eq-eqb v v refl))
 
 pub loop-v-preserved-then-count-order : goal.loop-v-preserved-then-count-order
 loop-v-preserved-then-count-order c =
     let h = c.loop-v.invariant in
-    let s = h.search in
-    let v = c.in-Some.v in
-    let new = apart-parts (has_bit c.loop-v.reached v) (has_bit c.loop-v.looked_at v) (s.within v) c.in-Some.ensures in
     record {
       room = omega (arith, c.or_into-in-Some.auto.row, h.room);
       room_too = omega (arith, c.set.auto.words, h.room_too);
-      search = search_more (pairs_of c.args.matrix.now) c.args.t v c.row-in-Some.result.now c.loop-v.reached c.or_into-in-Some.new.row c.loop-v.looked_at c.set.new.words s new.0 c.row-in-Some.ensures.bits (bit-or c.loop-v.reached c.row-in-Some.result.now c.or_into-in-Some.new.row c.or_into-in-Some.auto.row (omega (arith, h.room, c.row-in-Some.ensures.room)) c.or_into-in-Some.ensures.words) c.set.ensures;
-      listed = omega (arith, c.if-count-order.true, length-set c.loop-v.order c.loop-v.count v);
+      search = more c.args.matrix.now c.args.t c.in-Some.v c.row-in-Some.result.now c.loop-v.reached c.or_into-in-Some.new.row c.loop-v.looked_at c.set.new.words h.search c.in-Some.ensures c.row-in-Some.ensures.bits (omega (arith, h.room, c.row-in-Some.ensures.room)) c.or_into-in-Some.auto.row c.or_into-in-Some.ensures.words c.set.ensures;
+      listed = omega (arith, c.if-count-order.true, length-set c.loop-v.order c.loop-v.count c.in-Some.v);
     }
 
 pub returns-clause-reached : goal.returns-clause-reached
