@@ -43,25 +43,25 @@ impl Write for Short {
 
 /// Gives a text byte by byte, and then fails.
 #[derive(Drop)]
-struct Cut {
-    given: usize,
+pub(crate) struct Cut<'a> {
+    pub(crate) left: &'a [u8],
 }
 
-const GIVEN: &[u8; 13] = b"1,begin,,\n1,l";
-
-impl Read for Cut {
+impl Read for Cut<'_> {
     fn read(&mut self, bytes: &mut [u8]) -> io::Result<usize> {
         if bytes.is_empty() {
             return Ok(0);
         }
-        if self.given >= GIVEN.len() {
+        let [first, rest @ ..] = self.left else {
             return Err(io::Error::from(ErrorKind::UnexpectedEof));
-        }
-        bytes[0] = GIVEN[self.given];
-        self.given += 1;
+        };
+        bytes[0] = *first;
+        self.left = rest;
         Ok(1)
     }
 }
+
+const GIVEN: &[u8] = b"1,begin,,\n1,l";
 
 const WORDS: [&str; 2] = ["glm", "replay"];
 
@@ -121,14 +121,14 @@ fn a_reader_that_fails_names_its_row(rt: HostRuntime) -> Result<(), Fail> {
     let status = program(
         rt.alloc(),
         WORDS.as_slice(),
-        Cut { given: 0 },
+        Cut { left: GIVEN },
         &mut output,
         &mut errors,
     );
     assert_eq!(rt; status, 5);
     assert!(rt; output.is_empty());
     assert_eq!(rt; errors.as_slice(), b"glm: device\n".as_slice());
-    let fault = replay(rt.alloc(), Cut { given: 0 }, &mut output, 1);
+    let fault = replay(rt.alloc(), Cut { left: GIVEN }, &mut output, 1);
     assert!(rt; output.is_empty());
     assert!(rt;
         matches!(

@@ -6,6 +6,8 @@ mod bad_input;
 #[cfg(test)]
 mod books;
 #[cfg(test)]
+mod checks;
+#[cfg(test)]
 mod conversions;
 #[cfg(test)]
 mod deadlocks;

@@ -1,0 +1,135 @@
+//! Histories that are checked: what is legal, where the first wrong reply stands, and rows that are none.
+
+use crate::devices::Cut;
+use glm::{ToolFault, Verdict, check};
+use lock_trace::{TraceFault, TraceKind};
+
+/// A waiter that is promoted when the holder commits.
+const PROMOTED: &str = "0,1,begin,,,began,1
+1,2,begin,,,began,2
+2,1,lock,1,S,granted,S
+3,2,lock,1,IX,waiting,
+4,1,commit,,,committed,1
+5,2,poll,,,clear,
+";
+
+/// The same with the replies of places 2 and 3 exchanged.
+const EXCHANGED: &str = "0,1,begin,,,began,1
+1,2,begin,,,began,2
+2,1,lock,1,S,waiting,
+3,2,lock,1,IX,granted,S
+4,1,commit,,,committed,1
+5,2,poll,,,clear,
+";
+
+fn refused(row: u64, kind: TraceKind) -> ToolFault {
+    ToolFault::Trace(TraceFault { row, kind })
+}
+
+#[test]
+fn histories_that_the_rules_give_are_legal(rt: HostRuntime) {
+    for (history, count) in [
+        ("", 0),
+        ("\n", 0),
+        (PROMOTED, 6),
+        ("0,1,begin,,,began,1", 1),
+        ("0,1,poll,,,refused,NoTransaction\n", 1),
+        ("0,1,begin,,,began,1\n1,1,begin,,,refused,AlreadyOpen\n2,1,commit,,,committed,0\n", 3),
+        ("0,1,begin,,,began,1\n1,1,lock,1,X,granted,X\n2,1,release,1,,released,\n3,1,abort,,,aborted,0\n", 4),
+    ] {
+        let verdict = check(rt.alloc(), history.as_bytes(), 256);
+        assert_eq!(rt; verdict, Ok(Verdict::Legal(count)), "{history}");
+    }
+}
+
+#[test]
+fn replies_are_compared_with_their_values(rt: HostRuntime) {
+    for (history, place) in [
+        ("0,1,begin,,,began,2", 0),
+        ("0,1,begin,,,began,0", 0),
+        ("0,1,begin,,,waiting,", 0),
+        // other places are wrong too
+        (
+            "0,1,begin,,,began,1\n1,1,lock,1,S,granted,SIX\n2,1,poll,,,waiting,\n",
+            1,
+        ),
+        ("0,1,poll,,,refused,IsDoomed\n1,1,poll,,,clear,\n", 0),
+    ] {
+        let verdict = check(rt.alloc(), history.as_bytes(), 256);
+        assert_eq!(rt; verdict, Ok(Verdict::Illegal(place)), "{history}");
+    }
+}
+
+#[test]
+fn the_first_wrong_place_is_told(rt: HostRuntime) {
+    for (history, place) in [
+        (EXCHANGED, 2),
+        // a begin is left out, and the others are renumbered
+        (
+            "0,1,begin,,,began,1
+1,1,lock,1,S,granted,S
+2,2,lock,1,IX,waiting,
+3,1,commit,,,committed,1
+4,2,poll,,,clear,
+",
+            2,
+        ),
+        (
+            "0,1,begin,,,began,1
+1,2,begin,,,began,2
+2,1,lock,1,S,granted,S
+3,2,lock,1,IX,waiting,
+4,1,commit,,,committed,2
+5,2,poll,,,clear,
+",
+            4,
+        ),
+        (
+            "0,1,begin,,,began,1
+1,2,begin,,,began,2
+2,1,lock,1,S,granted,S
+3,2,lock,1,IX,waiting,
+4,1,commit,,,committed,1
+5,2,poll,,,deadlock,
+",
+            5,
+        ),
+    ] {
+        let verdict = check(rt.alloc(), history.as_bytes(), 2);
+        assert_eq!(rt; verdict, Ok(Verdict::Illegal(place)), "{history}");
+    }
+}
+
+#[test]
+fn rows_that_are_none_are_told_before_any_is_judged(rt: HostRuntime) {
+    for (history, row, kind) in [
+        ("0,1,begin,,,began", 1, TraceKind::Shape),
+        ("1,1,begin,,,began,1", 1, TraceKind::Place),
+        ("0,1,begin,,,start,1", 1, TraceKind::Reply),
+        ("0,1,begin,,,began,01", 1, TraceKind::Value),
+        ("0,1,begin,,X,start,1", 1, TraceKind::Extra),
+        ("0,3,begin,,,began,1", 1, TraceKind::Session),
+        // the first reply is wrong, and the second row is none
+        ("0,1,begin,,,began,2\n1,1,poll,,,clear\n", 2, TraceKind::Shape),
+        // a row is left out, and the others keep their places
+        (
+            "0,1,begin,,,began,1\n2,1,lock,1,S,granted,S\n3,2,lock,1,IX,waiting,\n",
+            2,
+            TraceKind::Place,
+        ),
+    ] {
+        let verdict = check(rt.alloc(), history.as_bytes(), 2);
+        assert_eq!(rt; verdict, Err(refused(row, kind)), "{history}");
+    }
+}
+
+#[test]
+fn a_reader_that_fails_is_told_with_its_row(rt: HostRuntime) {
+    let text = PROMOTED.as_bytes();
+    for length in [0, 1, 19, 20, 21, text.len()] {
+        let left = &text[..length];
+        let row = 1 + left.iter().filter(|b| **b == b'\n').count() as u64;
+        let verdict = check(rt.alloc(), Cut { left }, 2);
+        assert_eq!(rt; verdict, Err(refused(row, TraceKind::Device)), "at {length}");
+    }
+}
