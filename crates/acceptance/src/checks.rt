@@ -34,8 +34,14 @@ fn histories_that_the_rules_give_are_legal(rt: HostRuntime) {
         (PROMOTED, 6),
         ("0,1,begin,,,began,1", 1),
         ("0,1,poll,,,refused,NoTransaction\n", 1),
-        ("0,1,begin,,,began,1\n1,1,begin,,,refused,AlreadyOpen\n2,1,commit,,,committed,0\n", 3),
-        ("0,1,begin,,,began,1\n1,1,lock,1,X,granted,X\n2,1,release,1,,released,\n3,1,abort,,,aborted,0\n", 4),
+        (
+            "0,1,begin,,,began,1\n1,1,begin,,,refused,AlreadyOpen\n2,1,commit,,,committed,0\n",
+            3,
+        ),
+        (
+            "0,1,begin,,,began,1\n1,1,lock,1,X,granted,X\n2,1,release,1,,released,\n3,1,abort,,,aborted,0\n",
+            4,
+        ),
     ] {
         let verdict = check(rt.alloc(), history.as_bytes(), 256);
         assert_eq!(rt; verdict, Ok(Verdict::Legal(count)), "{history}");
@@ -110,7 +116,11 @@ fn rows_that_are_none_are_told_before_any_is_judged(rt: HostRuntime) {
         ("0,1,begin,,X,start,1", 1, TraceKind::Extra),
         ("0,3,begin,,,began,1", 1, TraceKind::Session),
         // the first reply is wrong, and the second row is none
-        ("0,1,begin,,,began,2\n1,1,poll,,,clear\n", 2, TraceKind::Shape),
+        (
+            "0,1,begin,,,began,2\n1,1,poll,,,clear\n",
+            2,
+            TraceKind::Shape,
+        ),
         // a row is left out, and the others keep their places
         (
             "0,1,begin,,,began,1\n2,1,lock,1,S,granted,S\n3,2,lock,1,IX,waiting,\n",
@@ -130,6 +140,10 @@ fn a_reader_that_fails_is_told_with_its_row(rt: HostRuntime) {
         let left = &text[..length];
         let row = 1 + left.iter().filter(|b| **b == b'\n').count() as u64;
         let verdict = check(rt.alloc(), Cut { left }, 2);
-        assert_eq!(rt; verdict, Err(refused(row, TraceKind::Device)), "at {length}");
+        assert_eq!(rt;
+            verdict,
+            Err(refused(row, TraceKind::Device)),
+            "at {length}"
+        );
     }
 }

@@ -60,11 +60,7 @@ fn verdict_on(alloc: Global, entries: &[Entry], sessions: u16) -> Result<Verdict
 ///
 /// All rows are read before any is judged. `Trace` is the first faulty row, with the first test that it
 /// fails; `NoMemory` comes where memory was refused to the lock table. No other fault is answered.
-pub fn check<R: Read + Drop>(
-    alloc: Global,
-    input: R,
-    sessions: u16,
-) -> Result<Verdict, ToolFault>
+pub fn check<R: Read + Drop>(alloc: Global, input: R, sessions: u16) -> Result<Verdict, ToolFault>
     requires some { 0 < sessions }
     requires few { sessions ≤ MAX_SESSIONS }
     // This holds whatever the reader gives.
