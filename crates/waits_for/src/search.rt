@@ -32,7 +32,7 @@ pub(crate) fn find_circle(
     if !has(reached, t) {
         return false;
     }
-    find_leading(matrix, t, circle, &order[..count]);
+    find_leading(matrix, t, reached, circle, &order[..count]);
     and_into(circle, reached);
     true
 }
@@ -69,20 +69,32 @@ pub(crate) fn find_reached(
     count
 }
 
-/// Finds those from whom a walk leads to `t`, which is on a circle.
+/// Finds, of those that a walk from `t` leads to, those from whom one leads back to `t`, which is on a circle. Others that
+/// lead to it may come in too.
 ///
 /// Those listed are looked at first, the last one first: listed in the order found by a search forward,
-/// they all come in at once, mostly. Then all sessions are looked at until nobody is missing.
-pub(crate) fn find_leading(matrix: &Matrix, t: usize, leading: &mut [u64], listed: &[usize])
+/// they all come in at once, mostly. Then all reached are looked at until nobody is missing.
+pub(crate) fn find_leading(
+    matrix: &Matrix,
+    t: usize,
+    reached: &[u64],
+    leading: &mut [u64],
+    listed: &[usize],
+)
     requires t_below { t < matrix.now.sessions }
+    requires reached_room { length reached.now ≡ words_for matrix.now.sessions }
     requires room { length leading.old ≡ words_for matrix.now.sessions }
+    requires reached { (u : ℕ) →
+        IsTrue (has_bit reached.now u) ↔ Reaches (pairs_of matrix.now) t u }
     requires on_circle { Reaches (pairs_of matrix.now) t t }
-    ensures { (u : ℕ) → IsTrue (has_bit leading.new u) ↔ Reaches (pairs_of matrix.now) u t }
+    ensures lead { (u : ℕ) → has_bit leading.new u ≡ true → Reaches (pairs_of matrix.now) u t }
+    ensures all { (u : ℕ) → has_bit reached.now u ≡ true →
+        Reaches (pairs_of matrix.now) u t → has_bit leading.new u ≡ true }
 {
     clear(leading, 0, leading.len());
     set(leading, t);
     take_in_listed(matrix, leading, listed);
-    while take_in_all(matrix, leading) {}
+    while take_in_all(matrix, reached, leading) {}
 }
 
 /// Takes in those listed that wait for one of the set, from the last to the first.
@@ -99,21 +111,40 @@ fn take_in_listed(matrix: &Matrix, leading: &mut [u64], listed: &[usize])
     }
 }
 
-/// Takes in each session that waits for one of the set, and tells whether there was any.
-fn take_in_all(matrix: &Matrix, leading: &mut [u64]) -> bool
-    requires { length leading.old ≡ words_for matrix.now.sessions }
+/// Takes in each session reached that waits for one of the set, and tells whether there was any.
+fn take_in_all(matrix: &Matrix, reached: &[u64], leading: &mut [u64]) -> bool
+    requires reached_room { length reached.now ≡ words_for matrix.now.sessions }
+    requires room { length leading.old ≡ words_for matrix.now.sessions }
     ensures takes { TakesIn (pairs_of matrix.now) leading.old leading.new }
     ensures more { result ≡ true →
         unset_below matrix.now.sessions leading.new < unset_below matrix.now.sessions leading.old }
-    ensures closed { result ≡ false → IsClosedBack (pairs_of matrix.now) leading.new }
+    ensures closed { result ≡ false → IsClosedBack (pairs_of matrix.now) reached.now leading.new }
 {
     let mut grew = false;
     for u in 0..matrix.sessions() as usize {
-        if take_in(matrix, leading, u) {
+        if take_in_reached(matrix, reached, leading, u) {
             grew = true;
         }
     }
     grew
+}
+
+/// Takes one session in, if it is reached, waits for one of the set and isn't in it.
+fn take_in_reached(matrix: &Matrix, reached: &[u64], leading: &mut [u64], u: usize) -> bool
+    requires u_below { u < matrix.now.sessions }
+    requires reached_room { length reached.now ≡ words_for matrix.now.sessions }
+    requires room { length leading.old ≡ words_for matrix.now.sessions }
+    ensures takes { TakesIn (pairs_of matrix.now) leading.old leading.new }
+    ensures more { result ≡ true →
+        unset_below matrix.now.sessions leading.new < unset_below matrix.now.sessions leading.old }
+    ensures same { result ≡ false → leading.new ≡ leading.old }
+    ensures closed { result ≡ false → has_bit reached.now u ≡ true → (v : ℕ) →
+        pairs_of matrix.now u v ≡ true → has_bit leading.old v ≡ true → has_bit leading.old u ≡ true }
+{
+    if !has(reached, u) {
+        return false;
+    }
+    take_in(matrix, leading, u)
 }
 
 /// Takes one session in, if it waits for one of the set and isn't in it.

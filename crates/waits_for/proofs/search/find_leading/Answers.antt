@@ -30,10 +30,11 @@ loop-preserved c =
       lead = up.lead c.args.t h.lead;
     }
 
-pub returns : goal.returns
-returns c u =
+pub returns-clause-lead : goal.returns-clause-lead
+returns-clause-lead c = c.take_in_all.ensures.takes.lead c.args.t c.loop.invariant.lead
+
+pub returns-clause-all : goal.returns-clause-all
+returns-clause-all c =
     let h = c.loop.invariant in
-    let up = c.take_in_all.ensures in (
-      up.takes.lead c.args.t h.lead u,
-      closed_leading (pairs_of c.args.matrix.now) c.args.t c.take_in_all.new.leading (up.closed c.loop-test.false) (up.takes.kept c.args.t h.own) u,
-    )
+    let up = c.take_in_all.ensures in
+    closed_leading (pairs_of c.args.matrix.now) c.args.t c.args.reached.now c.take_in_all.new.leading c.requires.reached (up.closed c.loop-test.false) (up.takes.kept c.args.t h.own)

@@ -10,5 +10,5 @@ invariant-loop-u l = record {
   takes : TakesIn (pairs_of l.matrix) l.fn.leading l.leading;
   more : l.grew ≡ true → unset_below l.matrix.sessions l.leading < unset_below l.matrix.sessions l.fn.leading;
   same : l.grew ≡ false → l.leading ≡ l.fn.leading;
-  closed : l.grew ≡ false → (u : ℕ) → u < l.u → (v : ℕ) → pairs_of l.matrix u v ≡ true → has_bit l.leading v ≡ true → has_bit l.leading u ≡ true;
+  closed : l.grew ≡ false → (u : ℕ) → u < l.u → has_bit l.reached u ≡ true → (v : ℕ) → pairs_of l.matrix u v ≡ true → has_bit l.leading v ≡ true → has_bit l.leading u ≡ true;
 }
