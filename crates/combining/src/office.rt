@@ -152,8 +152,8 @@ impl Office {
     }
 
     /// The first session learns what the other knows: the longer of their fronts of the history, of which the other is a front,
-    /// and of each session the larger number of calls that it published. The other learns nothing. What the session collects
-    /// from then on stands behind all that the other knew when it called.
+    /// and of each session the larger number of calls that it published. The other learns nothing. What the session publishes
+    /// from then on stands in the history behind all that the other knew.
     pub fn hear(&self, session: &mut Session, other: &mut Session)
         requires ours { IsSessionOf self.now session.old × IsSessionOf self.now other.old }
         ensures ours { IsSessionOf self.now session.new × IsSessionOf self.now other.new }
