@@ -10,6 +10,8 @@ use Rattle.lock_modes.specs.declared.Mode.{Mode}
 use Rattle.lock_desk.specs.declared.lockers.Locker.{Locker}
 use Rattle.lock_desk.specs.declared.desk.Desk.{Desk}
 use Rattle.lock_desk.specs.Cells.{View, has_session, has_path, can_grant, view_after_asking, CellsBecame}
+use Rattle.lock_tree.specs.Paths.{parent_of}
+use Rattle.lock_desk.specs.ChildCounts.{IsUnder}
 use Rattle.lock_desk.specs.Lockers.{Standing, standing_of, standings_of, standing_at, is_wanted, standing_after_asking, IsKeptLocker, DoAgree}
 use Rattle.lock_desk.specs.Changes.{view_at, standings, standing, mode_held, IsWhole, IsSameSeen, HasAsked}
 use Rattle.lock_desk.proofs.SessionModes.{mode-has}
@@ -59,6 +61,13 @@ module _ (d : Desk) (s : ℕ) (locker new : Locker) (w : IsWhole d) {i : ℕ} (l
   -- it holds what it held
   pub mid-held : (r : List ℕ) (mid : Locker) → mid ≡ get_or (set d.lockers.items i new) i mid → has_path r mid.held.items ≡ has_path r (standing s d).held
   mid-held r mid at-mid = ap (λ (x : Standing). has_path r x.held) (ap standing_of (at-mid ∙ get_or-set_same d.lockers.items i new mid lt.within) ∙ (same ∙ sym (standing-here d.lockers.items s locker lt at)))
+
+  -- and so the parent of what it asks for is held
+  pub mid-under : (r : List ℕ) (mid : Locker) → mid ≡ get_or (set d.lockers.items i new) i mid → IsUnder (standing s d).held r → IsUnder mid.held.items r
+  mid-under r mid at-mid u has = mid-held (parent_of r) mid at-mid ∙ u has
+
+  pub mid-same : (mid : Locker) → mid ≡ get_or (set d.lockers.items i new) i mid → mid ≡ new
+  mid-same mid at-mid = at-mid ∙ get_or-set_same d.lockers.items i new mid lt.within
 
   -- and then is written once more
   module _ (r : List ℕ) (granted : Bool) (mid last : Locker) (items : List Locker) (at-mid : mid ≡ get_or (set d.lockers.items i new) i mid) (then : standing_of last ≡ standing_after_asking granted r (standing_of mid)) (last-kept : IsKeptLocker last)

@@ -1,14 +1,16 @@
--- Whether a session holds a resource below another: its own list tells what the table tells.
-use Rattle.std.proofs.Common.{◌≡◌, ℕ, Bool, true, false, cond, eqb, ◌&&◌, ◌||◌, List, [], ◌∷◌, Option, Some, is_some, refl, sym, ap, arith}
+-- Whether a session holds a resource below another: then it holds a child of that, which its own list tells.
+use Rattle.std.proofs.Common.{◌≡◌, ℕ, Bool, true, false, cond, eqb, ◌&&◌, ◌||◌, List, [], ◌∷◌, Option, Some, None, is_some, refl, sym, ap, arith, subst}
 use Rattle.std.specs.List.{list_any}
-use Rattle.std.proofs.lemmas.Bool.{and_parts, and_from, or_right}
+use Rattle.std.proofs.lemmas.Bool.{and_parts, and_from}
 use Rattle.std.proofs.lemmas.Bool.Decides.{nat_tests}
 use Rattle.lock_modes.specs.declared.Mode.{Mode}
-use Rattle.lock_tree.specs.Paths.{is_ancestor, same_path}
+use Rattle.lock_tree.specs.Paths.{is_ancestor, parent_of, has_parent, same_path}
+use Rattle.lock_tree.proofs.Ancestors.{parent-ancestor}
 use Rattle.lock_rules.specs.State as rules
-use Rattle.lock_rules.proofs.Lists.{same_path-refl, same_path_tells}
-use Rattle.lock_desk.specs.Cells.{has_path}
-use Rattle.lock_desk.specs.Lockers.{has_below}
+use Rattle.lock_rules.specs.Sound.{IsSound}
+use Rattle.lock_rules.proofs.Lists.{same_path-refl, same_path-true, same_path_tells}
+use Rattle.lock_rules.proofs.Children.{children-held}
+use Rattle.lock_desk.specs.ChildCounts.{is_child}
 
 -- a resource below, of those that are told
 pub record Below (r : List ℕ) (has : List ℕ → Bool) : Type 0 where
@@ -16,19 +18,11 @@ pub record Below (r : List ℕ) (has : List ℕ → Bool) : Type 0 where
   pub below : is_ancestor r path ≡ true
   pub there : has path ≡ true
 
--- a list that has a resource below has one that stands there
-pub path-below : (r : List ℕ) (rs : List (List ℕ)) → has_below r rs ≡ true → Below r (λ q. has_path q rs)
-path-below r [] h = absurd (cc)
-path-below r (p ∷ rs) h = go (is_ancestor r p) refl h (path-below r rs)
-  where
-    go : (b : Bool) → is_ancestor r p ≡ b → (b || has_below r rs) ≡ true → (has_below r rs ≡ true → Below r (λ q. has_path q rs)) → Below r (λ q. has_path q (p ∷ rs))
-    go true e h next = record { path = p; below = e; there = ap (λ (b : Bool). b || has_path p rs) (same_path-refl p) }
-    go false e h next = let w = next h in record { path = w.path; below = w.below; there = or_right (same_path p w.path) (has_path w.path rs) w.there }
-
--- and the other way round
-pub below-path : (r q : List ℕ) (rs : List (List ℕ)) → has_path q rs ≡ true → is_ancestor r q ≡ true → has_below r rs ≡ true
-below-path r q [] h a = absurd (cc)
-below-path r q (p ∷ rs) h a = grind (arith, same_path_tells p q, below-path r q rs)
+-- a child stands below
+pub child-below : (r q : List ℕ) → is_child r q ≡ true → is_ancestor r q ≡ true
+child-below r q h =
+    let p = and_parts (has_parent q) (same_path (parent_of q) r) h in
+    subst (λ (x : List ℕ). is_ancestor x q ≡ true) (same_path-true (parent_of q) r p.1) (parent-ancestor q p.0)
 
 -- the session has a claim on a resource below
 abbrev pub has_child : ℕ → List ℕ → List rules.Claim → Bool
@@ -63,3 +57,23 @@ pub both-ways : (b c : Bool) → (b ≡ true → c ≡ true) → (c ≡ true →
 both-ways true c f g = sym (f refl)
 both-ways false true f g = g refl
 both-ways false false f g = refl
+
+-- a child that the session holds
+pub record HeldChild (s : ℕ) (r : List ℕ) (t : rules.Table) : Type 0 where
+  pub path : List ℕ
+  pub child : is_child r path ≡ true
+  pub there : is_some (rules.held_mode t s path) ≡ true
+
+-- whoever holds anything below a resource holds a child of it
+pub held-child : (st : rules.State) → IsSound st.table → (s : ℕ) (r q : List ℕ) → is_ancestor r q ≡ true → is_some (rules.held_mode st.table s q) ≡ true → HeldChild s r st.table
+held-child st i s r q a h = go (rules.held_mode st.table s q) refl h
+  where
+    some-above : r ≡ [] → ⊥
+    some-above e = let k : is_ancestor [] q ≡ true = subst (λ (x : List ℕ). is_ancestor x q ≡ true) e a in cc
+
+    go : (o : Option Mode) → rules.held_mode st.table s q ≡ o → is_some o ≡ true → HeldChild s r st.table
+    go None e k = absurd (cc)
+    go (Some m) e k =
+        let w = children-held st i s r q m some-above a e in
+        let same : same_path (parent_of w.0) r ≡ true = subst (λ (x : List ℕ). same_path x r ≡ true) (sym w.3) (same_path-refl r) in
+        record { path = w.0; child = and_from (has_parent w.0) (same_path (parent_of w.0) r) w.2 same; there = ap is_some w.4 }

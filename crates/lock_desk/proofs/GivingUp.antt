@@ -10,7 +10,7 @@ use Rattle.lock_desk.specs.declared.cells.Part.TheVariants as part
 use Rattle.lock_desk.specs.declared.lockers.Locker.{Locker}
 use Rattle.lock_desk.specs.declared.desk.Desk.{Desk}
 use Rattle.lock_desk.specs.Cells.{view_after_giving_up, view_after_freeing, has_path, AreApart, CellsBecame}
-use Rattle.lock_desk.specs.Lockers.{Standing, standing_of, standings_of, standing_at, is_wanted, paths_but, standing_after_release, IsKeptLocker, IsSameOrGranted, AreSameOrGranted, DoAgree}
+use Rattle.lock_desk.specs.Lockers.{Standing, standing_of, standings_of, standing_at, is_wanted, paths_but, IsKeptLocker, IsSameOrGranted, AreSameOrGranted, DoAgree}
 use Rattle.lock_desk.specs.Changes.{view_at, standings, standing, IsWhole, HasFreed}
 use Rattle.lock_desk.proofs.LockerStandings.{IsPositionOf, standings-set, standing-here, length-standings, apart-pop, has_path-push_other}
 use Rattle.lock_desk.proofs.Agreement.{own-standing, other-standing, all-agree, GivesUp, given-agree, given-other, granted-other, not-granted}
@@ -113,13 +113,13 @@ module _ (d : Desk) (p : Part) (s : ℕ) (r : List ℕ) (locker new : Locker) {i
 -- what is given up
 
 -- a lock is taken out of the locker
-pub gives-lock : (r : List ℕ) (x y : Standing) → y ≡ standing_after_release r x → GivesUp part.Lock r x y
-gives-lock r x y e = record {
-  transaction = ap (λ (z : Standing). z.transaction) e;
-  held = ap (λ (z : Standing). has_path r z.held) e ∙ gone-but r x.held;
-  wanted = ap (λ (z : Standing). is_wanted r z.wanted) e;
-  held_elsewhere = λ q n. ap (λ (z : Standing). has_path q z.held) e ∙ other-but r q x.held n;
-  wanted_elsewhere = λ q n. ap (λ (z : Standing). is_wanted q z.wanted) e;
+pub gives-lock : (r : List ℕ) (x y : Standing) → y.transaction ≡ x.transaction → y.wanted ≡ x.wanted → has_path r y.held ≡ false → ((q : List ℕ) → same_path r q ≡ false → has_path q y.held ≡ has_path q x.held) → GivesUp part.Lock r x y
+gives-lock r x y t w gone others = record {
+  transaction = t;
+  held = gone;
+  wanted = ap (is_wanted r) w;
+  held_elsewhere = others;
+  wanted_elsewhere = λ q n. ap (is_wanted q) w;
 }
 
 -- the last lock goes

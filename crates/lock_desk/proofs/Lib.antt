@@ -12,6 +12,10 @@ pub mod CellGivesUp
 -- the lockers
 -- a grant in the lockers; lists of resources
 pub mod LockerStandings
+-- a locker whose locks are as before
+pub mod LockerKept
+-- how many children of each lock are held
+pub mod ChildCounts
 -- the locker of a session whose request is granted
 pub mod LockerGrant
 -- one grant of a promotion, in cell and locker
@@ -32,7 +36,7 @@ pub mod Results
 -- the desk shows the state of the rules
 -- a table seen resource by resource: grants and promotions
 pub mod TableViews
--- whether a session holds a resource below another
+-- whoever holds a resource below another holds a child of that
 pub mod Children
 -- how many locks a session holds, and whether it waits
 pub mod LockCounts

@@ -26,14 +26,17 @@ use Rattle.lock_rules.proofs.Steps.{all-pass, is-none}
 use Rattle.lock_desk.specs.declared.cells.Part.TheVariants as part
 use Rattle.lock_desk.specs.declared.desk.Desk.{Desk}
 use Rattle.lock_desk.specs.Cells.{View, has_session, mode_of, pair_of, view_after_freeing, can_grant, view_after_asking}
-use Rattle.lock_desk.specs.Lockers.{Standing, standing_at, has_below}
+use Rattle.lock_desk.specs.Lockers.{Standing, standing_at}
 use Rattle.lock_desk.specs.Changes.{view_at, standing, view_after_end, IsWhole, mode_held, lacks_need, lock_tests, convert_tests, release_tests, idle_tests, desk_tests, IsSameSeen, MayAsk, HasAsked, CanRelease, HasFreed, HasBegun, HasEnded}
 use Rattle.lock_desk.specs.Shows.{view, Shows, DoesAnswer}
 use Rattle.lock_desk.proofs.Agreement.{apart-at}
 use Rattle.lock_desk.proofs.Asking.{held-locker}
 use Rattle.lock_desk.proofs.TableViews.{in_mode, mode-seen, pairs-seen}
 use Rattle.lock_desk.proofs.LockCounts.{waits-told, locks-told}
-use Rattle.lock_desk.proofs.Children.{path-below, below-path, child-there, there-child, both-ways}
+use Rattle.lock_rules.proofs.Sound.{under-parent}
+use Rattle.lock_desk.specs.ChildCounts.{has_child, IsUnder}
+use Rattle.lock_desk.proofs.ChildCounts.{child-path, path-child}
+use Rattle.lock_desk.proofs.Children.{child-there, there-child, child-below, held-child, both-ways}
 use Rattle.lock_desk.proofs.AfterRelease.{released-seen}
 use Rattle.lock_desk.proofs.AfterStep.{ended-seen, granted-seen, first_state, first-seen}
 
@@ -68,10 +71,13 @@ lacks-shown d st s r m h = ap (λ (o : Option Mode). has_parent r && not (at_or_
 target-shown : (d : Desk) (st : rules.State) (s : ℕ) (r : List ℕ) (m : Mode) → Shows d st → lacks_need d s r (target_of (mode_held d s r) m) ≡ lacks_parent st.table s r (target_of (rules.held_mode st.table s r) m)
 target-shown d st s r m h = ap (λ (o : Option Mode). lacks_need d s r (target_of o m)) (mode-shown d st s r h) ∙ lacks-shown d st s r (target_of (rules.held_mode st.table s r) m) h
 
-below-shown : (d : Desk) (st : rules.State) (s : ℕ) (r : List ℕ) → IsWhole d → Shows d st → has_below r (standing s d).held ≡ holds_child st.table s r
-below-shown d st s r w h = both-ways _ _
-    (λ k. let p = path-below r (standing s d).held k in there-child s r p.path st.table.held (sym (ap is_some (mode-shown d st s p.path h)) ∙ (sym (held-locker s p.path d w) ∙ p.there)) p.below)
-    (λ k. let p = child-there s r st.table.held k in below-path r p.path (standing s d).held (held-locker s p.path d w ∙ (ap is_some (mode-shown d st s p.path h) ∙ p.there)) p.below)
+-- a locker tells whether its session holds a child, and so whether it holds anything below
+child-shown : (d : Desk) (st : rules.State) (s : ℕ) (r : List ℕ) → IsWhole d → IsSound st.table → Shows d st → has_child r (standing s d).held ≡ holds_child st.table s r
+child-shown d st s r w i h = both-ways _ _
+    (λ k. let p = child-path r (standing s d).held k in there-child s r p.path st.table.held (sym (ap is_some (mode-shown d st s p.path h)) ∙ (sym (held-locker s p.path d w) ∙ p.there)) (child-below r p.path p.child))
+    (λ k. let p = child-there s r st.table.held k in
+    let q = held-child st i s r p.path p.below p.there in
+    path-child r q.path (standing s d).held (held-locker s q.path d w ∙ (ap is_some (mode-shown d st s q.path h) ∙ q.there)) q.child)
 
 module _ (d : Desk) (st : rules.State) (s : ℕ) (w : IsWhole d) (i : IsSound st.table) (h : Shows d st) where
   standing-shown : (more told : List (Bool × Why)) → more ≡ told → (idle_tests d s ++ more) ≡ (not (rules.is_open st s), NoTransaction) ∷ (rules.is_waiting st s, IsWaiting) ∷ (rules.is_doomed st s, IsDoomed) ∷ told
@@ -95,7 +101,7 @@ module _ (d : Desk) (st : rules.State) (s : ℕ) (w : IsWhole d) (i : IsSound st
   release-shown : (r : List ℕ) → release_tests d s r ≡ (not (is_some (rules.held_mode st.table s r)), NotHeld) ∷ (holds_child st.table s r, ChildHeld) ∷ []
   release-shown r =
       let o = mode-shown d st s r h in
-      let f = below-shown d st s r w h in
+      let f = child-shown d st s r w i h in
       λ j. (not (is_some (o j)), NotHeld) ∷ (f j, ChildHeld) ∷ []
 
   -- the tests that the desk makes are those of the state
@@ -111,11 +117,17 @@ module _ (d : Desk) (st : rules.State) (s : ℕ) (w : IsWhole d) (i : IsSound st
 -- a call that passes its tests may be done
 
 -- who may lock is open and sound, waits for nothing, stands under the parent, and has room where it holds nothing there
-pub lock-may : (d : Desk) (s : ℕ) (r : List ℕ) (m : Mode) → first_failing (desk_tests d s (Lock r m)) ≡ None → MayAsk s r m d
-lock-may d s r m h =
+-- the parent is then held
+under-parent-held : (d : Desk) (s : ℕ) (r : List ℕ) (m : Mode) → IsWhole d → is_nothing m ≡ false → lacks_need d s r (target_of (mode_held d s r) m) ≡ false → IsUnder (standing s d).held r
+under-parent-held d s r m w something under has =
+    let u = under-parent (has_parent r) (target_of (mode_held d s r) m) (mode_held d s (parent_of r)) (sup-some (rules.mode_or_nothing (mode_held d s r)) m something) under has in
+    held-locker s (parent_of r) d w ∙ ap is_some u.1
+
+pub lock-may : (d : Desk) (s : ℕ) (r : List ℕ) (m : Mode) → IsWhole d → first_failing (desk_tests d s (Lock r m)) ≡ None → MayAsk s r m d
+lock-may d s r m w h =
     let p = all-pass (desk_tests d s (Lock r m)) h in
     record {
-      can = record { idle = is-none (standing s d).wanted p.1.0; few = p.1.1.1.1.1.0 };
+      can = record { idle = is-none (standing s d).wanted p.1.0; few = p.1.1.1.1.1.0; under = under-parent-held d s r m w p.1.1.1.0 p.1.1.1.1.0 };
       opened = not-false (is_some (standing s d).transaction) p.0;
       sound = p.1.1.0;
       something = p.1.1.1.0;
@@ -123,11 +135,11 @@ lock-may d s r m h =
     }
 
 -- and so is who may convert, which holds the resource
-pub convert-may : (d : Desk) (s : ℕ) (r : List ℕ) (m : Mode) → first_failing (desk_tests d s (Convert r m)) ≡ None → MayAsk s r m d
-convert-may d s r m h =
+pub convert-may : (d : Desk) (s : ℕ) (r : List ℕ) (m : Mode) → IsWhole d → first_failing (desk_tests d s (Convert r m)) ≡ None → MayAsk s r m d
+convert-may d s r m w h =
     let p = all-pass (desk_tests d s (Convert r m)) h in
     record {
-      can = record { idle = is-none (standing s d).wanted p.1.0; few = held (is_some (mode_held d s r)) p.1.1.1.1.0 };
+      can = record { idle = is-none (standing s d).wanted p.1.0; few = held (is_some (mode_held d s r)) p.1.1.1.1.0; under = under-parent-held d s r m w p.1.1.1.0 p.1.1.1.1.1.0 };
       opened = not-false (is_some (standing s d).transaction) p.0;
       sound = p.1.1.0;
       something = p.1.1.1.0;
@@ -264,7 +276,7 @@ released-shown d e st s r i w can k h = record {
   transactions = λ u. k.transactions u ∙ h.transactions u;
   views = λ q. k.views q ∙ (ap (λ (v : View). cond (same_path r q) (view_after_freeing part.Lock s v) (view_at q d)) (h.views r)
       ∙ (ap (cond (same_path r q) (view_after_freeing part.Lock s (view r st.table))) (h.views q)
-      ∙ sym (released-seen s r st.table i (sym (below-shown d st s r w h) ∙ can.free) (idle-shown d st s w h can.idle) q)));
+      ∙ sym (released-seen s r st.table i (sym (child-shown d st s r w i h) ∙ can.free) (idle-shown d st s w h can.idle) q)));
 }
 
 -- a desk that looks the same shows the same state

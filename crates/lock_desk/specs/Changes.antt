@@ -17,7 +17,8 @@ use Rattle.lock_desk.specs.declared.desk.Desk.{Desk}
 use Rattle.lock_desk.specs.declared.cells.Part.{Part}
 use Rattle.lock_desk.specs.declared.cells.Part.TheVariants as part
 use Rattle.lock_desk.specs.Cells.{View, has_session, mode_of, cell_view, has_path, can_grant, view_after_asking, view_after_freeing, AreKeptCells}
-use Rattle.lock_desk.specs.Lockers.{Standing, standings_of, standing_at, has_below, IsKeptLocker, DoAgree}
+use Rattle.lock_desk.specs.ChildCounts.{has_child, IsUnder}
+use Rattle.lock_desk.specs.Lockers.{Standing, standings_of, standing_at, IsKeptLocker, DoAgree}
 
 -- what the desk says of a resource
 abbrev pub view_at : List ℕ → Desk → View
@@ -66,7 +67,7 @@ convert_tests d s r m =
     ∷ []
 
 abbrev pub release_tests : Desk → ℕ → List ℕ → List (Bool × Why)
-release_tests d s r = (not (is_some (mode_held d s r)), NotHeld) ∷ (has_below r (standing s d).held, ChildHeld) ∷ []
+release_tests d s r = (not (is_some (mode_held d s r)), NotHeld) ∷ (has_child r (standing s d).held, ChildHeld) ∷ []
 
 -- the session has an open transaction
 abbrev pub open_tests : Desk → ℕ → List (Bool × Why)
@@ -109,6 +110,7 @@ pub record IsSameSeen (d e : Desk) : Type 0 where
 pub record CanAsk (s : ℕ) (r : List ℕ) (d : Desk) : Type 0 where
   pub idle : (standing s d).wanted ≡ None
   pub few : (not (is_some (mode_held d s r)) && nat_le MAX_LOCKS (length (standing s d).held)) ≡ false
+  pub under : IsUnder (standing s d).held r
 
 -- and for this mode, on which a target stands under its parent
 pub record MayAsk (s : ℕ) (r : List ℕ) (m : Mode) (d : Desk) : Type 0 where
@@ -123,6 +125,7 @@ pub record CanLock (s : ℕ) (r : List ℕ) (d : Desk) : Type 0 where
   pub idle : (standing s d).wanted ≡ None
   pub new : is_some (mode_held d s r) ≡ false
   pub few : length (standing s d).held < MAX_LOCKS
+  pub under : IsUnder (standing s d).held r
 
 -- the session may ask for more on a resource that it holds
 pub record CanConvert (s : ℕ) (r : List ℕ) (d : Desk) : Type 0 where
@@ -140,7 +143,7 @@ pub record HasAsked (s : ℕ) (r : List ℕ) (m : Mode) (granted : Bool) (d e : 
 pub record CanRelease (s : ℕ) (r : List ℕ) (d : Desk) : Type 0 where
   pub idle : (standing s d).wanted ≡ None
   pub held : is_some (mode_held d s r) ≡ true
-  pub free : has_below r (standing s d).held ≡ false
+  pub free : has_child r (standing s d).held ≡ false
 
 -- the session has given up its lock on the resource, or its request, and what waits there is promoted
 pub record HasFreed (p : Part) (s : ℕ) (r : List ℕ) (d e : Desk) : Type 0 where

@@ -1,14 +1,14 @@
 -- Private parts speak to one another here, and no public contract of this crate: what
 -- the lockers say of each session.
 use Rattle.std.specs.Prelude.{◌≡◌, ℕ, ◌+◌, ◌≤◌, Bool, true, false, not, if◌then◌else◌, ◌⊎◌, List, [], ◌∷◌, ◌++◌, length, map, filter, Option, Some, None, slice_index_or, vec_len, vec_capacity}
-use Rattle.std.specs.List.{list_any}
-use Rattle.lock_tree.specs.Paths.{same_path, is_ancestor}
+use Rattle.lock_tree.specs.Paths.{same_path}
 use Rattle.lock_rules.specs.declared.calls.TheConstants.{MAX_LOCKS}
 use Rattle.lock_rules.specs.declared.calls.Transaction.{Transaction}
 use Rattle.lock_desk.specs.declared.lockers.Request.{Request}
 use Rattle.lock_desk.specs.declared.lockers.Request.TheVariants.{Fresh, Conversion}
 use Rattle.lock_desk.specs.declared.lockers.Locker.{Locker}
 use Rattle.lock_desk.specs.Cells.{View, has_session, has_path, AreApart}
+use Rattle.lock_desk.specs.ChildCounts.{IsUnder, AreCounted}
 
 -- a session's transaction, the resources that it holds, and the one that it waits for
 pub record Standing : Type 0 where
@@ -40,10 +40,6 @@ standings_of ws = no_standing ∷ map standing_of ws
 abbrev pub standing_at : ℕ → List Standing → Standing
 standing_at s ss = slice_index_or ss s no_standing
 
--- one of the resources stands below this one
-abbrev pub has_below : List ℕ → List (List ℕ) → Bool
-has_below r rs = list_any (λ q. is_ancestor r q) rs
-
 -- the other resources
 abbrev pub paths_but : List ℕ → List (List ℕ) → List (List ℕ)
 paths_but r rs = filter (λ q. not (same_path q r)) rs
@@ -67,8 +63,17 @@ abbrev pub IsOfKind : Option Request → List (List ℕ) → Type 0
 IsOfKind None rs = Unit {0}
 IsOfKind (Some q) rs = has_path (resource_asked q) rs ≡ not (is_fresh (Some q))
 
--- what is kept of each locker between two calls: a lock that is to come has its room
+-- the parent of a resource that is to come is there
+abbrev pub IsComingUnder : Option Request → List (List ℕ) → Type 0
+IsComingUnder None rs = Unit {0}
+IsComingUnder (Some (Fresh q)) rs = IsUnder rs q
+IsComingUnder (Some (Conversion q)) rs = Unit {0}
+
+-- what is kept of each locker between two calls: a lock that is to come has its room, and so has the count of its children
 pub record IsKeptLocker (w : Locker) : Type 0 where
+  pub under : IsComingUnder w.wanted w.held.items
+  pub counted : AreCounted w.held.items w.children
+  pub children_room : vec_len w.held + locks_to_come w.wanted ≤ vec_capacity w.children.counts
   pub apart : AreApart w.held.items
   pub kind : IsOfKind w.wanted w.held.items
   pub room : vec_len w.held + locks_to_come w.wanted ≤ vec_capacity w.held
@@ -81,10 +86,6 @@ with_path r rs = if has_path r rs then rs else rs ++ r ∷ []
 -- the session holds the resource, and waits no more
 abbrev pub standing_after_grant : List ℕ → Standing → Standing
 standing_after_grant r x = record { transaction = x.transaction; held = with_path r x.held; wanted = None }
-
--- the session holds the resource no more
-abbrev pub standing_after_release : List ℕ → Standing → Standing
-standing_after_release r x = record { transaction = x.transaction; held = paths_but r x.held; wanted = x.wanted }
 
 -- the resource is held, or waited for
 abbrev pub standing_after_asking : Bool → List ℕ → Standing → Standing

@@ -8,6 +8,7 @@ ghost use Rattle.lock_rules.specs.Waits.{after_victims};
 ghost use Rattle.lock_rules.specs.Sound.{IsNumbered, IsSound};
 ghost use Rattle.lock_desk.specs.Cells.{pair_of, is_granted};
 ghost use Rattle.lock_desk.specs.declared.cells.Part.TheVariants as part;
+ghost use Rattle.lock_desk.specs.ChildCounts.{has_child};
 ghost use Rattle.lock_desk.specs.Lockers.{standing_of};
 ghost use Rattle.lock_desk.specs.Changes.{view_at, standing, IsWhole, DoesKeep, mode_held, desk_tests, IsSameSeen, CanAsk, MayAsk, CanLock, CanConvert, HasAsked, CanRelease, HasFreed, HasGivenBack, HasGivenBackAll, HasCancelled, HasDoomed, HasBegun, HasEnded};
 ghost use Rattle.lock_desk.specs.Ready.{IsReadyDesk};
@@ -93,6 +94,17 @@ impl Desk {
                 Ok(())
             }
         }
+    }
+
+    /// Whether the session holds a child of the resource.
+    pub(crate) fn holds_child(&self, session: u16, resource: Resource) -> bool
+        requires some { 1 ≤ session }
+        requires within { session ≤ vec_len self.now.lockers }
+        requires whole { IsWhole self.now }
+        ensures { result ≡ has_child resource (standing session self.now).held }
+    {
+        let locker = &self.lockers[position_of(session)];
+        locker.holds_child(resource)
     }
 
     /// Asks for a resource that the session doesn't hold.

@@ -1,12 +1,14 @@
 //! Lockers: one for each session, with its transaction and with what the cells say of it.
 
-ghost use Rattle.std.specs.Prelude.{◌≡◌, ◌+◌, ◌<◌, ◌≤◌, false, true, None, Some, length, List, [], ◌∷◌, ◌++◌, is_some, OnOk, IfSome, IfNone, vec_len, vec_capacity};
+ghost use Rattle.std.specs.Prelude.{◌≡◌, ℕ, ◌+◌, ◌<◌, ◌≤◌, false, true, None, Some, length, List, [], ◌∷◌, ◌++◌, is_some, OnOk, IfSome, IfNone, vec_len, vec_capacity};
 ghost use Rattle.lock_rules.specs.State.{number_in, doomed_in};
 ghost use Rattle.lock_rules.specs.Waits.{doom};
+ghost use Rattle.lock_tree.specs.Paths.{same_path};
 ghost use Rattle.lock_desk.specs.Cells.{has_path};
-ghost use Rattle.lock_desk.specs.Lockers.{no_standing, resource_asked, is_fresh, wanted_in, standing_of, standing_after_grant, standing_after_asking, is_wanted, has_below, standing_after_release, locks_to_come, IsOfKind, IsKeptLocker};
+ghost use Rattle.lock_desk.specs.ChildCounts.{has_child, IsUnder, AreCounted};
+ghost use Rattle.lock_desk.specs.Lockers.{no_standing, resource_asked, is_fresh, wanted_in, standing_of, standing_after_grant, standing_after_asking, is_wanted, locks_to_come, IsOfKind, IsComingUnder, IsKeptLocker};
 
-use crate::cells::is_same;
+use crate::child_counts::{Children, place_of};
 use lock_rules::{MAX_LOCKS, Transaction};
 use lock_tree::Resource;
 use std::alloc::{AllocError, Global};
@@ -21,11 +23,14 @@ pub enum Request {
 }
 
 /// The transaction of a session, what it holds in the order in which it was granted, and what it waits for.
-/// The list of what it holds has room for a lock that it waits for.
+/// The list of what it holds has room for a lock that it waits for, and beside each lock stands how many of its children
+/// are held. The place of the lock that was given back last is where the next one is looked for first.
 #[derive(Drop)]
 pub struct Locker {
     transaction: Option<Transaction>,
     held: Vec<Resource>,
+    children: Children,
+    released: usize,
     wanted: Option<Request>,
 }
 
@@ -84,6 +89,8 @@ impl Locker {
         Locker {
             transaction: None,
             held: Vec::new(alloc),
+            children: Children::new(alloc),
+            released: 0,
             wanted: None,
         }
     }
@@ -133,11 +140,13 @@ impl Locker {
         self.held.len()
     }
 
-    /// Whether the session holds a resource below this one.
-    pub(crate) fn holds_below(&self, resource: Resource) -> bool
-        ensures { result ≡ has_below resource self.now.held.items }
+    /// Whether the session holds a child of the resource.
+    pub(crate) fn holds_child(&self, resource: Resource) -> bool
+        requires { IsKeptLocker self.now }
+        ensures { result ≡ has_child resource self.now.held.items }
     {
-        self.held.iter().any(|held| resource.is_ancestor_of(held))
+        self.children
+            .holds_child(&self.held, self.released, resource)
     }
 
     /// A transaction begins, with this number.
@@ -169,10 +178,12 @@ impl Locker {
         requires kept { IsKeptLocker self.old }
         requires idle { self.old.wanted ≡ None }
         ensures room { OnOk result (vec_len self.new.held < vec_capacity self.new.held) }
+        ensures children { OnOk result (vec_len self.new.held < vec_capacity self.new.children.counts) }
         ensures standing { standing_of self.new ≡ standing_of self.old }
         ensures kept { IsKeptLocker self.new }
     {
-        self.held.reserve(1)
+        self.held.reserve(1)?;
+        self.children.make_room()
     }
 
     /// The session holds one resource more.
@@ -180,11 +191,14 @@ impl Locker {
         requires kept { IsKeptLocker self.old }
         requires idle { self.old.wanted ≡ None }
         requires new { has_path resource self.old.held.items ≡ false }
+        requires under { IsUnder self.old.held.items resource }
         requires few { length self.old.held.items < MAX_LOCKS }
         requires room { vec_len self.old.held < vec_capacity self.old.held }
+        requires children { vec_len self.old.held < vec_capacity self.old.children.counts }
         ensures standing { standing_of self.new ≡ standing_after_asking true resource (standing_of self.old) }
         ensures kept { IsKeptLocker self.new }
     {
+        self.children.push(&self.held, resource);
         self.held.push_reserved(resource);
     }
 
@@ -192,8 +206,10 @@ impl Locker {
     pub(crate) fn wait_for(&mut self, request: Request)
         requires kept { IsKeptLocker self.old }
         requires kind { IsOfKind (Some request) self.old.held.items }
+        requires under { IsComingUnder (Some request) self.old.held.items }
         requires few { length self.old.held.items + locks_to_come (Some request) ≤ MAX_LOCKS }
         requires room { vec_len self.old.held + locks_to_come (Some request) ≤ vec_capacity self.old.held }
+        requires children { vec_len self.old.held + locks_to_come (Some request) ≤ vec_capacity self.old.children.counts }
         ensures standing { standing_of self.new ≡ standing_after_asking false (resource_asked request) (standing_of self.old) }
         ensures kept { IsKeptLocker self.new }
     {
@@ -208,6 +224,7 @@ impl Locker {
         ensures kept { IsKeptLocker self.new }
     {
         if is_fresh(self.wanted) {
+            self.children.push(&self.held, resource);
             self.held.push_reserved(resource);
         }
         self.wanted = None;
@@ -217,10 +234,19 @@ impl Locker {
     pub(crate) fn release(&mut self, resource: Resource)
         requires kept { IsKeptLocker self.old }
         requires idle { self.old.wanted ≡ None }
-        ensures standing { standing_of self.new ≡ standing_after_release resource (standing_of self.old) }
+        requires childless { has_child resource self.old.held.items ≡ false }
+        ensures transaction { self.new.transaction ≡ self.old.transaction }
+        ensures wanted { self.new.wanted ≡ self.old.wanted }
+        ensures gone { has_path resource self.new.held.items ≡ false }
+        ensures others { (q : List ℕ) → same_path resource q ≡ false → has_path q self.new.held.items ≡ has_path q self.old.held.items }
         ensures kept { IsKeptLocker self.new }
     {
-        self.held.retain(|held| !is_same(*held, resource));
+        let Some(place) = place_of(&self.held, self.released, resource) else {
+            return;
+        };
+        self.released = place;
+        self.children.remove(&self.held, place);
+        let _released = self.held.swap_remove(place);
     }
 
     /// The session waits no more: for which resource it waited.
@@ -241,7 +267,15 @@ impl Locker {
         ensures none { IfNone result (self.old.held.items ≡ []) }
         ensures transaction { self.new.transaction ≡ self.old.transaction }
         ensures wanted { self.new.wanted ≡ self.old.wanted }
+        ensures counted { IfSome result (λ _. vec_len self.old.children.counts ≡ vec_len self.old.held → AreCounted self.new.held.items self.new.children) }
+        ensures children { IfSome result (λ _. vec_capacity self.new.children.counts ≡ vec_capacity self.old.children.counts) }
     {
-        self.held.pop()
+        match self.held.pop() {
+            Some(resource) => {
+                self.children.pop();
+                Some(resource)
+            }
+            None => None,
+        }
     }
 }

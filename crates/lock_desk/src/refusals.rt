@@ -2,7 +2,7 @@
 
 ghost use Rattle.std.specs.Prelude.{◌≡◌, ◌≤◌, vec_len};
 ghost use Rattle.lock_rules.specs.Step.{is_nothing, target_of, first_failing};
-ghost use Rattle.lock_desk.specs.Changes.{lacks_need, open_tests, idle_tests, standing_tests, lock_tests, convert_tests, release_tests, request_tests, desk_tests};
+ghost use Rattle.lock_desk.specs.Changes.{lacks_need, open_tests, idle_tests, standing_tests, lock_tests, convert_tests, release_tests, request_tests, desk_tests, IsWhole};
 
 use crate::desk::Desk;
 use lock_modes::Mode;
@@ -93,12 +93,13 @@ impl Desk {
     fn release_refusal(&self, session: u16, resource: Resource) -> Option<Why>
         requires some { 1 ≤ session }
         requires within { session ≤ vec_len self.now.lockers }
+        requires whole { IsWhole self.now }
         ensures { result ≡ first_failing (release_tests self.now session resource) }
     {
         if self.held(session, resource).is_none() {
             return Some(Why::NotHeld);
         }
-        if self.locker(session).holds_below(resource) {
+        if self.holds_child(session, resource) {
             return Some(Why::ChildHeld);
         }
         None
@@ -108,6 +109,7 @@ impl Desk {
     fn request_refusal(&self, session: u16, call: Call) -> Option<Why>
         requires some { 1 ≤ session }
         requires within { session ≤ vec_len self.now.lockers }
+        requires whole { IsWhole self.now }
         ensures { result ≡ first_failing (request_tests self.now session call) }
     {
         match call {
@@ -138,6 +140,7 @@ impl Desk {
     pub(crate) fn refusal(&self, session: u16, call: Call) -> Option<Why>
         requires some { 1 ≤ session }
         requires within { session ≤ vec_len self.now.lockers }
+        requires whole { IsWhole self.now }
         ensures { result ≡ first_failing (desk_tests self.now session call) }
     {
         let asked = call;

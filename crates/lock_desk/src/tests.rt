@@ -225,6 +225,42 @@ fn a_transaction_holds_4096_locks_and_no_more(rt: HostRuntime) -> Result<(), Fai
     Ok(())
 }
 
+/// Gives back the records of database 1, in the order of their numbers or backwards, and then the database, which is
+/// refused as long as one of them is left.
+fn release_all(rt: &impl Abort, book: &mut Book, backwards: bool) -> Result<(), Fail> {
+    let top = resource(1)?;
+    for number in 0..4095 {
+        let refused = serve(rt, book, 1, Call::Release(top))?;
+        assert_eq!(rt; refused, Reply::Refused(Why::ChildHeld));
+        let next = if backwards { 4094 - number } else { number };
+        let call = Call::Release(below(&[1, next])?);
+        assert_eq!(rt; serve(rt, book, 1, call)?, Reply::Released);
+    }
+    assert_eq!(rt; serve(rt, book, 1, Call::Release(top))?, Reply::Released);
+    Ok(())
+}
+
+#[test]
+fn locks_are_released_in_either_order(rt: HostRuntime) -> Result<(), Fail> {
+    let top = resource(1)?;
+    let mut book = new_book(&rt, rt.alloc(), 1)?;
+    assert_eq!(rt; serve(&rt, &mut book, 1, Call::Begin)?, Reply::Began(1));
+    for turn in 0..2 {
+        let first = serve(&rt, &mut book, 1, Call::Lock(top, Mode::IX))?;
+        assert_eq!(rt; first, Reply::Granted(Mode::IX));
+        for number in 0..4095 {
+            let call = Call::Lock(below(&[1, number])?, Mode::X);
+            assert_eq!(rt; serve(&rt, &mut book, 1, call)?, Reply::Granted(Mode::X));
+        }
+        release_all(&rt, &mut book, turn == 1)?;
+    }
+    assert_eq!(rt;
+        serve(&rt, &mut book, 1, Call::Commit)?,
+        Reply::Committed(0)
+    );
+    Ok(())
+}
+
 #[test]
 fn conversions_wait_ahead_of_fresh_requests(rt: HostRuntime) -> Result<(), Fail> {
     let one = resource(1)?;

@@ -35,6 +35,6 @@ returns-in-Abort-clause-act c = λ st i j h.
 
 pub ask-requires-clause-may : goal.ask-requires-clause-may
 ask-requires-clause-may c = elim c.in-Lock.is [
-  | inl e ↦ lock-may c.args.self.now c.args.session c.in-Lock.resource c.in-Lock.mode (rw e at c.requires.passed)
-  | inr e ↦ convert-may c.args.self.now c.args.session c.in-Lock.resource c.in-Lock.mode (rw e at c.requires.passed)
+  | inl e ↦ lock-may c.args.self.now c.args.session c.in-Lock.resource c.in-Lock.mode c.requires.whole (rw e at c.requires.passed)
+  | inr e ↦ convert-may c.args.self.now c.args.session c.in-Lock.resource c.in-Lock.mode c.requires.whole (rw e at c.requires.passed)
 ]

@@ -1,9 +1,10 @@
-use Rattle.std.proofs.Common.{ap, rules, ◌≡◌, refl, sym, ◌∙◌, subst, Bool}
+use Rattle.std.proofs.Common.{ap, rules, ◌≡◌, ◌<◌, refl, sym, ◌∙◌, subst, Bool, arith, vec_len, vec_capacity}
+use Rattle.lock_desk.specs.declared.lockers.Locker.{Locker}
 use Rattle.lock_desk.specs.Cells.{is_granted}
 use Rattle.lock_desk.specs.Lockers.{standing_of, standing_after_asking}
 use Rattle.lock_desk.proofs.Results.{on-err-from}
 use Rattle.lock_desk.proofs.CellTable.{became-same}
-use Rattle.lock_desk.proofs.Asking.{within, idle-there, held-locker, mid-held, room-same, room-whole, twice-own, twice-kept, has-asked, asked-whole}
+use Rattle.lock_desk.proofs.Asking.{within, idle-there, held-locker, mid-held, mid-under, mid-same, room-same, room-whole, twice-own, twice-kept, has-asked, asked-whole}
 use Rattle.lock_desk.proofs.desk.Desk.lock.Goals as goal
 
 pub returns-in_err-make_room-clause-err : goal.returns-in_err-make_room-clause-err
@@ -78,3 +79,20 @@ pub wait_for-requires-clause-kind : goal.wait_for-requires-clause-kind
 wait_for-requires-clause-kind c =
     mid-held c.args.self.now c.args.session c.index_mut-locker.result.now c.make_room.new.self c.requires.whole (within c.args.self.now c.args.session c.position_of-position.ensures c.requires.some c.requires.within) c.index_mut-locker.ensures.value c.make_room.ensures.standing c.make_room.ensures.kept c.args.resource c.index_mut-locker-2.result.now c.index_mut-locker-2.ensures.value
     ∙ (held-locker c.args.session c.args.resource c.args.self.now c.requires.whole ∙ c.requires.can.new)
+
+pub hold-requires-clause-under : goal.hold-requires-clause-under
+hold-requires-clause-under c = mid-under c.args.self.now c.args.session c.index_mut-locker.result.now c.make_room.new.self c.requires.whole (within c.args.self.now c.args.session c.position_of-position.ensures c.requires.some c.requires.within) c.index_mut-locker.ensures.value c.make_room.ensures.standing c.make_room.ensures.kept c.args.resource c.index_mut-locker-2.result.now c.index_mut-locker-2.ensures.value c.requires.can.under
+
+pub hold-requires-clause-children : goal.hold-requires-clause-children
+hold-requires-clause-children c =
+    let room = c.in_ok-make_room.ensures.children in
+    subst (λ (x : Locker). vec_len x.held < vec_capacity x.children.counts) (sym (mid-same c.args.self.now c.args.session c.index_mut-locker.result.now c.make_room.new.self c.requires.whole (within c.args.self.now c.args.session c.position_of-position.ensures c.requires.some c.requires.within) c.index_mut-locker.ensures.value c.make_room.ensures.standing c.make_room.ensures.kept c.index_mut-locker-2.result.now c.index_mut-locker-2.ensures.value)) room
+
+pub wait_for-requires-clause-under : goal.wait_for-requires-clause-under
+wait_for-requires-clause-under c = mid-under c.args.self.now c.args.session c.index_mut-locker.result.now c.make_room.new.self c.requires.whole (within c.args.self.now c.args.session c.position_of-position.ensures c.requires.some c.requires.within) c.index_mut-locker.ensures.value c.make_room.ensures.standing c.make_room.ensures.kept c.args.resource c.index_mut-locker-2.result.now c.index_mut-locker-2.ensures.value c.requires.can.under
+
+pub wait_for-requires-clause-children : goal.wait_for-requires-clause-children
+wait_for-requires-clause-children c =
+    let room = c.in_ok-make_room.ensures.children in
+    let there : vec_len c.index_mut-locker-2.result.now.held < vec_capacity c.index_mut-locker-2.result.now.children.counts = subst (λ (x : Locker). vec_len x.held < vec_capacity x.children.counts) (sym (mid-same c.args.self.now c.args.session c.index_mut-locker.result.now c.make_room.new.self c.requires.whole (within c.args.self.now c.args.session c.position_of-position.ensures c.requires.some c.requires.within) c.index_mut-locker.ensures.value c.make_room.ensures.standing c.make_room.ensures.kept c.index_mut-locker-2.result.now c.index_mut-locker-2.ensures.value)) room in
+    omega (arith, there)

@@ -1,23 +1,57 @@
-use Rattle.std.proofs.Common.{◌≡◌, ℕ, List, length, arith, ap, subst, sym, rules}
-use Rattle.std.proofs.lemmas.Fn.{filter_same}
-use Rattle.lock_desk.specs.Cells.{AreApart}
-use Rattle.lock_desk.specs.Lockers.{paths_but, wanted_in}
-use Rattle.lock_desk.proofs.GivingUp.{apart-but, few-but}
+use Rattle.std.proofs.Common.{◌≡◌, ◌<◌, ℕ, List, [], length, get_or, arith, ap, subst, sym, ◌∙◌}
+use Rattle.std.specs.List.{swap_remove}
+use Rattle.lock_tree.specs.Paths.{same_path}
+use Rattle.lock_desk.specs.Cells.{has_path, AreApart}
+use Rattle.lock_desk.specs.ChildCounts.{has_child, AreCounted}
+use Rattle.lock_desk.proofs.ChildCounts.{left-is, left-apart, left-gone, left-has}
 use Rattle.lock_desk.proofs.lockers.Locker.release.Goals as goal
 
-pub returns-clause-standing : goal.returns-clause-standing
-returns-clause-standing c =
-    let e : c.retain.new.self.items ≡ paths_but c.args.resource c.args.self.now.held.items = filter_same _ _ _ (λ x b f' k. search rules) _ _ c.retain.ensures.filtered in
-    ap (λ (xs : List (List ℕ)). record { transaction = c.args.self.now.transaction; held = xs; wanted = wanted_in c.args.self.now.wanted }) e
+pub remove-requires-clause-within : goal.remove-requires-clause-within
+remove-requires-clause-within c = omega (arith, c.in-Some.ensures.within, c.deref.ensures.len, c.deref-2.ensures.len)
+
+pub remove-requires-clause-childless : goal.remove-requires-clause-childless
+remove-requires-clause-childless c =
+    let rs = c.args.self.now.held.items in
+    let p = c.in-Some.place in
+    let at : get_or rs p [] ≡ c.args.resource = ap (λ (xs : List (List ℕ)). get_or xs p []) (sym c.deref.ensures.value) ∙ c.in-Some.ensures.at in
+    ap (λ (xs : List (List ℕ)). has_child (get_or xs p []) xs) c.deref-2.ensures.value ∙ (ap (λ (x : List ℕ). has_child x rs) at ∙ c.requires.childless)
+
+pub returns-clause-gone : goal.returns-clause-gone
+returns-clause-gone c =
+    let rs = c.args.self.now.held.items in
+    let p = c.in-Some.place in
+    let lt : p < length rs = omega (arith, c.in-Some.ensures.within, c.deref.ensures.len, c.args.self.now.held.ok.0) in
+    let apart = c.requires.kept.apart in
+    let at : get_or rs p [] ≡ c.args.resource = ap (λ (xs : List (List ℕ)). get_or xs p []) (sym c.deref.ensures.value) ∙ c.in-Some.ensures.at in
+    let is = c.swap_remove-released.ensures.items ∙ (left-is rs [] [] p lt apart c.swap_remove-released.result ∙ sym (left-is rs [] [] p lt apart (get_or rs p []))) in
+    ap (has_path c.args.resource) is ∙ (ap (λ (x : List ℕ). has_path x (swap_remove rs p (get_or rs p []))) (sym at) ∙ left-gone rs [] [] p lt apart)
+
+pub returns-clause-others : goal.returns-clause-others
+returns-clause-others c = λ q n.
+    let rs = c.args.self.now.held.items in
+    let p = c.in-Some.place in
+    let lt : p < length rs = omega (arith, c.in-Some.ensures.within, c.deref.ensures.len, c.args.self.now.held.ok.0) in
+    let apart = c.requires.kept.apart in
+    let at : get_or rs p [] ≡ c.args.resource = ap (λ (xs : List (List ℕ)). get_or xs p []) (sym c.deref.ensures.value) ∙ c.in-Some.ensures.at in
+    let is = c.swap_remove-released.ensures.items ∙ (left-is rs [] [] p lt apart c.swap_remove-released.result ∙ sym (left-is rs [] [] p lt apart (get_or rs p []))) in
+    ap (has_path q) is ∙ left-has rs [] [] p lt apart q (ap (λ (x : List ℕ). same_path x q) at ∙ n)
 
 pub returns-clause-kept : goal.returns-clause-kept
 returns-clause-kept c =
-    let e : c.retain.new.self.items ≡ paths_but c.args.resource c.args.self.now.held.items = filter_same _ _ _ (λ x b f' k. search rules) _ _ c.retain.ensures.filtered in
-    let l = ap length e in
-    let f = few-but c.args.resource c.args.self.now.held.items in
+    let k = c.requires.kept in
+    let rs = c.args.self.now.held.items in
+    let p = c.in-Some.place in
+    let lt : p < length rs = omega (arith, c.in-Some.ensures.within, c.deref.ensures.len, c.args.self.now.held.ok.0) in
+    let new = c.swap_remove-released.new.self in
+    let is = c.swap_remove-released.ensures.items ∙ (left-is rs [] [] p lt k.apart c.swap_remove-released.result ∙ sym (left-is rs [] [] p lt k.apart (get_or rs p []))) in
+    let left = ap (λ (xs : List (List ℕ)). swap_remove xs p []) c.deref-2.ensures.value ∙ (left-is rs [] [] p lt k.apart [] ∙ (sym (left-is rs [] [] p lt k.apart (get_or rs p [])) ∙ sym is)) in
+    let len = c.swap_remove-released.ensures.len in
     record {
-      apart = subst AreApart (sym e) (apart-but c.args.resource c.args.self.now.held.items c.requires.kept.apart);
+      under = rw c.requires.idle tt;
+      counted = subst (λ (xs : List (List ℕ)). AreCounted xs c.remove.new.self) left c.remove.ensures.counted;
+      children_room = omega (arith, len, c.remove.ensures.capacity, k.children_room);
+      apart = subst AreApart (sym is) (left-apart rs [] [] p lt k.apart);
       kind = rw c.requires.idle tt;
-      room = omega (arith, l, f, c.retain.ensures.capacity, c.requires.kept.room, c.retain.new.self.ok.0, c.args.self.now.held.ok.0);
-      few = omega (arith, l, f, c.requires.kept.few);
+      room = omega (arith, len, c.swap_remove-released.ensures.capacity, k.room);
+      few = omega (arith, len, k.few, new.ok.0, c.args.self.now.held.ok.0);
     }
