@@ -1,6 +1,7 @@
 //! How many children of each of its locks a session holds, so that a lock is given back without a look at the others.
 
 ghost use Rattle.std.specs.Prelude.{◌≡◌, ℕ, ◌+◌, ◌-◌, ◌<◌, ◌≤◌, true, false, if◌then◌else◌, List, [], ◌∷◌, ◌++◌, length, swap_remove, slice_index_or, IfSome, IfNone, OnOk, vec_len, vec_capacity};
+ghost use Rattle.lock_tree.specs.Paths.{has_parent, parent_of};
 ghost use Rattle.lock_desk.specs.Cells.{has_path, AreApart};
 ghost use Rattle.lock_desk.specs.ChildCounts.{is_child, has_child, IsUnder, AreCounted};
 
@@ -96,6 +97,19 @@ impl Children {
         self.counts.reserve(1)
     }
 
+    /// Where the parent of the resource stands among the locks.
+    fn place_of_parent(&self, held: &[Resource], resource: Resource) -> Option<usize>
+        ensures within { IfSome result (λ i. i < length held.now) }
+        ensures has { IfSome result (λ _. has_parent resource ≡ true) }
+        ensures at { IfSome result (λ i. slice_index_or held.now i [] ≡ parent_of resource) }
+        ensures none { IfNone result ((i : ℕ) → i < length held.now → is_child (slice_index_or held.now i []) resource ≡ false) }
+    {
+        match resource.parent() {
+            Some(parent) => place_of(held, self.parent, parent),
+            None => None,
+        }
+    }
+
     /// The parent of the resource has one child more.
     fn raise(&mut self, held: &[Resource], resource: Resource)
         requires counted { AreCounted held.now self.old }
@@ -110,10 +124,7 @@ impl Children {
         if !self.stand {
             return;
         }
-        let Some(parent) = resource.parent() else {
-            return;
-        };
-        let Some(place) = place_of(held, self.parent, parent) else {
+        let Some(place) = self.place_of_parent(held, resource) else {
             return;
         };
         self.parent = place;
@@ -134,10 +145,7 @@ impl Children {
         if !self.stand {
             return;
         }
-        let Some(parent) = resource.parent() else {
-            return;
-        };
-        let Some(place) = place_of(held, self.parent, parent) else {
+        let Some(place) = self.place_of_parent(held, resource) else {
             return;
         };
         self.parent = place;
