@@ -2,6 +2,7 @@
 use Rattle.std.proofs.Common.{◌≡◌, ℕ, zero, suc, ◌+◌, ◌<◌, ◌≤◌, ◌↔◌, ◌||◌, ◌&&◌, ◌==◌, Bool, true, false, not, Option, Some, None, is_some, List, [], ◌∷◌, ◌++◌, length, map, get_or, refl, sym, ap, ◌∙◌, subst, arith}
 use Rattle.std.specs.Prelude.{All, Any, IsTrue}
 use Rattle.std.specs.List.{list_any, list_all}
+use Rattle.std.proofs.lemmas.Bool.{not-true}
 use Rattle.std.proofs.lemmas.Bool.Decides.{nat_tests}
 use mathlib.Core.Option as opt
 use mathlib.Core.Logic.{dite}
@@ -111,12 +112,8 @@ nothing_waits : (p : Option Pending) → not (is_some p) ≡ true → p ≡ None
 nothing_waits None e = refl
 nothing_waits (Some p) e = absurd (cc e)
 
-isnt : (b : Bool) → not b ≡ true → b ≡ false
-isnt true e = absurd (cc e)
-isnt false e = refl
-
 settled_is : (t : Known) → is_settled t ≡ true → IsSettled t
-settled_is t e = let r = both (not (is_some t.pending)) (not t.has_book) e in record { none = nothing_waits t.pending r.0; no_book = isnt t.has_book r.1 }
+settled_is t e = let r = both (not (is_some t.pending)) (not t.has_book) e in record { none = nothing_waits t.pending r.0; no_book = not-true t.has_book r.1 }
 
 is_settled_so : (t : Known) → IsSettled t → is_settled t ≡ true
 is_settled_so t s = ap (λ (p : Option Pending). not (is_some p) && not t.has_book) s.none ∙ ap not s.no_book

@@ -1,7 +1,7 @@
 -- The longer of two fronts, and number by number the larger.
 use Rattle.std.proofs.Common.{◌≡◌, ℕ, zero, suc, ◌<◌, ◌≤◌, max, cond, true, false, List, [], ◌∷◌, length, get_or, refl, arith}
 use Rattle.std.specs.Prelude.{nat_lt}
-use Rattle.std.proofs.lemmas.Bool.Decides.{nat_tests}
+use Rattle.std.proofs.lemmas.Bool.{ltb-true, ltb-false}
 use mathlib.Core.List.{IsPrefix}
 use Rattle.lock_rules.specs.declared.calls.Entry.{Entry}
 use Rattle.publication.specs.Kinds.{maxes, longer}
@@ -14,16 +14,10 @@ pub record IsLonger (f g h l : List Entry) : Type 0 where
   pub begins : IsPrefix l h
   pub long : length l ≡ max (length f) (length g)
 
-less : (a b : ℕ) → nat_lt a b ≡ true → a < b
-less a b e = grind (arith, nat_tests)
-
-not_less : (a b : ℕ) → nat_lt a b ≡ false → b ≤ a
-not_less a b e = grind (arith, nat_tests)
-
 pub is-longer : (f g h : List Entry) → IsPrefix f h → IsPrefix g h → IsLonger f g h (longer f g)
 is-longer f g h p q = (elim (nat_lt (length f) (length g)) as (λ b. nat_lt (length f) (length g) ≡ b → IsLonger f g h (cond b g f)) [
-  | true ↦ λ e. let lt = less (length f) (length g) e in record { mine = prefix_both f g h p q (omega arith); theirs = prefix_self g; begins = q; long = omega arith }
-  | false ↦ λ e. let le = not_less (length f) (length g) e in record { mine = prefix_self f; theirs = prefix_both g f h q p le; begins = p; long = omega arith }
+  | true ↦ λ e. let lt = ltb-true (length f) (length g) e in record { mine = prefix_both f g h p q (omega arith); theirs = prefix_self g; begins = q; long = omega arith }
+  | false ↦ λ e. let le = ltb-false (length f) (length g) e in record { mine = prefix_self f; theirs = prefix_both g f h q p le; begins = p; long = omega arith }
 ]) refl
 
 pub maxes-at : (xs ys : List ℕ) (j : ℕ) → get_or (maxes xs ys) j 0 ≡ max (get_or xs j 0) (get_or ys j 0)
@@ -43,6 +37,6 @@ maxes-wide (x ∷ xs) (y ∷ ys) = let t = maxes-wide xs ys in omega arith
 
 pub longer-length : (f g : List Entry) → length (longer f g) ≡ max (length f) (length g)
 longer-length f g = (elim (nat_lt (length f) (length g)) as (λ b. nat_lt (length f) (length g) ≡ b → length (cond b g f) ≡ max (length f) (length g)) [
-  | true ↦ λ e. let lt = less (length f) (length g) e in omega arith
-  | false ↦ λ e. let le = not_less (length f) (length g) e in omega arith
+  | true ↦ λ e. let lt = ltb-true (length f) (length g) e in omega arith
+  | false ↦ λ e. let le = ltb-false (length f) (length g) e in omega arith
 ]) refl

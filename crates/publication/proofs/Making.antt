@@ -5,7 +5,7 @@ use mathlib.Core.Option as opt
 use mathlib.Core.List.{IsPrefix}
 use lib.ListN.{get_elem?}
 use Rattle.std.specs.Prelude.{nat_le}
-use Rattle.std.proofs.lemmas.Bool.Decides.{nat_tests}
+use Rattle.std.proofs.lemmas.Bool.{leb-true}
 use Rattle.std.specs.Global.{Box}
 use Rattle.atomic_table.specs.Table.{opening, Splits}
 use Rattle.lock_rules.specs.declared.calls.Call.{Call}
@@ -26,9 +26,6 @@ nothings : (n i : ℕ) → i < n → get_or (map opt.some (replicate n Nothing))
 nothings zero i h = absurd (omega arith)
 nothings (suc n) zero h = refl
 nothings (suc n) (suc i) h = nothings n i (omega arith)
-
-at_most : (a b : ℕ) → nat_le a b ≡ true → a ≤ b
-at_most a b e = grind (arith, nat_tests)
 
 -- a seat that knows nothing of others, but whether all sessions are made
 pub told_nothing : (h : List Entry) (s : BoardState) (slots : ℕ) (owns : List Own) (all_made : Bool) → (all_made ≡ true → slots ≤ length s.views) → AreTrue h s slots owns (apart all_made)
@@ -65,7 +62,7 @@ module _ (n : ℕ) (load : Box Load) (ready : IsHome [] (n + 1) load.value) wher
 
   others_first : (k : ℕ) → AreTrue [] laid_out (n + 1) (replicate (n + 1) fresh) (seat laid_out k).others
   others_first = each (λ u. AreTrue [] laid_out (n + 1) (replicate (n + 1) fresh) u.others)
-      (told_nothing [] laid_out (n + 1) (replicate (n + 1) fresh) (nat_le (n + 1) 1) (at_most (n + 1) 1))
+      (told_nothing [] laid_out (n + 1) (replicate (n + 1) fresh) (nat_le (n + 1) 1) (leb-true (n + 1) 1))
       (told_nothing [] laid_out (n + 1) (replicate (n + 1) fresh) false (λ e. absurd (cc e)))
 
   pub begins : IsOrderly laid_out
@@ -170,7 +167,7 @@ module _ (slots made : ℕ) (some_left : made + 1 < slots) (s : BoardState) (o :
   others_after : (k : ℕ) → AreTrue o.history enrolled o.slots o.owns (seat enrolled k).others
   others_after = each_seat (λ k u. AreTrue o.history enrolled o.slots o.owns u.others)
       (told_nothing o.history enrolled o.slots o.owns false (λ e. absurd (cc e)))
-      (told_nothing o.history enrolled o.slots o.owns (nat_le slots (made + 1 + 1)) (λ e. omega (arith, at_most slots (made + 1 + 1) e, one_more, seats, before.slots_are)))
+      (told_nothing o.history enrolled o.slots o.owns (nat_le slots (made + 1 + 1)) (λ e. omega (arith, leb-true slots (made + 1 + 1) e, one_more, seats, before.slots_are)))
       (λ k ne. still-true o.history o.history s enrolled o.slots o.owns o.owns (seat s k).others (prefix_self o.history) (omega (arith, one_more)) none_joined (o.others k))
 
   still_has : (k : ℕ) → (seat s k).combiner.has_book ≡ true → (seat enrolled k).combiner.has_book ≡ true
