@@ -24,6 +24,8 @@ LONG_TESTS = [
     "a_transaction_holds_4096_locks_and_no_more",
     "eight_threads_poll",
     "eight_threads_are_told_what_one_book_tells",
+    "eight_threads_hear",
+    "all_256_sessions_close_in_any_order",
 ]
 STARVED_TEST = "a_call_that_found_no_memory_is_served_by_the_next_pass"
 

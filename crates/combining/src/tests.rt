@@ -20,7 +20,7 @@ fn database(number: u32) -> Result<Resource, Fail> {
     Ok(resource)
 }
 
-fn new_office(alloc: Global, sessions: u16) -> Result<(Office, Vec<Session>), OpenFault>
+pub(crate) fn new_office(alloc: Global, sessions: u16) -> Result<(Office, Vec<Session>), OpenFault>
     ensures { IfOk result (λ made. made.1.items ≡ new_tickets made.0.id sessions sessions) }
 {
     match Office::open(alloc, sessions) {
@@ -30,7 +30,7 @@ fn new_office(alloc: Global, sessions: u16) -> Result<(Office, Vec<Session>), Op
 }
 
 /// A pass, and once more where memory was refused for a call: how many calls it served.
-fn served_by(rt: &impl Abort, office: &Office, session: &mut Session) -> u32
+pub(crate) fn served_by(rt: &impl Abort, office: &Office, session: &mut Session) -> u32
     requires ours { IsSessionOf office.now session.old }
     ensures ours { IsSessionOf office.now session.new }
 {
@@ -57,7 +57,7 @@ fn served_by(rt: &impl Abort, office: &Office, session: &mut Session) -> u32
     }
 }
 
-fn ask(rt: &impl Abort, office: &Office, session: &mut Session, call: Call) -> Answer
+pub(crate) fn ask(rt: &impl Abort, office: &Office, session: &mut Session, call: Call) -> Answer
     requires ours { IsSessionOf office.now session.old × IsIdle session.old }
     ensures ours { IsSessionOf office.now session.new × IsIdle session.new }
 {
@@ -67,7 +67,7 @@ fn ask(rt: &impl Abort, office: &Office, session: &mut Session, call: Call) -> A
     office.collect(session).expect(rt, "an answer")
 }
 
-fn answer(place: u64, reply: Reply) -> Answer {
+pub(crate) fn answer(place: u64, reply: Reply) -> Answer {
     Answer { place, reply }
 }
 
@@ -196,14 +196,22 @@ enum Load {
 
 /// The calls of one session, by a sequence of numbers that its seed fixes.
 #[derive(Drop)]
-struct Caller {
+pub(crate) struct Caller {
     load: Load,
     state: u64,
 }
 
 impl Caller {
+    /// One that polls alone.
+    pub(crate) fn polls(seed: u64) -> Caller {
+        Caller {
+            load: Load::Polls,
+            state: seed,
+        }
+    }
+
     /// A number below 2^31.
-    fn number(&mut self) -> u64 {
+    pub(crate) fn number(&mut self) -> u64 {
         self.state = self
             .state
             .wrapping_mul(6_364_136_223_846_793_005)
@@ -253,7 +261,7 @@ fn with_answer(session: u16, call: Call, answer: Answer) -> Answered {
 }
 
 /// Publishes a call, and tries to serve and to collect until the answer is there.
-fn call(office: &Office, session: &mut Session, call: Call) -> Option<Answer>
+pub(crate) fn call(office: &Office, session: &mut Session, call: Call) -> Option<Answer>
     requires ours { IsSessionOf office.now session.old × IsIdle session.old }
     ensures ours { IsSessionOf office.now session.new }
     ensures idle { IfSome result (λ _. IsIdle session.new) }
