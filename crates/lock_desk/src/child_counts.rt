@@ -1,7 +1,6 @@
 //! How many children of each of its locks a session holds, so that a lock is given back without a look at the others.
 
 ghost use Rattle.std.specs.Prelude.{◌≡◌, ℕ, ◌+◌, ◌-◌, ◌<◌, ◌≤◌, true, false, if◌then◌else◌, List, [], ◌∷◌, ◌++◌, length, swap_remove, slice_index_or, IfSome, IfNone, OnOk, vec_len, vec_capacity};
-ghost use Rattle.lock_tree.specs.Paths.{has_parent, parent_of};
 ghost use Rattle.lock_desk.specs.Cells.{has_path, AreApart};
 ghost use Rattle.lock_desk.specs.ChildCounts.{is_child, has_child, IsUnder, AreCounted};
 
@@ -10,9 +9,12 @@ use lock_rules::MAX_LOCKS;
 use lock_tree::Resource;
 use std::alloc::{AllocError, Global};
 
-/// Beside each lock of a session the number of its children that the session holds. The counts stand but for the time
-/// in which all locks are given back, one after another. The place of the parent that was found last is where the next
-/// one is looked for first.
+/// How many of the first locks are looked at for a parent, which comes before its children.
+const FIRST: usize = 8;
+
+/// Beside each lock of a session the number of its children that the session holds. The counts stand until a lock comes
+/// or goes whose parent isn't found near the parent that was found last, or until all locks are given back, one after
+/// another; they stand again once no lock is left.
 #[derive(Drop)]
 pub struct Children {
     counts: Vec<u32>,
@@ -40,12 +42,11 @@ fn search(list: &[Resource], resource: Resource) -> Option<usize>
     None
 }
 
-/// Where the resource stands in the list: at the place that was noted or beside it, at the end, or else it is looked
-/// for. Locks that go in the order in which they came, or the other way round, stand there.
-pub(crate) fn place_of(list: &[Resource], noted: usize, resource: Resource) -> Option<usize>
+/// Where the resource stands in the list, if it does so at the place that was noted or beside it, at the end, or among
+/// the first: a look at a few places, however long the list is.
+fn near(list: &[Resource], noted: usize, resource: Resource) -> Option<usize>
     ensures within { IfSome result (λ i. i < length list.now) }
     ensures at { IfSome result (λ i. slice_index_or list.now i [] ≡ resource) }
-    ensures none { IfNone result (has_path resource list.now ≡ false) }
 {
     if is_at(list, noted, resource) {
         return Some(noted);
@@ -62,7 +63,25 @@ pub(crate) fn place_of(list: &[Resource], noted: usize, resource: Resource) -> O
     if is_at(list, last, resource) {
         return Some(last);
     }
-    search(list, resource)
+    for place in 0..FIRST {
+        if is_at(list, place, resource) {
+            return Some(place);
+        }
+    }
+    None
+}
+
+/// Where the resource stands in the list: near the place that was noted, or else it is looked for. Locks that go in the
+/// order in which they came, or the other way round, stand there.
+pub(crate) fn place_of(list: &[Resource], noted: usize, resource: Resource) -> Option<usize>
+    ensures within { IfSome result (λ i. i < length list.now) }
+    ensures at { IfSome result (λ i. slice_index_or list.now i [] ≡ resource) }
+    ensures none { IfNone result (has_path resource list.now ≡ false) }
+{
+    match near(list, noted, resource) {
+        Some(place) => Some(place),
+        None => search(list, resource),
+    }
 }
 
 fn is_child(resource: Resource, other: Resource) -> bool
@@ -97,34 +116,25 @@ impl Children {
         self.counts.reserve(1)
     }
 
-    /// Where the parent of the resource stands among the locks.
-    fn place_of_parent(&self, held: &[Resource], resource: Resource) -> Option<usize>
-        ensures within { IfSome result (λ i. i < length held.now) }
-        ensures has { IfSome result (λ _. has_parent resource ≡ true) }
-        ensures at { IfSome result (λ i. slice_index_or held.now i [] ≡ parent_of resource) }
-        ensures none { IfNone result ((i : ℕ) → i < length held.now → is_child (slice_index_or held.now i []) resource ≡ false) }
-    {
-        match resource.parent() {
-            Some(parent) => place_of(held, self.parent, parent),
-            None => None,
-        }
-    }
-
     /// The parent of the resource has one child more.
     fn raise(&mut self, held: &[Resource], resource: Resource)
         requires counted { AreCounted held.now self.old }
         requires apart { AreApart held.now }
         requires few { length held.now < MAX_LOCKS }
-        ensures counts { self.old.stand ≡ true → (i : ℕ) → i < length held.now → slice_index_or self.new.counts.items i 0
+        ensures counts { self.new.stand ≡ true → (i : ℕ) → i < length held.now → slice_index_or self.new.counts.items i 0
             ≡ slice_index_or self.old.counts.items i 0 + (if is_child (slice_index_or held.now i []) resource then 1 else 0) }
         ensures len { vec_len self.new.counts ≡ vec_len self.old.counts }
         ensures capacity { vec_capacity self.new.counts ≡ vec_capacity self.old.counts }
-        ensures stand { self.new.stand ≡ self.old.stand }
+        ensures stand { self.new.stand ≡ true → self.old.stand ≡ true }
     {
         if !self.stand {
             return;
         }
-        let Some(place) = self.place_of_parent(held, resource) else {
+        let Some(parent) = resource.parent() else {
+            return;
+        };
+        let Some(place) = near(held, self.parent, parent) else {
+            self.stand = false;
             return;
         };
         self.parent = place;
@@ -136,16 +146,20 @@ impl Children {
         requires counted { AreCounted held.now self.old }
         requires apart { AreApart held.now }
         requires there { has_path resource held.now ≡ true }
-        ensures counts { self.old.stand ≡ true → (i : ℕ) → i < length held.now → slice_index_or self.new.counts.items i 0 + (if is_child (slice_index_or held.now i []) resource then 1 else 0)
+        ensures counts { self.new.stand ≡ true → (i : ℕ) → i < length held.now → slice_index_or self.new.counts.items i 0 + (if is_child (slice_index_or held.now i []) resource then 1 else 0)
             ≡ slice_index_or self.old.counts.items i 0 }
         ensures len { vec_len self.new.counts ≡ vec_len self.old.counts }
         ensures capacity { vec_capacity self.new.counts ≡ vec_capacity self.old.counts }
-        ensures stand { self.new.stand ≡ self.old.stand }
+        ensures stand { self.new.stand ≡ true → self.old.stand ≡ true }
     {
         if !self.stand {
             return;
         }
-        let Some(place) = self.place_of_parent(held, resource) else {
+        let Some(parent) = resource.parent() else {
+            return;
+        };
+        let Some(place) = near(held, self.parent, parent) else {
+            self.stand = false;
             return;
         };
         self.parent = place;

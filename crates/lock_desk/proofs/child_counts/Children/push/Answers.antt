@@ -11,8 +11,8 @@ returns-clause-counted c =
     record {
       long = omega (arith, c.push_reserved.ensures.len, c.raise.ensures.len, c.requires.counted.long, length-append rs (q ∷ []));
       right = λ h.
-          let st = sym c.raise.ensures.stand ∙ h in
+          let st = c.raise.ensures.stand h in
           subst (λ (ns : List ℕ). DoCount (rs ++ q ∷ []) ns) (sym c.push_reserved.ensures.items)
           (pushed-counts rs q c.args.self.now.counts.items raised.items (c.requires.counted.right st) c.requires.new c.requires.under
-          (omega (arith, c.raise.ensures.len, c.requires.counted.long, raised.ok.0)) (c.raise.ensures.counts st));
+          (omega (arith, c.raise.ensures.len, c.requires.counted.long, raised.ok.0)) (c.raise.ensures.counts h));
     }

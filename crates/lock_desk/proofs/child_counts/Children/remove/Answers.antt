@@ -26,9 +26,9 @@ returns-clause-counted c =
     record {
       long = omega (arith, c.swap_remove.ensures.len, c.lower.ensures.len, c.requires.counted.long, long, one);
       right = λ h.
-          let st = sym c.lower.ensures.stand ∙ h in
+          let st = c.lower.ensures.stand h in
           let down : (i : ℕ) → i < length rs → get_or lowered.items i 0 + cond (is_child (get_or rs i []) (get_or rs p [])) 1 0 ≡ get_or ns i 0
-          = λ i l. ap {B = ℕ} (λ (x : List ℕ). get_or lowered.items i 0 + cond (is_child (get_or rs i []) x) 1 0) (sym same) ∙ c.lower.ensures.counts st i l in
+          = λ i l. ap {B = ℕ} (λ (x : List ℕ). get_or lowered.items i 0 + cond (is_child (get_or rs i []) x) 1 0) (sym same) ∙ c.lower.ensures.counts h i l in
           let d = left-counts rs ns lowered.items p lt c.requires.apart (c.requires.counted.right st) c.requires.childless (omega (arith, c.lower.ensures.len, c.requires.counted.long, lowered.ok.0)) down c.swap_remove.result in
           subst (λ (xs : List (List ℕ)). DoCount xs c.swap_remove.new.self.items) (less (get_or rs p []) ∙ sym (less [])) (subst (λ (ms : List ℕ). DoCount (swap_remove rs p (get_or rs p [])) ms) (sym c.swap_remove.ensures.items) d);
     }
