@@ -2,10 +2,16 @@
 
 use crate::running::{replay, run_words};
 use std::process::Abort;
+use std::sync::Wait;
 use std::test::Fail;
+use std::thread::Threads;
 
 /// Replays each trace, and wants the line beside it, and nothing written.
-fn want_faults(rt: &HostRuntime, abort: &impl Abort, traces: &[(&str, &str)]) -> Result<(), Fail> {
+fn want_faults(
+    rt: &(impl AllocGlobal + Threads + Wait),
+    abort: &impl Abort,
+    traces: &[(&str, &str)],
+) -> Result<(), Fail> {
     for (trace, told) in traces {
         let ran = replay(rt, trace)?;
         assert_eq!(abort; ran.status, 1, "{trace}");

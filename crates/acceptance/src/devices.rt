@@ -1,6 +1,7 @@
 //! Readers and writers that fail.
 
-use glm::{ToolFault, program, replay};
+use crate::gates::Counting;
+use glm::{OpenGate, ToolFault, program, replay, run};
 use lock_trace::{TraceFault, TraceKind};
 use std::io;
 use std::io::{ErrorKind, Read, Write};
@@ -69,7 +70,15 @@ const WORDS: [&str; 2] = ["glm", "replay"];
 fn a_writer_that_fails_ends_with_five(rt: HostRuntime) -> Result<(), Fail> {
     let mut errors = Vec::new(rt.alloc());
     let input = b"1,begin,,\n".as_slice();
-    let status = program(rt.alloc(), WORDS.as_slice(), input, &mut Full, &mut errors);
+    let status = program(
+        &rt,
+        rt.alloc(),
+        WORDS.as_slice(),
+        input,
+        &mut Full,
+        &mut errors,
+        &OpenGate,
+    );
     assert_eq!(rt; status, 5);
     assert_eq!(rt; errors.as_slice(), b"glm: device\n".as_slice());
     let fault = replay(rt.alloc(), input, &mut Full, 1);
@@ -93,11 +102,13 @@ fn help_that_cannot_be_shown_ends_with_five(rt: HostRuntime) {
     let words = ["glm", "--help"];
     let nothing = b"".as_slice();
     let status = program(
+        &rt,
         rt.alloc(),
         words.as_slice(),
         nothing,
         &mut Full,
         &mut errors,
+        &OpenGate,
     );
     assert_eq!(rt; status, 5);
     assert_eq!(rt; errors.as_slice(), b"glm: device\n".as_slice());
@@ -112,6 +123,8 @@ fn tool_faults_have_their_numbers(rt: HostRuntime) {
     assert_eq!(rt; ToolFault::Trace(fault).number(), 1);
     assert_eq!(rt; ToolFault::NoMemory.number(), 2);
     assert_eq!(rt; ToolFault::Device.number(), 3);
+    assert_eq!(rt; ToolFault::GateShut.number(), 4);
+    assert_eq!(rt; ToolFault::TurnLimit.number(), 5);
 }
 
 #[test]
@@ -119,11 +132,13 @@ fn a_reader_that_fails_names_its_row(rt: HostRuntime) -> Result<(), Fail> {
     let mut output = Vec::new(rt.alloc());
     let mut errors = Vec::new(rt.alloc());
     let status = program(
+        &rt,
         rt.alloc(),
         WORDS.as_slice(),
         Cut { left: GIVEN },
         &mut output,
         &mut errors,
+        &OpenGate,
     );
     assert_eq!(rt; status, 5);
     assert!(rt; output.is_empty());
@@ -146,9 +161,13 @@ fn a_reader_that_fails_names_its_row(rt: HostRuntime) -> Result<(), Fail> {
 fn errors_that_cannot_be_told_change_no_status(rt: HostRuntime) -> Result<(), Fail> {
     let mut output = Vec::new(rt.alloc());
     let bad = b"x,begin,,\n".as_slice();
-    let status = program(rt.alloc(), WORDS.as_slice(), bad, &mut output, &mut Full);
+    let alloc = rt.alloc();
+    let words = WORDS.as_slice();
+    let status = program(&rt, alloc, words, bad, &mut output, &mut Full, &OpenGate);
     assert_eq!(rt; status, 1);
-    let status = program(rt.alloc(), ["glm"].as_slice(), bad, &mut output, &mut Full);
+    let words = ["glm"];
+    let words = words.as_slice();
+    let status = program(&rt, alloc, words, bad, &mut output, &mut Full, &OpenGate);
     assert_eq!(rt; status, 2);
     assert!(rt; output.is_empty());
     Ok(())
@@ -164,5 +183,67 @@ fn a_replay_counts_its_rows(rt: HostRuntime) -> Result<(), Fail> {
         1,
     );
     assert!(rt; rows == Ok(2));
+    Ok(())
+}
+
+#[test]
+fn a_run_whose_reader_fails_starts_no_thread(rt: HostRuntime) -> Result<(), Fail> {
+    let gate = Counting::new();
+    let mut output = Vec::new(rt.alloc());
+    let fault = run(
+        &rt,
+        rt.alloc(),
+        Cut { left: GIVEN },
+        &mut output,
+        1,
+        9,
+        &gate,
+    );
+    assert!(rt; output.is_empty());
+    assert_eq!(rt; gate.entered(), 0);
+    assert!(rt;
+        matches!(
+            fault,
+            Err(ToolFault::Trace(TraceFault {
+                row: 2,
+                kind: TraceKind::Device
+            }))
+        )
+    );
+    Ok(())
+}
+
+#[test]
+fn a_run_whose_writer_fails_is_a_device(rt: HostRuntime) {
+    let input = b"1,begin,,\n".as_slice();
+    let fault = run(
+        &rt,
+        rt.alloc(),
+        input,
+        &mut Short { room: 7 },
+        1,
+        9,
+        &OpenGate,
+    );
+    assert!(rt; fault == Err(ToolFault::Device));
+}
+
+#[test]
+fn a_verdict_that_cannot_be_written_ends_with_five(rt: HostRuntime) -> Result<(), Fail> {
+    let mut errors = Vec::new(rt.alloc());
+    let words = ["glm", "check"];
+    let words = words.as_slice();
+    let nothing = b"".as_slice();
+    let status = program(
+        &rt,
+        rt.alloc(),
+        words,
+        nothing,
+        &mut Full,
+        &mut errors,
+        &OpenGate,
+    );
+    assert_eq!(rt; status, 5);
+    assert_eq!(rt; errors.as_slice(), b"glm: device\n".as_slice());
     Ok(())
 }

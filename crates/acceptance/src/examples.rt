@@ -53,6 +53,9 @@ const PARENTS_OUTRIGHT: (&str, &str) = (
     "0,1,begin,,,began,1\n1,1,lock,1,IX,granted,IX\n2,1,lock,1/2/3,S,refused,ParentNotHeld\n3,1,lock,1/2,X,granted,X\n4,1,lock,1/2/3,S,granted,S\n5,1,lock,1/2/3/4,X,refused,ParentNotHeld\n6,1,lock,1/2/3,X,granted,X\n7,1,release,1,,refused,ChildHeld\n8,1,commit,,,committed,3\n",
 );
 
+/// Traces of several sessions, with their histories.
+pub(crate) const EXAMPLES: [(&str, &str); 4] = [QUEUE, READERS, REFUSALS, TREE];
+
 #[test]
 fn traces_give_their_histories(rt: HostRuntime) -> Result<(), Fail> {
     want_histories(

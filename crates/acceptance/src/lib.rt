@@ -16,10 +16,16 @@ mod devices;
 #[cfg(test)]
 mod examples;
 #[cfg(test)]
+mod gates;
+#[cfg(test)]
 mod numbers;
 #[cfg(test)]
 mod running;
 #[cfg(test)]
+mod runs;
+#[cfg(test)]
 mod sessions;
 #[cfg(test)]
 mod usage;
+#[cfg(test)]
+mod verdicts;

@@ -3,7 +3,9 @@
 use crate::running::{Ran, run_words};
 use std::fmt::Display;
 use std::io::Write;
+use std::sync::Wait;
 use std::test::Fail;
+use std::thread::Threads;
 
 /// A trace, and the history that it must give, both written row by row.
 #[derive(Drop)]
@@ -13,7 +15,7 @@ struct Worked {
     rows: u32,
 }
 
-fn empty(rt: &HostRuntime) -> Worked {
+fn empty(rt: &(impl AllocGlobal + Threads + Wait)) -> Worked {
     Worked {
         trace: Vec::new(rt.alloc()),
         history: Vec::new(rt.alloc()),
@@ -43,7 +45,7 @@ fn ask(worked: &mut Worked, session: u32, database: u32, reply: &str) -> Result<
     row(worked, session, format_args!("lock,{database},X"), reply)
 }
 
-fn replay(rt: &HostRuntime, worked: &Worked) -> Result<Ran, Fail> {
+fn replay(rt: &(impl AllocGlobal + Threads + Wait), worked: &Worked) -> Result<Ran, Fail> {
     run_words(rt, ["replay"].as_slice(), &worked.trace)
 }
 

@@ -1,20 +1,29 @@
 -- What a run of the program comes to, and the status that it ends with.
-use Rattle.std.specs.Prelude.{◌≡◌, ◌≢◌, ℕ, List, Option, Some, Result, Ok, Err, IfErr}
-use Rattle.std.specs.Io.KnownBytes.{Keeps}
+use Rattle.std.specs.Prelude.{◌≡◌, ◌≢◌, ℕ, List, [], ◌∷◌, ◌++◌, Option, Some, Result, Ok, Err, IfOk, IfErr, codes, decimal}
+use Rattle.std.specs.Io.KnownBytes.{Keeps, Appends}
 use Rattle.clap.specs.Walk.{Text}
+use Rattle.glm.specs.declared.checking.Verdict.{Verdict}
+use Rattle.glm.specs.declared.checking.Verdict.TheVariants as verdict
 use Rattle.glm.specs.declared.replaying.ToolFault.{ToolFault}
 use Rattle.glm.specs.declared.replaying.ToolFault.TheVariants as tool
 use Rattle.glm.specs.declared.outcomes.Outcome.{Outcome}
 use Rattle.glm.specs.declared.outcomes.Outcome.TheVariants as outcome
-use Rattle.glm.specs.declared.outcomes.TheConstants.{DONE, USAGE, NO_MEMORY, DEVICE}
-use Rattle.glm.specs.CommandLine.{AskReplay, AskHelp, AskNothing}
+use Rattle.glm.specs.declared.outcomes.TheConstants.{DONE, USAGE, ILLEGAL, NO_MEMORY, DEVICE}
+use Rattle.glm.specs.CommandLine.{AskReplay, AskRun, AskCheck, AskHelp, AskNothing}
 use Rattle.glm.specs.Replays.{Replays}
+use Rattle.glm.specs.Runs.{Runs}
 use Rattle.glm.specs.Statuses.{status_for}
+use Rattle.glm.specs.Verdicts.{Checks, IsHistory}
 
 -- the status of an outcome
 abbrev pub status_of_outcome : Outcome → ℕ
 status_of_outcome (outcome.Replay (Ok count)) = DONE
 status_of_outcome (outcome.Replay (Err fault)) = status_for fault
+status_of_outcome (outcome.Run (Ok count)) = DONE
+status_of_outcome (outcome.Run (Err fault)) = status_for fault
+status_of_outcome (outcome.Check (Ok (verdict.Legal count))) = DONE
+status_of_outcome (outcome.Check (Ok (verdict.Illegal place))) = ILLEGAL
+status_of_outcome (outcome.Check (Err fault)) = status_for fault
 status_of_outcome outcome.HelpShown = DONE
 status_of_outcome outcome.HelpFailed = DEVICE
 status_of_outcome outcome.Misused = USAGE
@@ -28,9 +37,41 @@ pub record HasAnswered (words : List Text) (input old new : Option (List ℕ)) (
   pub kept : IfErr answer (λ fault. fault ≢ tool.Device → Keeps old new)
   pub replays : (bytes : List ℕ) → input ≡ Some bytes → Replays sessions bytes old new answer
 
--- what was done where a run comes to this
+-- the words ask for a run, and this is what it answers of the input's bytes
+pub record HasAnsweredRun (words : List Text) (input old new : Option (List ℕ)) (answer : Result ℕ ToolFault) : Type 0 where
+  pub sessions : ℕ
+  pub turns : ℕ
+  pub asked : AskRun words sessions turns
+  pub kept : IfErr answer (λ fault. fault ≢ tool.Device → Keeps old new)
+  pub runs : (bytes : List ℕ) → input ≡ Some bytes → Runs sessions bytes old new answer
+
+-- the line that tells a verdict
+abbrev pub text_of_verdict : Verdict → List ℕ
+text_of_verdict (verdict.Legal count) = codes "legal " ++ decimal count ++ 10 ∷ []
+text_of_verdict (verdict.Illegal place) = codes "illegal " ++ decimal place ++ 10 ∷ []
+
+-- what a check of these bytes answers where its verdict is to be written, which may fail
+abbrev pub TellsVerdict : ℕ → List ℕ → Result Verdict ToolFault → Type 0
+TellsVerdict n bytes (Ok found) = Checks n bytes (Ok found)
+TellsVerdict n bytes (Err (tool.Trace fault)) = Checks n bytes (Err (tool.Trace fault))
+TellsVerdict n bytes (Err tool.NoMemory) = IsHistory n bytes
+TellsVerdict n bytes (Err tool.Device) = IsHistory n bytes
+TellsVerdict n bytes (Err tool.GateShut) = ⊥
+TellsVerdict n bytes (Err tool.TurnLimit) = ⊥
+
+-- the words ask for a check, and this is its verdict on the input's bytes, which was written, or why there is none
+pub record HasAnsweredCheck (words : List Text) (input old new : Option (List ℕ)) (answer : Result Verdict ToolFault) : Type 0 where
+  pub sessions : ℕ
+  pub asked : AskCheck words sessions
+  pub kept : IfErr answer (λ fault. fault ≢ tool.Device → Keeps old new)
+  pub told : IfOk answer (λ found. Appends old new (text_of_verdict found))
+  pub checks : (bytes : List ℕ) → input ≡ Some bytes → TellsVerdict sessions bytes answer
+
+-- what was done where a run of the program comes to this
 abbrev pub HasDone : List Text → Option (List ℕ) → Option (List ℕ) → Option (List ℕ) → Outcome → Type 0
 HasDone words input old new (outcome.Replay answer) = HasAnswered words input old new answer
+HasDone words input old new (outcome.Run answer) = HasAnsweredRun words input old new answer
+HasDone words input old new (outcome.Check answer) = HasAnsweredCheck words input old new answer
 HasDone words input old new outcome.HelpShown = AskHelp words
 HasDone words input old new outcome.HelpFailed = AskHelp words
 HasDone words input old new outcome.Misused = AskNothing words × Keeps old new

@@ -9,6 +9,8 @@ use Rattle.glm.specs.declared.outcomes.Outcome.TheVariants as outcome
 -- what an error of this kind comes to, where the writer held the old bytes before and the new ones after
 abbrev pub IsOutcomeOfError : ErrorKind → Option (List ℕ) → Option (List ℕ) → Outcome → Type 0
 IsOutcomeOfError kind old new (outcome.Replay answer) = ⊥
+IsOutcomeOfError kind old new (outcome.Run answer) = ⊥
+IsOutcomeOfError kind old new (outcome.Check answer) = ⊥
 IsOutcomeOfError kind old new outcome.HelpShown = kind ≡ error.DisplayHelp
 IsOutcomeOfError kind old new outcome.HelpFailed = kind ≡ error.DisplayHelp
 IsOutcomeOfError kind old new outcome.Misused = (kind ≢ error.DisplayHelp) × (kind ≢ error.OutOfMemory) × Keeps old new

@@ -39,3 +39,5 @@ Replays n bytes old new (Ok count) = (rows : List TraceRow) × ((trace_of n byte
 Replays n bytes old new (Err (tool.Trace fault)) = Tells n bytes fault × Keeps old new
 Replays n bytes old new (Err tool.NoMemory) = IsTrace n bytes × Keeps old new
 Replays n bytes old new (Err tool.Device) = IsTrace n bytes
+Replays n bytes old new (Err tool.GateShut) = ⊥
+Replays n bytes old new (Err tool.TurnLimit) = ⊥

@@ -4,11 +4,11 @@ use Rattle.lock_trace.specs.declared.faults.TraceKind.{TraceKind}
 use Rattle.lock_trace.specs.declared.faults.TraceKind.TheVariants as kind
 use Rattle.glm.specs.declared.replaying.ToolFault.{ToolFault}
 use Rattle.glm.specs.declared.replaying.ToolFault.TheVariants as tool
-use Rattle.glm.specs.declared.outcomes.TheConstants.{DONE, REFUSED, USAGE, NO_MEMORY, DEVICE}
+use Rattle.glm.specs.declared.outcomes.TheConstants.{DONE, REFUSED, USAGE, NO_MEMORY, DEVICE, STOPPED, ILLEGAL}
 
--- one of the five
+-- one of the seven
 abbrev pub IsStatus : ℕ → Type 0
-IsStatus status = (status ≡ DONE) ⊎ ((status ≡ REFUSED) ⊎ ((status ≡ USAGE) ⊎ ((status ≡ NO_MEMORY) ⊎ (status ≡ DEVICE))))
+IsStatus status = (status ≡ DONE) ⊎ ((status ≡ REFUSED) ⊎ ((status ≡ USAGE) ⊎ ((status ≡ NO_MEMORY) ⊎ ((status ≡ DEVICE) ⊎ ((status ≡ STOPPED) ⊎ (status ≡ ILLEGAL))))))
 
 -- the status of a fault of a row
 abbrev pub status_of_kind : TraceKind → ℕ
@@ -29,9 +29,13 @@ abbrev pub status_for : ToolFault → ℕ
 status_for (tool.Trace fault) = status_of_kind fault.kind
 status_for tool.NoMemory = NO_MEMORY
 status_for tool.Device = DEVICE
+status_for tool.GateShut = STOPPED
+status_for tool.TurnLimit = STOPPED
 
 -- the number of a fault
 abbrev pub number_of_fault : ToolFault → ℕ
 number_of_fault (tool.Trace fault) = 1
 number_of_fault tool.NoMemory = 2
 number_of_fault tool.Device = 3
+number_of_fault tool.GateShut = 4
+number_of_fault tool.TurnLimit = 5

@@ -1,78 +1,28 @@
-//! The command line.
+//! The program: the words of its command line, and what they ask for.
 
-ghost use Rattle.std.specs.Prelude.{◌≡◌, ◌≢◌, ◌<◌, ℕ, List, Some, IfOk, IfSome, IfNone};
-ghost use Rattle.std.specs.Io.KnownBytes.{Keeps};
-ghost use Rattle.clap.specs.Kinds.{FailsBy};
-ghost use Rattle.clap.specs.Simple.{app_of, subcommand_of, subcommand_rows_of};
+ghost use Rattle.std.specs.Prelude.{◌≡◌, ◌≢◌, ◌<◌, ◌≤◌, ℕ, List, Some, IfOk, IfErr, string_bytes};
+ghost use Rattle.std.specs.Io.KnownBytes.{Keeps, Appends};
 ghost use Rattle.clap.specs.Values.{kind_of};
 ghost use Rattle.clap.specs.Walk.{texts};
+ghost use Rattle.lock_rules.specs.declared.calls.TheConstants.{MAX_SESSIONS};
 ghost use Rattle.glm.specs.declared.outcomes.Outcome.{Outcome};
-ghost use Rattle.glm.specs.declared.outcomes.TheConstants.{DONE, DEVICE};
-ghost use Rattle.glm.specs.CommandLine.{AskReplay, IsTextOfNumber, faults_of, glm_command, sessions_in};
-ghost use Rattle.glm.specs.Outcomes.{HasDone, status_of_outcome};
+ghost use Rattle.glm.specs.declared.outcomes.TheConstants.{DONE, ILLEGAL, DEVICE};
+ghost use Rattle.glm.specs.Outcomes.{HasDone, TellsVerdict, status_of_outcome, text_of_verdict};
 ghost use Rattle.glm.specs.ParserErrors.{IsOutcomeOfError};
 ghost use Rattle.glm.specs.Statuses.{IsStatus};
 
+use crate::checking::{Verdict, check};
+use crate::gates::Gate;
 use crate::outcomes::Outcome;
-use crate::replaying::replay;
+use crate::replaying::{ToolFault, replay};
+use crate::requests::{Request, request_of};
+use crate::running::run;
+use clap::Error;
 use clap::error::ErrorKind;
-use clap::{Arg, ArgMatches, Command, Error, value_parser};
-use lock_rules::MAX_SESSIONS;
 use std::alloc::{AllocError, Global};
 use std::io::{Read, Write};
-
-// The program's commands and their options.
-fn commands<'a>(alloc: Global) -> Result<Command<'a>, AllocError>
-    ensures { IfOk result (λ command. app_of command ≡ glm_command) }
-{
-    let sessions = Arg::new(alloc, "sessions")
-        .long("sessions")
-        .value_name("N")
-        .help("How many sessions the trace has, 1 to 256")
-        .value_parser(value_parser!(u16).range(1..=i64::from(MAX_SESSIONS)))
-        .default_value("256");
-    let replay = Command::new(alloc, "replay")
-        .about("Serves a trace from standard input and writes its history")
-        .arg(sessions)?;
-    Command::new(alloc, "glm")
-        .about("Granular locks for databases")
-        .subcommand_required(true)
-        .subcommand(replay)
-}
-
-// The matches of these words by the program's commands.
-fn parsed<'a>(alloc: Global, words: &'a [&'a str]) -> Result<ArgMatches<'a>, Error>
-    ensures fails { FailsBy (faults_of (texts words.entry.now)) result }
-    ensures rows { IfOk result (λ matches. subcommand_rows_of matches ≡ subcommand_of glm_command (texts words.entry.now)) }
-{
-    commands(alloc)?.try_get_matches_from(words)
-}
-
-// The number of sessions that was found for a command, if there is one.
-fn sessions_given(matches: &ArgMatches) -> Option<u16>
-    ensures some { IfSome result (λ sessions. (text : List ℕ)
-        × (sessions_in (subcommand_rows_of matches.now) ≡ Some text) × IsTextOfNumber text sessions) }
-    ensures none { IfNone result ((text : List ℕ) (sessions : ℕ) →
-        sessions_in (subcommand_rows_of matches.now) ≡ Some text → IsTextOfNumber text sessions →
-        MAX_SESSIONS < sessions) }
-{
-    let (_, given) = matches.subcommand()?;
-    given.get_one::<u16>("sessions")
-}
-
-// How many sessions the words ask a replay for. They are none where the words don't ask for one.
-fn sessions_asked<'a>(alloc: Global, words: &'a [&'a str]) -> Result<Option<u16>, Error>
-    ensures fails { FailsBy (faults_of (texts words.entry.now)) result }
-    ensures some { IfOk result (λ asked. IfSome asked (AskReplay (texts words.entry.now))) }
-    ensures none { IfOk result (λ asked. IfNone asked ((sessions : ℕ) → ¬ AskReplay (texts words.entry.now) sessions)) }
-{
-    let matches = parsed(alloc, words)?;
-    match sessions_given(&matches) {
-        // the parser of the option has tested the range already
-        Some(sessions) if 0 < sessions && sessions <= MAX_SESSIONS => Ok(Some(sessions)),
-        _ => Ok(None),
-    }
-}
+use std::sync::Wait;
+use std::thread::Threads;
 
 // What the parser's error comes to: help on the output, or a fault of the words told on `errors`.
 fn outcome_of_error<W: Write, E: Write>(error: &Error, output: &mut W, errors: &mut E) -> Outcome
@@ -91,41 +41,89 @@ fn outcome_of_error<W: Write, E: Write>(error: &Error, output: &mut W, errors: &
     }
 }
 
+// The line that tells a verdict.
+fn verdict_line(alloc: Global, verdict: Verdict) -> Result<String, AllocError>
+    ensures { IfOk result (λ line. string_bytes line ≡ text_of_verdict verdict) }
+{
+    match verdict {
+        Verdict::Legal(entries) => format!(in alloc; "legal {entries}\n"),
+        Verdict::Illegal(place) => format!(in alloc; "illegal {place}\n"),
+    }
+}
+
+// Checks a history, and writes the verdict.
+fn tell_verdict<R: Read + Drop, W: Write>(
+    alloc: Global,
+    input: R,
+    output: &mut W,
+    sessions: u16,
+) -> Result<Verdict, ToolFault>
+    requires some { 0 < sessions }
+    requires few { sessions ≤ MAX_SESSIONS }
+    ensures kept { IfErr result (λ fault. fault ≢ ToolFault.Device → Keeps (W.contents output.old) (W.contents output.new)) }
+    ensures told { IfOk result (λ verdict. Appends (W.contents output.old) (W.contents output.new) (text_of_verdict verdict)) }
+    ensures checks { (bytes : List ℕ) → R.remaining input ≡ Some bytes → TellsVerdict sessions bytes result }
+{
+    let verdict = check(alloc, input, sessions)?;
+    let Ok(line) = verdict_line(alloc, verdict) else {
+        return Err(ToolFault::NoMemory);
+    };
+    if output.write_all(line.as_bytes()).is_err() {
+        return Err(ToolFault::Device);
+    }
+    Ok(verdict)
+}
+
 // Does what the words ask for.
-fn outcome_of<'a, R: Read + Drop, W: Write, E: Write>(
+fn outcome_of<'a, T: Threads + Wait, R: Read + Drop, W: Write, E: Write, G: Gate>(
+    rt: &T,
     alloc: Global,
     words: &'a [&'a str],
     input: R,
     output: &mut W,
     errors: &mut E,
+    gate: &G,
 ) -> Outcome
     ensures { HasDone (texts words.entry.now) (R.remaining input) (W.contents output.old) (W.contents output.new) result }
 {
-    match sessions_asked(alloc, words) {
-        Ok(Some(sessions)) => Outcome::Replay(replay(alloc, input, output, sessions)),
+    match request_of(alloc, words) {
+        Ok(Some(Request::Replay(sessions))) => {
+            Outcome::Replay(replay(alloc, input, output, sessions))
+        }
+        Ok(Some(Request::Run(sessions, turns))) => {
+            let turns = u64::from(turns);
+            Outcome::Run(run(rt, alloc, input, output, sessions, turns, gate))
+        }
+        Ok(Some(Request::Check(sessions))) => {
+            Outcome::Check(tell_verdict(alloc, input, output, sessions))
+        }
         Ok(None) => Outcome::Misused,
         Err(error) => outcome_of_error(&error, output, errors),
     }
 }
 
 /// The whole program but for its streams: the words are those of the command line, the program's own
-/// name first. Answers the exit status: 0 done or help asked for, 1 a row refused, 2 usage, 4 no
-/// memory, 5 a device failed. A fault is told in one line on `errors`; a failure of `errors` changes
-/// no status. Nothing is written to `output` unless the status is 0, or 5 by a writer that failed.
-pub fn program<'a, R: Read + Drop, W: Write, E: Write>(
+/// name first, and the gate is the one that the threads of a `run` enter. Answers the exit status: 0 done or
+/// help asked for, 1 a row refused, 2 usage, 3 a history that isn't legal, 4 no memory, 5 a device failed, 6 a
+/// gate stayed shut or tries ran out. A fault is told in one line on `errors`; a failure of `errors` changes
+/// no status. Nothing is written to `output` unless the status is 0, or 3 for the verdict, or 5 by a writer
+/// that failed.
+pub fn program<'a, T: Threads + Wait, R: Read + Drop, W: Write, E: Write, G: Gate>(
+    rt: &T,
     alloc: Global,
     words: &'a [&'a str],
     input: R,
     output: &mut W,
     errors: &mut E,
+    gate: &G,
 ) -> u8
     // The status is that of an outcome, which tells what the words ask for and what was done.
     ensures outcome { (outcome : Outcome) × (result ≡ status_of_outcome outcome)
         × HasDone (texts words.entry.now) (R.remaining input) (W.contents output.old) (W.contents output.new) outcome }
     ensures status { IsStatus result }
-    ensures silent { result ≢ DONE → result ≢ DEVICE → Keeps (W.contents output.old) (W.contents output.new) }
+    ensures silent { result ≢ DONE → result ≢ ILLEGAL → result ≢ DEVICE → Keeps (W.contents output.old) (W.contents output.new) }
 {
-    let outcome = outcome_of(alloc, words, input, output, errors);
+    let outcome = outcome_of(rt, alloc, words, input, output, errors, gate);
     outcome.tell(errors);
     outcome.status()
 }

@@ -4,16 +4,20 @@
 ghost use Rattle.std.specs.Prelude.{◌≡◌, ℕ, List, [], ◌∷◌, codes};
 ghost use Rattle.clap.specs.Walk.{Text};
 ghost use Rattle.lock_rules.specs.declared.calls.TheConstants.{MAX_SESSIONS};
-ghost use Rattle.glm.specs.CommandLine.{AskHelp, AskNothing, AskReplay};
+ghost use Rattle.glm.specs.declared.requests.Request.{Request as RequestValue};
+ghost use Rattle.glm.specs.declared.requests.TheConstants.{MAX_TURNS};
+ghost use Rattle.glm.specs.CommandLine.{Ask, AskCheck, AskHelp, AskNothing, AskReplay, AskRun};
 
-/// Words ask for one number of sessions at most, and those that ask for a replay don't ask for help.
+/// Words ask for one command at most, with its numbers, and those that ask for one don't ask for help.
 pub fn words_ask_for_one_thing()
+    ensures one { (words : List Text) (r q : RequestValue) → Ask words r → Ask words q → r ≡ q }
     ensures sessions { (words : List Text) (m n : ℕ) → AskReplay words m → AskReplay words n → m ≡ n }
+    ensures command_or_help { (words : List Text) (r : RequestValue) → Ask words r → ¬ AskHelp words }
     ensures replay_or_help { (words : List Text) (n : ℕ) → AskReplay words n → ¬ AskHelp words }
 {}
 
-/// Words, with what they ask for: the number of sessions is the greatest that there can be where it is left out, and it
-/// is refused below 1 and above that.
+/// Words, with what they ask for: a number is the greatest that there can be where it is left out, and it is refused
+/// below 1 and above that.
 pub fn words_ask_as_documented()
     ensures left_out { AskReplay (codes "glm" ∷ codes "replay" ∷ []) MAX_SESSIONS }
     ensures apart { AskReplay (codes "glm" ∷ codes "replay" ∷ codes "--sessions" ∷ codes "7" ∷ []) 7 }
@@ -27,4 +31,11 @@ pub fn words_ask_as_documented()
     ensures help { AskHelp (codes "glm" ∷ codes "--help" ∷ []) }
     ensures help_command { AskHelp (codes "glm" ∷ codes "help" ∷ []) }
     ensures replay_help { AskHelp (codes "glm" ∷ codes "replay" ∷ codes "--help" ∷ []) }
+    ensures run { AskRun (codes "glm" ∷ codes "run" ∷ []) MAX_SESSIONS MAX_TURNS }
+    ensures run_turns { AskRun (codes "glm" ∷ codes "run" ∷ codes "--turns" ∷ codes "9" ∷ codes "--sessions=2" ∷ []) 2 9 }
+    ensures no_turns { AskNothing (codes "glm" ∷ codes "run" ∷ codes "--turns=0" ∷ []) }
+    ensures too_many_turns { AskNothing (codes "glm" ∷ codes "run" ∷ codes "--turns=1000000001" ∷ []) }
+    ensures replay_turns { AskNothing (codes "glm" ∷ codes "replay" ∷ codes "--turns=9" ∷ []) }
+    ensures check { AskCheck (codes "glm" ∷ codes "check" ∷ []) MAX_SESSIONS }
+    ensures check_sessions { AskCheck (codes "glm" ∷ codes "check" ∷ codes "--sessions" ∷ codes "8" ∷ []) 8 }
 {}

@@ -3,11 +3,19 @@
 
 mod checking;
 mod commands;
+mod gates;
 pub mod laws;
 mod outcomes;
 mod replaying;
+mod requests;
+mod running;
+mod threads;
+mod workers;
 
 pub use checking::{Verdict, check};
 pub use commands::program;
-pub use outcomes::{DEVICE, DONE, NO_MEMORY, REFUSED, USAGE};
+pub use gates::{Gate, OpenGate};
+pub use outcomes::{DEVICE, DONE, ILLEGAL, NO_MEMORY, REFUSED, STOPPED, USAGE};
 pub use replaying::{ToolFault, replay};
+pub use requests::MAX_TURNS;
+pub use running::run;

@@ -4,6 +4,7 @@ ghost use Rattle.std.specs.Prelude.{◌≡◌};
 ghost use Rattle.glm.specs.Outcomes.{status_of_outcome};
 ghost use Rattle.glm.specs.Statuses.{status_for};
 
+use crate::checking::Verdict;
 use crate::replaying::ToolFault;
 use lock_trace::TraceKind;
 use std::io::Write;
@@ -17,17 +18,27 @@ pub const REFUSED: u8 = 1;
 /// The status where the words of the command line are off.
 pub const USAGE: u8 = 2;
 
+/// The status where a history isn't legal.
+pub const ILLEGAL: u8 = 3;
+
 /// The status where memory was refused.
 pub const NO_MEMORY: u8 = 4;
 
 /// The status where a reader or a writer failed.
 pub const DEVICE: u8 = 5;
 
+/// The status where a gate stayed shut, or tries ran out.
+pub const STOPPED: u8 = 6;
+
 /// What a run of the program came to.
 #[derive(Clone, Copy, Debug, Drop, PartialEq, Eq)]
 pub(crate) enum Outcome {
     /// A replay was asked for, and this is its answer.
     Replay(Result<u64, ToolFault>),
+    /// A run was asked for, and this is its answer.
+    Run(Result<u64, ToolFault>),
+    /// A check was asked for, and this is its verdict, which was written.
+    Check(Result<Verdict, ToolFault>),
     /// Help was asked for, and the writer took it.
     HelpShown,
     /// Help was asked for, and the writer failed.
@@ -50,6 +61,7 @@ fn status_of_fault(fault: &ToolFault) -> u8
         },
         ToolFault::NoMemory => NO_MEMORY,
         ToolFault::Device => DEVICE,
+        ToolFault::GateShut | ToolFault::TurnLimit => STOPPED,
     }
 }
 
@@ -68,8 +80,12 @@ impl Outcome {
         ensures { result ≡ status_of_outcome self.now }
     {
         match self {
-            Outcome::Replay(Ok(_)) | Outcome::HelpShown => DONE,
-            Outcome::Replay(Err(fault)) => status_of_fault(fault),
+            Outcome::Replay(Ok(_)) | Outcome::Run(Ok(_)) | Outcome::HelpShown => DONE,
+            Outcome::Check(Ok(Verdict::Legal(_))) => DONE,
+            Outcome::Check(Ok(Verdict::Illegal(_))) => ILLEGAL,
+            Outcome::Replay(Err(fault)) | Outcome::Run(Err(fault)) | Outcome::Check(Err(fault)) => {
+                status_of_fault(fault)
+            }
             Outcome::HelpFailed => DEVICE,
             Outcome::Misused => USAGE,
             Outcome::OutOfMemory => NO_MEMORY,
@@ -79,10 +95,13 @@ impl Outcome {
     // Tells what failed, in one line. What is wrong with the words was told where they were parsed.
     pub(crate) fn tell<E: Write>(&self, errors: &mut E) {
         match self {
-            Outcome::Replay(Err(fault)) => tell_fault(fault, errors),
+            Outcome::Replay(Err(fault)) | Outcome::Run(Err(fault)) | Outcome::Check(Err(fault)) => {
+                tell_fault(fault, errors)
+            }
             Outcome::HelpFailed => tell_fault(&ToolFault::Device, errors),
             Outcome::OutOfMemory => tell_fault(&ToolFault::NoMemory, errors),
-            Outcome::Replay(Ok(_)) | Outcome::HelpShown | Outcome::Misused => {}
+            Outcome::Replay(Ok(_)) | Outcome::Run(Ok(_)) | Outcome::Check(Ok(_)) => {}
+            Outcome::HelpShown | Outcome::Misused => {}
         }
     }
 }

@@ -22,13 +22,20 @@ pub enum ToolFault {
     /// Memory was refused.
     #[error("out of memory")]
     NoMemory,
-    /// The writer failed.
+    /// The writer failed, or a thread couldn't be started.
     #[error("device")]
     Device,
+    /// The gate of a run stayed shut.
+    #[error("gate shut")]
+    GateShut,
+    /// A call of a run wasn't answered in as many tries as there may be.
+    #[error("turn limit")]
+    TurnLimit,
 }
 
 impl ToolFault {
-    /// The number of the kind of fault: 1 for a row or what kept it from being read, 2 for memory, 3 for the writer.
+    /// The number of the kind of fault: 1 for a row or what kept it from being read, 2 for memory, 3 for the writer or a
+    /// thread, 4 for a gate, 5 for tries that ran out.
     pub fn number(&self) -> u8
         ensures { result ≡ number_of_fault self.now }
     {
@@ -36,6 +43,8 @@ impl ToolFault {
             ToolFault::Trace(_) => 1,
             ToolFault::NoMemory => 2,
             ToolFault::Device => 3,
+            ToolFault::GateShut => 4,
+            ToolFault::TurnLimit => 5,
         }
     }
 }

@@ -1,25 +1,34 @@
 //! The program `glm`: the words of the command line, the standard streams and the exit status, and nothing more.
 #![tactic(auto)]
 
-use glm::{NO_MEMORY, program};
+use glm::{NO_MEMORY, OpenGate, program};
+use std::io::{Read, Write};
 use std::process::ExitCode;
+use std::rt::Runtime;
+use std::sync::Wait;
+use std::thread::Threads;
 use std::{env, io};
 
 // The status of the program. An error is one of reading the words, for want of memory.
-fn status(rt: &HostRuntime) -> io::Result<u8> {
+fn status<R: Runtime + AllocGlobal + Threads + Wait, I: Read + Drop, O: Write, E: Write>(
+    rt: &R,
+    input: I,
+    output: &mut O,
+    errors: &mut E,
+) -> io::Result<u8> {
     let alloc = rt.alloc();
     let given: Vec<String> = env::args(rt)?.collect(alloc)?;
     let mut words = Vec::new(alloc);
     for word in &given {
         words.push(word.as_str())?;
     }
-    let mut output = rt.stdout();
-    let mut errors = rt.stderr();
-    Ok(program(alloc, &words, rt.stdin(), &mut output, &mut errors))
+    Ok(program(rt, alloc, &words, input, output, errors, &OpenGate))
 }
 
 fn main(rt: HostRuntime) -> ExitCode {
-    match status(&rt) {
+    let mut output = rt.stdout();
+    let mut errors = rt.stderr();
+    match status(&rt, rt.stdin(), &mut output, &mut errors) {
         Ok(status) => ExitCode::from(status),
         Err(_) => {
             let _told = eprintln!(rt; "glm: out of memory");

@@ -6,7 +6,7 @@ use Rattle.clap.specs.Faults.{fault_of, is_simple_and_free}
 use Rattle.clap.specs.Kinds.{FailsBy}
 use Rattle.clap.proofs.OnLiterals.{clap_on_literals}
 use Rattle.glm.specs.CommandLine.{glm_command}
-use Rattle.glm.proofs.commands.parsed.Goals as goal
+use Rattle.glm.proofs.requests.parsed.Goals as goal
 
 is_simple_command : is_simple glm_command ≡ true
 unfolding clap_on_literals

@@ -1,0 +1,46 @@
+//! What the program says of a history.
+
+use crate::running::run_words;
+use std::test::Fail;
+
+const LEGAL: &str =
+    "0,1,begin,,,began,1\n1,2,begin,,,began,2\n2,1,lock,1,S,granted,S\n3,2,lock,1,IX,waiting,\n4,1,commit,,,committed,1\n5,2,poll,,,clear,\n";
+
+// the replies and values of places 2 and 3 are exchanged
+const ILLEGAL: &str =
+    "0,1,begin,,,began,1\n1,2,begin,,,began,2\n2,1,lock,1,S,waiting,\n3,2,lock,1,IX,granted,S\n4,1,commit,,,committed,1\n5,2,poll,,,clear,\n";
+
+#[test]
+fn histories_get_their_verdicts(rt: HostRuntime) -> Result<(), Fail> {
+    for (history, verdict, status) in [
+        (LEGAL, "legal 6\n", 0),
+        (ILLEGAL, "illegal 2\n", 3),
+        ("", "legal 0\n", 0),
+        ("0,1,begin,,,began,1\n", "legal 1\n", 0),
+        ("0,1,begin,,,began,2\n", "illegal 0\n", 3),
+        ("0,1,begin,,,waiting,\n", "illegal 0\n", 3),
+    ] {
+        let ran = run_words(&rt, ["check"].as_slice(), history.as_bytes())?;
+        assert_eq!(rt; ran.status, status, "{history}");
+        assert_eq!(rt; ran.output.as_slice(), verdict.as_bytes(), "{history}");
+        assert!(rt; ran.errors.is_empty(), "{history}");
+    }
+    Ok(())
+}
+
+#[test]
+fn rows_that_are_no_entries_are_told(rt: HostRuntime) -> Result<(), Fail> {
+    for (history, line) in [
+        ("0,1,begin,,,began\n", "glm: row 1: Shape\n"),
+        ("1,1,begin,,,began,1\n", "glm: row 1: Place\n"),
+        ("0,1,begin,,,start,1\n", "glm: row 1: Reply\n"),
+        ("0,1,begin,,,began,01\n", "glm: row 1: Value\n"),
+        ("0,1,begin,,X,start,1\n", "glm: row 1: Extra\n"),
+    ] {
+        let ran = run_words(&rt, ["check"].as_slice(), history.as_bytes())?;
+        assert_eq!(rt; ran.status, 1, "{history}");
+        assert!(rt; ran.output.is_empty(), "{history}");
+        assert_eq!(rt; ran.errors.as_slice(), line.as_bytes(), "{history}");
+    }
+    Ok(())
+}

@@ -1,0 +1,86 @@
+-- What a command that was found asks for, and what it doesn't.
+use Rattle.std.proofs.Common.{rules, ap, ap₂, refl, subst, sym, ◌≡◌, ◌≢◌, ◌∙◌, ◌<◌, ◌≤◌, ℕ, List, [], Option, Some, None, codes}
+use Rattle.std.specs.Prelude.{IfSome, IfNone}
+use Rattle.clap.specs.Simple.{subcommand_of}
+use Rattle.clap.specs.Walk.{Row, Text}
+use Rattle.std.specs.Str.Parse.{digits_value, without_leading_plus}
+use Rattle.lock_rules.specs.declared.calls.TheConstants.{MAX_SESSIONS}
+use Rattle.glm.specs.declared.requests.TheConstants.{MAX_TURNS}
+use Rattle.glm.specs.declared.requests.Request.{Request}
+use Rattle.glm.specs.declared.requests.Request.TheVariants as request
+use Rattle.glm.specs.CommandLine.{Ask, Gives, IsRequest, IsRequestIn, faults_of, glm_command}
+
+pub no_sessions : (name : Text) (rows : List Row) → ((n : ℕ) → ¬ Gives (codes "sessions") MAX_SESSIONS rows n)
+    → (asked : Request) → ¬ IsRequest (Some (name, rows)) asked
+no_sessions name rows none (request.Replay n) is = none n is.1
+no_sessions name rows none (request.Run n t) is = none n is.1
+no_sessions name rows none (request.Check n) is = none n is.1
+
+pub no_turns : (name : Text) (rows : List Row) → name ≡ codes "run" → ((n : ℕ) → ¬ Gives (codes "turns") MAX_TURNS rows n)
+    → (asked : Request) → ¬ IsRequest (Some (name, rows)) asked
+no_turns name rows run none (request.Replay n) is = let bad : codes "run" ≡ codes "replay" = sym run ∙ is.0 in cc
+no_turns name rows run none (request.Run n t) is = none t is.2
+no_turns name rows run none (request.Check n) is = let bad : codes "run" ≡ codes "check" = sym run ∙ is.0 in cc
+
+pub no_name : (name : Text) (rows : List Row) → name ≢ codes "replay" → name ≢ codes "run" → name ≢ codes "check"
+    → (asked : Request) → ¬ IsRequest (Some (name, rows)) asked
+no_name name rows replay run check (request.Replay n) is = replay is.0
+no_name name rows replay run check (request.Run n t) is = run is.0
+no_name name rows replay run check (request.Check n) is = check is.0
+
+-- an option has one number
+
+pub gives-one : (option : Text) (greatest : ℕ) (rows : List Row) (m n : ℕ) → Gives option greatest rows m → Gives option greatest rows n → m ≡ n
+gives-one option greatest rows m n a b =
+    let same : Some a.text ≡ Some b.text = sym a.given ∙ b.given in
+    let text : a.text ≡ b.text = cc in
+    a.number_is.value ∙ ap (λ t. digits_value 10 (without_leading_plus t)) text ∙ sym b.number_is.value
+
+one-in : (name : Text) (rows : List Row) (r q : Request) → IsRequestIn name rows r → IsRequestIn name rows q → r ≡ q
+one-in name rows (request.Replay m) (request.Replay n) a b = ap (λ k. request.Replay k) (gives-one _ _ rows m n a.1 b.1)
+one-in name rows (request.Replay m) (request.Run n t) a b = let bad : codes "replay" ≡ codes "run" = sym a.0 ∙ b.0 in cc
+one-in name rows (request.Replay m) (request.Check n) a b = let bad : codes "replay" ≡ codes "check" = sym a.0 ∙ b.0 in cc
+one-in name rows (request.Run m u) (request.Replay n) a b = let bad : codes "run" ≡ codes "replay" = sym a.0 ∙ b.0 in cc
+one-in name rows (request.Run m u) (request.Run n t) a b =
+    ap₂ (λ k l. request.Run k l) (gives-one _ _ rows m n a.1 b.1) (gives-one _ _ rows u t a.2 b.2)
+one-in name rows (request.Run m u) (request.Check n) a b = let bad : codes "run" ≡ codes "check" = sym a.0 ∙ b.0 in cc
+one-in name rows (request.Check m) (request.Replay n) a b = let bad : codes "check" ≡ codes "replay" = sym a.0 ∙ b.0 in cc
+one-in name rows (request.Check m) (request.Run n t) a b = let bad : codes "check" ≡ codes "run" = sym a.0 ∙ b.0 in cc
+one-in name rows (request.Check m) (request.Check n) a b = ap (λ k. request.Check k) (gives-one _ _ rows m n a.1 b.1)
+
+-- words ask for one thing
+pub one_request : (found : Option (Text × List Row)) (r q : Request) → IsRequest found r → IsRequest found q → r ≡ q
+one_request None r q a b = absurd a
+one_request (Some found) r q a b = one-in found.0 found.1 r q a b
+
+pub one_replay : (found : Option (Text × List Row)) (m n : ℕ) → IsRequest found (request.Replay m) → IsRequest found (request.Replay n) → m ≡ n
+one_replay None m n a b = absurd a
+one_replay (Some found) m n a b = gives-one _ _ found.1 m n a.1 b.1
+
+-- from the command that was found to what was parsed
+
+pub requests_moved : (found : Option (Text × List Row)) (name : Text) (rows : List Row) (r : Option Request) → found ≡ Some (name, rows)
+    → IfSome r (IsRequest (Some (name, rows))) → IfSome r (IsRequest found)
+requests_moved found name rows r is h = subst (λ (f : Option (Text × List Row)). IfSome r (IsRequest f)) (sym is) h
+
+pub no_requests_moved : (found : Option (Text × List Row)) (name : Text) (rows : List Row) (r : Option Request) → found ≡ Some (name, rows)
+    → IfNone r ((asked : Request) → ¬ IsRequest (Some (name, rows)) asked) → IfNone r ((asked : Request) → ¬ IsRequest found asked)
+no_requests_moved found name rows r is h = subst (λ (f : Option (Text × List Row)). IfNone r ((asked : Request) → ¬ IsRequest f asked)) (sym is) h
+
+pub no_command : (found : Option (Text × List Row)) → found ≡ None → (asked : Request) → ¬ IsRequest found asked
+no_command None is asked h = h
+no_command (Some p) is asked h = cc
+
+-- from what was parsed to the words
+
+pub words_ask : (words : List Text) (found : Option (Text × List Row)) (r : Option Request) → faults_of words ≡ [] → found ≡ subcommand_of glm_command words
+    → IfSome r (IsRequest found) → IfSome r (Ask words)
+words_ask words found None whole is h = search rules
+words_ask words found (Some asked) whole is h =
+    record { whole = whole; request_is = subst (λ (f : Option (Text × List Row)). IsRequest f asked) is h }
+
+pub words_ask_nothing : (words : List Text) (found : Option (Text × List Row)) (r : Option Request) → found ≡ subcommand_of glm_command words
+    → IfNone r ((asked : Request) → ¬ IsRequest found asked) → IfNone r ((asked : Request) → ¬ Ask words asked)
+words_ask_nothing words found (Some asked) is h = search rules
+words_ask_nothing words found None is h =
+    λ asked ask. h asked (subst (λ (f : Option (Text × List Row)). IsRequest f asked) (sym is) ask.request_is)

@@ -1,0 +1,6 @@
+use Rattle.std.proofs.Common.{rules}
+use Rattle.glm.proofs.Options.{command-found}
+use Rattle.glm.proofs.requests.command_in.Goals as goal
+
+pub returns-clause-some : goal.returns-clause-some
+returns-clause-some c = command-found _ _ _ _ c.subcommand.result _ c.subcommand.ensures.name c.subcommand.ensures.rows

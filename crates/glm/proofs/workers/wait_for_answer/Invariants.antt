@@ -1,0 +1,9 @@
+use Rattle.std.proofs.Common.{◌≡◌}
+use Rattle.glm.proofs.workers.wait_for_answer.Given as goal
+
+-- the session still waits for the same answer
+abbrev pub invariant-loop-tries : goal.invariant-loop-tries
+invariant-loop-tries g l = record {
+  ours : g.S.Service.is_of l.service l.session;
+  same : g.S.Service.calls l.session ≡ g.S.Service.calls l.initial.session;
+}

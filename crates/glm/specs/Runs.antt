@@ -1,0 +1,37 @@
+-- What a run on threads answers and writes.
+use Rattle.std.specs.Prelude.{◌≡◌, ℕ, List, length, Option, Result, Ok, Err}
+use Rattle.std.specs.Io.KnownBytes.{Keeps, Appends}
+use Rattle.lock_rules.specs.declared.calls.Entry.{Entry}
+use Rattle.lock_rules.specs.Legal.{IsLegal, calls_of}
+use Rattle.lock_trace.specs.declared.rows.TraceRow.{TraceRow}
+use Rattle.lock_trace.specs.Traces.{trace_of, Tells}
+use Rattle.lock_trace.specs.Histories.{text_of_history}
+use Rattle.glm.specs.declared.replaying.ToolFault.{ToolFault}
+use Rattle.glm.specs.declared.replaying.ToolFault.TheVariants as tool
+use Rattle.glm.specs.Calls.{calls_answered, calls_of_rows}
+use Rattle.glm.specs.Replays.{IsTrace}
+
+-- a legal history of these rows, in some order: the calls of each session in it are those of its rows, in their order
+pub record IsRunOf (rows : List TraceRow) (history : List Entry) : Type 0 where
+  pub legal : IsLegal history
+  pub calls : (session : ℕ) → calls_answered (calls_of session history) ≡ calls_of_rows session rows
+  pub count : length history ≡ length rows
+
+-- the text of such a history
+abbrev pub IsTextOfRun : List TraceRow → List ℕ → Type 0
+IsTextOfRun rows text = (history : List Entry) × (IsRunOf rows history × (text ≡ text_of_history history))
+
+-- all rows were read and performed, and the text of the history was written, and nothing else
+pub record HasRun (rows : List TraceRow) (old new : Option (List ℕ)) : Type 0 where
+  pub text : List ℕ
+  pub is_history : IsTextOfRun rows text
+  pub written : Appends old new text
+
+-- what a run of these bytes for so many sessions answers, where the writer held the old bytes before and the new ones after
+abbrev pub Runs : ℕ → List ℕ → Option (List ℕ) → Option (List ℕ) → Result ℕ ToolFault → Type 0
+Runs n bytes old new (Ok count) = (rows : List TraceRow) × ((trace_of n bytes ≡ Ok rows) × (count ≡ length rows) × HasRun rows old new)
+Runs n bytes old new (Err (tool.Trace fault)) = Tells n bytes fault × Keeps old new
+Runs n bytes old new (Err tool.NoMemory) = IsTrace n bytes × Keeps old new
+Runs n bytes old new (Err tool.Device) = IsTrace n bytes
+Runs n bytes old new (Err tool.GateShut) = IsTrace n bytes × Keeps old new
+Runs n bytes old new (Err tool.TurnLimit) = IsTrace n bytes × Keeps old new
