@@ -1,4 +1,4 @@
-use Rattle.std.proofs.Common.{◌++◌, ◌∷◌, [], List, ℕ, length-append, sym, ◌∙◌, subst, arith}
+use Rattle.std.proofs.Common.{◌++◌, ◌∷◌, [], List, ℕ, length-append, sym, subst, arith}
 use Rattle.lock_desk.specs.ChildCounts.{DoCount}
 use Rattle.lock_desk.proofs.ChildCounts.{pushed-counts}
 use Rattle.lock_desk.proofs.child_counts.Children.push.Goals as goal
