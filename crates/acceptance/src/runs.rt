@@ -54,7 +54,8 @@ fn want_run_of(
         called.push(row)?;
     }
     assert_eq!(abort; called.len(), rows.len());
-    for session in 1..sessions + 1 {
+    for before in 0..sessions {
+        let session = before + 1;
         let own = rows_of(rt, &called, session)?;
         let wanted = rows_of(rt, &rows, session)?;
         assert!(abort; own.as_slice() == wanted.as_slice());
@@ -211,7 +212,8 @@ fn many_rows(
     let alloc = rt.alloc();
     let mut trace = String::new(alloc);
     for number in 0..each {
-        for session in 1..sessions + 1 {
+        for before in 0..sessions {
+            let session = before + 1;
             let row = match number % 5 {
                 0 => format!(in alloc; "{session},begin,,\n")?,
                 1 => format!(in alloc; "{session},lock,1,S\n")?,
