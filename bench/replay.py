@@ -103,4 +103,5 @@ def main():
         print(f"{QUEUED} waits behind 254 others: {seconds - before:.2f} s, {each:.0f} microseconds a wait")
 
 
-main()
+if __name__ == "__main__":
+    main()
