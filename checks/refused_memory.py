@@ -1,11 +1,13 @@
 #!/usr/bin/env python3
-"""Refuses each allocation in turn: of a small replay by ./glm, and of the tests of the lock table and
-of the office.
+"""Refuses each allocation in turn: of a small replay, check and run by ./glm, and of the tests of the
+lock table and of the office.
 
 Usage: checks/refused_memory.py
 
 The program has to end with status 4, its line on standard error and nothing on standard output, or
-to meet the refusal and write the whole history. A test has to pass: it makes a call that found no
+to meet the refusal and write all that it would; a run may also end with status 5 where the refusal
+kept a thread from starting, and what it writes has to be a legal history of as many rows. A test has
+to pass: it makes a call that found no
 memory once more, and wants the answer that ample memory gives. One test of the office has to say
 that a pass of it was starved. Builds the program and the tests first, where that is needed. The last
 line is 'N passed, M failed', one for each allocation.
@@ -22,6 +24,7 @@ TESTED = ["lock_desk", "combining"]
 # what allocates too often to go through: a transaction of 4096 locks, and threads, which don't ask again either
 LONG_TESTS = [
     "a_transaction_holds_4096_locks_and_no_more",
+    "locks_are_released_in_either_order",
     "eight_threads_poll",
     "eight_threads_are_told_what_one_book_tells",
     "eight_threads_hear",
@@ -53,10 +56,26 @@ def refusals(words, library, folder, trace=None):
         yield number, ran
 
 
-def is_program_right(ran, history):
-    if ran.returncode == 0:
-        return ran.stdout == history and not ran.stderr
+def is_refused(ran):
     return ran.returncode == 4 and ran.stderr == b"glm: out of memory\n" and not ran.stdout
+
+
+def writes(text):
+    """Whether the program was refused, or wrote exactly this."""
+    return lambda ran: is_refused(ran) or ran.returncode == 0 and ran.stdout == text and not ran.stderr
+
+
+def runs(rows):
+    """Whether a run was refused, or wrote a legal history of so many rows."""
+
+    def is_right(ran):
+        if ran.returncode == 0:
+            judged = subprocess.run([PROGRAM, "check"], input=ran.stdout, capture_output=True, timeout=60)
+            return judged.stdout == b"legal %d\n" % rows and not ran.stderr
+        unstarted = ran.returncode == 5 and ran.stderr == b"glm: device\n" and not ran.stdout
+        return unstarted or is_refused(ran)
+
+    return is_right
 
 
 def main():
@@ -66,11 +85,17 @@ def main():
     with tempfile.TemporaryDirectory() as name:
         folder = Path(name)
         library = build(folder)
-        for number, ran in refusals([PROGRAM, "replay"], library, folder, trace):
-            if is_program_right(ran, history):
-                passed += 1
-            else:
-                failed.append(f"replay, allocation {number}: status {ran.returncode}")
+        rows = history.count(b"\n")
+        for command, given, is_right in [
+            ("replay", trace, writes(history)),
+            ("check", history, writes(b"legal %d\n" % rows)),
+            ("run", trace, runs(rows)),
+        ]:
+            for number, ran in refusals([PROGRAM, command], library, folder, given):
+                if is_right(ran):
+                    passed += 1
+                else:
+                    failed.append(f"{command}, allocation {number}: status {ran.returncode}")
         for crate in TESTED:
             tests = TOP / "crates" / crate / "out" / f"{crate}_tests"
             listed = subprocess.run([tests, "--list"], capture_output=True, text=True, check=True).stdout
@@ -92,4 +117,5 @@ def main():
     sys.exit(1 if failed or not passed else 0)
 
 
-main()
+if __name__ == "__main__":
+    main()
