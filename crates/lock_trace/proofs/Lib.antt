@@ -10,6 +10,7 @@ pub mod CsvRecords
 pub mod FileLaws
 pub mod FileSteps
 pub mod TraceLaws
+pub mod Digits
 pub mod Lines
 pub mod ReadBack
 pub mod HistoryLaws

@@ -1,6 +1,6 @@
 //! Histories as bytes.
 
-ghost use Rattle.std.specs.Prelude.{◌≡◌, ◌++◌, List, OnOk, IfOk, decimal};
+ghost use Rattle.std.specs.Prelude.{◌≡◌, ◌<◌, ◌≤◌, ◌++◌, List, [], ◌∷◌, OnOk, IfOk, decimal};
 ghost use Rattle.lock_tree.specs.Text.{text_of};
 ghost use Rattle.lock_trace.specs.Rows.{resource_field, mode_field, fields_of_call};
 ghost use Rattle.lock_trace.specs.Histories.{value_field, fields_of_reply, fields_of_entry, after_commas, line_of, text_of_history};
@@ -20,9 +20,32 @@ fn put_text(out: &mut Vec<u8>, text: &str) -> Result<(), NoMemory>
     out.extend_from_slice(text.as_bytes())
 }
 
+fn put_byte(out: &mut Vec<u8>, byte: u8) -> Result<(), NoMemory>
+    ensures { OnOk result (out.new.items ≡ out.old.items ++ byte ∷ []) }
+{
+    out.push(byte)?;
+    Ok(())
+}
+
+// Two digits.
+fn put_pair(out: &mut Vec<u8>, number: u8) -> Result<(), NoMemory>
+    requires two { (10 ≤ number) × (number < 100) }
+    ensures { OnOk result (out.new.items ≡ out.old.items ++ decimal number) }
+{
+    put_byte(out, b'0' + number / 10)?;
+    put_byte(out, b'0' + number % 10)
+}
+
+// Most numbers have one digit or two, and those are written without a buffer of their own.
 fn put_number(out: &mut Vec<u8>, number: u64) -> Result<(), NoMemory>
     ensures { OnOk result (out.new.items ≡ out.old.items ++ decimal number) }
 {
+    if number < 10 {
+        return put_byte(out, b'0' + number as u8);
+    }
+    if number < 100 {
+        return put_pair(out, number as u8);
+    }
     let mut buffer = Buffer::new();
     out.extend_from_slice(buffer.format(number).as_bytes())
 }
@@ -34,7 +57,7 @@ fn put_resource(out: &mut Vec<u8>, resource: &Resource) -> Result<(), NoMemory>
     let first = numbers[0];
     put_number(out, first as u64)?;
     for number in &numbers[1..] {
-        put_text(out, "/")?;
+        put_byte(out, b'/')?;
         put_number(out, *number as u64)?;
     }
     Ok(())
@@ -65,11 +88,11 @@ fn put_mode_field(out: &mut Vec<u8>, call: &Call) -> Result<(), NoMemory>
 fn put_call(out: &mut Vec<u8>, call: &Call) -> Result<(), NoMemory>
     ensures { OnOk result (out.new.items ≡ out.old.items ++ after_commas (fields_of_call call.now)) }
 {
-    put_text(out, ",")?;
+    put_byte(out, b',')?;
     put_text(out, Op::of(call).word())?;
-    put_text(out, ",")?;
+    put_byte(out, b',')?;
     put_resource_field(out, call)?;
-    put_text(out, ",")?;
+    put_byte(out, b',')?;
     put_mode_field(out, call)
 }
 
@@ -90,9 +113,9 @@ fn put_value(out: &mut Vec<u8>, reply: Reply) -> Result<(), NoMemory>
 fn put_reply(out: &mut Vec<u8>, reply: Reply) -> Result<(), NoMemory>
     ensures { OnOk result (out.new.items ≡ out.old.items ++ after_commas (fields_of_reply reply)) }
 {
-    put_text(out, ",")?;
+    put_byte(out, b',')?;
     put_text(out, ReplyWord::of(reply).word())?;
-    put_text(out, ",")?;
+    put_byte(out, b',')?;
     put_value(out, reply)
 }
 
@@ -100,11 +123,11 @@ fn put_entry(out: &mut Vec<u8>, place: usize, entry: &Entry) -> Result<(), NoMem
     ensures { OnOk result (out.new.items ≡ out.old.items ++ line_of (fields_of_entry place entry.now)) }
 {
     put_number(out, place as u64)?;
-    put_text(out, ",")?;
+    put_byte(out, b',')?;
     put_number(out, entry.session as u64)?;
     put_call(out, &entry.call)?;
     put_reply(out, entry.reply)?;
-    put_text(out, "\n")
+    put_byte(out, b'\n')
 }
 
 /// The text of a history: a row of seven fields for each entry, the first of which is the entry's
