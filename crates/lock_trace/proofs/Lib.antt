@@ -11,6 +11,7 @@ pub mod FileLaws
 pub mod FileSteps
 pub mod TraceLaws
 pub mod Digits
+pub mod PlainTexts
 pub mod Lines
 pub mod ReadBack
 pub mod HistoryLaws

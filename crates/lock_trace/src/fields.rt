@@ -6,6 +6,7 @@ ghost use Rattle.lock_tree.specs.Readings.{reading_of};
 ghost use Rattle.lock_trace.specs.Fields.{session_in, op_in, resource_in, mode_in, place_in, reply_word_in, number_in, granted_in, why_in, most_32};
 
 use crate::faults::TraceKind;
+use crate::plain::plain_resource;
 use crate::words::{OPS, Op, REPLY_WORDS, ReplyWord};
 use itoa::Buffer;
 use lock_modes::Mode;
@@ -55,7 +56,8 @@ fn resource_in_text(text: &str) -> Result<Resource, PathFault>
     Resource::parse(text)
 }
 
-pub(crate) fn resource_of(field: &[u8]) -> Result<Resource, TraceKind>
+// A resource, or the first fault of the field, whatever it has.
+fn tested_resource(field: &[u8]) -> Result<Resource, TraceKind>
     ensures { result ≡ resource_in field.now }
 {
     let Some(text) = text_in(field) else {
@@ -64,6 +66,15 @@ pub(crate) fn resource_of(field: &[u8]) -> Result<Resource, TraceKind>
     match resource_in_text(text) {
         Ok(resource) => Ok(resource),
         Err(fault) => Err(TraceKind::Path(fault)),
+    }
+}
+
+pub(crate) fn resource_of(field: &[u8]) -> Result<Resource, TraceKind>
+    ensures { result ≡ resource_in field.now }
+{
+    match plain_resource(field) {
+        Some(resource) => Ok(resource),
+        None => tested_resource(field),
     }
 }
 

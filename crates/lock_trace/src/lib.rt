@@ -8,6 +8,7 @@ mod files;
 #[cfg(test)]
 mod history_tests;
 pub mod laws;
+mod plain;
 mod reading;
 mod rows;
 #[cfg(test)]

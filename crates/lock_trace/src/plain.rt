@@ -1,0 +1,58 @@
+//! Resources whose texts have no fault, read in one pass. The bytes aren't tested for UTF-8, since they
+//! are digits and `/` alone. What isn't read here is looked at again, for its fault.
+
+ghost use Rattle.std.specs.Prelude.{◌≡◌, ◌≤◌, ◌++◌, length, take, IfSome, Ok, decimal};
+ghost use Rattle.lock_trace.specs.Fields.{resource_in};
+
+use lock_tree::{LEVELS, Resource};
+
+// A number up to this takes one digit more within 32 bits. The few above it are left to the longer way.
+const MOST: u32 = 429_496_728;
+
+// The number in decimal that stands from a place on, and where it ends.
+fn number_from(field: &[u8], start: usize) -> Option<(u32, usize)>
+    requires { start ≤ length field.now }
+    ensures end { IfSome result (λ found. found.1 ≤ length field.now) }
+    ensures text { IfSome result (λ found. take found.1 field.now ≡ take start field.now ++ decimal found.0) }
+{
+    let mut number = 0;
+    let mut end = start;
+    for at in start..field.len() {
+        let byte = field[at];
+        if byte < b'0' || byte > b'9' {
+            break;
+        }
+        if number > MOST {
+            return None;
+        }
+        if number == 0 && end != start {
+            return None;
+        }
+        number = number * 10 + (byte - b'0') as u32;
+        end = at + 1;
+    }
+    if end == start {
+        return None;
+    }
+    Some((number, end))
+}
+
+/// The resource that a field is, unless the field is faulty or has a number above 4294967289.
+pub(crate) fn plain_resource(field: &[u8]) -> Option<Resource>
+    ensures { IfSome result (λ resource. resource_in field.now ≡ Ok resource) }
+{
+    let mut numbers = [0; LEVELS];
+    let mut start = 0;
+    for level in 0..LEVELS {
+        let (number, end) = number_from(field, start)?;
+        numbers[level] = number;
+        if end == field.len() {
+            return Resource::from_numbers(&numbers[..level + 1]);
+        }
+        if field[end] != b'/' {
+            return None;
+        }
+        start = end + 1;
+    }
+    None
+}
