@@ -3,9 +3,6 @@ use Rattle.std.proofs.Common.{◌≡◌, ℕ, ◌+◌, ◌*◌, ◌/◌, ◌%◌
 use Rattle.std.specs.Prelude.{decimal}
 use Rattle.std.proofs.lemmas.Fmt.{decimal_digit, decimal_step}
 
-pub one_digit : (n : ℕ) → n < 10 → decimal n ≡ (48 + n) ∷ []
-one_digit n lt = decimal_digit n lt
-
 -- a number is the digits before its last one, and that one
 pub digit_more : (n d : ℕ) → 0 < n → n < 2 ^ 32 → d < 10 → decimal (n * 10 + d) ≡ decimal n ++ (48 + d) ∷ []
 digit_more n d some small lt =

@@ -1,16 +1,11 @@
 -- A line is written field by field, and a text line by line.
-use Rattle.std.proofs.Common.{◌≡◌, ℕ, zero, suc, ◌+◌, ◌<◌, ◌≤◌, List, [], ◌∷◌, ◌++◌, length, take, take-suc, take_all, get_or, refl, ap, sym, ◌∙◌, append_assoc, add-one, length-take, arith, rules, Result, Ok, Err}
-use Rattle.std.specs.Prelude.{decimal, OnOk}
+use Rattle.std.proofs.Common.{◌≡◌, ℕ, zero, suc, ◌+◌, ◌<◌, ◌≤◌, List, [], ◌∷◌, ◌++◌, length, take, take-suc, take_all, get_or, refl, ap, sym, ◌∙◌, append_assoc, add-one, length-take, arith, rules}
+use Rattle.std.specs.Prelude.{decimal}
 use Rattle.std.proofs.lemmas.List.{append-nil}
 use Rattle.lock_tree.specs.Text.{text_of}
 use Rattle.lock_rules.specs.declared.calls.Entry.{Entry}
 use Rattle.lock_trace.specs.Histories.{after_commas, line_of, lines_of, fields_of_entry, text_of_history}
 use Rattle.lock_trace.specs.Files.{fields_from}
-
--- what follows from a success
-pub on_ok : {T E A B : Type 0} (r : Result T E) → (A → B) → OnOk r A → OnOk r B
-on_ok (Ok x) f a = f a
-on_ok (Err e) f a = tt
 
 -- one number more of a resource
 

@@ -2,10 +2,11 @@
 use Rattle.std.proofs.Common.{◌≡◌, ℕ, ◌+◌, ◌-◌, ◌*◌, ◌^◌, ◌<◌, ◌≤◌, ◌↔◌, List, [], ◌∷◌, ◌++◌, length, take, take_all, set, get_or, Option, Some, None, Ok, refl, ap, sym, subst, ◌∙◌, inl, inr, eq-zero-or-pos, append_assoc, arith}
 use Rattle.std.specs.Prelude.{decimal, IsSome, IfSome}
 use Rattle.std.proofs.lemmas.List.{append-nil, take_more, take_more_set}
+use Rattle.std.proofs.lemmas.Fmt.{decimal_digit}
 use Rattle.lock_tree.specs.Paths.{IsResource}
 use Rattle.lock_tree.specs.Text.{text_of}
 use Rattle.lock_trace.specs.Fields.{resource_in}
-use Rattle.lock_trace.proofs.Digits.{one_digit, digit_more}
+use Rattle.lock_trace.proofs.Digits.{digit_more}
 use Rattle.lock_trace.proofs.Resources.{resource_iff}
 
 -- what stands from the start to the end is the number, or nothing
@@ -20,7 +21,7 @@ digit_joins field start at number d le small fits first so_far =
       | inl none ↦
           let same : at ≡ start = omega (arith, le, none) in
           let zero_now : number * 10 + d ≡ d = omega (arith, so_far.none same) in
-          ap (λ (k : ℕ). take k field ++ (48 + d) ∷ []) same ∙ ap (λ (t : List ℕ). take start field ++ t) (sym (one_digit d small) ∙ ap decimal (sym zero_now))
+          ap (λ (k : ℕ). take k field ++ (48 + d) ∷ []) same ∙ ap (λ (t : List ℕ). take start field ++ t) (sym (decimal_digit d small) ∙ ap decimal (sym zero_now))
       | inr more ↦
           let later : start < at = omega (arith, le, more) in
           let some : 0 < number = elim (eq-zero-or-pos number) [ inl z ↦ absurd (omega (arith, first z, later)) | inr p ↦ p ] in

@@ -36,7 +36,16 @@ fn put_pair(out: &mut Vec<u8>, number: u8) -> Result<(), NoMemory>
     put_byte(out, b'0' + number % 10)
 }
 
-// Most numbers have one digit or two, and those are written without a buffer of their own.
+// Any number, by a buffer of its own. It stands apart, so that the short way keeps its few instructions.
+#[inline(never)]
+fn put_long_number(out: &mut Vec<u8>, number: u64) -> Result<(), NoMemory>
+    ensures { OnOk result (out.new.items ≡ out.old.items ++ decimal number) }
+{
+    let mut buffer = Buffer::new();
+    out.extend_from_slice(buffer.format(number).as_bytes())
+}
+
+// Most numbers have one digit or two, and those are written without a buffer.
 fn put_number(out: &mut Vec<u8>, number: u64) -> Result<(), NoMemory>
     ensures { OnOk result (out.new.items ≡ out.old.items ++ decimal number) }
 {
@@ -46,8 +55,7 @@ fn put_number(out: &mut Vec<u8>, number: u64) -> Result<(), NoMemory>
     if number < 100 {
         return put_pair(out, number as u8);
     }
-    let mut buffer = Buffer::new();
-    out.extend_from_slice(buffer.format(number).as_bytes())
+    put_long_number(out, number)
 }
 
 fn put_resource(out: &mut Vec<u8>, resource: &Resource) -> Result<(), NoMemory>
