@@ -57,6 +57,15 @@ fn finds_nothing(rt: &impl Abort, board: &Board, ticket: &mut Ticket, whose: u16
     assert!(rt; board.open(ticket, whose).is_none());
 }
 
+// The session takes this answer to its call, once.
+fn takes_once(rt: &impl Abort, board: &Board, ticket: &mut Ticket, place: u64, reply: Reply)
+    requires ours { IsOf board.now ticket.old }
+    ensures ours { IsOf board.now ticket.new }
+{
+    assert!(rt; board.take(ticket) == Some((place, reply)));
+    assert!(rt; board.take(ticket).is_none());
+}
+
 #[test]
 fn a_combiner_answers_what_another_posted(rt: HostRuntime) -> Result<(), Fail> {
     let book = Book::new(rt.alloc(), 2)?;
@@ -71,8 +80,7 @@ fn a_combiner_answers_what_another_posted(rt: HostRuntime) -> Result<(), Fail> {
     let reply = serve(&board, &mut second, &mut load, 1, call)?;
     assert!(rt; reply == Reply::Began(1));
     finds_nothing(&rt, &board, &mut second, 1);
-    assert!(rt; board.take(&mut first) == Some((0, Reply::Began(1))));
-    assert!(rt; board.take(&mut first).is_none());
+    takes_once(&rt, &board, &mut first, 0, Reply::Began(1));
     board.release(&mut second, load);
     assert!(rt; board.seize(&mut first).is_some());
     Ok(())
