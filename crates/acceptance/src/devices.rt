@@ -127,6 +127,17 @@ fn tool_faults_have_their_numbers(rt: HostRuntime) {
     assert_eq!(rt; ToolFault::TurnLimit.number(), 5);
 }
 
+/// Whether the reader is said to have failed in the second row.
+fn is_cut(told: Result<u64, ToolFault>) -> bool {
+    matches!(
+        told,
+        Err(ToolFault::Trace(TraceFault {
+            row: 2,
+            kind: TraceKind::Device
+        }))
+    )
+}
+
 #[test]
 fn a_reader_that_fails_names_its_row(rt: HostRuntime) -> Result<(), Fail> {
     let mut output = Vec::new(rt.alloc());
@@ -145,15 +156,7 @@ fn a_reader_that_fails_names_its_row(rt: HostRuntime) -> Result<(), Fail> {
     assert_eq!(rt; errors.as_slice(), b"glm: device\n".as_slice());
     let fault = replay(rt.alloc(), Cut { left: GIVEN }, &mut output, 1);
     assert!(rt; output.is_empty());
-    assert!(rt;
-        matches!(
-            fault,
-            Err(ToolFault::Trace(TraceFault {
-                row: 2,
-                kind: TraceKind::Device
-            }))
-        )
-    );
+    assert!(rt; is_cut(fault));
     Ok(())
 }
 
@@ -201,15 +204,7 @@ fn a_run_whose_reader_fails_starts_no_thread(rt: HostRuntime) -> Result<(), Fail
     );
     assert!(rt; output.is_empty());
     assert_eq!(rt; gate.entered(), 0);
-    assert!(rt;
-        matches!(
-            fault,
-            Err(ToolFault::Trace(TraceFault {
-                row: 2,
-                kind: TraceKind::Device
-            }))
-        )
-    );
+    assert!(rt; is_cut(fault));
     Ok(())
 }
 

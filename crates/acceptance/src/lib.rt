@@ -4,8 +4,6 @@
 #[cfg(test)]
 mod bad_input;
 #[cfg(test)]
-mod books;
-#[cfg(test)]
 mod checks;
 #[cfg(test)]
 mod conversions;

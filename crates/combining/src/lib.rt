@@ -9,10 +9,3 @@ mod pass;
 
 pub use office::{Answer, Office, OpenFault, Turn};
 pub use publication::{CloseFault, Posted, Ticket as Session};
-
-#[cfg(test)]
-mod closing_tests;
-#[cfg(test)]
-mod hearing_tests;
-#[cfg(test)]
-mod tests;

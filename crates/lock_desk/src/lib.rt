@@ -19,8 +19,6 @@ mod lockers;
 mod positions;
 mod refusals;
 mod releases;
-#[cfg(test)]
-mod tests;
 mod waits;
 
 pub use batch::Item;

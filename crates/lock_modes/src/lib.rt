@@ -8,8 +8,6 @@ ghost use Rattle.lock_modes.specs.Compatibility.{IsCompatible, are_compatible};
 ghost use Rattle.lock_modes.specs.Codes.{code_of, mask_of, name_of};
 
 pub mod laws;
-#[cfg(test)]
-mod tests;
 
 /// A lock mode of Gray, Lorie, Putzolu and Traiger (1976). Modes stand in the order of their codes, so
 /// sorts and maps put a mode after those below it.

@@ -6,6 +6,3 @@ pub mod laws;
 mod names;
 
 pub use calls::{Call, Entry, MAX_LOCKS, MAX_SESSIONS, Reply, Transaction, Why};
-
-#[cfg(test)]
-mod tests;

@@ -5,14 +5,10 @@ mod entries;
 mod faults;
 mod fields;
 mod files;
-#[cfg(test)]
-mod history_tests;
 pub mod laws;
 mod plain;
 mod reading;
 mod rows;
-#[cfg(test)]
-mod tests;
 mod words;
 mod writing;
 

@@ -7,8 +7,6 @@ mod numeral;
 mod path_fault;
 mod piece;
 mod resource;
-#[cfg(test)]
-mod tests;
 
 pub use laws::{
     equal_resources_hash_alike, numerals_are_decimals, order_is_by_numbers,

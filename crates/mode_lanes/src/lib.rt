@@ -10,5 +10,3 @@ pub use rows::{and_into, any_common, or_into};
 
 mod columns;
 mod rows;
-#[cfg(test)]
-mod tests;

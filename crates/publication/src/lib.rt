@@ -13,8 +13,6 @@ mod kinds;
 mod new_board;
 mod slot;
 mod steps;
-#[cfg(test)]
-mod tests;
 mod view;
 mod words;
 

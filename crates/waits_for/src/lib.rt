@@ -12,8 +12,6 @@ pub mod laws;
 mod matrix;
 mod rows;
 mod search;
-#[cfg(test)]
-mod tests;
 
 /// The most sessions that a [`Rows`] is made for. This project's own limit.
 pub const MAX_SESSIONS: u16 = 256;

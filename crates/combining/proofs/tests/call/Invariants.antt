@@ -1,5 +1,0 @@
-use Rattle.combining.specs.Sessions.{IsSessionOf}
-use Rattle.combining.proofs.tests.call.Given as goal
-
-abbrev pub invariant-loop-turn : goal.invariant-loop-turn
-invariant-loop-turn l = IsSessionOf l.office l.session

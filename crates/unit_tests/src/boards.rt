@@ -1,0 +1,87 @@
+//! A board of two sessions in one thread, call by call.
+
+ghost use Rattle.std.specs.Prelude.{◌≡◌, ◌+◌, true, Some, None, IfOk, slice_set};
+ghost use Rattle.publication.specs.Rule.{IsHome};
+ghost use Rattle.publication.specs.Boards.{IsOf, IsNumber, opened_at, new_ticket, new_tickets};
+
+use lock_desk::{Book, Call, NoMemory, Reply};
+use lock_rules::laws;
+use publication::{Board, Load, Posted, Ticket};
+use std::process::Abort;
+use std::test::Fail;
+
+// The tickets of sessions 1 and 2.
+fn both(rt: &impl Abort, board: &Board, mut tickets: Vec<Ticket>) -> (Ticket, Ticket)
+    requires { tickets.items ≡ new_tickets board.now.id 2 2 }
+    ensures first { result.0 ≡ new_ticket board.now.id 2 1 }
+    ensures second { result.1 ≡ new_ticket board.now.id 2 2 }
+{
+    let second = tickets.pop().expect(rt, "the ticket of session 2");
+    let first = tickets.pop().expect(rt, "the ticket of session 1");
+    (first, second)
+}
+
+// The combiner serves the call of a record that it opened.
+fn serve(
+    board: &Board,
+    ticket: &mut Ticket,
+    load: &mut Load,
+    whose: u16,
+    call: Call,
+) -> Result<Reply, NoMemory>
+    requires ours { IsOf board.now ticket.old }
+    requires has { ticket.old.has_book ≡ true }
+    requires whose { IsNumber board.now whose }
+    requires opened { opened_at ticket.old whose ≡ Some call }
+    requires home { IsHome ticket.old.front (board.now.sessions + 1) load.old }
+    ensures ticket { IfOk result (λ _. ticket.new ≡ record ticket.old {
+      front = ticket.new.front;
+      opened = slice_set ticket.old.opened whose None;
+    }) }
+    ensures home { IfOk result (λ _. IsHome ticket.new.front (board.now.sessions + 1) load.new) }
+{
+    laws::histories_are_legal_by_steps();
+    let reply = load.book.serve(whose, call)?;
+    let _length = load.book.history().len();
+    board.answer(ticket, whose, reply);
+    Ok(reply)
+}
+
+// The combiner finds nothing to open in this record.
+fn finds_nothing(rt: &impl Abort, board: &Board, ticket: &mut Ticket, whose: u16)
+    requires ours { IsOf board.now ticket.old }
+    requires has { ticket.old.has_book ≡ true }
+    requires whose { IsNumber board.now whose }
+    ensures { ticket.new ≡ ticket.old }
+{
+    assert!(rt; board.open(ticket, whose).is_none());
+}
+
+// The session takes this answer to its call, once.
+fn takes_once(rt: &impl Abort, board: &Board, ticket: &mut Ticket, place: u64, reply: Reply)
+    requires ours { IsOf board.now ticket.old }
+    ensures ours { IsOf board.now ticket.new }
+{
+    assert!(rt; board.take(ticket) == Some((place, reply)));
+    assert!(rt; board.take(ticket).is_none());
+}
+
+#[test]
+fn a_combiner_answers_what_another_posted(rt: HostRuntime) -> Result<(), Fail> {
+    let book = Book::new(rt.alloc(), 2)?;
+    let (board, tickets) = Board::new(rt.alloc(), book)?;
+    let (mut first, mut second) = both(&rt, &board, tickets);
+    assert!(rt; board.post(&mut first, Call::Begin) == Posted::Listed);
+    let mut load = board.seize(&mut second).expect(&rt, "the load");
+    assert!(rt; board.seize(&mut first).is_none());
+    let call = board.open(&mut second, 1).expect(&rt, "the call");
+    assert!(rt; call == Call::Begin);
+    finds_nothing(&rt, &board, &mut second, 1);
+    let reply = serve(&board, &mut second, &mut load, 1, call)?;
+    assert!(rt; reply == Reply::Began(1));
+    finds_nothing(&rt, &board, &mut second, 1);
+    takes_once(&rt, &board, &mut first, 0, Reply::Began(1));
+    board.release(&mut second, load);
+    assert!(rt; board.seize(&mut first).is_some());
+    Ok(())
+}

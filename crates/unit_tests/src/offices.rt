@@ -1,0 +1,362 @@
+//! What no clause says of an office: which calls a pass serves and in which order, and that one history has all answers,
+//! whatever the threads do. A call that finds no memory is made again, so that the tests without threads may also be run
+//! with each of their allocations refused in turn.
+ghost use Rattle.std.specs.Prelude.{◌≡◌, IfOk, IfSome};
+ghost use Rattle.publication.specs.Boards.{new_tickets};
+ghost use Rattle.combining.specs.Sessions.{IsSessionOf, IsIdle};
+
+use combining::{Answer, Office, OpenFault, Posted, Session, Turn};
+use lock_desk::{Book, Call, Mode, Reply, Resource, Why};
+use std::alloc::{AllocError, Global};
+use std::process::Abort;
+use std::test::Fail;
+use std::thread;
+use std::thread::Threads;
+
+const TURNS: u64 = 1_000_000_000;
+
+fn database(number: u32) -> Result<Resource, Fail> {
+    let resource = Resource::from_numbers(&[number]).ok_or("no resource")?;
+    Ok(resource)
+}
+
+pub(crate) fn new_office(alloc: Global, sessions: u16) -> Result<(Office, Vec<Session>), OpenFault>
+    ensures { IfOk result (λ made. made.1.items ≡ new_tickets made.0.id sessions sessions) }
+{
+    match Office::open(alloc, sessions) {
+        Err(OpenFault::NoMemory) => Office::open(alloc, sessions),
+        other => other,
+    }
+}
+
+/// A pass, and once more where memory was refused for a call: how many calls it served.
+pub(crate) fn served_by(rt: &impl Abort, office: &Office, session: &mut Session) -> u32
+    requires ours { IsSessionOf office.now session.old }
+    ensures ours { IsSessionOf office.now session.new }
+{
+    match office.serve(session) {
+        Turn::Pass {
+            served,
+            starved: false,
+        } => served,
+        Turn::Pass {
+            served,
+            starved: true,
+        } => {
+            let before = served;
+            let Turn::Pass {
+                served,
+                starved: false,
+            } = office.serve(session)
+            else {
+                panic!(rt; "a second pass has memory");
+            };
+            before.wrapping_add(served)
+        }
+        Turn::Elsewhere => panic!(rt; "nobody else has the lock table"),
+    }
+}
+
+pub(crate) fn ask(rt: &impl Abort, office: &Office, session: &mut Session, call: Call) -> Answer
+    requires ours { IsSessionOf office.now session.old × IsIdle session.old }
+    ensures ours { IsSessionOf office.now session.new × IsIdle session.new }
+{
+    let posted = office.publish(session, call);
+    assert_eq!(rt; posted, Posted::Listed);
+    assert_eq!(rt; served_by(rt, office, session), 1);
+    office.collect(session).expect(rt, "an answer")
+}
+
+pub(crate) fn answer(place: u64, reply: Reply) -> Answer {
+    Answer { place, reply }
+}
+
+#[test]
+fn an_office_is_opened_for_1_to_256_sessions(rt: HostRuntime) -> Result<(), Fail> {
+    assert_eq!(rt; OpenFault::NoSessions as u8, 1);
+    assert_eq!(rt; OpenFault::TooManySessions as u8, 2);
+    assert_eq!(rt; OpenFault::NoMemory as u8, 3);
+    assert!(rt; new_office(rt.alloc(), 0).err() == Some(OpenFault::NoSessions));
+    assert!(rt; new_office(rt.alloc(), 257).err() == Some(OpenFault::TooManySessions));
+    let (_office, sessions) = new_office(rt.alloc(), 256)?;
+    for (at, session) in sessions.iter().enumerate() {
+        assert_eq!(rt; usize::from(session.number()), at + 1);
+        assert!(rt; session.is_idle() && session.seen() == 0);
+    }
+    Ok(())
+}
+
+#[test]
+fn the_combiner_serves_what_another_session_published(rt: HostRuntime) -> Result<(), Fail> {
+    let (office, mut sessions) = new_office(rt.alloc(), 2)?;
+    let mut second = sessions.pop().expect(&rt, "session 2");
+    let mut first = sessions.pop().expect(&rt, "session 1");
+    assert_eq!(rt; office.publish(&mut first, Call::Begin), Posted::Listed);
+    assert!(rt; office.collect(&mut first).is_none() && !first.is_idle());
+    assert_eq!(rt; served_by(&rt, &office, &mut second), 1);
+    let began = answer(0, Reply::Began(1));
+    assert_eq!(rt; office.collect(&mut first), Some(began));
+    assert_eq!(rt; office.collect(&mut first), None);
+    assert!(rt; first.is_idle() && first.seen() == 1 && second.seen() == 1);
+    Ok(())
+}
+
+#[test]
+fn a_call_that_found_no_memory_is_served_by_the_next_pass(rt: HostRuntime) -> Result<(), Fail> {
+    let (office, mut sessions) = new_office(rt.alloc(), 1)?;
+    let mut only = sessions.pop().expect(&rt, "session 1");
+    assert_eq!(rt; office.publish(&mut only, Call::Begin), Posted::Listed);
+    let starved = Turn::Pass {
+        served: 0,
+        starved: true,
+    };
+    let mut turn = office.serve(&mut only);
+    if turn == starved {
+        println!(&rt; "starved")?;
+        assert_eq!(rt; office.collect(&mut only), None);
+        turn = office.serve(&mut only);
+    }
+    let pass = Turn::Pass {
+        served: 1,
+        starved: false,
+    };
+    assert_eq!(rt; turn, pass);
+    let began = answer(0, Reply::Began(1));
+    assert_eq!(rt; office.collect(&mut only), Some(began));
+    let idle = Turn::Pass {
+        served: 0,
+        starved: false,
+    };
+    assert_eq!(rt; office.serve(&mut only), idle);
+    Ok(())
+}
+
+#[test]
+fn locks_are_given_back_before_others_are_asked_for(rt: HostRuntime) -> Result<(), Fail> {
+    let one = database(1)?;
+    let (office, mut sessions) = new_office(rt.alloc(), 3)?;
+    let mut third = sessions.pop().expect(&rt, "session 3");
+    let mut second = sessions.pop().expect(&rt, "session 2");
+    let mut first = sessions.pop().expect(&rt, "session 1");
+    let began = ask(&rt, &office, &mut first, Call::Begin);
+    assert_eq!(rt; began, answer(0, Reply::Began(1)));
+    let began = ask(&rt, &office, &mut second, Call::Begin);
+    assert_eq!(rt; began, answer(1, Reply::Began(2)));
+    let began = ask(&rt, &office, &mut third, Call::Begin);
+    assert_eq!(rt; began, answer(2, Reply::Began(3)));
+    let locked = ask(&rt, &office, &mut first, Call::Lock(one, Mode::X));
+    assert_eq!(rt; locked, answer(3, Reply::Granted(Mode::X)));
+    let _posted = office.publish(&mut second, Call::Lock(one, Mode::S));
+    let _posted = office.publish(&mut first, Call::Commit);
+    assert_eq!(rt; served_by(&rt, &office, &mut third), 2);
+    let ended = answer(4, Reply::Committed(1));
+    assert_eq!(rt; office.collect(&mut first), Some(ended));
+    let granted = answer(5, Reply::Granted(Mode::S));
+    assert_eq!(rt; office.collect(&mut second), Some(granted));
+    Ok(())
+}
+
+#[test]
+fn a_pass_serves_what_gives_locks_back_first(rt: HostRuntime) -> Result<(), Fail> {
+    let one = database(1)?;
+    let refused = Reply::Refused(Why::NoTransaction);
+    for (giver, reply) in [
+        (Call::Commit, Reply::Committed(1)),
+        (Call::Abort, Reply::Aborted(1)),
+        (Call::Release(one), Reply::Released),
+    ] {
+        let (office, mut sessions) = new_office(rt.alloc(), 4)?;
+        let mut fourth = sessions.pop().expect(&rt, "session 4");
+        let mut third = sessions.pop().expect(&rt, "session 3");
+        let mut second = sessions.pop().expect(&rt, "session 2");
+        let mut first = sessions.pop().expect(&rt, "session 1");
+        let _began = ask(&rt, &office, &mut first, Call::Begin);
+        let _began = ask(&rt, &office, &mut second, Call::Begin);
+        let _locked = ask(&rt, &office, &mut second, Call::Lock(one, Mode::X));
+        let _posted = office.publish(&mut first, Call::Lock(one, Mode::S));
+        let _posted = office.publish(&mut second, giver);
+        let _posted = office.publish(&mut third, Call::Poll);
+        let _posted = office.publish(&mut fourth, Call::Commit);
+        assert_eq!(rt; served_by(&rt, &office, &mut third), 4);
+        assert_eq!(rt; office.collect(&mut second), Some(answer(3, reply)));
+        assert_eq!(rt; office.collect(&mut fourth), Some(answer(4, refused)));
+        let granted = Reply::Granted(Mode::S);
+        assert_eq!(rt; office.collect(&mut first), Some(answer(5, granted)));
+        assert_eq!(rt; office.collect(&mut third), Some(answer(6, refused)));
+    }
+    Ok(())
+}
+
+/// What the sessions of a test with threads call.
+#[derive(Clone, Copy)]
+enum Load {
+    Polls,
+    Transactions,
+}
+
+/// The calls of one session, by a sequence of numbers that its seed fixes.
+#[derive(Drop)]
+pub(crate) struct Caller {
+    load: Load,
+    state: u64,
+}
+
+impl Caller {
+    /// One that polls alone.
+    pub(crate) fn polls(seed: u64) -> Caller {
+        Caller {
+            load: Load::Polls,
+            state: seed,
+        }
+    }
+
+    /// A number below 2^31.
+    pub(crate) fn number(&mut self) -> u64 {
+        self.state = self
+            .state
+            .wrapping_mul(6_364_136_223_846_793_005)
+            .wrapping_add(1_442_695_040_888_963_407);
+        self.state >> 33
+    }
+
+    /// The next call: polls alone, or begins, locks on three databases, polls, commits and aborts.
+    fn next(&mut self) -> Option<Call> {
+        let Load::Transactions = self.load else {
+            return Some(Call::Poll);
+        };
+        let mode = if self.number() % 3 == 0 {
+            Mode::X
+        } else {
+            Mode::S
+        };
+        match self.number() % 8 {
+            0 => Some(Call::Begin),
+            1 | 2 | 3 => {
+                let numbers = [(self.number() % 3) as u32];
+                Some(Call::Lock(Resource::from_numbers(&numbers)?, mode))
+            }
+            4 | 5 => Some(Call::Poll),
+            6 => Some(Call::Commit),
+            _ => Some(Call::Abort),
+        }
+    }
+}
+
+/// A call with its answer.
+#[derive(Clone, Copy)]
+struct Answered {
+    place: u64,
+    session: u16,
+    call: Call,
+    reply: Reply,
+}
+
+fn with_answer(session: u16, call: Call, answer: Answer) -> Answered {
+    Answered {
+        place: answer.place,
+        session,
+        call,
+        reply: answer.reply,
+    }
+}
+
+/// Publishes a call, and tries to serve and to collect until the answer is there.
+pub(crate) fn call(office: &Office, session: &mut Session, call: Call) -> Option<Answer>
+    requires ours { IsSessionOf office.now session.old × IsIdle session.old }
+    ensures ours { IsSessionOf office.now session.new }
+    ensures idle { IfSome result (λ _. IsIdle session.new) }
+{
+    let _posted = office.publish(session, call);
+    for _turn in 0..TURNS {
+        let _turn = office.serve(session);
+        let answer = office.collect(session);
+        if answer.is_some() {
+            return answer;
+        }
+        thread::yield_now();
+    }
+    None
+}
+
+/// Makes as many calls, one after another. Fewer answers where one didn't come, or was refused memory.
+fn work(
+    alloc: Global,
+    office: &Office,
+    session: Session,
+    load: Load,
+    calls: u64,
+) -> Result<Vec<Answered>, AllocError>
+    requires ours { IsSessionOf office.now session × IsIdle session }
+{
+    let mut session = session;
+    let number = session.number();
+    let mut caller = Caller {
+        load,
+        state: u64::from(number),
+    };
+    let mut all = Vec::new(alloc);
+    for _call in 0..calls {
+        let Some(asked) = caller.next() else {
+            break;
+        };
+        let entered = asked;
+        let Some(answer) = call(office, &mut session, asked) else {
+            break;
+        };
+        all.push(with_answer(number, entered, answer))?;
+    }
+    Ok(all)
+}
+
+/// Eight threads with a session each make as many calls: the answers in the order of their places, each of which is there
+/// once.
+fn history_of_threads<R: Threads + Abort + Sync>(
+    rt: &R,
+    alloc: Global,
+    load: Load,
+    calls: u64,
+) -> Result<Vec<Answered>, Fail> {
+    let (office, sessions) = Office::open(alloc, 8)?;
+    let office = &office;
+    let worked = thread::map_vec(
+        rt,
+        sessions,
+        &|session: Session| work(alloc, office, session, load, calls),
+    )?;
+    let mut all = Vec::new(alloc);
+    for answered in worked {
+        for one in answered? {
+            all.push(one)?;
+        }
+    }
+    all.sort_unstable_by_key(|answered| answered.place);
+    for (place, answered) in all.iter().enumerate() {
+        assert_eq!(rt; answered.place, place as u64);
+    }
+    Ok(all)
+}
+
+#[test]
+fn eight_threads_poll(rt: HostRuntime) -> Result<(), Fail> {
+    let history = history_of_threads(&rt, rt.alloc(), Load::Polls, 1000)?;
+    assert_eq!(rt; history.len(), 8000);
+    for answered in &history {
+        assert_eq!(rt; answered.reply, Reply::Refused(Why::NoTransaction));
+    }
+    Ok(())
+}
+
+#[test]
+fn eight_threads_are_told_what_one_book_tells(rt: HostRuntime) -> Result<(), Fail> {
+    let history = history_of_threads(&rt, rt.alloc(), Load::Transactions, 1000)?;
+    assert_eq!(rt; history.len(), 8000);
+    let mut book = Book::new(rt.alloc(), 8)?;
+    for answered in &history {
+        assert!(rt; 1 <= answered.session && answered.session <= book.sessions());
+        assert_eq!(rt;
+            book.serve(answered.session, answered.call)?,
+            answered.reply
+        );
+    }
+    Ok(())
+}
