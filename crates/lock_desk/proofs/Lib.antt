@@ -7,6 +7,8 @@ pub mod Rising
 pub mod ResourceViews
 -- the table of cells after a change of one of them
 pub mod CellTable
+-- where the cell of a resource stands among the cells
+pub mod Places
 -- a lock or a request is given up in its cell
 pub mod CellGivesUp
 -- the lockers

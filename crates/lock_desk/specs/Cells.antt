@@ -1,8 +1,9 @@
 -- Private parts speak to one another here, and no public contract of this crate: what
 -- the cells say of a resource, and what is done there.
-use Rattle.std.specs.Prelude.{◌≡◌, ℕ, ◌+◌, ◌<◌, ◌≤◌, Bool, true, false, not, ◌&&◌, ◌||◌, if◌then◌else◌, ◌==◌, nat_lt, List, [], ◌∷◌, ◌++◌, filter, map, length, slice_index_or, Option, Some, None, IfSome, vec_len, vec_capacity}
-use Rattle.std.specs.List.{list_any, list_all}
+use Rattle.std.specs.Prelude.{◌≡◌, ℕ, ◌+◌, ◌<◌, ◌≤◌, Bool, true, false, not, ◌&&◌, ◌||◌, if◌then◌else◌, ◌==◌, nat_lt, List, [], ◌∷◌, ◌++◌, filter, map, length, slice_get, slice_index_or, Option, Some, None, IfSome, vec_len, vec_capacity}
+use Rattle.std.specs.List.{All, list_any, list_all}
 use Rattle.std.specs.Map.{lookup}
+use Rattle.std.specs.Global.{Vec}
 use Rattle.lock_modes.specs.declared.Mode.{Mode}
 use Rattle.lock_modes.specs.Compatibility.{are_compatible}
 use Rattle.lock_tree.specs.Paths.{same_path}
@@ -190,3 +191,25 @@ pub record CellsBecame (r : List ℕ) (v : View) (old new : Cells) : Type 0 wher
 -- what the cells say of the resource has become this of what they said before, and nothing else has changed
 abbrev pub ViewBecame : List ℕ → (View → View) → Cells → Cells → Type 0
 ViewBecame r f old new = CellsBecame r (f (cell_view r old)) old new
+
+-- where the cell of a resource stands among the cells
+
+-- it stands at this place
+pub record IsCellAt (r : List ℕ) (cs : Cells) (i : ℕ) : Type 0 where
+  pub cell : Cell
+  pub entry : slice_get cs i ≡ Some (r, cell)
+  pub found : cell_at r cs ≡ Some cell
+
+-- it stands at this place, or at none
+abbrev pub IsPlace : List ℕ → Cells → Option ℕ → Type 0
+IsPlace r cs None = cell_at r cs ≡ None
+IsPlace r cs (Some i) = IsCellAt r cs i
+
+-- what contracts see of the table: the cells in use
+pub record Table : Type 0 where
+  pub entries : Cells
+
+-- cells that nobody uses, with room for all that are used
+pub record HasSpare (used : ℕ) (spare : Vec Cell) : Type 0 where
+  pub idle : All (λ c. view_of c ≡ no_view) spare.items
+  pub room : used + vec_len spare ≤ vec_capacity spare

@@ -16,7 +16,7 @@ use Rattle.lock_rules.specs.Waits.{doom}
 use Rattle.lock_desk.specs.declared.desk.Desk.{Desk}
 use Rattle.lock_desk.specs.declared.cells.Part.{Part}
 use Rattle.lock_desk.specs.declared.cells.Part.TheVariants as part
-use Rattle.lock_desk.specs.Cells.{View, has_session, mode_of, cell_view, has_path, can_grant, view_after_asking, view_after_freeing, AreKeptCells}
+use Rattle.lock_desk.specs.Cells.{View, has_session, mode_of, cell_view, has_path, can_grant, view_after_asking, view_after_freeing, AreKeptCells, IsPlace}
 use Rattle.lock_desk.specs.ChildCounts.{has_child, IsUnder}
 use Rattle.lock_desk.specs.Lockers.{Standing, standings_of, standing_at, IsKeptLocker, DoAgree}
 
@@ -99,6 +99,16 @@ request_tests d s Abort = []
 
 abbrev pub desk_tests : Desk → ℕ → Call → List (Bool × Why)
 desk_tests d s c = standing_tests d s c ++ request_tests d s c
+
+-- this is where the cell of the resource stands that the call names
+abbrev pub IsFound : Desk → Call → Option ℕ → Type 0
+IsFound d (Lock r m) place = IsPlace r d.cells.entries place
+IsFound d (Convert r m) place = IsPlace r d.cells.entries place
+IsFound d (Release r) place = IsPlace r d.cells.entries place
+IsFound d Begin place = Unit {0}
+IsFound d Poll place = Unit {0}
+IsFound d Commit place = Unit {0}
+IsFound d Abort place = Unit {0}
 
 -- nothing that is seen has changed
 pub record IsSameSeen (d e : Desk) : Type 0 where

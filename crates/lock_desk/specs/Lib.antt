@@ -3,6 +3,7 @@ pub mod Kept
 pub mod Batches
 -- what private parts say to one another
 pub mod Cells
+pub mod Tables
 pub mod ChildCounts
 pub mod Lockers
 pub mod Changes

@@ -1,18 +1,17 @@
 //! Cells: one for each resource that is held or waited for, with its holders and its queue.
 
-ghost use Rattle.std.specs.Prelude.{◌≡◌, ℕ, ◌+◌, ◌<◌, ◌≤◌, insert, drop, Bool, true, false, true, not, List, [], ◌∷◌, ◌++◌, map, ◌&&◌, ◌||◌, ◌==◌, Some, IfOk, IfSome, OnOk, OnErr, length, vec_len, vec_capacity};
+ghost use Rattle.std.specs.Prelude.{◌≡◌, ℕ, ◌+◌, ◌<◌, ◌≤◌, insert, drop, Bool, true, false, not, List, [], ◌∷◌, ◌++◌, map, ◌&&◌, ◌||◌, ◌==◌, Some, IfOk, IfSome, OnOk, OnErr, length, vec_len, vec_capacity};
 ghost use Rattle.std.specs.Option.{option_copied};
 ghost use Rattle.waits_for.specs.Pairs.{pairs_of};
 ghost use Rattle.lock_tree.specs.Paths.{same_path};
 ghost use Rattle.lock_desk.specs.declared.cells.SessionMode.{SessionMode as SessionModeValue};
-ghost use Rattle.lock_desk.specs.Cells.{View, view_of, has_session, mode_of, pair_of, with_holder, view_after_giving_up, fits_among, go_with, Ascends, AreLesser, AreOthers, next_grant, can_grant, is_granted, behind_conversions, queue_with, view_after_asking, HasRoom, IsKeptCell, AreKeptCells, is_busy, cell_at, cell_view, CellsBecame, ViewBecame};
+ghost use Rattle.lock_desk.specs.Cells.{View, no_view, view_of, has_session, mode_of, pair_of, with_holder, view_after_giving_up, fits_among, go_with, Ascends, AreLesser, AreOthers, next_grant, can_grant, is_granted, behind_conversions, queue_with, view_after_asking, HasRoom, IsKeptCell, AreKeptCells, is_busy};
 ghost use Rattle.lock_desk.specs.Finding.{holder_blocks, stands_first, cell_blocks, AreOfSessions};
 
 use crate::positions::position_of;
-use indexmap::IndexMap;
 use lock_modes::Mode;
 use lock_tree::{Resource, same_path_is_equality};
-use std::alloc::AllocError;
+use std::alloc::{AllocError, Global};
 use waits_for::Rows;
 
 /// A session with the mode that it holds, or that its request waits for.
@@ -190,6 +189,27 @@ fn write_queue(rows: &mut Rows, waiting: &[SessionMode], session: u16)
 }
 
 impl Cell {
+    /// Nobody holds its resource, and nobody waits for it.
+    pub(crate) fn new(alloc: Global) -> Cell
+        ensures { view_of result ≡ no_view }
+    {
+        Cell {
+            holders: Vec::new(alloc),
+            waiting: Vec::new(alloc),
+        }
+    }
+
+    /// The first holder of an idle cell's resource.
+    pub(crate) fn occupy(&mut self, holder: SessionMode) -> Result<(), AllocError>
+        requires some { 1 ≤ holder.session }
+        requires idle { view_of self.old ≡ no_view }
+        ensures view { OnOk result (view_of self.new ≡ record { holders = holder ∷ []; waiting = [] }) }
+        ensures kept { OnOk result (IsKeptCell self.new) }
+    {
+        self.holders.push(holder)?;
+        Ok(())
+    }
+
     /// The mode that the session holds.
     pub(crate) fn mode_held(&self, session: u16) -> Option<Mode>
         ensures { result ≡ mode_of session (view_of self.now).holders }
@@ -298,7 +318,7 @@ impl Cell {
     }
 
     /// A session that doesn't wait for the cell's resource asks for it.
-    fn ask(&mut self, asker: SessionMode) -> Result<RequestStatus, AllocError>
+    pub(crate) fn ask(&mut self, asker: SessionMode) -> Result<RequestStatus, AllocError>
         requires some { 1 ≤ asker.session }
         requires kept { IsKeptCell self.old }
         requires idle { has_session asker.session (view_of self.old).waiting ≡ false }
@@ -333,62 +353,6 @@ impl Cell {
         if let Some(target) = mode_among(&self.waiting, session) {
             write_holders(rows, &self.holders, session, target);
             write_queue(rows, &self.waiting, session);
-        }
-    }
-}
-
-/// The cell of the resource.
-pub(crate) fn cell_of(cells: &IndexMap<Resource, Cell>, resource: Resource) -> Option<&Cell>
-    ensures { option_copied result ≡ cell_at resource cells.now.entries }
-{
-    same_path_is_equality();
-    cells.get(&resource)
-}
-
-/// A new cell, with its first holder.
-fn open(
-    cells: &mut IndexMap<Resource, Cell>,
-    resource: Resource,
-    holder: SessionMode,
-) -> Result<(), AllocError>
-    requires some { 1 ≤ holder.session }
-    requires kept { AreKeptCells cells.old.entries }
-    ensures ok { OnOk result (CellsBecame resource (record { holders = holder ∷ []; waiting = [] })
-        cells.old.entries cells.new.entries) }
-    ensures err { OnErr result (cells.new.entries ≡ cells.old.entries) }
-{
-    same_path_is_equality();
-    let alloc = *cells.allocator();
-    let mut holders = Vec::new(alloc);
-    holders.push(holder)?;
-    let cell = Cell {
-        holders,
-        waiting: Vec::new(alloc),
-    };
-    cells.insert(resource, cell)?;
-    Ok(())
-}
-
-/// A session that doesn't wait for the resource asks for it.
-pub(crate) fn ask(
-    cells: &mut IndexMap<Resource, Cell>,
-    resource: Resource,
-    asker: SessionMode,
-) -> Result<RequestStatus, AllocError>
-    requires some { 1 ≤ asker.session }
-    requires kept { AreKeptCells cells.old.entries }
-    requires idle { has_session asker.session (cell_view resource cells.old.entries).waiting ≡ false }
-    ensures granted { let before = cell_view resource cells.old.entries in
-        IfOk result (λ status. is_granted status ≡ can_grant asker before) }
-    ensures ok { OnOk result (ViewBecame resource (view_after_asking asker) cells.old.entries cells.new.entries) }
-    ensures err { OnErr result (ViewBecame resource (λ v. v) cells.old.entries cells.new.entries) }
-{
-    same_path_is_equality();
-    match cells.get_mut(&resource) {
-        Some(cell) => cell.ask(asker),
-        None => {
-            open(cells, resource, asker)?;
-            Ok(RequestStatus::Granted)
         }
     }
 }

@@ -1,26 +1,25 @@
 //! The desk: all cells and lockers, and what each call does to them.
 
-ghost use Rattle.std.specs.Prelude.{◌≡◌, ℕ, ◌+◌, ◌<◌, ◌≤◌, true, false, None, is_some, if◌then◌else◌, map, length, IfOk, OnOk, OnErr, vec_len};
+ghost use Rattle.std.specs.Prelude.{◌≡◌, ℕ, ◌+◌, ◌<◌, ◌≤◌, List, true, false, None, is_some, if◌then◌else◌, map, length, IfOk, OnOk, OnErr, vec_len};
 ghost use Rattle.lock_rules.specs.declared.calls.Reply.TheVariants.{Waiting, Deadlock};
 ghost use Rattle.lock_rules.specs.State.{State, empty, held_mode, doomed_in};
 ghost use Rattle.lock_rules.specs.Step.{target_of, is_held, first_failing, ask, act, step};
 ghost use Rattle.lock_rules.specs.Waits.{after_victims};
 ghost use Rattle.lock_rules.specs.Sound.{IsNumbered, IsSound};
-ghost use Rattle.lock_desk.specs.Cells.{pair_of, is_granted};
+ghost use Rattle.lock_desk.specs.Cells.{pair_of, is_granted, IsPlace};
 ghost use Rattle.lock_desk.specs.declared.cells.Part.TheVariants as part;
 ghost use Rattle.lock_desk.specs.ChildCounts.{has_child};
 ghost use Rattle.lock_desk.specs.Lockers.{standing_of};
-ghost use Rattle.lock_desk.specs.Changes.{view_at, standing, IsWhole, DoesKeep, mode_held, desk_tests, IsSameSeen, CanAsk, MayAsk, CanLock, CanConvert, HasAsked, CanRelease, HasFreed, HasGivenBack, HasGivenBackAll, HasCancelled, HasDoomed, HasBegun, HasEnded};
+ghost use Rattle.lock_desk.specs.Changes.{view_at, standing, IsWhole, DoesKeep, mode_held, desk_tests, IsFound, IsSameSeen, CanAsk, MayAsk, CanLock, CanConvert, HasAsked, CanRelease, HasFreed, HasGivenBack, HasGivenBackAll, HasCancelled, HasDoomed, HasBegun, HasEnded};
 ghost use Rattle.lock_desk.specs.Ready.{IsReadyDesk};
 ghost use Rattle.lock_desk.specs.Shows.{Shows, DoesAnswer};
 
-use crate::cells::{Cell, Part, RequestStatus, SessionMode, ask, cell_of};
+use crate::cell_table::CellTable;
+use crate::cells::{Part, RequestStatus, SessionMode};
 use crate::lockers::{Locker, Request};
 use crate::positions::position_of;
 use crate::refusals::target_of;
-use crate::releases::free;
 use crate::waits::{Waits, fill, new_waits, victim};
-use indexmap::IndexMap;
 use lock_modes::Mode;
 use lock_rules::{Call, MAX_LOCKS, MAX_SESSIONS, Reply};
 use lock_tree::Resource;
@@ -32,7 +31,7 @@ use std::alloc::{AllocError, Global};
 pub struct Desk {
     count: u64,
     lockers: Vec<Locker>,
-    cells: IndexMap<Resource, Cell>,
+    cells: CellTable,
     waits: Waits,
 }
 
@@ -54,7 +53,7 @@ impl Desk {
         Ok(Desk {
             count: 0,
             lockers,
-            cells: IndexMap::new(alloc),
+            cells: CellTable::new(alloc),
             waits,
         })
     }
@@ -72,10 +71,17 @@ impl Desk {
     pub(crate) fn held(&self, session: u16, resource: Resource) -> Option<Mode>
         ensures { result ≡ mode_held self.now session resource }
     {
-        match cell_of(&self.cells, resource) {
+        match self.cells.cell_of(resource) {
             Some(cell) => cell.mode_held(session),
             None => None,
         }
+    }
+
+    /// The mode that the session holds on the resource whose place this is.
+    pub(crate) fn mode_at(&self, session: u16, place: Option<usize>) -> Option<Mode>
+        ensures { (r : List ℕ) → IsPlace r self.now.cells.entries place → result ≡ mode_held self.now session r }
+    {
+        self.cells.mode_at(place, session)
     }
 
     /// Writes the holders of the resource to the list, by session number.
@@ -87,7 +93,7 @@ impl Desk {
         ensures ok { OnOk result (list.new.items ≡ map pair_of (view_at resource self.now).holders) }
         ensures err { OnErr result (list.new.items ≡ list.old.items) }
     {
-        match cell_of(&self.cells, resource) {
+        match self.cells.cell_of(resource) {
             Some(cell) => cell.list_holders(list),
             None => {
                 list.clear();
@@ -111,12 +117,14 @@ impl Desk {
     fn lock(
         &mut self,
         session: u16,
+        place: Option<usize>,
         resource: Resource,
         mode: Mode,
     ) -> Result<RequestStatus, AllocError>
         requires some { 1 ≤ session }
         requires within { session ≤ vec_len self.old.lockers }
         requires whole { IsWhole self.old }
+        requires place { IsPlace resource self.old.cells.entries place }
         requires can { CanLock session resource self.old }
         ensures asked { IfOk result (λ status. HasAsked session resource mode (is_granted status) self.old self.new) }
         ensures err { OnErr result (IsSameSeen self.old self.new) }
@@ -125,7 +133,9 @@ impl Desk {
         let position = position_of(session);
         let locker = &mut self.lockers[position];
         locker.make_room()?;
-        let status = ask(&mut self.cells, resource, SessionMode { session, mode })?;
+        let status = self
+            .cells
+            .ask(place, resource, SessionMode { session, mode })?;
         let locker = &mut self.lockers[position];
         match status {
             RequestStatus::Granted => locker.hold(resource),
@@ -138,18 +148,22 @@ impl Desk {
     fn convert(
         &mut self,
         session: u16,
+        place: Option<usize>,
         resource: Resource,
         mode: Mode,
     ) -> Result<RequestStatus, AllocError>
         requires some { 1 ≤ session }
         requires within { session ≤ vec_len self.old.lockers }
         requires whole { IsWhole self.old }
+        requires place { IsPlace resource self.old.cells.entries place }
         requires can { CanConvert session resource self.old }
         ensures asked { IfOk result (λ status. HasAsked session resource mode (is_granted status) self.old self.new) }
         ensures err { OnErr result (IsSameSeen self.old self.new) }
         ensures kept { DoesKeep self.old self.new }
     {
-        let status = ask(&mut self.cells, resource, SessionMode { session, mode })?;
+        let status = self
+            .cells
+            .ask(place, resource, SessionMode { session, mode })?;
         match status {
             RequestStatus::Granted => {}
             RequestStatus::Waiting => {
@@ -164,6 +178,7 @@ impl Desk {
     fn seek(
         &mut self,
         session: u16,
+        place: Option<usize>,
         resource: Resource,
         held: Option<Mode>,
         target: Mode,
@@ -172,6 +187,7 @@ impl Desk {
         requires within { session ≤ vec_len self.old.lockers }
         requires view_at { held ≡ mode_held self.old session resource }
         requires whole { IsWhole self.old }
+        requires place { IsPlace resource self.old.cells.entries place }
         requires can { CanAsk session resource self.old }
         ensures held { is_held (mode_held self.old session resource) target ≡ true
             → IfOk result (λ status. (is_granted status ≡ true) × IsSameSeen self.old self.new) }
@@ -182,29 +198,25 @@ impl Desk {
     {
         match held {
             Some(held) if held.covers(target) => Ok(RequestStatus::Granted),
-            Some(_) => self.convert(session, resource, target),
-            None => self.lock(session, resource, target),
+            Some(_) => self.convert(session, place, resource, target),
+            None => self.lock(session, place, resource, target),
         }
     }
 
     /// The session gives the resource back.
-    fn release(&mut self, session: u16, resource: Resource)
+    fn release(&mut self, session: u16, place: Option<usize>, resource: Resource)
         requires some { 1 ≤ session }
         requires within { session ≤ vec_len self.old.lockers }
         requires whole { IsWhole self.old }
+        requires place { IsPlace resource self.old.cells.entries place }
         requires can { CanRelease session resource self.old }
         ensures freed { HasFreed part.Lock session resource self.old self.new }
         ensures kept { DoesKeep self.old self.new }
     {
         let locker = &mut self.lockers[position_of(session)];
         locker.release(resource);
-        free(
-            &mut self.cells,
-            &mut self.lockers,
-            session,
-            resource,
-            Part::Lock,
-        );
+        self.cells
+            .free(&mut self.lockers, session, place, resource, Part::Lock);
     }
 
     /// Gives back what the session was granted last.
@@ -219,13 +231,9 @@ impl Desk {
     {
         let locker = &mut self.lockers[position_of(session)];
         if let Some(resource) = locker.release_last() {
-            free(
-                &mut self.cells,
-                &mut self.lockers,
-                session,
-                resource,
-                Part::Lock,
-            );
+            let place = self.cells.place_of(resource);
+            self.cells
+                .free(&mut self.lockers, session, place, resource, Part::Lock);
         }
     }
 
@@ -274,13 +282,9 @@ impl Desk {
     {
         let locker = &mut self.lockers[position_of(session)];
         if let Some(resource) = locker.cancel() {
-            free(
-                &mut self.cells,
-                &mut self.lockers,
-                session,
-                resource,
-                Part::Request,
-            );
+            let place = self.cells.place_of(resource);
+            self.cells
+                .free(&mut self.lockers, session, place, resource, Part::Request);
         }
     }
 
@@ -369,11 +373,18 @@ impl Desk {
     }
 
     /// Asks for a mode on the resource, or for what covers it and what is held there.
-    fn ask(&mut self, session: u16, resource: Resource, mode: Mode) -> Result<Reply, AllocError>
+    fn ask(
+        &mut self,
+        session: u16,
+        place: Option<usize>,
+        resource: Resource,
+        mode: Mode,
+    ) -> Result<Reply, AllocError>
         requires some { 1 ≤ session }
         requires within { session ≤ vec_len self.old.lockers }
         requires whole { IsWhole self.old }
         requires ready { IsReadyDesk self.old }
+        requires place { IsPlace resource self.old.cells.entries place }
         requires may { MayAsk session resource mode self.old }
         ensures ask { (st : State) → IsSound st.table → IsNumbered st → Shows self.old st
             → let held = held_mode st.table session resource in
@@ -384,9 +395,9 @@ impl Desk {
         ensures ready { IsReadyDesk self.new }
         ensures len { vec_len self.new.lockers ≡ vec_len self.old.lockers }
     {
-        let held = self.held(session, resource);
+        let held = self.mode_at(session, place);
         let target = target_of(held, mode);
-        match self.seek(session, resource, held, target)? {
+        match self.seek(session, place, resource, held, target)? {
             RequestStatus::Granted => Ok(Reply::Granted(target)),
             RequestStatus::Waiting => {
                 self.settle(session);
@@ -395,12 +406,25 @@ impl Desk {
         }
     }
 
+    /// Where the cell of the resource stands that the call names.
+    fn place_of(&self, call: Call) -> Option<usize>
+        ensures { IsFound self.now call result }
+    {
+        match call {
+            Call::Lock(resource, _) | Call::Convert(resource, _) | Call::Release(resource) => {
+                self.cells.place_of(resource)
+            }
+            Call::Begin | Call::Poll | Call::Commit | Call::Abort => None,
+        }
+    }
+
     /// What the call does where no test fails.
-    fn act(&mut self, session: u16, call: Call) -> Result<Reply, AllocError>
+    fn act(&mut self, session: u16, place: Option<usize>, call: Call) -> Result<Reply, AllocError>
         requires some { 1 ≤ session }
         requires within { session ≤ vec_len self.old.lockers }
         requires whole { IsWhole self.old }
         requires ready { IsReadyDesk self.old }
+        requires found { IsFound self.old call place }
         requires passed { first_failing (desk_tests self.old session call) ≡ None }
         requires room { self.old.count < 18446744073709551615 }
         ensures act { (st : State) → IsSound st.table → IsNumbered st → Shows self.old st
@@ -414,11 +438,11 @@ impl Desk {
         match call {
             Call::Begin => Ok(Reply::Began(self.begin(session))),
             Call::Lock(resource, mode) | Call::Convert(resource, mode) => {
-                self.ask(session, resource, mode)
+                self.ask(session, place, resource, mode)
             }
             Call::Poll => Ok(self.standing_reply(session, Reply::Clear)),
             Call::Release(resource) => {
-                self.release(session, resource);
+                self.release(session, place, resource);
                 Ok(Reply::Released)
             }
             Call::Commit => Ok(Reply::Committed(self.end(session) as u32)),
@@ -441,10 +465,12 @@ impl Desk {
         ensures ready { IsReadyDesk self.new }
         ensures len { vec_len self.new.lockers ≡ vec_len self.old.lockers }
     {
+        let named = call;
+        let place = self.place_of(named);
         let asked = call;
-        match self.refusal(session, asked) {
+        match self.refusal(session, place, asked) {
             Some(why) => Ok(Reply::Refused(why)),
-            None => self.act(session, call),
+            None => self.act(session, place, call),
         }
     }
 }

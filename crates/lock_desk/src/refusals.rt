@@ -2,7 +2,8 @@
 
 ghost use Rattle.std.specs.Prelude.{◌≡◌, ◌≤◌, vec_len};
 ghost use Rattle.lock_rules.specs.Step.{is_nothing, target_of, first_failing};
-ghost use Rattle.lock_desk.specs.Changes.{lacks_need, open_tests, idle_tests, standing_tests, lock_tests, convert_tests, release_tests, request_tests, desk_tests, IsWhole};
+ghost use Rattle.lock_desk.specs.Cells.{IsPlace};
+ghost use Rattle.lock_desk.specs.Changes.{lacks_need, open_tests, idle_tests, standing_tests, lock_tests, convert_tests, release_tests, request_tests, desk_tests, IsFound, IsWhole};
 
 use crate::desk::Desk;
 use lock_modes::Mode;
@@ -55,15 +56,22 @@ impl Desk {
         None
     }
 
-    fn lock_refusal(&self, session: u16, resource: Resource, mode: Mode) -> Option<Why>
+    fn lock_refusal(
+        &self,
+        session: u16,
+        place: Option<usize>,
+        resource: Resource,
+        mode: Mode,
+    ) -> Option<Why>
         requires some { 1 ≤ session }
         requires within { session ≤ vec_len self.now.lockers }
+        requires place { IsPlace resource self.now.cells.entries place }
         ensures { result ≡ first_failing (lock_tests self.now session resource mode) }
     {
         if is_nothing(mode) {
             return Some(Why::NothingAsked);
         }
-        let held = self.held(session, resource);
+        let held = self.mode_at(session, place);
         if self.lacks_parent(session, resource, target_of(held, mode)) {
             return Some(Why::ParentNotHeld);
         }
@@ -74,13 +82,20 @@ impl Desk {
         None
     }
 
-    fn convert_refusal(&self, session: u16, resource: Resource, mode: Mode) -> Option<Why>
+    fn convert_refusal(
+        &self,
+        session: u16,
+        place: Option<usize>,
+        resource: Resource,
+        mode: Mode,
+    ) -> Option<Why>
+        requires place { IsPlace resource self.now.cells.entries place }
         ensures { result ≡ first_failing (convert_tests self.now session resource mode) }
     {
         if is_nothing(mode) {
             return Some(Why::NothingAsked);
         }
-        let held = self.held(session, resource);
+        let held = self.mode_at(session, place);
         if held.is_none() {
             return Some(Why::NotHeld);
         }
@@ -90,13 +105,14 @@ impl Desk {
         None
     }
 
-    fn release_refusal(&self, session: u16, resource: Resource) -> Option<Why>
+    fn release_refusal(&self, session: u16, place: Option<usize>, resource: Resource) -> Option<Why>
         requires some { 1 ≤ session }
         requires within { session ≤ vec_len self.now.lockers }
         requires whole { IsWhole self.now }
+        requires place { IsPlace resource self.now.cells.entries place }
         ensures { result ≡ first_failing (release_tests self.now session resource) }
     {
-        if self.held(session, resource).is_none() {
+        if self.mode_at(session, place).is_none() {
             return Some(Why::NotHeld);
         }
         if self.holds_child(session, resource) {
@@ -106,16 +122,17 @@ impl Desk {
     }
 
     /// The refusal by the tests of a call that ask what it is for.
-    fn request_refusal(&self, session: u16, call: Call) -> Option<Why>
+    fn request_refusal(&self, session: u16, place: Option<usize>, call: Call) -> Option<Why>
         requires some { 1 ≤ session }
         requires within { session ≤ vec_len self.now.lockers }
         requires whole { IsWhole self.now }
+        requires found { IsFound self.now call place }
         ensures { result ≡ first_failing (request_tests self.now session call) }
     {
         match call {
-            Call::Lock(resource, mode) => self.lock_refusal(session, resource, mode),
-            Call::Convert(resource, mode) => self.convert_refusal(session, resource, mode),
-            Call::Release(resource) => self.release_refusal(session, resource),
+            Call::Lock(resource, mode) => self.lock_refusal(session, place, resource, mode),
+            Call::Convert(resource, mode) => self.convert_refusal(session, place, resource, mode),
+            Call::Release(resource) => self.release_refusal(session, place, resource),
             Call::Begin | Call::Poll | Call::Commit | Call::Abort => None,
         }
     }
@@ -137,16 +154,17 @@ impl Desk {
     }
 
     /// The refusal of the first test of the call that fails.
-    pub(crate) fn refusal(&self, session: u16, call: Call) -> Option<Why>
+    pub(crate) fn refusal(&self, session: u16, place: Option<usize>, call: Call) -> Option<Why>
         requires some { 1 ≤ session }
         requires within { session ≤ vec_len self.now.lockers }
         requires whole { IsWhole self.now }
+        requires found { IsFound self.now call place }
         ensures { result ≡ first_failing (desk_tests self.now session call) }
     {
         let asked = call;
         match self.standing_refusal(session, asked) {
             Some(why) => Some(why),
-            None => self.request_refusal(session, call),
+            None => self.request_refusal(session, place, call),
         }
     }
 }

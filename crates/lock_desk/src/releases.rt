@@ -1,15 +1,14 @@
 //! What becomes free is given to those who wait: the cells and the lockers change together.
 
-ghost use Rattle.std.specs.Prelude.{◌≡◌, ◌<◌, ◌≤◌, vec_len};
+ghost use Rattle.std.specs.Prelude.{◌≡◌, vec_len};
 ghost use Rattle.std.specs.List.{All};
-ghost use Rattle.lock_desk.specs.Cells.{view_of, cell_view, view_after_promotion, view_after_giving_up, view_after_freeing, HasRoom, IsOnce, AreKeptCells, ViewBecame};
+ghost use Rattle.lock_desk.specs.Cells.{view_of, view_after_promotion, HasRoom, IsOnce};
 ghost use Rattle.lock_desk.specs.Lockers.{standings_of, IsKeptLocker, AreSameOrGranted, DoAgree};
 
-use crate::cells::{Cell, Part};
+use crate::cells::Cell;
 use crate::lockers::Locker;
 use crate::positions::position_of;
-use indexmap::IndexMap;
-use lock_tree::{Resource, same_path_is_equality};
+use lock_tree::Resource;
 
 /// Grants the requests at the front of the queue, up to the first that doesn't fit.
 pub(crate) fn promote(cell: &mut Cell, resource: Resource, lockers: &mut Vec<Locker>)
@@ -34,35 +33,4 @@ pub(crate) fn promote(cell: &mut Cell, resource: Resource, lockers: &mut Vec<Loc
         granted += 1;
     }
     cell.pass(granted);
-}
-
-/// The session gives up its lock on the resource, or its request: the queue is promoted, and the cell goes
-/// where nobody is left there.
-pub(crate) fn free(
-    cells: &mut IndexMap<Resource, Cell>,
-    lockers: &mut Vec<Locker>,
-    session: u16,
-    resource: Resource,
-    part: Part,
-)
-    requires cells { AreKeptCells cells.old.entries }
-    requires agree { let left = view_after_giving_up part session (cell_view resource cells.old.entries) in
-        DoAgree resource left (standings_of lockers.old.items) }
-    requires lockers { All IsKeptLocker lockers.old.items }
-    ensures cells { ViewBecame resource (view_after_freeing part session) cells.old.entries cells.new.entries }
-    ensures agree { let freed = view_after_freeing part session (cell_view resource cells.old.entries) in
-        DoAgree resource freed (standings_of lockers.new.items) }
-    ensures lockers { All IsKeptLocker lockers.new.items }
-    ensures granted { AreSameOrGranted resource (standings_of lockers.old.items) (standings_of lockers.new.items) }
-    ensures len { vec_len lockers.new ≡ vec_len lockers.old }
-{
-    same_path_is_equality();
-    let Some(cell) = cells.get_mut(&resource) else {
-        return;
-    };
-    cell.give_up(session, part);
-    promote(cell, resource, lockers);
-    if cell.is_idle() {
-        cells.swap_remove(&resource);
-    }
 }

@@ -8,11 +8,9 @@ ghost use Rattle.lock_desk.specs.Cells.{has_session, cell_view};
 ghost use Rattle.lock_desk.specs.Lockers.{standings_of, standing_at};
 ghost use Rattle.lock_desk.specs.Finding.{holder_blocks, stands_first, cell_blocks, blocks, IsReady, IsFilled, AreOfSessions, IsOfSessions};
 
-use crate::cells::{Cell, cell_of};
+use crate::cell_table::CellTable;
 use crate::lockers::Locker;
 use crate::positions::{position_of, session_at};
-use indexmap::IndexMap;
-use lock_tree::Resource;
 use std::alloc::{AllocError, Global};
 use waits_for::{MAX_SESSIONS, Rows};
 
@@ -61,12 +59,7 @@ fn clear(waits: &mut Waits, position: usize)
 }
 
 /// Writes down for whom one session waits, and the number of its transaction.
-fn fill_session(
-    waits: &mut Waits,
-    lockers: &[Locker],
-    cells: &IndexMap<Resource, Cell>,
-    session: u16,
-)
+fn fill_session(waits: &mut Waits, lockers: &[Locker], cells: &CellTable, session: u16)
     requires some { 1 ≤ session }
     requires within { session ≤ length lockers.now }
     requires long { waits.old.rows.sessions ≡ length lockers.now }
@@ -85,7 +78,7 @@ fn fill_session(
     let locker = &lockers[position];
     waits.numbers[position] = locker.number();
     if let Some(resource) = locker.resource_wanted() {
-        if let Some(cell) = cell_of(cells, resource) {
+        if let Some(cell) = cells.cell_of(resource) {
             waits.filled[position] = true;
             cell.write_waits(&mut waits.rows, session);
         }
@@ -93,7 +86,7 @@ fn fill_session(
 }
 
 /// Writes down for whom each session waits, and the numbers of the transactions.
-pub(crate) fn fill(waits: &mut Waits, lockers: &[Locker], cells: &IndexMap<Resource, Cell>)
+pub(crate) fn fill(waits: &mut Waits, lockers: &[Locker], cells: &CellTable)
     requires long { waits.old.rows.sessions ≡ length lockers.now }
     requires ready { IsReady waits.old.rows.sessions waits.old }
     requires numbered { (r : List ℕ) → IsOfSessions waits.old.rows.sessions (cell_view r cells.now.entries) }
