@@ -12,7 +12,6 @@ use Rattle.lock_rules.proofs.Lists.{same_path_tells}
 use Rattle.lock_desk.specs.declared.cells.Part.TheVariants as part
 use Rattle.lock_rules.specs.declared.calls.Transaction.{Transaction}
 use Rattle.lock_rules.specs.Waits.{doom}
-use Rattle.lock_desk.specs.declared.child_counts.Children.{Children}
 use Rattle.lock_desk.specs.declared.lockers.Locker.{Locker}
 use Rattle.lock_desk.specs.declared.desk.Desk.{Desk}
 use Rattle.lock_desk.specs.Cells.{View, has_session, view_after_giving_up, view_after_freeing, cell_view, has_path, AreKeptCells, CellsBecame}
@@ -36,7 +35,7 @@ abbrev pub with_transaction : Option Transaction → Standing → Standing
 with_transaction o x = record { transaction = o; held = x.held; wanted = x.wanted }
 
 module _ (d : Desk) (s : ℕ) (o : Option Transaction) (locker new : Locker) (e : Desk) (w : IsWhole d) {i : ℕ} (lt : IsPositionOf s i d.lockers.items) (at : locker ≡ get_or d.lockers.items i locker)
-    (same : standing_of new ≡ with_transaction o (standing_of locker)) (held : new.held ≡ locker.held) (children : new.children ≡ locker.children) (wanted : new.wanted ≡ locker.wanted) (lockers : e.lockers.items ≡ set d.lockers.items i new) (cells : e.cells ≡ d.cells) where
+    (same : standing_of new ≡ with_transaction o (standing_of locker)) (held : new.held ≡ locker.held) (wanted : new.wanted ≡ locker.wanted) (lockers : e.lockers.items ≡ set d.lockers.items i new) (cells : e.cells ≡ d.cells) where
   all-told : standings e ≡ set (standings d) s (with_transaction o (standing s d))
   all-told = ap standings_of lockers ∙ (standings-set d.lockers.items s new lt.session ∙ ap (λ (x : Standing). set (standings d) s x) (same ∙ ap (with_transaction o) (sym (standing-here d.lockers.items s locker lt at))))
 
@@ -91,11 +90,10 @@ module _ (d : Desk) (s : ℕ) (o : Option Transaction) (locker new : Locker) (e 
   told-whole =
       let k : IsKeptLocker locker = subst IsKeptLocker (sym at) (All-get_or IsKeptLocker d.lockers.items i locker lt.within w.lockers) in
       let to_come = ap locks_to_come wanted in
-      let cap = ap vec_capacity held in
-      let rooms = ap (λ (x : Children). vec_capacity x.counts) children in
+      let room = ap (λ v. v.room) held in
       record {
         cells = subst (λ cs. AreKeptCells cs.entries) (sym cells) w.cells;
-        lockers = rw lockers (All-set IsKeptLocker d.lockers.items i new (kept-again locker new k (ap (λ v. v.items) held) (omega (arith, cap)) (ap (λ (x : Children). x.counts.items) children) (omega (arith, rooms)) (ap (λ (x : Children). x.stand) children)
+        lockers = rw lockers (All-set IsKeptLocker d.lockers.items i new (kept-again locker new k (ap (λ v. v.items) held) (omega (arith, room, to_come, k.room))
             (omega (arith, to_come)) (subst (λ q. IsOfKind q locker.held.items) (sym wanted) k.kind) (subst (λ q. IsComingUnder q locker.held.items) (sym wanted) k.under)) w.lockers);
         agree = λ x. subst (λ (v : View). DoAgree x v (standings e)) (sym (seen-told x)) (record {
           held = λ u. ap (has_path x) (held-each u) ∙ (w.agree x).held u;
@@ -142,7 +140,7 @@ ended-after s d f e w c h = record {
 -- a request is cancelled
 
 module _ (d : Desk) (s : ℕ) (r : List ℕ) (locker new : Locker) (w : IsWhole d) {i : ℕ} (lt : IsPositionOf s i d.lockers.items) (at : locker ≡ get_or d.lockers.items i locker)
-    (asks : (standing_of locker).wanted ≡ Some r) (transaction : new.transaction ≡ locker.transaction) (held : new.held ≡ locker.held) (children : new.children ≡ locker.children) (gone : new.wanted ≡ None) where
+    (asks : (standing_of locker).wanted ≡ Some r) (transaction : new.transaction ≡ locker.transaction) (held : new.held ≡ locker.held) (gone : new.wanted ≡ None) where
   gives : GivesUp part.Request r (standing_of locker) (standing_of new)
   gives = gives-request r (standing_of locker) (standing_of new) transaction (ap (λ v. v.items) held) asks (ap wanted_in gone)
 
@@ -155,9 +153,7 @@ module _ (d : Desk) (s : ℕ) (r : List ℕ) (locker new : Locker) (w : IsWhole 
   cancel-lockers =
       let k : IsKeptLocker locker = subst IsKeptLocker (sym at) (All-get_or IsKeptLocker d.lockers.items i locker lt.within w.lockers) in
       let none = ap locks_to_come gone in
-      let cap = ap vec_capacity held in
-      let rooms = ap (λ (x : Children). vec_capacity x.counts) children in
-      All-set IsKeptLocker d.lockers.items i new (kept-again locker new k (ap (λ v. v.items) held) (omega (arith, cap)) (ap (λ (x : Children). x.counts.items) children) (omega (arith, rooms)) (ap (λ (x : Children). x.stand) children)
+      All-set IsKeptLocker d.lockers.items i new (kept-again locker new k (ap (λ v. v.items) held) (omega (arith, none))
       (omega (arith, none)) (rw gone tt) (rw gone tt)) w.lockers
 
   module _ (e : Desk) (b : CellsBecame r (view_after_freeing part.Request s (view_at r d)) d.cells.entries e.cells.entries)

@@ -1,8 +1,7 @@
 -- A session gives back all its locks, the last one first.
-use Rattle.std.proofs.Common.{◌≡◌, ℕ, ◌+◌, Bool, true, false, cond, inl, inr, List, [], ◌∷◌, ◌++◌, get_or, set, Option, Some, None, refl, sym, ◌∙◌, ap, arith, subst}
+use Rattle.std.proofs.Common.{◌≡◌, ℕ, ◌+◌, Bool, true, false, cond, inl, inr, List, [], ◌∷◌, ◌++◌, length, length-append, get_or, set, Option, Some, None, refl, sym, ◌∙◌, ap, arith, subst}
 use Rattle.std.proofs.lemmas.Bool.{or_right}
 use Rattle.std.specs.List.{All}
-use Rattle.std.specs.Prelude.{vec_len, vec_capacity}
 use Rattle.std.proofs.lemmas.List.Elements.{All-set, All-get_or}
 use Rattle.lock_tree.specs.Paths.{same_path}
 use Rattle.lock_rules.proofs.Lists.{same_path-refl, same_path_tells}
@@ -11,7 +10,6 @@ use Rattle.lock_desk.specs.declared.lockers.Request.{Request}
 use Rattle.lock_desk.specs.declared.lockers.Locker.{Locker}
 use Rattle.lock_desk.specs.declared.desk.Desk.{Desk}
 use Rattle.lock_desk.specs.Cells.{View, has_session, view_after_giving_up, view_after_freeing, has_path, AreApart, CellsBecame}
-use Rattle.lock_desk.specs.ChildCounts.{AreCounted}
 use Rattle.lock_desk.specs.Lockers.{Standing, wanted_in, standing_of, standings_of, locks_to_come, IsKeptLocker, AreSameOrGranted, DoAgree}
 use Rattle.lock_desk.specs.Changes.{view_at, standings, standing, view_after_unlock, IsWhole, HasGivenBack, HasGivenBackAll}
 use Rattle.lock_desk.proofs.LockerStandings.{IsPositionOf, standing-here, apart-pop, has_path-push, has_path-push_other}
@@ -41,19 +39,19 @@ module _ (d : Desk) (s : ℕ) (r : List ℕ) (locker new : Locker) (w : IsWhole 
   back-agree = freed-agree d part.Lock s r locker new lt at gives w
 
   -- the lockers are kept
-  pub back-lockers : vec_len new.held + 1 ≡ vec_len locker.held → vec_capacity new.held ≡ vec_capacity locker.held
-      → (vec_len locker.children.counts ≡ vec_len locker.held → AreCounted new.held.items new.children) → vec_capacity new.children.counts ≡ vec_capacity locker.children.counts → All IsKeptLocker (set d.lockers.items i new)
-  back-lockers len cap counted rooms =
-      let one = ap locks_to_come wanted in
+  pub back-lockers : All IsKeptLocker (set d.lockers.items i new)
+  back-lockers =
+      let same = ap locks_to_come wanted in
       let none : new.wanted ≡ None = wanted ∙ none-in locker.wanted waits-not in
+      let zero = ap locks_to_come none in
+      let long = ap length pops in
+      let more = length-append new.held.items (r ∷ []) in
       All-set IsKeptLocker d.lockers.items i new (record {
         under = rw none tt;
-        counted = counted (omega (arith, kept.counted.long, locker.held.ok.0));
-        children_room = omega (arith, len, rooms, kept.children_room, one);
         apart = (apart-pop new.held.items r (subst AreApart pops kept.apart)).0;
         kind = rw none tt;
-        room = omega (arith, len, cap, kept.room, one);
-        few = omega (arith, len, kept.few, one, new.held.ok.0, locker.held.ok.0);
+        room = omega (arith, zero);
+        few = omega (arith, long, more, kept.few, same);
       }) w.lockers
 
   module _ (e : Desk) (count : e.count ≡ d.count)

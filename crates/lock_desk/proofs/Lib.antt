@@ -18,6 +18,8 @@ pub mod LockerStandings
 pub mod LockerKept
 -- how many children of each lock are held
 pub mod ChildCounts
+-- locks that are indexed, and locks that came since
+pub mod LockLists
 -- the locker of a session whose request is granted
 pub mod LockerGrant
 -- one grant of a promotion, in cell and locker

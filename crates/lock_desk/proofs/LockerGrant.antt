@@ -1,13 +1,11 @@
 -- The locker of a session whose request is granted.
-use Rattle.std.proofs.Common.{◌≡◌, ◌+◌, ℕ, Bool, true, false, cond, not, List, [], ◌∷◌, ◌++◌, length, Option, Some, None, sym, ◌∙◌, ap, arith, subst}
-use Rattle.std.specs.Prelude.{vec_len, vec_capacity}
+use Rattle.std.proofs.Common.{◌≡◌, ◌+◌, ℕ, Bool, true, false, cond, not, List, [], ◌∷◌, ◌++◌, length, length-append, Option, Some, None, sym, ◌∙◌, ap, arith, subst}
 use Rattle.lock_rules.proofs.Lists.{same_path-true}
-use Rattle.lock_desk.specs.declared.child_counts.Children.{Children}
 use Rattle.lock_desk.specs.declared.lockers.Request.{Request}
 use Rattle.lock_desk.specs.declared.lockers.Request.TheVariants.{Fresh, Conversion}
 use Rattle.lock_desk.specs.declared.lockers.Locker.{Locker}
 use Rattle.lock_desk.specs.Cells.{has_path, AreApart}
-use Rattle.lock_desk.specs.ChildCounts.{IsUnder, AreCounted}
+use Rattle.lock_desk.specs.ChildCounts.{IsUnder}
 use Rattle.lock_desk.specs.Lockers.{resource_asked, is_fresh, wanted_in, is_wanted, with_path, standing_after_grant, locks_to_come, IsOfKind, IsComingUnder, IsKeptLocker, standing_of}
 use Rattle.lock_desk.proofs.LockerStandings.{apart-push}
 
@@ -48,35 +46,30 @@ module _ (r : List ℕ) (locker : Locker) (kept : IsKeptLocker locker) (waits : 
       new-path : has_path r locker.held.items ≡ false
       new-path = kind-told ∙ ap not is
 
-      pub fresh-kept : vec_len new.held ≡ vec_len locker.held + 1 → vec_capacity new.held ≡ vec_capacity locker.held → AreCounted (locker.held.items ++ r ∷ []) new.children → vec_capacity new.children.counts ≡ vec_capacity locker.children.counts → IsKeptLocker new
-      fresh-kept len cap counted more =
+      pub fresh-kept : IsKeptLocker new
+      fresh-kept =
           let one : locks_to_come locker.wanted ≡ 1 = ap (λ (b : Bool). cond b 1 0) is in
           let none : locks_to_come new.wanted ≡ 0 = ap locks_to_come gone in
+          let long = ap length held in
+          let more = length-append locker.held.items (r ∷ []) in
           record {
             under = rw gone tt;
-            counted = subst (λ (rs : List (List ℕ)). AreCounted rs new.children) (sym held) counted;
-            children_room = omega (arith, len, more, kept.children_room, one, none);
             apart = subst AreApart (sym held) (apart-push locker.held.items r kept.apart new-path);
             kind = rw gone tt;
-            room = omega (arith, len, cap, kept.room, one, none);
-            few = omega (arith, kept.few, one, none, len, new.held.ok.0, locker.held.ok.0);
+            room = omega (arith, none);
+            few = omega (arith, kept.few, one, none, long, more);
           }
 
     -- and a conversion none
     module _ (is : is_fresh locker.wanted ≡ false) (held : new.held ≡ locker.held) where
-      pub converted-kept : new.children ≡ locker.children → IsKeptLocker new
-      converted-kept same =
+      pub converted-kept : IsKeptLocker new
+      converted-kept =
           let none : locks_to_come new.wanted ≡ 0 = ap locks_to_come gone in
-          let len = ap (λ v. vec_len v) held in
-          let cap = ap (λ v. vec_capacity v) held in
           let long = ap (λ v. length v.items) held in
-          let rooms = ap (λ (x : Children). vec_capacity x.counts) same in
           record {
             under = rw gone tt;
-            counted = subst (λ (x : Children). AreCounted new.held.items x) (sym same) (subst (λ v. AreCounted v.items locker.children) (sym held) kept.counted);
-            children_room = omega (arith, len, rooms, kept.children_room, none);
             apart = subst (λ v. AreApart v.items) (sym held) kept.apart;
             kind = rw gone tt;
-            room = omega (arith, len, cap, kept.room, none);
+            room = omega (arith, none);
             few = omega (arith, kept.few, none, long);
           }

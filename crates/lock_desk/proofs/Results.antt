@@ -1,5 +1,5 @@
 -- From one clause of a result to another.
-use Rattle.std.proofs.Common.{◌≡◌, Bool, true, false, cond, List, [], ◌∷◌, ◌++◌, Some, None, refl, Result, Ok, Err, IfOk, OnOk, OnErr}
+use Rattle.std.proofs.Common.{◌≡◌, Bool, true, false, cond, List, [], ◌∷◌, ◌++◌, Some, None, refl, Result, Ok, Err, IsOk, IfOk, OnOk, OnErr}
 use Rattle.lock_rules.specs.declared.calls.Why.{Why}
 use Rattle.lock_rules.specs.Step.{first_failing}
 
@@ -7,6 +7,11 @@ use Rattle.lock_rules.specs.Step.{first_failing}
 pub on-ok : {T E : Type 0} (r : Result T E) (P : T → Type 0) (Q : Type 0) → IfOk r P → ((x : T) → P x → Q) → OnOk r Q
 on-ok (Ok x) P Q h f = f x h
 on-ok (Err e) P Q h f = tt
+
+-- a fact of a success, where it is one
+pub from-ok : {T E : Type 0} (r : Result T E) (P : Type 0) → IsOk r → OnOk r P → P
+from-ok (Ok x) P i h = h
+from-ok (Err e) P i h = absurd (cc)
 
 -- from a fact of a success to another
 pub to-ok : {T E : Type 0} (r : Result T E) (P Q : Type 0) → OnOk r P → (P → Q) → OnOk r Q

@@ -1,9 +1,8 @@
 -- Private parts speak to one another here, and no public contract of this crate: how
 -- many children of each of its locks a session holds.
-use Rattle.std.specs.Prelude.{◌≡◌, ℕ, ◌+◌, ◌<◌, Bool, true, ◌&&◌, if◌then◌else◌, List, [], ◌∷◌, length, slice_index_or, vec_len}
+use Rattle.std.specs.Prelude.{◌≡◌, ℕ, ◌+◌, ◌<◌, Bool, true, ◌&&◌, if◌then◌else◌, List, [], ◌∷◌, ◌++◌, length, slice_index_or}
 use Rattle.std.specs.List.{list_any}
 use Rattle.lock_tree.specs.Paths.{same_path, parent_of, has_parent}
-use Rattle.lock_desk.specs.declared.child_counts.Children.{Children}
 use Rattle.lock_desk.specs.Cells.{has_path}
 
 -- the second resource is a child of the first
@@ -28,7 +27,12 @@ pub record DoCount (rs : List (List ℕ)) (ns : List ℕ) : Type 0 where
   pub counts : (i : ℕ) → i < length rs → slice_index_or ns i 0 ≡ children_of (slice_index_or rs i []) rs
   pub under : (q : List ℕ) → has_path q rs ≡ true → IsUnder rs q
 
--- there is a count for each lock, and where they stand they are right
-pub record AreCounted (rs : List (List ℕ)) (c : Children) : Type 0 where
-  pub long : vec_len c.counts ≡ length rs
-  pub right : c.stand ≡ true → DoCount rs c.counts.items
+-- each of the second ones stands under the first ones and those of the second before it
+abbrev pub AreUnder : List (List ℕ) → List (List ℕ) → Type 0
+AreUnder rs [] = Unit {0}
+AreUnder rs (q ∷ qs) = IsUnder rs q × AreUnder (rs ++ q ∷ []) qs
+
+-- what contracts see of the locks of a session: the resources, and for how many more there is room
+pub record LockList : Type 0 where
+  pub items : List (List ℕ)
+  pub room : ℕ

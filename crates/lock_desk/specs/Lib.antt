@@ -5,6 +5,7 @@ pub mod Batches
 pub mod Cells
 pub mod Tables
 pub mod ChildCounts
+pub mod LockLists
 pub mod Lockers
 pub mod Changes
 pub mod Finding

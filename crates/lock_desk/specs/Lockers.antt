@@ -1,6 +1,6 @@
 -- Private parts speak to one another here, and no public contract of this crate: what
 -- the lockers say of each session.
-use Rattle.std.specs.Prelude.{◌≡◌, ℕ, ◌+◌, ◌≤◌, Bool, true, false, not, if◌then◌else◌, ◌⊎◌, List, [], ◌∷◌, ◌++◌, length, map, filter, Option, Some, None, slice_index_or, vec_len, vec_capacity}
+use Rattle.std.specs.Prelude.{◌≡◌, ℕ, ◌+◌, ◌≤◌, Bool, true, false, not, if◌then◌else◌, ◌⊎◌, List, [], ◌∷◌, ◌++◌, length, map, filter, Option, Some, None, slice_index_or}
 use Rattle.lock_tree.specs.Paths.{same_path}
 use Rattle.lock_rules.specs.declared.calls.TheConstants.{MAX_LOCKS}
 use Rattle.lock_rules.specs.declared.calls.Transaction.{Transaction}
@@ -8,7 +8,7 @@ use Rattle.lock_desk.specs.declared.lockers.Request.{Request}
 use Rattle.lock_desk.specs.declared.lockers.Request.TheVariants.{Fresh, Conversion}
 use Rattle.lock_desk.specs.declared.lockers.Locker.{Locker}
 use Rattle.lock_desk.specs.Cells.{View, has_session, has_path, AreApart}
-use Rattle.lock_desk.specs.ChildCounts.{IsUnder, AreCounted}
+use Rattle.lock_desk.specs.ChildCounts.{IsUnder}
 
 -- a session's transaction, the resources that it holds, and the one that it waits for
 pub record Standing : Type 0 where
@@ -69,14 +69,12 @@ IsComingUnder None rs = Unit {0}
 IsComingUnder (Some (Fresh q)) rs = IsUnder rs q
 IsComingUnder (Some (Conversion q)) rs = Unit {0}
 
--- what is kept of each locker between two calls: a lock that is to come has its room, and so has the count of its children
+-- what is kept of each locker between two calls: a lock that is to come has its room
 pub record IsKeptLocker (w : Locker) : Type 0 where
   pub under : IsComingUnder w.wanted w.held.items
-  pub counted : AreCounted w.held.items w.children
-  pub children_room : vec_len w.held + locks_to_come w.wanted ≤ vec_capacity w.children.counts
   pub apart : AreApart w.held.items
   pub kind : IsOfKind w.wanted w.held.items
-  pub room : vec_len w.held + locks_to_come w.wanted ≤ vec_capacity w.held
+  pub room : locks_to_come w.wanted ≤ w.held.room
   pub few : length w.held.items + locks_to_come w.wanted ≤ MAX_LOCKS
 
 -- the resource is among those that are held

@@ -161,7 +161,7 @@ impl CellTable {
 
     /// The session gives up its lock on the resource, or its request: the queue is promoted, and the cell goes
     /// where nobody is left there.
-    pub(crate) fn free(
+    pub(crate) fn free_at(
         &mut self,
         lockers: &mut Vec<Locker>,
         session: u16,
@@ -193,5 +193,28 @@ impl CellTable {
         if cell.is_idle() {
             keep(&mut self.cells, &mut self.spare, place);
         }
+    }
+
+    /// The same, where the resource's place isn't known.
+    pub(crate) fn free(
+        &mut self,
+        lockers: &mut Vec<Locker>,
+        session: u16,
+        resource: Resource,
+        part: Part,
+    )
+        requires cells { AreKeptCells self.old.entries }
+        requires agree { let left = view_after_giving_up part session (cell_view resource self.old.entries) in
+            DoAgree resource left (standings_of lockers.old.items) }
+        requires lockers { All IsKeptLocker lockers.old.items }
+        ensures cells { ViewBecame resource (view_after_freeing part session) self.old.entries self.new.entries }
+        ensures agree { let freed = view_after_freeing part session (cell_view resource self.old.entries) in
+            DoAgree resource freed (standings_of lockers.new.items) }
+        ensures lockers { All IsKeptLocker lockers.new.items }
+        ensures granted { AreSameOrGranted resource (standings_of lockers.old.items) (standings_of lockers.new.items) }
+        ensures len { vec_len lockers.new ≡ vec_len lockers.old }
+    {
+        let place = self.place_of(resource);
+        self.free_at(lockers, session, place, resource, part);
     }
 }

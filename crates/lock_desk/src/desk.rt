@@ -106,7 +106,6 @@ impl Desk {
     pub(crate) fn holds_child(&self, session: u16, resource: Resource) -> bool
         requires some { 1 ≤ session }
         requires within { session ≤ vec_len self.now.lockers }
-        requires whole { IsWhole self.now }
         ensures { result ≡ has_child resource (standing session self.now).held }
     {
         let locker = &self.lockers[position_of(session)];
@@ -216,7 +215,7 @@ impl Desk {
         let locker = &mut self.lockers[position_of(session)];
         locker.release(resource);
         self.cells
-            .free(&mut self.lockers, session, place, resource, Part::Lock);
+            .free_at(&mut self.lockers, session, place, resource, Part::Lock);
     }
 
     /// Gives back what the session was granted last.
@@ -231,9 +230,8 @@ impl Desk {
     {
         let locker = &mut self.lockers[position_of(session)];
         if let Some(resource) = locker.release_last() {
-            let place = self.cells.place_of(resource);
             self.cells
-                .free(&mut self.lockers, session, place, resource, Part::Lock);
+                .free(&mut self.lockers, session, resource, Part::Lock);
         }
     }
 
@@ -282,9 +280,8 @@ impl Desk {
     {
         let locker = &mut self.lockers[position_of(session)];
         if let Some(resource) = locker.cancel() {
-            let place = self.cells.place_of(resource);
             self.cells
-                .free(&mut self.lockers, session, place, resource, Part::Request);
+                .free(&mut self.lockers, session, resource, Part::Request);
         }
     }
 
@@ -418,6 +415,20 @@ impl Desk {
         }
     }
 
+    /// Makes ready for a release, if the call is one.
+    fn index(&mut self, session: u16, call: Call)
+        requires some { 1 ≤ session }
+        requires within { session ≤ vec_len self.old.lockers }
+        requires whole { IsWhole self.old }
+        ensures same { IsSameSeen self.old self.new }
+        ensures kept { DoesKeep self.old self.new }
+    {
+        if matches!(call, Call::Release(_)) {
+            let locker = &mut self.lockers[position_of(session)];
+            locker.index();
+        }
+    }
+
     /// What the call does where no test fails.
     fn act(&mut self, session: u16, place: Option<usize>, call: Call) -> Result<Reply, AllocError>
         requires some { 1 ≤ session }
@@ -465,6 +476,8 @@ impl Desk {
         ensures ready { IsReadyDesk self.new }
         ensures len { vec_len self.new.lockers ≡ vec_len self.old.lockers }
     {
+        let made = call;
+        self.index(session, made);
         let named = call;
         let place = self.place_of(named);
         let asked = call;

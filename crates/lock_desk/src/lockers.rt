@@ -1,14 +1,14 @@
 //! Lockers: one for each session, with its transaction and with what the cells say of it.
 
-ghost use Rattle.std.specs.Prelude.{◌≡◌, ℕ, ◌+◌, ◌<◌, ◌≤◌, false, true, None, Some, length, List, [], ◌∷◌, ◌++◌, is_some, OnOk, IfSome, IfNone, vec_len, vec_capacity};
+ghost use Rattle.std.specs.Prelude.{◌≡◌, ℕ, ◌+◌, ◌<◌, ◌≤◌, false, true, None, Some, length, List, [], ◌∷◌, ◌++◌, is_some, OnOk, IfSome, IfNone};
 ghost use Rattle.lock_rules.specs.State.{number_in, doomed_in};
 ghost use Rattle.lock_rules.specs.Waits.{doom};
 ghost use Rattle.lock_tree.specs.Paths.{same_path};
 ghost use Rattle.lock_desk.specs.Cells.{has_path};
-ghost use Rattle.lock_desk.specs.ChildCounts.{has_child, IsUnder, AreCounted};
+ghost use Rattle.lock_desk.specs.ChildCounts.{has_child, IsUnder};
 ghost use Rattle.lock_desk.specs.Lockers.{no_standing, resource_asked, is_fresh, wanted_in, standing_of, standing_after_grant, standing_after_asking, is_wanted, locks_to_come, IsOfKind, IsComingUnder, IsKeptLocker};
 
-use crate::child_counts::{Children, place_of};
+use crate::locks::Locks;
 use lock_rules::{MAX_LOCKS, Transaction};
 use lock_tree::Resource;
 use std::alloc::{AllocError, Global};
@@ -23,14 +23,11 @@ pub enum Request {
 }
 
 /// The transaction of a session, what it holds in the order in which it was granted, and what it waits for.
-/// The list of what it holds has room for a lock that it waits for, and beside each lock stands how many of its children
-/// are held. The place of the lock that was given back last is where the next one is looked for first.
+/// Among what it holds there is room for a lock that it waits for.
 #[derive(Drop)]
 pub struct Locker {
     transaction: Option<Transaction>,
-    held: Vec<Resource>,
-    children: Children,
-    released: usize,
+    held: Locks,
     wanted: Option<Request>,
 }
 
@@ -88,9 +85,7 @@ impl Locker {
     {
         Locker {
             transaction: None,
-            held: Vec::new(alloc),
-            children: Children::new(alloc),
-            released: 0,
+            held: Locks::new(alloc),
             wanted: None,
         }
     }
@@ -135,18 +130,16 @@ impl Locker {
 
     /// How many locks it holds.
     pub(crate) fn locks(&self) -> usize
-        ensures { result ≡ vec_len self.now.held }
+        ensures { result ≡ length self.now.held.items }
     {
         self.held.len()
     }
 
     /// Whether the session holds a child of the resource.
     pub(crate) fn holds_child(&self, resource: Resource) -> bool
-        requires { IsKeptLocker self.now }
         ensures { result ≡ has_child resource self.now.held.items }
     {
-        self.children
-            .holds_child(&self.held, self.released, resource)
+        self.held.holds_child(resource)
     }
 
     /// A transaction begins, with this number.
@@ -177,13 +170,11 @@ impl Locker {
     pub(crate) fn make_room(&mut self) -> Result<(), AllocError>
         requires kept { IsKeptLocker self.old }
         requires idle { self.old.wanted ≡ None }
-        ensures room { OnOk result (vec_len self.new.held < vec_capacity self.new.held) }
-        ensures children { OnOk result (vec_len self.new.held < vec_capacity self.new.children.counts) }
+        ensures room { OnOk result (0 < self.new.held.room) }
         ensures standing { standing_of self.new ≡ standing_of self.old }
         ensures kept { IsKeptLocker self.new }
     {
-        self.held.reserve(1)?;
-        self.children.make_room()
+        self.held.make_room()
     }
 
     /// The session holds one resource more.
@@ -193,13 +184,11 @@ impl Locker {
         requires new { has_path resource self.old.held.items ≡ false }
         requires under { IsUnder self.old.held.items resource }
         requires few { length self.old.held.items < MAX_LOCKS }
-        requires room { vec_len self.old.held < vec_capacity self.old.held }
-        requires children { vec_len self.old.held < vec_capacity self.old.children.counts }
+        requires room { 0 < self.old.held.room }
         ensures standing { standing_of self.new ≡ standing_after_asking true resource (standing_of self.old) }
         ensures kept { IsKeptLocker self.new }
     {
-        self.children.push(&self.held, resource);
-        self.held.push_reserved(resource);
+        self.held.push(resource);
     }
 
     /// The session waits.
@@ -208,8 +197,7 @@ impl Locker {
         requires kind { IsOfKind (Some request) self.old.held.items }
         requires under { IsComingUnder (Some request) self.old.held.items }
         requires few { length self.old.held.items + locks_to_come (Some request) ≤ MAX_LOCKS }
-        requires room { vec_len self.old.held + locks_to_come (Some request) ≤ vec_capacity self.old.held }
-        requires children { vec_len self.old.held + locks_to_come (Some request) ≤ vec_capacity self.old.children.counts }
+        requires room { locks_to_come (Some request) ≤ self.old.held.room }
         ensures standing { standing_of self.new ≡ standing_after_asking false (resource_asked request) (standing_of self.old) }
         ensures kept { IsKeptLocker self.new }
     {
@@ -224,8 +212,7 @@ impl Locker {
         ensures kept { IsKeptLocker self.new }
     {
         if is_fresh(self.wanted) {
-            self.children.push(&self.held, resource);
-            self.held.push_reserved(resource);
+            self.held.push(resource);
         }
         self.wanted = None;
     }
@@ -241,12 +228,7 @@ impl Locker {
         ensures others { (q : List ℕ) → same_path resource q ≡ false → has_path q self.new.held.items ≡ has_path q self.old.held.items }
         ensures kept { IsKeptLocker self.new }
     {
-        let Some(place) = place_of(&self.held, self.released, resource) else {
-            return;
-        };
-        self.released = place;
-        self.children.remove(&self.held, place);
-        let _released = self.held.swap_remove(place);
+        self.held.remove(resource);
     }
 
     /// The session waits no more: for which resource it waited.
@@ -262,20 +244,19 @@ impl Locker {
     /// The session doesn't hold the resource that it was granted last any more: which one that was.
     pub(crate) fn release_last(&mut self) -> Option<Resource>
         ensures some { IfSome result (λ r. self.old.held.items ≡ self.new.held.items ++ r ∷ []) }
-        ensures len { IfSome result (λ _. vec_len self.new.held + 1 ≡ vec_len self.old.held) }
-        ensures capacity { IfSome result (λ _. vec_capacity self.new.held ≡ vec_capacity self.old.held) }
         ensures none { IfNone result (self.old.held.items ≡ []) }
         ensures transaction { self.new.transaction ≡ self.old.transaction }
         ensures wanted { self.new.wanted ≡ self.old.wanted }
-        ensures counted { IfSome result (λ _. vec_len self.old.children.counts ≡ vec_len self.old.held → AreCounted self.new.held.items self.new.children) }
-        ensures children { IfSome result (λ _. vec_capacity self.new.children.counts ≡ vec_capacity self.old.children.counts) }
     {
-        match self.held.pop() {
-            Some(resource) => {
-                self.children.pop();
-                Some(resource)
-            }
-            None => None,
-        }
+        self.held.pop()
+    }
+
+    /// Makes ready for a release: what the session holds, where it is much, is found by an index from now on.
+    pub(crate) fn index(&mut self)
+        requires kept { IsKeptLocker self.old }
+        ensures standing { standing_of self.new ≡ standing_of self.old }
+        ensures kept { IsKeptLocker self.new }
+    {
+        self.held.index();
     }
 }

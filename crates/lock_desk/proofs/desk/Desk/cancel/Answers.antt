@@ -12,19 +12,19 @@ pub free-requires-clause-agree : goal.free-requires-clause-agree
 free-requires-clause-agree c =
     let is = c.in-Some.ensures.value in
     cancel-agree c.args.self.now c.args.session c.in-Some.resource c.index_mut-locker.result.now c.cancel.new.self c.requires.whole (within c.args.self.now c.args.session c.position_of.ensures c.requires.some c.requires.within) c.index_mut-locker.ensures.value
-    (sym c.in-Some.ensures.resource) (ap (λ (x : Locker). x.transaction) is) (ap (λ (x : Locker). x.held) is) (ap (λ (x : Locker). x.children) is) (ap (λ (x : Locker). x.wanted) is)
+    (sym c.in-Some.ensures.resource) (ap (λ (x : Locker). x.transaction) is) (ap (λ (x : Locker). x.held) is) (ap (λ (x : Locker). x.wanted) is)
 
 pub free-requires-clause-lockers : goal.free-requires-clause-lockers
 free-requires-clause-lockers c =
     let is = c.in-Some.ensures.value in
     cancel-lockers c.args.self.now c.args.session c.in-Some.resource c.index_mut-locker.result.now c.cancel.new.self c.requires.whole (within c.args.self.now c.args.session c.position_of.ensures c.requires.some c.requires.within) c.index_mut-locker.ensures.value
-    (sym c.in-Some.ensures.resource) (ap (λ (x : Locker). x.transaction) is) (ap (λ (x : Locker). x.held) is) (ap (λ (x : Locker). x.children) is) (ap (λ (x : Locker). x.wanted) is)
+    (sym c.in-Some.ensures.resource) (ap (λ (x : Locker). x.transaction) is) (ap (λ (x : Locker). x.held) is) (ap (λ (x : Locker). x.wanted) is)
 
 pub returns-in-Some-clause-cancelled : goal.returns-in-Some-clause-cancelled
 returns-in-Some-clause-cancelled c =
     let is = c.in-Some.ensures.value in
     has-cancelled c.args.self.now c.args.session c.in-Some.resource c.index_mut-locker.result.now c.cancel.new.self c.requires.whole (within c.args.self.now c.args.session c.position_of.ensures c.requires.some c.requires.within) c.index_mut-locker.ensures.value
-    (sym c.in-Some.ensures.resource) (ap (λ (x : Locker). x.transaction) is) (ap (λ (x : Locker). x.held) is) (ap (λ (x : Locker). x.children) is) (ap (λ (x : Locker). x.wanted) is)
+    (sym c.in-Some.ensures.resource) (ap (λ (x : Locker). x.transaction) is) (ap (λ (x : Locker). x.held) is) (ap (λ (x : Locker). x.wanted) is)
     _ c.free.ensures.cells c.free.ensures.agree c.free.ensures.lockers c.free.ensures.granted refl
 
 pub returns-in-Some-clause-kept : goal.returns-in-Some-clause-kept
@@ -32,7 +32,7 @@ returns-in-Some-clause-kept c =
     let is = c.in-Some.ensures.value in
     record {
       whole = cancel-whole c.args.self.now c.args.session c.in-Some.resource c.index_mut-locker.result.now c.cancel.new.self c.requires.whole (within c.args.self.now c.args.session c.position_of.ensures c.requires.some c.requires.within) c.index_mut-locker.ensures.value
-          (sym c.in-Some.ensures.resource) (ap (λ (x : Locker). x.transaction) is) (ap (λ (x : Locker). x.held) is) (ap (λ (x : Locker). x.children) is) (ap (λ (x : Locker). x.wanted) is)
+          (sym c.in-Some.ensures.resource) (ap (λ (x : Locker). x.transaction) is) (ap (λ (x : Locker). x.held) is) (ap (λ (x : Locker). x.wanted) is)
           _ c.free.ensures.cells c.free.ensures.agree c.free.ensures.lockers c.free.ensures.granted;
       lockers = search rules;
       waits = search rules;
@@ -44,7 +44,7 @@ returns-in_default-clause-cancelled c =
     let s = c.args.session in
     let locker = c.index_mut-locker.result.now in
     let none = none-in locker.wanted (sym c.in_default.ensures.resource) in
-    let same : c.cancel.new.self ≡ locker = c.in_default.ensures.value ∙ (λ i. record { transaction = locker.transaction; held = locker.held; children = locker.children; released = locker.released; wanted = sym none i }) in
+    let same : c.cancel.new.self ≡ locker = c.in_default.ensures.value ∙ (λ i. record { transaction = locker.transaction; held = locker.held; wanted = sym none i }) in
     let idle = ap (λ (x : Standing). x.wanted) (standing-here d.lockers.items s locker (within d s c.position_of.ensures c.requires.some c.requires.within) c.index_mut-locker.ensures.value) ∙ sym c.in_default.ensures.resource in
     same-cancelled s d _ c.requires.whole idle refl (ap (set d.lockers.items c.position_of.result) (same ∙ c.index_mut-locker.ensures.value) ∙ set-get_or d.lockers.items c.position_of.result locker) refl
 
@@ -54,7 +54,7 @@ returns-in_default-clause-kept c =
     let s = c.args.session in
     let locker = c.index_mut-locker.result.now in
     let none = none-in locker.wanted (sym c.in_default.ensures.resource) in
-    let same : c.cancel.new.self ≡ locker = c.in_default.ensures.value ∙ (λ i. record { transaction = locker.transaction; held = locker.held; children = locker.children; released = locker.released; wanted = sym none i }) in
+    let same : c.cancel.new.self ≡ locker = c.in_default.ensures.value ∙ (λ i. record { transaction = locker.transaction; held = locker.held; wanted = sym none i }) in
     record {
       whole = same-whole d _ c.requires.whole (ap (set d.lockers.items c.position_of.result) (same ∙ c.index_mut-locker.ensures.value) ∙ set-get_or d.lockers.items c.position_of.result locker) refl;
       lockers = search rules;

@@ -19,7 +19,7 @@ returns-clause-doomed c =
     let lt = within f s c.position_of.ensures c.requires.some (omega (arith, c.requires.within, c.cancel.ensures.kept.lockers)) in
     let at = c.index_mut-locker.ensures.value in
     has-doomed s c.args.self.now f e c.cancel.ensures.cancelled refl (λ q. refl)
-    (doomed-each f s locker (doom locker.transaction) lt at refl e (transaction-each f s (doom locker.transaction) locker new e c.cancel.ensures.kept.whole lt at (ap standing_of is) (ap (λ (x : Locker). x.held) is) (ap (λ (x : Locker). x.children) is) (ap (λ (x : Locker). x.wanted) is) refl refl))
+    (doomed-each f s locker (doom locker.transaction) lt at refl e (transaction-each f s (doom locker.transaction) locker new e c.cancel.ensures.kept.whole lt at (ap standing_of is) (ap (λ (x : Locker). x.held) is) (ap (λ (x : Locker). x.wanted) is) refl refl))
 
 pub returns-clause-kept : goal.returns-clause-kept
 returns-clause-kept c =
@@ -30,7 +30,7 @@ returns-clause-kept c =
     let is = c.doom.ensures in
     let lt = within f s c.position_of.ensures c.requires.some (omega (arith, c.requires.within, c.cancel.ensures.kept.lockers)) in
     record {
-      whole = told-whole f s (doom locker.transaction) locker new _ c.cancel.ensures.kept.whole lt c.index_mut-locker.ensures.value (ap standing_of is) (ap (λ (x : Locker). x.held) is) (ap (λ (x : Locker). x.children) is) (ap (λ (x : Locker). x.wanted) is) refl refl;
+      whole = told-whole f s (doom locker.transaction) locker new _ c.cancel.ensures.kept.whole lt c.index_mut-locker.ensures.value (ap standing_of is) (ap (λ (x : Locker). x.held) is) (ap (λ (x : Locker). x.wanted) is) refl refl;
       lockers = search rules;
       waits = search rules;
     }

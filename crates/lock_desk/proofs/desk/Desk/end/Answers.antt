@@ -22,7 +22,7 @@ returns-clause-ended c =
     let at = c.index_mut-locker.ensures.value in
     let w = c.give_back_all-locks.ensures.kept.whole in
     has-ended s c.args.self.now f e c.requires.whole c.requires.idle c.give_back_all-locks.ensures.back c.give_back_all-locks.ensures.none refl (λ q. refl)
-    (transaction-each f s None locker new e w lt at (ap standing_of is) (ap (λ (x : Locker). x.held) is) (ap (λ (x : Locker). x.children) is) (ap (λ (x : Locker). x.wanted) is) refl refl)
+    (transaction-each f s None locker new e w lt at (ap standing_of is) (ap (λ (x : Locker). x.held) is) (ap (λ (x : Locker). x.wanted) is) refl refl)
 
 pub returns-clause-kept : goal.returns-clause-kept
 returns-clause-kept c =
@@ -33,7 +33,7 @@ returns-clause-kept c =
     let is = c.end.ensures in
     let lt = within f s c.position_of.ensures c.requires.some (omega (arith, c.requires.within, c.give_back_all-locks.ensures.kept.lockers)) in
     record {
-      whole = told-whole f s None locker new _ c.give_back_all-locks.ensures.kept.whole lt c.index_mut-locker.ensures.value (ap standing_of is) (ap (λ (x : Locker). x.held) is) (ap (λ (x : Locker). x.children) is) (ap (λ (x : Locker). x.wanted) is) refl refl;
+      whole = told-whole f s None locker new _ c.give_back_all-locks.ensures.kept.whole lt c.index_mut-locker.ensures.value (ap standing_of is) (ap (λ (x : Locker). x.held) is) (ap (λ (x : Locker). x.wanted) is) refl refl;
       lockers = search rules;
       waits = search rules;
     }

@@ -7,7 +7,7 @@ pub free-requires-clause-agree : goal.free-requires-clause-agree
 free-requires-clause-agree c = back-agree c.args.self.now c.args.session c.in-Some.resource c.index_mut-locker.result.now c.release_last.new.self c.requires.whole (within c.args.self.now c.args.session c.position_of.ensures c.requires.some c.requires.within) c.index_mut-locker.ensures.value c.in-Some.ensures.some c.in-Some.ensures.transaction c.in-Some.ensures.wanted c.requires.idle
 
 pub free-requires-clause-lockers : goal.free-requires-clause-lockers
-free-requires-clause-lockers c = back-lockers c.args.self.now c.args.session c.in-Some.resource c.index_mut-locker.result.now c.release_last.new.self c.requires.whole (within c.args.self.now c.args.session c.position_of.ensures c.requires.some c.requires.within) c.index_mut-locker.ensures.value c.in-Some.ensures.some c.in-Some.ensures.transaction c.in-Some.ensures.wanted c.requires.idle c.in-Some.ensures.len c.in-Some.ensures.capacity c.in-Some.ensures.counted c.in-Some.ensures.children
+free-requires-clause-lockers c = back-lockers c.args.self.now c.args.session c.in-Some.resource c.index_mut-locker.result.now c.release_last.new.self c.requires.whole (within c.args.self.now c.args.session c.position_of.ensures c.requires.some c.requires.within) c.index_mut-locker.ensures.value c.in-Some.ensures.some c.in-Some.ensures.transaction c.in-Some.ensures.wanted c.requires.idle
 
 pub returns-in-Some-clause-back : goal.returns-in-Some-clause-back
 returns-in-Some-clause-back c =

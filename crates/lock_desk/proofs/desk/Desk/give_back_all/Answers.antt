@@ -12,7 +12,7 @@ loop-lock-init c =
     record {
       back = back-none c.args.session c.args.self.now c.requires.whole c.requires.idle;
       kept = record { whole = c.requires.whole; lockers = refl; waits = refl };
-      left = omega (arith, c.locks-locks.ensures, long, c.locker-locker.result.now.held.ok.0);
+      left = omega (arith, c.locks-locks.ensures, long);
     }
 
 pub loop-lock-preserved : goal.loop-lock-preserved

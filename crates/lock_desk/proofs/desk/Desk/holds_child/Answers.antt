@@ -6,11 +6,6 @@ use Rattle.lock_desk.proofs.LockerStandings.{standing-here}
 use Rattle.lock_desk.proofs.Asking.{within}
 use Rattle.lock_desk.proofs.desk.Desk.holds_child.Goals as goal
 
-pub holds_child-requires : goal.holds_child-requires
-holds_child-requires c =
-    let w = within c.args.self.now c.args.session c.position_of.ensures c.requires.some c.requires.within in
-    subst IsKeptLocker (sym c.index-locker.ensures) (All-get_or IsKeptLocker c.args.self.now.lockers.items c.position_of.result c.index-locker.result.now w.within c.requires.whole.lockers)
-
 pub returns : goal.returns
 returns c =
     let w = within c.args.self.now c.args.session c.position_of.ensures c.requires.some c.requires.within in

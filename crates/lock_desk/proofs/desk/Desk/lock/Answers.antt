@@ -83,16 +83,5 @@ wait_for-requires-clause-kind c =
 pub hold-requires-clause-under : goal.hold-requires-clause-under
 hold-requires-clause-under c = mid-under c.args.self.now c.args.session c.index_mut-locker.result.now c.make_room.new.self c.requires.whole (within c.args.self.now c.args.session c.position_of-position.ensures c.requires.some c.requires.within) c.index_mut-locker.ensures.value c.make_room.ensures.standing c.make_room.ensures.kept c.args.resource c.index_mut-locker-2.result.now c.index_mut-locker-2.ensures.value c.requires.can.under
 
-pub hold-requires-clause-children : goal.hold-requires-clause-children
-hold-requires-clause-children c =
-    let room = c.in_ok-make_room.ensures.children in
-    subst (λ (x : Locker). vec_len x.held < vec_capacity x.children.counts) (sym (mid-same c.args.self.now c.args.session c.index_mut-locker.result.now c.make_room.new.self c.requires.whole (within c.args.self.now c.args.session c.position_of-position.ensures c.requires.some c.requires.within) c.index_mut-locker.ensures.value c.make_room.ensures.standing c.make_room.ensures.kept c.index_mut-locker-2.result.now c.index_mut-locker-2.ensures.value)) room
-
 pub wait_for-requires-clause-under : goal.wait_for-requires-clause-under
 wait_for-requires-clause-under c = mid-under c.args.self.now c.args.session c.index_mut-locker.result.now c.make_room.new.self c.requires.whole (within c.args.self.now c.args.session c.position_of-position.ensures c.requires.some c.requires.within) c.index_mut-locker.ensures.value c.make_room.ensures.standing c.make_room.ensures.kept c.args.resource c.index_mut-locker-2.result.now c.index_mut-locker-2.ensures.value c.requires.can.under
-
-pub wait_for-requires-clause-children : goal.wait_for-requires-clause-children
-wait_for-requires-clause-children c =
-    let room = c.in_ok-make_room.ensures.children in
-    let there : vec_len c.index_mut-locker-2.result.now.held < vec_capacity c.index_mut-locker-2.result.now.children.counts = subst (λ (x : Locker). vec_len x.held < vec_capacity x.children.counts) (sym (mid-same c.args.self.now c.args.session c.index_mut-locker.result.now c.make_room.new.self c.requires.whole (within c.args.self.now c.args.session c.position_of-position.ensures c.requires.some c.requires.within) c.index_mut-locker.ensures.value c.make_room.ensures.standing c.make_room.ensures.kept c.index_mut-locker-2.result.now c.index_mut-locker-2.ensures.value)) room in
-    omega (arith, there)

@@ -7,8 +7,8 @@ use Rattle.lock_desk.proofs.Asking.{within}
 use Rattle.lock_desk.proofs.GivingUp.{gives-lock, freed-agree, has-freed, freed-whole}
 use Rattle.lock_desk.proofs.desk.Desk.release.Goals as goal
 
-pub free-requires-clause-agree : goal.free-requires-clause-agree
-free-requires-clause-agree c =
+pub free_at-requires-clause-agree : goal.free_at-requires-clause-agree
+free_at-requires-clause-agree c =
     freed-agree c.args.self.now _ c.args.session c.args.resource c.index_mut-locker.result.now c.release.new.self (within c.args.self.now c.args.session c.position_of.ensures c.requires.some c.requires.within) c.index_mut-locker.ensures.value
     (gives-lock c.args.resource _ _ c.release.ensures.transaction (ap wanted_in c.release.ensures.wanted) c.release.ensures.gone c.release.ensures.others) c.requires.whole
 
@@ -17,7 +17,7 @@ returns-clause-freed c =
     has-freed c.args.self.now _ c.args.session c.args.resource c.index_mut-locker.result.now c.release.new.self (within c.args.self.now c.args.session c.position_of.ensures c.requires.some c.requires.within) c.index_mut-locker.ensures.value
     (gives-lock c.args.resource _ _ c.release.ensures.transaction (ap wanted_in c.release.ensures.wanted) c.release.ensures.gone c.release.ensures.others) c.requires.whole
     _ (ap wanted_in c.release.ensures.wanted ∙ (ap (λ (x : Standing). x.wanted) (sym (standing-here c.args.self.now.lockers.items c.args.session c.index_mut-locker.result.now (within c.args.self.now c.args.session c.position_of.ensures c.requires.some c.requires.within) c.index_mut-locker.ensures.value)) ∙ c.requires.can.idle))
-    c.free.ensures.cells c.free.ensures.agree c.free.ensures.lockers c.free.ensures.granted refl
+    c.free_at.ensures.cells c.free_at.ensures.agree c.free_at.ensures.lockers c.free_at.ensures.granted refl
 
 pub returns-clause-kept : goal.returns-clause-kept
 returns-clause-kept c =
@@ -25,7 +25,7 @@ returns-clause-kept c =
       whole = freed-whole c.args.self.now _ c.args.session c.args.resource c.index_mut-locker.result.now c.release.new.self (within c.args.self.now c.args.session c.position_of.ensures c.requires.some c.requires.within) c.index_mut-locker.ensures.value
           (gives-lock c.args.resource _ _ c.release.ensures.transaction (ap wanted_in c.release.ensures.wanted) c.release.ensures.gone c.release.ensures.others) c.requires.whole
           _ (ap wanted_in c.release.ensures.wanted ∙ (ap (λ (x : Standing). x.wanted) (sym (standing-here c.args.self.now.lockers.items c.args.session c.index_mut-locker.result.now (within c.args.self.now c.args.session c.position_of.ensures c.requires.some c.requires.within) c.index_mut-locker.ensures.value)) ∙ c.requires.can.idle))
-          c.free.ensures.cells c.free.ensures.agree c.free.ensures.lockers c.free.ensures.granted;
+          c.free_at.ensures.cells c.free_at.ensures.agree c.free_at.ensures.lockers c.free_at.ensures.granted;
       lockers = search rules;
       waits = search rules;
     }
@@ -35,5 +35,5 @@ release-requires-clause-childless c =
     ap (λ (x : Standing). has_child c.args.resource x.held) (sym (standing-here c.args.self.now.lockers.items c.args.session c.index_mut-locker.result.now (within c.args.self.now c.args.session c.position_of.ensures c.requires.some c.requires.within) c.index_mut-locker.ensures.value))
     ∙ c.requires.can.free
 
-pub free-requires-clause-lockers : goal.free-requires-clause-lockers
-free-requires-clause-lockers c = All-set IsKeptLocker c.args.self.now.lockers.items c.position_of.result c.release.new.self c.release.ensures.kept c.requires.whole.lockers
+pub free_at-requires-clause-lockers : goal.free_at-requires-clause-lockers
+free_at-requires-clause-lockers c = All-set IsKeptLocker c.args.self.now.lockers.items c.position_of.result c.release.new.self c.release.ensures.kept c.requires.whole.lockers

@@ -1,7 +1,9 @@
-use Rattle.std.proofs.Common.{arith}
+use Rattle.std.proofs.Common.{arith, ap}
+use Rattle.lock_desk.specs.Lockers.{locks_to_come}
 use Rattle.lock_desk.proofs.LockerKept.{kept-again}
 use Rattle.lock_desk.proofs.lockers.Locker.make_room.Goals as goal
 
 pub returns-clause-kept : goal.returns-clause-kept
 returns-clause-kept c =
-    kept-again c.args.self.now _ c.requires.kept c.in_ok-reserve.ensures.items c.in_ok-reserve.ensures.capacity c.make_room.ensures.counts c.make_room.ensures.capacity c.make_room.ensures.stand (omega arith) c.requires.kept.kind c.requires.kept.under
+    let none = ap locks_to_come c.requires.idle in
+    kept-again c.args.self.now _ c.requires.kept c.make_room.ensures.items (omega (arith, none)) (omega arith) c.requires.kept.kind c.requires.kept.under

@@ -5,8 +5,6 @@ returns-clause-kept c =
     let k = c.requires.kept in
     record {
       under = c.requires.under;
-      counted = k.counted;
-      children_room = c.requires.children;
       apart = k.apart;
       kind = c.requires.kind;
       room = c.requires.room;

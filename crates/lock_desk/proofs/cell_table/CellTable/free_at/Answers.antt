@@ -1,0 +1,110 @@
+use Rattle.std.proofs.Common.{◌∙◌, ap, arith, sym, subst, refl}
+use Rattle.std.proofs.lemmas.Bool.{not-true, not-false}
+use Rattle.lock_tree.specs.Paths.{same_path}
+use Rattle.lock_desk.specs.Cells.{View, Table, view_of, is_busy}
+use Rattle.lock_desk.specs.Lockers.{standings_of, DoAgree}
+use Rattle.lock_desk.proofs.CellTable.{kept-at, idle-view}
+use Rattle.lock_desk.proofs.CellGivesUp.{free-absent, agree-absent, view-left, once-there, free-kept, free-idle, agree-there}
+use Rattle.lock_desk.proofs.Places.{there, as-long, written-cell, written-entry, wrote}
+use Rattle.lock_desk.proofs.cell_table.CellTable.free_at.Goals as goal
+
+pub promote-requires-clause-once : goal.promote-requires-clause-once
+promote-requires-clause-once c =
+    let cs = c.args.self.now.entries in
+    let r = c.args.resource in
+    let m = c.self.inside.cells in
+    let e = ap (λ (t : Table). t.entries) c.self.view_is in
+    let x = c.index_mut-cell.result.now in
+    let t = there _ c.same_path_is_equality.ensures.code m cs e r c.args.place c.in-Some.place c.in-Some.is c.requires.place x c.index_mut-cell.ensures.value in
+    once-there c.args.part r c.args.session cs x c.give_up.new.self t c.give_up.ensures.view (kept-at r cs x c.requires.cells t).once
+
+pub promote-requires-clause-agree : goal.promote-requires-clause-agree
+promote-requires-clause-agree c =
+    let cs = c.args.self.now.entries in
+    let r = c.args.resource in
+    let m = c.self.inside.cells in
+    let e = ap (λ (t : Table). t.entries) c.self.view_is in
+    let x = c.index_mut-cell.result.now in
+    let t = there _ c.same_path_is_equality.ensures.code m cs e r c.args.place c.in-Some.place c.in-Some.is c.requires.place x c.index_mut-cell.ensures.value in
+    let v = view-left c.args.part r c.args.session cs x c.give_up.new.self t c.give_up.ensures.view in
+    subst (λ (w : View). DoAgree r w (standings_of c.args.lockers.now.items)) (sym v) c.requires.agree
+
+pub keep-requires-clause-spare : goal.keep-requires-clause-spare
+keep-requires-clause-spare c =
+    let cs = c.args.self.now.entries in
+    let r = c.args.resource in
+    let m = c.self.inside.cells in
+    let e = ap (λ (t : Table). t.entries) c.self.view_is in
+    let x = c.index_mut-cell.result.now in
+    record {
+      idle = c.self.invariant.idle;
+      room = omega (arith, as-long _ c.same_path_is_equality.ensures.code m cs e r c.args.place c.in-Some.place c.in-Some.is c.requires.place x c.index_mut-cell.ensures.value c.promote.new.cell, c.self.invariant.room);
+    }
+
+pub keep-requires-clause-idle : goal.keep-requires-clause-idle
+keep-requires-clause-idle c = λ q y h.
+    let cs = c.args.self.now.entries in
+    let r = c.args.resource in
+    let m = c.self.inside.cells in
+    let e = ap (λ (t : Table). t.entries) c.self.view_is in
+    let x = c.index_mut-cell.result.now in
+    let new = c.promote.new.cell in
+    ap view_of (sym (written-cell _ c.same_path_is_equality.ensures.code m cs e r c.args.place c.in-Some.place c.in-Some.is c.requires.place x c.index_mut-cell.ensures.value new q y h)) ∙ idle-view (view_of new) (not-true (is_busy (view_of new)) (sym c.is_idle.ensures ∙ c.if-is_idle.true))
+
+pub invariant_of-self-else-is_idle : goal.invariant_of-self-else-is_idle
+invariant_of-self-else-is_idle c =
+    let cs = c.args.self.now.entries in
+    let r = c.args.resource in
+    let m = c.self.inside.cells in
+    let e = ap (λ (t : Table). t.entries) c.self.view_is in
+    let x = c.index_mut-cell.result.now in
+    record {
+      idle = c.self.invariant.idle;
+      room = omega (arith, as-long _ c.same_path_is_equality.ensures.code m cs e r c.args.place c.in-Some.place c.in-Some.is c.requires.place x c.index_mut-cell.ensures.value c.promote.new.cell, c.self.invariant.room);
+    }
+
+pub returns-then-is_idle-clause-cells : goal.returns-then-is_idle-clause-cells
+returns-then-is_idle-clause-cells c =
+    let cs = c.args.self.now.entries in
+    let r = c.args.resource in
+    let m = c.self.inside.cells in
+    let e = ap (λ (t : Table). t.entries) c.self.view_is in
+    let x = c.index_mut-cell.result.now in
+    let t = there _ c.same_path_is_equality.ensures.code m cs e r c.args.place c.in-Some.place c.in-Some.is c.requires.place x c.index_mut-cell.ensures.value in
+    let new = c.promote.new.cell in
+    free-idle c.args.part r c.args.session cs x c.give_up.new.self t c.give_up.ensures.view
+    new c.promote.ensures.view same_path (λ a b. refl) c.requires.cells c.keep.new.cells.entries _ (not-true (is_busy (view_of new)) (sym c.is_idle.ensures ∙ c.if-is_idle.true))
+    (wrote _ c.same_path_is_equality.ensures.code m cs e r c.args.place c.in-Some.place c.in-Some.is c.requires.place x c.index_mut-cell.ensures.value new c.len-len.ensures.unique) (c.keep.ensures.gone r new (written-entry _ c.same_path_is_equality.ensures.code m cs e r c.args.place c.in-Some.place c.in-Some.is c.requires.place x c.index_mut-cell.ensures.value new))
+
+pub returns-then-is_idle-clause-agree : goal.returns-then-is_idle-clause-agree
+returns-then-is_idle-clause-agree c =
+    let cs = c.args.self.now.entries in
+    let r = c.args.resource in
+    let m = c.self.inside.cells in
+    let e = ap (λ (t : Table). t.entries) c.self.view_is in
+    let x = c.index_mut-cell.result.now in
+    let t = there _ c.same_path_is_equality.ensures.code m cs e r c.args.place c.in-Some.place c.in-Some.is c.requires.place x c.index_mut-cell.ensures.value in
+    agree-there c.args.part r c.args.session cs x c.give_up.new.self t c.give_up.ensures.view c.promote.new.cell c.promote.ensures.view _ c.promote.ensures.agree
+
+pub returns-else-is_idle-clause-cells : goal.returns-else-is_idle-clause-cells
+returns-else-is_idle-clause-cells c =
+    let cs = c.args.self.now.entries in
+    let r = c.args.resource in
+    let m = c.self.inside.cells in
+    let e = ap (λ (t : Table). t.entries) c.self.view_is in
+    let x = c.index_mut-cell.result.now in
+    let t = there _ c.same_path_is_equality.ensures.code m cs e r c.args.place c.in-Some.place c.in-Some.is c.requires.place x c.index_mut-cell.ensures.value in
+    let new = c.promote.new.cell in
+    free-kept c.args.part r c.args.session cs x c.give_up.new.self t c.give_up.ensures.view
+    new c.promote.ensures.view same_path (λ a b. refl) c.requires.cells _ c.promote.ensures.room c.promote.ensures.once (not-false (is_busy (view_of new)) (sym c.is_idle.ensures ∙ c.if-is_idle.false))
+    (wrote _ c.same_path_is_equality.ensures.code m cs e r c.args.place c.in-Some.place c.in-Some.is c.requires.place x c.index_mut-cell.ensures.value new c.len-len.ensures.unique)
+
+pub returns-else-is_idle-clause-agree : goal.returns-else-is_idle-clause-agree
+returns-else-is_idle-clause-agree c =
+    let cs = c.args.self.now.entries in
+    let r = c.args.resource in
+    let m = c.self.inside.cells in
+    let e = ap (λ (t : Table). t.entries) c.self.view_is in
+    let x = c.index_mut-cell.result.now in
+    let t = there _ c.same_path_is_equality.ensures.code m cs e r c.args.place c.in-Some.place c.in-Some.is c.requires.place x c.index_mut-cell.ensures.value in
+    agree-there c.args.part r c.args.session cs x c.give_up.new.self t c.give_up.ensures.view c.promote.new.cell c.promote.ensures.view _ c.promote.ensures.agree

@@ -1,6 +1,0 @@
-use Rattle.std.proofs.Common.{◌≡◌, drop}
-use Rattle.lock_desk.specs.Cells.{has_path}
-use Rattle.lock_desk.proofs.child_counts.search.Given as goal
-
-abbrev pub invariant-loop-index : goal.invariant-loop-index
-invariant-loop-index l = has_path l.resource l.list ≡ has_path l.resource (drop l.index l.list)
