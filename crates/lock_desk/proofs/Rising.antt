@@ -1,7 +1,7 @@
 -- Holders whose session numbers rise: where one stands is found by a search, and a mode that goes with itself fits again.
 use Rattle.std.proofs.Common.{◌≡◌, ℕ, zero, suc, ◌+◌, ◌<◌, ◌≤◌, Bool, true, false, cond, not, eqb, inl, inr, List, [], ◌∷◌, ◌++◌, length, get_or, take, drop, insert, map, refl, sym, ◌∙◌, ap, arith}
-use Rattle.std.proofs.lemmas.Bool.Decides.{nat_tests}
-use Rattle.std.proofs.lemmas.Bool.{and_parts, and_from, cases_Bool, cases_order}
+use Rattle.std.proofs.lemmas.Bool.Decides.{nat_tests, Decides-eqb}
+use Rattle.std.proofs.lemmas.Bool.{and_parts, and_from, cases_Bool, cases_lt, cases_order}
 use Rattle.std.proofs.lemmas.List.{get_or_default, drop_more, take_all, drop_all}
 use Rattle.lock_modes.specs.Compatibility.{are_compatible}
 use Rattle.lock_rules.specs.Sound.{after, ascend}
@@ -96,6 +96,34 @@ with-between c hs n h lt l at more =
   where
     first : (xs : List SessionMode) → with_holder c (h ∷ xs) ≡ c ∷ h ∷ xs
     first xs = grind (arith, nat_tests)
+
+-- whoever isn't among them leaves all
+without-all : (s : ℕ) (hs : List SessionMode) → ((i : ℕ) (d : SessionMode) → i < length hs → (get_or hs i d).session ≡ s → ⊥) → without s hs ≡ hs
+without-all s [] n = refl
+without-all s (k ∷ hs) n = go (eqb k.session s) refl (without-all s hs (λ i d lt. n (suc i) d (omega arith)))
+  where
+    go : (b : Bool) → eqb k.session s ≡ b → without s hs ≡ hs → without s (k ∷ hs) ≡ k ∷ hs
+    go true e rest = absurd (n 0 k (omega arith) ((Decides-eqb k.session s).0 e))
+    go false e rest = ap (λ (c : Bool). cond (not c) (k ∷ without s hs) (without s hs)) e ∙ ap (λ (xs : List SessionMode). k ∷ xs) rest
+
+-- nobody is there but those of lesser sessions and, from there on, of greater ones
+pub left-all : (s : ℕ) (hs : List SessionMode) (n : ℕ) → AreLesser s n hs → ((i : ℕ) (d : SessionMode) → n ≤ i → i < length hs → s < (get_or hs i d).session) → without s hs ≡ hs
+left-all s hs n lesser greater = without-all s hs (λ i d lt e. elim (cases_lt i n) [
+  | inl l ↦ (let a = lesser i d l in omega (arith, a, e))
+  | inr l ↦ (let a = greater i d l lt in omega (arith, a, e))
+])
+
+-- one goes from between those of lesser sessions and those of greater ones
+pub left-one : (s : ℕ) (hs : List SessionMode) (n : ℕ) → n < length hs → AreLesser s n hs → ((d : SessionMode) → (get_or hs n d).session ≡ s) → ((i : ℕ) (d : SessionMode) → n < i → i < length hs → s < (get_or hs i d).session) → take n hs ++ drop (suc n) hs ≡ without s hs
+left-one s [] n lt lesser at greater = absurd (omega arith)
+left-one s (k ∷ hs) zero lt lesser at greater =
+    let e : eqb k.session s ≡ true = (Decides-eqb k.session s).1 (at k) in
+    sym (ap (λ (c : Bool). cond (not c) (k ∷ without s hs) (without s hs)) e ∙ without-all s hs (λ i d l f. let a = greater (suc i) d (omega arith) (omega arith) in omega (arith, a, f)))
+left-one s (k ∷ hs) (suc n) lt lesser at greater =
+    let less = lesser 0 k (omega arith) in
+    let e : eqb k.session s ≡ false = grind (arith, nat_tests) in
+    ap (λ (xs : List SessionMode). k ∷ xs) (left-one s hs n (omega arith) (λ i d l. lesser (suc i) d (omega arith)) at (λ i d l f. greater (suc i) d (omega arith) (omega arith)))
+    ∙ sym (ap (λ (c : Bool). cond (not c) (k ∷ without s hs) (without s hs)) e)
 
 -- a mode that goes with all holders fits
 pub go-fits : (c : SessionMode) (hs : List SessionMode) → go_with c.mode hs ≡ true → fits_among c hs ≡ true

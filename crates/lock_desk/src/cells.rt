@@ -5,7 +5,7 @@ ghost use Rattle.std.specs.Option.{option_copied};
 ghost use Rattle.waits_for.specs.Pairs.{pairs_of};
 ghost use Rattle.lock_tree.specs.Paths.{same_path};
 ghost use Rattle.lock_desk.specs.declared.cells.SessionMode.{SessionMode as SessionModeValue};
-ghost use Rattle.lock_desk.specs.Cells.{View, no_view, view_of, has_session, mode_of, pair_of, with_holder, view_after_giving_up, fits_among, go_with, Ascends, AreLesser, AreOthers, next_grant, can_grant, is_granted, behind_conversions, queue_with, view_after_asking, HasRoom, IsKeptCell, AreKeptCells, is_busy};
+ghost use Rattle.lock_desk.specs.Cells.{View, no_view, view_of, has_session, mode_of, pair_of, with_holder, view_after_giving_up, without, fits_among, go_with, Ascends, AreLesser, AreOthers, next_grant, can_grant, is_granted, behind_conversions, queue_with, view_after_asking, HasRoom, IsKeptCell, AreKeptCells, is_busy};
 ghost use Rattle.lock_desk.specs.Finding.{holder_blocks, stands_first, cell_blocks, AreOfSessions};
 
 use crate::positions::position_of;
@@ -139,6 +139,23 @@ pub(crate) fn put(holders: &mut Vec<SessionMode>, holder: SessionMode)
         return;
     }
     insert_at(holders, index, holder);
+}
+
+/// The session's lock is taken away, if it is among them: its place is found by a search in the session numbers.
+fn leave(holders: &mut Vec<SessionMode>, session: u16)
+    requires rising { Ascends holders.old.items }
+    ensures items { holders.new.items ≡ without session holders.old.items }
+    ensures len { vec_len holders.new ≤ vec_len holders.old }
+    ensures capacity { vec_capacity holders.new ≡ vec_capacity holders.old }
+{
+    let index = rank(holders, session);
+    if index == holders.len() {
+        return;
+    }
+    let holder = holders[index].session;
+    if holder == session {
+        let _left = holders.remove(index);
+    }
 }
 
 /// How many conversions wait: the index of the next one in the queue.
@@ -289,12 +306,13 @@ impl Cell {
 
     /// Takes away what the session holds, or its request.
     pub(crate) fn give_up(&mut self, session: u16, part: Part)
-        requires { HasRoom self.old }
+        requires rising { Ascends self.old.holders.items }
+        requires room { HasRoom self.old }
         ensures view { view_of self.new ≡ view_after_giving_up part session (view_of self.old) }
         ensures room { HasRoom self.new }
     {
         match part {
-            Part::Lock => self.holders.retain(|held| held.session != session),
+            Part::Lock => leave(&mut self.holders, session),
             Part::Request => self.waiting.retain(|request| request.session != session),
         }
     }
@@ -329,7 +347,7 @@ impl Cell {
     {
         let waiting = self.waiting.len();
         self.holders.reserve(waiting + 1)?;
-        let unhindered = is_among(&self.holders, asker.session) || self.waiting.is_empty();
+        let unhindered = self.waiting.is_empty() || is_among(&self.holders, asker.session);
         if unhindered && fits(&self.holders, asker) {
             put(&mut self.holders, asker);
             Ok(RequestStatus::Granted)

@@ -8,6 +8,26 @@ use Rattle.lock_desk.proofs.CellGivesUp.{free-absent, agree-absent, view-left, o
 use Rattle.lock_desk.proofs.Places.{there, as-long, written-cell, written-entry, wrote}
 use Rattle.lock_desk.proofs.cell_table.CellTable.free_at.Goals as goal
 
+pub give_up-requires-clause-rising : goal.give_up-requires-clause-rising
+give_up-requires-clause-rising c =
+    let cs = c.args.self.now.entries in
+    let r = c.args.resource in
+    let m = c.self.inside.cells in
+    let e = ap (λ (t : Table). t.entries) c.self.view_is in
+    let x = c.index_mut-cell.result.now in
+    let t = there _ c.same_path_is_equality.ensures.code m cs e r c.args.place c.in-Some.place c.in-Some.is c.requires.place x c.index_mut-cell.ensures.value in
+    (kept-at r cs x c.requires.cells t).once.rising
+
+pub give_up-requires-clause-room : goal.give_up-requires-clause-room
+give_up-requires-clause-room c =
+    let cs = c.args.self.now.entries in
+    let r = c.args.resource in
+    let m = c.self.inside.cells in
+    let e = ap (λ (t : Table). t.entries) c.self.view_is in
+    let x = c.index_mut-cell.result.now in
+    let t = there _ c.same_path_is_equality.ensures.code m cs e r c.args.place c.in-Some.place c.in-Some.is c.requires.place x c.index_mut-cell.ensures.value in
+    (kept-at r cs x c.requires.cells t).room
+
 pub promote-requires-clause-once : goal.promote-requires-clause-once
 promote-requires-clause-once c =
     let cs = c.args.self.now.entries in

@@ -7,12 +7,11 @@ use Rattle.lock_desk.proofs.cells.Cell.give_up.Goals as goal
 
 pub returns-in-Lock-clause-view : goal.returns-in-Lock-clause-view
 returns-in-Lock-clause-view c =
-    let e : c.retain.new.self.items ≡ without c.args.session c.args.self.now.holders.items = filter_same _ _ _ (λ x b f' k. search rules) _ _ c.retain.ensures.filtered in
-    ap (λ (xs : List SessionMode). record { holders = xs; waiting = c.args.self.now.waiting.items }) e
+    ap (λ (xs : List SessionMode). record { holders = xs; waiting = c.args.self.now.waiting.items }) c.leave.ensures.items
     ∙ sym (ap (λ (p : Part). view_after_giving_up p c.args.session (view_of c.args.self.now)) c.in-Lock.is)
 
 pub returns-in-Request-clause-view : goal.returns-in-Request-clause-view
 returns-in-Request-clause-view c =
-    let e : c.retain-in-Request.new.self.items ≡ without c.args.session c.args.self.now.waiting.items = filter_same _ _ _ (λ x b f' k. search rules) _ _ c.retain-in-Request.ensures.filtered in
+    let e : c.retain.new.self.items ≡ without c.args.session c.args.self.now.waiting.items = filter_same _ _ _ (λ x b f' k. search rules) _ _ c.retain.ensures.filtered in
     ap (λ (xs : List SessionMode). record { holders = c.args.self.now.holders.items; waiting = xs }) e
     ∙ sym (ap (λ (p : Part). view_after_giving_up p c.args.session (view_of c.args.self.now)) c.in-Request.is)
