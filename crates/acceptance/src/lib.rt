@@ -12,9 +12,13 @@ mod deadlocks;
 #[cfg(test)]
 mod devices;
 #[cfg(test)]
+mod engine;
+#[cfg(test)]
 mod examples;
 #[cfg(test)]
 mod gates;
+#[cfg(test)]
+mod help;
 #[cfg(test)]
 mod numbers;
 #[cfg(test)]

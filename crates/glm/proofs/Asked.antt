@@ -1,9 +1,12 @@
 -- What a command that was found asks for, and what it doesn't.
-use Rattle.std.proofs.Common.{rules, ap, ap₂, refl, subst, sym, ◌≡◌, ◌≢◌, ◌∙◌, ◌<◌, ◌≤◌, ℕ, List, [], Option, Some, None, codes}
-use Rattle.std.specs.Prelude.{IfSome, IfNone}
+use Rattle.std.proofs.Common.{rules, arith, ap, ap₂, refl, subst, sym, ◌≡◌, ◌≢◌, ◌∙◌, ◌<◌, ◌≤◌, ◌^◌, ℕ, List, [], Option, Some, None, codes}
+use Rattle.std.specs.Prelude.{Ok, Err, IfSome, IfNone, decimal}
+use Rattle.std.proofs.lemmas.Fmt.{decimal_injective}
 use Rattle.clap.specs.Simple.{subcommand_of}
-use Rattle.clap.specs.Walk.{Row, Text}
-use Rattle.std.specs.Str.Parse.{digits_value, without_leading_plus}
+use Rattle.clap.specs.Walk.{Row, Text, first_of}
+use Rattle.lock_tree.specs.Numerals.{reading_of_numeral}
+use Rattle.lock_tree.specs.declared.numeral.NumeralFault.{NumeralFault}
+use Rattle.glm.proofs.Options.{numeral_not_given}
 use Rattle.lock_rules.specs.declared.calls.TheConstants.{MAX_SESSIONS}
 use Rattle.glm.specs.declared.requests.TheConstants.{MAX_TURNS}
 use Rattle.glm.specs.declared.requests.Request.{Request}
@@ -28,25 +31,43 @@ no_name name rows replay run check (request.Replay n) is = replay is.0
 no_name name rows replay run check (request.Run n t) is = run is.0
 no_name name rows replay run check (request.Check n) is = check is.0
 
+-- the text that was found for the number of sessions
+abbrev pub sessions_text : Option (Text × List Row) → Option Text
+sessions_text None = None
+sessions_text (Some found) = first_of (codes "sessions") found.1
+
+pub no_such_sessions : (found : Option (Text × List Row)) (text : Text) (fault : NumeralFault) → sessions_text found ≡ Some text
+    → reading_of_numeral MAX_SESSIONS text ≡ Err fault → (asked : Request) → ¬ IsRequest found asked
+no_such_sessions None text fault is wrong asked h = h
+no_such_sessions (Some found) text fault is wrong asked h =
+    no_sessions found.0 found.1 (numeral_not_given _ text MAX_SESSIONS found.1 (omega arith) is (λ m read some. let bad : Ok m ≡ Err fault = sym read ∙ wrong in cc)) asked h
+
 -- an option has one number
 
-pub gives-one : (option : Text) (greatest : ℕ) (rows : List Row) (m n : ℕ) → Gives option greatest rows m → Gives option greatest rows n → m ≡ n
-gives-one option greatest rows m n a b =
-    let same : Some a.text ≡ Some b.text = sym a.given ∙ b.given in
-    let text : a.text ≡ b.text = cc in
-    a.number_is.value ∙ ap (λ t. digits_value 10 (without_leading_plus t)) text ∙ sym b.number_is.value
+pub gives-one : (option : Text) (greatest : ℕ) (rows : List Row) (m n : ℕ) → greatest < 2 ^ 64
+    → Gives option greatest rows m → Gives option greatest rows n → m ≡ n
+gives-one option greatest rows m n lt a b =
+    let same : Some (decimal m) ≡ Some (decimal n) = sym a.given ∙ b.given in
+    let text : decimal m ≡ decimal n = cc in
+    decimal_injective m n (omega (arith, a.few, lt)) (omega (arith, b.few, lt)) text
+
+sessions-one : (rows : List Row) (m n : ℕ) → Gives (codes "sessions") MAX_SESSIONS rows m → Gives (codes "sessions") MAX_SESSIONS rows n → m ≡ n
+sessions-one rows m n = gives-one _ _ rows m n (omega arith)
+
+turns-one : (rows : List Row) (m n : ℕ) → Gives (codes "turns") MAX_TURNS rows m → Gives (codes "turns") MAX_TURNS rows n → m ≡ n
+turns-one rows m n = gives-one _ _ rows m n (omega arith)
 
 one-in : (name : Text) (rows : List Row) (r q : Request) → IsRequestIn name rows r → IsRequestIn name rows q → r ≡ q
-one-in name rows (request.Replay m) (request.Replay n) a b = ap (λ k. request.Replay k) (gives-one _ _ rows m n a.1 b.1)
+one-in name rows (request.Replay m) (request.Replay n) a b = ap (λ k. request.Replay k) (sessions-one rows m n a.1 b.1)
 one-in name rows (request.Replay m) (request.Run n t) a b = let bad : codes "replay" ≡ codes "run" = sym a.0 ∙ b.0 in cc
 one-in name rows (request.Replay m) (request.Check n) a b = let bad : codes "replay" ≡ codes "check" = sym a.0 ∙ b.0 in cc
 one-in name rows (request.Run m u) (request.Replay n) a b = let bad : codes "run" ≡ codes "replay" = sym a.0 ∙ b.0 in cc
 one-in name rows (request.Run m u) (request.Run n t) a b =
-    ap₂ (λ k l. request.Run k l) (gives-one _ _ rows m n a.1 b.1) (gives-one _ _ rows u t a.2 b.2)
+    ap₂ (λ k l. request.Run k l) (sessions-one rows m n a.1 b.1) (turns-one rows u t a.2 b.2)
 one-in name rows (request.Run m u) (request.Check n) a b = let bad : codes "run" ≡ codes "check" = sym a.0 ∙ b.0 in cc
 one-in name rows (request.Check m) (request.Replay n) a b = let bad : codes "check" ≡ codes "replay" = sym a.0 ∙ b.0 in cc
 one-in name rows (request.Check m) (request.Run n t) a b = let bad : codes "check" ≡ codes "run" = sym a.0 ∙ b.0 in cc
-one-in name rows (request.Check m) (request.Check n) a b = ap (λ k. request.Check k) (gives-one _ _ rows m n a.1 b.1)
+one-in name rows (request.Check m) (request.Check n) a b = ap (λ k. request.Check k) (sessions-one rows m n a.1 b.1)
 
 -- words ask for one thing
 pub one_request : (found : Option (Text × List Row)) (r q : Request) → IsRequest found r → IsRequest found q → r ≡ q
@@ -55,7 +76,7 @@ one_request (Some found) r q a b = one-in found.0 found.1 r q a b
 
 pub one_replay : (found : Option (Text × List Row)) (m n : ℕ) → IsRequest found (request.Replay m) → IsRequest found (request.Replay n) → m ≡ n
 one_replay None m n a b = absurd a
-one_replay (Some found) m n a b = gives-one _ _ found.1 m n a.1 b.1
+one_replay (Some found) m n a b = sessions-one found.1 m n a.1 b.1
 
 -- from the command that was found to what was parsed
 

@@ -1,31 +1,42 @@
 -- The numbers of options, and the command that was found.
-use Rattle.std.proofs.Common.{rules, arith, ap₂, refl, sym, ◌≡◌, ◌∙◌, ◌<◌, ◌≤◌, ℕ, List, Option, Some, None}
-use Rattle.std.specs.Prelude.{Result, IfSome, IfNone, option_map}
-use Rattle.std.specs.Str.Parse.{ExplainsUnsignedError, HasUnsignedDigitsIfOk, ParsesUnsigned}
-use Rattle.std.specs.declared.num.ParseIntError.{ParseIntError}
-use Rattle.std.proofs.Math.Nat.{lt_of_not-le}
-use Rattle.clap.specs.Matches.{ReadsOne}
-use Rattle.clap.specs.Walk.{Row, Text}
-use Rattle.glm.specs.declared.requests.TheConstants.{MAX_TURNS}
-use Rattle.glm.specs.CommandLine.{IsTextOfNumber}
+use Rattle.std.proofs.Common.{rules, arith, ap, ap₂, refl, sym, ◌≡◌, ◌∙◌, ◌<◌, ◌≤◌, ◌^◌, ℕ, List, Option, Some, None}
+use Rattle.std.specs.Prelude.{Result, Ok, Err, option_map, decimal, IfSome, IfNone}
+use Rattle.clap.specs.Walk.{Row, Text, first_of}
+use Rattle.lock_tree.specs.Numerals.{reading_of_numeral}
+use Rattle.lock_tree.specs.declared.numeral.NumeralFault.{NumeralFault}
+use Rattle.lock_tree.proofs.Numerals.{reading_iff}
+use Rattle.glm.specs.CommandLine.{Gives}
 
--- what `u32` reads of a text
-abbrev pub Reads32 : Text → Result ℕ ParseIntError → Type 0
-Reads32 text r = ParsesUnsigned 32 10 text r × ExplainsUnsignedError 10 text r × HasUnsignedDigitsIfOk text r
+-- a text that is read as a number above 0 gives it
+pub numeral_given : (option text : Text) (greatest n : ℕ) (rows : List Row) → greatest < 2 ^ 64 → first_of option rows ≡ Some text
+    → reading_of_numeral greatest text ≡ Ok n → 0 < n → Gives option greatest rows n
+numeral_given option text greatest n rows lt is read some =
+    let (few, same) = (reading_iff text greatest n lt).0 read in
+    record { given = is ∙ ap Some same; some = some; few = few }
 
-pub number-of_text : (o : Option Text) (r : Option ℕ) → (o ≡ None → r ≡ None) → ((t : Text) → o ≡ Some t → ReadsOne Reads32 t r)
-    → IfSome r (λ n. (t : Text) × (o ≡ Some t) × IsTextOfNumber t n)
-number-of_text None None none value = search rules
-number-of_text None (Some n) none value = let bad : Some n ≡ None = none refl in cc
-number-of_text (Some t) None none value = search rules
-number-of_text (Some t) (Some n) none value =
-    let read = value t refl in (t, refl, record { numeral = read.0.0.0; value = read.0.1 })
+-- any other gives none
+pub numeral_not_given : (option text : Text) (greatest : ℕ) (rows : List Row) → greatest < 2 ^ 64 → first_of option rows ≡ Some text
+    → ((m : ℕ) → reading_of_numeral greatest text ≡ Ok m → ¬ (0 < m)) → (n : ℕ) → ¬ Gives option greatest rows n
+numeral_not_given option text greatest rows lt is none n gives =
+    let same : Some text ≡ Some (decimal n) = sym is ∙ gives.given in
+    let text_is : text ≡ decimal n = cc in
+    none n ((reading_iff text greatest n lt).1 (gives.few, text_is)) gives.some
 
-pub no-number : (o : Option Text) (r : Option ℕ) → ((t : Text) → o ≡ Some t → ReadsOne Reads32 t r)
-    → IfNone r ((t : Text) (n : ℕ) → o ≡ Some t → IsTextOfNumber t n → MAX_TURNS < n)
-no-number o (Some n) value = search rules
-no-number o None value = λ t n is number. lt_of_not-le (λ small.
-    let value_is = number.value in (value t is).1.0 (number.numeral, omega arith))
+-- where nothing was found for the option, it has no number
+pub nothing_given : (option : Text) (greatest : ℕ) (rows : List Row) → first_of option rows ≡ None → (n : ℕ) → ¬ Gives option greatest rows n
+nothing_given option greatest rows is n gives = let bad : Some (decimal n) ≡ None = sym gives.given ∙ is in cc
+
+-- what was found where the option has a text, and where it has none
+pub text_found : {B : Type 0} (now : B → Text) (r : Option B) (s : B) (found : Option Text) → option_map now r ≡ found → r ≡ Some s → found ≡ Some (now s)
+text_found now r s found is some = sym is ∙ ap (option_map now) some
+
+pub no_text_found : {B : Type 0} (now : B → Text) (r : Option B) (found : Option Text) → option_map now r ≡ found → r ≡ None → found ≡ None
+no_text_found now r found is none = sym is ∙ ap (option_map now) none
+
+-- what is read, in other words for the same numbers
+pub reading_is : {r : Result ℕ NumeralFault} {least greatest : ℕ} {bytes text : Text} → r ≡ reading_of_numeral least bytes → least ≡ greatest → bytes ≡ text
+    → reading_of_numeral greatest text ≡ r
+reading_is is numbers texts = sym (is ∙ ap₂ (λ g t. reading_of_numeral g t) numbers texts)
 
 -- a command that was found has its name and its rows
 pub command-found : {R O : Type 0} (f : R → Text) (g : R → List Row) (n : O → Text) (w : O → List Row) (r : Option R) (o : Option O)

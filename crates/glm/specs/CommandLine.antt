@@ -1,12 +1,11 @@
 -- What the words of the command line ask for, as the parser of `clap` reads them.
-use Rattle.std.specs.Prelude.{◌≡◌, ℕ, ◌<◌, ◌≤◌, List, [], ◌∷◌, Option, Some, None, codes, pos, true}
-use Rattle.std.specs.Str.Parse.{IsNumeral, digits_value, without_leading_plus}
-use Rattle.clap.specs.Walk.{Row, Rule, Text, one_of}
+use Rattle.std.specs.Prelude.{◌≡◌, ℕ, ◌<◌, ◌≤◌, List, [], ◌∷◌, Option, Some, None, codes, decimal, pos, true}
+use Rattle.clap.specs.Walk.{Row, Rule, Text, first_of}
 use Rattle.clap.specs.Simple.{App, new_app, new_rule, on_top, subcommand_of, with_rule, with_subcommand}
 use Rattle.clap.specs.Kinds.{IsAmong, Kinds}
 use Rattle.clap.specs.Faults.{fault_of}
 use Rattle.clap.specs.declared.builder.value_parser.ValueParser.TheVariants as parser
-use Rattle.clap.specs.declared.error.kind.ErrorKind.TheVariants.{DisplayHelp}
+use Rattle.clap.specs.declared.error.kind.ErrorKind.TheVariants.{DisplayHelp, DisplayVersion}
 use Rattle.lock_rules.specs.declared.calls.TheConstants.{MAX_SESSIONS}
 use Rattle.glm.specs.declared.requests.TheConstants.{MAX_TURNS}
 use Rattle.glm.specs.declared.requests.Request.{Request}
@@ -34,31 +33,26 @@ turns_option = record (new_rule (codes "turns")) {
 abbrev pub command_for_sessions : Text → App
 command_for_sessions name = with_rule (new_app name) sessions_option
 
--- `glm`, which wants a command: `replay [--sessions N]`, `run [--sessions N] [--turns T]` or `check [--sessions N]`
+-- `glm`, which has a version and wants a command: `replay [--sessions N]`, `run [--sessions N] [--turns T]` or
+-- `check [--sessions N]`
 abbrev pub glm_command : App
 glm_command =
     with_subcommand
     (with_subcommand
     (with_subcommand
-    (on_top (λ s. record s { subcommand_required = true }) (new_app (codes "glm")))
+    (on_top (λ s. record s { subcommand_required = true; has_version = true }) (new_app (codes "glm")))
     (command_for_sessions (codes "replay")).top)
     (with_rule (command_for_sessions (codes "run")) turns_option).top)
     (command_for_sessions (codes "check")).top
 
--- what the parser finds wrong with the words, or help where they ask for it; nothing where they are a command
+-- what the parser finds wrong with the words, or help or the version where they ask for it; nothing where they are a command
 abbrev pub faults_of : List Text → Kinds
 faults_of words = fault_of glm_command words
 
--- the text is the number's, in decimal, where a plus may stand first
-pub record IsTextOfNumber (text : Text) (number : ℕ) : Type 0 where
-  pub numeral : IsNumeral 10 (without_leading_plus text)
-  pub value : number ≡ digits_value 10 (without_leading_plus text)
-
--- what was found for the options has this number for an option, which is 1 to the greatest that it may be
+-- what was found for the options has this number for an option, in decimal: no sign and no zero before it. It is 1 to
+-- the greatest that it may be
 pub record Gives (option : Text) (greatest : ℕ) (rows : List Row) (number : ℕ) : Type 0 where
-  pub text : Text
-  pub given : one_of option rows ≡ Some text
-  pub number_is : IsTextOfNumber text number
+  pub given : first_of option rows ≡ Some (decimal number)
   pub some : 0 < number
   pub few : number ≤ greatest
 
@@ -95,7 +89,12 @@ AskCheck words sessions = Ask words (request.Check sessions)
 abbrev pub AskHelp : List Text → Type 0
 AskHelp words = IsAmong DisplayHelp (faults_of words)
 
--- the words ask for no command, and not for help alone
+-- the words ask for the version
+abbrev pub AskVersion : List Text → Type 0
+AskVersion words = IsAmong DisplayVersion (faults_of words)
+
+-- the words ask for no command, and not for help or the version alone
 pub record AskNothing (words : List Text) : Type 0 where
   pub no_request : (asked : Request) → ¬ Ask words asked
   pub no_help : ¬ (faults_of words ≡ DisplayHelp ∷ [])
+  pub no_version : ¬ (faults_of words ≡ DisplayVersion ∷ [])

@@ -9,7 +9,7 @@ use Rattle.glm.specs.declared.replaying.ToolFault.TheVariants as tool
 use Rattle.glm.specs.declared.outcomes.Outcome.{Outcome}
 use Rattle.glm.specs.declared.outcomes.Outcome.TheVariants as outcome
 use Rattle.glm.specs.declared.outcomes.TheConstants.{DONE, USAGE, ILLEGAL, NO_MEMORY, DEVICE}
-use Rattle.glm.specs.CommandLine.{AskReplay, AskRun, AskCheck, AskHelp, AskNothing}
+use Rattle.glm.specs.CommandLine.{AskReplay, AskRun, AskCheck, AskHelp, AskVersion, AskNothing}
 use Rattle.glm.specs.Replays.{Replays}
 use Rattle.glm.specs.Runs.{Runs}
 use Rattle.glm.specs.Statuses.{status_for}
@@ -26,6 +26,8 @@ status_of_outcome (outcome.Check (Ok (verdict.Illegal place))) = ILLEGAL
 status_of_outcome (outcome.Check (Err fault)) = status_for fault
 status_of_outcome outcome.HelpShown = DONE
 status_of_outcome outcome.HelpFailed = DEVICE
+status_of_outcome outcome.VersionShown = DONE
+status_of_outcome outcome.VersionFailed = DEVICE
 status_of_outcome outcome.Misused = USAGE
 status_of_outcome outcome.OutOfMemory = NO_MEMORY
 
@@ -67,6 +69,10 @@ pub record HasAnsweredCheck (words : List Text) (input old new : Option (List �
   pub told : IfOk answer (λ found. Appends old new (text_of_verdict found))
   pub checks : (bytes : List ℕ) → input ≡ Some bytes → TellsVerdict sessions bytes answer
 
+-- what is printed of the version: the project's, and the kit and the logic that it was proved with
+abbrev pub text_of_version : List ℕ
+text_of_version = codes "glm 0.7.0\nproved with rattle-kit-13b, logic dac8208d650f15bf\n"
+
 -- what was done where a run of the program comes to this
 abbrev pub HasDone : List Text → Option (List ℕ) → Option (List ℕ) → Option (List ℕ) → Outcome → Type 0
 HasDone words input old new (outcome.Replay answer) = HasAnswered words input old new answer
@@ -74,5 +80,7 @@ HasDone words input old new (outcome.Run answer) = HasAnsweredRun words input ol
 HasDone words input old new (outcome.Check answer) = HasAnsweredCheck words input old new answer
 HasDone words input old new outcome.HelpShown = AskHelp words
 HasDone words input old new outcome.HelpFailed = AskHelp words
+HasDone words input old new outcome.VersionShown = AskVersion words × Appends old new text_of_version
+HasDone words input old new outcome.VersionFailed = AskVersion words
 HasDone words input old new outcome.Misused = AskNothing words × Keeps old new
 HasDone words input old new outcome.OutOfMemory = Keeps old new

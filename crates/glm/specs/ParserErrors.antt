@@ -1,10 +1,11 @@
 -- What an error of the parser comes to; only private parts of the command line speak of it to one another.
 use Rattle.std.specs.Prelude.{◌≡◌, ◌≢◌, ℕ, List, Option}
-use Rattle.std.specs.Io.KnownBytes.{Keeps}
+use Rattle.std.specs.Io.KnownBytes.{Keeps, Appends}
 use Rattle.clap.specs.declared.error.kind.ErrorKind.{ErrorKind}
 use Rattle.clap.specs.declared.error.kind.ErrorKind.TheVariants as error
 use Rattle.glm.specs.declared.outcomes.Outcome.{Outcome}
 use Rattle.glm.specs.declared.outcomes.Outcome.TheVariants as outcome
+use Rattle.glm.specs.Outcomes.{text_of_version}
 
 -- what an error of this kind comes to, where the writer held the old bytes before and the new ones after
 abbrev pub IsOutcomeOfError : ErrorKind → Option (List ℕ) → Option (List ℕ) → Outcome → Type 0
@@ -13,5 +14,8 @@ IsOutcomeOfError kind old new (outcome.Run answer) = ⊥
 IsOutcomeOfError kind old new (outcome.Check answer) = ⊥
 IsOutcomeOfError kind old new outcome.HelpShown = kind ≡ error.DisplayHelp
 IsOutcomeOfError kind old new outcome.HelpFailed = kind ≡ error.DisplayHelp
-IsOutcomeOfError kind old new outcome.Misused = (kind ≢ error.DisplayHelp) × (kind ≢ error.OutOfMemory) × Keeps old new
+IsOutcomeOfError kind old new outcome.VersionShown = (kind ≡ error.DisplayVersion) × Appends old new text_of_version
+IsOutcomeOfError kind old new outcome.VersionFailed = kind ≡ error.DisplayVersion
+IsOutcomeOfError kind old new outcome.Misused =
+    (kind ≢ error.DisplayHelp) × (kind ≢ error.DisplayVersion) × (kind ≢ error.OutOfMemory) × Keeps old new
 IsOutcomeOfError kind old new outcome.OutOfMemory = (kind ≡ error.OutOfMemory) × Keeps old new

@@ -17,6 +17,7 @@ use crate::outcomes::Outcome;
 use crate::replaying::{ToolFault, replay};
 use crate::requests::{Request, request_of};
 use crate::running::run;
+use crate::texts::{NOT_A_NUMERAL, VERSION_TEXT};
 use clap::Error;
 use clap::error::ErrorKind;
 use std::alloc::{AllocError, Global};
@@ -24,7 +25,7 @@ use std::io::{Read, Write};
 use std::sync::Wait;
 use std::thread::Threads;
 
-// What the parser's error comes to: help on the output, or a fault of the words told on `errors`.
+// What the parser's error comes to: help or the version on the output, or a fault of the words told on `errors`.
 fn outcome_of_error<W: Write, E: Write>(error: &Error, output: &mut W, errors: &mut E) -> Outcome
     ensures { IsOutcomeOfError (kind_of error.now) (W.contents output.old) (W.contents output.new) result }
 {
@@ -32,6 +33,10 @@ fn outcome_of_error<W: Write, E: Write>(error: &Error, output: &mut W, errors: &
         ErrorKind::DisplayHelp => match write!(output, "{error}") {
             Ok(()) => Outcome::HelpShown,
             Err(_) => Outcome::HelpFailed,
+        },
+        ErrorKind::DisplayVersion => match output.write_all(VERSION_TEXT.as_bytes()) {
+            Ok(()) => Outcome::VersionShown,
+            Err(_) => Outcome::VersionFailed,
         },
         ErrorKind::OutOfMemory => Outcome::OutOfMemory,
         _ => {
@@ -76,13 +81,13 @@ fn tell_verdict<R: Read + Drop, W: Write>(
 
 // Does what the words ask for.
 fn outcome_of<'a, T: Threads + Wait, R: Read + Drop, W: Write, E: Write, G: Gate>(
+    words: &'a [&'a str],
     rt: &T,
     alloc: Global,
-    words: &'a [&'a str],
+    gate: &G,
     input: R,
     output: &mut W,
     errors: &mut E,
-    gate: &G,
 ) -> Outcome
     ensures { HasDone (texts words.entry.now) (R.remaining input) (W.contents output.old) (W.contents output.new) result }
 {
@@ -97,14 +102,17 @@ fn outcome_of<'a, T: Threads + Wait, R: Read + Drop, W: Write, E: Write, G: Gate
         Ok(Some(Request::Check(sessions))) => {
             Outcome::Check(tell_verdict(alloc, input, output, sessions))
         }
-        Ok(None) => Outcome::Misused,
+        Ok(None) => {
+            let _told = errors.write_all(NOT_A_NUMERAL.as_bytes());
+            Outcome::Misused
+        }
         Err(error) => outcome_of_error(&error, output, errors),
     }
 }
 
 /// The whole program but for its streams: the words are those of the command line, the program's own
-/// name first, and the gate is the one that the threads of a `run` enter. Answers the exit status: 0 done or
-/// help asked for, 1 a row refused, 2 usage, 3 a history that isn't legal, 4 no memory, 5 a device failed, 6 a
+/// name first, and the gate is the one that the threads of a `run` enter. Answers the exit status: 0 done, or
+/// help or the version asked for, 1 a row refused, 2 usage, 3 a history that isn't legal, 4 no memory, 5 a device failed, 6 a
 /// gate stayed shut or tries ran out. A fault is told in one line on `errors`; a failure of `errors` changes
 /// no status. Nothing is written to `output` unless the status is 0, or 3 for the verdict, or 5 by a writer
 /// that failed.
@@ -123,7 +131,7 @@ pub fn program<'a, T: Threads + Wait, R: Read + Drop, W: Write, E: Write, G: Gat
     ensures status { IsStatus result }
     ensures silent { result ≢ DONE → result ≢ ILLEGAL → result ≢ DEVICE → Keeps (W.contents output.old) (W.contents output.new) }
 {
-    let outcome = outcome_of(rt, alloc, words, input, output, errors, gate);
+    let outcome = outcome_of(words, rt, alloc, gate, input, output, errors);
     outcome.tell(errors);
     outcome.status()
 }

@@ -6,24 +6,25 @@ ghost use Rattle.clap.specs.Walk.{Text};
 ghost use Rattle.lock_rules.specs.declared.calls.TheConstants.{MAX_SESSIONS};
 ghost use Rattle.glm.specs.declared.requests.Request.{Request as RequestValue};
 ghost use Rattle.glm.specs.declared.requests.TheConstants.{MAX_TURNS};
-ghost use Rattle.glm.specs.CommandLine.{Ask, AskCheck, AskHelp, AskNothing, AskReplay, AskRun};
+ghost use Rattle.glm.specs.CommandLine.{Ask, AskCheck, AskHelp, AskNothing, AskReplay, AskRun, AskVersion};
 
-/// Words ask for one command at most, with its numbers, and those that ask for one don't ask for help.
+/// Words ask for one command at most, with its numbers, and those that ask for one don't ask for help or the version.
 pub fn words_ask_for_one_thing()
     ensures one { (words : List Text) (r q : RequestValue) → Ask words r → Ask words q → r ≡ q }
     ensures sessions { (words : List Text) (m n : ℕ) → AskReplay words m → AskReplay words n → m ≡ n }
     ensures command_or_help { (words : List Text) (r : RequestValue) → Ask words r → ¬ AskHelp words }
+    ensures command_or_version { (words : List Text) (r : RequestValue) → Ask words r → ¬ AskVersion words }
     ensures replay_or_help { (words : List Text) (n : ℕ) → AskReplay words n → ¬ AskHelp words }
 {}
 
 /// Words, with what they ask for: a number is the greatest that there can be where it is left out, and it is refused
-/// below 1 and above that.
+/// below 1 and above that, and where a plus or a zero stands before it.
 pub fn words_ask_as_documented()
     ensures left_out { AskReplay (codes "glm" ∷ codes "replay" ∷ []) MAX_SESSIONS }
     ensures apart { AskReplay (codes "glm" ∷ codes "replay" ∷ codes "--sessions" ∷ codes "7" ∷ []) 7 }
     ensures attached { AskReplay (codes "glm" ∷ codes "replay" ∷ codes "--sessions=256" ∷ []) 256 }
-    ensures plus { AskReplay (codes "glm" ∷ codes "replay" ∷ codes "--sessions=+7" ∷ []) 7 }
-    ensures zeros { AskReplay (codes "glm" ∷ codes "replay" ∷ codes "--sessions=007" ∷ []) 7 }
+    ensures plus { AskNothing (codes "glm" ∷ codes "replay" ∷ codes "--sessions=+7" ∷ []) }
+    ensures zeros { AskNothing (codes "glm" ∷ codes "replay" ∷ codes "--sessions=007" ∷ []) }
     ensures none { AskNothing (codes "glm" ∷ codes "replay" ∷ codes "--sessions" ∷ codes "0" ∷ []) }
     ensures too_many { AskNothing (codes "glm" ∷ codes "replay" ∷ codes "--sessions" ∷ codes "257" ∷ []) }
     ensures no_command { AskNothing (codes "glm" ∷ []) }
@@ -31,6 +32,8 @@ pub fn words_ask_as_documented()
     ensures help { AskHelp (codes "glm" ∷ codes "--help" ∷ []) }
     ensures help_command { AskHelp (codes "glm" ∷ codes "help" ∷ []) }
     ensures replay_help { AskHelp (codes "glm" ∷ codes "replay" ∷ codes "--help" ∷ []) }
+    ensures version { AskVersion (codes "glm" ∷ codes "--version" ∷ []) }
+    ensures version_short { AskVersion (codes "glm" ∷ codes "-V" ∷ []) }
     ensures run { AskRun (codes "glm" ∷ codes "run" ∷ []) MAX_SESSIONS MAX_TURNS }
     ensures run_turns { AskRun (codes "glm" ∷ codes "run" ∷ codes "--turns" ∷ codes "9" ∷ codes "--sessions=2" ∷ []) 2 9 }
     ensures no_turns { AskNothing (codes "glm" ∷ codes "run" ∷ codes "--turns=0" ∷ []) }

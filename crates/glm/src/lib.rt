@@ -9,6 +9,7 @@ mod outcomes;
 mod replaying;
 mod requests;
 mod running;
+mod texts;
 mod threads;
 mod workers;
 
@@ -19,3 +20,4 @@ pub use outcomes::{DEVICE, DONE, ILLEGAL, NO_MEMORY, REFUSED, STOPPED, USAGE};
 pub use replaying::{ToolFault, replay};
 pub use requests::MAX_TURNS;
 pub use running::run;
+pub use texts::{VERSION, VERSION_TEXT};

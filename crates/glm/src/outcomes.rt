@@ -9,7 +9,7 @@ use crate::replaying::ToolFault;
 use lock_trace::TraceKind;
 use std::io::Write;
 
-/// The status where all was done, or help was asked for.
+/// The status where all was done, or help or the version was asked for.
 pub const DONE: u8 = 0;
 
 /// The status where a row of the input was refused.
@@ -24,7 +24,7 @@ pub const ILLEGAL: u8 = 3;
 /// The status where memory was refused.
 pub const NO_MEMORY: u8 = 4;
 
-/// The status where a reader or a writer failed.
+/// The status where a reader or a writer failed, or a thread couldn't be started.
 pub const DEVICE: u8 = 5;
 
 /// The status where a gate stayed shut, or tries ran out.
@@ -43,7 +43,11 @@ pub(crate) enum Outcome {
     HelpShown,
     /// Help was asked for, and the writer failed.
     HelpFailed,
-    /// The words of the command line are off, which the parser has told.
+    /// The version was asked for, and was written.
+    VersionShown,
+    /// The version was asked for, and the writer failed.
+    VersionFailed,
+    /// The words of the command line are off, which has been told.
     Misused,
     /// Memory was refused before the words were read.
     OutOfMemory,
@@ -80,28 +84,29 @@ impl Outcome {
         ensures { result ≡ status_of_outcome self.now }
     {
         match self {
-            Outcome::Replay(Ok(_)) | Outcome::Run(Ok(_)) | Outcome::HelpShown => DONE,
+            Outcome::Replay(Ok(_)) | Outcome::Run(Ok(_)) => DONE,
+            Outcome::HelpShown | Outcome::VersionShown => DONE,
             Outcome::Check(Ok(Verdict::Legal(_))) => DONE,
             Outcome::Check(Ok(Verdict::Illegal(_))) => ILLEGAL,
             Outcome::Replay(Err(fault)) | Outcome::Run(Err(fault)) | Outcome::Check(Err(fault)) => {
                 status_of_fault(fault)
             }
-            Outcome::HelpFailed => DEVICE,
+            Outcome::HelpFailed | Outcome::VersionFailed => DEVICE,
             Outcome::Misused => USAGE,
             Outcome::OutOfMemory => NO_MEMORY,
         }
     }
 
-    // Tells what failed, in one line. What is wrong with the words was told where they were parsed.
+    // Tells what failed, in one line. What is wrong with the words was told where they were read.
     pub(crate) fn tell<E: Write>(&self, errors: &mut E) {
         match self {
             Outcome::Replay(Err(fault)) | Outcome::Run(Err(fault)) | Outcome::Check(Err(fault)) => {
                 tell_fault(fault, errors)
             }
-            Outcome::HelpFailed => tell_fault(&ToolFault::Device, errors),
+            Outcome::HelpFailed | Outcome::VersionFailed => tell_fault(&ToolFault::Device, errors),
             Outcome::OutOfMemory => tell_fault(&ToolFault::NoMemory, errors),
             Outcome::Replay(Ok(_)) | Outcome::Run(Ok(_)) | Outcome::Check(Ok(_)) => {}
-            Outcome::HelpShown | Outcome::Misused => {}
+            Outcome::HelpShown | Outcome::VersionShown | Outcome::Misused => {}
         }
     }
 }

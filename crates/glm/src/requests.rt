@@ -1,18 +1,20 @@
 //! What the words of the command line ask for.
 
-ghost use Rattle.std.specs.Prelude.{◌≡◌, ◌<◌, ◌≤◌, ℕ, false, List, Some, None, codes, IfOk, IfSome, IfNone};
+ghost use Rattle.std.specs.Prelude.{◌≡◌, ◌<◌, ◌≤◌, ℕ, false, List, Some, None, codes, option_map, IfOk, IfSome, IfNone};
 ghost use Rattle.clap.specs.Kinds.{FailsBy};
 ghost use Rattle.clap.specs.Matches.{found_of};
 ghost use Rattle.clap.specs.Simple.{app_of, subcommand_of, subcommand_rows_of, with_rule};
 ghost use Rattle.clap.specs.Values.{kind_of};
-ghost use Rattle.clap.specs.Walk.{one_of, rows_of, rule_of, texts};
+ghost use Rattle.clap.specs.Walk.{first_of, rows_of, rule_of, texts};
 ghost use Rattle.clap.specs.declared.builder.command.Command.TheViews.{out-Command as fields_of};
 ghost use Rattle.lock_rules.specs.declared.calls.TheConstants.{MAX_SESSIONS};
 ghost use Rattle.glm.specs.declared.requests.Request.{Request as RequestValue};
-ghost use Rattle.glm.specs.CommandLine.{Ask, Gives, IsRequest, IsTextOfNumber, command_for_sessions, faults_of, glm_command, sessions_option, turns_option};
+ghost use Rattle.glm.specs.CommandLine.{Ask, Gives, IsRequest, command_for_sessions, faults_of, glm_command, sessions_option, turns_option};
 
+use crate::texts::{ABOUT_CHECK, ABOUT_REPLAY, ABOUT_RUN, STATUSES, VERSION};
 use clap::{Arg, ArgMatches, Command, Error, value_parser};
 use lock_rules::MAX_SESSIONS;
+use lock_tree::parse_numeral;
 use std::alloc::{AllocError, Global};
 
 /// The greatest number of tries for one answer that `--turns` takes.
@@ -55,13 +57,20 @@ fn turns_arg<'a>(alloc: Global) -> Arg<'a>
         .default_value("1000000000")
 }
 
-// A command with the option of all.
-fn command_of<'a>(alloc: Global, name: &'a str, about: &'a str) -> Result<Command<'a>, AllocError>
+// A command with the option of all: what its own help says at its top, after what the list of commands says of it.
+fn command_of<'a>(
+    alloc: Global,
+    name: &'a str,
+    about: &'a str,
+    long_about: &'a str,
+) -> Result<Command<'a>, AllocError>
     ensures app { IfOk result (λ command. app_of command ≡ command_for_sessions name.now) }
     ensures own { IfOk result (λ command. (fields_of command).has_globals ≡ false) }
 {
     Command::new(alloc, name)
         .about(about)
+        .long_about(long_about)
+        .after_help(STATUSES)
         .arg(sessions_arg(alloc))
 }
 
@@ -74,6 +83,7 @@ fn run_command<'a>(alloc: Global) -> Result<Command<'a>, AllocError>
         alloc,
         "run",
         "Performs a trace from standard input on threads, one for each session, and writes the history",
+        ABOUT_RUN,
     )?;
     run.arg(turns_arg(alloc))
 }
@@ -86,15 +96,19 @@ fn commands<'a>(alloc: Global) -> Result<Command<'a>, AllocError>
         alloc,
         "replay",
         "Serves a trace from standard input on one thread and writes its history",
+        ABOUT_REPLAY,
     )?;
     let run = run_command(alloc)?;
     let check = command_of(
         alloc,
         "check",
         "Says whether a history from standard input is legal",
+        ABOUT_CHECK,
     )?;
     Command::new(alloc, "glm")
         .about("Granular locks for databases")
+        .version(VERSION)
+        .after_help(STATUSES)
         .subcommand_required(true)
         .subcommand(replay)?
         .subcommand(run)?
@@ -117,25 +131,24 @@ fn command_in<'m, 'a>(matches: &'m ArgMatches<'a>) -> Option<(&'a str, &'m ArgMa
     matches.subcommand()
 }
 
-// The number that was found for an option.
-fn number_read(given: &ArgMatches, option: &str) -> Option<u32>
-    ensures some { IfSome result (λ number. (text : List ℕ)
-        × (one_of option.now (rows_of (found_of given.now)) ≡ Some text) × IsTextOfNumber text number) }
-    ensures none { IfNone result ((text : List ℕ) (number : ℕ) →
-        one_of option.now (rows_of (found_of given.now)) ≡ Some text → IsTextOfNumber text number → MAX_TURNS < number) }
+// The text that was found for an option.
+fn text_given<'a>(given: &ArgMatches<'a>, option: &str) -> Option<&'a str>
+    ensures { option_map (λ text. text.now) result ≡ first_of option.now (rows_of (found_of given.now)) }
 {
-    given.get_one::<u32>(option)
+    given.get_str(option)
 }
 
-// The same, if it is one that there may be.
+// The number that was found for an option, if it is written as numbers are here, and one that there may be.
 fn number_given(given: &ArgMatches, option: &str, greatest: u32) -> Option<u32>
-    requires { greatest ≤ MAX_TURNS }
     ensures some { IfSome result (Gives option.now greatest (rows_of (found_of given.now))) }
     ensures none { IfNone result ((number : ℕ) → ¬ (Gives option.now greatest (rows_of (found_of given.now)) number)) }
 {
-    match number_read(given, option) {
+    let Some(text) = text_given(given, option) else {
+        return None;
+    };
+    match parse_numeral(text.as_bytes(), u64::from(greatest)) {
         // the parser of the option has tested the range already
-        Some(number) if 0 < number && number <= greatest => Some(number),
+        Ok(number) if 0 < number => Some(number as u32),
         _ => None,
     }
 }
@@ -187,7 +200,7 @@ fn request_in(matches: &ArgMatches) -> Option<Request>
     }
 }
 
-// What the words ask for, and nothing where they ask for nothing. Help is one of the parser's errors.
+// What the words ask for, and nothing where they ask for nothing. Help and the version are among the parser's errors.
 #[tactic(auto, using(crate::proofs::Asked::words_ask, crate::proofs::Asked::words_ask_nothing))]
 pub(crate) fn request_of<'a>(alloc: Global, words: &'a [&'a str]) -> Result<Option<Request>, Error>
     ensures fails { FailsBy (faults_of (texts words.entry.now)) result }

@@ -16,7 +16,7 @@ use std::{hint, thread};
 /// Why a thread stopped before its last row. Where threads stop for several of these, the first is told.
 #[derive(Clone, Copy, Debug, Drop, PartialEq, Eq)]
 pub(crate) enum Stop {
-    /// Memory was refused to a pass of its own.
+    /// Memory was refused: a pass of its own was starved, whether for this thread's call or for another's that it served.
     NoMemory,
     /// It couldn't be started.
     Device,

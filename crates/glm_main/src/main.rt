@@ -1,15 +1,18 @@
 //! The program `glm`: the words of the command line, the standard streams and the exit status, and nothing more.
 #![tactic(auto)]
 
-use glm::{NO_MEMORY, OpenGate, program};
-use std::io::{Read, Write};
+mod awaited;
+
+use crate::awaited::Awaited;
+use glm::{NO_MEMORY, OpenGate, USAGE, program};
+use std::io::{ErrorKind, IsTerminal, Read, Write};
 use std::process::ExitCode;
 use std::rt::Runtime;
 use std::sync::Wait;
 use std::thread::Threads;
 use std::{env, io};
 
-// The status of the program. An error is one of reading the words, for want of memory.
+// The status of the program. An error is one of reading the words: memory was refused, or one isn't text.
 fn status<R: Runtime + AllocGlobal + Threads + Wait, I: Read + Drop, O: Write, E: Write>(
     rt: &R,
     input: I,
@@ -28,8 +31,16 @@ fn status<R: Runtime + AllocGlobal + Threads + Wait, I: Read + Drop, O: Write, E
 fn main(rt: HostRuntime) -> ExitCode {
     let mut output = rt.stdout();
     let mut errors = rt.stderr();
-    match status(&rt, rt.stdin(), &mut output, &mut errors) {
+    let is_terminal = rt.stdin().is_terminal();
+    let input = Awaited::new(rt.stdin(), rt.stderr(), is_terminal);
+    match status(&rt, input, &mut output, &mut errors) {
         Ok(status) => ExitCode::from(status),
+        Err(error) if error.kind() == ErrorKind::InvalidData => {
+            let _told = eprintln!(rt;
+                "error: a word of the command line isn't UTF-8\n\nFor more information, try '--help'."
+            );
+            ExitCode::from(USAGE)
+        }
         Err(_) => {
             let _told = eprintln!(rt; "glm: out of memory");
             ExitCode::from(NO_MEMORY)

@@ -1,54 +1,73 @@
-use Rattle.std.proofs.Common.{rules, refl, sym, inl, codes, ◌≡◌, ◌≢◌, ◌∙◌, List, [], ◌∷◌}
+use Rattle.std.proofs.Common.{rules, arith, refl, subst, sym, inl, codes, ◌≡◌, ◌≢◌, ◌∙◌, List, [], ◌∷◌, Option, Some}
+use Rattle.std.specs.Prelude.{Err}
 use Rattle.clap.specs.Kinds.{Kinds}
-use Rattle.clap.specs.Walk.{Text}
+use Rattle.clap.specs.Simple.{subcommand_of}
+use Rattle.clap.specs.Walk.{Row, Text}
 use Rattle.clap.specs.declared.error.kind.ErrorKind.{ErrorKind}
-use Rattle.clap.specs.declared.error.kind.ErrorKind.TheVariants.{DisplayHelp, MissingSubcommand, UnknownArgument, InvalidSubcommand, ValueValidation}
+use Rattle.clap.specs.declared.error.kind.ErrorKind.TheVariants.{DisplayHelp, DisplayVersion, MissingSubcommand, UnknownArgument, InvalidSubcommand, ValueValidation}
 use Rattle.clap.proofs.OnLiterals.{clap_on_literals}
-use Rattle.glm.specs.CommandLine.{AskNothing, faults_of}
+use Rattle.lock_tree.specs.Numerals.{reading_of_numeral}
+use Rattle.lock_tree.specs.declared.numeral.NumeralFault.{NumeralFault}
+use Rattle.lock_tree.specs.declared.numeral.NumeralFault.TheVariants.{LeadingZero, NotANumber}
+use Rattle.lock_rules.specs.declared.calls.TheConstants.{MAX_SESSIONS}
+use Rattle.glm.specs.CommandLine.{AskNothing, IsRequest, faults_of, glm_command}
+use Rattle.glm.specs.declared.requests.TheConstants.{MAX_TURNS}
+use Rattle.glm.proofs.Asked.{no_such_sessions, sessions_text}
+use Rattle.glm.proofs.Options.{numeral_given}
 use Rattle.glm.proofs.laws.words_ask_as_documented.Goals as goal
 
--- words with a fault that isn't help alone ask for nothing
-faulty : (words : List Text) (kind : ErrorKind) (kinds : Kinds) → faults_of words ≡ kind ∷ kinds → kind ≢ DisplayHelp → AskNothing words
-faulty words kind kinds is other = record {
+-- words with a fault that isn't help or the version ask for nothing
+faulty : (words : List Text) (kind : ErrorKind) (kinds : Kinds) → faults_of words ≡ kind ∷ kinds → kind ≢ DisplayHelp → kind ≢ DisplayVersion → AskNothing words
+faulty words kind kinds is other another = record {
   no_request = λ asked ask. let bad : kind ∷ kinds ≡ [] = sym is ∙ ask.whole in cc;
   no_help = λ help. let bad : kind ∷ kinds ≡ DisplayHelp ∷ [] = sym is ∙ help in other cc;
+  no_version = λ version. let bad : kind ∷ kinds ≡ DisplayVersion ∷ [] = sym is ∙ version in another cc;
+}
+
+-- so do words without a fault whose number of sessions isn't written as numbers are
+unnumbered : (words : List Text) (found : Option (Text × List Row)) (text : Text) (fault : NumeralFault) → faults_of words ≡ []
+    → subcommand_of glm_command words ≡ found → sessions_text found ≡ Some text → reading_of_numeral MAX_SESSIONS text ≡ Err fault → AskNothing words
+unnumbered words found text fault whole is given wrong = record {
+  no_request = λ asked ask. no_such_sessions found text fault given wrong asked (subst (λ (f : Option (Text × List Row)). IsRequest f asked) is ask.request_is);
+  no_help = λ help. let bad : [] ≡ DisplayHelp ∷ [] = sym whole ∙ help in cc;
+  no_version = λ version. let bad : [] ≡ DisplayVersion ∷ [] = sym whole ∙ version in cc;
 }
 
 pub returns-clause-left_out : goal.returns-clause-left_out
 unfolding clap_on_literals
-returns-clause-left_out c = record { whole = refl; request_is = (refl, record { text = codes "256"; given = refl; number_is = record { numeral = search rules; value = refl }; some = search rules; few = search rules }) }
+returns-clause-left_out c = record { whole = refl; request_is = (refl, numeral_given (codes "sessions") (codes "256") MAX_SESSIONS 256 _ (omega arith) refl refl (search rules)) }
 
 pub returns-clause-apart : goal.returns-clause-apart
 unfolding clap_on_literals
-returns-clause-apart c = record { whole = refl; request_is = (refl, record { text = codes "7"; given = refl; number_is = record { numeral = search rules; value = refl }; some = search rules; few = search rules }) }
+returns-clause-apart c = record { whole = refl; request_is = (refl, numeral_given (codes "sessions") (codes "7") MAX_SESSIONS 7 _ (omega arith) refl refl (search rules)) }
 
 pub returns-clause-attached : goal.returns-clause-attached
 unfolding clap_on_literals
-returns-clause-attached c = record { whole = refl; request_is = (refl, record { text = codes "256"; given = refl; number_is = record { numeral = search rules; value = refl }; some = search rules; few = search rules }) }
+returns-clause-attached c = record { whole = refl; request_is = (refl, numeral_given (codes "sessions") (codes "256") MAX_SESSIONS 256 _ (omega arith) refl refl (search rules)) }
 
 pub returns-clause-plus : goal.returns-clause-plus
 unfolding clap_on_literals
-returns-clause-plus c = record { whole = refl; request_is = (refl, record { text = codes "+7"; given = refl; number_is = record { numeral = search rules; value = refl }; some = search rules; few = search rules }) }
+returns-clause-plus c = unnumbered _ _ (codes "+7") NotANumber refl refl refl refl
 
 pub returns-clause-zeros : goal.returns-clause-zeros
 unfolding clap_on_literals
-returns-clause-zeros c = record { whole = refl; request_is = (refl, record { text = codes "007"; given = refl; number_is = record { numeral = search rules; value = refl }; some = search rules; few = search rules }) }
+returns-clause-zeros c = unnumbered _ _ (codes "007") LeadingZero refl refl refl refl
 
 pub returns-clause-none : goal.returns-clause-none
 unfolding clap_on_literals
-returns-clause-none c = faulty _ ValueValidation [] refl (search rules)
+returns-clause-none c = faulty _ ValueValidation [] refl (search rules) (search rules)
 
 pub returns-clause-too_many : goal.returns-clause-too_many
 unfolding clap_on_literals
-returns-clause-too_many c = faulty _ ValueValidation [] refl (search rules)
+returns-clause-too_many c = faulty _ ValueValidation [] refl (search rules) (search rules)
 
 pub returns-clause-no_command : goal.returns-clause-no_command
 unfolding clap_on_literals
-returns-clause-no_command c = faulty _ MissingSubcommand [] refl (search rules)
+returns-clause-no_command c = faulty _ MissingSubcommand [] refl (search rules) (search rules)
 
 pub returns-clause-unknown : goal.returns-clause-unknown
 unfolding clap_on_literals
-returns-clause-unknown c = faulty _ UnknownArgument (InvalidSubcommand ∷ []) refl (search rules)
+returns-clause-unknown c = faulty _ UnknownArgument (InvalidSubcommand ∷ []) refl (search rules) (search rules)
 
 pub returns-clause-help : goal.returns-clause-help
 unfolding clap_on_literals
@@ -64,28 +83,36 @@ returns-clause-replay_help c = inl refl
 
 pub returns-clause-run : goal.returns-clause-run
 unfolding clap_on_literals
-returns-clause-run c = record { whole = refl; request_is = (refl, record { text = codes "256"; given = refl; number_is = record { numeral = search rules; value = refl }; some = search rules; few = search rules }, record { text = codes "1000000000"; given = refl; number_is = record { numeral = search rules; value = refl }; some = search rules; few = search rules }) }
+returns-clause-run c = record { whole = refl; request_is = (refl, numeral_given (codes "sessions") (codes "256") MAX_SESSIONS 256 _ (omega arith) refl refl (search rules), numeral_given (codes "turns") (codes "1000000000") MAX_TURNS 1000000000 _ (omega arith) refl refl (search rules)) }
 
 pub returns-clause-run_turns : goal.returns-clause-run_turns
 unfolding clap_on_literals
-returns-clause-run_turns c = record { whole = refl; request_is = (refl, record { text = codes "2"; given = refl; number_is = record { numeral = search rules; value = refl }; some = search rules; few = search rules }, record { text = codes "9"; given = refl; number_is = record { numeral = search rules; value = refl }; some = search rules; few = search rules }) }
+returns-clause-run_turns c = record { whole = refl; request_is = (refl, numeral_given (codes "sessions") (codes "2") MAX_SESSIONS 2 _ (omega arith) refl refl (search rules), numeral_given (codes "turns") (codes "9") MAX_TURNS 9 _ (omega arith) refl refl (search rules)) }
 
 pub returns-clause-no_turns : goal.returns-clause-no_turns
 unfolding clap_on_literals
-returns-clause-no_turns c = faulty _ ValueValidation [] refl (search rules)
+returns-clause-no_turns c = faulty _ ValueValidation [] refl (search rules) (search rules)
 
 pub returns-clause-too_many_turns : goal.returns-clause-too_many_turns
 unfolding clap_on_literals
-returns-clause-too_many_turns c = faulty _ ValueValidation [] refl (search rules)
+returns-clause-too_many_turns c = faulty _ ValueValidation [] refl (search rules) (search rules)
 
 pub returns-clause-replay_turns : goal.returns-clause-replay_turns
 unfolding clap_on_literals
-returns-clause-replay_turns c = faulty _ UnknownArgument [] refl (search rules)
+returns-clause-replay_turns c = faulty _ UnknownArgument [] refl (search rules) (search rules)
 
 pub returns-clause-check : goal.returns-clause-check
 unfolding clap_on_literals
-returns-clause-check c = record { whole = refl; request_is = (refl, record { text = codes "256"; given = refl; number_is = record { numeral = search rules; value = refl }; some = search rules; few = search rules }) }
+returns-clause-check c = record { whole = refl; request_is = (refl, numeral_given (codes "sessions") (codes "256") MAX_SESSIONS 256 _ (omega arith) refl refl (search rules)) }
 
 pub returns-clause-check_sessions : goal.returns-clause-check_sessions
 unfolding clap_on_literals
-returns-clause-check_sessions c = record { whole = refl; request_is = (refl, record { text = codes "8"; given = refl; number_is = record { numeral = search rules; value = refl }; some = search rules; few = search rules }) }
+returns-clause-check_sessions c = record { whole = refl; request_is = (refl, numeral_given (codes "sessions") (codes "8") MAX_SESSIONS 8 _ (omega arith) refl refl (search rules)) }
+
+pub returns-clause-version : goal.returns-clause-version
+unfolding clap_on_literals
+returns-clause-version c = inl refl
+
+pub returns-clause-version_short : goal.returns-clause-version_short
+unfolding clap_on_literals
+returns-clause-version_short c = inl refl

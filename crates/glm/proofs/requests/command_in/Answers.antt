@@ -1,4 +1,3 @@
-use Rattle.std.proofs.Common.{rules}
 use Rattle.glm.proofs.Options.{command-found}
 use Rattle.glm.proofs.requests.command_in.Goals as goal
 

@@ -1,11 +1,11 @@
-use Rattle.std.proofs.Common.{rules, ap, ap₂, ◌≡◌, ◌∙◌, codes, true}
+use Rattle.std.proofs.Common.{ap, ap₂, ◌≡◌, ◌∙◌, codes, true}
 use Rattle.std.proofs.lemmas.Result.{IfOk-weaker}
 use Rattle.clap.specs.Simple.{App, Shape, app_of, app_of_fields, new_app, on_top, with_rule, with_subcommand}
 use Rattle.glm.specs.CommandLine.{command_for_sessions, turns_option}
 use Rattle.glm.proofs.requests.commands.Goals as goal
 
 abbrev wants_command : App → App
-wants_command = on_top (λ s. record s { subcommand_required = true })
+wants_command = on_top (λ s. record s { subcommand_required = true; has_version = true })
 
 abbrev top_of : App → Shape
 top_of a = a.top
@@ -13,7 +13,8 @@ top_of a = a.top
 pub returns : goal.returns
 returns c =
     let top : app_of c.subcommand_required.result ≡ wants_command (new_app (codes "glm")) =
-    ap app_of_fields c.subcommand_required.ensures ∙ ap wants_command (ap app_of_fields c.about.ensures ∙ c.new.ensures.app) in
+    ap app_of_fields c.subcommand_required.ensures ∙ ap (on_top (λ s. record s { subcommand_required = true })) (ap app_of_fields c.after_help.ensures
+    ∙ ap app_of_fields c.version.ensures ∙ ap (on_top (λ s. record s { has_version = true })) (ap app_of_fields c.about.ensures ∙ c.new.ensures.app)) in
     let one : app_of c.in_ok-subcommand.field-0 ≡ with_subcommand (wants_command (new_app (codes "glm"))) (command_for_sessions (codes "replay")).top =
     c.in_ok-subcommand.ensures.shape c.in_ok-replay.ensures.own ∙ ap₂ with_subcommand top (ap top_of c.in_ok-replay.ensures.app) in
     let two : app_of c.in_ok-subcommand-2.field-0 ≡ with_subcommand (with_subcommand (wants_command (new_app (codes "glm"))) (command_for_sessions (codes "replay")).top) (with_rule (command_for_sessions (codes "run")) turns_option).top =

@@ -1,4 +1,4 @@
-use Rattle.std.proofs.Common.{rules, subst, ◌≡◌, ◌≤◌, ◌+◌, ℕ, List, take, take_all}
+use Rattle.std.proofs.Common.{rules, subst, ◌≤◌, ◌+◌, ℕ, List, take, take_all}
 use Rattle.std.specs.List.{All}
 use Rattle.lock_trace.specs.declared.rows.TraceRow.{TraceRow}
 use Rattle.glm.proofs.Greatest.{rows_below, rows_within}

@@ -1,4 +1,4 @@
-use Rattle.std.proofs.Common.{◌≡◌, ◌++◌, map}
+use Rattle.std.proofs.Common.{◌≡◌}
 use Rattle.std.specs.List.{All}
 use Rattle.glm.specs.Workers.{IsStart, numbers_of, numbers_of_starts}
 use Rattle.glm.proofs.threads.begin_all.Given as goal

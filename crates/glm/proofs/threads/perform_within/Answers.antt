@@ -1,4 +1,4 @@
-use Rattle.std.proofs.Common.{rules, ap, ap₂, sym, ◌≡◌, ◌∙◌, ◌++◌, ◌∷◌, [], ℕ, List, subst}
+use Rattle.std.proofs.Common.{ap, ap₂, sym, ◌≡◌, ◌∙◌, ◌++◌, ◌∷◌, [], ℕ, List, subst}
 use Rattle.std.specs.List.{All}
 use Rattle.std.specs.Vec.Iter.{into_iter_items}
 use Rattle.std.proofs.lemmas.List.{map-append}

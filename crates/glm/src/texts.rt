@@ -1,0 +1,71 @@
+//! What the program says of itself: its version, and what its help says beside its commands and their options.
+
+/// The version of the project.
+pub const VERSION: &str = "0.7.0";
+
+/// What is printed of the version: the project's, and the kit and the logic that it was proved with.
+pub const VERSION_TEXT: &str = "glm 0.7.0\nproved with rattle-kit-13b, logic dac8208d650f15bf\n";
+
+pub(crate) const ABOUT_REPLAY: &str =
+    "Serves a trace from standard input on one thread, and writes its history to standard output.
+
+A row of a trace is session,op,resource,mode, one for each call. A resource is 1 to 4 numbers joined by '/', of a
+database, a file, a page and a record. A mode is IS, IX, S, SIX or X.
+
+  1,begin,,            opens a transaction of session 1
+  1,lock,1/2,S         asks for file 2 of database 1
+  1,convert,1/2,X      asks for more of what is held
+  1,poll,,             asks how a request that waits stands
+  1,release,1/2,       gives one lock back
+  1,commit,,           gives all back; so does abort
+
+The history has a row for each call: place,session,op,resource,mode,reply,value.
+
+  0,1,begin,,,began,1
+
+An example: glm replay < examples/queue.csv";
+
+pub(crate) const ABOUT_RUN: &str =
+    "Performs a trace from standard input on threads, one for each session that has a row, and writes the history that
+came about to standard output. The rows of a session are performed in their order; how those of two sessions fall
+between one another differs from run to run.
+
+A row of a trace is session,op,resource,mode, one for each call, and one of the history
+place,session,op,resource,mode,reply,value; 'glm help replay' shows a row of each form.
+
+  1,lock,1/2,S
+  3,1,lock,1/2,S,granted,S
+
+An example: glm run < examples/queue.csv";
+
+pub(crate) const ABOUT_CHECK: &str =
+    "Reads a history from standard input, and says on standard output whether it is legal: whether each reply is the
+one that the lock table gives there. It writes 'legal', with the number of entries, or 'illegal', with the first place
+whose reply is another.
+
+A row of a history is place,session,op,resource,mode,reply,value, one for each call. A reply has the value beside it.
+
+  0,1,begin,,,began,1                      the number of the transaction
+  1,1,lock,1,S,granted,S                   the mode that is held; so has convert
+  2,2,lock,1,X,waiting,                    so answers poll, or clear, or deadlock
+  3,1,release,1,,released,
+  4,1,commit,,,committed,0                 how many locks were given back; so has aborted
+  5,1,lock,1,S,refused,NoTransaction       the name of the refusal
+
+An example: glm check < examples/queue.history.csv";
+
+pub(crate) const STATUSES: &str = "Exit status:
+  0  done, or help or the version asked for
+  1  a row was refused, which standard error names
+  2  the words of the command line are off
+  3  the history isn't legal
+  4  memory was refused
+  5  reading or writing failed, or a thread couldn't be started
+  6  a gate stayed shut, or tries ran out";
+
+/// What is told where the parser takes a number that isn't written as numbers are here.
+pub(crate) const NOT_A_NUMERAL: &str =
+    "error: a number is written with digits alone, with no sign and no zero before it
+
+For more information, try '--help'.
+";
