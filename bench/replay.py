@@ -1,17 +1,14 @@
 #!/usr/bin/env python3
-"""Times ./glm replay on three kinds of trace, and tells its peak memory.
+"""Times glm replay on two kinds of trace, and tells its peak memory.
 
 Usage: bench/replay.py [ROWS..]     (default: 100000 1000000)
 
-Uncontended: 8 sessions take turns. Each transaction has 14 rows: begin, 12 locks on databases of the
-session's own, commit. So nothing ever waits. A line for each number of rows.
+Uncontended: the transactions of 8 sessions, one whole transaction after another. Each has 14 rows: begin, 12 locks on
+databases of the session's own, commit. So nothing ever waits. A line for each number of rows.
 
 Waits: of 256 sessions 252 hold databases of their own, few or many. Then, a third of ROWS times, one
 session begins, waits for a database behind a writer and another session, and aborts. A line for each
 number of rows and of databases held: what the rows with waits cost beyond the rows before them.
-
-One queue: 254 sessions wait for one database, and 10,000 times one more begins, waits behind them, and
-aborts.
 
 The traces and the histories are files of a temporary folder.
 """
@@ -25,12 +22,12 @@ from pathlib import Path
 SESSIONS = 8
 LOCKS = 12
 HELD = [252, 252_000]
-QUEUED = 10_000
 TOP = Path(__file__).resolve().parent.parent
+PROGRAM = TOP / "crates/glm_main/out/glm_main"
 
 
 def uncontended(count):
-    """Yields the rows of a trace, transaction by transaction, the sessions in turn."""
+    """Yields the rows of a trace, transaction by transaction."""
     made = 0
     while True:
         for session in range(1, SESSIONS + 1):
@@ -53,12 +50,6 @@ def holders(held):
     yield from ["1,begin,,\n", "1,lock,1,X\n", "2,begin,,\n", "2,lock,1,S\n"]
 
 
-def one_queue():
-    """Yields the rows by which session 1 holds a database, and 2 to 255 wait for it."""
-    for session in range(1, 256):
-        yield from [f"{session},begin,,\n", f"{session},lock,1,X\n"]
-
-
 def waits(session, count):
     for _ in range(count):
         yield from [f"{session},begin,,\n", f"{session},lock,1,X\n", f"{session},abort,,\n"]
@@ -71,7 +62,7 @@ def replayed(rows, folder):
         out.writelines(rows)
     with trace.open() as given, history.open("w") as out:
         start = time.monotonic()
-        ran = subprocess.Popen([TOP / "glm", "replay"], stdin=given, stdout=out)
+        ran = subprocess.Popen([PROGRAM, "replay"], stdin=given, stdout=out)
         _, status, used = os.wait4(ran.pid, 0)
         seconds = time.monotonic() - start
     if status:
@@ -97,10 +88,6 @@ def main():
                 seconds, _ = replayed(list(holders(held)) + list(waits(3, count // 3)), folder)
                 each = (seconds - before) * 1e6 / (count // 3)
                 print(f"{count // 3} waits beside {held} databases: {seconds - before:.2f} s, {each:.1f} microseconds a wait")
-        before, _ = replayed(one_queue(), folder)
-        seconds, _ = replayed(list(one_queue()) + list(waits(256, QUEUED)), folder)
-        each = (seconds - before) * 1e6 / QUEUED
-        print(f"{QUEUED} waits behind 254 others: {seconds - before:.2f} s, {each:.0f} microseconds a wait")
 
 
 if __name__ == "__main__":
