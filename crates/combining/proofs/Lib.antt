@@ -2,5 +2,8 @@ pub mod NewSessions
 pub mod Opened
 pub mod Heard
 pub mod Same
+pub mod Room
+pub mod Walks
+pub mod Cleaning
 pub mod Counting
 pub mod Handing

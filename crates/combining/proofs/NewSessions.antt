@@ -18,4 +18,4 @@ new_sessions_idle office sessions zero = λ k d h. absurd (omega arith)
 new_sessions_idle office sessions (suc k) =
     All-push (λ (session : Known). IsSessionOf office session × IsIdle session) (new_tickets office.id sessions k) (new_ticket office.id sessions (suc k))
     (new_sessions_idle office sessions k)
-    (record { ours = refl; no_book = refl; none = none_opened (sessions + 1); live = λ pending. refl }, (refl, refl))
+    (record { ours = refl; no_book = refl; none = none_opened (sessions + 1); no_walk = refl; live = λ pending. refl }, (refl, refl))

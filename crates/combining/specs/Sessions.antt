@@ -1,5 +1,5 @@
 -- What contracts see of an office and its sessions.
-use Rattle.std.specs.Prelude.{◌≡◌, ◌≢◌, ℕ, ◌+◌, ◌<◌, ◌≤◌, max, false, Some, None, List, [], ◌∷◌, ◌++◌, length}
+use Rattle.std.specs.Prelude.{◌≡◌, ◌≢◌, ◌⊎◌, ℕ, ◌+◌, ◌<◌, ◌≤◌, max, false, Some, None, List, [], ◌∷◌, ◌++◌, length}
 use mathlib.Core.Option as opt
 use mathlib.Core.List.{IsPrefix}
 use lib.ListN.{get_elem?}
@@ -8,13 +8,14 @@ use Rattle.lock_rules.specs.declared.calls.Reply.{Reply}
 use Rattle.lock_rules.specs.declared.calls.Entry.{Entry}
 use Rattle.lock_rules.specs.Legal.{IsLegal, calls_of}
 use Rattle.publication.specs.Views.{Placed, Known, entry, answer, asks}
-use Rattle.publication.specs.Boards.{IsOf, OpensNone}
+use Rattle.publication.specs.Boards.{IsOf, OpensNone, enlisted}
 
 -- the session is of this office, and isn't in the middle of a pass
 pub record IsSessionOf (office : Placed) (session : Known) : Type 0 where
   pub ours : IsOf office session
   pub no_book : session.has_book ≡ false
   pub none : OpensNone session
+  pub no_walk : session.route ≡ []
   -- a session that has a call pending still publishes
   pub live : session.pending ≢ None → session.retired ≡ false
 
@@ -30,9 +31,15 @@ HasNothingPending session = session.pending ≡ None
 abbrev pub IsPendingServed : Known → Type 0
 IsPendingServed session = length session.collected < length (calls_of session.number session.front)
 
--- a pass of the session: it knows what other passes entered into the history since, and then what this one did
+-- the session has tried to have its pending call listed: nothing has changed, or the call wasn't listed and is now
+abbrev pub HasTried : Known → Known → Type 0
+HasTried before after = (after ≡ before) ⊎ ((before.pending ≢ None) × (before.listed ≡ false) × (after ≡ enlisted before))
+
+-- a pass of the session, which has tried to have its pending call listed first: it knows what other passes entered into the history since, and then what this one did
 pub record IsPassed (before after : Known) (served : ℕ) : Type 0 where
-  pub session : after ≡ record before { front = after.front }
+  pub tried : Known
+  pub is_tried : HasTried before tried
+  pub session : after ≡ record tried { front = after.front }
   pub others : List Entry
   pub own : List Entry
   pub front : after.front ≡ before.front ++ others ++ own

@@ -3,6 +3,7 @@
 //! 2010). No call blocks or waits for another thread, and nothing is claimed of progress, fairness or speed.
 #![tactic(auto)]
 
+mod clean_up;
 pub mod laws;
 mod office;
 mod pass;

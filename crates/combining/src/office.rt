@@ -1,13 +1,12 @@
 //! The office and the calls of its sessions.
 
-ghost use Rattle.std.specs.Prelude.{◌≡◌, ◌≢◌, ◌<◌, ◌≤◌, ◌↔◌, true, false, Some, None, Err, IfOk, IfErr, IfSome, IfNone, length, max, slice_set};
+ghost use Rattle.std.specs.Prelude.{◌≡◌, ◌≢◌, ◌<◌, ◌≤◌, ◌↔◌, true, false, Some, None, Err, IfOk, IfErr, IfSome, IfNone, length, max};
 ghost use Rattle.std.specs.List.{All};
 ghost use mathlib.Core.List.{IsPrefix};
 ghost use Rattle.lock_rules.specs.Legal.{IsLegal, calls_of};
-ghost use Rattle.publication.specs.Views.{asks};
 ghost use Rattle.publication.specs.Kinds.{longer, maxes};
-ghost use Rattle.publication.specs.Boards.{heard_from, published_by, new_tickets, IsEachOnce};
-ghost use Rattle.combining.specs.Sessions.{IsSessionOf, IsIdle, HasNothingPending, IsPendingServed, IsPassed, IsCollected};
+ghost use Rattle.publication.specs.Boards.{heard_from, published_by, publishing, enlisted, new_tickets, IsEachOnce};
+ghost use Rattle.combining.specs.Sessions.{IsSessionOf, IsIdle, HasNothingPending, IsPendingServed, HasTried, IsPassed, IsCollected};
 ghost use Rattle.combining.specs.Closed.{IsClosed};
 
 use crate::pass::serve_published;
@@ -99,34 +98,48 @@ impl Office {
         }
     }
 
-    /// The session publishes a call, and is pending until it collects the answer.
+    /// The session publishes a call, and is pending until it collects the answer. `Listed`: passes visit its record. `Unlisted`: an exchange of
+    /// the publication list's head was lost to another session; each `serve` of the session tries once more, and a pass of its own visits its
+    /// record in any case.
     pub fn publish(&self, session: &mut Session, call: Call) -> Posted
         requires ours { IsSessionOf self.now session.old }
         requires idle { IsIdle session.old }
         ensures ours { IsSessionOf self.now session.new }
-        ensures session { session.new ≡ record session.old {
-          pending = Some (asks call (length session.old.front));
-          heard = slice_set session.old.heard session.old.number (published_by session.new);
-        } }
-        ensures heard { heard_from session.new session.new.number ≡ published_by session.new }
+        ensures listed { result ≡ Posted.Listed → session.new ≡ enlisted (publishing session.old call) }
+        ensures heard { result ≡ Posted.Listed → heard_from session.new session.new.number ≡ published_by session.new }
+        ensures unlisted { result ≡ Posted.Unlisted → (session.new ≡ publishing session.old call) × (1 < self.now.sessions) }
     {
         self.board.post(session, call)
     }
 
-    /// One try to become the combiner, and a pass where it is won: all that is published is served, until memory is
-    /// refused for a call. Whether the session is pending is of no matter.
+    // One more try to have a pending call listed that isn't.
+    fn enlist(&self, session: &mut Session)
+        requires ours { IsSessionOf self.now session.old }
+        ensures ours { IsSessionOf self.now session.new }
+        ensures tried { HasTried session.old session.new }
+        ensures heard { (j : _) → heard_from session.old j ≤ heard_from session.new j }
+    {
+        if session.is_unlisted() {
+            self.board.enlist(session);
+        }
+    }
+
+    /// One try to become the combiner, and a pass where it is won: all that is listed is served, and the session's own call, until memory
+    /// is refused for a call. Whether the session is pending is of no matter; where its call isn't listed, one more try is made to have it
+    /// listed first.
     ///
-    /// Commits, aborts and releases are served before the other calls, each part by session number: what gives locks back
-    /// makes room for what asks for them (this project's choice).
+    /// Commits, aborts and releases are served before the other calls, each part in the order of the publication list, and its own
+    /// call last where it isn't on it: what gives locks back makes room for what asks for them (this project's choice).
     pub fn serve(&self, session: &mut Session) -> Turn
         requires ours { IsSessionOf self.now session.old }
         ensures ours { IsSessionOf self.now session.new }
-        ensures elsewhere { result ≡ Turn.Elsewhere → (session.new ≡ session.old) × (1 < self.now.sessions) }
+        ensures elsewhere { result ≡ Turn.Elsewhere → HasTried session.old session.new × (1 < self.now.sessions) }
         ensures pass { (served : _) (starved : _) → result ≡ Turn.Pass served starved → IsPassed session.old session.new served }
         ensures own { (served : _) → result ≡ Turn.Pass served false → session.old.pending ≢ None → IsPendingServed session.new }
         ensures heard { (served j : _) → result ≡ Turn.Pass served false → 0 < j → j ≤ self.now.sessions
             → heard_from session.old j ≤ length (calls_of j session.new.front) }
     {
+        self.enlist(session);
         let Some(mut load) = self.board.seize(session) else {
             return Turn::Elsewhere;
         };

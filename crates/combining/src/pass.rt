@@ -1,13 +1,14 @@
-//! A pass: the combiner opens the records where a call is posted, performs the calls and answers them.
+//! A pass: the combiner walks the publication list, opens the records where a call is posted, performs the calls and answers them.
 
-ghost use Rattle.std.specs.Prelude.{◌≡◌, ◌+◌, ◌-◌, ◌<◌, ◌≤◌, true, false, Some, None, OnOk, OnErr, length, drop, slice_set, vec_len, vec_capacity};
+ghost use Rattle.std.specs.Prelude.{◌≡◌, ◌≢◌, ◌+◌, ◌<◌, ◌≤◌, true, false, Some, None, OnOk, OnErr, length, drop, slice_set, vec_len, vec_capacity};
 ghost use mathlib.Core.List.{IsPrefix};
 ghost use Rattle.lock_rules.specs.Legal.{IsLegal, calls_of};
 ghost use Rattle.lock_desk.specs.Batches.{IsItemWithin};
-ghost use Rattle.publication.specs.Boards.{IsOf, OpensNone, opened_at, heard_from};
+ghost use Rattle.publication.specs.Boards.{IsOf, IsNumber, OpensNone, opened_at, heard_from, published_by};
 ghost use Rattle.publication.specs.Rule.{IsHome};
-ghost use Rattle.combining.specs.Passes.{AreOpened, HasHeardCalls, IsSameSession, IsBookInHand};
+ghost use Rattle.combining.specs.Passes.{AreOpened, HasCalls, KeepsCalls, IsVisited, HasVisitedOpened, IsSameSession, IsBookInHand};
 
+use crate::clean_up::{clean_up, note_served};
 use lock_desk::{Book, Call, Item, NoMemory};
 use lock_rules::laws;
 use publication::{Board, Load, Ticket};
@@ -36,16 +37,16 @@ fn open_record(
     whose: u16,
 )
     requires ours { IsOf board.now session.old × (session.old.has_book ≡ true) }
-    requires whose { (0 < whose) × (whose ≤ board.now.sessions) }
-    requires later { (j : _) → whose ≤ j → opened_at session.old j ≡ None }
+    requires whose { IsNumber board.now whose }
     requires row { AreOpened board.now.sessions session.old.opened row.old.items }
-    requires room { (vec_len row.old < vec_capacity row.old) × (vec_len row.old < whose) × (givers.old ≤ vec_len row.old) }
-    requires heard { HasHeardCalls (whose - 1) session.old }
-    ensures session { IsSameSession session.old session.new × (session.new.front ≡ session.old.front) }
-    ensures later { (j : _) → whose < j → opened_at session.new j ≡ None }
+    requires room { (board.now.sessions ≤ vec_capacity row.old) × (givers.old ≤ vec_len row.old) }
+    requires visited { HasVisitedOpened session.old }
+    ensures session { IsSameSession session.old session.new × (session.new.front ≡ session.old.front) × (session.new.route ≡ session.old.route) }
     ensures row { AreOpened board.now.sessions session.new.opened row.new.items }
-    ensures room { (vec_capacity row.old ≤ vec_capacity row.new) × (vec_len row.new ≤ whose) × (givers.new ≤ vec_len row.new) }
-    ensures heard { HasHeardCalls whose session.new }
+    ensures room { (board.now.sessions ≤ vec_capacity row.new) × (givers.new ≤ vec_len row.new) }
+    ensures calls { KeepsCalls session.old session.new }
+    ensures visited { HasVisitedOpened session.new }
+    ensures met { IsVisited whose session.new }
 {
     let Some(call) = board.open(session, whose) else {
         return;
@@ -65,22 +66,44 @@ fn open_record(
     }
 }
 
-/// Visits all records by session number, and opens those where a call is posted.
+/// Walks the publication list from its head to the end mark, and opens the records where a call is posted.
+fn open_listed(board: &Board, session: &mut Ticket, row: &mut Vec<Item>, givers: &mut usize)
+    requires ours { IsOf board.now session.old × (session.old.has_book ≡ true) }
+    requires none { OpensNone session.old }
+    requires row { AreOpened board.now.sessions session.old.opened row.old.items }
+    requires room { (board.now.sessions ≤ vec_capacity row.old) × (givers.old ≤ vec_len row.old) }
+    ensures session { IsSameSession session.old session.new × (session.new.front ≡ session.old.front) }
+    ensures row { AreOpened board.now.sessions session.new.opened row.new.items }
+    ensures room { (board.now.sessions ≤ vec_capacity row.new) × (givers.new ≤ vec_len row.new) }
+    ensures calls { KeepsCalls session.old session.new }
+    ensures visited { HasVisitedOpened session.new }
+    ensures met { (j : _) → 0 < j → j ≤ board.now.sessions → HasCalls (heard_from session.old j) j session.new }
+{
+    let mut next = board.walk(session, None);
+    while let Some(whose) = next {
+        open_record(board, session, row, givers, whose);
+        next = board.walk(session, Some(whose));
+    }
+}
+
+/// Visits the records on the publication list and its own in any case, and opens those where a call is posted.
 fn open_records(board: &Board, session: &mut Ticket, row: &mut Vec<Item>)
     requires ours { IsOf board.now session.old × (session.old.has_book ≡ true) }
+    requires number { IsNumber board.now session.old.number }
     requires none { OpensNone session.old }
     requires row { (vec_len row.old ≡ 0) × (board.now.sessions ≤ vec_capacity row.old) }
     ensures session { IsSameSession session.old session.new × (session.new.front ≡ session.old.front) }
     ensures row { AreOpened board.now.sessions session.new.opened row.new.items }
-    ensures room { (vec_len row.new ≤ board.now.sessions) × (board.now.sessions ≤ vec_capacity row.new) }
     ensures few { vec_len row.new < 65536 }
-    ensures heard { HasHeardCalls board.now.sessions session.new }
+    ensures room { board.now.sessions ≤ vec_capacity row.new }
+    ensures heard { (j : _) → 0 < j → j ≤ board.now.sessions → HasCalls (heard_from session.old j) j session.new }
+    ensures own { session.old.pending ≢ None → HasCalls (published_by session.old) session.old.number session.new }
 {
-    let sessions = board.sessions();
+    // the number of sessions fits into 16 bits, so the row has fewer calls than a u32 counts
+    let _sessions = board.sessions();
     let mut givers = 0;
-    for visited in 0..sessions {
-        open_record(board, session, row, &mut givers, visited + 1);
-    }
+    open_listed(board, session, row, &mut givers);
+    open_record(board, session, row, &mut givers, session.number());
 }
 
 /// Performs a call that is opened, and answers it. `NoMemory`: it is still opened, and nothing is changed.
@@ -98,7 +121,7 @@ fn serve_item(
     ensures longer { IsPrefix session.old.front session.new.front }
     ensures answered { OnOk result (session.new.opened ≡ slice_set session.old.opened item.now.session None) }
     ensures entry { OnOk result (length session.new.front ≡ length session.old.front + 1) }
-    ensures heard { HasHeardCalls board.now.sessions session.old → HasHeardCalls board.now.sessions session.new }
+    ensures calls { KeepsCalls session.old session.new }
     ensures err { OnErr result (session.new ≡ session.old) }
 {
     laws::histories_are_legal_by_steps();
@@ -121,7 +144,7 @@ fn serve_row(board: &Board, session: &mut Ticket, book: &mut Book, row: &[Item])
     ensures row { AreOpened board.now.sessions session.new.opened (drop result row.now) }
     ensures longer { IsPrefix session.old.front session.new.front }
     ensures served { (result ≤ length row.now) × (length session.new.front ≡ length session.old.front + result) }
-    ensures heard { HasHeardCalls board.now.sessions session.old → HasHeardCalls board.now.sessions session.new }
+    ensures calls { KeepsCalls session.old session.new }
 {
     let mut served = 0;
     for item in row {
@@ -148,18 +171,23 @@ fn put_back_row(board: &Board, session: &mut Ticket, row: &[Item])
 /// A whole pass of a combiner that has the load, and leaves it as it should go home.
 pub(crate) fn serve_published(board: &Board, session: &mut Ticket, load: &mut Load) -> Pass
     requires ours { IsOf board.now session.old × (session.old.has_book ≡ true) × OpensNone session.old }
+    requires number { IsNumber board.now session.old.number }
     requires home { IsHome session.old.front (board.now.sessions + 1) load.old × IsLegal session.old.front }
-    ensures session { session.new ≡ record session.old { front = session.new.front } }
+    ensures session { session.new ≡ record session.old { front = session.new.front; route = session.new.route } }
     ensures home { IsHome session.new.front (board.now.sessions + 1) load.new × IsLegal session.new.front }
     ensures longer { IsPrefix session.old.front session.new.front }
     ensures served { length session.new.front ≡ length session.old.front + result.served }
     ensures heard { result.starved ≡ false → (j : _) → 0 < j → j ≤ board.now.sessions → heard_from session.old j ≤ length (calls_of j session.new.front) }
+    ensures own { result.starved ≡ false → session.old.pending ≢ None → published_by session.old ≤ length (calls_of session.old.number session.new.front) }
 {
+    load.passes = load.passes.saturating_add(1);
     open_records(board, session, &mut load.row);
     let served = serve_row(board, session, &mut load.book, load.row.as_slice());
     put_back_row(board, session, &load.row[served..]);
     let starved = served < load.row.len();
+    note_served(&mut load.ages, &load.row[..served], load.passes);
     load.row.clear();
+    clean_up(board, session, load.ages.as_slice(), load.passes);
     Pass {
         served: served as u32,
         starved,

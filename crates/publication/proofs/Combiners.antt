@@ -1,6 +1,8 @@
 -- The kinds of step of a combiner on a record: the look, open, answer and put back; and its slot, laid down and picked up.
-use Rattle.std.proofs.Common.{◌≡◌, ◌≢◌, ℕ, ◌+◌, ◌^◌, ◌<◌, ◌≤◌, true, eqb, Some, None, List, [], ◌∷◌, ◌++◌, length, get_or, set, sym, refl, ap, ◌∙◌, subst, arith, length-append, length-set}
+use Rattle.std.proofs.Common.{◌≡◌, ◌≢◌, ℕ, ◌+◌, ◌^◌, ◌<◌, ◌≤◌, Bool, true, eqb, Option, Some, None, List, [], ◌∷◌, ◌++◌, length, get_or, set, sym, refl, ap, ◌∙◌, subst, arith, length-append, length-set, get_or-set_other, get_or-set_same}
 use mathlib.Core.Option as opt
+use mathlib.Core.Logic.{dite}
+use native.Mathlib.Decide.{ℕ_discrete}
 use prog.Atomic.{either}
 use lib.ListN.{get_elem?}
 use Rattle.atomic_table.specs.Table.{keeps, takes, gives, step, Allows}
@@ -10,24 +12,26 @@ use Rattle.lock_rules.specs.declared.calls.Reply.{Reply}
 use Rattle.lock_rules.specs.declared.calls.Entry.{Entry}
 use Rattle.lock_rules.specs.Legal.{Answered, IsLegal, calls_of}
 use Rattle.publication.specs.Words.{word_of, session_of_word, POSTED, BUSY, SERVED}
-use Rattle.publication.specs.Views.{Combiner, entry, answer, asks}
-use Rattle.publication.specs.Rule.{blank, BoardState, word, home, seat, own_at, published, IsPosted, IsBusy, Stands, HasBook, IsOpened, IsOrderly}
+use Rattle.publication.specs.List.{link, belongs, IsLinked, IsRuled}
+use Rattle.publication.specs.Views.{Own, Combiner, entry, answer, asks}
+use Rattle.publication.specs.Rule.{blank, BoardState, word, home, seat, own_at, announced, IsPosted, IsBusy, Stands, HasBook, IsOpened, IsSession, IsOrderly}
 use Rattle.publication.specs.Rule.Stands.{posted, busy, served}
-use Rattle.publication.specs.Kinds.{combiner, called, call_at, HasEntered, looks_at, looks_at_record, opening, Opened, opens_record, opens, in_hand, lays, picks_slot, picks, answering, answers, putting_back, puts_back}
+use Rattle.publication.specs.Kinds.{combiner, as_combiner, opened_in, called, call_at, HasEntered, looks_at, looks_at_record, opening, Opened, opens_record, opens, in_hand, lays, picks_slot, picks, answering, answers, putting_back, puts_back}
 use Rattle.publication.specs.declared.view.View.{View}
 use Rattle.publication.specs.declared.slot.Held.{Held}
 use Rattle.publication.specs.declared.slot.Held.TheVariants.{Nothing, Asked, Replied}
-use Rattle.publication.proofs.Lists.{at_there, at_home, prefix_self}
+use Rattle.publication.proofs.Lists.{at_there, at_home, prefix_self, there_at}
 use Rattle.publication.proofs.Histories.{calls-mine}
-use Rattle.publication.proofs.Records.{is_posted, is_busy, all_entered, posted_entered, grown, as_called}
+use Rattle.publication.proofs.Records.{is_posted, is_busy, all_entered, posted_entered, own_entered, grown, as_called}
 use Rattle.publication.proofs.Sessions.{Goes, seated, unmoved}
+use Rattle.publication.proofs.Linking.{links_kept, IsKeptHere, aside, same_walk}
 use Rattle.publication.proofs.Combines.{IsRecordStep, combined}
 
 -- the words of the sessions lie apart
 pub session_of_its_word : (number : ℕ) → session_of_word (word_of number) ≡ number
 session_of_its_word number = omega arith
 
-module _ (i : ℕ) (v : View) (is : v.number ≡ i) (some_number : 0 < i) (s : BoardState) (o : IsOrderly s) (me : get_elem? s.views i ≡ opt.some v) (small : i < o.slots)
+module _ (i : ℕ) (v : View) (is : v.number ≡ i) (some_number : 0 < i) (s : BoardState) (o : IsOrderly s) (l : IsLinked s) (me : get_elem? s.views i ≡ opt.some v) (small : i < o.slots)
     (has : v.combiner.has_book ≡ true) (j : ℕ) (some_record : 0 < j) (few : j < o.slots) (wide : length v.combiner.opened ≡ o.slots) where
   is_me : seat s i ≡ v
   is_me = (at_there s.views i v blank me).0
@@ -38,8 +42,8 @@ module _ (i : ℕ) (v : View) (is : v.number ≡ i) (some_number : 0 < i) (s : B
   stands_at : Stands o.history j (word s j) (home s j) (own_at o.owns j)
   stands_at = o.stands j some_record few
 
-  heard_at : get_or v.heard j 0 ≤ published (own_at o.owns j)
-  heard_at = subst (λ (u : View). get_or u.heard j 0 ≤ published (own_at o.owns j)) is_me (o.heard i j)
+  heard_at : get_or v.heard j 0 ≤ announced (own_at o.owns j)
+  heard_at = subst (λ (u : View). get_or u.heard j 0 ≤ announced (own_at o.owns j)) is_me (o.heard i j)
 
   known : length (calls_of j v.front) ≡ length (calls_of j o.history)
   known = ap (λ (f : List Entry). length (calls_of j f)) book.whole
@@ -49,7 +53,7 @@ module _ (i : ℕ) (v : View) (is : v.number ≡ i) (some_number : 0 < i) (s : B
       → ((k : ℕ) → k ≢ j → get_elem? d.opened k ≡ get_elem? v.combiner.opened k) → ((k : ℕ) → 0 < k → k ≢ j → v.combiner.hand ≢ k)
       → ((call : Call) → get_elem? d.opened j ≡ opt.some (Some call) → (n ≡ BUSY) × ((floor : ℕ) × ((own_at o.owns j).pending ≡ Some (asks call floor))) × (d.hand ≢ j → at ≡ opt.some Nothing))
       → (n ≡ BUSY → (call : Call) × (get_elem? d.opened j ≡ opt.some (Some call)))
-      → Stands o.history j n at (own_at o.owns j) → IsRecordStep s o i v j n at v.front d me some_number o.history
+      → Stands o.history j n at (own_at o.owns j) → IsRecordStep s o i v j n at v.front d v.listing me some_number o.history
   same_history n at d still as_wide others hands new_open new_busy stands = record {
     has = has;
     still = still;
@@ -68,19 +72,49 @@ module _ (i : ℕ) (v : View) (is : v.number ≡ i) (some_number : 0 < i) (s : B
     grow = λ k w a u ne t. t;
   }
 
+  own_is : v.own ≡ own_at o.owns i
+  own_is = (subst (λ (u : View). u.number ≢ 0 → IsSession o.slots o.owns i u) is_me (o.sessions i) (λ e. omega arith)).own_is
+
+  -- a change of the record's word from one to another that stand for a pending call leaves the publication list as it is
+  still_listed : (n : ℕ) (at : opt.Option Held) (front : List Entry) (d : Combiner) → ((b : Bool) → belongs n b ≡ belongs (word s j) b)
+      → IsLinked record { words = set s.words (word_of j) n; homes = set s.homes j at; views = set s.views i (as_combiner v front d v.listing) }
+  still_listed n at front d same =
+      let u : View = as_combiner v front d v.listing in
+      let ws : List ℕ = set s.words (word_of j) n in
+      let hs : List (opt.Option Held) = set s.homes j at in
+      let each : (k : ℕ) (b : Bool) → belongs (get_or ws (word_of k) 0) b ≡ belongs (word s k) b = λ k b. dite (ℕ_discrete k j)
+      (λ e. ap (λ (m : ℕ). belongs (get_or ws (word_of m) 0) b) e ∙ (ap (λ (m : ℕ). belongs m b) (get_or-set_same s.words (word_of j) n 0 (omega (arith, o.words_are)))
+      ∙ (same b ∙ ap (λ (m : ℕ). belongs (word s m) b) (sym e))))
+      (λ ne. ap (λ (m : ℕ). belongs m b) (get_or-set_other s.words (word_of j) (word_of k) n 0 (λ e. ne (omega (arith, e))))) in
+      aside s l i v u ws hs me (links_kept s.words j n) (length-set s.homes j at) (λ e. l.whole (sym (get_or-set_other s.words (word_of j) (word_of 0) n 0 (λ z. omega (arith, z))) ∙ e)) (λ k b some ne. each k b) (record {
+        claims = λ b some e. sym (each i v.own.listed) ∙ e;
+        aims = λ m e. (e, λ some. each i v.own.listed);
+        walkers = λ _. same_walk s l i v u ws hs me has refl refl refl;
+      })
+
+  -- the words that stand for a pending call
+  as_pending : (n : ℕ) → word s j ≡ n → (m : ℕ) → ((b : Bool) → belongs m b ≡ belongs n b) → (b : Bool) → belongs m b ≡ belongs (word s j) b
+  as_pending n hit m same b = same b ∙ ap (λ (k : ℕ). belongs k b) (sym hit)
+
   -- the look
 
-  entered : word s j ≢ POSTED → HasEntered v j
-  entered miss shut =
-      let not_busy : word s j ≢ BUSY = λ busy_now.
+  not_busy : opened_in v j ≡ None → word s j ≢ BUSY
+  not_busy shut busy_now =
       let t = o.opened j some_record busy_now in
       let here : get_elem? v.combiner.opened j ≡ opt.some (Some t.0)
       = ap (λ (u : View). get_elem? u.combiner.opened j) (sym is_me) ∙ (ap (λ (k : ℕ). get_elem? (seat s k).combiner.opened j) (sym book.lock_is) ∙ t.1) in
-      let q : Some t.0 ≡ None = sym (at_there v.combiner.opened j (Some t.0) None here).0 ∙ shut in absurd (cc q) in
-      omega (arith, heard_at, known, all_entered o.history j (word s j) (home s j) (own_at o.owns j) stands_at miss not_busy)
+      let q : Some t.0 ≡ None = sym (at_there v.combiner.opened j (Some t.0) None here).0 ∙ shut in absurd (cc q)
+
+  entered : word s j ≢ POSTED → HasEntered v j
+  entered miss shut = (
+    omega (arith, heard_at, known, all_entered o.history j (word s j) (home s j) (own_at o.owns j) stands_at miss (not_busy shut)),
+    λ mine some. let e : own_at o.owns j ≡ v.own = ap (own_at o.owns) (sym (sym is ∙ mine)) ∙ sym own_is in
+        let t = own_entered o.history j (word s j) (home s j) (own_at o.owns j) stands_at miss (not_busy shut) (λ none. some (sym (ap (λ (u : Own). u.pending) e) ∙ none)) in
+        let c : length (own_at o.owns j).collected ≡ length v.own.collected = ap (λ (u : Own). length u.collected) e in omega (arith, known, t, c),
+  )
 
   look_goes : (more : List (ℕ × Held)) → Goes s j i (v, more) (looks_at j (v, more)) (word s j)
-  look_goes more = (v, keeps, tt, unmoved s o j i v me, (refl, entered))
+  look_goes more = (v, keeps, tt, unmoved s o l j i v me, (refl, entered))
 
   -- open
 
@@ -88,7 +122,7 @@ module _ (i : ℕ) (v : View) (is : v.number ≡ i) (some_number : 0 < i) (s : B
     now_open : get_elem? (set v.combiner.opened j (Some call)) j ≡ opt.some (Some call)
     now_open = set_here v.combiner.opened j (Some call) (omega arith)
 
-    open_step : v.combiner.hand ≡ 0 → IsRecordStep s o i v j BUSY opt.none v.front (combiner true (set v.combiner.opened j (Some call)) j) me some_number o.history
+    open_step : v.combiner.hand ≡ 0 → IsRecordStep s o i v j BUSY opt.none v.front (combiner true (set v.combiner.opened j (Some call)) j) v.listing me some_number o.history
     open_step empty = same_history BUSY opt.none (combiner true (set v.combiner.opened j (Some call)) j) refl (length-set v.combiner.opened j (Some call))
         (λ k ne. set_else v.combiner.opened j k (Some call) ne)
         (λ k some ne e. absurd (omega arith))
@@ -100,10 +134,23 @@ module _ (i : ℕ) (v : View) (is : v.number ≡ i) (some_number : 0 < i) (s : B
         (λ _. (call, now_open))
         (busy call floor record { is = refl; some = f.some; early = f.early; publishes = f.publishes; calls = f.calls })
 
-    opened_now : Opened v j call
-    opened_now = record {
+    shut : word s j ≡ POSTED → opened_in v j ≡ None
+    shut hit = none_of (opened_in v j) (λ c shown.
+        let at : get_elem? (seat s i).combiner.opened j ≡ opt.some (Some c) = ap (λ (u : View). get_elem? u.combiner.opened j) is_me ∙ there_at v.combiner.opened j c shown in
+        let t = o.opens i j c at in absurd (omega (arith, hit, t.is_busy)))
+      where
+        none_of : (x : Option Call) → ((c : Call) → x ≢ Some c) → x ≡ None
+        none_of None h = refl
+        none_of (Some c) h = absurd (h c refl)
+
+    opened_now : word s j ≡ POSTED → Opened v j call
+    opened_now hit = record {
+      lacked = shut hit;
       call_is = (at_there (set v.combiner.opened j (Some call)) j (Some call) None now_open).0;
       heard = omega (arith, heard_at, known, posted_entered o.history j (word s j) (home s j) (own_at o.owns j) call floor f);
+      own = λ mine. let e : own_at o.owns j ≡ v.own = ap (own_at o.owns) (sym (sym is ∙ mine)) ∙ sym own_is in
+          let c : length (own_at o.owns j).collected ≡ length v.own.collected = ap (λ (u : Own). length u.collected) e in
+          let a : length (calls_of j o.history) ≡ length (own_at o.owns j).collected = ap (λ (cs : List Answered). length cs) f.calls in omega (arith, known, a, c);
     }
 
     open_won : (more : List (ℕ × Held)) → v.combiner.hand ≡ 0 → word s j ≡ POSTED → Goes s j i (v, more) (opens_record j (v, more)) BUSY
@@ -111,12 +158,15 @@ module _ (i : ℕ) (v : View) (is : v.number ≡ i) (some_number : 0 < i) (s : B
       opening v j call,
       takes j (Asked call),
       at_home s.homes j (Asked call) f.asked,
-      combined s o i v j BUSY opt.none v.front (combiner true (set v.combiner.opened j (Some call)) j) me some_number o.history (open_step empty),
-      ((λ _. (call, refl, opened_now)), λ miss. absurd (miss hit)),
+      record {
+        records = combined s o i v j BUSY opt.none v.front (combiner true (set v.combiner.opened j (Some call)) j) v.listing me some_number o.history (open_step empty);
+        list = still_listed BUSY opt.none v.front (combiner true (set v.combiner.opened j (Some call)) j) (as_pending POSTED hit BUSY (λ b. refl));
+      },
+      ((λ _. (call, refl, opened_now hit)), λ miss. absurd (miss hit)),
     )
 
   open_lost : (more : List (ℕ × Held)) → word s j ≢ POSTED → Goes s j i (v, more) (opens_record j (v, more)) (word s j)
-  open_lost more miss = (v, keeps, tt, unmoved s o j i v me, ((λ hit. absurd (miss hit)), λ _. (refl, entered miss)))
+  open_lost more miss = (v, keeps, tt, unmoved s o l j i v me, ((λ hit. absurd (miss hit)), λ _. (refl, entered miss)))
 
   open_goes : (more : List (ℕ × Held)) → v.combiner.hand ≡ 0 → Goes s j i (v, more) (opens_record j (v, more)) (either (eqb (word s j) POSTED) BUSY (word s j))
   open_goes more empty = exchanged (word s j) POSTED BUSY (Goes s j i (v, more) (opens_record j (v, more)))
@@ -141,7 +191,7 @@ module _ (i : ℕ) (v : View) (is : v.number ≡ i) (some_number : 0 < i) (s : B
     )
 
     hand_step : (at : opt.Option Held) (hand : ℕ) → (hand ≢ j → at ≡ opt.some Nothing) → ((k : ℕ) → 0 < k → k ≢ j → v.combiner.hand ≢ k)
-        → IsRecordStep s o i v j (word s j) at v.front (combiner true v.combiner.opened hand) me some_number o.history
+        → IsRecordStep s o i v j (word s j) at v.front (combiner true v.combiner.opened hand) v.listing me some_number o.history
     hand_step at hand laid hands = same_history (word s j) at (combiner true v.combiner.opened hand) refl refl (λ k ne. refl) hands (still_open at hand laid)
         (λ _. (call, shown))
         (busy call was.call_of.0 record { is = was.is_busy; some = busy_is.some; early = busy_is.early; publishes = busy_is.publishes; calls = busy_is.calls })
@@ -151,8 +201,11 @@ module _ (i : ℕ) (v : View) (is : v.number ≡ i) (some_number : 0 < i) (s : B
       in_hand v 0,
       gives,
       tt,
-      combined s o i v j (word s j) (opt.some Nothing) v.front (combiner true v.combiner.opened 0) me some_number o.history
-          (hand_step (opt.some Nothing) 0 (λ away. refl) (λ k some ne e. ne (sym e ∙ held))),
+      record {
+        records = combined s o i v j (word s j) (opt.some Nothing) v.front (combiner true v.combiner.opened 0) v.listing me some_number o.history
+            (hand_step (opt.some Nothing) 0 (λ away. refl) (λ k some ne e. ne (sym e ∙ held)));
+        list = still_listed (word s j) (opt.some Nothing) v.front (combiner true v.combiner.opened 0) (λ b. refl);
+      },
       refl,
     )
 
@@ -161,8 +214,11 @@ module _ (i : ℕ) (v : View) (is : v.number ≡ i) (some_number : 0 < i) (s : B
       in_hand v j,
       takes j Nothing,
       at_home s.homes j Nothing (was.laid (λ e. omega arith)),
-      combined s o i v j (word s j) opt.none v.front (combiner true v.combiner.opened j) me some_number o.history
-          (hand_step opt.none j (λ away. absurd (away refl)) (λ k some ne e. absurd (omega arith))),
+      record {
+        records = combined s o i v j (word s j) opt.none v.front (combiner true v.combiner.opened j) v.listing me some_number o.history
+            (hand_step opt.none j (λ away. absurd (away refl)) (λ k some ne e. absurd (omega arith)));
+        list = still_listed (word s j) opt.none v.front (combiner true v.combiner.opened j) (λ b. refl);
+      },
       refl,
     )
 
@@ -174,7 +230,7 @@ module _ (i : ℕ) (v : View) (is : v.number ≡ i) (some_number : 0 < i) (s : B
     no_more : (c : Call) → get_elem? cleared.opened j ≢ opt.some (Some c)
     no_more c there = let p : None ≡ Some c = opt.some-injective None (Some c) (sym (set_here v.combiner.opened j None (omega arith)) ∙ there) in absurd (cc p)
 
-    put_back_step : v.combiner.hand ≡ j → IsRecordStep s o i v j POSTED (opt.some (Asked call)) v.front cleared me some_number o.history
+    put_back_step : v.combiner.hand ≡ j → IsRecordStep s o i v j POSTED (opt.some (Asked call)) v.front cleared v.listing me some_number o.history
     put_back_step held = same_history POSTED (opt.some (Asked call)) cleared refl (length-set v.combiner.opened j None)
         (λ k ne. set_else v.combiner.opened j k None ne) (λ k some ne e. ne (sym e ∙ held)) (λ c there. absurd (no_more c there)) (λ two. absurd (omega arith))
         (posted call was.call_of.0 record { is = refl; some = busy_is.some; asked = refl; early = busy_is.early; publishes = busy_is.publishes; calls = busy_is.calls })
@@ -185,7 +241,10 @@ module _ (i : ℕ) (v : View) (is : v.number ≡ i) (some_number : 0 < i) (s : B
       putting_back v j,
       gives,
       tt,
-      combined s o i v j POSTED (opt.some (Asked call)) v.front cleared me some_number o.history (put_back_step held),
+      record {
+        records = combined s o i v j POSTED (opt.some (Asked call)) v.front cleared v.listing me some_number o.history (put_back_step held);
+        list = still_listed POSTED (opt.some (Asked call)) v.front cleared (as_pending BUSY was.is_busy POSTED (λ b. refl));
+      },
       ap (λ (k : ℕ). (putting_back v k, more)) (sym held),
     )
 
@@ -207,7 +266,7 @@ module _ (i : ℕ) (v : View) (is : v.number ≡ i) (some_number : 0 < i) (s : B
         calls = calls-mine j v.front call reply ∙ ap (λ (cs : List Answered). cs ++ answer (length v.front) call reply ∷ []) (ap (calls_of j) book.whole ∙ busy_is.calls);
       }
 
-      answer_step : v.combiner.hand ≡ j → IsRecordStep s o i v j SERVED (opt.some (Replied (length v.front) reply)) longer cleared me some_number longer
+      answer_step : v.combiner.hand ≡ j → IsRecordStep s o i v j SERVED (opt.some (Replied (length v.front) reply)) longer cleared v.listing me some_number longer
       answer_step held = record {
         has = has;
         still = refl;
@@ -235,7 +294,10 @@ module _ (i : ℕ) (v : View) (is : v.number ≡ i) (some_number : 0 < i) (s : B
         answering v j (call_at v j) reply,
         gives,
         tt,
-        rw call_is (combined s o i v j SERVED (opt.some (Replied (length v.front) reply)) longer cleared me some_number longer (answer_step held)),
+        rw call_is (record {
+          records = combined s o i v j SERVED (opt.some (Replied (length v.front) reply)) longer cleared v.listing me some_number longer (answer_step held);
+          list = still_listed SERVED (opt.some (Replied (length v.front) reply)) longer cleared (as_pending BUSY was.is_busy SERVED (λ b. refl));
+        }),
         ap (λ (k : ℕ). (answering v k (call_at v k) reply, more)) (sym held),
       )
 
@@ -244,35 +306,35 @@ module _ (slots id : ℕ) (v : View) (is : v.number ≢ 0) (has : v.combiner.has
   some_number : 0 < v.number
   some_number = omega arith
 
-  pub look_at_record_kept : (more : List (ℕ × Held)) → Allows IsOrderly slots id (v, more) (word_of j) (λ n. n) (looks_at_record (step slots (word_of j) 0 0 opt.none) (v, more))
-  look_at_record_kept more = subst (λ (k : ℕ). Allows IsOrderly slots id (v, more) (word_of j) (λ n. n) (looks_at k (v, more))) (sym (session_of_its_word j))
+  pub look_at_record_kept : (more : List (ℕ × Held)) → Allows IsRuled slots id (v, more) (word_of j) (λ n. n) (looks_at_record (step slots (word_of j) 0 0 opt.none) (v, more))
+  look_at_record_kept more = subst (λ (k : ℕ). Allows IsRuled slots id (v, more) (word_of j) (λ n. n) (looks_at k (v, more))) (sym (session_of_its_word j))
       (seated slots id v.number j v more (λ n. n) (looks_at j (v, more)) refl some_number
-      (λ s o me small wide e. look_goes v.number v refl some_number s o me small has j some_record (omega arith) wide more))
+      (λ s o l me small wide e. look_goes v.number v refl some_number s o l me small has j some_record (omega arith) wide more))
 
   pub open_kept : (more : List (ℕ × Held)) → v.combiner.hand ≡ 0
-      → Allows IsOrderly slots id (v, more) (word_of j) (λ n. either (eqb n POSTED) BUSY n) (opens (step slots (word_of j) POSTED BUSY opt.none) (v, more))
-  open_kept more empty = subst (λ (k : ℕ). Allows IsOrderly slots id (v, more) (word_of j) (λ n. either (eqb n POSTED) BUSY n) (opens_record k (v, more))) (sym (session_of_its_word j))
+      → Allows IsRuled slots id (v, more) (word_of j) (λ n. either (eqb n POSTED) BUSY n) (opens (step slots (word_of j) POSTED BUSY opt.none) (v, more))
+  open_kept more empty = subst (λ (k : ℕ). Allows IsRuled slots id (v, more) (word_of j) (λ n. either (eqb n POSTED) BUSY n) (opens_record k (v, more))) (sym (session_of_its_word j))
       (seated slots id v.number j v more (λ n. either (eqb n POSTED) BUSY n) (opens_record j (v, more)) refl some_number
-      (λ s o me small wide e. open_goes v.number v refl some_number s o me small has j some_record (omega arith) wide more empty))
+      (λ s o l me small wide e. open_goes v.number v refl some_number s o l me small has j some_record (omega arith) wide more empty))
 
   module _ (call : Call) (shown : get_elem? v.combiner.opened j ≡ opt.some (Some call)) (more : List (ℕ × Held)) where
-    pub lay_kept : v.combiner.hand ≡ j → Allows IsOrderly slots id (v, (j, Nothing) ∷ more) (word_of j) (λ n. n) (lays (step slots (word_of j) 0 0 opt.none) (v, (j, Nothing) ∷ more))
+    pub lay_kept : v.combiner.hand ≡ j → Allows IsRuled slots id (v, (j, Nothing) ∷ more) (word_of j) (λ n. n) (lays (step slots (word_of j) 0 0 opt.none) (v, (j, Nothing) ∷ more))
     lay_kept held = seated slots id v.number j v ((j, Nothing) ∷ more) (λ n. n) (lays (step slots (word_of j) 0 0 opt.none) (v, (j, Nothing) ∷ more)) refl some_number
-        (λ s o me small wide e. lay_goes v.number v refl some_number s o me small has j some_record (omega arith) wide call shown more held)
+        (λ s o l me small wide e. lay_goes v.number v refl some_number s o l me small has j some_record (omega arith) wide call shown more held)
 
-    pub pick_kept : v.combiner.hand ≡ 0 → Allows IsOrderly slots id (v, more) (word_of j) (λ n. n) (picks (step slots (word_of j) 0 0 opt.none) (v, more))
-    pick_kept empty = subst (λ (k : ℕ). Allows IsOrderly slots id (v, more) (word_of j) (λ n. n) (picks_slot k (v, more))) (sym (session_of_its_word j))
+    pub pick_kept : v.combiner.hand ≡ 0 → Allows IsRuled slots id (v, more) (word_of j) (λ n. n) (picks (step slots (word_of j) 0 0 opt.none) (v, more))
+    pick_kept empty = subst (λ (k : ℕ). Allows IsRuled slots id (v, more) (word_of j) (λ n. n) (picks_slot k (v, more))) (sym (session_of_its_word j))
         (seated slots id v.number j v more (λ n. n) (picks_slot j (v, more)) refl some_number
-        (λ s o me small wide e. pick_goes v.number v refl some_number s o me small has j some_record (omega arith) wide call shown more empty))
+        (λ s o l me small wide e. pick_goes v.number v refl some_number s o l me small has j some_record (omega arith) wide call shown more empty))
 
     pub put_back_kept : v.combiner.hand ≡ j
-        → Allows IsOrderly slots id (v, (j, Asked call) ∷ more) (word_of j) (λ _. POSTED) (λ _. puts_back (step slots (word_of j) POSTED 0 opt.none) (v, (j, Asked call) ∷ more) POSTED)
+        → Allows IsRuled slots id (v, (j, Asked call) ∷ more) (word_of j) (λ _. POSTED) (λ _. puts_back (step slots (word_of j) POSTED 0 opt.none) (v, (j, Asked call) ∷ more) POSTED)
     put_back_kept held = seated slots id v.number j v ((j, Asked call) ∷ more) (λ _. POSTED) (λ _. puts_back (step slots (word_of j) POSTED 0 opt.none) (v, (j, Asked call) ∷ more) POSTED) refl some_number
-        (λ s o me small wide e. put_back_goes v.number v refl some_number s o me small has j some_record (omega arith) wide call shown more held)
+        (λ s o l me small wide e. put_back_goes v.number v refl some_number s o l me small has j some_record (omega arith) wide call shown more held)
 
     pub answer_kept : (place : ℕ) (reply : Reply) → v.combiner.hand ≡ j → place ≡ length v.front → IsLegal (v.front ++ entry j call reply ∷ []) → length v.front + 1 < 2 ^ 64
-        → Allows IsOrderly slots id (v, (j, Replied place reply) ∷ more) (word_of j) (λ _. SERVED) (λ _. answers (step slots (word_of j) SERVED 0 opt.none) (v, (j, Replied place reply) ∷ more) SERVED)
+        → Allows IsRuled slots id (v, (j, Replied place reply) ∷ more) (word_of j) (λ _. SERVED) (λ _. answers (step slots (word_of j) SERVED 0 opt.none) (v, (j, Replied place reply) ∷ more) SERVED)
     answer_kept place reply held here legal short =
-        subst (λ (p : ℕ). Allows IsOrderly slots id (v, (j, Replied p reply) ∷ more) (word_of j) (λ _. SERVED) (λ _. answers (step slots (word_of j) SERVED 0 opt.none) (v, (j, Replied p reply) ∷ more) SERVED)) (sym here)
+        subst (λ (p : ℕ). Allows IsRuled slots id (v, (j, Replied p reply) ∷ more) (word_of j) (λ _. SERVED) (λ _. answers (step slots (word_of j) SERVED 0 opt.none) (v, (j, Replied p reply) ∷ more) SERVED)) (sym here)
         (seated slots id v.number j v ((j, Replied (length v.front) reply) ∷ more) (λ _. SERVED) (λ _. answers (step slots (word_of j) SERVED 0 opt.none) (v, (j, Replied (length v.front) reply) ∷ more) SERVED) refl some_number
-        (λ s o me small wide e. answer_goes v.number v refl some_number s o me small has j some_record (omega arith) wide call shown reply legal short more held))
+        (λ s o l me small wide e. answer_goes v.number v refl some_number s o l me small has j some_record (omega arith) wide call shown reply legal short more held))

@@ -1,5 +1,5 @@
 -- A combiner's step keeps the rule: a change of a record while it has the book, and the book's leaving and coming home.
-use Rattle.std.proofs.Common.{◌≡◌, ◌≢◌, ℕ, ◌^◌, ◌<◌, ◌≤◌, true, Option, Some, List, length, get_or, set, refl, sym, ap, ◌∙◌, subst, arith, length-set, get_or-set_other, get_or-set_same}
+use Rattle.std.proofs.Common.{◌≡◌, ◌≢◌, ℕ, ◌^◌, ◌<◌, ◌≤◌, true, Option, Some, None, List, length, get_or, set, refl, sym, ap, ◌∙◌, subst, arith, length-set, get_or-set_other, get_or-set_same}
 use mathlib.Core.Option as opt
 use mathlib.Core.Logic.{dite}
 use mathlib.Core.List.{IsPrefix}
@@ -10,8 +10,8 @@ use Rattle.lock_rules.specs.declared.calls.Call.{Call}
 use Rattle.lock_rules.specs.declared.calls.Entry.{Entry}
 use Rattle.lock_rules.specs.Legal.{IsLegal}
 use Rattle.publication.specs.Words.{word_of, FREE, BUSY}
-use Rattle.publication.specs.Views.{Own, Combiner, Others, asks}
-use Rattle.publication.specs.Rule.{blank, BoardState, word, home, seat, fresh, own_at, published, IsHome, Stands, HasBook, IsOpened, IsSession, IsMaker, AreTrue, IsOrderly}
+use Rattle.publication.specs.Views.{Own, Combiner, Listing, Others, asks}
+use Rattle.publication.specs.Rule.{blank, BoardState, word, home, seat, fresh, own_at, announced, IsHome, Stands, HasBook, IsOpened, IsSession, IsMaker, AreTrue, IsOrderly}
 use Rattle.publication.specs.Kinds.{as_combiner}
 use Rattle.publication.specs.declared.view.View.{View}
 use Rattle.publication.specs.declared.slot.Load.{Load}
@@ -24,10 +24,10 @@ use Rattle.publication.proofs.Others.{still-true}
 abbrev pub IsNothingOpened : Combiner → Type 0
 IsNothingOpened c = (j : ℕ) (call : Call) → get_elem? c.opened j ≢ opt.some (Some call)
 
--- the seat k, whose view is v, changes word x, slot x, its front and what it has as a combiner
-module _ (s : BoardState) (o : IsOrderly s) (k : ℕ) (v : View) (x n : ℕ) (at : opt.Option Held) (front : List Entry) (d : Combiner) (me : get_elem? s.views k ≡ opt.some v) (mine : 0 < k) where
+-- the seat k, whose view is v, changes word x, slot x, its front, what it has as a combiner, and what it knows of the publication list
+module _ (s : BoardState) (o : IsOrderly s) (k : ℕ) (v : View) (x n : ℕ) (at : opt.Option Held) (front : List Entry) (d : Combiner) (l : Listing) (me : get_elem? s.views k ≡ opt.some v) (mine : 0 < k) where
   abbrev u : View
-  u = as_combiner v front d
+  u = as_combiner v front d l
 
   abbrev after : BoardState
   after = record { words = set s.words (word_of x) n; homes = set s.homes x at; views = set s.views k u }
@@ -65,9 +65,13 @@ module _ (s : BoardState) (o : IsOrderly s) (k : ℕ) (v : View) (x n : ℕ) (at
   unmade_kept : (j : ℕ) → length (set s.views k u) ≤ j → own_at o.owns j ≡ fresh
   unmade_kept j past = o.unmade j (omega (arith, seats_kept))
 
-  heard_kept : (i j : ℕ) → get_or (seat after i).heard j 0 ≤ published (own_at o.owns j)
-  heard_kept i j = each_set s.views k u blank (λ i y. get_or y.heard j 0 ≤ published (own_at o.owns j)) sits
-      (subst (λ (y : View). get_or y.heard j 0 ≤ published (own_at o.owns j)) is_me (o.heard k j)) (λ i ne. o.heard i j) i
+  heard_kept : (i j : ℕ) → get_or (seat after i).heard j 0 ≤ announced (own_at o.owns j)
+  heard_kept i j = each_set s.views k u blank (λ i y. get_or y.heard j 0 ≤ announced (own_at o.owns j)) sits
+      (subst (λ (y : View). get_or y.heard j 0 ≤ announced (own_at o.owns j)) is_me (o.heard k j)) (λ i ne. o.heard i j) i
+
+  waits_kept : (j : ℕ) → (own_at o.owns j).pending ≢ None → (seat after j).own ≡ own_at o.owns j
+  waits_kept = each_set s.views k u blank (λ j y. (own_at o.owns j).pending ≢ None → y.own ≡ own_at o.owns j) sits
+      (λ some. ap (λ (y : View). y.own) (sym is_me) ∙ o.waits k some) (λ j ne. o.waits j)
 
   number_kept : (j : ℕ) → (seat s j).number ≡ 0 → (seat after j).number ≡ 0
   number_kept j = each_set s.views k u blank (λ j y. (seat s j).number ≡ 0 → y.number ≡ 0) sits
@@ -190,6 +194,7 @@ module _ (s : BoardState) (o : IsOrderly s) (k : ℕ) (v : View) (x n : ℕ) (at
       makes = makes_kept;
       unmade = unmade_kept;
       sessions = sessions_kept t.wide;
+      waits = waits_kept;
       fronts = fronts_after;
       heard = heard_kept;
       others = others_kept h t.grows;
@@ -258,6 +263,7 @@ module _ (s : BoardState) (o : IsOrderly s) (k : ℕ) (v : View) (x n : ℕ) (at
       makes = makes_kept;
       unmade = unmade_kept;
       sessions = sessions_kept (ap (λ (l : List (Option Call)). length l) t.same);
+      waits = waits_kept;
       fronts = each_set s.views k u blank (λ j y. IsPrefix y.front o.history) sits (subst (λ (f : List Entry). IsPrefix f o.history) (sym t.whole) (prefix_self o.history)) (λ j ne. o.fronts j);
       heard = heard_kept;
       others = others_kept o.history (prefix_self o.history);

@@ -12,6 +12,7 @@ use Rattle.lock_rules.specs.Legal.{IsLegal, calls_of}
 use Rattle.publication.specs.Views.{Handed}
 use Rattle.publication.specs.Closing.{WereHanded, Ends}
 use Rattle.publication.specs.Rule.{blank, BoardState, word, home, seat, own_at, IsHome, IsHanded, AreTrue, IsOrderly}
+use Rattle.publication.specs.List.{IsRuled}
 use Rattle.publication.specs.declared.view.View.{View}
 use Rattle.publication.specs.declared.slot.Load.{Load}
 use Rattle.publication.specs.declared.slot.Held.{Held}
@@ -41,7 +42,7 @@ ends s o id v me all =
       t.0,
       t.1,
       record {
-        home = record { history = refl; sessions = t.2.sessions; empty = t.2.empty; room = t.2.room };
+        home = record { history = refl; sessions = t.2.sessions; empty = t.2.empty; room = t.2.room; ages = t.2.ages };
         legal = subst IsLegal (sym h) o.legal;
         short = subst (λ (f : List Entry). length f < 2 ^ 64) (sym h) o.short;
         ends = λ p x e. let y = has p x e in record {
@@ -54,16 +55,16 @@ ends s o id v me all =
     not_gone : (s : BoardState) (o : IsOrderly s) (k : ℕ) → (seat s k).combiner.has_book ≡ true → (seat s k).number ≡ 0 → ⊥
     not_gone s o k has none = let b = o.books k has in absurd (omega (arith, b.session, b.named))
 
-pub ended : (ws : List ℕ) (xs : List Held) (id slots : ℕ) (v : View) → Final (Seen IsOrderly id v) ws xs → length xs ≡ slots → HasAll slots v
+pub ended : (ws : List ℕ) (xs : List Held) (id slots : ℕ) (v : View) → Final (Seen IsRuled id v) ws xs → length xs ≡ slots → HasAll slots v
     → (l : Box Load) × (get_elem? xs 0 ≡ opt.some (Home l)) × IsLast slots v l.value
 ended ws xs id slots v final long all =
-    let s : BoardState = final.0 in let o : IsOrderly s = final.1.0 in
+    let s : BoardState = final.0 in let o : IsOrderly s = final.1.0.records in
     let same : slots ≡ o.slots = (let a = o.homes_are in let b = final.3 in omega arith) in
     let t = ends s o id v final.1.1 (subst (λ (n : ℕ). HasAll n v) same all) in
     (t.0, final.4 0 (Home t.0) (at_home s.homes 0 (Home t.0) t.1), subst (λ (n : ℕ). IsLast n v t.0.value) (sym same) t.2)
 
 -- and that is the book's, which comes out of its box
-pub last_load : (ws : List ℕ) (xs : List Held) (id slots : ℕ) (v : View) → Final (Seen IsOrderly id v) ws xs → length xs ≡ slots → HasAll slots v
+pub last_load : (ws : List ℕ) (xs : List Held) (id slots : ℕ) (v : View) → Final (Seen IsRuled id v) ws xs → length xs ≡ slots → HasAll slots v
     → (held : Held) → get_elem? xs 0 ≡ opt.some held → (load : Box Load) → held ≡ Home load → (out : Load) → out ≡ load.value → IsLast slots v out
 last_load ws xs id slots v final long all held at load is out unboxed =
     let t = ended ws xs id slots v final long all in

@@ -2,9 +2,14 @@ pub mod Lists
 pub mod Histories
 pub mod Others
 pub mod Records
+pub mod Chains
+pub mod Linking
 pub mod Moves
 pub mod Combines
 pub mod Sessions
+pub mod Routes
+pub mod Enlisting
+pub mod Unlinking
 pub mod Locks
 pub mod Combiners
 pub mod Making

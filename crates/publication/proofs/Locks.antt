@@ -1,5 +1,5 @@
 -- The kinds of step on the lock word: the look, seize and release.
-use Rattle.std.proofs.Common.{◌≡◌, ◌≢◌, ℕ, zero, suc, ◌<◌, true, false, eqb, Some, None, List, ◌∷◌, set, sym, refl, ap, ◌∙◌, subst, arith}
+use Rattle.std.proofs.Common.{◌≡◌, ◌≢◌, ℕ, zero, suc, ◌<◌, true, false, eqb, Some, None, List, [], ◌∷◌, length, get_or, length-set, get_or-set_other, set, sym, refl, ap, ◌∙◌, subst, arith, append-nil}
 use Rattle.std.proofs.lemmas.Bool.{false_from_ne_true}
 use mathlib.Core.Option as opt
 use mathlib.Core.Logic.{dite}
@@ -13,7 +13,9 @@ use Rattle.atomic_table.proofs.Lists.{exchanged}
 use Rattle.lock_rules.specs.declared.calls.Entry.{Entry}
 use Rattle.lock_rules.specs.Legal.{IsLegal}
 use Rattle.publication.specs.Words.{word_of, FREE, BUSY}
-use Rattle.publication.specs.Rule.{blank, BoardState, word, seat, no_combiner, IsHome, HasBook, IsOrderly}
+use Rattle.publication.specs.List.{link, belongs, IsWalking, IsLinked, IsRuled}
+use Rattle.publication.specs.Rule.{blank, BoardState, word, seat, no_combiner, IsHome, HasBook, IsOrderly, unwalked}
+use Rattle.publication.specs.Views.{Combiner}
 use Rattle.publication.specs.Kinds.{combiner, as_combiner, HasOthers, looks_at_lock, seizing, Seized, seizes, releasing, releases}
 use Rattle.publication.specs.declared.view.View.{View}
 use Rattle.publication.specs.declared.slot.Load.{Load}
@@ -21,6 +23,7 @@ use Rattle.publication.specs.declared.slot.Held.{Held}
 use Rattle.publication.specs.declared.slot.Held.TheVariants.{Home}
 use Rattle.publication.proofs.Lists.{at_there, at_home}
 use Rattle.publication.proofs.Sessions.{Goes, seated, unmoved}
+use Rattle.publication.proofs.Linking.{links_kept, IsKeptHere, aside}
 use Rattle.publication.proofs.Combines.{IsNothingOpened, IsLockStep, relocked}
 
 pub nothing_at : (slots : ℕ) → IsNothingOpened (no_combiner slots)
@@ -28,12 +31,26 @@ nothing_at zero j call e = opt.some-ne-none (Some call) (sym e)
 nothing_at (suc n) zero call e = let t : None ≡ Some call = opt.some-injective None (Some call) e in absurd (cc t)
 nothing_at (suc n) (suc j) call e = nothing_at n j call e
 
-module _ (i : ℕ) (v : View) (is : v.number ≡ i) (some_number : 0 < i) (s : BoardState) (o : IsOrderly s) (me : get_elem? s.views i ≡ opt.some v) (small : i < o.slots) where
+module _ (i : ℕ) (v : View) (is : v.number ≡ i) (some_number : 0 < i) (s : BoardState) (o : IsOrderly s) (l : IsLinked s) (me : get_elem? s.views i ≡ opt.some v) (small : i < o.slots) where
   is_me : seat s i ≡ v
   is_me = (at_there s.views i v blank me).0
 
   book_here : (seat s i).combiner.has_book ≡ v.combiner.has_book
   book_here = ap (λ (u : View). u.combiner.has_book) is_me
+
+  -- the publication list stays as it is, where no record is unlinked, and no walk goes on
+  still_listed : (n : ℕ) (at : opt.Option Held) (front : List Entry) (d : Combiner) → l.off ≡ 0
+      → IsLinked record { words = set s.words (word_of 0) n; homes = set s.homes 0 at; views = set s.views i (as_combiner v front d unwalked) }
+  still_listed n at front d none_off =
+      let u : View = as_combiner v front d unwalked in
+      let ws : List ℕ = set s.words (word_of 0) n in
+      let hs : List (opt.Option Held) = set s.homes 0 at in
+      let same : (j : ℕ) → 0 < j → get_or ws (word_of j) 0 ≡ word s j = λ j some. get_or-set_other s.words (word_of 0) (word_of j) n 0 (λ e. omega (arith, e)) in
+      aside s l i v u ws hs me (links_kept s.words 0 n) (length-set s.homes 0 at) (λ _. none_off) (λ j b some ne. ap (λ (m : ℕ). belongs m b) (same j some)) (record {
+        claims = λ b some e. sym (ap (λ (m : ℕ). belongs m v.own.listed) (same i some)) ∙ e;
+        aims = λ m e. absurd (cc e);
+        walkers = λ has. record { new = l.list; list_is = sym (append-nil l.list); off_is = sym none_off; before_is = λ some. absurd (some none_off) };
+      })
 
   -- the look
 
@@ -44,7 +61,7 @@ module _ (i : ℕ) (v : View) (is : v.number ≡ i) (some_number : 0 < i) (s : B
       omega (arith, t.1)
 
   look_goes : (more : List (ℕ × Held)) → Goes s 0 i (v, more) (looks_at_lock (step o.slots 0 0 0 opt.none) (v, more)) (word s 0)
-  look_goes more = (v, keeps, tt, unmoved s o 0 i v me, (refl, another))
+  look_goes more = (v, keeps, tt, unmoved s o l 0 i v me, (refl, another))
 
   -- seize
 
@@ -55,7 +72,7 @@ module _ (i : ℕ) (v : View) (is : v.number ≡ i) (some_number : 0 < i) (s : B
     idle_all : (j : ℕ) → 0 < j → word s j ≢ BUSY
     idle_all j some_record is_busy = let b = o.opened j some_record is_busy in nobody (word s 0) (o.opens (word s 0) j b.0 b.1).book
 
-    seize_step : IsLockStep s o i v 0 i opt.none o.history (combiner true v.combiner.opened 0) me some_number
+    seize_step : IsLockStep s o i v 0 i opt.none o.history (combiner true v.combiner.opened 0) unwalked me some_number
     seize_step = record {
       lock = refl;
       whole = refl;
@@ -72,7 +89,7 @@ module _ (i : ℕ) (v : View) (is : v.number ≡ i) (some_number : 0 < i) (s : B
     seized : (load : Load) → IsHome o.history o.slots load → Seized v o.slots load
     seized load home = record {
       lacked = false_from_ne_true v.combiner.has_book (λ has. nobody i (book_here ∙ has));
-      home = record { history = refl; sessions = home.sessions; empty = home.empty; room = home.room };
+      home = record { history = refl; sessions = home.sessions; empty = home.empty; room = home.room; ages = home.ages };
       legal = subst IsLegal (sym home.history) o.legal;
       longer = subst (λ (f : List Entry). IsPrefix v.front f) (sym home.history) (subst (λ (u : View). IsPrefix u.front o.history) is_me (o.fronts i));
     }
@@ -82,20 +99,25 @@ module _ (i : ℕ) (v : View) (is : v.number ≡ i) (some_number : 0 < i) (s : B
       seizing v load.value.book.history,
       takes 0 (Home load),
       at_home s.homes 0 (Home load) t.1,
-      subst (λ (f : List Entry). IsOrderly record { words = set s.words (word_of 0) i; homes = set s.homes 0 opt.none; views = set s.views i (seizing v f) }) (sym t.2.history)
-          (relocked s o i v 0 i opt.none o.history (combiner true v.combiner.opened 0) me some_number seize_step),
+      subst (λ (f : List Entry). IsRuled record { words = set s.words (word_of 0) i; homes = set s.homes 0 opt.none; views = set s.views i (seizing v f) }) (sym t.2.history) (record {
+        records = relocked s o i v 0 i opt.none o.history (combiner true v.combiner.opened 0) unwalked me some_number seize_step;
+        list = still_listed i opt.none o.history (combiner true v.combiner.opened 0) (l.whole hit);
+      }),
       ((λ _. (load, refl, seized load.value t.2)), λ miss. absurd (miss hit)),
     )
 
   seize_lost : (more : List (ℕ × Held)) → word s 0 ≢ FREE → Goes s 0 i (v, more) (seizes (step o.slots 0 FREE i opt.none) (v, more)) (word s 0)
-  seize_lost more miss = (v, keeps, tt, unmoved s o 0 i v me, ((λ hit. absurd (miss hit)), λ _. (refl, another miss)))
+  seize_lost more miss = (v, keeps, tt, unmoved s o l 0 i v me, ((λ hit. absurd (miss hit)), λ _. (refl, another miss)))
 
   seize_goes : (more : List (ℕ × Held)) → Goes s 0 i (v, more) (seizes (step o.slots 0 FREE i opt.none) (v, more)) (either (eqb (word s 0) FREE) i (word s 0))
   seize_goes more = exchanged (word s 0) FREE i (Goes s 0 i (v, more) (seizes (step o.slots 0 FREE i opt.none) (v, more))) (λ hit. seize_won hit more) (seize_lost more)
 
   -- release
 
-  module _ (has : v.combiner.has_book ≡ true) (load : Box Load) (full : IsHome v.front o.slots load.value) (none : IsNothingOpened v.combiner) where
+  module _ (has : v.combiner.has_book ≡ true) (load : Box Load) (full : IsHome v.front o.slots load.value) (none : IsNothingOpened v.combiner) (settled : v.listing.off ≡ 0) where
+    none_off : l.off ≡ 0
+    none_off = sym (subst (λ (u : View). u.combiner.has_book ≡ true → IsWalking l.list l.off l.before u.listing) is_me (l.walkers i) has).off_is ∙ settled
+
     book : HasBook o.history (word s 0) i v
     book = subst (λ (u : View). u.combiner.has_book ≡ true → HasBook o.history (word s 0) i u) is_me (o.books i) has
 
@@ -110,7 +132,7 @@ module _ (i : ℕ) (v : View) (is : v.number ≡ i) (some_number : 0 < i) (s : B
         (λ e. subst (λ (l : ℕ). IsNothingOpened (seat s l).combiner) (sym e) none_here)
         (λ ne j call shown. nobody_else k ne (o.opens k j call shown).book)
 
-    release_step : IsLockStep s o i v 0 FREE (opt.some (Home load)) o.history (combiner false v.combiner.opened 0) me some_number
+    release_step : IsLockStep s o i v 0 FREE (opt.some (Home load)) o.history (combiner false v.combiner.opened 0) unwalked me some_number
     release_step = record {
       lock = refl;
       whole = refl;
@@ -119,7 +141,7 @@ module _ (i : ℕ) (v : View) (is : v.number ≡ i) (some_number : 0 < i) (s : B
       none = none_all;
       idle_all = λ j some_record is_busy. let t = o.opened j some_record is_busy in none_all (word s 0) j t.0 t.1;
       alone = nobody_else;
-      free = λ _. (load, refl, record { history = full.history ∙ book.whole; sessions = full.sessions; empty = full.empty; room = full.room });
+      free = λ _. (load, refl, record { history = full.history ∙ book.whole; sessions = full.sessions; empty = full.empty; room = full.room; ages = full.ages });
       taken = λ z. absurd (z refl);
       mine_then = λ e. absurd (cc e);
     }
@@ -129,31 +151,33 @@ module _ (i : ℕ) (v : View) (is : v.number ≡ i) (some_number : 0 < i) (s : B
       releasing v,
       gives,
       tt,
-      subst (λ (f : List Entry). IsOrderly record {
+      subst (λ (f : List Entry). IsRuled record {
         words = set s.words (word_of 0) FREE;
         homes = set s.homes 0 (opt.some (Home load));
-        views = set s.views i (as_combiner v f (combiner false v.combiner.opened 0));
-      }) (sym book.whole)
-          (relocked s o i v 0 FREE (opt.some (Home load)) o.history (combiner false v.combiner.opened 0) me some_number release_step),
+        views = set s.views i (as_combiner v f (combiner false v.combiner.opened 0) unwalked);
+      }) (sym book.whole) (record {
+        records = relocked s o i v 0 FREE (opt.some (Home load)) o.history (combiner false v.combiner.opened 0) unwalked me some_number release_step;
+        list = still_listed FREE (opt.some (Home load)) o.history (combiner false v.combiner.opened 0) none_off;
+      }),
       refl,
     )
 
 -- what the table asks of each of these steps
 
 module _ (slots id i : ℕ) (v : View) (more : List (ℕ × Held)) (is : v.number ≡ i) (some_number : 0 < i) where
-  pub look_at_lock_kept : Allows IsOrderly slots id (v, more) 0 (λ n. n) (looks_at_lock (step slots 0 0 0 opt.none) (v, more))
+  pub look_at_lock_kept : Allows IsRuled slots id (v, more) 0 (λ n. n) (looks_at_lock (step slots 0 0 0 opt.none) (v, more))
   look_at_lock_kept = seated slots id i 0 v more (λ n. n) (looks_at_lock (step slots 0 0 0 opt.none) (v, more)) is some_number
-      (λ s o me small wide e. subst (λ (n : ℕ). Goes s 0 i (v, more) (looks_at_lock (step n 0 0 0 opt.none) (v, more)) (word s 0)) e (look_goes i v is some_number s o me small more))
+      (λ s o l me small wide e. subst (λ (n : ℕ). Goes s 0 i (v, more) (looks_at_lock (step n 0 0 0 opt.none) (v, more)) (word s 0)) e (look_goes i v is some_number s o l me small more))
 
-  pub seize_kept : Allows IsOrderly slots id (v, more) 0 (λ n. either (eqb n FREE) i n) (seizes (step slots 0 FREE i opt.none) (v, more))
+  pub seize_kept : Allows IsRuled slots id (v, more) 0 (λ n. either (eqb n FREE) i n) (seizes (step slots 0 FREE i opt.none) (v, more))
   seize_kept = seated slots id i 0 v more (λ n. either (eqb n FREE) i n) (seizes (step slots 0 FREE i opt.none) (v, more)) is some_number
-      (λ s o me small wide e. subst (λ (n : ℕ). Goes s 0 i (v, more) (seizes (step n 0 FREE i opt.none) (v, more)) (either (eqb (word s 0) FREE) i (word s 0))) e (seize_goes i v is some_number s o me small more))
+      (λ s o l me small wide e. subst (λ (n : ℕ). Goes s 0 i (v, more) (seizes (step n 0 FREE i opt.none) (v, more)) (either (eqb (word s 0) FREE) i (word s 0))) e (seize_goes i v is some_number s o l me small more))
 
 module _ (slots id : ℕ) (v : View) (is : v.number ≢ 0) (has : v.combiner.has_book ≡ true) where
   some_number : 0 < v.number
   some_number = omega arith
 
-  pub release_kept : (load : Box Load) (more : List (ℕ × Held)) → IsHome v.front slots load.value → IsNothingOpened v.combiner
-      → Allows IsOrderly slots id (v, (0, Home load) ∷ more) 0 (λ _. FREE) (λ _. releases (step slots 0 FREE 0 opt.none) (v, (0, Home load) ∷ more) FREE)
-  release_kept load more full none = seated slots id v.number 0 v ((0, Home load) ∷ more) (λ _. FREE) (λ _. releases (step slots 0 FREE 0 opt.none) (v, (0, Home load) ∷ more) FREE) refl some_number
-      (λ s o me small wide e. release_goes v.number v refl some_number s o me small has load (subst (λ (n : ℕ). IsHome v.front n load.value) (sym e) full) none more)
+  pub release_kept : (load : Box Load) (more : List (ℕ × Held)) → IsHome v.front slots load.value → IsNothingOpened v.combiner → v.listing.off ≡ 0
+      → Allows IsRuled slots id (v, (0, Home load) ∷ more) 0 (λ _. FREE) (λ _. releases (step slots 0 FREE 0 opt.none) (v, (0, Home load) ∷ more) FREE)
+  release_kept load more full none settled = seated slots id v.number 0 v ((0, Home load) ∷ more) (λ _. FREE) (λ _. releases (step slots 0 FREE 0 opt.none) (v, (0, Home load) ∷ more) FREE) refl some_number
+      (λ s o l me small wide e. release_goes v.number v refl some_number s o l me small has load (subst (λ (n : ℕ). IsHome v.front n load.value) (sym e) full) none settled more)

@@ -1,5 +1,5 @@
 -- A board begins in order, and stays so while its sessions are made.
-use Rattle.std.proofs.Common.{◌≡◌, ◌≢◌, ℕ, zero, suc, ◌+◌, ◌<◌, ◌≤◌, Bool, true, false, Some, None, List, [], ◌∷◌, ◌++◌, length, map, replicate, get_or, set, sym, refl, ap, ◌∙◌, subst, arith, length-set, length-append}
+use Rattle.std.proofs.Common.{◌≡◌, ◌≢◌, ℕ, zero, suc, ◌+◌, ◌<◌, ◌≤◌, Bool, true, false, Some, None, List, [], ◌∷◌, ◌++◌, length, map, replicate, get_or, set, Option, sym, refl, ap, ◌∙◌, subst, arith, length-set, length-append, get_or-set_other, get_or-set_same, inr}
 use Rattle.std.proofs.lemmas.List.{length-map, length-replicate}
 use mathlib.Core.Option as opt
 use mathlib.Core.List.{IsPrefix}
@@ -10,15 +10,17 @@ use Rattle.std.specs.Global.{Box}
 use Rattle.atomic_table.specs.Table.{opening, Splits}
 use Rattle.lock_rules.specs.declared.calls.Call.{Call}
 use Rattle.lock_rules.specs.declared.calls.Entry.{Entry}
-use Rattle.publication.specs.Words.{word_of, EMPTY}
+use Rattle.publication.specs.Words.{word_of, link_of, END, OUT}
+use Rattle.publication.specs.List.{IsOn, link, belongs, is_listed, IsLinked, IsRuled}
 use Rattle.publication.specs.Views.{Own}
-use Rattle.publication.specs.Rule.{BoardState, blank, apart, AreTrue, fresh, own_at, published, maker, newcomer, word, home, seat, IsHome, IsIdle, Stands, HasBook, IsOpened, IsSession, IsMaker, IsOrderly}
+use Rattle.publication.specs.Rule.{BoardState, blank, apart, AreTrue, fresh, own_at, announced, maker, newcomer, word, home, seat, IsHome, IsIdle, Stands, HasBook, IsOpened, IsSession, IsMaker, IsOrderly}
 use Rattle.publication.specs.Rule.Stands.{idle}
 use Rattle.publication.specs.declared.view.View.{View}
 use Rattle.publication.specs.declared.slot.Load.{Load}
 use Rattle.publication.specs.declared.slot.Held.TheVariants.{Nothing, Home}
 use Rattle.publication.proofs.Lists.{at_there, each_set, each_snoc, prefix_self, same_all, past_end}
 use Rattle.publication.proofs.Others.{StaysGone, still-true}
+use Rattle.publication.proofs.Linking.{Keeps, seen_listed, same_seat, unseated}
 use Rattle.publication.proofs.Locks.{nothing_at}
 
 -- what is at home in the slots that are laid out
@@ -42,42 +44,63 @@ module _ (n : ℕ) (load : Box Load) (ready : IsHome [] (n + 1) load.value) wher
   first = maker (n + 1) 0
 
   abbrev laid_out : BoardState
-  laid_out = opening (replicate (word_of (n + 1)) 0) (Home load ∷ replicate n Nothing) first
+  laid_out = opening (set (replicate (word_of (n + 1)) 0) 1 END) (Home load ∷ replicate n Nothing) first
 
   each : (P : View → Type 0) → P first → P blank → (k : ℕ) → P (seat laid_out k)
   each = first_seats first
 
   words_zero : (i : ℕ) → word laid_out i ≡ 0
-  words_zero i = same_all (word_of (n + 1)) (word_of i) 0
+  words_zero i = get_or-set_other (replicate (word_of (n + 1)) 0) 1 (word_of i) END 0 (λ e. omega (arith, e)) ∙ same_all (word_of (n + 1)) (word_of i) 0
 
-  idle_first : (i : ℕ) → IsIdle [] i EMPTY (opt.some Nothing) fresh
-  idle_first i = record { is = refl; none = refl; out = λ e. absurd (cc e); laid = λ _. refl; publishes = refl; calls = refl }
+  idle_first : (i : ℕ) → IsIdle [] i OUT (opt.some Nothing) fresh
+  idle_first i = record { is = inr refl; none = refl; out = λ e. absurd (cc e); laid = λ _. refl; publishes = refl; calls = refl }
 
   stands_first : (i : ℕ) → 0 < i → i < n + 1 → Stands [] i 0 (home laid_out i) (own_at (replicate (n + 1) fresh) i)
   stands_first zero h few = absurd (omega arith)
   stands_first (suc i) h few = rw (nothings n i (omega arith), same_all (n + 1) (suc i) fresh) (idle (idle_first (suc i)))
 
-  heard_first : (k j : ℕ) → get_or (seat laid_out k).heard j 0 ≤ published (own_at (replicate (n + 1) fresh) j)
-  heard_first k j = each (λ u. get_or u.heard j 0 ≤ published (own_at (replicate (n + 1) fresh) j)) (omega arith) (omega arith) k
+  heard_first : (k j : ℕ) → get_or (seat laid_out k).heard j 0 ≤ announced (own_at (replicate (n + 1) fresh) j)
+  heard_first k j = each (λ u. get_or u.heard j 0 ≤ announced (own_at (replicate (n + 1) fresh) j)) (omega arith) (omega arith) k
 
   others_first : (k : ℕ) → AreTrue [] laid_out (n + 1) (replicate (n + 1) fresh) (seat laid_out k).others
   others_first = each (λ u. AreTrue [] laid_out (n + 1) (replicate (n + 1) fresh) u.others)
       (told_nothing [] laid_out (n + 1) (replicate (n + 1) fresh) (nat_le (n + 1) 1) (leb-true (n + 1) 1))
       (told_nothing [] laid_out (n + 1) (replicate (n + 1) fresh) false (λ e. absurd (cc e)))
 
-  pub begins : IsOrderly laid_out
-  begins = record {
+  head_end : link laid_out 0 ≡ END
+  head_end = get_or-set_same (replicate (word_of (n + 1)) 0) 1 END 0 (omega (arith, length-replicate {A = ℕ} (word_of (n + 1)) 0))
+
+  -- the publication list is empty, and every record is off it
+  none_listed : IsLinked laid_out
+  none_listed = record {
+    list = [];
+    chain = head_end;
+    apart = tt;
+    within = λ q on. absurd on;
+    off = 0;
+    before = 0;
+    unlinked = λ some. absurd (some refl);
+    whole = λ _. refl;
+    ons = λ j some is. absurd (let e = ap (λ (w : ℕ). belongs w (seat laid_out j).own.listed) (words_zero j) in cc (e, is));
+    offs = λ j some is. ((λ on. on), λ e. omega arith);
+    aims = λ j m is. absurd (each (λ u. u.listing.aim ≡ Some m → ⊥) (λ e. cc e) (λ e. cc e) j is);
+    walkers = λ k has. absurd (each (λ u. u.combiner.has_book ≡ true → ⊥) (λ e. cc e) (λ e. cc e) k has);
+  }
+
+  in_order : IsOrderly laid_out
+  in_order = record {
     history = [];
     slots = n + 1;
     owns = replicate (n + 1) fresh;
     legal = tt;
     short = omega arith;
     owns_are = length-replicate (n + 1) fresh;
-    words_are = length-replicate (word_of (n + 1)) 0;
+    words_are = length-set (replicate (word_of (n + 1)) 0) 1 END ∙ length-replicate (word_of (n + 1)) 0;
     homes_are = omega (arith, length-map (replicate n Nothing) opt.some, length-replicate n Nothing);
     makes = record { slots_are = refl; number = refl; none = refl; there = omega arith; some_slot = omega arith; made = λ _. refl };
     unmade = λ j past. same_all (n + 1) j fresh;
     sessions = λ k. each (λ u. u.number ≢ 0 → IsSession (n + 1) (replicate (n + 1) fresh) k u) (λ no_number. absurd (no_number refl)) (λ no_number. absurd (no_number refl)) k;
+    waits = λ j some. absurd (some (ap (λ (x : Own). x.pending) (same_all (n + 1) j fresh)));
     fronts = each (λ u. IsPrefix u.front []) (prefix_self []) (prefix_self []);
     heard = heard_first;
     others = others_first;
@@ -88,6 +111,9 @@ module _ (n : ℕ) (load : Box Load) (ready : IsHome [] (n + 1) load.value) wher
     opens = λ k j call is. absurd (each (λ u. get_elem? u.combiner.opened j ≡ opt.some (Some call) → ⊥) (nothing_at 0 j call) (nothing_at 0 j call) k is);
     opened = λ j some_session is. absurd (omega (arith, words_zero j));
   }
+
+  pub begins : IsRuled laid_out
+  begins = record { records = in_order; list = none_listed }
 
 -- the first seat of a board in order makes one session more
 module _ (slots made : ℕ) (some_left : made + 1 < slots) (s : BoardState) (o : IsOrderly s) (me : get_elem? s.views 0 ≡ opt.some (maker slots made)) where
@@ -156,8 +182,8 @@ module _ (slots made : ℕ) (some_left : made + 1 < slots) (s : BoardState) (o :
       })
       (λ no_number. absurd (no_number refl)) (λ k ne. o.sessions k)
 
-  heard_after : (k j : ℕ) → get_or (seat enrolled k).heard j 0 ≤ published (own_at o.owns j)
-  heard_after k j = each_seat (λ k u. get_or u.heard j 0 ≤ published (own_at o.owns j)) (omega (arith, same_all {A = ℕ} slots j 0)) (omega arith) (λ k ne. o.heard k j) k
+  heard_after : (k j : ℕ) → get_or (seat enrolled k).heard j 0 ≤ announced (own_at o.owns j)
+  heard_after k j = each_seat (λ k u. get_or u.heard j 0 ≤ announced (own_at o.owns j)) (omega (arith, same_all {A = ℕ} slots j 0)) (omega arith) (λ k ne. o.heard k j) k
 
   -- no seat that had no session has one, but the new one
   none_joined : StaysGone s enrolled o.owns o.owns
@@ -198,6 +224,9 @@ module _ (slots made : ℕ) (some_left : made + 1 < slots) (s : BoardState) (o :
     makes = makes_more;
     unmade = λ j past. o.unmade j (omega (arith, one_more));
     sessions = sessions_after;
+    waits = each_seat (λ k u. (own_at o.owns k).pending ≢ None → u.own ≡ own_at o.owns k)
+        (λ some. absurd (some (ap (λ (x : Own). x.pending) (o.unmade (length s.views) (omega arith)))))
+        (λ some. ap (λ (u : View). u.own) (sym is_me) ∙ o.waits 0 some) (λ k ne. o.waits k);
     fronts = each_seat (λ k u. IsPrefix u.front o.history) (o.history, refl) (o.history, refl) (λ k ne. o.fronts k);
     heard = heard_after;
     others = others_after;
@@ -209,5 +238,15 @@ module _ (slots made : ℕ) (some_left : made + 1 < slots) (s : BoardState) (o :
     opened = λ j some_session is. let p = o.opened j some_session is in (p.0, still_open j p.0 (word s 0) p.1);
   }
 
-pub enrols : (id slots made : ℕ) → id ≡ 0 → made + 1 < slots → Splits IsOrderly id (maker slots made) (maker slots (made + 1)) (newcomer slots (made + 1))
-enrols id slots made first few = subst (λ (i : ℕ). Splits IsOrderly i (maker slots made) (maker slots (made + 1)) (newcomer slots (made + 1))) (sym first) (λ s o me. enrols_one slots made few s o me)
+  -- the publication list stays as it is
+  still_listed : (l : IsLinked s) → IsLinked enrolled
+  still_listed l = seen_listed s l seats_after (each_seat (Keeps s enrolled l)
+      (unseated s l seats_after (length s.views) joined (ap (λ (u : View). u.own.listed) (sym (past_end s.views blank))) refl refl)
+      (unseated s l seats_after 0 more (ap (λ (u : View). u.own.listed) (sym is_me)) refl refl)
+      (λ k ne. same_seat s enrolled l k (λ b some. refl)))
+
+  enrols_ruled : (l : IsLinked s) → IsRuled enrolled
+  enrols_ruled l = record { records = enrols_one; list = still_listed l }
+
+pub enrols : (id slots made : ℕ) → id ≡ 0 → made + 1 < slots → Splits IsRuled id (maker slots made) (maker slots (made + 1)) (newcomer slots (made + 1))
+enrols id slots made first few = subst (λ (i : ℕ). Splits IsRuled i (maker slots made) (maker slots (made + 1)) (newcomer slots (made + 1))) (sym first) (λ s r me. enrols_ruled slots made few s r.records me r.list)

@@ -1,12 +1,13 @@
 -- What one seat knows reaches another: a seat is cut in two, or takes another in, which ends.
-use Rattle.std.proofs.Common.{◌≡◌, ◌≢◌, ◌⊎◌, inl, inr, ⊎_elim, ℕ, ◌+◌, ◌<◌, ◌≤◌, ◌||◌, Bool, true, false, None, List, [], ◌∷◌, ◌++◌, length, get_or, set, sym, refl, ap, ◌∙◌, subst, arith, length-set, length-append, get_or-set_same}
+use Rattle.std.proofs.Common.{◌≡◌, ◌≢◌, ◌⊎◌, inl, inr, ⊎_elim, ℕ, ◌+◌, ◌<◌, ◌≤◌, ◌||◌, Bool, true, false, Option, Some, None, List, [], ◌∷◌, ◌++◌, length, get_or, set, sym, refl, ap, ◌∙◌, subst, arith, length-set, length-append, get_or-set_same}
 use mathlib.Core.Option as opt
 use mathlib.Core.List.{IsPrefix}
 use lib.ListN.{get_elem?}
 use Rattle.atomic_table.specs.Table.{Splits, Joins}
 use Rattle.lock_rules.specs.declared.calls.Entry.{Entry}
-use Rattle.publication.specs.Views.{Others}
-use Rattle.publication.specs.Rule.{blank, BoardState, word, seat, own_at, published, HasBook, IsSession, IsMaker, IsHanded, AreTrue, IsOrderly}
+use Rattle.publication.specs.Views.{Own, Others}
+use Rattle.publication.specs.Rule.{blank, BoardState, word, home, seat, own_at, announced, Stands, HasBook, IsSession, IsMaker, IsHanded, AreTrue, IsOrderly}
+use Rattle.publication.specs.List.{belongs, IsLinked, IsRuled}
 use Rattle.publication.specs.Kinds.{copy_of, as_hearer, joined, handed_in, gathered}
 use Rattle.publication.specs.declared.view.View.{View}
 use Rattle.atomic_table.proofs.Lists.{set_again, set_else}
@@ -15,6 +16,8 @@ use Rattle.publication.proofs.Others.{StaysGone}
 use Rattle.publication.proofs.Longer.{maxes-at}
 use Rattle.publication.proofs.Making.{told_nothing}
 use Rattle.publication.proofs.Seats.{viewed, Sits, sits-same, sits-others, reviewed}
+use Rattle.publication.proofs.Linking.{Keeps, viewed_as, seen_listed, same_listed, same_seat, unseated}
+use Rattle.publication.proofs.Records.{idle_belongs}
 
 -- a seat that knows more has the same session, and makes as many
 makes_on : (slots seats : ℕ) (v : View) (front : List Entry) (heard : List ℕ) (others : Others) → IsMaker slots seats v → IsMaker slots seats (as_hearer v front heard others)
@@ -31,18 +34,19 @@ module _ (s : BoardState) (o : IsOrderly s) (id : ℕ) (v : View) (front : List 
   is_me : seat s id ≡ v
   is_me = (at_there s.views id v blank me).0
 
-  sits_here : (vs : List View) → IsPrefix front o.history → (v.combiner.has_book ≡ true → front ≡ o.history) → ((j : ℕ) → get_or heard j 0 ≤ published (own_at o.owns j))
+  sits_here : (vs : List View) → IsPrefix front o.history → (v.combiner.has_book ≡ true → front ≡ o.history) → ((j : ℕ) → get_or heard j 0 ≤ announced (own_at o.owns j))
       → AreTrue o.history (viewed s o vs) o.slots o.owns others → Sits s o vs id u
   sits_here vs begins whole hears tells = record {
     front = begins;
     heard = hears;
     others = tells;
+    waits = λ some. ap (λ (x : View). x.own) (sym is_me) ∙ o.waits id some;
     session = λ some_number. session_on s o id v front heard others (subst (λ (x : View). x.number ≢ 0 → IsSession o.slots o.owns id x) is_me (o.sessions id) some_number);
     book = λ has. let t = subst (λ (x : View). x.combiner.has_book ≡ true → HasBook o.history (word s 0) id x) is_me (o.books id) has in record { lock_is = t.lock_is; session = t.session; named = t.named; whole = whole has };
     combiner = inl (ap (λ (x : View). x.combiner) (sym is_me));
   }
 
-  pub learned : IsPrefix front o.history → (v.combiner.has_book ≡ true → front ≡ o.history) → ((j : ℕ) → get_or heard j 0 ≤ published (own_at o.owns j))
+  pub learned : IsPrefix front o.history → (v.combiner.has_book ≡ true → front ≡ o.history) → ((j : ℕ) → get_or heard j 0 ≤ announced (own_at o.owns j))
       → AreTrue o.history (viewed s o (set s.views id u)) o.slots o.owns others → IsOrderly (viewed s o (set s.views id u))
   learned begins whole hears tells =
       let vs : List View = set s.views id u in
@@ -79,9 +83,9 @@ module _ (s : BoardState) (o : IsOrderly s) (id : ℕ) (v : View) (front : List 
     pub gone_joint : StaysGone s (viewed s o joint) o.owns o.owns
     gone_joint j some few none = (each (λ j x. (seat s j).number ≡ 0 → x.number ≡ 0) (λ _. refl) (λ z. ap (λ (x : View). x.number) (sym is_me) ∙ z) (λ j a b z. z) j none, refl)
 
-    pub merged : other ≢ 0 → w.combiner.has_book ≡ false → IsPrefix front o.history → (v.combiner.has_book ≡ true → front ≡ o.history) → ((j : ℕ) → get_or heard j 0 ≤ published (own_at o.owns j))
+    pub merged : other ≢ 0 → w.own.pending ≡ None → w.combiner.has_book ≡ false → IsPrefix front o.history → (v.combiner.has_book ≡ true → front ≡ o.history) → ((j : ℕ) → get_or heard j 0 ≤ announced (own_at o.owns j))
         → AreTrue o.history (viewed s o joint) o.slots o.owns others → IsOrderly (viewed s o joint)
-    merged not_first no_book begins whole hears tells =
+    merged not_first settled no_book begins whole hears tells =
         let long = long_joint in
         reviewed s o joint (omega arith)
         (subst (λ (n : ℕ). IsMaker o.slots n (get_or joint 0 blank)) (sym long) (each (λ j x. j ≡ 0 → IsMaker o.slots (length s.views) x) (λ e. absurd (not_first e))
@@ -92,11 +96,35 @@ module _ (s : BoardState) (o : IsOrderly s) (id : ℕ) (v : View) (front : List 
           front = (o.history, refl);
           heard = λ j. omega arith;
           others = told_nothing o.history (viewed s o joint) o.slots o.owns false (λ e. absurd (cc e));
+          waits = λ some. absurd (some (ap (λ (y : Own). y.pending) (sym (o.waits other some)) ∙ (ap (λ (x : View). x.own.pending) is_other ∙ settled)));
           session = λ some_number. absurd (some_number refl);
           book = λ e. absurd (cc e);
           combiner = inr (ap (λ (x : View). x.combiner.has_book) is_other ∙ no_book, refl);
         })
         (sits_here joint begins whole hears tells) (λ k a b. sits-same s o joint (omega arith) gone_joint k))
+
+-- the publication list stays as it is where a seat learns
+pub learned_listed : (s : BoardState) (l : IsLinked s) (id : ℕ) (v : View) (front : List Entry) (heard : List ℕ) (others : Others) → get_elem? s.views id ≡ opt.some v
+    → IsLinked record { words = s.words; homes = s.homes; views = set s.views id (as_hearer v front heard others) }
+learned_listed s l id v front heard others me =
+    let u : View = as_hearer v front heard others in
+    let vs : List View = set s.views id u in
+    seen_listed s l vs (each_set s.views id u blank (Keeps s (viewed_as s l vs) l) (at_there s.views id v blank me).1
+    (same_listed s l vs id v u (at_there s.views id v blank me).0 refl refl refl)
+    (λ j ne. same_seat s (viewed_as s l vs) l j (λ b some. refl)))
+
+-- and where it takes another seat in whose record belongs where it would with no call listed
+merged_listed : (s : BoardState) (l : IsLinked s) (id : ℕ) (v : View) (front : List Entry) (heard : List ℕ) (others : Others) (other : ℕ) (w : View) → get_elem? s.views id ≡ opt.some v
+    → get_elem? (set s.views id (as_hearer v front heard others)) other ≡ opt.some w → ((b : Bool) → 0 < other → belongs (word s other) false ≡ Some b → belongs (word s other) (seat s other).own.listed ≡ Some b)
+    → IsLinked record { words = s.words; homes = s.homes; views = set (set s.views id (as_hearer v front heard others)) other blank }
+merged_listed s l id v front heard others other w me with claims =
+    let u : View = as_hearer v front heard others in
+    let vs : List View = set (set s.views id u) other blank in
+    seen_listed s l vs (each_set (set s.views id u) other blank blank (Keeps s (viewed_as s l vs) l) (at_there (set s.views id u) other w blank with).1
+    (record { claims = claims; aims = λ n is. absurd (cc is); walkers = λ has. absurd (cc has) })
+    (λ j not_other. each_set s.views id u blank (λ i x. Keeps s (viewed_as s l vs) l i x) (at_there s.views id v blank me).1
+    (same_listed s l vs id v u (at_there s.views id v blank me).0 refl refl refl)
+    (λ i ne. same_seat s (viewed_as s l vs) l i (λ b some. refl)) j))
 
 either_of : (a b : Bool) → a || b ≡ true → (a ≡ true) ⊎ (b ≡ true)
 either_of true b e = inl refl
@@ -112,12 +140,13 @@ module _ (id : ℕ) (v : View) (other : ℕ) (w : View) (s : BoardState) (o : Is
   v_whole : v.combiner.has_book ≡ true → v.front ≡ o.history
   v_whole has = (subst (λ (x : View). x.combiner.has_book ≡ true → HasBook o.history (word s 0) id x) v_is (o.books id) has).whole
 
-  v_heard : (j : ℕ) → get_or v.heard j 0 ≤ published (own_at o.owns j)
-  v_heard = subst (λ (x : View). (j : ℕ) → get_or x.heard j 0 ≤ published (own_at o.owns j)) v_is (o.heard id)
+  v_heard : (j : ℕ) → get_or v.heard j 0 ≤ announced (own_at o.owns j)
+  v_heard = subst (λ (x : View). (j : ℕ) → get_or x.heard j 0 ≤ announced (own_at o.owns j)) v_is (o.heard id)
 
 -- hear: a copy of what another seat knows is taken in
-pub joins : (id : ℕ) (v : View) (other : ℕ) (w : View) → w.number ≡ 0 → w.slots ≡ 0 → w.combiner.has_book ≡ false → Joins IsOrderly id v other w (joined v w) blank
-joins id v other w no_number no_slots no_book s o me apart_from with =
+pub joins : (id : ℕ) (v : View) (other : ℕ) (w : View) → w.number ≡ 0 → w.slots ≡ 0 → w.combiner.has_book ≡ false → (w.own.pending ≡ None) × (w.own.listed ≡ false) → Joins IsRuled id v other w (joined v w) blank
+joins id v other w no_number no_slots no_book idle s r me apart_from with =
+    let o = r.records in
     let k : Others = (joined v w).others in
     let hs : List ℕ = (joined v w).heard in
     let w_is : seat s other ≡ w = is_other s o id v v.front hs k me other w apart_from with in
@@ -125,20 +154,26 @@ joins id v other w no_number no_slots no_book s o me apart_from with =
     let vs : List View = joint s o id v v.front hs k me other w apart_from with in
     let was : AreTrue o.history (viewed s o vs) o.slots o.owns v.others = subst (λ (x : View). AreTrue o.history (viewed s o vs) o.slots o.owns x.others) (v_is id v other w s o me) (sits-others s o vs (omega arith) (gone_joint s o id v v.front hs k me other w apart_from with) id) in
     let theirs : AreTrue o.history (viewed s o vs) o.slots o.owns w.others = subst (λ (x : View). AreTrue o.history (viewed s o vs) o.slots o.owns x.others) w_is (sits-others s o vs (omega arith) (gone_joint s o id v v.front hs k me other w apart_from with) other) in
-    merged s o id v v.front hs k me other w apart_from with
-    (λ e. let z : w.slots ≡ o.slots = ap (λ (x : View). x.slots) (sym w_is) ∙ (ap (λ (j : ℕ). (seat s j).slots) e ∙ o.makes.slots_are) in omega (arith, o.makes.some_slot))
-    no_book (v_begins id v other w s o me) (v_whole id v other w s o me)
-    (λ j. let a = v_heard id v other w s o me j in let b : get_or w.heard j 0 ≤ published (own_at o.owns j) = subst (λ (x : View). get_or x.heard j 0 ≤ published (own_at o.owns j)) w_is (o.heard other j) in
-    let c = maxes-at v.heard w.heard j in omega arith)
-    (record {
-      all_made = λ is. ⊎_elim was.all_made theirs.all_made (either_of v.others.all_made w.others.all_made is);
-      beside = subst (λ (x : View). IsPrefix x.front o.history) w_is (o.fronts other);
-      handed = was.handed;
-    })
+    record {
+      records =
+          merged s o id v v.front hs k me other w apart_from with
+          (λ e. let z : w.slots ≡ o.slots = ap (λ (x : View). x.slots) (sym w_is) ∙ (ap (λ (j : ℕ). (seat s j).slots) e ∙ o.makes.slots_are) in omega (arith, o.makes.some_slot))
+          idle.0 no_book (v_begins id v other w s o me) (v_whole id v other w s o me)
+          (λ j. let a = v_heard id v other w s o me j in let b : get_or w.heard j 0 ≤ announced (own_at o.owns j) = subst (λ (x : View). get_or x.heard j 0 ≤ announced (own_at o.owns j)) w_is (o.heard other j) in
+          let c = maxes-at v.heard w.heard j in omega arith)
+          (record {
+            all_made = λ is. ⊎_elim was.all_made theirs.all_made (either_of v.others.all_made w.others.all_made is);
+            beside = subst (λ (x : View). IsPrefix x.front o.history) w_is (o.fronts other);
+            handed = was.handed;
+          });
+      list = merged_listed s r.list id v v.front hs k other w me with (λ b some is.
+          ap (λ (y : View). belongs (word s other) y.own.listed) w_is ∙ (ap (λ (y : Bool). belongs (word s other) y) idle.1 ∙ is));
+    }
 
 -- gather: the seat of a session is taken in
-pub gathers : (id : ℕ) (v : View) (other : ℕ) (w : View) → w.number ≢ 0 → w.own.pending ≡ None → w.combiner.has_book ≡ false → Joins IsOrderly id v other w (gathered v w) blank
-gathers id v other w some_number settled no_book s o me apart_from with =
+pub gathers : (id : ℕ) (v : View) (other : ℕ) (w : View) → w.number ≢ 0 → w.own.pending ≡ None → w.combiner.has_book ≡ false → Joins IsRuled id v other w (gathered v w) blank
+gathers id v other w some_number settled no_book s r me apart_from with =
+    let o = r.records in
     let k : Others = (gathered v w).others in
     let w_is : seat s other ≡ w = is_other s o id v v.front v.heard k me other w apart_from with in
     let long = long_joint s o id v v.front v.heard k me other w apart_from with in
@@ -156,37 +191,49 @@ gathers id v other w some_number settled no_book s o me apart_from with =
       collected = ap (λ x. x.collected) own_is;
       begins = subst (λ (x : View). IsPrefix x.front o.history) w_is (o.fronts other);
     } in
-    merged s o id v v.front v.heard k me other w apart_from with
-    (λ e. some_number (omega (arith, t.is)))
-    no_book (v_begins id v other w s o me) (v_whole id v other w s o me) (v_heard id v other w s o me)
-    (record {
-      all_made = was.all_made;
-      beside = was.beside;
-      handed = λ p x at. ⊎_elim (was.handed p x) (λ new. subst (IsHanded o.history (viewed s o vs) o.slots o.owns) new now) (at_pushed v.others.handed (handed_in w) p x at);
-    })
+    let stands : Stands o.history other (word s other) (home s other) w.own = subst (λ (y : Own). Stands o.history other (word s other) (home s other) y) (sym t.own_is) (o.stands other (omega (arith, t.is)) t.small) in
+    record {
+      records =
+          merged s o id v v.front v.heard k me other w apart_from with
+          (λ e. some_number (omega (arith, t.is)))
+          settled no_book (v_begins id v other w s o me) (v_whole id v other w s o me) (v_heard id v other w s o me)
+          (record {
+            all_made = was.all_made;
+            beside = was.beside;
+            handed = λ p x at. ⊎_elim (was.handed p x) (λ new. subst (IsHanded o.history (viewed s o vs) o.slots o.owns) new now) (at_pushed v.others.handed (handed_in w) p x at);
+          });
+      list = merged_listed s r.list id v v.front v.heard k other w me with (λ b some is.
+          ap (λ (y : View). belongs (word s other) y.own.listed) w_is ∙ idle_belongs stands settled false w.own.listed b is);
+    }
 
 -- cut: a new seat has a copy of what the seat knows
-pub cuts : (id : ℕ) (v : View) → v.others.all_made ≡ true → Splits IsOrderly id v v (copy_of v)
-cuts id v all_made s o me =
+pub cuts : (id : ℕ) (v : View) → v.others.all_made ≡ true → Splits IsRuled id v v (copy_of v)
+cuts id v all_made s r me =
+    let o = r.records in let l = r.list in
     let v_is : seat s id ≡ v = (at_there s.views id v blank me).0 in
     let enough : o.slots ≤ length s.views = (o.others id).all_made (ap (λ (x : View). x.others.all_made) v_is ∙ all_made) in
     let b : View = copy_of v in let vs : List View = s.views ++ b ∷ [] in
     let long : length vs ≡ length s.views + 1 = length-append s.views (b ∷ []) in
     let each : (P : ℕ → View → Type 0) → P (length s.views) b → ((k : ℕ) → P k (seat s k)) → (k : ℕ) → P k (get_or vs k blank) = λ P new else. each_snoc s.views b blank P new else in
     let gone : StaysGone s (viewed s o vs) o.owns o.owns = λ j some few none. (each (λ j x. (seat s j).number ≡ 0 → x.number ≡ 0) (λ _. refl) (λ j z. z) j none, refl) in
-    subst (λ (us : List View). IsOrderly record { words = s.words; homes = s.homes; views = us ++ b ∷ [] }) (sym (set_again s.views id v me))
-    (reviewed s o vs (omega arith)
-    (subst (λ (x : View). IsMaker o.slots (length vs) x) (sym (first_kept s.views b o.makes.there)) (let t = o.makes in record { slots_are = t.slots_are; number = t.number; none = t.none; there = omega arith; some_slot = t.some_slot; made = λ few. absurd (let q = t.made few in omega arith) }))
-    (each (Sits s o vs)
-    (record {
-      front = subst (λ (x : View). IsPrefix x.front o.history) v_is (o.fronts id);
-      heard = subst (λ (x : View). (j : ℕ) → get_or x.heard j 0 ≤ published (own_at o.owns j)) v_is (o.heard id);
-      others = told_nothing o.history (viewed s o vs) o.slots o.owns true (λ _. omega arith);
-      session = λ some_number. absurd (some_number refl);
-      book = λ e. absurd (cc e);
-      combiner = inr (ap (λ (x : View). x.combiner.has_book) (past_end s.views blank), refl);
+    subst (λ (us : List View). IsRuled record { words = s.words; homes = s.homes; views = us ++ b ∷ [] }) (sym (set_again s.views id v me)) (record {
+      records = reviewed s o vs (omega arith)
+          (subst (λ (x : View). IsMaker o.slots (length vs) x) (sym (first_kept s.views b o.makes.there)) (let t = o.makes in record { slots_are = t.slots_are; number = t.number; none = t.none; there = omega arith; some_slot = t.some_slot; made = λ few. absurd (let q = t.made few in omega arith) }))
+          (each (Sits s o vs)
+          (record {
+            front = subst (λ (x : View). IsPrefix x.front o.history) v_is (o.fronts id);
+            heard = subst (λ (x : View). (j : ℕ) → get_or x.heard j 0 ≤ announced (own_at o.owns j)) v_is (o.heard id);
+            others = told_nothing o.history (viewed s o vs) o.slots o.owns true (λ _. omega arith);
+            waits = λ some. absurd (some (ap (λ (y : Own). y.pending) (o.unmade (length s.views) (omega arith))));
+            session = λ some_number. absurd (some_number refl);
+            book = λ e. absurd (cc e);
+            combiner = inr (ap (λ (x : View). x.combiner.has_book) (past_end s.views blank), refl);
+          })
+          (sits-same s o vs (omega arith) gone));
+      list = seen_listed s l vs (each (Keeps s (viewed_as s l vs) l)
+          (unseated s l vs (length s.views) b (ap (λ (x : View). x.own.listed) (sym (past_end s.views blank))) refl refl)
+          (λ j. same_seat s (viewed_as s l vs) l j (λ c some. refl)));
     })
-    (sits-same s o vs (omega arith) gone)))
   where
     first_kept : (l : List View) (b : View) → 0 < length l → get_or (l ++ b ∷ []) 0 blank ≡ get_or l 0 blank
     first_kept [] b h = absurd (omega arith)

@@ -1,5 +1,5 @@
 -- A session's step on its own record keeps the rule.
-use Rattle.std.proofs.Common.{◌≡◌, ◌≢◌, ℕ, ◌<◌, ◌≤◌, true, Some, List, length, get_or, set, sym, ap, ◌∙◌, subst, arith, length-set, get_or-set_other, get_or-set_same}
+use Rattle.std.proofs.Common.{◌≡◌, ◌≢◌, ℕ, ◌<◌, ◌≤◌, true, Option, Some, None, List, length, get_or, set, sym, ap, ◌∙◌, subst, arith, length-set, get_or-set_other, get_or-set_same}
 use mathlib.Core.Option as opt
 use mathlib.Core.Logic.{dite}
 use mathlib.Core.List.{IsPrefix}
@@ -8,19 +8,19 @@ use lib.ListN.{get_elem?}
 use Rattle.lock_rules.specs.declared.calls.Call.{Call}
 use Rattle.lock_rules.specs.declared.calls.Entry.{Entry}
 use Rattle.publication.specs.Words.{word_of, BUSY}
-use Rattle.publication.specs.Views.{Own, Combiner, Others}
-use Rattle.publication.specs.Rule.{blank, BoardState, word, home, seat, fresh, own_at, published, Stands, HasBook, IsOpened, IsSession, IsMaker, AreTrue, IsOrderly}
+use Rattle.publication.specs.Views.{Pending, Own, Combiner, Listing, Others}
+use Rattle.publication.specs.Rule.{blank, BoardState, word, home, seat, fresh, own_at, announced, Stands, HasBook, IsOpened, IsSession, IsMaker, AreTrue, IsOrderly}
 use Rattle.publication.specs.Kinds.{as_session}
 use Rattle.publication.specs.declared.view.View.{View}
 use Rattle.publication.specs.declared.slot.Held.{Held}
 use Rattle.publication.proofs.Lists.{at_there, each_set, prefix_self}
 use Rattle.publication.proofs.Others.{still-true}
 
--- session i, whose seat has the view v, changes its word, its slot, its front, what it knows of its own calls, and what it heard
-module _ (s : BoardState) (o : IsOrderly s) (i : ℕ) (v : View) (n : ℕ) (at : opt.Option Held) (front : List Entry) (w : Own) (heard : List ℕ)
+-- session i, whose seat has the view v, changes its word, its slot, its front, what it knows of its own calls, what it heard, and what it knows of the publication list
+module _ (s : BoardState) (o : IsOrderly s) (i : ℕ) (v : View) (n : ℕ) (at : opt.Option Held) (front : List Entry) (w : Own) (heard : List ℕ) (l : Listing)
     (me : get_elem? s.views i ≡ opt.some v) (mine : 0 < i) (small : i < o.slots) (lives : v.number ≢ 0) where
   abbrev u : View
-  u = as_session v front w heard
+  u = as_session v front w heard l
 
   abbrev after : BoardState
   after = record { words = set s.words (word_of i) n; homes = set s.homes i at; views = set s.views i u }
@@ -28,13 +28,13 @@ module _ (s : BoardState) (o : IsOrderly s) (i : ℕ) (v : View) (n : ℕ) (at :
   abbrev owns_after : List Own
   owns_after = set o.owns i w
 
-  -- what such a step has to show: it publishes no less, hears of itself alone, its record isn't opened before or after, and it stands
+  -- what such a step has to show: it announces no less, hears of itself alone, its record stands, and is BUSY after only where it was before, with the same call
   pub record IsOwnStep : Type 0 where
-    pub more : published v.own ≤ published w
+    pub more : announced v.own ≤ announced w
     pub hears : (j : ℕ) → j ≢ i → get_or heard j 0 ≡ get_or v.heard j 0
-    pub hears_own : get_or heard i 0 ≤ published w
-    pub was_shut : word s i ≢ BUSY
-    pub is_shut : n ≢ BUSY
+    pub hears_own : get_or heard i 0 ≤ announced w
+    pub was_busy : word s i ≡ BUSY → (n ≡ BUSY) × (at ≡ home s i) × (w.pending ≡ v.own.pending)
+    pub is_busy : n ≡ BUSY → word s i ≡ BUSY
     pub begins : IsPrefix front o.history
     pub whole : v.combiner.has_book ≡ true → front ≡ o.history
     pub stands : Stands o.history i n at w
@@ -84,21 +84,21 @@ module _ (s : BoardState) (o : IsOrderly s) (i : ℕ) (v : View) (n : ℕ) (at :
   session_before : IsSession o.slots o.owns i v
   session_before = subst (λ (x : View). x.number ≢ 0 → IsSession o.slots o.owns i x) is_me (o.sessions i) lives
 
-  heard_before : (j : ℕ) → get_or v.heard j 0 ≤ published (own_at o.owns j)
-  heard_before j = subst (λ (x : View). get_or x.heard j 0 ≤ published (own_at o.owns j)) is_me (o.heard i j)
+  heard_before : (j : ℕ) → get_or v.heard j 0 ≤ announced (own_at o.owns j)
+  heard_before j = subst (λ (x : View). get_or x.heard j 0 ≤ announced (own_at o.owns j)) is_me (o.heard i j)
 
   book_before : v.combiner.has_book ≡ true → HasBook o.history (word s 0) i v
   book_before = subst (λ (x : View). x.combiner.has_book ≡ true → HasBook o.history (word s 0) i x) is_me (o.books i)
 
   module _ (k : IsOwnStep) where
-    published_here : (j : ℕ) → j ≡ i → published (own_at owns_after j) ≡ published w
-    published_here j e = ap (λ (m : ℕ). published (own_at owns_after m)) e ∙ ap published own_here
+    published_here : (j : ℕ) → j ≡ i → announced (own_at owns_after j) ≡ announced w
+    published_here j e = ap (λ (m : ℕ). announced (own_at owns_after m)) e ∙ ap announced own_here
 
-    published_more : (j : ℕ) → published (own_at o.owns j) ≤ published (own_at owns_after j)
+    published_more : (j : ℕ) → announced (own_at o.owns j) ≤ announced (own_at owns_after j)
     published_more j = dite (ℕ_discrete j i)
-        (λ e. let a : published (own_at o.owns j) ≡ published v.own = ap (λ (m : ℕ). published (own_at o.owns m)) e ∙ ap published (sym session_before.own_is) in
+        (λ e. let a : announced (own_at o.owns j) ≡ announced v.own = ap (λ (m : ℕ). announced (own_at o.owns m)) e ∙ ap announced (sym session_before.own_is) in
         omega (arith, published_here j e, k.more))
-        (λ ne. let a : published (own_at owns_after j) ≡ published (own_at o.owns j) = ap published (own_other j ne) in omega arith)
+        (λ ne. let a : announced (own_at owns_after j) ≡ announced (own_at o.owns j) = ap announced (own_other j ne) in omega arith)
 
     makes_after : IsMaker o.slots (length (set s.views i u)) (seat after 0)
     makes_after = subst (λ (m : ℕ). IsMaker o.slots m (seat after 0)) (sym seats_kept)
@@ -112,13 +112,13 @@ module _ (s : BoardState) (o : IsOrderly s) (i : ℕ) (v : View) (n : ℕ) (at :
         (λ some_number. let t = session_before in record { own_is = sym own_here; is = t.is; small = t.small; wide = t.wide })
         (λ j ne some_number. let t = o.sessions j some_number in record { own_is = t.own_is ∙ sym (own_other j ne); is = t.is; small = t.small; wide = t.wide })
 
-    heard_here : (j : ℕ) → get_or heard j 0 ≤ published (own_at owns_after j)
+    heard_here : (j : ℕ) → get_or heard j 0 ≤ announced (own_at owns_after j)
     heard_here j = dite (ℕ_discrete j i)
         (λ e. let a : get_or heard j 0 ≡ get_or heard i 0 = ap (λ (m : ℕ). get_or heard m 0) e in omega (arith, k.hears_own, published_here j e))
         (λ ne. omega (arith, k.hears j ne, heard_before j, published_more j))
 
-    heard_after : (m j : ℕ) → get_or (seat after m).heard j 0 ≤ published (own_at owns_after j)
-    heard_after m j = each_set s.views i u blank (λ m x. get_or x.heard j 0 ≤ published (own_at owns_after j)) sits (heard_here j)
+    heard_after : (m j : ℕ) → get_or (seat after m).heard j 0 ≤ announced (own_at owns_after j)
+    heard_after m j = each_set s.views i u blank (λ m x. get_or x.heard j 0 ≤ announced (own_at owns_after j)) sits (heard_here j)
         (λ m ne. omega (arith, o.heard m j, published_more j)) m
 
     still : (x : Others) → AreTrue o.history s o.slots o.owns x → AreTrue o.history after o.slots owns_after x
@@ -144,22 +144,35 @@ module _ (s : BoardState) (o : IsOrderly s) (i : ℕ) (v : View) (n : ℕ) (at :
     taken_after = rw (word_other 0 not_lock) (λ some_lock. let t = o.taken some_lock in
         (ap (λ (c : Combiner). c.has_book) (combiner_kept (word s 0)) ∙ t.0, t.1, home_other 0 not_lock ∙ t.2))
 
+    -- where its own record is opened it stays so, with the same call
+    open_here : (c : Combiner) (j : ℕ) (call : Call) → j ≡ i → IsOpened s o.owns c j call → IsOpened after owns_after c j call
+    open_here c j call e t =
+        let b = k.was_busy (sym (ap (word s) e) ∙ t.is_busy) in
+        let same : w.pending ≡ (own_at o.owns i).pending = b.2 ∙ ap (λ (x : Own). x.pending) session_before.own_is in
+        record {
+          book = t.book;
+          record_of = t.record_of;
+          is_busy = ap (word after) e ∙ (word_here ∙ b.0);
+          call_of = (t.call_of.0, ap (λ (m : ℕ). (own_at owns_after m).pending) e ∙ (ap (λ (x : Own). x.pending) own_here ∙ (same ∙ (ap (λ (m : ℕ). (own_at o.owns m).pending) (sym e) ∙ t.call_of.1))));
+          laid = λ away. ap (home after) e ∙ (home_here ∙ (b.1 ∙ (ap (home s) (sym e) ∙ t.laid away)));
+        }
+
     opens_after : (m j : ℕ) (call : Call) → get_elem? (seat after m).combiner.opened j ≡ opt.some (Some call) → IsOpened after owns_after (seat after m).combiner j call
     opens_after m j call is =
         let t : IsOpened s o.owns (seat s m).combiner j call = o.opens m j call (sym (ap (λ (c : Combiner). get_elem? c.opened j) (combiner_kept m)) ∙ is) in
-        let ne : j ≢ i = λ e. k.was_shut (sym (ap (word s) e) ∙ t.is_busy) in
-        rw (combiner_kept m) (record {
+        rw (combiner_kept m) (dite (ℕ_discrete j i) (λ e. open_here (seat s m).combiner j call e t) (λ ne. record {
           book = t.book;
           record_of = t.record_of;
           is_busy = word_other j ne ∙ t.is_busy;
           call_of = (t.call_of.0, ap (λ (x : Own). x.pending) (own_other j ne) ∙ t.call_of.1);
           laid = λ away. home_other j ne ∙ t.laid away;
-        })
+        }))
 
     opened_after : (j : ℕ) → 0 < j → word after j ≡ BUSY → (call : Call) × (get_elem? (seat after (word after 0)).combiner.opened j ≡ opt.some (Some call))
     opened_after j some_record is =
-        let ne : j ≢ i = λ e. k.is_shut (sym word_here ∙ (sym (ap (word after) e) ∙ is)) in
-        let t = o.opened j some_record (sym (word_other j ne) ∙ is) in
+        let was : word s j ≡ BUSY = dite (ℕ_discrete j i)
+        (λ e. ap (word s) e ∙ k.is_busy (sym word_here ∙ (sym (ap (word after) e) ∙ is))) (λ ne. sym (word_other j ne) ∙ is) in
+        let t = o.opened j some_record was in
         (t.0, ap (λ (m : ℕ). get_elem? (seat after m).combiner.opened j) (word_other 0 not_lock) ∙ (ap (λ (c : Combiner). get_elem? c.opened j) (combiner_kept (word s 0)) ∙ t.1))
 
     pub moved : IsOrderly after
@@ -175,6 +188,8 @@ module _ (s : BoardState) (o : IsOrderly s) (i : ℕ) (v : View) (n : ℕ) (at :
       makes = makes_after;
       unmade = unmade_after;
       sessions = sessions_after;
+      waits = each_set s.views i u blank (λ j x. (own_at owns_after j).pending ≢ None → x.own ≡ own_at owns_after j) sits
+          (λ some. sym own_here) (λ j ne some. o.waits j (λ none. some (ap (λ (x : Own). x.pending) (own_other j ne) ∙ none)) ∙ sym (own_other j ne));
       fronts = each_set s.views i u blank (λ j x. IsPrefix x.front o.history) sits k.begins (λ j ne. o.fronts j);
       heard = heard_after;
       others = others_after;

@@ -1,11 +1,11 @@
 -- A step that changes views alone, of seats that keep or lose what they had as combiners, keeps the rule.
-use Rattle.std.proofs.Common.{◌≡◌, ◌≢◌, ◌⊎◌, inl, ⊎_elim, ℕ, ◌≤◌, true, false, Some, List, length, get_or, refl, sym, ap, ◌∙◌, subst, arith}
+use Rattle.std.proofs.Common.{◌≡◌, ◌≢◌, ◌⊎◌, inl, ⊎_elim, ℕ, ◌≤◌, true, false, Option, Some, None, List, length, get_or, refl, sym, ap, ◌∙◌, subst, arith}
 use mathlib.Core.Option as opt
 use mathlib.Core.List.{IsPrefix}
 use lib.ListN.{get_elem?}
 use Rattle.lock_rules.specs.declared.calls.Call.{Call}
 use Rattle.publication.specs.Views.{Combiner}
-use Rattle.publication.specs.Rule.{blank, no_combiner, BoardState, word, seat, own_at, published, HasBook, IsOpened, IsSession, IsMaker, AreTrue, IsOrderly}
+use Rattle.publication.specs.Rule.{blank, no_combiner, BoardState, word, seat, own_at, announced, HasBook, IsOpened, IsSession, IsMaker, AreTrue, IsOrderly}
 use Rattle.publication.specs.declared.view.View.{View}
 use Rattle.publication.proofs.Lists.{prefix_self}
 use Rattle.publication.proofs.Others.{StaysGone, still-true}
@@ -18,8 +18,9 @@ module _ (s : BoardState) (o : IsOrderly s) (vs : List View) where
   -- what the rule asks of the seat k with the view u, which keeps what it had as a combiner, or had nothing and has nothing
   pub record Sits (k : ℕ) (u : View) : Type 0 where
     pub front : IsPrefix u.front o.history
-    pub heard : (j : ℕ) → get_or u.heard j 0 ≤ published (own_at o.owns j)
+    pub heard : (j : ℕ) → get_or u.heard j 0 ≤ announced (own_at o.owns j)
     pub others : AreTrue o.history viewed o.slots o.owns u.others
+    pub waits : (own_at o.owns k).pending ≢ None → u.own ≡ own_at o.owns k
     pub session : u.number ≢ 0 → IsSession o.slots o.owns k u
     pub book : u.combiner.has_book ≡ true → HasBook o.history (word s 0) k u
     pub combiner : (u.combiner ≡ (seat s k).combiner) ⊎ (((seat s k).combiner.has_book ≡ false) × (u.combiner ≡ no_combiner 0))
@@ -30,7 +31,7 @@ module _ (s : BoardState) (o : IsOrderly s) (vs : List View) where
     sits-others gone k = still-true o.history o.history s viewed o.slots o.owns o.owns (seat s k).others (prefix_self o.history) more gone (o.others k)
 
     pub sits-same : StaysGone s viewed o.owns o.owns → (k : ℕ) → Sits k (seat s k)
-    sits-same gone k = record { front = o.fronts k; heard = o.heard k; others = sits-others gone k; session = o.sessions k; book = o.books k; combiner = inl refl }
+    sits-same gone k = record { front = o.fronts k; heard = o.heard k; others = sits-others gone k; waits = o.waits k; session = o.sessions k; book = o.books k; combiner = inl refl }
 
     pub reviewed : IsMaker o.slots (length vs) (get_or vs 0 blank) → ((k : ℕ) → Sits k (get_or vs k blank)) → IsOrderly viewed
     reviewed makes sits = record {
@@ -45,6 +46,7 @@ module _ (s : BoardState) (o : IsOrderly s) (vs : List View) where
       makes = makes;
       unmade = λ j past. o.unmade j (omega arith);
       sessions = λ k. (sits k).session;
+      waits = λ k. (sits k).waits;
       fronts = λ k. (sits k).front;
       heard = λ k. (sits k).heard;
       others = λ k. (sits k).others;

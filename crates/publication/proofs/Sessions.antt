@@ -1,5 +1,5 @@
 -- The kinds of step of a session on its own record: start, post, the look for the reply, take, retire and leave.
-use Rattle.std.proofs.Common.{◌≡◌, ◌≢◌, ℕ, zero, suc, ◌+◌, ◌<◌, ◌≤◌, max, true, false, Some, None, List, [], ◌∷◌, ◌++◌, length, get_or, set, take, sym, refl, ap, ◌∙◌, subst, arith, length-append, eqb, is_some, get_or-set_other}
+use Rattle.std.proofs.Common.{◌≡◌, ◌≢◌, ◌⊎◌, inl, inr, ⊎_elim, ℕ, zero, suc, ◌+◌, ◌<◌, ◌≤◌, ◌==◌, max, cond, Bool, true, false, Option, Some, None, List, [], ◌∷◌, ◌++◌, length, get_or, set, take, sym, refl, ap, ◌∙◌, subst, arith, length-append, length-set, eqb, is_some, get_or-set_other, get_or-set_same}
 use Rattle.std.proofs.lemmas.List.{set-get_or}
 use Rattle.std.proofs.Math.Seq.{take-length}
 use mathlib.Core.Option as opt
@@ -14,27 +14,30 @@ use Rattle.lock_rules.specs.declared.calls.Reply.{Reply}
 use Rattle.lock_rules.specs.declared.calls.Reply.TheVariants.{Clear}
 use Rattle.lock_rules.specs.declared.calls.Entry.{Entry}
 use Rattle.lock_rules.specs.Legal.{Answered, calls_of}
-use Rattle.publication.specs.Words.{word_of, EMPTY, POSTED, SERVED, CLOSED}
-use Rattle.publication.specs.Views.{Own, entry, answer, asks}
-use Rattle.publication.specs.Rule.{blank, BoardState, word, home, seat, own_at, published, IsIdle, IsServed, Stands, HasBook, IsSession, IsOrderly}
+use Rattle.publication.specs.Words.{word_of, OUT, POSTED, SERVED, CLOSED, EMPTY}
+use Rattle.publication.specs.Views.{Own, Listing, entry, answer, asks}
+use Rattle.publication.specs.Rule.{blank, BoardState, word, home, seat, own_at, announced, IsIdle, IsServed, Stands, HasBook, IsSession, IsOrderly}
 use Rattle.publication.specs.Rule.Stands.{idle, posted, closed}
-use Rattle.publication.specs.Kinds.{Seated, own, started, starts, posting, posts, IsUnanswered, looks_for_reply, taking, Took, takes_reply, retiring, retires, leaving, leaves}
+use Rattle.publication.specs.List.{link, belongs, IsLinked, IsRuled}
+use Rattle.publication.specs.Kinds.{Seated, own, as_session, idling, heard_all, started, starts, posting, posts, IsUnanswered, looks_for_reply, taking, Took, takes_reply, retiring, retires, leaving, leaves}
 use Rattle.publication.specs.declared.view.View.{View}
 use Rattle.publication.specs.declared.slot.Held.{Held}
 use Rattle.publication.specs.declared.slot.Held.TheVariants.{Nothing, Asked, Replied}
 use Rattle.publication.proofs.Lists.{at_there, at_home, at_taken, IsCut, cut}
 use Rattle.publication.proofs.Histories.{legal-begins, length-begins, calls-cut, calls-fewer}
-use Rattle.publication.proofs.Records.{is_idle, is_served, is_waiting, left, IsLeft, leaves_record, lacks, idle_published, waits_published}
+use Rattle.publication.proofs.Records.{idle_word, at_most_one, is_idle, is_served, is_waiting, left, IsLeft, leaves_record, lacks, idle_announced, waits_announced}
+use Rattle.publication.proofs.Linking.{links_kept, IsKeptHere, aside, same_walk}
 use Rattle.publication.proofs.Moves.{IsOwnStep, moved}
 
 -- a step that changes nothing
-pub unmoved : (s : BoardState) → IsOrderly s → (i id : ℕ) (v : View) → get_elem? s.views id ≡ opt.some v
-    → IsOrderly record { words = set s.words (word_of i) (word s i); homes = s.homes; views = set s.views id v }
-unmoved s o i id v me = rw (set-get_or s.words (word_of i) 0, set_again s.views id v me) o
+pub unmoved : (s : BoardState) → IsOrderly s → IsLinked s → (i id : ℕ) (v : View) → get_elem? s.views id ≡ opt.some v
+    → IsRuled record { words = set s.words (word_of i) (word s i); homes = s.homes; views = set s.views id v }
+unmoved s o l i id v me = subst (λ (ws : List ℕ). IsRuled record { words = ws; homes = s.homes; views = set s.views id v }) (sym (set-get_or s.words (word_of i) 0))
+    (subst (λ (vs : List View). IsRuled record { words = s.words; homes = s.homes; views = vs }) (sym (set_again s.views id v me)) (record { records = o; list = l }))
 
 -- the seat id, which is m, has a step on word i that keeps the rule, after which the word is k and `then` is told
 abbrev pub Goes : BoardState → ℕ → ℕ → Seated → (ℕ → Seated → Type 0) → ℕ → Type 0
-Goes s i id m then k = (w : View) × (a : Act Held) × Valid s.homes m.1 a × IsOrderly (stepped s (word_of i) k id m.1 w a) × then (word s i) (w, carried_after m.1 a)
+Goes s i id m then k = (w : View) × (a : Act Held) × Valid s.homes m.1 a × IsRuled (stepped s (word_of i) k id m.1 w a) × then (word s i) (w, carried_after m.1 a)
 
 -- which seat a session's is
 pub named : (s : BoardState) (o : IsOrderly s) (id i : ℕ) (v : View) → get_elem? s.views id ≡ opt.some v → v.number ≡ i → 0 < i → (id ≡ i) × (i < o.slots) × (length v.combiner.opened ≡ o.slots)
@@ -43,22 +46,35 @@ named s o id i v me is some_number =
     let t : IsSession o.slots o.owns id v = subst (λ (u : View). u.number ≢ 0 → IsSession o.slots o.owns id u) e (o.sessions id) (λ z. omega arith) in
     (omega (arith, t.is), omega (arith, t.is, t.small), t.wide)
 
--- a step of the seat of session i: its seat has its number
-pub seated : (slots id i x : ℕ) (v : View) (more : List (ℕ × Held)) (f : ℕ → ℕ) (then : ℕ → Seated → Type 0) → v.number ≡ i → 0 < i
-    → ((s : BoardState) (o : IsOrderly s) → get_elem? s.views i ≡ opt.some v → i < o.slots → length v.combiner.opened ≡ o.slots → o.slots ≡ slots → Goes s x i (v, more) then (f (word s x)))
-    → Allows IsOrderly slots id (v, more) (word_of x) f then
-seated slots id i x v more f then is some_number goes s o wide me _ =
-    let t = named s o id i v me is some_number in
-    subst (λ (k : ℕ). Goes s x k (v, more) then (f (word s x))) (sym t.0) (goes s o (subst (λ (k : ℕ). get_elem? s.views k ≡ opt.some v) t.0 me) t.1 t.2 (sym o.homes_are ∙ wide))
+-- the same of the word at p, which may be a link
+abbrev pub GoesAt : BoardState → ℕ → ℕ → Seated → (ℕ → Seated → Type 0) → ℕ → Type 0
+GoesAt s p id m then k = (w : View) × (a : Act Held) × Valid s.homes m.1 a × IsRuled (stepped s p k id m.1 w a) × then (get_or s.words p 0) (w, carried_after m.1 a)
 
-module _ (i : ℕ) (v : View) (is : v.number ≡ i) (some_number : 0 < i) (s : BoardState) (o : IsOrderly s) (me : get_elem? s.views i ≡ opt.some v) (small : i < o.slots) where
-  lives : v.number ≢ 0
+-- a step of the seat of session i: its seat has its number
+pub seated_at : (slots id i p : ℕ) (v : View) (more : List (ℕ × Held)) (f : ℕ → ℕ) (then : ℕ → Seated → Type 0) → v.number ≡ i → 0 < i
+    → ((s : BoardState) (o : IsOrderly s) (l : IsLinked s) → get_elem? s.views i ≡ opt.some v → i < o.slots → o.slots ≡ slots → GoesAt s p i (v, more) then (f (get_or s.words p 0)))
+    → Allows IsRuled slots id (v, more) p f then
+seated_at slots id i p v more f then is some_number goes s r wide me _ =
+    let o = r.records in
+    let t = named s o id i v me is some_number in
+    subst (λ (k : ℕ). GoesAt s p k (v, more) then (f (get_or s.words p 0))) (sym t.0) (goes s o r.list (subst (λ (k : ℕ). get_elem? s.views k ≡ opt.some v) t.0 me) t.1 (sym o.homes_are ∙ wide))
+
+pub seated : (slots id i x : ℕ) (v : View) (more : List (ℕ × Held)) (f : ℕ → ℕ) (then : ℕ → Seated → Type 0) → v.number ≡ i → 0 < i
+    → ((s : BoardState) (o : IsOrderly s) (l : IsLinked s) → get_elem? s.views i ≡ opt.some v → i < o.slots → length v.combiner.opened ≡ o.slots → o.slots ≡ slots → Goes s x i (v, more) then (f (word s x)))
+    → Allows IsRuled slots id (v, more) (word_of x) f then
+seated slots id i x v more f then is some_number goes s r wide me _ =
+    let o = r.records in
+    let t = named s o id i v me is some_number in
+    subst (λ (k : ℕ). Goes s x k (v, more) then (f (word s x))) (sym t.0) (goes s o r.list (subst (λ (k : ℕ). get_elem? s.views k ≡ opt.some v) t.0 me) t.1 t.2 (sym o.homes_are ∙ wide))
+
+module _ (i : ℕ) (v : View) (is : v.number ≡ i) (some_number : 0 < i) (s : BoardState) (o : IsOrderly s) (l : IsLinked s) (me : get_elem? s.views i ≡ opt.some v) (small : i < o.slots) where
+  pub lives : v.number ≢ 0
   lives e = omega arith
 
-  is_me : seat s i ≡ v
+  pub is_me : seat s i ≡ v
   is_me = (at_there s.views i v blank me).0
 
-  own_is : v.own ≡ own_at o.owns i
+  pub own_is : v.own ≡ own_at o.owns i
   own_is = (subst (λ (u : View). u.number ≢ 0 → IsSession o.slots o.owns i u) is_me (o.sessions i) lives).own_is
 
   pub stand : Stands o.history i (word s i) (home s i) v.own
@@ -70,19 +86,38 @@ module _ (i : ℕ) (v : View) (is : v.number ≡ i) (some_number : 0 < i) (s : B
   pub whole : v.combiner.has_book ≡ true → v.front ≡ o.history
   whole has = (subst (λ (u : View). u.combiner.has_book ≡ true → HasBook o.history (word s 0) i u) is_me (o.books i) has).whole
 
-  heard_own : get_or v.heard i 0 ≤ published v.own
-  heard_own = subst (λ (u : Own). get_or v.heard i 0 ≤ published u) (sym own_is) (subst (λ (u : View). get_or u.heard i 0 ≤ published (own_at o.owns i)) is_me (o.heard i i))
+  pub heard_own : get_or v.heard i 0 ≤ announced v.own
+  heard_own = subst (λ (u : Own). get_or v.heard i 0 ≤ announced u) (sym own_is) (subst (λ (u : View). get_or u.heard i 0 ≤ announced (own_at o.owns i)) is_me (o.heard i i))
+
+  here_now : (n : ℕ) → get_or (set s.words (word_of i) n) (word_of i) 0 ≡ n
+  here_now n = get_or-set_same s.words (word_of i) n 0 (omega (arith, o.words_are))
+
+  -- the publication list stays as it is where the record belongs on it as before, or nowhere
+  still_listed : (n : ℕ) (at : opt.Option Held) (front : List Entry) (w : Own) (heard : List ℕ) → ((b : Bool) → belongs n w.listed ≡ Some b → belongs (word s i) v.own.listed ≡ Some b)
+      → IsLinked record { words = set s.words (word_of i) n; homes = set s.homes i at; views = set s.views i (as_session v front w heard (idling v.listing)) }
+  still_listed n at front w heard claims =
+      let u : View = as_session v front w heard (idling v.listing) in
+      let ws : List ℕ = set s.words (word_of i) n in
+      let hs : List (opt.Option Held) = set s.homes i at in
+      aside s l i v u ws hs me (links_kept s.words i n) (length-set s.homes i at)
+      (λ e. l.whole (sym (get_or-set_other s.words (word_of i) (word_of 0) n 0 (λ z. omega (arith, z))) ∙ e))
+      (λ j b some ne. ap (λ (m : ℕ). belongs m b) (get_or-set_other s.words (word_of i) (word_of j) n 0 (λ e. ne (omega (arith, e)))))
+      (record {
+        claims = λ b some e. claims b (sym (ap (λ (m : ℕ). belongs m w.listed) (here_now n)) ∙ e);
+        aims = λ m e. absurd (cc e);
+        walkers = λ has. same_walk s l i v u ws hs me has refl refl refl;
+      })
 
   -- start
 
   start_step : IsIdle o.history i (word s i) (home s i) v.own
-      → IsOwnStep s o i v (word s i) opt.none v.front (own None v.own.collected) v.heard me some_number small lives
+      → IsOwnStep s o i v (word s i) opt.none v.front (own None v.own.collected v.own.listed) v.heard (idling v.listing) me some_number small lives
   start_step t = record {
-    more = omega (arith, idle_published v.own t.none);
+    more = omega (arith, idle_announced v.own t.none);
     hears = λ j ne. refl;
-    hears_own = omega (arith, heard_own, idle_published v.own t.none);
-    was_shut = λ e. omega (arith, t.is);
-    is_shut = λ e. omega (arith, t.is);
+    hears_own = omega (arith, heard_own, idle_announced v.own t.none);
+    was_busy = λ e. absurd (idle_word (word s i) t.is (omega arith) (omega arith));
+    is_busy = λ e. e;
     begins = begins;
     whole = whole;
     stands = idle record { is = t.is; none = refl; out = λ _. refl; laid = λ e. absurd (cc e); publishes = refl; calls = t.calls };
@@ -94,17 +129,20 @@ module _ (i : ℕ) (v : View) (is : v.number ≡ i) (some_number : 0 < i) (s : B
     started v,
     takes i Nothing,
     at_home s.homes i Nothing (t.laid unstarted),
-    moved s o i v (word s i) opt.none v.front (own None v.own.collected) v.heard me some_number small lives (start_step t),
+    record {
+      records = moved s o i v (word s i) opt.none v.front (own None v.own.collected v.own.listed) v.heard (idling v.listing) me some_number small lives (start_step t);
+      list = still_listed (word s i) opt.none v.front (own None v.own.collected v.own.listed) v.heard (λ b is. is);
+    },
     ap (λ (k : ℕ). (started v, (k, Nothing) ∷ more)) (sym is),
   )
 
   -- post
 
-  abbrev own_posted : Call → Own
-  own_posted call = own (Some (asks call (length v.front))) v.own.collected
+  abbrev own_posted : Call → Bool → Own
+  own_posted call listed = own (Some (asks call (length v.front))) v.own.collected listed
 
-  abbrev heard_posted : List ℕ
-  heard_posted = set v.heard v.number (length v.own.collected + 1)
+  abbrev heard_posted : Bool → List ℕ
+  heard_posted listed = cond listed (heard_all v) v.heard
 
   -- a write at a place of the list, or past its end
   at_most : (l : List ℕ) (k n : ℕ) → get_or (set l k n) k 0 ≤ n
@@ -112,26 +150,48 @@ module _ (i : ℕ) (v : View) (is : v.number ≡ i) (some_number : 0 < i) (s : B
   at_most (x ∷ xs) zero n = omega arith
   at_most (x ∷ xs) (suc k) n = at_most xs k n
 
-  post_step : (call : Call) → IsIdle o.history i (word s i) (home s i) v.own
-      → IsOwnStep s o i v POSTED (opt.some (Asked call)) v.front (own_posted call) heard_posted me some_number small lives
-  post_step call t = record {
-    more = omega (arith, idle_published v.own t.none);
-    hears = λ j ne. get_or-set_other v.heard v.number j (length v.own.collected + 1) 0 (λ e. ne (e ∙ is));
-    hears_own = subst (λ (k : ℕ). get_or (set v.heard k (length v.own.collected + 1)) i 0 ≤ length v.own.collected + 1) (sym is) (at_most v.heard i (length v.own.collected + 1));
-    was_shut = λ e. omega (arith, t.is);
-    is_shut = λ e. omega arith;
+  -- of its own calls it has heard of no more than it has announced, and of others' what it had
+  pub hears_others : (b : Bool) (j : ℕ) → j ≢ i → get_or (heard_posted b) j 0 ≡ get_or v.heard j 0
+  hears_others true j ne = get_or-set_other v.heard v.number j (length v.own.collected + 1) 0 (λ e. ne (e ∙ is))
+  hears_others false j ne = refl
+
+  pub heard_at_most : get_or (heard_all v) i 0 ≤ length v.own.collected + 1
+  heard_at_most = subst (λ (k : ℕ). get_or (set v.heard k (length v.own.collected + 1)) i 0 ≤ length v.own.collected + 1) (sym is) (at_most v.heard i (length v.own.collected + 1))
+
+  hears_posted : (call : Call) (b : Bool) → get_or v.heard i 0 ≤ length v.own.collected + 0 → get_or (heard_posted b) i 0 ≤ announced (own_posted call b)
+  hears_posted call true was = heard_at_most
+  hears_posted call false was = was
+
+  post_step : (call : Call) (b : Bool) → IsIdle o.history i (word s i) (home s i) v.own
+      → IsOwnStep s o i v POSTED (opt.some (Asked call)) v.front (own_posted call b) (heard_posted b) (idling v.listing) me some_number small lives
+  post_step call b t = record {
+    more = omega (arith, idle_announced v.own t.none);
+    hears = hears_others b;
+    hears_own = hears_posted call b (omega (arith, heard_own, idle_announced v.own t.none));
+    was_busy = λ e. absurd (idle_word (word s i) t.is (omega arith) (omega arith));
+    is_busy = λ e. absurd (omega arith);
     begins = begins;
     whole = whole;
     stands = posted call (length v.front) record { is = refl; some = refl; asked = refl; early = length-begins v.front o.history begins; publishes = refl; calls = t.calls };
   }
 
+  -- the record of a posted call belongs on the list where it did before
+  posted_claims : (w : ℕ) → (w ≡ EMPTY) ⊎ (w ≡ OUT) → (b : Bool) → belongs POSTED (w == EMPTY) ≡ Some b → belongs w v.own.listed ≡ Some b
+  posted_claims w is b e = ⊎_elim
+      (λ (here : w ≡ EMPTY). subst (λ (n : ℕ). belongs POSTED (n == EMPTY) ≡ Some b → belongs n v.own.listed ≡ Some b) (sym here) (λ z. z) e)
+      (λ (out : w ≡ OUT). subst (λ (n : ℕ). belongs POSTED (n == EMPTY) ≡ Some b → belongs n v.own.listed ≡ Some b) (sym out) (λ z. z) e) is
+
   post_goes : (call : Call) (more : List (ℕ × Held)) → IsIdle o.history i (word s i) (home s i) v.own
-      → Goes s i i (v, (i, Asked call) ∷ more) (λ _. posts (step o.slots (word_of i) POSTED 0 opt.none) (v, (i, Asked call) ∷ more) POSTED) POSTED
+      → Goes s i i (v, (i, Asked call) ∷ more) (posts (step o.slots (word_of i) POSTED 0 opt.none) (v, (i, Asked call) ∷ more)) POSTED
   post_goes call more t = (
-    posting v call,
+    posting v call (word s i == EMPTY),
     gives,
     tt,
-    moved s o i v POSTED (opt.some (Asked call)) v.front (own_posted call) heard_posted me some_number small lives (post_step call t),
+    record {
+      records = moved s o i v POSTED (opt.some (Asked call)) v.front (own_posted call (word s i == EMPTY)) (heard_posted (word s i == EMPTY)) (idling v.listing) me some_number small lives
+          (post_step call (word s i == EMPTY) t);
+      list = still_listed POSTED (opt.some (Asked call)) v.front (own_posted call (word s i == EMPTY)) (heard_posted (word s i == EMPTY)) (posted_claims (word s i) t.is);
+    },
     refl,
   )
 
@@ -142,9 +202,20 @@ module _ (i : ℕ) (v : View) (is : v.number ≡ i) (some_number : 0 < i) (s : B
       (subst (λ (l : List Answered). length (calls_of i v.front) ≤ length l) (is_waiting stand miss some) (calls-fewer i v.front o.history begins))
 
   look_goes : (more : List (ℕ × Held)) → Goes s i i (v, more) (looks_for_reply (step o.slots (word_of i) 0 0 opt.none) (v, more)) (word s i)
-  look_goes more = (v, keeps, tt, unmoved s o i i v me, (refl, unanswered))
+  look_goes more = (v, keeps, tt, unmoved s o l i i v me, (refl, unanswered))
 
-  -- take
+  -- take: a record whose call was listed stays on the list, and one whose call wasn't doesn't come to it
+
+  abbrev left_word : Bool → ℕ
+  left_word b = cond b EMPTY OUT
+
+  left_idle : (b : Bool) → (left_word b ≡ EMPTY) ⊎ (left_word b ≡ OUT)
+  left_idle true = inl refl
+  left_idle false = inr refl
+
+  left_belongs : (b c : Bool) → belongs (left_word b) c ≡ Some b
+  left_belongs true c = refl
+  left_belongs false c = refl
 
   module _ (call : Call) (floor place : ℕ) (reply : Reply) (f : IsServed o.history i (word s i) (home s i) v.own call floor place reply) where
     abbrev known : ℕ
@@ -157,7 +228,7 @@ module _ (i : ℕ) (v : View) (is : v.number ≡ i) (some_number : 0 < i) (s : B
     collected = v.own.collected ++ answer place call reply ∷ []
 
     abbrev own_taken : Own
-    own_taken = record { started = true; retired = v.own.retired; pending = None; collected = collected }
+    own_taken = record { started = true; retired = v.own.retired; pending = None; collected = collected; listed = v.own.listed }
 
     stands_there : place < length o.history
     stands_there = (at_there o.history place (entry i call reply) (entry 0 Poll Clear) f.stands).1
@@ -182,53 +253,58 @@ module _ (i : ℕ) (v : View) (is : v.number ≡ i) (some_number : 0 < i) (s : B
       calls = subst (λ (k : ℕ). calls_of k front ≡ collected) (sym is) calls_known;
     }
 
-    one_more : published v.own ≡ length collected
-    one_more = omega (arith, waits_published v.own (asks call floor) f.some, length-append v.own.collected (answer place call reply ∷ []))
+    no_more : announced v.own ≤ length collected
+    no_more = omega (arith, waits_announced v.own (asks call floor) f.some, at_most_one v.own.listed, length-append v.own.collected (answer place call reply ∷ []))
 
-    take_step : IsOwnStep s o i v EMPTY opt.none front own_taken v.heard me some_number small lives
-    take_step = record {
-      more = omega (arith, one_more);
+    take_step : (b : Bool) → IsOwnStep s o i v (left_word b) opt.none front own_taken v.heard (idling v.listing) me some_number small lives
+    take_step b = record {
+      more = omega (arith, no_more);
       hears = λ j ne. refl;
-      hears_own = omega (arith, heard_own, one_more);
-      was_shut = λ e. omega (arith, f.is);
-      is_shut = λ e. omega arith;
+      hears_own = omega (arith, heard_own, no_more);
+      was_busy = λ e. absurd (omega (arith, f.is));
+      is_busy = λ e. absurd (idle_word (left_word b) (left_idle b) (omega arith) (omega arith));
       begins = cut_off.front;
       whole = known_whole;
-      stands = idle record { is = refl; none = refl; out = λ _. refl; laid = λ e. absurd (cc e); publishes = f.publishes; calls = f.calls };
+      stands = idle record { is = left_idle b; none = refl; out = λ _. refl; laid = λ e. absurd (cc e); publishes = f.publishes; calls = f.calls };
     }
 
-    take_won : (more : List (ℕ × Held)) → word s i ≡ SERVED → Goes s i i (v, more) (takes_reply (step o.slots (word_of i) SERVED EMPTY opt.none) (v, more)) EMPTY
+    take_won : (more : List (ℕ × Held)) → word s i ≡ SERVED
+        → Goes s i i (v, more) (takes_reply (step o.slots (word_of i) SERVED (left_word v.own.listed) opt.none) (v, more)) (left_word v.own.listed)
     take_won more hit = (
       taking v front call place reply,
       takes i (Replied place reply),
       at_home s.homes i (Replied place reply) f.replied,
-      moved s o i v EMPTY opt.none front own_taken v.heard me some_number small lives take_step,
+      record {
+        records = moved s o i v (left_word v.own.listed) opt.none front own_taken v.heard (idling v.listing) me some_number small lives (take_step v.own.listed);
+        list = still_listed (left_word v.own.listed) opt.none front own_taken v.heard
+            (λ b e. subst (λ (n : ℕ). belongs n v.own.listed ≡ Some b) (sym hit) (sym (left_belongs v.own.listed v.own.listed) ∙ e));
+      },
       (
         (λ _. (place, reply, (call, floor, front, f.some, ap (λ (k : ℕ). (taking v front call place reply, (k, Replied place reply) ∷ more)) (sym is), took))),
         λ miss. absurd (miss hit),
       ),
     )
 
-  take_lost : (more : List (ℕ × Held)) → word s i ≢ SERVED → Goes s i i (v, more) (takes_reply (step o.slots (word_of i) SERVED EMPTY opt.none) (v, more)) (word s i)
-  take_lost more miss = (v, keeps, tt, unmoved s o i i v me, ((λ hit. absurd (miss hit)), λ _. (refl, unanswered miss)))
+  take_lost : (more : List (ℕ × Held)) → word s i ≢ SERVED → Goes s i i (v, more) (takes_reply (step o.slots (word_of i) SERVED (left_word v.own.listed) opt.none) (v, more)) (word s i)
+  take_lost more miss = (v, keeps, tt, unmoved s o l i i v me, ((λ hit. absurd (miss hit)), λ _. (refl, unanswered miss)))
 
-  take_goes : (more : List (ℕ × Held)) → Goes s i i (v, more) (takes_reply (step o.slots (word_of i) SERVED EMPTY opt.none) (v, more)) (either (eqb (word s i) SERVED) EMPTY (word s i))
-  take_goes more = exchanged (word s i) SERVED EMPTY (Goes s i i (v, more) (takes_reply (step o.slots (word_of i) SERVED EMPTY opt.none) (v, more)))
+  take_goes : (more : List (ℕ × Held)) → Goes s i i (v, more) (takes_reply (step o.slots (word_of i) SERVED (left_word v.own.listed) opt.none) (v, more)) (either (eqb (word s i) SERVED) (left_word v.own.listed) (word s i))
+  take_goes more = exchanged (word s i) SERVED (left_word v.own.listed) (Goes s i i (v, more) (takes_reply (step o.slots (word_of i) SERVED (left_word v.own.listed) opt.none) (v, more)))
       (λ hit. let t = is_served stand hit in take_won t.0 t.1 t.2 t.3 t.4 more hit) (take_lost more)
 
   -- retire
 
   abbrev own_retired : Own
-  own_retired = record { started = true; retired = true; pending = None; collected = v.own.collected }
+  own_retired = record { started = true; retired = true; pending = None; collected = v.own.collected; listed = v.own.listed }
 
   retire_step : v.own.started ≡ true → IsIdle o.history i (word s i) (home s i) v.own
-      → IsOwnStep s o i v CLOSED (home s i) v.front own_retired v.heard me some_number small lives
+      → IsOwnStep s o i v CLOSED (home s i) v.front own_retired v.heard (idling v.listing) me some_number small lives
   retire_step has_started t = record {
-    more = omega (arith, idle_published v.own t.none);
+    more = omega (arith, idle_announced v.own t.none);
     hears = λ j ne. refl;
-    hears_own = omega (arith, heard_own, idle_published v.own t.none);
-    was_shut = λ e. omega (arith, t.is);
-    is_shut = λ e. omega arith;
+    hears_own = omega (arith, heard_own, idle_announced v.own t.none);
+    was_busy = λ e. absurd (idle_word (word s i) t.is (omega arith) (omega arith));
+    is_busy = λ e. absurd (omega arith);
     begins = begins;
     whole = whole;
     stands = closed record { is = refl; none = refl; out = λ _. t.out has_started; laid = λ e. absurd (cc e); retired = refl; calls = t.calls };
@@ -240,20 +316,23 @@ module _ (i : ℕ) (v : View) (is : v.number ≡ i) (some_number : 0 < i) (s : B
     retiring v,
     keeps,
     tt,
-    subst (λ (hs : List (opt.Option Held)). IsOrderly record { words = set s.words (word_of i) CLOSED; homes = hs; views = set s.views i (retiring v) }) (set-get_or s.homes i opt.none)
-        (moved s o i v CLOSED (home s i) v.front own_retired v.heard me some_number small lives (retire_step has_started t)),
+    subst (λ (hs : List (opt.Option Held)). IsRuled record { words = set s.words (word_of i) CLOSED; homes = hs; views = set s.views i (retiring v) }) (set-get_or s.homes i opt.none)
+        (record {
+          records = moved s o i v CLOSED (home s i) v.front own_retired v.heard (idling v.listing) me some_number small lives (retire_step has_started t);
+          list = still_listed CLOSED (home s i) v.front own_retired v.heard (λ b e. absurd (cc e));
+        }),
     refl,
   )
 
   -- leave
 
-  leave_step : v.own.pending ≡ None → IsOwnStep s o i v (word s i) (opt.some Nothing) v.front (left v.own) v.heard me some_number small lives
+  leave_step : v.own.pending ≡ None → IsOwnStep s o i v (word s i) (opt.some Nothing) v.front (left v.own) v.heard (idling v.listing) me some_number small lives
   leave_step none = let t = leaves_record o.history i (word s i) (home s i) v.own stand none in record {
-    more = omega (arith, idle_published v.own none);
+    more = omega (arith, idle_announced v.own none);
     hears = λ j ne. refl;
-    hears_own = omega (arith, heard_own, idle_published v.own none);
-    was_shut = t.shut;
-    is_shut = t.shut;
+    hears_own = omega (arith, heard_own, idle_announced v.own none);
+    was_busy = λ e. absurd (t.shut e);
+    is_busy = λ e. e;
     begins = begins;
     whole = whole;
     stands = t.stands;
@@ -265,36 +344,39 @@ module _ (i : ℕ) (v : View) (is : v.number ≡ i) (some_number : 0 < i) (s : B
     leaving v,
     gives,
     tt,
-    moved s o i v (word s i) (opt.some Nothing) v.front (left v.own) v.heard me some_number small lives (leave_step none),
+    record {
+      records = moved s o i v (word s i) (opt.some Nothing) v.front (left v.own) v.heard (idling v.listing) me some_number small lives (leave_step none);
+      list = still_listed (word s i) (opt.some Nothing) v.front (left v.own) v.heard (λ b e. e);
+    },
     refl,
   )
 
 -- what the table asks of each of these steps
 module _ (slots id i : ℕ) (v : View) (more : List (ℕ × Held)) (is : v.number ≡ i) (some_number : 0 < i) where
   pub start_kept : v.own.started ≡ false → v.own.pending ≡ None → v.own.retired ≡ false
-      → Allows IsOrderly slots id (v, more) (word_of i) (λ n. n) (starts (step slots (word_of i) 0 0 opt.none) (v, more))
+      → Allows IsRuled slots id (v, more) (word_of i) (λ n. n) (starts (step slots (word_of i) 0 0 opt.none) (v, more))
   start_kept unstarted none live = seated slots id i i v more (λ n. n) (starts (step slots (word_of i) 0 0 opt.none) (v, more)) is some_number
-      (λ s o me small wide e. start_goes i v is some_number s o me small more unstarted (is_idle (stand i v is some_number s o me small) none live))
+      (λ s o l me small wide e. start_goes i v is some_number s o l me small more unstarted (is_idle (stand i v is some_number s o l me small) none live))
 
   pub post_kept : (call : Call) → is_some v.own.pending ≡ false → v.own.retired ≡ false
-      → Allows IsOrderly slots id (v, (i, Asked call) ∷ more) (word_of i) (λ _. POSTED) (λ _. posts (step slots (word_of i) POSTED 0 opt.none) (v, (i, Asked call) ∷ more) POSTED)
-  post_kept call none live = seated slots id i i v ((i, Asked call) ∷ more) (λ _. POSTED) (λ _. posts (step slots (word_of i) POSTED 0 opt.none) (v, (i, Asked call) ∷ more) POSTED) is some_number
-      (λ s o me small wide e. post_goes i v is some_number s o me small call more (is_idle (stand i v is some_number s o me small) (lacks v.own.pending none) live))
+      → Allows IsRuled slots id (v, (i, Asked call) ∷ more) (word_of i) (λ _. POSTED) (posts (step slots (word_of i) POSTED 0 opt.none) (v, (i, Asked call) ∷ more))
+  post_kept call none live = seated slots id i i v ((i, Asked call) ∷ more) (λ _. POSTED) (posts (step slots (word_of i) POSTED 0 opt.none) (v, (i, Asked call) ∷ more)) is some_number
+      (λ s o l me small wide e. post_goes i v is some_number s o l me small call more (is_idle (stand i v is some_number s o l me small) (lacks v.own.pending none) live))
 
-  pub look_kept : Allows IsOrderly slots id (v, more) (word_of i) (λ n. n) (looks_for_reply (step slots (word_of i) 0 0 opt.none) (v, more))
+  pub look_kept : Allows IsRuled slots id (v, more) (word_of i) (λ n. n) (looks_for_reply (step slots (word_of i) 0 0 opt.none) (v, more))
   look_kept = seated slots id i i v more (λ n. n) (looks_for_reply (step slots (word_of i) 0 0 opt.none) (v, more)) is some_number
-      (λ s o me small wide e. look_goes i v is some_number s o me small more)
+      (λ s o l me small wide e. look_goes i v is some_number s o l me small more)
 
-  pub take_kept : Allows IsOrderly slots id (v, more) (word_of i) (λ n. either (eqb n SERVED) EMPTY n) (takes_reply (step slots (word_of i) SERVED EMPTY opt.none) (v, more))
-  take_kept = seated slots id i i v more (λ n. either (eqb n SERVED) EMPTY n) (takes_reply (step slots (word_of i) SERVED EMPTY opt.none) (v, more)) is some_number
-      (λ s o me small wide e. take_goes i v is some_number s o me small more)
+  pub take_kept : Allows IsRuled slots id (v, more) (word_of i) (λ n. either (eqb n SERVED) (cond v.own.listed EMPTY OUT) n) (takes_reply (step slots (word_of i) SERVED (cond v.own.listed EMPTY OUT) opt.none) (v, more))
+  take_kept = seated slots id i i v more (λ n. either (eqb n SERVED) (cond v.own.listed EMPTY OUT) n) (takes_reply (step slots (word_of i) SERVED (cond v.own.listed EMPTY OUT) opt.none) (v, more)) is some_number
+      (λ s o l me small wide e. take_goes i v is some_number s o l me small more)
 
   pub retire_kept : is_some v.own.pending ≡ false → v.own.retired ≡ false → v.own.started ≡ true
-      → Allows IsOrderly slots id (v, more) (word_of i) (λ _. CLOSED) (λ _. retires (step slots (word_of i) CLOSED 0 opt.none) (v, more) CLOSED)
+      → Allows IsRuled slots id (v, more) (word_of i) (λ _. CLOSED) (λ _. retires (step slots (word_of i) CLOSED 0 opt.none) (v, more) CLOSED)
   retire_kept none live has_started = seated slots id i i v more (λ _. CLOSED) (λ _. retires (step slots (word_of i) CLOSED 0 opt.none) (v, more) CLOSED) is some_number
-      (λ s o me small wide e. retire_goes i v is some_number s o me small more has_started (is_idle (stand i v is some_number s o me small) (lacks v.own.pending none) live))
+      (λ s o l me small wide e. retire_goes i v is some_number s o l me small more has_started (is_idle (stand i v is some_number s o l me small) (lacks v.own.pending none) live))
 
   pub leave_kept : is_some v.own.pending ≡ false
-      → Allows IsOrderly slots id (v, (i, Nothing) ∷ more) (word_of i) (λ n. n) (leaves (step slots (word_of i) 0 0 opt.none) (v, (i, Nothing) ∷ more))
+      → Allows IsRuled slots id (v, (i, Nothing) ∷ more) (word_of i) (λ n. n) (leaves (step slots (word_of i) 0 0 opt.none) (v, (i, Nothing) ∷ more))
   leave_kept none = seated slots id i i v ((i, Nothing) ∷ more) (λ n. n) (leaves (step slots (word_of i) 0 0 opt.none) (v, (i, Nothing) ∷ more)) is some_number
-      (λ s o me small wide e. leave_goes i v is some_number s o me small more (lacks v.own.pending none))
+      (λ s o l me small wide e. leave_goes i v is some_number s o l me small more (lacks v.own.pending none))

@@ -27,9 +27,11 @@ known_of t = record {
   retired = t.is_retired;
   has_book = t.has_book;
   opened = t.seat.me.0.combiner.opened;
+  listed = t.is_listed;
+  route = t.seat.me.0.listing.route;
 }
 
 -- its session is one of the board's, and its seat is as it is between two calls
 pub record IsKept (t : TicketInside) : Type 0 where
   pub small : t.number < t.seat.table_id.slots
-  pub settled : IsBetweenCalls t.seat.me t.number t.seen t.has_book t.is_pending t.is_retired
+  pub settled : IsBetweenCalls t.seat.me t.number t.seen t.has_book t.is_pending t.is_listed t.is_retired

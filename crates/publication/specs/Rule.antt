@@ -1,6 +1,6 @@
--- The rule of the board, which holds between any two atomic steps. The lock has the number 0, and the record of session i the
--- number i; each has a word and a slot by its number.
-use Rattle.std.specs.Prelude.{◌≡◌, ◌≢◌, ℕ, ◌+◌, ◌^◌, ◌<◌, ◌≤◌, nat_le, Bool, true, false, cond, is_some, Some, None, List, [], ◌∷◌, ◌++◌, length, slice_index, slice_index_or, replicate, vec_len, vec_capacity}
+-- The rule of the board's records, which holds between any two atomic steps. The lock has the number 0, and the record of session
+-- i the number i; each has a word and a slot by its number. What holds of the publication list besides stands in specs/List.antt.
+use Rattle.std.specs.Prelude.{◌≡◌, ◌≢◌, ℕ, ◌+◌, ◌^◌, ◌<◌, ◌≤◌, ◌⊎◌, nat_le, ◌&&◌, Bool, true, false, cond, is_some, Some, None, List, [], ◌∷◌, ◌++◌, length, slice_index, slice_index_or, replicate, vec_len, vec_capacity}
 use mathlib.Core.Option as opt
 use mathlib.Core.List.{IsPrefix}
 use lib.ListN.{get_elem?}
@@ -10,8 +10,8 @@ use Rattle.lock_rules.specs.declared.calls.Call.{Call}
 use Rattle.lock_rules.specs.declared.calls.Reply.{Reply}
 use Rattle.lock_rules.specs.declared.calls.Entry.{Entry}
 use Rattle.lock_rules.specs.Legal.{IsLegal, calls_of}
-use Rattle.publication.specs.Words.{word_of, FREE, EMPTY, POSTED, BUSY, SERVED, CLOSED}
-use Rattle.publication.specs.Views.{Own, Combiner, Handed, Others, entry, answer, asks}
+use Rattle.publication.specs.Words.{word_of, FREE, OUT, POSTED, BUSY, SERVED, CLOSED, EMPTY}
+use Rattle.publication.specs.Views.{Own, Combiner, Listing, Handed, Others, entry, answer, asks}
 use Rattle.publication.specs.declared.view.View.{View}
 use Rattle.publication.specs.declared.slot.Load.{Load}
 use Rattle.publication.specs.declared.slot.Held.{Held}
@@ -21,11 +21,15 @@ use Rattle.publication.specs.declared.slot.Held.TheVariants.{Nothing, Asked, Rep
 
 -- a session that isn't made yet
 abbrev pub fresh : Own
-fresh = record { started = false; retired = false; pending = None; collected = [] }
+fresh = record { started = false; retired = false; pending = None; collected = []; listed = false }
 
 -- no book, and nothing opened
 abbrev pub no_combiner : ℕ → Combiner
 no_combiner slots = record { has_book = false; opened = replicate slots None; hand = 0 }
+
+-- nothing is known of the publication list
+abbrev pub unwalked : Listing
+unwalked = record { aim = None; route = []; off = 0; before = 0 }
 
 -- nothing is known of others, but whether all sessions are made
 abbrev pub apart : Bool → Others
@@ -33,15 +37,15 @@ apart all_made = record { all_made = all_made; beside = []; handed = [] }
 
 -- the first seat, which makes the sessions: so many it has made
 abbrev pub maker : ℕ → ℕ → View
-maker slots made = record { number = 0; slots = slots; made = made; front = []; own = fresh; combiner = no_combiner 0; heard = []; others = apart (nat_le slots (made + 1)) }
+maker slots made = record { number = 0; slots = slots; made = made; front = []; own = fresh; combiner = no_combiner 0; heard = []; listing = unwalked; others = apart (nat_le slots (made + 1)) }
 
 -- no seat is there
 abbrev pub blank : View
-blank = record { number = 0; slots = 0; made = 0; front = []; own = fresh; combiner = no_combiner 0; heard = []; others = apart false }
+blank = record { number = 0; slots = 0; made = 0; front = []; own = fresh; combiner = no_combiner 0; heard = []; listing = unwalked; others = apart false }
 
 -- the seat of a session that is just made
 abbrev pub newcomer : ℕ → ℕ → View
-newcomer slots number = record { number = number; slots = slots; made = 0; front = []; own = fresh; combiner = no_combiner slots; heard = replicate slots 0; others = apart false }
+newcomer slots number = record { number = number; slots = slots; made = 0; front = []; own = fresh; combiner = no_combiner slots; heard = replicate slots 0; listing = unwalked; others = apart false }
 
 -- Look-ups on the board.
 
@@ -65,9 +69,9 @@ seat s k = slice_index_or s.views k blank
 abbrev pub own_at : List Own → ℕ → Own
 own_at owns j = slice_index_or owns j fresh
 
--- how many calls a session has published
-abbrev pub published : Own → ℕ
-published o = length o.collected + cond (is_some o.pending) 1 0
+-- how many calls a session has announced: those that it has published, but for a pending one that isn't listed
+abbrev pub announced : Own → ℕ
+announced o = length o.collected + cond (is_some o.pending && o.listed) 1 0
 
 -- how many calls of a session a seat knows to be published
 abbrev pub heard_of : View → ℕ → ℕ
@@ -76,10 +80,10 @@ heard_of v j = slice_index v.heard j
 -- How the record of session i may stand: by the history h, its word w, what is at home in its slot, and what its session knows of its own calls.
 
 module _ (h : List Entry) (i w : ℕ) (slot : opt.Option Held) (own : Own) where
-  -- EMPTY: nothing is pending, all calls in the history are collected, and the slot is with the session, from its start until
-  -- it is handed in
+  -- EMPTY or OUT: nothing is pending, all calls in the history are collected, and the slot is with the session, from its start
+  -- until it is handed in
   pub record IsIdle : Type 0 where
-    pub is : w ≡ EMPTY
+    pub is : (w ≡ EMPTY) ⊎ (w ≡ OUT)
     pub none : own.pending ≡ None
     pub out : own.started ≡ true → slot ≡ opt.none
     pub laid : own.started ≡ false → slot ≡ opt.some Nothing
@@ -135,12 +139,13 @@ pub data Stands (h : List Entry) (i w : ℕ) (slot : opt.Option Held) (own : Own
 -- Where the book is, and what is opened.
 
 -- a load that may go home: the book has this history, and the board's sessions, of which there is one less than there are
--- slots; and the row is empty, with room for one item a session
+-- slots; the row is empty, with room for one item a session; and there is an age for each session
 pub record IsHome (h : List Entry) (slots : ℕ) (l : Load) : Type 0 where
   pub history : l.book.history ≡ h
   pub sessions : l.book.sessions + 1 ≡ slots
   pub empty : vec_len l.row ≡ 0
   pub room : l.book.sessions ≤ vec_capacity l.row
+  pub ages : vec_len l.ages ≡ l.book.sessions
 
 -- session k has the book: the lock word has its number, and it knows the whole history
 pub record HasBook (h : List Entry) (lock k : ℕ) (v : View) : Type 0 where
@@ -220,10 +225,12 @@ pub record IsOrderly (s : BoardState) : Type 0 where
   pub unmade : (j : ℕ) → length s.views ≤ j → own_at owns j ≡ fresh
   -- a seat that has a number is that session's
   pub sessions : (k : ℕ) → (seat s k).number ≢ 0 → IsSession slots owns k (seat s k)
+  -- a session that waits for an answer has its seat
+  pub waits : (j : ℕ) → (own_at owns j).pending ≢ None → (seat s j).own ≡ own_at owns j
   -- every seat knows a front of the history
   pub fronts : (k : ℕ) → IsPrefix (seat s k).front history
-  -- nobody has heard of more calls of a session than that has published
-  pub heard : (k j : ℕ) → heard_of (seat s k) j ≤ published (own_at owns j)
+  -- nobody has heard of more calls of a session than that has announced
+  pub heard : (k j : ℕ) → heard_of (seat s k) j ≤ announced (own_at owns j)
   -- what a seat knows of others is so
   pub others : (k : ℕ) → AreTrue history s slots owns (seat s k).others
   -- every record stands as its word says

@@ -12,12 +12,14 @@ pub record Pending : Type 0 where
   pub floor : ℕ
 
 -- what a session knows of its own calls: whether it has its record's slot to publish with, which it takes at its start and lays
--- down as it is handed in; whether it publishes no more; the call that it waits for; and the answers that it took, oldest first
+-- down as it is handed in; whether it publishes no more; the call that it waits for; the answers that it took, oldest first; and
+-- whether the call that it published last is listed, so that passes visit its record
 pub record Own : Type 0 where
   pub started : Bool
   pub retired : Bool
   pub pending : Option Pending
   pub collected : List Answered
+  pub listed : Bool
 
 -- what a combiner has: whether the book; at each record's number its call, where it is opened; the record whose slot is in
 -- hand, or 0
@@ -25,6 +27,15 @@ pub record Combiner : Type 0 where
   pub has_book : Bool
   pub opened : List (Option Call)
   pub hand : ℕ
+
+-- what a seat knows of the publication list: the head that its session has written into its record's link, until it has tried the
+-- exchange of the head word; the records on the list from the one that was its head at the last look of its walk there, first to last;
+-- and the record that it has unlinked and neither marked out nor linked again, or 0, with the one behind which it stood
+pub record Listing : Type 0 where
+  pub aim : Option ℕ
+  pub route : List ℕ
+  pub off : ℕ
+  pub before : ℕ
 
 -- a session that was handed in to be closed: its number, the answers that it took, oldest first, and the entries that it knew
 pub record Handed : Type 0 where
@@ -46,7 +57,8 @@ pub record Placed : Type 0 where
 
 -- what contracts see of a ticket: of which board and session it is, the front of the history that it knows, the call that it
 -- waits for, the answers that it took, how many calls of each session it knows to be published, whether it publishes no
--- more, whether it has the book, and the call of each record that it has opened
+-- more, whether it has the book, the call of each record that it has opened, whether the call that it published last is listed,
+-- and the records that its walk of the publication list meets
 pub record Known : Type 0 where
   pub board : TableId
   pub number : ℕ
@@ -57,6 +69,8 @@ pub record Known : Type 0 where
   pub retired : Bool
   pub has_book : Bool
   pub opened : List (Option Call)
+  pub listed : Bool
+  pub route : List ℕ
 
 -- the entry of a session's call with its reply
 abbrev pub entry : ℕ → Call → Reply → Entry

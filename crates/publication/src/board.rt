@@ -7,8 +7,9 @@ ghost use Rattle.lock_rules.specs.Legal.{IsLegal, calls_of};
 ghost use Rattle.publication.specs.Tickets.{IsBoard, IsAt};
 ghost use Rattle.publication.specs.Views.{entry, answer, asks};
 ghost use Rattle.publication.specs.Rule.{IsHome, maker, newcomer};
-ghost use Rattle.publication.specs.Kinds.{Took, longer, maxes};
-ghost use Rattle.publication.specs.Boards.{IsOf, IsNumber, OpensNone, opened_at, asked_at, heard_from, published_by, new_ticket, new_tickets, IsEachOnce, IsSettled, AccountsFor};
+ghost use Rattle.publication.specs.List.{IsOn, first_of, behind, without};
+ghost use Rattle.publication.specs.Kinds.{Took, IsRoute, longer, maxes};
+ghost use Rattle.publication.specs.Boards.{IsOf, IsNumber, OpensNone, opened_at, asked_at, heard_from, published_by, new_ticket, new_tickets, publishing, enlisted, IsEachOnce, IsSettled, AccountsFor};
 ghost use Rattle.publication.specs.Closing.{is_settled, handed_by, WereHanded, AreEnded};
 
 use crate::closing::{CloseFault, are_settled, close_table, is_each_once};
@@ -18,7 +19,7 @@ use crate::slot::{Held, Load};
 use crate::steps;
 use crate::steps::{Seat, Shared};
 use crate::view::View;
-use crate::words::WORDS_APART;
+use crate::words::{END, HEAD, WORDS_APART};
 use atomic_table::{Refused, Table};
 use lock_desk::{Book, Call, NoMemory, Reply};
 use std::alloc::{AllocError, Global};
@@ -29,6 +30,9 @@ use std::marker::Model;
 pub enum Posted {
     /// Passes visit its record.
     Listed,
+    /// The exchange of the head was lost to another session. Passes of others don't visit the record until it is enlisted; a pass of its
+    /// own session does.
+    Unlisted,
 }
 
 /// The lock word, a publication record for each session, and the lock table, which the combiner takes.
@@ -58,6 +62,7 @@ pub struct Ticket {
     seen: u64,
     has_book: bool,
     is_pending: bool,
+    is_listed: bool,
     is_retired: bool,
 }
 
@@ -93,6 +98,13 @@ impl Ticket {
         ensures { result ≡ self.now.retired }
     {
         self.is_retired
+    }
+
+    /// Whether it has a call pending that isn't listed.
+    pub fn is_unlisted(&self) -> bool
+        ensures { IsTrue result ↔ ((self.now.pending ≢ None) × (self.now.listed ≡ false)) }
+    {
+        self.is_pending && !self.is_listed
     }
 
     /// Whether it has nothing pending, and isn't the combiner.
@@ -141,6 +153,7 @@ fn enrol(shared: &Shared, first: &mut Seat, seat: Seat, sessions: u16, number: u
         seen: 0,
         has_book: false,
         is_pending: false,
+        is_listed: false,
         is_retired: false,
     }
 }
@@ -179,8 +192,16 @@ impl Board {
     {
         let sessions = book.sessions();
         let row = Vec::with_capacity(alloc, usize::from(sessions))?;
-        let load = Box::new(alloc, Load { book, row })?;
-        let words = vec![in alloc; 0u64; (usize::from(sessions) + 1) * WORDS_APART]?;
+        let ages = vec![in alloc; 0u64; usize::from(sessions)]?;
+        let load = Load {
+            book,
+            row,
+            passes: 0,
+            ages,
+        };
+        let load = Box::new(alloc, load)?;
+        let mut words = vec![in alloc; 0u64; (usize::from(sessions) + 1) * WORDS_APART]?;
+        words[HEAD] = END;
         let slots = laid(alloc, load, sessions)?;
         let (table, mut first) = match Table::new(alloc, words.as_slice(), slots, &sessions) {
             Ok(made) => made,
@@ -197,25 +218,60 @@ impl Board {
         self.sessions
     }
 
-    /// Publishes a call of the ticket's session, which waits for the answer from then on.
-    pub fn post(&self, ticket: &mut Ticket, call: Call) -> Posted
+    // Posts the call, which is listed where the record was on the publication list.
+    fn post_call(&self, ticket: &mut Ticket, call: Call)
         requires ours { IsOf self.now ticket.old }
         requires idle { (ticket.old.pending ≡ None) × (ticket.old.retired ≡ false) }
-        ensures ticket { ticket.new ≡ record ticket.old {
-          pending = Some (asks call (length ticket.old.front));
-          heard = slice_set ticket.old.heard ticket.old.number (length ticket.old.collected + 1);
-        } }
-        ensures heard { heard_from ticket.new ticket.new.number ≡ length ticket.new.collected + 1 }
+        ensures listed { ticket.new.listed ≡ true → ticket.new ≡ enlisted (publishing ticket.old call) }
+        ensures unlisted { ticket.new.listed ≡ false → ticket.new ≡ publishing ticket.old call }
     {
         turn_if(&mut ticket.seat, ticket.has_book);
-        steps::put_call(
+        ticket.is_listed = steps::put_call(
             &self.table.shared,
             &mut ticket.seat,
             usize::from(ticket.number),
             call,
         );
         ticket.is_pending = true;
-        Posted::Listed
+    }
+
+    /// Publishes a call of the ticket's session, which waits for the answer from then on. `Unlisted` where the record wasn't on the
+    /// publication list and the exchange of its head was lost.
+    pub fn post(&self, ticket: &mut Ticket, call: Call) -> Posted
+        requires ours { IsOf self.now ticket.old }
+        requires idle { (ticket.old.pending ≡ None) × (ticket.old.retired ≡ false) }
+        ensures listed { result ≡ Posted.Listed → ticket.new ≡ enlisted (publishing ticket.old call) }
+        ensures heard { result ≡ Posted.Listed → heard_from ticket.new ticket.new.number ≡ length ticket.new.collected + 1 }
+        ensures unlisted { result ≡ Posted.Unlisted → (ticket.new ≡ publishing ticket.old call) × (1 < self.now.sessions) }
+    {
+        self.post_call(ticket, call);
+        self.enlist(ticket)
+    }
+
+    /// One more try to have the pending call listed, so that passes visit its record: one exchange of the head of the publication list.
+    /// `Listed` at once where it is listed, `Unlisted` where the exchange was lost.
+    pub fn enlist(&self, ticket: &mut Ticket) -> Posted
+        requires ours { IsOf self.now ticket.old }
+        requires pending { ticket.old.pending ≢ None }
+        ensures rises { (j : _) → heard_from ticket.old j ≤ heard_from ticket.new j }
+        ensures at_once { ticket.old.listed ≡ true → (result ≡ Posted.Listed) × (ticket.new ≡ ticket.old) }
+        ensures listed { result ≡ Posted.Listed → ticket.new ≡ enlisted ticket.old }
+        ensures heard { result ≡ Posted.Listed → heard_from ticket.new ticket.new.number ≡ published_by ticket.new }
+        ensures unlisted { result ≡ Posted.Unlisted → (ticket.new ≡ ticket.old) × (ticket.old.listed ≡ false) × (1 < self.now.sessions) }
+    {
+        if ticket.is_listed {
+            return Posted::Listed;
+        }
+        ticket.is_listed = steps::enlist_record(
+            &self.table.shared,
+            &mut ticket.seat,
+            usize::from(ticket.number),
+        );
+        if ticket.is_listed {
+            Posted::Listed
+        } else {
+            Posted::Unlisted
+        }
     }
 
     /// Takes the reply to the call that is pending, with the place of its entry in the history, from 0 on: once, where it
@@ -236,6 +292,7 @@ impl Board {
             &self.table.shared,
             &mut ticket.seat,
             usize::from(ticket.number),
+            ticket.is_listed,
         )?;
         turn_if(&mut ticket.seat, ticket.has_book);
         ticket.is_pending = false;
@@ -258,7 +315,7 @@ impl Board {
         ensures none { IfNone result (ticket.new ≡ ticket.old) }
         ensures others { IfNone result (ticket.old.has_book ≡ false → 1 < self.now.sessions) }
         ensures number { IsNumber self.now ticket.old.number }
-        ensures own { heard_from ticket.old ticket.old.number ≡ published_by ticket.old }
+        ensures own { ticket.old.pending ≢ None → ticket.old.listed ≡ true → heard_from ticket.old ticket.old.number ≡ published_by ticket.old }
     {
         let load = steps::take_load(
             &self.table.shared,
@@ -276,10 +333,47 @@ impl Board {
         requires has { ticket.old.has_book ≡ true }
         requires none { OpensNone ticket.old }
         requires home { IsHome ticket.old.front (self.now.sessions + 1) load.value }
-        ensures ticket { ticket.new ≡ record ticket.old { has_book = false } }
+        ensures ticket { ticket.new ≡ record ticket.old { has_book = false; route = [] } }
     {
         steps::give_load(&self.table.shared, &mut ticket.seat, load);
         ticket.has_book = false;
+    }
+
+    /// The combiner looks where its walk of the publication list goes on: at the head word, or at the link of a record that it has
+    /// met. `None` at the end mark. A walk that begins meets each record that is on the list then, once.
+    pub fn walk(&self, ticket: &mut Ticket, after: Option<u16>) -> Option<u16>
+        requires ours { IsOf self.now ticket.old }
+        requires has { ticket.old.has_book ≡ true }
+        requires on { IfSome after (λ q. IsNumber self.now q × IsOn q ticket.old.route) }
+        ensures ticket { ticket.new ≡ record ticket.old { route = ticket.new.route } }
+        ensures first { IfNone after (result ≡ first_of ticket.new.route) }
+        ensures next { IfSome after (λ q. (ticket.new ≡ ticket.old) × (result ≡ first_of (behind q ticket.old.route))) }
+        ensures route { IsRoute (self.now.sessions + 1) ticket.new.route }
+        ensures all { IfNone after ((j : _) → 0 < j → j ≤ self.now.sessions → length (calls_of j ticket.old.front) < heard_from ticket.old j → IsOn j ticket.new.route) }
+    {
+        match after {
+            None => steps::walk_from_head(&self.table.shared, &mut ticket.seat),
+            Some(whose) => steps::walk_on(&self.table.shared, &mut ticket.seat, usize::from(whose)),
+        }
+    }
+
+    /// The combiner takes a record off the publication list, which stands there behind another: it links that one past it, and then
+    /// tries to mark it out. Whether it is off the list: a record that isn't EMPTY, nor CLOSED, is linked again at once, so the list is as
+    /// it was. The first record can't be taken off.
+    pub fn unlink(&self, ticket: &mut Ticket, before: u16, whose: u16) -> bool
+        requires ours { IsOf self.now ticket.old }
+        requires has { ticket.old.has_book ≡ true }
+        requires before { IsNumber self.now before × IsOn before ticket.old.route }
+        requires whose { IsNumber self.now whose × (first_of (behind before ticket.old.route) ≡ Some whose) }
+        ensures off { result ≡ true → ticket.new ≡ record ticket.old { route = without before ticket.old.route } }
+        ensures kept { result ≡ false → ticket.new ≡ ticket.old }
+    {
+        steps::unlink_record(
+            &self.table.shared,
+            &mut ticket.seat,
+            usize::from(before),
+            usize::from(whose),
+        )
     }
 
     /// The combiner opens the record of a session: the call that is posted there. `None` where none is; the record is
@@ -290,9 +384,13 @@ impl Board {
         requires whose { IsNumber self.now whose }
         ensures ticket { IfSome result (λ call. ticket.new ≡ record ticket.old { opened = slice_set ticket.old.opened whose (Some call) }) }
         ensures opened { IfSome result (λ call. opened_at ticket.new whose ≡ Some call) }
+        ensures lacked { IfSome result (λ _. opened_at ticket.old whose ≡ None) }
         ensures heard { IfSome result (λ _. heard_from ticket.old whose ≤ length (calls_of whose ticket.old.front) + 1) }
+        ensures own { IfSome result (λ _. ticket.old.number ≡ whose → length ticket.old.collected ≡ length (calls_of whose ticket.old.front)) }
         ensures none { IfNone result (ticket.new ≡ ticket.old) }
         ensures entered { IfNone result (opened_at ticket.old whose ≡ None → heard_from ticket.old whose ≤ length (calls_of whose ticket.old.front)) }
+        ensures own_entered { IfNone result (opened_at ticket.old whose ≡ None → ticket.old.number ≡ whose → ticket.old.pending ≢ None
+            → length ticket.old.collected < length (calls_of whose ticket.old.front)) }
     {
         steps::open_record(&self.table.shared, &mut ticket.seat, usize::from(whose))
     }
@@ -390,6 +488,7 @@ impl Board {
             seen: _,
             has_book: _,
             is_pending: _,
+            is_listed: _,
             is_retired: _,
         } = ticket;
         steps::gather_seat(&self.table.shared, closing, seat, usize::from(number));

@@ -71,6 +71,11 @@ pub(crate) fn close_table(table: Table<Held, View, u16, Law, Global>, closing: S
     let Held::Home(load) = held else {
         unreachable!()
     };
-    let Load { book, row: _ } = Box::into_inner(load);
+    let Load {
+        book,
+        row: _,
+        passes: _,
+        ages: _,
+    } = Box::into_inner(load);
     book
 }

@@ -8,9 +8,10 @@ pub struct Law;
 
 impl TableRule<Held, View, u16> for Law {
     ghost use Rattle.std.specs.Prelude.{◌+◌};
-    ghost use Rattle.publication.specs.Rule.{IsOrderly, maker};
+    ghost use Rattle.publication.specs.Rule.{maker};
+    ghost use Rattle.publication.specs.List.{IsRuled};
 
-    ghost holds = { λ _. IsOrderly };
+    ghost holds = { λ _. IsRuled };
 
     ghost first = { λ sessions. maker (sessions + 1) 0 };
 }
@@ -41,6 +42,70 @@ impl Play<Held, View> for Post {
     ghost use Rattle.publication.specs.Kinds.{posts};
 
     ghost then = { posts };
+}
+
+pub struct LookAtHead;
+
+impl Play<Held, View> for LookAtHead {
+    ghost use Rattle.publication.specs.Kinds.{looks_at_head};
+
+    ghost then = { looks_at_head };
+}
+
+pub struct Link;
+
+impl Play<Held, View> for Link {
+    ghost use Rattle.publication.specs.Kinds.{links};
+
+    ghost then = { links };
+}
+
+pub struct Enlist;
+
+impl Play<Held, View> for Enlist {
+    ghost use Rattle.publication.specs.Kinds.{enlists};
+
+    ghost then = { enlists };
+}
+
+pub struct Walk;
+
+impl Play<Held, View> for Walk {
+    ghost use Rattle.publication.specs.Kinds.{walks};
+
+    ghost then = { walks };
+}
+
+pub struct WalkOn;
+
+impl Play<Held, View> for WalkOn {
+    ghost use Rattle.publication.specs.Kinds.{walks_on};
+
+    ghost then = { walks_on };
+}
+
+pub struct Unlink;
+
+impl Play<Held, View> for Unlink {
+    ghost use Rattle.publication.specs.Kinds.{unlinks};
+
+    ghost then = { unlinks };
+}
+
+pub struct MarkOut;
+
+impl Play<Held, View> for MarkOut {
+    ghost use Rattle.publication.specs.Kinds.{marks_out};
+
+    ghost then = { marks_out };
+}
+
+pub struct Relink;
+
+impl Play<Held, View> for Relink {
+    ghost use Rattle.publication.specs.Kinds.{relinks};
+
+    ghost then = { relinks };
 }
 
 pub struct LookForReply;

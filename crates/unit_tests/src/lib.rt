@@ -14,6 +14,8 @@ mod histories;
 #[cfg(test)]
 mod lanes;
 #[cfg(test)]
+mod listing;
+#[cfg(test)]
 mod modes;
 #[cfg(test)]
 mod offices;

@@ -178,11 +178,12 @@ fn a_pass_serves_what_gives_locks_back_first(rt: HostRuntime) -> Result<(), Fail
         let _posted = office.publish(&mut third, Call::Poll);
         let _posted = office.publish(&mut fourth, Call::Commit);
         assert_eq!(rt; served_by(&rt, &office, &mut third), 4);
-        assert_eq!(rt; office.collect(&mut second), Some(answer(3, reply)));
-        assert_eq!(rt; office.collect(&mut fourth), Some(answer(4, refused)));
+        // the publication list is 4, 3, 2, 1
+        assert_eq!(rt; office.collect(&mut fourth), Some(answer(3, refused)));
+        assert_eq!(rt; office.collect(&mut second), Some(answer(4, reply)));
+        assert_eq!(rt; office.collect(&mut third), Some(answer(5, refused)));
         let granted = Reply::Granted(Mode::S);
-        assert_eq!(rt; office.collect(&mut first), Some(answer(5, granted)));
-        assert_eq!(rt; office.collect(&mut third), Some(answer(6, refused)));
+        assert_eq!(rt; office.collect(&mut first), Some(answer(6, granted)));
     }
     Ok(())
 }
@@ -308,15 +309,16 @@ fn work(
     Ok(all)
 }
 
-/// Eight threads with a session each make as many calls: the answers in the order of their places, each of which is there
+/// So many threads with a session each make as many calls: the answers in the order of their places, each of which is there
 /// once.
 fn history_of_threads<R: Threads + Abort + Sync>(
     rt: &R,
     alloc: Global,
+    threads: u16,
     load: Load,
     calls: u64,
 ) -> Result<Vec<Answered>, Fail> {
-    let (office, sessions) = Office::open(alloc, 8)?;
+    let (office, sessions) = Office::open(alloc, threads)?;
     let office = &office;
     let worked = thread::map_vec(
         rt,
@@ -338,7 +340,7 @@ fn history_of_threads<R: Threads + Abort + Sync>(
 
 #[test]
 fn eight_threads_poll(rt: HostRuntime) -> Result<(), Fail> {
-    let history = history_of_threads(&rt, rt.alloc(), Load::Polls, 1000)?;
+    let history = history_of_threads(&rt, rt.alloc(), 8, Load::Polls, 1000)?;
     assert_eq!(rt; history.len(), 8000);
     for answered in &history {
         assert_eq!(rt; answered.reply, Reply::Refused(Why::NoTransaction));
@@ -347,8 +349,18 @@ fn eight_threads_poll(rt: HostRuntime) -> Result<(), Fail> {
 }
 
 #[test]
+fn sixty_four_threads_poll(rt: HostRuntime) -> Result<(), Fail> {
+    let history = history_of_threads(&rt, rt.alloc(), 64, Load::Polls, 200)?;
+    assert_eq!(rt; history.len(), 12_800);
+    for answered in &history {
+        assert_eq!(rt; answered.reply, Reply::Refused(Why::NoTransaction));
+    }
+    Ok(())
+}
+
+#[test]
 fn eight_threads_are_told_what_one_book_tells(rt: HostRuntime) -> Result<(), Fail> {
-    let history = history_of_threads(&rt, rt.alloc(), Load::Transactions, 1000)?;
+    let history = history_of_threads(&rt, rt.alloc(), 8, Load::Transactions, 1000)?;
     assert_eq!(rt; history.len(), 8000);
     let mut book = Book::new(rt.alloc(), 8)?;
     for answered in &history {

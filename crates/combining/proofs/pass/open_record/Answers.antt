@@ -1,10 +1,11 @@
-use Rattle.std.proofs.Common.{rules, ◌≡◌, ◌++◌, ◌∷◌, get_or, ℕ, List, Some, None, set, take, drop, sym, ap, ◌∙◌, subst, arith}
+use Rattle.std.proofs.Common.{rules, ◌≡◌, ◌<◌, ◌++◌, length, vec_len, vec_capacity, ◌∷◌, get_or, ℕ, List, Some, None, set, take, drop, sym, ap, ◌∙◌, subst, arith}
 use Rattle.lock_desk.specs.declared.batch.Item.{Item}
 use Rattle.lock_desk.specs.Batches.{IsItemWithin}
 use Rattle.publication.specs.Views.{Known}
 use Rattle.publication.specs.Boards.{opened_at}
 use Rattle.combining.specs.Passes.{AreOpened}
 use Rattle.combining.proofs.Opened.{Calls, opened-insert, opened-in_range}
+use Rattle.combining.proofs.Room.{row-room}
 use Rattle.combining.proofs.pass.open_record.Goals as goal
 
 -- the item of the record that is opened stands in the row, wherever it was put
@@ -18,9 +19,15 @@ row-after n t u row place i within none all is shown after put =
 pub returns-then-gives-2-clause-row : goal.returns-then-gives-2-clause-row
 returns-then-gives-2-clause-row c = let s = c.in-Some.ensures in
     row-after c.args.board.now.sessions c.args.session.now c.open.new.ticket c.args.row.now.items c.if-gives.place (record { session = c.args.whose; call = c.in-Some.call; reply = None })
-    (record { some = omega arith; within = omega arith }) (c.requires.later c.args.whose (omega arith)) c.requires.row (ap (λ (t : Known). t.opened) s.ticket) s.opened c.insert.new.self.items (search rules)
+    (record { some = omega arith; within = omega (arith, c.requires.whose.few) }) s.lacked c.requires.row (ap (λ (t : Known). t.opened) s.ticket) s.opened c.insert.new.self.items (search rules)
 
 pub returns-else-gives-2-clause-row : goal.returns-else-gives-2-clause-row
 returns-else-gives-2-clause-row c = let s = c.in-Some.ensures in
     row-after c.args.board.now.sessions c.args.session.now c.open.new.ticket c.args.row.now.items c.if-gives.place (record { session = c.args.whose; call = c.in-Some.call; reply = None })
-    (record { some = omega arith; within = omega arith }) (c.requires.later c.args.whose (omega arith)) c.requires.row (ap (λ (t : Known). t.opened) s.ticket) s.opened c.insert.new.self.items (search rules)
+    (record { some = omega arith; within = omega (arith, c.requires.whose.few) }) s.lacked c.requires.row (ap (λ (t : Known). t.opened) s.ticket) s.opened c.insert.new.self.items (search rules)
+
+pub unreachable-requires : goal.unreachable-requires
+unreachable-requires c =
+    let fewer = row-room c.args.board.now.sessions c.args.session.now.opened c.args.row.now.items c.args.whose c.requires.row c.in-Some.ensures.lacked c.requires.whose.some c.requires.whose.few in
+    let len : vec_len c.args.row.now ≡ length c.args.row.now.items = search rules in
+    let room : vec_len c.args.row.now < vec_capacity c.args.row.now = omega (arith, fewer, len, c.requires.room.0) in search rules

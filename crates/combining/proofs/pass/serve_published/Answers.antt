@@ -1,4 +1,11 @@
+use Rattle.std.proofs.Common.{rules, ◌≡◌, ◌∙◌, ℕ, List, take, vec_len, sym, ap, subst}
+use Rattle.std.specs.Prelude.{All}
+use Rattle.lock_rules.specs.declared.calls.Entry.{Entry}
+use Rattle.lock_desk.specs.declared.batch.Item.{Item}
+use Rattle.lock_desk.specs.Batches.{IsItemWithin}
+use Rattle.publication.specs.Views.{Known}
 use Rattle.combining.proofs.Same.{same_session-trans, same_session-none}
+use Rattle.combining.proofs.Cleaning.{row-within, first-within}
 use Rattle.combining.proofs.pass.serve_published.Goals as goal
 
 pub returns-clause-session : goal.returns-clause-session
@@ -7,5 +14,20 @@ returns-clause-session c =
     let opened = c.open_records.new.session in
     let served = c.serve_row-served.new.session in
     let after = c.put_back_row.new.session in
+    let last = c.clean_up.new.session in
     let performed = same_session-trans before opened served c.open_records.ensures.session.0 c.serve_row-served.ensures.session in
-    same_session-none before after (same_session-trans before served after performed c.put_back_row.ensures.session.0) c.requires.ours.2 c.put_back_row.ensures.none
+    let done : after ≡ record before { front = after.front; route = after.route } =
+    same_session-none before after (same_session-trans before served after performed c.put_back_row.ensures.session.0) c.requires.ours.2 c.put_back_row.ensures.none in
+    let cleaned : last ≡ record after { route = last.route } = c.clean_up.ensures.session in
+    cleaned ∙ (ap (λ (t : Known). record t { route = last.route }) done
+    ∙ ap (λ (f : List Entry). record before { front = f; route = last.route }) (sym (ap (λ (t : Known). t.front) cleaned)))
+
+pub note_served-requires : goal.note_served-requires
+note_served-requires c =
+    let n = c.args.board.now.sessions in
+    let row = c.open_records.new.row.items in
+    let served = c.serve_row-served.result in
+    let all : All (IsItemWithin n) (take served row) = first-within n served row (row-within n c.open_records.new.session.opened row c.open_records.ensures.row) in
+    let ages : n ≡ vec_len c.args.load.now.ages = search rules in
+    let slice : row ≡ c.deref-2.result.now = search rules in
+    record { within = subst (λ (l : List Item). All (IsItemWithin (vec_len c.args.load.now.ages)) (take served l)) slice (subst (λ (m : ℕ). All (IsItemWithin m) (take served row)) ages all) }

@@ -1,6 +1,6 @@
 use Rattle.std.proofs.Common.{◌≡◌, ◌+◌, length, drop}
 use mathlib.Core.List.{IsPrefix}
-use Rattle.combining.specs.Passes.{AreOpened, HasHeardCalls, IsSameSession, IsBookInHand}
+use Rattle.combining.specs.Passes.{AreOpened, KeepsCalls, IsSameSession, IsBookInHand}
 use Rattle.combining.proofs.pass.serve_row.Given as goal
 
 abbrev pub invariant-loop-item : goal.invariant-loop-item
@@ -11,5 +11,5 @@ invariant-loop-item l = record {
   row : AreOpened l.board.sessions l.session.opened (drop l.served l.row);
   longer : IsPrefix l.initial.session.front l.session.front;
   count : length l.session.front ≡ length l.initial.session.front + l.served;
-  heard : HasHeardCalls l.board.sessions l.initial.session → HasHeardCalls l.board.sessions l.session;
+  calls : KeepsCalls l.initial.session l.session;
 }

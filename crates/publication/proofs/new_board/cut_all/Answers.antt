@@ -1,7 +1,8 @@
 use Rattle.std.proofs.Common.{rules, ◌≡◌, ◌∷◌, ◌++◌, ◌∙◌, ◌+◌, ℕ, List, [], length, length-append, sym, ap, subst, arith}
 use Rattle.atomic_table.specs.Table.{Splits}
 use Rattle.atomic_table.specs.declared.shared.Seat.{Seat}
-use Rattle.publication.specs.Rule.{IsOrderly, maker, newcomer}
+use Rattle.publication.specs.Rule.{maker, newcomer}
+use Rattle.publication.specs.List.{IsRuled}
 use Rattle.publication.specs.Kinds.{Seated}
 use Rattle.publication.specs.Tickets.{AreNewcomers}
 use Rattle.publication.specs.declared.view.View.{View}
@@ -14,7 +15,7 @@ pub split_seat-requires : goal.split_seat-requires
 split_seat-requires c = let first = c.loop-made.first in let i = c.loop-made.invariant in let n = c.args.sessions in (
   search rules,
   search rules,
-  subst (λ (v : View). Splits IsOrderly first.id v (maker v.slots (v.made + 1)) (newcomer v.slots (v.made + 1))) (sym (ap (λ (m : Seated). m.0) i.2)) (enrols first.id (n + 1) c.loop-made._made i.1 (omega (arith, c.loop-made-test.true))),
+  subst (λ (v : View). Splits IsRuled first.id v (maker v.slots (v.made + 1)) (newcomer v.slots (v.made + 1))) (sym (ap (λ (m : Seated). m.0) i.2)) (enrols first.id (n + 1) c.loop-made._made i.1 (omega (arith, c.loop-made-test.true))),
 )
 
 pub loop-made-preserved : goal.loop-made-preserved

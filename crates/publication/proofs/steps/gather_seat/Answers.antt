@@ -2,7 +2,8 @@ use Rattle.std.proofs.Common.{rules, ◌≡◌, ◌≢◌, ◌∙◌, ℕ, List,
 use mathlib.Core.Option as opt
 use Rattle.atomic_table.specs.Table.{Allows, Joins, step, rest}
 use Rattle.publication.specs.Words.{word_of}
-use Rattle.publication.specs.Rule.{blank, IsOrderly}
+use Rattle.publication.specs.Rule.{blank}
+use Rattle.publication.specs.List.{IsRuled}
 use Rattle.publication.specs.Kinds.{Seated, leaving, leaves, gathered}
 use Rattle.publication.specs.declared.slot.Held.{Held}
 use Rattle.publication.proofs.Sessions.{leave_kept}
@@ -13,7 +14,7 @@ pub load-requires : goal.load-requires
 load-requires c = let m = c.args.other.me in let at = c.args.at in let n = c.args.shared.now.table_id.slots in let id = c.args.other.id in (
   search rules,
   search rules,
-  subst (λ (l : List (ℕ × Held)). Allows IsOrderly n id (m.0, l) (word_of at) (λ y. y) (leaves (step n (word_of at) 0 0 opt.none) (m.0, l))) (sym c.requires.carried)
+  subst (λ (l : List (ℕ × Held)). Allows IsRuled n id (m.0, l) (word_of at) (λ y. y) (leaves (step n (word_of at) 0 0 opt.none) (m.0, l))) (sym c.requires.carried)
       (leave_kept n id at m.0 [] c.requires.theirs c.requires.at.some c.requires.settled.0),
 )
 
@@ -25,5 +26,5 @@ join_seat-requires c = let v = c.args.seat.now.me.0 in let w = c.args.other.me.0
       search rules,
       ap (λ (x : Seated). x.1) after,
       search rules,
-      subst (λ (x : Seated). Joins IsOrderly c.args.seat.now.id v id x.0 (gathered v x.0) blank) (sym after) (gathers c.args.seat.now.id v id (leaving w) named refl c.requires.settled.1),
+      subst (λ (x : Seated). Joins IsRuled c.args.seat.now.id v id x.0 (gathered v x.0) blank) (sym after) (gathers c.args.seat.now.id v id (leaving w) named refl c.requires.settled.1),
     )

@@ -2,7 +2,7 @@ use Rattle.std.proofs.Common.{rules, ◌≡◌, ◌∷◌, ◌∙◌, ℕ, refl,
 use mathlib.Core.Option as opt
 use Rattle.atomic_table.specs.Table.{Allows, step, rest}
 use Rattle.publication.specs.Words.{word_of, POSTED}
-use Rattle.publication.specs.Rule.{IsOrderly}
+use Rattle.publication.specs.List.{IsRuled}
 use Rattle.publication.specs.Kinds.{Seated, puts_back, in_hand}
 use Rattle.publication.specs.declared.slot.Held.{Held}
 use Rattle.publication.specs.declared.slot.Held.TheVariants.{Nothing, Asked}
@@ -30,6 +30,6 @@ store-requires c =
     let after : c.exchange.new.seat.me ≡ (in_hand m.0 at, (at, held) ∷ m.1) = c.exchange.ensures.3 ∙ ap (λ (x : Seated). (x.0, (at, held) ∷ rest x.1)) picked in (
       search rules,
       search rules,
-      subst (λ (x : Seated). Allows IsOrderly slots id x (word_of at) (λ _. POSTED) (λ _. puts_back (step slots (word_of at) POSTED 0 opt.none) x POSTED)) (sym after)
+      subst (λ (x : Seated). Allows IsRuled slots id x (word_of at) (λ _. POSTED) (λ _. puts_back (step slots (word_of at) POSTED 0 opt.none) x POSTED)) (sym after)
           (put_back_kept slots id (in_hand m.0 at) c.requires.mine.session refl at c.requires.at.some c.requires.at.there c.args.call there m.1 refl),
     )

@@ -1,6 +1,10 @@
-use Rattle.std.proofs.Common.{rules, ◌≡◌, ◌∷◌, ◌∙◌, ℕ, List, sym, ap}
-use Rattle.atomic_table.specs.Table.{rest}
-use Rattle.publication.specs.Kinds.{Seated, taking}
+use Rattle.std.proofs.Common.{rules, ◌≡◌, ◌∷◌, ◌∙◌, ℕ, Bool, cond, eqb, List, sym, ap, subst}
+use mathlib.Core.Option as opt
+use prog.Atomic.{either}
+use Rattle.atomic_table.specs.Table.{Allows, step, rest}
+use Rattle.publication.specs.Words.{word_of, OUT, SERVED, EMPTY}
+use Rattle.publication.specs.List.{IsRuled}
+use Rattle.publication.specs.Kinds.{Seated, takes_reply, taking}
 use Rattle.publication.specs.declared.slot.Held.{Held}
 use Rattle.publication.specs.declared.slot.Held.TheVariants.{Replied}
 use Rattle.publication.proofs.Sessions.{take_kept}
@@ -10,7 +14,15 @@ pub compare_exchange-found-requires : goal.compare_exchange-found-requires
 compare_exchange-found-requires c =
     let seat = c.is_served.new.seat in
     let mine : seat.me.0.number ≡ c.args.at = ap (λ (m : Seated). m.0.number) c.is_served.ensures.same ∙ c.requires.mine in
-    (search rules, search rules, take_kept c.args.shared.now.table_id.slots seat.id c.args.at seat.me.0 seat.me.1 mine c.requires.at.some)
+    let listed : seat.me.0.own.listed ≡ c.args.is_listed = ap (λ (m : Seated). m.0.own.listed) c.is_served.ensures.same ∙ c.requires.listed in
+    let left : cond seat.me.0.own.listed EMPTY OUT ≡ c.if-is_listed.left = ap (λ (b : Bool). cond {A = ℕ} b EMPTY OUT) listed ∙ search rules in
+    let slots = c.args.shared.now.table_id.slots in
+    let at = c.args.at in (
+      search rules,
+      search rules,
+      subst (λ (w : ℕ). Allows IsRuled slots seat.id seat.me (word_of at) (λ n. either (eqb n SERVED) w n) (takes_reply (step slots (word_of at) SERVED w opt.none) seat.me)) left
+          (take_kept slots seat.id at seat.me.0 seat.me.1 mine c.requires.at.some),
+    )
 
 pub exchange-requires : goal.exchange-requires
 exchange-requires c =

@@ -1,6 +1,7 @@
-use Rattle.std.proofs.Common.{rules, ◌≡◌, ◌||◌, ◌≤◌, ℕ, Bool, true, max, get_or, sym, ap, ◌∙◌, subst, arith}
-use Rattle.publication.specs.Rule.{published}
+use Rattle.std.proofs.Common.{rules, ◌≡◌, ◌||◌, ◌≤◌, ℕ, Bool, true, cond, max, get_or, sym, ap, ◌∙◌, subst, arith}
+use Rattle.publication.specs.Rule.{announced}
 use Rattle.publication.specs.Kinds.{Seated, maxes}
+use Rattle.publication.proofs.Records.{announced_both, announced_few}
 use Rattle.publication.specs.Tickets.{IsBetweenCalls}
 use Rattle.publication.proofs.Longer.{longer-length, maxes-at, maxes-wide}
 use Rattle.publication.proofs.board.Board.hear.Goals as goal
@@ -8,10 +9,10 @@ use Rattle.publication.proofs.board.Board.hear.Goals as goal
 pub invariant_of-ticket : goal.invariant_of-ticket
 invariant_of-ticket c = let a = c.ticket.inside in let b = c.other.inside in let t = c.ticket.invariant.settled in let u = c.other.invariant.settled in
     let v = a.seat.me.0 in let w = b.seat.me.0 in let n = a.number in
-    let at_most : get_or (maxes v.heard w.heard) n 0 ≤ published v.own = subst (λ (k : ℕ). get_or (maxes v.heard w.heard) k 0 ≤ published v.own) t.number_is c.hear_seat.ensures.learned.heard in
+    let at_most : get_or (maxes v.heard w.heard) n 0 ≤ announced v.own = subst (λ (k : ℕ). get_or (maxes v.heard w.heard) k 0 ≤ announced v.own) t.number_is c.hear_seat.ensures.learned.heard in
     let wider = maxes-wide v.heard w.heard in record {
       small = search rules;
-      settled = subst (λ (x : Seated). IsBetweenCalls x n c.max-ticket-inside.result a.has_book a.is_pending a.is_retired) (sym c.hear_seat.ensures.step)
+      settled = subst (λ (x : Seated). IsBetweenCalls x n c.max-ticket-inside.result a.has_book a.is_pending a.is_listed a.is_retired) (sym c.hear_seat.ensures.step)
           record {
             number_is = t.number_is;
             some_number = t.some_number;
@@ -21,7 +22,12 @@ invariant_of-ticket c = let a = c.ticket.inside in let b = c.other.inside in let
             pending = t.pending;
             book = t.book;
             hand = t.hand;
-            heard = omega (arith, at_most, maxes-at v.heard w.heard n, t.heard);
+            listed = t.listed;
+            heard_few = omega (arith, at_most, announced_few v.own, ap (λ (x : Bool). cond {A = ℕ} x 1 0) t.pending);
+            heard = λ p q. omega (arith, at_most, announced_both v.own (t.pending ∙ p) (t.listed ∙ q), maxes-at v.heard w.heard n, t.heard p q);
+            no_aim = t.no_aim;
+            whole = t.whole;
+            routed = t.routed;
             wide = omega (arith, t.wide, wider);
             all_made = ap (λ (x : Bool). x || true) t.all_made;
             carried = t.carried;

@@ -5,7 +5,7 @@ use Rattle.publication.specs.Kinds.{Seated, taking}
 use Rattle.publication.specs.Tickets.{own_slot, book_slot, IsBetweenCalls}
 use Rattle.publication.specs.declared.slot.Held.{Held}
 use Rattle.publication.specs.declared.slot.Held.TheVariants.{Nothing}
-use Rattle.publication.proofs.Records.{waits_published}
+use Rattle.publication.proofs.Records.{at_most_one}
 use Rattle.publication.proofs.board.Board.take.Goals as goal
 
 swapped : (b : Bool) (n : ℕ) → cond b (turned ((n, Nothing) ∷ book_slot b [])) ((n, Nothing) ∷ book_slot b []) ≡ book_slot b ((n, Nothing) ∷ [])
@@ -26,6 +26,6 @@ invariant_of-ticket-2 c =
     let longer = length-append m.0.own.collected (answer place e.0 reply ∷ []) in
     record {
       small = search rules;
-      settled = subst (λ (x : Seated). IsBetweenCalls x n c.max-ticket-inside.result b false a.is_retired) (sym after)
-          record { number_is = t.number_is; some_number = t.some_number; seen_is = omega (arith, e.5.long, t.seen_is, c.max-ticket-inside.ensures); started = refl; retired = t.retired; pending = refl; book = t.book; hand = t.hand; heard = omega (arith, t.heard, waits_published m.0.own (asks e.0 e.1) e.3, longer); wide = t.wide; all_made = t.all_made; carried = refl };
+      settled = subst (λ (x : Seated). IsBetweenCalls x n c.max-ticket-inside.result b false a.is_listed a.is_retired) (sym after)
+          record { number_is = t.number_is; some_number = t.some_number; seen_is = omega (arith, e.5.long, t.seen_is, c.max-ticket-inside.ensures); started = refl; retired = t.retired; pending = refl; book = t.book; hand = t.hand; heard_few = omega (arith, t.heard_few, at_most_one a.is_pending, longer); listed = t.listed; heard = λ p. absurd (cc p); no_aim = refl; whole = t.whole; routed = t.routed; wide = t.wide; all_made = t.all_made; carried = refl };
     }

@@ -1,0 +1,34 @@
+use Rattle.std.proofs.Common.{rules, ◌≡◌, ◌≤◌, ◌+◌, ◌∙◌, ℕ, Option, Some, None, List, inl, refl, sym, ap, subst, arith}
+use Rattle.publication.specs.Views.{Known}
+use Rattle.publication.specs.Boards.{IsNumber}
+use Rattle.publication.specs.List.{IsOn, first_of, behind}
+use Rattle.publication.specs.Kinds.{IsRoute}
+use Rattle.combining.proofs.Cleaning.{next-number, first-number}
+use Rattle.combining.proofs.clean_up.clean_up.Goals as goal
+
+pub walk-next-requires-clause-on : goal.walk-next-requires-clause-on
+walk-next-requires-clause-on c = let e = c.in-Some.ensures in first-number c.args.board.now c.in-Some.first c.walk.new.ticket.route e.route (sym e.first)
+
+pub loop-next-init : goal.loop-next-init
+loop-next-init c =
+    let e = c.in-Some.ensures in
+    let w = c.walk-next.ensures.next in
+    let first = first-number c.args.board.now c.in-Some.first c.walk.new.ticket.route e.route (sym e.first) in
+    let same : c.walk-next.new.ticket.route ≡ c.walk.new.ticket.route = ap (λ (t : Known). t.route) w.0 in record {
+      same = refl;
+      route = c.walk-next.ensures.route;
+      before = (first.0, subst (λ (r : List ℕ). IsOn c.in-Some.first r) (sym same) first.1);
+      next = w.1 ∙ ap (λ (r : List ℕ). first_of (behind c.in-Some.first r)) (sym same);
+    }
+
+pub is_unused-unused-requires : goal.is_unused-unused-requires
+is_unused-unused-requires c =
+    let i = c.loop-next.invariant in
+    let n = next-number c.args.board.now c.loop-next.before c.in-Some-next.whose c.loop-next.session.route i.route (sym i.next ∙ c.in-Some-next.is) in
+    record { whose = (n.some, omega (arith, n.few, c.requires.ages)) }
+
+pub pass_by-before-requires-clause-whose : goal.pass_by-before-requires-clause-whose
+pass_by-before-requires-clause-whose c =
+    let i = c.loop-next.invariant in
+    let next = sym i.next ∙ c.in-Some-next.is in
+    (next-number c.args.board.now c.loop-next.before c.in-Some-next.whose c.loop-next.session.route i.route next, next)

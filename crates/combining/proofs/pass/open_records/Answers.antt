@@ -1,0 +1,10 @@
+use Rattle.std.proofs.Common.{rules, ◌≡◌, ◌≤◌, length, vec_len, arith}
+use Rattle.combining.proofs.Room.{row-few}
+use Rattle.combining.proofs.pass.open_records.Goals as goal
+
+pub returns-clause-few : goal.returns-clause-few
+returns-clause-few c =
+    let n = c.args.board.now.sessions in
+    let few = row-few n c.open_record.new.session.opened c.open_record.new.row.items c.open_record.ensures.row in
+    let len : vec_len c.open_record.new.row ≡ length c.open_record.new.row.items = search rules in
+    let small : n ≤ 65535 = search rules in omega (arith, few, len, small)

@@ -1,0 +1,157 @@
+//! The publication list: which call stands before which, as records come to the list and are taken off it.
+
+ghost use Rattle.std.specs.Prelude.{◌≡◌, All, IfOk, IfSome};
+ghost use Rattle.combining.specs.Sessions.{IsSessionOf, IsIdle};
+
+use combining::{Answer, Office, Posted, Session, Turn};
+use lock_desk::{Call, Reply, Why};
+use std::alloc::{AllocError, Global};
+use std::process::Abort;
+use std::test::Fail;
+
+fn answer(place: u64, reply: Reply) -> Answer {
+    Answer { place, reply }
+}
+
+/// The session publishes a call, and its record is on the list.
+fn publish(rt: &impl Abort, office: &Office, session: &mut Session, call: Call)
+    requires ours { IsSessionOf office.now session.old × IsIdle session.old }
+    ensures ours { IsSessionOf office.now session.new }
+{
+    assert_eq!(rt; office.publish(session, call), Posted::Listed);
+}
+
+/// The session's own pass serves so many calls.
+fn pass(rt: &impl Abort, office: &Office, session: &mut Session, served: u32)
+    requires ours { IsSessionOf office.now session.old }
+    ensures ours { IsSessionOf office.now session.new }
+{
+    let whole = Turn::Pass {
+        served,
+        starved: false,
+    };
+    assert_eq!(rt; office.serve(session), whole);
+}
+
+/// The session collects this answer.
+fn collect(rt: &impl Abort, office: &Office, session: &mut Session, place: u64, reply: Reply)
+    requires ours { IsSessionOf office.now session.old }
+    ensures ours { IsSessionOf office.now session.new × IsIdle session.new }
+{
+    let found = office.collect(session).expect(rt, "an answer");
+    assert_eq!(rt; found, answer(place, reply));
+}
+
+/// The session publishes a call, serves it alone, and collects this answer.
+fn ask(
+    rt: &impl Abort,
+    office: &Office,
+    session: &mut Session,
+    call: Call,
+    place: u64,
+    reply: Reply,
+)
+    requires ours { IsSessionOf office.now session.old × IsIdle session.old }
+    ensures ours { IsSessionOf office.now session.new × IsIdle session.new }
+{
+    publish(rt, office, session, call);
+    pass(rt, office, session, 1);
+    collect(rt, office, session, place, reply);
+}
+
+/// The session polls its transaction so many times, from this place of the history on.
+fn poll(rt: &impl Abort, office: &Office, session: &mut Session, first: u64, polls: u64)
+    requires ours { IsSessionOf office.now session.old × IsIdle session.old }
+    ensures ours { IsSessionOf office.now session.new × IsIdle session.new }
+{
+    for polled in 0..polls {
+        ask(
+            rt,
+            office,
+            session,
+            Call::Poll,
+            first.wrapping_add(polled),
+            Reply::Clear,
+        );
+    }
+}
+
+#[test]
+fn idle_records_are_taken_off_the_list(rt: HostRuntime) -> Result<(), Fail> {
+    let (office, mut sessions) = Office::open(rt.alloc(), 3)?;
+    let mut third = sessions.pop().expect(&rt, "session 3");
+    let mut second = sessions.pop().expect(&rt, "session 2");
+    let mut first = sessions.pop().expect(&rt, "session 1");
+    ask(&rt, &office, &mut first, Call::Begin, 0, Reply::Began(1));
+    ask(&rt, &office, &mut second, Call::Begin, 1, Reply::Began(2));
+    ask(&rt, &office, &mut third, Call::Begin, 2, Reply::Began(3));
+    // passes 4 to 128: at the last one records 2 and 1 are taken off, 126 and 127 passes behind
+    poll(&rt, &office, &mut third, 3, 125);
+    publish(&rt, &office, &mut first, Call::Poll);
+    publish(&rt, &office, &mut third, Call::Poll);
+    pass(&rt, &office, &mut third, 2);
+    collect(&rt, &office, &mut first, 128, Reply::Clear);
+    collect(&rt, &office, &mut third, 129, Reply::Clear);
+    Ok(())
+}
+
+#[test]
+fn a_record_whose_answer_is_not_collected_stays_on_the_list(rt: HostRuntime) -> Result<(), Fail> {
+    let (office, mut sessions) = Office::open(rt.alloc(), 3)?;
+    let mut third = sessions.pop().expect(&rt, "session 3");
+    let mut second = sessions.pop().expect(&rt, "session 2");
+    let mut first = sessions.pop().expect(&rt, "session 1");
+    ask(&rt, &office, &mut first, Call::Begin, 0, Reply::Began(1));
+    ask(&rt, &office, &mut second, Call::Begin, 1, Reply::Began(2));
+    ask(&rt, &office, &mut third, Call::Begin, 2, Reply::Began(3));
+    publish(&rt, &office, &mut second, Call::Poll);
+    publish(&rt, &office, &mut third, Call::Poll);
+    pass(&rt, &office, &mut third, 2);
+    collect(&rt, &office, &mut third, 3, Reply::Clear);
+    // passes 5 to 128: at the last one record 1 is taken off, and record 2 is linked again
+    poll(&rt, &office, &mut third, 5, 124);
+    collect(&rt, &office, &mut second, 4, Reply::Clear);
+    publish(&rt, &office, &mut first, Call::Poll);
+    publish(&rt, &office, &mut second, Call::Poll);
+    publish(&rt, &office, &mut third, Call::Poll);
+    pass(&rt, &office, &mut third, 3);
+    collect(&rt, &office, &mut first, 129, Reply::Clear);
+    collect(&rt, &office, &mut third, 130, Reply::Clear);
+    collect(&rt, &office, &mut second, 131, Reply::Clear);
+    Ok(())
+}
+
+/// One round: each session polls once, without a transaction.
+fn round(
+    rt: &impl Abort,
+    alloc: Global,
+    office: &Office,
+    sessions: Vec<Session>,
+    first: u64,
+) -> Result<Vec<Session>, AllocError>
+    requires ours { All (λ session. IsSessionOf office.now session × IsIdle session) sessions.items }
+    ensures ours { IfOk result (λ back. All (λ session. IsSessionOf office.now session × IsIdle session) back.items) }
+{
+    let mut back = Vec::new(alloc);
+    let mut place = first;
+    for session in sessions {
+        let mut session = session;
+        let refused = Reply::Refused(Why::NoTransaction);
+        ask(rt, office, &mut session, Call::Poll, place, refused);
+        place = place.wrapping_add(1);
+        back.push(session)?;
+    }
+    Ok(back)
+}
+
+#[test]
+fn sixty_four_sessions_poll_in_turn(rt: HostRuntime) -> Result<(), Fail> {
+    let (office, mut sessions) = Office::open(rt.alloc(), 64)?;
+    for rounds in 0..200u64 {
+        let first = rounds.wrapping_mul(64);
+        sessions = round(&rt, rt.alloc(), &office, sessions, first)?;
+    }
+    let book = office.close(sessions).ok().expect(&rt, "the book");
+    assert_eq!(rt; book.history().len(), 12_800);
+    Ok(())
+}
