@@ -1,0 +1,87 @@
+/* Serves the rows of a trace on a book through pelgaisti.h, and writes the history that it then has, as `glm replay` does. */
+#include "pelgaisti.h"
+#include <inttypes.h>
+#include <stdio.h>
+#include <stdlib.h>
+#include <string.h>
+
+static const char *const ops[] = {"begin", "lock", "convert", "poll", "release", "commit", "abort"};
+static const uint32_t op_numbers[] = {PELGAISTI_BEGIN, PELGAISTI_LOCK, PELGAISTI_CONVERT, PELGAISTI_POLL, PELGAISTI_RELEASE,
+                                      PELGAISTI_COMMIT, PELGAISTI_ABORT};
+static const char *const modes[] = {"NL", "IS", "IX", "S", "SIX", "X"};
+static const uint32_t mode_numbers[] = {PELGAISTI_NL, PELGAISTI_IS, PELGAISTI_IX, PELGAISTI_S, PELGAISTI_SIX, PELGAISTI_X};
+static const char *const kinds[] = {"began", "granted", "waiting", "deadlock", "clear", "released", "committed", "aborted", "refused"};
+static const uint32_t kind_numbers[] = {PELGAISTI_BEGAN, PELGAISTI_GRANTED, PELGAISTI_WAITING, PELGAISTI_DEADLOCK, PELGAISTI_CLEAR,
+                                        PELGAISTI_RELEASED, PELGAISTI_COMMITTED, PELGAISTI_ABORTED, PELGAISTI_REFUSED};
+static const char *const whys[] = {"AlreadyOpen", "NoTransaction", "IsWaiting", "IsDoomed", "NothingAsked", "NotHeld",
+                                   "ParentNotHeld", "ChildHeld", "TooManyLocks"};
+static const uint32_t why_numbers[] = {PELGAISTI_ALREADY_OPEN, PELGAISTI_NO_TRANSACTION, PELGAISTI_IS_WAITING, PELGAISTI_IS_DOOMED,
+                                       PELGAISTI_NOTHING_ASKED, PELGAISTI_NOT_HELD, PELGAISTI_PARENT_NOT_HELD, PELGAISTI_CHILD_HELD,
+                                       PELGAISTI_TOO_MANY_LOCKS};
+#define COUNT(list) (sizeof(list) / sizeof((list)[0]))
+
+static uint32_t number_of(const char *const *names, const uint32_t *numbers, size_t count, const char *name) {
+    for (size_t k = 0; k < count; k++)
+        if (!strcmp(names[k], name)) return numbers[k];
+    fprintf(stderr, "no such name: %s\n", name);
+    exit(2);
+}
+
+static const char *name_of(const char *const *names, const uint32_t *numbers, size_t count, uint64_t number) {
+    for (size_t k = 0; k < count; k++)
+        if (numbers[k] == number) return names[k];
+    fprintf(stderr, "no such number: %" PRIu64 "\n", number);
+    exit(2);
+}
+
+static void write_entry(uint64_t place, const pelgaisti_entry *e) {
+    const pelgaisti_resource *r = &e->call.resource;
+    printf("%" PRIu64 ",%u,%s,", place, (unsigned)e->session, name_of(ops, op_numbers, COUNT(ops), e->call.op));
+    for (uint32_t k = 0; k < r->level; k++) printf(k ? "/%u" : "%u", (unsigned)r->numbers[k]);
+    int has_mode = e->call.op == PELGAISTI_LOCK || e->call.op == PELGAISTI_CONVERT;
+    printf(",%s,", has_mode ? name_of(modes, mode_numbers, COUNT(modes), e->call.mode) : "");
+    printf("%s,", name_of(kinds, kind_numbers, COUNT(kinds), e->reply.kind));
+    switch (e->reply.kind) {
+    case PELGAISTI_GRANTED: printf("%s\n", name_of(modes, mode_numbers, COUNT(modes), e->reply.value)); break;
+    case PELGAISTI_REFUSED: printf("%s\n", name_of(whys, why_numbers, COUNT(whys), e->reply.value)); break;
+    case PELGAISTI_BEGAN:
+    case PELGAISTI_COMMITTED:
+    case PELGAISTI_ABORTED: printf("%" PRIu64 "\n", e->reply.value); break;
+    default: printf("\n");
+    }
+}
+
+int main(void) {
+    pelgaisti_book book = PELGAISTI_EMPTY;
+    char line[256];
+    if (pelgaisti_book_open(&book, PELGAISTI_MAX_SESSIONS) != PELGAISTI_OK) return 1;
+    while (fgets(line, sizeof line, stdin)) {
+        char *field[4], *at = line;
+        pelgaisti_call call = {0, 0, {0, {0, 0, 0, 0}}};
+        pelgaisti_reply reply;
+        line[strcspn(line, "\r\n")] = 0;
+        for (int k = 0; k < 4; k++) {
+            field[k] = at;
+            at = at ? strchr(at, ',') : NULL;
+            if (at) *at++ = 0;
+            else if (k < 3) return 2;
+        }
+        call.op = number_of(ops, op_numbers, COUNT(ops), field[1]);
+        for (char *digit = field[2]; *digit; digit += *digit == '/') {
+            call.resource.numbers[call.resource.level++] = (uint32_t)strtoul(digit, &digit, 10);
+        }
+        if (*field[3]) call.mode = number_of(modes, mode_numbers, COUNT(modes), field[3]);
+        if (pelgaisti_book_serve(&book, (uint32_t)strtoul(field[0], NULL, 10), &call, &reply) != PELGAISTI_OK) return 3;
+    }
+    uint64_t length = 0;
+    if (pelgaisti_book_length(&book, &length) != PELGAISTI_OK) return 4;
+    for (uint64_t place = 0; place < length; place++) {
+        /* three at a time, so that the slices of a history meet */
+        pelgaisti_entry entries[3];
+        size_t count = 0;
+        if (pelgaisti_book_history(&book, place, entries, 3, &count) != PELGAISTI_OK || count == 0) return 5;
+        for (size_t k = 0; k < count; k++) write_entry(place + k, &entries[k]);
+        place += count - 1;
+    }
+    return pelgaisti_book_close(&book) != PELGAISTI_OK;
+}

@@ -1,0 +1,4 @@
+pub mod PointerValues
+pub mod HeldValues
+pub mod Writing
+pub mod Handles

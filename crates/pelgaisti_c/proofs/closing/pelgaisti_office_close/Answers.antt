@@ -1,0 +1,20 @@
+use Rattle.std.proofs.Common.{◌≡◌, Option, Some, inr, subst}
+use Rattle.std.specs.Prelude.{IfSome}
+use Rattle.std.specs.Global.{Box}
+use Rattle.pelgaisti_c.specs.declared.worker.Worker.{Worker}
+use Rattle.pelgaisti_c.specs.Sessions.{IsSameWorker}
+use Rattle.pelgaisti_c.proofs.closing.pelgaisti_office_close.Goals as goal
+
+pub returns-in-Err-default-Some-clause-same : goal.returns-in-Err-default-Some-clause-same
+returns-in-Err-default-Some-clause-same c = λ _ here.
+    let refused = c.in-Err-default-Some in
+    let before = c.in-Some.worker.value in
+    let back : IfSome (Some refused.worker) (λ worker. IsSameWorker before worker.value)
+    = subst (λ (o : Option (Box Worker)). IfSome o (λ worker. IsSameWorker before worker.value)) refused.field-0-1-is (refused.ensures.back here).0 in
+    inr (before, refused.worker.value, c.in-Some.ensures.some, c.put-in-Err-default-Some.ensures.1, back)
+
+pub returns-in-Err-default-Some-clause-missing : goal.returns-in-Err-default-Some-clause-missing
+returns-in-Err-default-Some-clause-missing c = λ e. (c.in-Some.worker.value, c.in-Some.ensures.some, c.in-Err-default-Some.ensures.missing e)
+
+pub returns-in-Err-default-Some-clause-pending : goal.returns-in-Err-default-Some-clause-pending
+returns-in-Err-default-Some-clause-pending c = λ e. (c.in-Some.worker.value, c.in-Some.ensures.some, c.in-Err-default-Some.ensures.pending e)

@@ -1,0 +1,60 @@
+-- `into_parts` moves what a full handle owns.
+use Rattle.std.proofs.Common.{◌≡◌, Option, Some, IsSome, List, [], ◌∷◌, ◌++◌, refl}
+use mir.Syntax.{Fn}
+use mir.Val.{Val}
+use base.Logic.{SProp, emp}
+use prog.Wp.{WpFn}
+use contract.Monad.{fact, fact_i}
+use contract.Running.{tables}
+use types.Kit.{‵, raw, ◌⊛◌, prop, ◌$◌, ◌∵◌, !, qed, by, move, drop, keep, use0, split, regoal, rewrite, fsplit, fjoin}
+use types.Part.{whole, sub, agg}
+use types.Run.{stop, fld, of_opd, no_more, and_then, returns, enter}
+use types.ByLocal.{alloc_all, pass_all, free_all, look_at, get, get_in, sets}
+use denote.RattleType.{RattleType, owns}
+use denote.Signature.{types_at, plain}
+use denote.Steps.{nothing, heard}
+use denote.Triple.Entry.{alive}
+use denote.Triple.Walked.{Stays, stay_dropped, walk_of}
+use Rattle.core.proofs.alloc.Calls.{Goes-blank}
+use Rattle.std.proofs.raw_atomic.Walks.{proved_at, leaves}
+use Rattle.pelgaisti_c.proofs.PointerValues.{word, own, told, made, ptr_typed, typed}
+use Rattle.pelgaisti_c.specs.Held.{book_at}
+use Rattle.pelgaisti_c.proofs.HeldValues.{value_in}
+use Rattle.lock_desk.specs.Kept.{Told}
+use Rattle.std.specs.contracts.alloc.Global as heap
+use Rattle.std.specs.contracts.impls.GlobalAllocator.TheImpl.{ghosts}
+use Rattle.lock_desk.specs.contracts.book.Book as inner
+use Rattle.pelgaisti_c.specs.contracts.parts.Parts as parts
+use Rattle.pelgaisti_c.specs.contracts.held_book.HeldBook as held
+use Rattle.pelgaisti_c.specs.contracts.held_book.HeldBook.into_parts.{ended, clauses}
+use Rattle.pelgaisti_c.specs.contracts.held_book.HeldBook.into_parts.Key.{name as #self}
+use Rattle.pelgaisti_c.proofs.held_book.HeldBook.into_parts.Statement.{statement}
+use Rattle.pelgaisti_c.proofs.held_book.HeldBook.into_parts.Code as code
+
+abbrev Parts : RattleType
+Parts = parts.the_row inner.the_row heap.the_row ghosts
+
+abbrev From : RattleType
+From = held.the_row
+
+pub into_parts_spec : {M : Type 1} → statement M
+into_parts_spec 𝓤 𝓛 𝓜 𝓡 wired =
+    let H = 𝓛.H in let c = clauses 𝓛 𝓜.mem 𝓡.returns in let fn : Fn = code.function in
+    let C = (tables 𝓤 H 𝓜 𝓡 𝓡.env).C in let Λ = (tables 𝓤 H 𝓜 𝓡 𝓡.env).Λ in
+    let stays : Stays ended.signature.params ended.kept = (stay_dropped (plain (λ _. From)) ended.kept.0, tt) in
+    proved_at 𝓛 ended stays c 𝓜 𝓡 (Goes-blank 𝓛 0 (plain (λ _. From)) ended.kept.0 (λ κs x f. tt), tt) #self fn (code.unfolded 𝓤 H 𝓜 𝓡 wired) (λ z are.
+    let Post : Val → SProp 𝓤 = (walk_of 𝓛 ended stays c).post z in let vss = z.0.4 in let x = z.0.3.0 in
+    qed 𝓛 ((raw (alive 𝓛 ended.signature z.0.0 z.0.1) ⊛ ‵ (owns (types_at ended.signature.params z.0.0) z.0.3 vss)) ∷ raw (fact 𝓤 (IsSome x.book)) ∷ []) ∵ move ! (1 ∷ []) $ heard ! (IsSome x.book) (λ full. let kept = value_in x.book full in let to : Parts.Denot = record { ptr = x.at; alloc = x.alloc; value = kept.0 } in split ! $ move ! (1 ∷ []) $
+    fsplit ! $ fsplit ! $ drop ! $ rewrite ! 0 (λ (o : Option Told). ‵ (book_at x.alloc x.at o)) kept.1 refl $
+    regoal ! (λ (us : List Val). prop (WpFn 𝓤 H C Λ fn us Post)) (λ i. told x.at x.alloc vss.0 are.0.0 i ++ []) refl $
+    enter ! C Λ fn (word x.at ∷ []) Post $
+    alloc_all ! (λ l. pass_all ! refl (typed x.at, tt) $
+    sets ! (of_opd ! (get_in ! (fld ! refl (stop !)) (sub ! 0 refl (whole !)))) refl (ptr_typed x.at) $
+    sets ! (of_opd ! (get_in ! (fld ! refl (stop !)) (sub ! 1 refl (whole !)))) refl (tt, ((tt, tt), tt)) $
+    sets ! (of_opd ! (get ! refl)) refl (ptr_typed x.at) $
+    sets ! (agg ! (and_then ! (get ! refl) (and_then ! (get ! refl) (no_more !)))) refl (typed x.at) $
+    returns ! (look_at ! 0 refl) $ free_all ! refl $
+    -- [what the parts owned; true; the tokens]
+    use0 𝓛 (‵ (own x.at x.alloc (word x.at ∷ []))) (made 𝓛 x.at x.alloc) $ fjoin ! $
+    use0 𝓛 (raw (fact 𝓤 (x.book ≡ Some kept.0))) (fact_i 𝓤 (x.book ≡ Some kept.0) (emp 𝓤) kept.1) $ nothing ! $ nothing ! $ fjoin ! $ keep ! (4 ∷ 0 ∷ 2 ∷ 1 ∷ []) $
+    by ! (leaves 𝓛 ended stays c z (word x.at) to (tt, tt) (tt, tt)))))

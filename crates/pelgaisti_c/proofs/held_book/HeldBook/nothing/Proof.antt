@@ -1,0 +1,48 @@
+-- `nothing` makes the null handle.
+use Rattle.std.proofs.Common.{◌≡◌, Option, None, List, [], ◌∷◌, ◌++◌, refl}
+use mir.Syntax.{Fn}
+use mir.Val.{Val}
+use base.Logic.{SProp, emp}
+use prog.Wp.{WpFn}
+use contract.Monad.{fact, fact_i}
+use contract.Running.{tables}
+use types.Kit.{‵, raw, ◌⊛◌, prop, ◌$◌, ◌∵◌, !, qed, by, move, drop, keep, use0, split, regoal, fsplit, fjoin}
+use types.Part.{agg}
+use types.Run.{lit, no_more, and_then, returns, enter}
+use types.ByLocal.{alloc_all, pass_all, free_all, look_at, get, sets}
+use denote.RattleType.{owns}
+use denote.RawPtr.{null_ptr}
+use denote.Signature.{types_at, plain}
+use denote.Steps.{nothing}
+use denote.Triple.Entry.{alive}
+use denote.Triple.Walked.{Stays, stay_dropped, walk_of}
+use Rattle.core.proofs.alloc.Calls.{Goes-blank}
+use Rattle.std.proofs.raw_atomic.Walks.{proved_at, leaves}
+use Rattle.pelgaisti_c.proofs.PointerValues.{word, heap_val, heap_told, own, made, typed}
+use Rattle.std.specs.contracts.alloc.Global as heap
+use Rattle.lock_desk.specs.Kept.{Told}
+use Rattle.pelgaisti_c.specs.contracts.held_book.HeldBook as held
+use Rattle.pelgaisti_c.specs.contracts.held_book.HeldBook.nothing.{ended, clauses}
+use Rattle.pelgaisti_c.specs.contracts.held_book.HeldBook.nothing.Key.{name as #self}
+use Rattle.pelgaisti_c.proofs.held_book.HeldBook.nothing.Statement.{statement}
+use Rattle.pelgaisti_c.proofs.held_book.HeldBook.nothing.Code as code
+
+pub nothing_spec : {M : Type 1} → statement M
+nothing_spec 𝓤 𝓛 𝓜 𝓡 wired =
+    let H = 𝓛.H in let c = clauses 𝓛 𝓜.mem 𝓡.returns in let fn : Fn = code.function in
+    let C = (tables 𝓤 H 𝓜 𝓡 𝓡.env).C in let Λ = (tables 𝓤 H 𝓜 𝓡 𝓡.env).Λ in
+    let stays : Stays ended.signature.params ended.kept = (stay_dropped (plain (λ _. heap.the_row)) ended.kept.0, tt) in
+    proved_at 𝓛 ended stays c 𝓜 𝓡 (Goes-blank 𝓛 0 (plain (λ _. heap.the_row)) ended.kept.0 (λ κs x f. tt), tt) #self fn (code.unfolded 𝓤 H 𝓜 𝓡 wired) (λ z are.
+    let Post : Val → SProp 𝓤 = (walk_of 𝓛 ended stays c).post z in let vss = z.0.4 in let x = z.0.3.0 in
+    let kept : Option Told = None in let to : held.the_row.Denot = record { at = null_ptr; alloc = x; book = None } in
+    qed 𝓛 ((raw (alive 𝓛 ended.signature z.0.0 z.0.1) ⊛ ‵ (owns (types_at ended.signature.params z.0.0) z.0.3 vss)) ∷ raw ((c z.0.0 z.0.3).requires z.1) ∷ []) ∵ move ! (1 ∷ []) $ drop ! $ split ! $ move ! (1 ∷ []) $
+    fsplit ! $ drop ! $
+    regoal ! (λ (us : List Val). prop (WpFn 𝓤 H C Λ fn us Post)) (λ i. heap_told x vss.0 are.0 i ++ []) refl $
+    enter ! C Λ fn (heap_val ∷ []) Post $
+    alloc_all ! (λ l. pass_all ! refl ((tt, ((tt, tt), tt)), tt) $
+    sets ! (agg ! (and_then ! (lit ! tt) (and_then ! (get ! refl) (no_more !)))) refl (typed null_ptr) $
+    returns ! (look_at ! 0 refl) $ free_all ! refl $
+    -- [true; the tokens]
+    use0 𝓛 (‵ (own null_ptr x (word null_ptr ∷ []))) (made 𝓛 null_ptr x) $ fjoin ! $
+    use0 𝓛 (raw (fact 𝓤 (kept ≡ kept))) (fact_i 𝓤 (kept ≡ kept) (emp 𝓤) refl) $ nothing ! $ nothing ! $ fjoin ! $ keep ! (3 ∷ 0 ∷ 2 ∷ 1 ∷ []) $
+    by ! (leaves 𝓛 ended stays c z (word null_ptr) to (tt, tt) (tt, tt))))

@@ -1,0 +1,226 @@
+//! Calls and replies as numbers: how they are read, and how they are written.
+
+ghost use Rattle.std.specs.Prelude.{◌≡◌, ◌≢◌, ◌<◌, ◌≤◌, ◌-◌, ◌++◌, ℕ, List, Some, None, Err, take, length, replicate, IsSome, IfSome, IfNone, IfOk, IfErr};
+ghost use Rattle.lock_modes.specs.Codes.{code_of};
+ghost use Rattle.pelgaisti_c.specs.Numbers.{IsOp, HasMode, HasResource, IsLevel, IsModeCode, IsPath, IsCall, IsCallFault, why_of, place_of, numbers_of_call, numbers_of_reply, numbers_of_entry, numbers_of_holder};
+
+use crate::status::{NO_SUCH_LEVEL, NO_SUCH_MODE, NO_SUCH_OP};
+use lock_modes::Mode;
+use lock_rules::{Call, Entry, Reply, Why};
+use lock_tree::{LEVELS, Resource};
+
+/// A node of the lock tree: the first `level` of the numbers, that of the top first.
+#[repr(C)]
+#[derive(Clone, Copy)]
+pub struct ResourceNumbers {
+    pub level: u32,
+    pub numbers: [u32; LEVELS],
+}
+
+/// What a session asks.
+#[repr(C)]
+#[derive(Clone, Copy)]
+pub struct CallNumbers {
+    pub op: u32,
+    pub mode: u32,
+    pub resource: ResourceNumbers,
+}
+
+/// What a session is told.
+#[repr(C)]
+#[derive(Clone, Copy)]
+pub struct ReplyNumbers {
+    pub kind: u32,
+    pub value: u64,
+}
+
+/// A session that holds a resource, in this mode.
+#[repr(C)]
+#[derive(Clone, Copy)]
+pub struct HolderNumbers {
+    pub session: u32,
+    pub mode: u32,
+}
+
+/// A call of a session, with its reply.
+#[repr(C)]
+#[derive(Clone, Copy)]
+pub struct EntryNumbers {
+    pub session: u32,
+    pub call: CallNumbers,
+    pub reply: ReplyNumbers,
+}
+
+/// The answer to a call that was published, with the place of its entry in the history.
+#[repr(C)]
+#[derive(Clone, Copy)]
+pub struct AnswerNumbers {
+    pub place: u64,
+    pub reply: ReplyNumbers,
+}
+
+/// What a pass did: how many calls it served, and 1 where memory was refused for one, else 0.
+#[repr(C)]
+#[derive(Clone, Copy)]
+pub struct PassNumbers {
+    pub served: u32,
+    pub starved: u32,
+}
+
+// Of calls that name no resource.
+const NOWHERE: ResourceNumbers = ResourceNumbers {
+    level: 0,
+    numbers: [0; LEVELS],
+};
+
+fn resource_of(numbers: &[u32]) -> Option<Resource>
+    ensures some { 1 ≤ length numbers.now → length numbers.now ≤ LEVELS → IsSome result }
+    ensures value { IfSome result (λ r. r ≡ numbers.now) }
+{
+    Resource::from_numbers(numbers)
+}
+
+/// The resource that the numbers stand for. `None` where no resource has this level.
+pub(crate) fn read_resource(place: &ResourceNumbers) -> Option<Resource>
+    ensures some { IfSome result (λ r. IsPath place.now r) }
+    ensures none { IfNone result (¬ (IsLevel place.now.level)) }
+{
+    if place.level == 0 || place.level as usize > LEVELS {
+        return None;
+    }
+    resource_of(&place.numbers[..place.level as usize])
+}
+
+// The mode of this code. `None` where no mode has it.
+fn read_mode(code: u32) -> Option<Mode>
+    ensures some { IfSome result (λ mode. code ≡ code_of mode) }
+    ensures none { IfNone result (¬ (IsModeCode code)) }
+{
+    if code > 255 {
+        return None;
+    }
+    Mode::from_code(code as u8)
+}
+
+// What a lock and a conversion ask for.
+fn read_wanted(asked: &CallNumbers) -> Result<(Resource, Mode), u32>
+    ensures ok { IfOk result (λ wanted. IsPath asked.now.resource wanted.0 × (asked.now.mode ≡ code_of wanted.1)) }
+    ensures level { IfErr result (λ fault. fault ≡ NO_SUCH_LEVEL → ¬ (IsLevel asked.now.resource.level)) }
+    ensures mode { IfErr result (λ fault. fault ≢ NO_SUCH_LEVEL → (fault ≡ NO_SUCH_MODE) × IsLevel asked.now.resource.level × ¬ (IsModeCode asked.now.mode)) }
+{
+    let Some(resource) = read_resource(&asked.resource) else {
+        return Err(NO_SUCH_LEVEL);
+    };
+    let Some(mode) = read_mode(asked.mode) else {
+        return Err(NO_SUCH_MODE);
+    };
+    Ok((resource, mode))
+}
+
+/// The call that the numbers stand for, or the status of the first test that they fail: of the op, the level, the mode.
+pub(crate) fn read_call(asked: &CallNumbers) -> Result<Call, u32>
+    ensures ok { IfOk result (λ call. IsCall asked.now call) }
+    ensures err { IfErr result (λ fault. IsCallFault asked.now fault) }
+{
+    match asked.op {
+        1 => Ok(Call::Begin),
+        2 => {
+            let (resource, mode) = read_wanted(asked)?;
+            Ok(Call::Lock(resource, mode))
+        }
+        3 => {
+            let (resource, mode) = read_wanted(asked)?;
+            Ok(Call::Convert(resource, mode))
+        }
+        4 => Ok(Call::Poll),
+        5 => match read_resource(&asked.resource) {
+            Some(resource) => Ok(Call::Release(resource)),
+            None => Err(NO_SUCH_LEVEL),
+        },
+        6 => Ok(Call::Commit),
+        7 => Ok(Call::Abort),
+        _ => Err(NO_SUCH_OP),
+    }
+}
+
+fn place_of(resource: &Resource) -> ResourceNumbers
+    ensures { result ≡ place_of resource.now }
+{
+    let numbers = resource.numbers();
+    let mut padded = [0; LEVELS];
+    padded[..numbers.len()].copy_from_slice(numbers);
+    ResourceNumbers {
+        level: numbers.len() as u32,
+        numbers: padded,
+    }
+}
+
+fn call_numbers(call: &Call) -> CallNumbers
+    ensures { result ≡ numbers_of_call call.now }
+{
+    let (op, mode, resource) = match *call {
+        Call::Begin => (1, 0, NOWHERE),
+        Call::Lock(resource, mode) => (2, u32::from(mode.code()), place_of(&resource)),
+        Call::Convert(resource, mode) => (3, u32::from(mode.code()), place_of(&resource)),
+        Call::Poll => (4, 0, NOWHERE),
+        Call::Release(resource) => (5, 0, place_of(&resource)),
+        Call::Commit => (6, 0, NOWHERE),
+        Call::Abort => (7, 0, NOWHERE),
+    };
+    CallNumbers { op, mode, resource }
+}
+
+fn why_number(why: Why) -> u64
+    ensures { result ≡ why_of why }
+{
+    match why {
+        Why::AlreadyOpen => 1,
+        Why::NoTransaction => 2,
+        Why::IsWaiting => 3,
+        Why::IsDoomed => 4,
+        Why::NothingAsked => 5,
+        Why::NotHeld => 6,
+        Why::ParentNotHeld => 7,
+        Why::ChildHeld => 8,
+        Why::TooManyLocks => 9,
+    }
+}
+
+/// The numbers of a reply.
+pub(crate) fn reply_numbers(reply: Reply) -> ReplyNumbers
+    ensures { result ≡ numbers_of_reply reply }
+{
+    let (kind, value) = match reply {
+        Reply::Began(number) => (1, number),
+        Reply::Granted(mode) => (2, u64::from(mode.code())),
+        Reply::Waiting => (3, 0),
+        Reply::Deadlock => (4, 0),
+        Reply::Clear => (5, 0),
+        Reply::Released => (6, 0),
+        Reply::Committed(count) => (7, u64::from(count)),
+        Reply::Aborted(count) => (8, u64::from(count)),
+        Reply::Refused(why) => (9, why_number(why)),
+    };
+    ReplyNumbers { kind, value }
+}
+
+/// The numbers of an entry.
+pub(crate) fn entry_numbers(entry: &Entry) -> EntryNumbers
+    ensures { result ≡ numbers_of_entry entry.now }
+{
+    EntryNumbers {
+        session: u32::from(entry.session),
+        call: call_numbers(&entry.call),
+        reply: reply_numbers(entry.reply),
+    }
+}
+
+/// The numbers of a holder.
+pub(crate) fn holder_numbers(holder: &(u16, Mode)) -> HolderNumbers
+    ensures { result ≡ numbers_of_holder holder.now }
+{
+    HolderNumbers {
+        session: u32::from(holder.0),
+        mode: u32::from(holder.1.code()),
+    }
+}

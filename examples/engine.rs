@@ -1,0 +1,229 @@
+//! The engine of `engine.c` in Rust, by `extern "C"`: two tables of accounts, and four threads that move money between them.
+//! The types keep what a caller has to keep: a handle is reached by `&mut` alone, is never moved, and its array lives as long
+//! as the threads.
+//!
+//!     ./embed && rustc --edition 2024 -O examples/engine.rs -L out -o engine && ./engine
+
+use std::ffi::c_void;
+use std::ptr::null_mut;
+use std::sync::Barrier;
+use std::sync::atomic::{AtomicI64, Ordering::Relaxed};
+use std::thread;
+
+const OK: u32 = 0;
+const NOT_SERVED: u32 = 11;
+const IX: u32 = 3;
+const X: u32 = 15;
+const BEGIN: u32 = 1;
+const LOCK: u32 = 2;
+const POLL: u32 = 4;
+const COMMIT: u32 = 6;
+const ABORT: u32 = 7;
+const GRANTED: u32 = 2;
+const WAITING: u32 = 3;
+const DEADLOCK: u32 = 4;
+const CLEAR: u32 = 5;
+const COMMITTED: u32 = 7;
+const ABORTED: u32 = 8;
+
+#[repr(C)]
+#[derive(Clone, Copy, Default)]
+struct Resource {
+    level: u32,
+    numbers: [u32; 4],
+}
+
+#[repr(C)]
+#[derive(Clone, Copy, Default)]
+struct Call {
+    op: u32,
+    mode: u32,
+    resource: Resource,
+}
+
+#[repr(C)]
+#[derive(Clone, Copy, Default)]
+struct Reply {
+    kind: u32,
+    value: u64,
+}
+
+#[repr(C)]
+#[derive(Default)]
+struct Answer {
+    place: u64,
+    reply: Reply,
+}
+
+#[repr(C)]
+#[derive(Default)]
+struct Pass {
+    served: u32,
+    starved: u32,
+}
+
+/// A book's or a session's handle, empty until it is opened.
+#[repr(C)]
+struct Handle {
+    is_open: u32,
+    at: *mut c_void,
+}
+
+// A session's handle may go to another thread: the library proves it of what stands behind it.
+unsafe impl Send for Handle {}
+
+const EMPTY: Handle = Handle {
+    is_open: 0,
+    at: null_mut(),
+};
+
+#[link(name = "pelgaisti", kind = "static")]
+unsafe extern "C" {
+    safe fn pelgaisti_book_length(book: &mut Handle, length: &mut u64) -> u32;
+    safe fn pelgaisti_book_close(book: &mut Handle) -> u32;
+    // The mark is a number that no other open office has.
+    fn pelgaisti_office_open(sessions: *mut Handle, count: usize, mark: u64) -> u32;
+    // Of handles that have the same mark, which are those of one office.
+    safe fn pelgaisti_session_hand_in(session: &mut Handle, to: &mut Handle) -> u32;
+    safe fn pelgaisti_office_close(session: &mut Handle, book: &mut Handle) -> u32;
+    safe fn pelgaisti_session_publish(session: &mut Handle, call: &Call, posted: &mut u32) -> u32;
+    safe fn pelgaisti_session_serve(session: &mut Handle, pass: &mut Pass) -> u32;
+    safe fn pelgaisti_session_collect(session: &mut Handle, answer: &mut Answer) -> u32;
+}
+
+const THREADS: usize = 4;
+const MOVES: u32 = 500;
+const BALANCE: i64 = 100;
+
+type Tables = [[AtomicI64; 4]; 2];
+
+struct Worker<'a> {
+    session: &'a mut Handle,
+    accounts: &'a Tables,
+    both_hold_one: &'a Barrier,
+    number: u32,
+    victims: u32,
+}
+
+impl Worker<'_> {
+    /// Publishes a call, and serves and collects until its answer is there.
+    fn ask(&mut self, call: Call) -> Reply {
+        let mut posted = 0;
+        assert_eq!(pelgaisti_session_publish(self.session, &call, &mut posted), OK);
+        let mut answer = Answer::default();
+        loop {
+            pelgaisti_session_serve(self.session, &mut Pass::default());
+            match pelgaisti_session_collect(self.session, &mut answer) {
+                OK => return answer.reply,
+                status => assert_eq!(status, NOT_SERVED),
+            }
+            thread::yield_now();
+        }
+    }
+
+    fn plain(&mut self, op: u32) -> Reply {
+        self.ask(Call { op, ..Call::default() })
+    }
+
+    /// Locks a resource and waits until it is granted: false where the transaction became a victim.
+    fn lock(&mut self, mode: u32, numbers: &[u32]) -> bool {
+        let mut resource = Resource {
+            level: numbers.len() as u32,
+            numbers: [0; 4],
+        };
+        resource.numbers[..numbers.len()].copy_from_slice(numbers);
+        let mut reply = self.ask(Call { op: LOCK, mode, resource });
+        while reply.kind == WAITING {
+            thread::yield_now();
+            reply = self.plain(POLL);
+        }
+        assert!([GRANTED, CLEAR, DEADLOCK].contains(&reply.kind));
+        reply.kind != DEADLOCK
+    }
+
+    fn lock_record(&mut self, table: usize, record: usize) -> bool {
+        self.lock(IX, &[1])
+            && self.lock(IX, &[1, table as u32])
+            && self.lock(X, &[1, table as u32, record as u32])
+    }
+
+    /// Moves 1 from a record of one table to one of the other: false where it was undone.
+    fn make_move(&mut self, from: usize, record: usize, other: usize, meet: bool) -> bool {
+        self.plain(BEGIN);
+        let taken = self.lock_record(from, record);
+        if taken {
+            self.accounts[from][record].fetch_sub(1, Relaxed);
+        }
+        if meet {
+            self.both_hold_one.wait();
+        }
+        if taken && self.lock_record(1 - from, other) {
+            self.accounts[1 - from][other].fetch_add(1, Relaxed);
+            assert_eq!(self.plain(COMMIT).kind, COMMITTED);
+            return true;
+        }
+        if taken {
+            // the victim still holds its locks while it undoes
+            self.accounts[from][record].fetch_add(1, Relaxed);
+        }
+        assert_eq!(self.plain(ABORT).kind, ABORTED);
+        false
+    }
+
+    fn work(&mut self) {
+        let mut from = self.number as usize % 2;
+        let mut random = self.number + 1;
+        for k in 0..MOVES {
+            let mut meet = k == 0 && self.number < 2;
+            random = random.wrapping_mul(1_664_525).wrapping_add(1_013_904_223);
+            let (record, other) = match meet {
+                true => (0, 0),
+                false => ((random >> 16 & 3) as usize, (random >> 20 & 3) as usize),
+            };
+            while !self.make_move(from, record, other, meet) {
+                self.victims += 1;
+                meet = false;
+            }
+            from = 1 - from;
+        }
+    }
+}
+
+fn main() {
+    let accounts: Tables = std::array::from_fn(|_| std::array::from_fn(|_| AtomicI64::new(BALANCE)));
+    let both_hold_one = Barrier::new(2);
+    let mut sessions = [EMPTY; THREADS];
+    let at = sessions.as_mut_ptr();
+    assert_eq!(unsafe { pelgaisti_office_open(at, THREADS, at as u64) }, OK);
+    let victims: u32 = thread::scope(|scope| {
+        let workers: Vec<_> = (0..)
+            .zip(&mut sessions)
+            .map(|(number, session)| {
+                let mut worker = Worker {
+                    session,
+                    accounts: &accounts,
+                    both_hold_one: &both_hold_one,
+                    number,
+                    victims: 0,
+                };
+                scope.spawn(move || {
+                    worker.work();
+                    worker.victims
+                })
+            })
+            .collect();
+        workers.into_iter().map(|worker| worker.join().unwrap()).sum()
+    });
+    let mut book = EMPTY;
+    let (first, others) = sessions.split_first_mut().unwrap();
+    for session in others {
+        assert_eq!(pelgaisti_session_hand_in(session, first), OK);
+    }
+    assert_eq!(pelgaisti_office_close(first, &mut book), OK);
+    let mut length = 0;
+    assert_eq!(pelgaisti_book_length(&mut book, &mut length), OK);
+    assert_eq!(pelgaisti_book_close(&mut book), OK);
+    let sum: i64 = accounts.iter().flatten().map(|account| account.load(Relaxed)).sum();
+    println!("the sum is {sum}; a deadlock was undone: {}", if victims > 0 { "yes" } else { "no" });
+    assert!(sum == 8 * BALANCE && victims > 0 && length > 8 * u64::from(MOVES));
+}
