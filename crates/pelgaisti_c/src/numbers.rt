@@ -85,10 +85,14 @@ pub(crate) fn read_resource(place: &ResourceNumbers) -> Option<Resource>
     ensures some { IfSome result (λ r. IsPath place.now r) }
     ensures none { IfNone result (¬ (IsLevel place.now.level)) }
 {
-    if place.level == 0 || place.level as usize > LEVELS {
-        return None;
+    // A copy of each length by itself, since a copy of a length that isn't known costs a call.
+    match place.level {
+        1 => resource_of(&place.numbers[..1]),
+        2 => resource_of(&place.numbers[..2]),
+        3 => resource_of(&place.numbers[..3]),
+        4 => resource_of(&place.numbers[..4]),
+        _ => None,
     }
-    resource_of(&place.numbers[..place.level as usize])
 }
 
 // The mode of this code. `None` where no mode has it.
