@@ -3,6 +3,7 @@
 ghost use Rattle.std.specs.Prelude.{◌≡◌, ◌≤◌};
 
 use lock_desk::{Book, Call, Mode, NoMemory, Reply, Resource};
+use std::process::Abort;
 use std::test::Fail;
 
 // What a session does once it is told how its request stands.
@@ -21,43 +22,88 @@ fn settle(book: &mut Book, session: u16, told: Reply) -> Result<Reply, NoMemory>
     }
 }
 
-#[test]
-fn an_engine_writes_a_page(rt: HostRuntime) -> Result<(), Fail> {
+// The page of a file of database 1 is locked to be written.
+fn lock_page(book: &mut Book, session: u16) -> Result<Reply, Fail>
+    requires some { 1 ≤ session }
+    requires within { session ≤ book.old.sessions }
+    ensures { book.new.sessions ≡ book.old.sessions }
+{
     let database = Resource::from_numbers(&[1]).ok_or("no resource")?;
     let file = Resource::from_numbers(&[1, 7]).ok_or("no resource")?;
     let page = Resource::from_numbers(&[1, 7, 40]).ok_or("no resource")?;
+    book.serve(session, Call::Begin)?;
+    book.serve(session, Call::Lock(database, Mode::IX))?;
+    book.serve(session, Call::Lock(file, Mode::IX))?;
+    let told = book.serve(session, Call::Lock(page, Mode::X))?;
+    Ok(told)
+}
+
+#[test]
+fn an_engine_writes_a_page(rt: HostRuntime) -> Result<(), Fail> {
     let mut book = Book::new(rt.alloc(), 2)?;
-    book.serve(1, Call::Begin)?;
-    book.serve(1, Call::Lock(database, Mode::IX))?;
-    book.serve(1, Call::Lock(file, Mode::IX))?;
-    let told = book.serve(1, Call::Lock(page, Mode::X))?;
+    let told = lock_page(&mut book, 1)?;
     assert_eq!(rt; told, Reply::Granted(Mode::X));
     assert_eq!(rt; settle(&mut book, 1, told)?, Reply::Committed(3));
     Ok(())
 }
 
+// A transaction begins, and holds this database.
+fn begin_with(book: &mut Book, session: u16, database: Resource) -> Result<(), Fail>
+    requires some { 1 ≤ session }
+    requires within { session ≤ book.old.sessions }
+    ensures { book.new.sessions ≡ book.old.sessions }
+{
+    book.serve(session, Call::Begin)?;
+    book.serve(session, Call::Lock(database, Mode::X))?;
+    Ok(())
+}
+
+// The session asks for the database, and waits.
+fn wait_for(rt: &impl Abort, book: &mut Book, session: u16, database: Resource) -> Result<(), Fail>
+    requires some { 1 ≤ session }
+    requires within { session ≤ book.old.sessions }
+    ensures { book.new.sessions ≡ book.old.sessions }
+{
+    let told = book.serve(session, Call::Lock(database, Mode::S))?;
+    assert_eq!(rt; told, Reply::Waiting);
+    assert_eq!(rt; settle(book, session, told)?, Reply::Waiting);
+    Ok(())
+}
+
+// The session polls, is told this, and ends its transaction with this reply.
+fn poll(
+    rt: &impl Abort,
+    book: &mut Book,
+    session: u16,
+    stands: Reply,
+    ended: Reply,
+) -> Result<(), Fail>
+    requires some { 1 ≤ session }
+    requires within { session ≤ book.old.sessions }
+    ensures { book.new.sessions ≡ book.old.sessions }
+{
+    let told = book.serve(session, Call::Poll)?;
+    assert_eq!(rt; told, stands);
+    assert_eq!(rt; settle(book, session, told)?, ended);
+    Ok(())
+}
+
 // Session 2 began first. It holds one database and asks for that of session 1, which is the younger one of the circle.
-#[test]
-fn an_engine_waits_and_is_a_victim(rt: HostRuntime) -> Result<(), Fail> {
+fn meet(rt: &impl Abort, book: &mut Book) -> Result<(), Fail>
+    requires { 2 ≤ book.old.sessions }
+{
     let database = Resource::from_numbers(&[1]).ok_or("no resource")?;
     let other = Resource::from_numbers(&[2]).ok_or("no resource")?;
+    begin_with(book, 2, other)?;
+    begin_with(book, 1, database)?;
+    wait_for(rt, book, 1, other)?;
+    wait_for(rt, book, 2, database)?;
+    poll(rt, book, 1, Reply::Deadlock, Reply::Aborted(1))?;
+    poll(rt, book, 2, Reply::Clear, Reply::Committed(2))
+}
+
+#[test]
+fn an_engine_waits_and_is_a_victim(rt: HostRuntime) -> Result<(), Fail> {
     let mut book = Book::new(rt.alloc(), 2)?;
-    book.serve(2, Call::Begin)?;
-    book.serve(2, Call::Lock(other, Mode::X))?;
-    book.serve(1, Call::Begin)?;
-    book.serve(1, Call::Lock(database, Mode::X))?;
-    let told = book.serve(1, Call::Lock(other, Mode::X))?;
-    assert_eq!(rt; told, Reply::Waiting);
-    assert_eq!(rt; settle(&mut book, 1, told)?, Reply::Waiting);
-    assert_eq!(rt;
-        book.serve(2, Call::Lock(database, Mode::S))?,
-        Reply::Waiting
-    );
-    let told = book.serve(1, Call::Poll)?;
-    assert_eq!(rt; told, Reply::Deadlock);
-    assert_eq!(rt; settle(&mut book, 1, told)?, Reply::Aborted(1));
-    let told = book.serve(2, Call::Poll)?;
-    assert_eq!(rt; told, Reply::Clear);
-    assert_eq!(rt; settle(&mut book, 2, told)?, Reply::Committed(2));
-    Ok(())
+    meet(&rt, &mut book)
 }
