@@ -1,6 +1,5 @@
 -- What is seen after a request, and after the end of a transaction.
 use Rattle.std.proofs.Common.{◌≡◌, ℕ, Bool, true, false, cond, not, ◌&&◌, ◌||◌, inl, inr, List, [], ◌∷◌, ◌++◌, map, None, is_some, refl, sym, ◌∙◌, ap}
-use Rattle.std.proofs.Math.Bool.{or_assoc}
 use Rattle.std.specs.Prelude.{filter}
 use Rattle.std.proofs.lemmas.Bool.{and_parts, not-true}
 use Rattle.lock_modes.specs.declared.Mode.{Mode}
@@ -20,6 +19,7 @@ use Rattle.lock_desk.specs.declared.cells.Part.TheVariants as part
 use Rattle.lock_desk.specs.Cells.{View, has_session, with_holder, Ascends, is_nobody, view_after_promotion, view_after_giving_up, view_after_freeing, behind_conversions, queue_with, can_grant, view_after_asking, has_path}
 use Rattle.lock_desk.specs.Changes.{view_after_cancel, view_after_end}
 use Rattle.lock_desk.specs.Shows.{short, claims_on, view}
+use Rattle.lock_desk.proofs.LockLists.{has_path-append}
 use Rattle.lock_desk.proofs.SessionModes.{AreAll, behind-between, without-none}
 use Rattle.lock_desk.proofs.TableViews.{in_mode, fits-seen, held-seen, pairs-seen, claims_on-with_lock, claims_on-with_lock_path, claims_on-claims_but, queue-without, queue-apart, all-seen}
 use Rattle.lock_desk.proofs.LockCounts.{queue-has, waits_on-once, locks_in, listed}
@@ -33,13 +33,9 @@ left-seen s t x =
     let ws = ap (map short) (queue-alters s t (without_claims s t) (left-alters s t) x) ∙ queue-without s (queue t x) in
     λ j. record { holders = hs j; waiting = ws j }
 
-has-both : (x : List ℕ) (xs ys : List (List ℕ)) → has_path x (xs ++ ys) ≡ (has_path x xs || has_path x ys)
-has-both x [] ys = refl
-has-both x (z ∷ xs) ys = ap (λ (b : Bool). same_path z x || b) (has-both x xs ys) ∙ sym (or_assoc (same_path z x) (has_path x xs) (has_path x ys))
-
 resources-seen : (s : ℕ) (t : rules.Table) → IsSound t → (x : List ℕ) → has_path x (resources_touched s t) ≡ (has_session s (view x t).waiting || has_session s (view x t).holders)
 resources-seen s t i x =
-    let a = has-both x (resource_of_request (rules.request_of s t.requests)) (locks_in s t.held) in
+    let a = has_path-append x (resource_of_request (rules.request_of s t.requests)) (locks_in s t.held) in
     let b = sym (waits_on-once s x t.requests (i.once s)) ∙ sym (queue-has s x t) in
     let c = listed s x t.held in
     a ∙ (λ j. b j || c j)

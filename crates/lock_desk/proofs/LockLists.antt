@@ -5,7 +5,8 @@ use Rattle.std.proofs.lemmas.Map.Made.{lookup_key_passes}
 use Rattle.std.proofs.lemmas.Option.{slice_get_within, slice_get-get_or}
 use Rattle.std.specs.List.{remove, swap_remove}
 use Rattle.std.proofs.lemmas.Bool.{and_from, or_parts, or_right}
-use Rattle.std.proofs.lemmas.List.{append_assoc, get_or_default}
+use Rattle.std.proofs.lemmas.List.{append_assoc, append-nil, get_or_default}
+use Rattle.std.proofs.lemmas.List.Folds.{list_any-append}
 use Rattle.indexmap.proofs.SetLemmas.{map-swap_remove}
 use Rattle.indexmap.specs.IndexMap.{set_value_at}
 use Rattle.lock_tree.specs.Paths.{same_path, parent_of, has_parent}
@@ -18,24 +19,10 @@ use Rattle.lock_desk.proofs.ChildCounts as counts
 -- two lists, one behind the other
 
 pub has_path-append : (q : List ℕ) (xs ys : List (List ℕ)) → has_path q (xs ++ ys) ≡ (has_path q xs || has_path q ys)
-has_path-append q [] ys = refl
-has_path-append q (x ∷ xs) ys = ap (λ (b : Bool). same_path x q || b) (has_path-append q xs ys) ∙ sym (or-assoc (same_path x q) (has_path q xs) (has_path q ys))
-  where
-    or-assoc : (a b c : Bool) → ((a || b) || c) ≡ (a || (b || c))
-    or-assoc true b c = refl
-    or-assoc false b c = refl
+has_path-append q xs ys = list_any-append (λ x. same_path x q) xs ys
 
 pub has_child-append : (q : List ℕ) (xs ys : List (List ℕ)) → has_child q (xs ++ ys) ≡ (has_child q xs || has_child q ys)
-has_child-append q [] ys = refl
-has_child-append q (x ∷ xs) ys = ap (λ (b : Bool). is_child q x || b) (has_child-append q xs ys) ∙ sym (or-assoc (is_child q x) (has_child q xs) (has_child q ys))
-  where
-    or-assoc : (a b c : Bool) → ((a || b) || c) ≡ (a || (b || c))
-    or-assoc true b c = refl
-    or-assoc false b c = refl
-
-append-none : (xs : List (List ℕ)) → xs ++ [] ≡ xs
-append-none [] = refl
-append-none (x ∷ xs) = ap (λ (ys : List (List ℕ)). x ∷ ys) (append-none xs)
+has_child-append q xs ys = list_any-append (λ x. is_child q x) xs ys
 
 -- each is apart from the others where both lists are, and have none in common
 pub record ArePartsApart (xs ys : List (List ℕ)) : Type 0 where
@@ -66,7 +53,7 @@ apart-join (x ∷ xs) ys a b n =
 -- each came under its parent: one comes, one goes
 
 pub under-push : (rs qs : List (List ℕ)) (q : List ℕ) → AreUnder rs qs → IsUnder (rs ++ qs) q → AreUnder rs (qs ++ q ∷ [])
-under-push rs [] q h u = (subst (λ (xs : List (List ℕ)). IsUnder xs q) (append-none rs) u, tt)
+under-push rs [] q h u = (subst (λ (xs : List (List ℕ)). IsUnder xs q) (append-nil rs) u, tt)
 under-push rs (x ∷ qs) q h u = (h.0, under-push (rs ++ x ∷ []) qs q h.1 (subst (λ (xs : List (List ℕ)). IsUnder xs q) (sym (append_assoc rs (x ∷ []) qs)) u))
 
 pub under-pop : (rs qs : List (List ℕ)) (q : List ℕ) → AreUnder rs (qs ++ q ∷ []) → AreUnder rs qs

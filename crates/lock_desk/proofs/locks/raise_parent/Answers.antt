@@ -17,7 +17,7 @@ overflow_add-index_mut c =
     omega (arith, at, k, few, keys-long es, c.requires.few)
 
 pub returns-in-Some-clause-keys : goal.returns-in-Some-clause-keys
-returns-in-Some-clause-keys c = keys-written c.args.indexed.now.entries c.in-Some.parent (c.index_mut.result.now + 1)
+returns-in-Some-clause-keys c = keys-written c.args.indexed.now.entries c.in-Some.parent _
 
 pub returns-in-Some-clause-counts : goal.returns-in-Some-clause-counts
 returns-in-Some-clause-counts c = λ i lt.
