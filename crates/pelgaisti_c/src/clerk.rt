@@ -4,7 +4,8 @@ ghost use Rattle.std.specs.Prelude.{◌≡◌, ◌≢◌, ◌<◌, ◌≤◌, �
 ghost use Rattle.combining.specs.Sessions.{IsPassed, IsPendingServed};
 ghost use Rattle.lock_rules.specs.Legal.{calls_of};
 ghost use Rattle.publication.specs.Boards.{heard_from};
-ghost use Rattle.pelgaisti_c.specs.Numbers.{IsCallFault};
+ghost use Rattle.lock_rules.specs.declared.calls.Call.{Call as CallValue};
+ghost use Rattle.pelgaisti_c.specs.Numbers.{IsCall, IsCallFault};
 ghost use Rattle.pelgaisti_c.specs.Sessions.{IsSameOffice, IsPublished, IsAnswered, IsHeard, IsRetired};
 
 use crate::numbers::{AnswerNumbers, CallNumbers, PassNumbers, read_call, reply_numbers};
@@ -38,8 +39,8 @@ pub(crate) fn publish(worker: &mut Worker, asked: &CallNumbers, posted: &mut u32
     ensures posted { result ≡ OK → (LISTED ≤ posted.new) × (posted.new ≤ UNLISTED) }
     ensures failed { result ≢ OK → (worker.new ≡ worker.old) × (posted.new ≡ posted.old) }
     ensures call { NO_SUCH_OP ≤ result → result ≤ NO_SUCH_MODE → IsCallFault asked.now result }
-    ensures retired { result ≡ RETIRED → worker.old.session.retired ≡ true }
-    ensures pending { result ≡ PENDING → worker.old.session.pending ≢ None }
+    ensures retired { result ≡ RETIRED → (worker.old.session.retired ≡ true) × ((call : CallValue) × IsCall asked.now call) }
+    ensures pending { result ≡ PENDING → (worker.old.session.pending ≢ None) × ((call : CallValue) × IsCall asked.now call) }
     ensures statuses { (result ≡ OK) ⊎ ((result ≡ RETIRED) ⊎ ((result ≡ PENDING) ⊎ ((NO_SUCH_OP ≤ result) × (result ≤ NO_SUCH_MODE)))) }
 {
     let call = match read_call(asked) {

@@ -2,7 +2,8 @@
 
 ghost use Rattle.std.specs.Prelude.{◌≡◌, ◌≢◌, ◌≤◌, ◌↔◌, ◌⊎◌, true, Some, None, length};
 ghost use Rattle.combining.specs.Sessions.{IsPendingServed};
-ghost use Rattle.pelgaisti_c.specs.Numbers.{IsCallFault};
+ghost use Rattle.lock_rules.specs.declared.calls.Call.{Call};
+ghost use Rattle.pelgaisti_c.specs.Numbers.{IsCall, IsCallFault};
 ghost use Rattle.pelgaisti_c.specs.Sessions.{IsPublished, IsTurn, IsAnswered, IsHeard, IsRetired};
 ghost use Rattle.pelgaisti_c.specs.declared.worker.Worker.{Worker};
 
@@ -30,8 +31,8 @@ pub extern "C" fn pelgaisti_session_publish(
     ensures open { session.new.is_open ≡ session.old.is_open }
     ensures closed { result ≡ CLOSED ↔ (session.old.is_open ≢ 1) }
     ensures call { NO_SUCH_OP ≤ result → result ≤ NO_SUCH_MODE → (session.old.is_open ≡ 1) × IsCallFault call.now result }
-    ensures retired { result ≡ RETIRED → (worker : Worker) × (session.old.held.worker ≡ Some worker) × (worker.session.retired ≡ true) }
-    ensures pending { result ≡ PENDING → (worker : Worker) × (session.old.held.worker ≡ Some worker) × (worker.session.pending ≢ None) }
+    ensures retired { result ≡ RETIRED → (worker : Worker) × (session.old.held.worker ≡ Some worker) × (worker.session.retired ≡ true) × ((asked : Call) × IsCall call.now asked) }
+    ensures pending { result ≡ PENDING → (worker : Worker) × (session.old.held.worker ≡ Some worker) × (worker.session.pending ≢ None) × ((asked : Call) × IsCall call.now asked) }
     ensures statuses { (result ≡ OK) ⊎ ((result ≡ CLOSED) ⊎ ((result ≡ RETIRED) ⊎ ((result ≡ PENDING) ⊎ ((NO_SUCH_OP ≤ result) × (result ≤ NO_SUCH_MODE))))) }
 {
     let Some(mut worker) = session.take(alloc) else {
