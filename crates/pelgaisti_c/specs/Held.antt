@@ -1,5 +1,5 @@
 -- What a handle owns: what stands behind its pointer, with the right to free it.
-use Rattle.std.specs.Prelude.{ℕ, Option, Some, None}
+use Rattle.std.specs.Prelude.{Option, Some, None}
 use Rattle.std.specs.Coded.{Coded, coded_option}
 use base.Fml.{Fml, ftrue}
 use denote.RattleType.{RattleType}

@@ -1,4 +1,4 @@
-use Rattle.std.proofs.Common.{◌≡◌, Option, Some, inr, subst}
+use Rattle.std.proofs.Common.{Option, Some, inr, subst}
 use Rattle.std.specs.Prelude.{IfSome}
 use Rattle.std.specs.Global.{Box}
 use Rattle.pelgaisti_c.specs.declared.worker.Worker.{Worker}

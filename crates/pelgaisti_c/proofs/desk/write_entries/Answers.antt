@@ -1,4 +1,4 @@
-use Rattle.std.proofs.Common.{rules, ◌≡◌, ℕ, suc, ◌+◌, ◌<◌, length, get_or, set, ap, ◌∙◌, arith}
+use Rattle.std.proofs.Common.{rules, ◌≡◌, suc, ◌+◌, get_or, set, ap, ◌∙◌, arith}
 use Rattle.lock_rules.specs.declared.calls.Entry.{Entry}
 use Rattle.pelgaisti_c.specs.Numbers.{numbers_of_entry}
 use Rattle.pelgaisti_c.specs.Calls.{written}

@@ -1,4 +1,4 @@
-use Rattle.std.proofs.Common.{◌≡◌, ◌<◌, ◌∷◌, [], ◌++◌, ℕ, List, sym, subst, arith}
+use Rattle.std.proofs.Common.{◌∷◌, [], ◌++◌, List, sym, subst, arith}
 use Rattle.std.specs.Prelude.{All}
 use Rattle.std.proofs.lemmas.List.Elements.{All-append, All-cons}
 use Rattle.publication.specs.Views.{Known}

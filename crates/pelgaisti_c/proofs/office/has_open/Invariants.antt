@@ -1,4 +1,4 @@
-use Rattle.std.proofs.Common.{◌≡◌, ◌≢◌, ◌<◌, ℕ, get_or}
+use Rattle.std.proofs.Common.{◌≢◌, ◌<◌, ℕ, get_or}
 use Rattle.pelgaisti_c.specs.declared.session_handle.SessionHandle.{SessionHandle}
 use Rattle.pelgaisti_c.proofs.office.has_open.Given as goal
 

@@ -1,4 +1,4 @@
-use Rattle.std.proofs.Common.{rules, ◌≡◌, length, map, sym, ap, ◌∙◌}
+use Rattle.std.proofs.Common.{◌≡◌, length, sym, ap, ◌∙◌}
 use Rattle.std.proofs.lemmas.List.{length-map}
 use Rattle.pelgaisti_c.proofs.Handles.{new_tickets_count}
 use Rattle.pelgaisti_c.proofs.office.pelgaisti_office_open.Goals as goal
