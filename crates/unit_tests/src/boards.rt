@@ -1,6 +1,6 @@
 //! A board of two sessions in one thread, call by call.
 
-ghost use Rattle.std.specs.Prelude.{◌≡◌, ◌+◌, true, Some, None, IfOk, slice_set};
+ghost use Rattle.std.specs.Prelude.{◌≡◌, ◌+◌, true, false, Some, None, IfOk, slice_set};
 ghost use Rattle.publication.specs.Rule.{IsHome};
 ghost use Rattle.publication.specs.Boards.{IsOf, IsNumber, opened_at, new_ticket, new_tickets};
 
@@ -19,6 +19,18 @@ fn both(rt: &impl Abort, board: &Board, mut tickets: Vec<Ticket>) -> (Ticket, Ti
     let second = tickets.pop().expect(rt, "the ticket of session 2");
     let first = tickets.pop().expect(rt, "the ticket of session 1");
     (first, second)
+}
+
+// The session posts a call, which is listed.
+fn posts(rt: &impl Abort, board: &Board, ticket: &mut Ticket, call: Call)
+    requires ours { IsOf board.now ticket.old }
+    requires idle { (ticket.old.pending ≡ None) × (ticket.old.retired ≡ false) }
+    ensures ours { IsOf board.now ticket.new }
+{
+    match board.post(ticket, call) {
+        Posted::Listed => {}
+        Posted::Unlisted => panic!(rt; "nobody else enlists"),
+    }
 }
 
 // The combiner serves the call of a record that it opened.
@@ -71,7 +83,7 @@ fn a_combiner_answers_what_another_posted(rt: HostRuntime) -> Result<(), Fail> {
     let book = Book::new(rt.alloc(), 2)?;
     let (board, tickets) = Board::new(rt.alloc(), book)?;
     let (mut first, mut second) = both(&rt, &board, tickets);
-    assert!(rt; board.post(&mut first, Call::Begin) == Posted::Listed);
+    posts(&rt, &board, &mut first, Call::Begin);
     let mut load = board.seize(&mut second).expect(&rt, "the load");
     assert!(rt; board.seize(&mut first).is_none());
     let call = board.open(&mut second, 1).expect(&rt, "the call");
