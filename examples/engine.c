@@ -11,7 +11,8 @@
 #include <stdio.h>
 #include <stdlib.h>
 
-enum { TABLES = 2, RECORDS = 4, THREADS = 4, MOVES = 500, BALANCE = 100 };
+/* The last record of each table is for the deadlock that is to come about: no other move names it. */
+enum { TABLES = 2, RECORDS = 5, MEETING = 4, THREADS = 4, MOVES = 500, BALANCE = 100 };
 
 static long accounts[TABLES][RECORDS];
 static pthread_barrier_t both_hold_one;
@@ -92,7 +93,7 @@ static void *work(void *argument) {
     for (unsigned k = 0; k < MOVES; k++) {
         int meet = k == 0 && w->number < 2;
         random = random * 1664525u + 1013904223u;
-        uint32_t record = meet ? 0 : random >> 16 & 3, other = meet ? 0 : random >> 20 & 3;
+        uint32_t record = meet ? MEETING : random >> 16 & 3, other = meet ? MEETING : random >> 20 & 3;
         int again = 0;
         while (!move(w, from, record, 1 - from, other, meet && !again)) {
             w->victims++;

@@ -95,7 +95,10 @@ const THREADS: usize = 4;
 const MOVES: u32 = 500;
 const BALANCE: i64 = 100;
 
-type Tables = [[AtomicI64; 4]; 2];
+/// The last record of each table is for the deadlock that is to come about: no other move names it.
+const MEETING: usize = 4;
+
+type Tables = [[AtomicI64; MEETING + 1]; 2];
 
 struct Worker<'a> {
     session: &'a mut Handle,
@@ -177,7 +180,7 @@ impl Worker<'_> {
             let mut meet = k == 0 && self.number < 2;
             random = random.wrapping_mul(1_664_525).wrapping_add(1_013_904_223);
             let (record, other) = match meet {
-                true => (0, 0),
+                true => (MEETING, MEETING),
                 false => ((random >> 16 & 3) as usize, (random >> 20 & 3) as usize),
             };
             while !self.make_move(from, record, other, meet) {
@@ -225,5 +228,5 @@ fn main() {
     assert_eq!(pelgaisti_book_close(&mut book), OK);
     let sum: i64 = accounts.iter().flatten().map(|account| account.load(Relaxed)).sum();
     println!("the sum is {sum}; a deadlock was undone: {}", if victims > 0 { "yes" } else { "no" });
-    assert!(sum == 8 * BALANCE && victims > 0 && length > 8 * u64::from(MOVES));
+    assert!(sum == 10 * BALANCE && victims > 0 && length > 8 * u64::from(MOVES));
 }
