@@ -28,6 +28,7 @@ LONG_TESTS = [
     "a_transaction_holds_4096_locks_and_no_more",
     "locks_are_released_in_either_order",
     "eight_threads_poll",
+    "sixty_four_threads_poll",
     "eight_threads_are_told_what_one_book_tells",
     "eight_threads_hear",
     "all_256_sessions_close_in_any_order",

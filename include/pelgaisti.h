@@ -35,8 +35,9 @@
  * - malloc, realloc and free are of one allocator, and align as those of the C library do.
  *
  * STATUSES. Every call tells by a pelgaisti_status what it came to. Where that isn't PELGAISTI_OK, nothing has changed and
- * nothing was written: no handle, no history, none of the places that the arguments point to. The arguments are tested in the
- * order in which a call lists its statuses, and the first test that fails gives the status.
+ * nothing was written: no handle, no history, none of the places that the arguments point to; but after ELSEWHERE a call that
+ * passes didn't visit may be one that they do. The arguments are tested in the order in which a call lists its statuses, and
+ * the first test that fails gives the status.
  */
 #ifndef PELGAISTI_H
 #define PELGAISTI_H
@@ -120,7 +121,7 @@ typedef enum pelgaisti_why {
 /* How a call stands that was published. */
 typedef enum pelgaisti_posted {
     PELGAISTI_LISTED = 1,  /* each pass visits it */
-    PELGAISTI_UNLISTED = 2 /* passes visit it once its session has tried to serve */
+    PELGAISTI_UNLISTED = 2 /* passes of its own session alone do, until a try to serve has listed it */
 } pelgaisti_posted;
 
 #define PELGAISTI_LEVELS 4
@@ -232,7 +233,7 @@ uint32_t pelgaisti_office_open(pelgaisti_session *sessions, size_t count, uint64
    NULL, CLOSED, NO_SUCH_OP, NO_SUCH_LEVEL, NO_SUCH_MODE, RETIRED, PENDING. */
 uint32_t pelgaisti_session_publish(pelgaisti_session *session, const pelgaisti_call *call, uint32_t *posted);
 
-/* One try to serve all calls that are published, of all sessions. Whether the session has one pending is of no matter. `pass`
+/* One try to serve the calls that are listed, of all sessions, and the session's own. Whether the session has one pending is of no matter. `pass`
    may be NULL.
    NULL, CLOSED, ELSEWHERE. */
 uint32_t pelgaisti_session_serve(pelgaisti_session *session, pelgaisti_pass *pass);

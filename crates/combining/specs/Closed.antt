@@ -37,7 +37,8 @@ pub record IsOneHistory (sessions : List Known) (history : List Entry) : Type 0 
   pub circles : (front rest : List Entry) → history ≡ front ++ rest → HasNoCircle (state_of front)
   -- all other laws of states hold there too
   pub lawful : (front rest : List Entry) → history ≡ front ++ rest → IsLawfulState (state_of front)
-  -- a grant stands until it is given back, a doom until its session aborts, a request until it is granted or taken away
+  -- a grant stands until it is given back, a doom until its session aborts, a request until it is granted, its session becomes a
+  -- victim, or it aborts
   pub grants : (front later rest : List Entry) → history ≡ front ++ later ++ rest → DoesGrantStand front later
   pub dooms : (front later rest : List Entry) → history ≡ front ++ later ++ rest → DoesDoomStand front later
   pub requests : (front later rest : List Entry) → history ≡ front ++ later ++ rest → DoesRequestStand front later

@@ -165,7 +165,7 @@ impl Office {
     }
 
     /// The first session learns what the other knows: the longer of their fronts of the history, of which the other is a front,
-    /// and of each session the larger number of calls that it published. The other learns nothing. What the session publishes
+    /// and of each session the larger number of calls that it heard of. The other learns nothing. What the session publishes
     /// from then on stands in the history behind all that the other knew.
     pub fn hear(&self, session: &mut Session, other: &mut Session)
         requires ours { IsSessionOf self.now session.old × IsSessionOf self.now other.old }

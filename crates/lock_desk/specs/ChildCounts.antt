@@ -22,7 +22,7 @@ children_of r (q ∷ rs) = (if is_child r q then 1 else 0) + children_of r rs
 abbrev pub IsUnder : List (List ℕ) → List ℕ → Type 0
 IsUnder rs q = has_parent q ≡ true → has_path (parent_of q) rs ≡ true
 
--- beside each lock stands how many of its children are held, and each lock stands under its parent
+-- beside each of these locks stands how many of its children are among them, and each stands under its parent
 pub record DoCount (rs : List (List ℕ)) (ns : List ℕ) : Type 0 where
   pub counts : (i : ℕ) → i < length rs → slice_index_or ns i 0 ≡ children_of (slice_index_or rs i []) rs
   pub under : (q : List ℕ) → has_path q rs ≡ true → IsUnder rs q

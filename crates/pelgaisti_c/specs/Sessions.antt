@@ -1,12 +1,11 @@
 -- What a call of a session came to, as C is told.
-use Rattle.std.specs.Prelude.{◌≡◌, ◌≢◌, ℕ, ◌<◌, ◌≤◌, ◌⊎◌, true, false, Option, Some, None, [], ◌∷◌, ◌++◌, length, slice_set}
+use Rattle.std.specs.Prelude.{◌≡◌, ◌≢◌, ℕ, ◌<◌, ◌≤◌, ◌⊎◌, true, false, Option, Some, None, [], ◌∷◌, ◌++◌, length}
 use Rattle.lock_rules.specs.declared.calls.Call.{Call}
 use Rattle.lock_rules.specs.declared.calls.Reply.{Reply}
 use Rattle.lock_rules.specs.Legal.{calls_of}
-use Rattle.publication.specs.Views.{asks}
-use Rattle.publication.specs.Boards.{heard_from, published_by}
+use Rattle.publication.specs.Boards.{heard_from, publishing, enlisted}
 use Rattle.publication.specs.Kinds.{longer, maxes}
-use Rattle.combining.specs.Sessions.{IsPassed, IsCollected, IsPendingServed}
+use Rattle.combining.specs.Sessions.{HasTried, IsPassed, IsCollected, IsPendingServed}
 use Rattle.pelgaisti_c.specs.declared.numbers.CallNumbers.{CallNumbers}
 use Rattle.pelgaisti_c.specs.declared.numbers.AnswerNumbers.{AnswerNumbers}
 use Rattle.pelgaisti_c.specs.declared.worker.Worker.{Worker}
@@ -19,13 +18,17 @@ pub record IsSameOffice (before after : Worker) : Type 0 where
   pub sessions : after.sessions ≡ before.sessions
   pub mark : after.mark ≡ before.mark
 
--- the call that the numbers stand for is published: the session is pending, and knows that it published one call more
-abbrev pub IsPublished : Worker → Worker → CallNumbers → Type 0
-IsPublished before after asked = (call : Call) × IsCall asked call × (before.session.pending ≡ None) × (before.session.retired ≡ false)
-    × (after.session ≡ record before.session {
-      pending = Some (asks call (length before.session.front));
-      heard = slice_set before.session.heard before.session.number (published_by after.session);
-    }) × IsSameOffice before after
+-- the call that the numbers stand for is published, and the session is pending. 1: the call is listed, and the session has heard of all
+-- its calls. 2: it isn't listed yet, which comes to no session that is alone in its office
+abbrev pub IsPublished : Worker → Worker → CallNumbers → ℕ → Type 0
+IsPublished before after asked posted = (call : Call) × IsCall asked call × (before.session.pending ≡ None) × (before.session.retired ≡ false)
+    × (posted ≡ 1 → after.session ≡ enlisted (publishing before.session call))
+    × (posted ≡ 2 → (after.session ≡ publishing before.session call) × (2 ≤ before.sessions))
+    × IsSameOffice before after
+
+-- another session had the book: nothing has changed, but that a pending call which wasn't listed may be listed now
+abbrev pub IsElsewhere : Worker → Worker → Type 0
+IsElsewhere before after = HasTried before.session after.session × (2 ≤ before.sessions) × IsSameOffice before after
 
 -- a pass served so many calls. Where memory was refused for none, it served the session's own call, and each of which the session had heard
 abbrev pub IsTurn : Worker → Worker → ℕ → ℕ → Type 0

@@ -6,7 +6,7 @@ ghost use Rattle.lock_rules.specs.Legal.{calls_of};
 ghost use Rattle.publication.specs.Boards.{heard_from};
 ghost use Rattle.lock_rules.specs.declared.calls.Call.{Call as CallValue};
 ghost use Rattle.pelgaisti_c.specs.Numbers.{IsCall, IsCallFault};
-ghost use Rattle.pelgaisti_c.specs.Sessions.{IsSameOffice, IsPublished, IsAnswered, IsHeard, IsRetired};
+ghost use Rattle.pelgaisti_c.specs.Sessions.{IsSameOffice, IsPublished, IsElsewhere, IsAnswered, IsHeard, IsRetired};
 
 use crate::numbers::{AnswerNumbers, CallNumbers, PassNumbers, read_call, reply_numbers};
 use crate::status::{
@@ -24,18 +24,19 @@ const UNLISTED: u32 = 2;
 
 // The numbers of how a call stands that was published.
 fn posted_number(posted: Posted) -> u32
-    ensures { (LISTED ≤ result) × (result ≤ UNLISTED) }
+    ensures some { (LISTED ≤ result) × (result ≤ UNLISTED) }
+    ensures listed { result ≡ LISTED → posted ≡ Posted.Listed }
+    ensures unlisted { result ≡ UNLISTED → posted ≡ Posted.Unlisted }
 {
-    if posted == Posted::Listed {
-        LISTED
-    } else {
-        UNLISTED
+    match posted {
+        Posted::Listed => LISTED,
+        Posted::Unlisted => UNLISTED,
     }
 }
 
 /// Publishes the call that the numbers stand for.
 pub(crate) fn publish(worker: &mut Worker, asked: &CallNumbers, posted: &mut u32) -> u32
-    ensures ok { result ≡ OK → IsPublished worker.old worker.new asked.now }
+    ensures ok { result ≡ OK → IsPublished worker.old worker.new asked.now posted.new }
     ensures posted { result ≡ OK → (LISTED ≤ posted.new) × (posted.new ≤ UNLISTED) }
     ensures failed { result ≢ OK → (worker.new ≡ worker.old) × (posted.new ≡ posted.old) }
     ensures call { NO_SUCH_OP ≤ result → result ≤ NO_SUCH_MODE → IsCallFault asked.now result }
@@ -57,7 +58,7 @@ pub(crate) fn publish(worker: &mut Worker, asked: &CallNumbers, posted: &mut u32
     OK
 }
 
-/// One try to serve all that is published.
+/// One try to serve all that is listed, and the session's own call.
 pub(crate) fn serve(worker: &mut Worker, pass: &mut PassNumbers) -> u32
     ensures passed { result ≡ OK → IsPassed worker.old.session worker.new.session pass.new.served }
     ensures starved { result ≡ OK → pass.new.starved ≤ 1 }
@@ -65,8 +66,8 @@ pub(crate) fn serve(worker: &mut Worker, pass: &mut PassNumbers) -> u32
     ensures heard { (j : _) → result ≡ OK → pass.new.starved ≡ 0 → 0 < j → j ≤ worker.old.sessions
         → heard_from worker.old.session j ≤ length (calls_of j worker.new.session.front) }
     ensures same { IsSameOffice worker.old worker.new }
-    ensures failed { result ≢ OK → (worker.new ≡ worker.old) × (pass.new ≡ pass.old) }
-    ensures elsewhere { result ≡ ELSEWHERE → 2 ≤ worker.old.sessions }
+    ensures failed { result ≢ OK → pass.new ≡ pass.old }
+    ensures elsewhere { result ≡ ELSEWHERE → IsElsewhere worker.old worker.new }
     ensures statuses { (result ≡ OK) ⊎ (result ≡ ELSEWHERE) }
 {
     match worker.office.serve(&mut worker.session) {

@@ -4,7 +4,7 @@ ghost use Rattle.std.specs.Prelude.{◌≡◌, ◌≢◌, ◌≤◌, ◌↔◌, 
 ghost use Rattle.combining.specs.Sessions.{IsPendingServed};
 ghost use Rattle.lock_rules.specs.declared.calls.Call.{Call};
 ghost use Rattle.pelgaisti_c.specs.Numbers.{IsCall, IsCallFault};
-ghost use Rattle.pelgaisti_c.specs.Sessions.{IsPublished, IsTurn, IsAnswered, IsHeard, IsRetired};
+ghost use Rattle.pelgaisti_c.specs.Sessions.{IsPublished, IsTurn, IsElsewhere, IsAnswered, IsHeard, IsRetired};
 ghost use Rattle.pelgaisti_c.specs.declared.worker.Worker.{Worker};
 
 use crate::clerk;
@@ -25,7 +25,7 @@ pub extern "C" fn pelgaisti_session_publish(
     posted: &mut u32,
 ) -> u32
     ensures ok { result ≡ OK → (before after : Worker) × (session.old.held.worker ≡ Some before) × (session.new.held.worker ≡ Some after)
-        × IsPublished before after call.now }
+        × IsPublished before after call.now posted.new }
     ensures posted { result ≡ OK → (1 ≤ posted.new) × (posted.new ≤ 2) }
     ensures failed { result ≢ OK → (session.new.held.worker ≡ session.old.held.worker) × (posted.new ≡ posted.old) }
     ensures open { session.new.is_open ≡ session.old.is_open }
@@ -43,7 +43,7 @@ pub extern "C" fn pelgaisti_session_publish(
     status
 }
 
-/// One try to serve all that is published.
+/// One try to serve all that is listed, and the session's own call.
 #[unsafe(no_mangle)]
 pub extern "C" fn pelgaisti_session_serve(
     alloc: Global,
@@ -52,10 +52,12 @@ pub extern "C" fn pelgaisti_session_serve(
 ) -> u32
     ensures ok { result ≡ OK → (before after : Worker) × (session.old.held.worker ≡ Some before) × (session.new.held.worker ≡ Some after)
         × IsTurn before after pass.new.served pass.new.starved }
-    ensures failed { result ≢ OK → (session.new.held.worker ≡ session.old.held.worker) × (pass.new ≡ pass.old) }
+    ensures failed { result ≢ OK → pass.new ≡ pass.old }
     ensures open { session.new.is_open ≡ session.old.is_open }
     ensures closed { result ≡ CLOSED ↔ (session.old.is_open ≢ 1) }
-    ensures elsewhere { result ≡ ELSEWHERE → (worker : Worker) × (session.old.held.worker ≡ Some worker) × (2 ≤ worker.sessions) }
+    ensures kept { result ≡ CLOSED → session.new.held.worker ≡ session.old.held.worker }
+    ensures elsewhere { result ≡ ELSEWHERE → (before after : Worker) × (session.old.held.worker ≡ Some before) × (session.new.held.worker ≡ Some after)
+        × IsElsewhere before after }
     ensures statuses { (result ≡ OK) ⊎ ((result ≡ CLOSED) ⊎ (result ≡ ELSEWHERE)) }
 {
     let Some(mut worker) = session.take(alloc) else {

@@ -1,4 +1,5 @@
-//! What a call came to, as numbers. Whatever isn't `OK` has changed nothing and written nothing.
+//! What a call came to, as numbers. Whatever isn't `OK` has written nothing, and has changed nothing but that after `ELSEWHERE` a call may be
+//! listed that wasn't.
 
 /// The call was made.
 pub const OK: u32 = 0;

@@ -1,8 +1,8 @@
 -- The words of the board: where they lie, and what they say.
 use Rattle.std.specs.Prelude.{ℕ, ◌+◌, ◌*◌, ◌/◌}
 
--- where the lock word (number 0) or the word of a session's record lies: one word in eight is used, so that two of them lie
--- 64 bytes apart and share no line of the cache
+-- where the lock word (number 0) or the word of a session's record lies: one word in eight, so that two of them lie 64 bytes
+-- apart and share no line of the cache
 abbrev pub word_of : ℕ → ℕ
 word_of number = number * 8
 

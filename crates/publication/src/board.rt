@@ -436,7 +436,7 @@ impl Board {
     }
 
     /// The first session learns what the second knows: the longer of their fronts of the history, and of each session the larger
-    /// number of calls that it published. The second learns nothing.
+    /// number of calls that either had heard of. The second learns nothing.
     pub fn hear(&self, ticket: &mut Ticket, other: &mut Ticket)
         requires ours { IsOf self.now ticket.old × IsOf self.now other.old }
         ensures other { other.new ≡ other.old }

@@ -1,8 +1,8 @@
-//! The board: a word that is the lock of the lock table, and for each session a publication record, a word and a slot,
+//! The board: a word that is the lock of the lock table, and for each session a publication record, a word, a link and a slot,
 //! where it publishes a call and finds the reply. Whoever wins the lock word is the combiner: it opens the records that
 //! others have posted, serves their calls on the lock table and answers them. The way is flat combining (Hendler, Incze,
-//! Shavit and Tzafrir 2010); the rule that holds between any two of its atomic steps is in `specs/Rule.antt`, and the
-//! steps themselves are listed in `specs/Kinds.antt`.
+//! Shavit and Tzafrir 2010); the rule that holds between any two of its atomic steps is in `specs/Rule.antt` and,
+//! of the publication list, in `specs/List.antt`; the steps themselves are listed in `specs/Kinds.antt`.
 //!
 //! This crate knows how calls and replies pass between sessions, and not how a call is served: that `lock_desk` does.
 #![tactic(auto)]

@@ -1,7 +1,7 @@
 // What the words of the board say. The lock word is 0, or the number of the session that has the book.
 pub const FREE: u64 = 0;
 
-// One word in eight is used: two that are in use share no line of the cache.
+// A record's words lie together, and those of two records in no line of the cache that they share.
 pub const WORDS_APART: usize = 8;
 
 // The link of a record lies one behind its word, and the head word of the publication list one behind the lock word.

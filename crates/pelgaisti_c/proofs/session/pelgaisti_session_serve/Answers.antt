@@ -7,4 +7,4 @@ returns-clause-ok c = λ e. let was : c.args.session.now.held.worker ≡ Some c.
     (c.deref_mut.result.now, c.serve-status.new.worker, was, c.put.ensures.1, (s.passed e, s.starved e, s.own e, (λ none j. s.heard j e none), s.same))
 
 pub returns-clause-elsewhere : goal.returns-clause-elsewhere
-returns-clause-elsewhere c = λ e. let was : c.args.session.now.held.worker ≡ Some c.deref_mut.result.now = search rules in (c.deref_mut.result.now, was, c.serve-status.ensures.elsewhere e)
+returns-clause-elsewhere c = λ e. let was : c.args.session.now.held.worker ≡ Some c.deref_mut.result.now = search rules in (c.deref_mut.result.now, c.serve-status.new.worker, was, c.put.ensures.1, c.serve-status.ensures.elsewhere e)
