@@ -144,13 +144,28 @@ fn round(
     Ok(back)
 }
 
+/// So many rounds.
+fn rounds(
+    rt: &impl Abort,
+    alloc: Global,
+    office: &Office,
+    sessions: Vec<Session>,
+    count: u64,
+) -> Result<Vec<Session>, AllocError>
+    requires ours { All (λ session. IsSessionOf office.now session × IsIdle session) sessions.items }
+    ensures ours { IfOk result (λ back. All (λ session. IsSessionOf office.now session × IsIdle session) back.items) }
+{
+    let mut back = sessions;
+    for done in 0..count {
+        back = round(rt, alloc, office, back, done.wrapping_mul(64))?;
+    }
+    Ok(back)
+}
+
 #[test]
 fn sixty_four_sessions_poll_in_turn(rt: HostRuntime) -> Result<(), Fail> {
-    let (office, mut sessions) = Office::open(rt.alloc(), 64)?;
-    for rounds in 0..200u64 {
-        let first = rounds.wrapping_mul(64);
-        sessions = round(&rt, rt.alloc(), &office, sessions, first)?;
-    }
+    let (office, sessions) = Office::open(rt.alloc(), 64)?;
+    let sessions = rounds(&rt, rt.alloc(), &office, sessions, 200)?;
     let book = office.close(sessions).ok().expect(&rt, "the book");
     assert_eq!(rt; book.history().len(), 12_800);
     Ok(())

@@ -2,4 +2,4 @@ use Rattle.combining.specs.Sessions.{IsSessionOf, IsIdle}
 use Rattle.unit_tests.proofs.listing.poll.Given as goal
 
 abbrev pub invariant-loop-polled : goal.invariant-loop-polled
-invariant-loop-polled l = IsSessionOf l.office l.session × IsIdle l.session
+invariant-loop-polled g l = IsSessionOf l.office l.session × IsIdle l.session

@@ -3,4 +3,4 @@ use Rattle.combining.specs.Sessions.{IsSessionOf, IsIdle}
 use Rattle.unit_tests.proofs.listing.round.Given as goal
 
 abbrev pub invariant-loop-session : goal.invariant-loop-session
-invariant-loop-session l = All (λ session. IsSessionOf l.office session × IsIdle session) l.back.items
+invariant-loop-session g l = All (λ session. IsSessionOf l.office session × IsIdle session) l.back.items
