@@ -4,6 +4,7 @@ use Rattle.std.specs.Cmp.{IsEquivalence}
 use Rattle.std.specs.Map.{lookup, lookup_key, keys_of, values_of}
 use Rattle.std.specs.HashMap.{HashMap, IsUnique, Updates}
 use Rattle.std.proofs.lemmas.Map.Made.{lookup_key_passes}
+use Rattle.std.proofs.lemmas.Map.Entries.{lookup_from_place}
 use Rattle.indexmap.specs.IndexMap.{set_value_at, with_value_at}
 use Rattle.indexmap.proofs.CallerLemmas.{updates-with_value_at}
 use Rattle.lock_tree.specs.Paths.{same_path}
@@ -57,6 +58,16 @@ module _ (eq : List ℕ → List ℕ → Bool) (same : (a b : List ℕ) → eq a
     entry = entry ∙ ap (λ (q : List ℕ). Some (q, c)) (sym (same_path-true r k (sym (same r k) ∙ lookup_key_passes (eq r) cs k (sym key))));
     found = sym (found eq same r cs) ∙ sym value;
   }
+
+  -- where the key of an entry is the resource, its cell stands there
+  pub likely-place : {S : Type 0} (m : HashMap (List ℕ) Cell S) (r k : List ℕ) (c : Cell) (i : ℕ) → IsUnique eq m → Some (k, c) ≡ slice_get m.entries i → eq k r ≡ true → IsCellAt r m.entries i
+  likely-place m r k c i unique entry is =
+      let there : slice_get m.entries i ≡ Some (r, c) = sym entry ∙ ap (λ (q : List ℕ). Some (q, c)) (same_path-true k r (sym (same k r) ∙ is)) in
+      record {
+        cell = c;
+        entry = there;
+        found = lookup_from_place same_path-equivalence m.entries i r c (subst (λ (t : List ℕ → List ℕ → Bool). IsUnique t m) (λ j a b. same a b j) unique) there;
+      }
 
   -- the cell of an entry that is taken out is found no more
   pub taken-out : {S : Type 0} (old new : HashMap (List ℕ) Cell S) (k : List ℕ) (c : Cell) (i : ℕ) → Some (k, c) ≡ slice_get old.entries i → Updates eq old new k None

@@ -120,6 +120,29 @@ impl CellTable {
         }
     }
 
+    /// The same, where it is likely to stand at this place.
+    pub(crate) fn place_near(&self, likely: usize, resource: Resource) -> Option<usize>
+        ensures { IsPlace resource self.now.entries result }
+    {
+        same_path_is_equality();
+        // The length is what says that no resource stands twice.
+        let _len = self.cells.len();
+        if let Some((key, _)) = self.cells.get_index(likely) {
+            if *key == resource {
+                return Some(likely);
+            }
+        }
+        self.place_of(resource)
+    }
+
+    /// This place, or else the place of the cell that came last.
+    pub(crate) fn or_newest(&self, place: Option<usize>) -> usize {
+        match place {
+            Some(place) => place,
+            None => self.cells.len().saturating_sub(1),
+        }
+    }
+
     /// The mode that the session holds on the resource whose place this is.
     pub(crate) fn mode_at(&self, place: Option<usize>, session: u16) -> Option<Mode>
         ensures { (r : List ℕ) → IsPlace r self.now.entries place → result ≡ mode_of session (cell_view r self.now.entries).holders }

@@ -84,6 +84,22 @@ impl Desk {
         self.cells.mode_at(place, session)
     }
 
+    /// Where the cell of the resource's parent stands, which the session is likely to have locked of late.
+    pub(crate) fn parent_place(
+        &self,
+        session: u16,
+        resource: Resource,
+        parent: Resource,
+    ) -> Option<usize>
+        requires some { 1 ≤ session }
+        requires within { session ≤ vec_len self.now.lockers }
+        ensures { IsPlace parent self.now.cells.entries result }
+    {
+        let locker = &self.lockers[position_of(session)];
+        let likely = locker.likely_parent(resource);
+        self.cells.place_near(likely, parent)
+    }
+
     /// Writes the holders of the resource to the list, by session number.
     pub(crate) fn holders(
         &self,
@@ -135,9 +151,10 @@ impl Desk {
         let status = self
             .cells
             .ask(place, resource, SessionMode { session, mode })?;
+        let newest = self.cells.or_newest(place);
         let locker = &mut self.lockers[position];
         match status {
-            RequestStatus::Granted => locker.hold(resource),
+            RequestStatus::Granted => locker.hold(resource, newest),
             RequestStatus::Waiting => locker.wait_for(Request::Fresh(resource)),
         }
         Ok(status)

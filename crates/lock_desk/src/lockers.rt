@@ -29,6 +29,16 @@ pub struct Locker {
     transaction: Option<Transaction>,
     held: Locks,
     wanted: Option<Request>,
+    trail: Trail,
+}
+
+/// Where the cell of the lock that a session was granted last stood, and that of the lock above it: sessions go down
+/// the tree and along its leaves, so the parent of the next lock is likely one of them. Nothing rests on it.
+#[derive(Clone, Copy, Debug, PartialEq, Eq)]
+pub struct Trail {
+    level: u8,
+    latest: usize,
+    above: usize,
 }
 
 fn resource_of(request: Request) -> Resource
@@ -87,6 +97,11 @@ impl Locker {
             transaction: None,
             held: Locks::new(alloc),
             wanted: None,
+            trail: Trail {
+                level: 0,
+                latest: 0,
+                above: 0,
+            },
         }
     }
 
@@ -177,8 +192,17 @@ impl Locker {
         self.held.make_room()
     }
 
-    /// The session holds one resource more.
-    pub(crate) fn hold(&mut self, resource: Resource)
+    /// Where the cell of the resource's parent is likely to stand.
+    pub(crate) fn likely_parent(&self, resource: Resource) -> usize {
+        if resource.level() > self.trail.level {
+            self.trail.latest
+        } else {
+            self.trail.above
+        }
+    }
+
+    /// The session holds one resource more, whose cell stands at this place.
+    pub(crate) fn hold(&mut self, resource: Resource, place: usize)
         requires kept { IsKeptLocker self.old }
         requires idle { self.old.wanted ≡ None }
         requires new { has_path resource self.old.held.items ≡ false }
@@ -188,6 +212,11 @@ impl Locker {
         ensures standing { standing_of self.new ≡ standing_after_asking true resource (standing_of self.old) }
         ensures kept { IsKeptLocker self.new }
     {
+        self.trail = Trail {
+            level: resource.level(),
+            latest: place,
+            above: self.likely_parent(resource),
+        };
         self.held.push(resource);
     }
 

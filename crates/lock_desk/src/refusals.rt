@@ -13,12 +13,15 @@ use lock_tree::Resource;
 impl Desk {
     /// Whether what the session holds on the parent doesn't cover what the mode needs there.
     fn lacks_parent(&self, session: u16, resource: Resource, mode: Mode) -> bool
+        requires some { 1 ≤ session }
+        requires within { session ≤ vec_len self.now.lockers }
         ensures { result ≡ lacks_need self.now session resource mode }
     {
         let Some(parent) = resource.parent() else {
             return false;
         };
-        let held = match self.held(session, parent) {
+        let place = self.parent_place(session, resource, parent);
+        let held = match self.mode_at(session, place) {
             Some(held) => held,
             None => Mode::NL,
         };
@@ -89,6 +92,8 @@ impl Desk {
         resource: Resource,
         mode: Mode,
     ) -> Option<Why>
+        requires some { 1 ≤ session }
+        requires within { session ≤ vec_len self.now.lockers }
         requires place { IsPlace resource self.now.cells.entries place }
         ensures { result ≡ first_failing (convert_tests self.now session resource mode) }
     {

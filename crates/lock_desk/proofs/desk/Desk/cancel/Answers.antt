@@ -44,7 +44,7 @@ returns-in_default-clause-cancelled c =
     let s = c.args.session in
     let locker = c.index_mut-locker.result.now in
     let none = none-in locker.wanted (sym c.in_default.ensures.resource) in
-    let same : c.cancel.new.self ≡ locker = c.in_default.ensures.value ∙ (λ i. record { transaction = locker.transaction; held = locker.held; wanted = sym none i }) in
+    let same : c.cancel.new.self ≡ locker = c.in_default.ensures.value ∙ (λ i. record locker { wanted = sym none i }) in
     let idle = ap (λ (x : Standing). x.wanted) (standing-here d.lockers.items s locker (within d s c.position_of.ensures c.requires.some c.requires.within) c.index_mut-locker.ensures.value) ∙ sym c.in_default.ensures.resource in
     same-cancelled s d _ c.requires.whole idle refl (ap (set d.lockers.items c.position_of.result) (same ∙ c.index_mut-locker.ensures.value) ∙ set-get_or d.lockers.items c.position_of.result locker) refl
 
@@ -54,7 +54,7 @@ returns-in_default-clause-kept c =
     let s = c.args.session in
     let locker = c.index_mut-locker.result.now in
     let none = none-in locker.wanted (sym c.in_default.ensures.resource) in
-    let same : c.cancel.new.self ≡ locker = c.in_default.ensures.value ∙ (λ i. record { transaction = locker.transaction; held = locker.held; wanted = sym none i }) in
+    let same : c.cancel.new.self ≡ locker = c.in_default.ensures.value ∙ (λ i. record locker { wanted = sym none i }) in
     record {
       whole = same-whole d _ c.requires.whole (ap (set d.lockers.items c.position_of.result) (same ∙ c.index_mut-locker.ensures.value) ∙ set-get_or d.lockers.items c.position_of.result locker) refl;
       lockers = search rules;
