@@ -28,7 +28,7 @@ abbrev one_if : Option Call → ℕ
 one_if o = cond (is_some o) 1 0
 
 -- after an answer
-abbrev answered : Known → ℕ → Reply → Known
+abbrev pub answered : Known → ℕ → Reply → Known
 answered t w reply = record t { front = t.front ++ entry w (asked_at t w) reply ∷ []; opened = set t.opened w None }
 
 -- an answer moves a call from the opened ones into the history

@@ -1,5 +1,6 @@
 pub mod NewSessions
 pub mod Opened
+pub mod Performed
 pub mod Heard
 pub mod Same
 pub mod Room

@@ -1,10 +1,11 @@
 -- What a combiner has in the middle of its pass.
-use Rattle.std.specs.Prelude.{◌≡◌, ◌≢◌, ◌⊎◌, ℕ, ◌+◌, ◌<◌, ◌≤◌, cond, is_some, Option, Some, None, List, [], ◌∷◌, length, slice_set, slice_index_or}
+use Rattle.std.specs.Prelude.{◌≡◌, ◌≢◌, ◌⊎◌, ℕ, ◌+◌, ◌≤◌, cond, is_some, Option, Some, None, List, [], ◌∷◌, ◌++◌, length, map, slice_set, slice_index_or}
 use Rattle.lock_rules.specs.declared.calls.Call.{Call}
-use Rattle.lock_rules.specs.Legal.{IsLegal, calls_of}
+use Rattle.lock_rules.specs.declared.calls.Entry.{Entry}
+use Rattle.lock_rules.specs.Legal.{calls_of}
 use Rattle.lock_desk.specs.declared.batch.Item.{Item}
 use Rattle.lock_desk.specs.Kept.{Told}
-use Rattle.lock_desk.specs.Batches.{IsItemWithin}
+use Rattle.lock_desk.specs.Batches.{IsItemWithin, item_of}
 use Rattle.publication.specs.Views.{Known}
 use Rattle.publication.specs.Boards.{opened_at, heard_from, published_by}
 use Rattle.publication.specs.List.{IsOn, behind}
@@ -52,8 +53,10 @@ pub record IsSameSession (before after : Known) : Type 0 where
   pub same : after ≡ record before { front = after.front; opened = after.opened; route = after.route }
   pub wide : length after.opened ≡ length before.opened
 
--- the book in the combiner's hand is of these sessions, and its history is the one that the combiner knows
-pub record IsBookInHand (sessions : ℕ) (book : Told) (t : Known) : Type 0 where
+-- the book in the combiner's hand is of these sessions. Its history is the one that the combiner knows and, behind it, the entries
+-- of the calls that are performed and not answered yet: those of these items, in their order, with their replies
+pub record IsBookInHand (sessions : ℕ) (book : Told) (t : Known) (unanswered : List Item) : Type 0 where
   pub sessions_are : book.sessions ≡ sessions
-  pub history : book.history ≡ t.front
-  pub legal : IsLegal t.front
+  pub entries : List Entry
+  pub performed : unanswered ≡ map item_of entries
+  pub history : book.history ≡ t.front ++ entries

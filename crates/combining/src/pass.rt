@@ -1,16 +1,15 @@
 //! A pass: the combiner walks the publication list, opens the records where a call is posted, performs the calls and answers them.
 
-ghost use Rattle.std.specs.Prelude.{◌≡◌, ◌≢◌, ◌+◌, ◌<◌, ◌≤◌, true, false, Some, None, OnOk, OnErr, length, drop, slice_set, vec_len, vec_capacity};
+ghost use Rattle.std.specs.Prelude.{◌≡◌, ◌≢◌, ◌+◌, ◌<◌, ◌≤◌, [], true, false, Some, None, length, take, drop, vec_len, vec_capacity, All};
 ghost use mathlib.Core.List.{IsPrefix};
 ghost use Rattle.lock_rules.specs.Legal.{IsLegal, calls_of};
 ghost use Rattle.lock_desk.specs.Batches.{IsItemWithin};
-ghost use Rattle.publication.specs.Boards.{IsOf, IsNumber, OpensNone, opened_at, heard_from, published_by};
+ghost use Rattle.publication.specs.Boards.{IsOf, IsNumber, OpensNone, heard_from, published_by};
 ghost use Rattle.publication.specs.Rule.{IsHome};
 ghost use Rattle.combining.specs.Passes.{AreOpened, HasCalls, KeepsCalls, IsVisited, HasVisitedOpened, IsSameSession, IsBookInHand};
 
 use crate::clean_up::{clean_up, note_served};
-use lock_desk::{Book, Call, Item, NoMemory};
-use lock_rules::laws;
+use lock_desk::{Book, Call, Item};
 use publication::{Board, Load, Ticket};
 
 /// What a pass came to.
@@ -106,53 +105,48 @@ fn open_records(board: &Board, session: &mut Ticket, row: &mut Vec<Item>)
     open_record(board, session, row, &mut givers, session.number());
 }
 
-/// Performs a call that is opened, and answers it. `NoMemory`: it is still opened, and nothing is changed.
-fn serve_item(
-    board: &Board,
-    session: &mut Ticket,
-    book: &mut Book,
-    item: &Item,
-) -> Result<(), NoMemory>
+/// Answers the first calls of the row, in their order, each with the reply in its item: those that are performed.
+fn answer_row(board: &Board, session: &mut Ticket, book: &Book, row: &[Item], served: usize)
     requires ours { IsOf board.now session.old × (session.old.has_book ≡ true) }
-    requires book { IsBookInHand board.now.sessions book.old session.old }
-    requires item { IsItemWithin board.now.sessions item.now × (opened_at session.old item.now.session ≡ Some item.now.call) }
-    ensures session { IsSameSession session.old session.new }
-    ensures book { IsBookInHand board.now.sessions book.new session.new }
-    ensures longer { IsPrefix session.old.front session.new.front }
-    ensures answered { OnOk result (session.new.opened ≡ slice_set session.old.opened item.now.session None) }
-    ensures entry { OnOk result (length session.new.front ≡ length session.old.front + 1) }
-    ensures calls { KeepsCalls session.old session.new }
-    ensures err { OnErr result (session.new ≡ session.old) }
-{
-    laws::histories_are_legal_by_steps();
-    let asked = *item;
-    let reply = book.serve(asked.session, asked.call)?;
-    // a vector's length fits into 64 bits, so the history has room for this entry
-    let _length = book.history().len();
-    board.answer(session, asked.session, reply);
-    Ok(())
-}
-
-/// Serves the calls of the row, one after another, each answered before the next, until memory is refused for one: how
-/// many it served.
-fn serve_row(board: &Board, session: &mut Ticket, book: &mut Book, row: &[Item]) -> usize
-    requires ours { IsOf board.now session.old × (session.old.has_book ≡ true) }
-    requires book { IsBookInHand board.now.sessions book.old session.old }
+    requires served { served ≤ length row.now }
+    requires book { IsBookInHand board.now.sessions book.now session.old (take served row.now) }
     requires row { AreOpened board.now.sessions session.old.opened row.now }
     ensures session { IsSameSession session.old session.new }
-    ensures book { IsBookInHand board.now.sessions book.new session.new }
-    ensures row { AreOpened board.now.sessions session.new.opened (drop result row.now) }
+    ensures book { IsBookInHand board.now.sessions book.now session.new [] }
+    ensures row { AreOpened board.now.sessions session.new.opened (drop served row.now) }
     ensures longer { IsPrefix session.old.front session.new.front }
-    ensures served { (result ≤ length row.now) × (length session.new.front ≡ length session.old.front + result) }
+    ensures legal { IsLegal session.new.front }
+    ensures entries { length session.new.front ≡ length session.old.front + served }
     ensures calls { KeepsCalls session.old session.new }
 {
-    let mut served = 0;
-    for item in row {
-        if serve_item(board, session, book, item).is_err() {
-            break;
-        }
-        served += 1;
+    // a vector's length fits into 64 bits, so the history has room for these entries
+    let _length = book.history().len();
+    for item in &row[..served] {
+        let Some(reply) = item.reply else {
+            unreachable!()
+        };
+        board.answer(session, item.session, reply);
     }
+}
+
+/// Performs the calls of the row as one batch, until memory is refused for one, and then answers those that it performed, in
+/// their order: how many they are. Until then the book is ahead of the history.
+fn serve_row(board: &Board, session: &mut Ticket, book: &mut Book, row: &mut Vec<Item>) -> usize
+    requires ours { IsOf board.now session.old × (session.old.has_book ≡ true) }
+    requires book { IsBookInHand board.now.sessions book.old session.old [] }
+    requires row { AreOpened board.now.sessions session.old.opened row.old.items }
+    ensures session { IsSameSession session.old session.new }
+    ensures book { IsBookInHand board.now.sessions book.new session.new [] }
+    ensures row { AreOpened board.now.sessions session.new.opened (drop result row.new.items) }
+    ensures within { All (IsItemWithin board.now.sessions) row.new.items }
+    ensures room { (vec_len row.new ≡ vec_len row.old) × (vec_capacity row.new ≡ vec_capacity row.old) }
+    ensures longer { IsPrefix session.old.front session.new.front }
+    ensures legal { IsLegal session.new.front }
+    ensures served { (result ≤ vec_len row.new) × (length session.new.front ≡ length session.old.front + result) }
+    ensures calls { KeepsCalls session.old session.new }
+{
+    let served = book.serve_batch(row.as_mut_slice());
+    answer_row(board, session, book, row.as_slice(), served);
     served
 }
 
@@ -182,7 +176,7 @@ pub(crate) fn serve_published(board: &Board, session: &mut Ticket, load: &mut Lo
 {
     load.passes = load.passes.saturating_add(1);
     open_records(board, session, &mut load.row);
-    let served = serve_row(board, session, &mut load.book, load.row.as_slice());
+    let served = serve_row(board, session, &mut load.book, &mut load.row);
     put_back_row(board, session, &load.row[served..]);
     let starved = served < load.row.len();
     note_served(&mut load.ages, &load.row[..served], load.passes);

@@ -5,7 +5,7 @@ use Rattle.lock_desk.specs.declared.batch.Item.{Item}
 use Rattle.lock_desk.specs.Batches.{IsItemWithin}
 use Rattle.publication.specs.Views.{Known}
 use Rattle.combining.proofs.Same.{same_session-trans, same_session-none}
-use Rattle.combining.proofs.Cleaning.{row-within, first-within}
+use Rattle.combining.proofs.Cleaning.{first-within}
 use Rattle.combining.proofs.pass.serve_published.Goals as goal
 
 pub returns-clause-session : goal.returns-clause-session
@@ -25,9 +25,9 @@ returns-clause-session c =
 pub note_served-requires : goal.note_served-requires
 note_served-requires c =
     let n = c.args.board.now.sessions in
-    let row = c.open_records.new.row.items in
+    let row = c.serve_row-served.new.row.items in
     let served = c.serve_row-served.result in
-    let all : All (IsItemWithin n) (take served row) = first-within n served row (row-within n c.open_records.new.session.opened row c.open_records.ensures.row) in
+    let all : All (IsItemWithin n) (take served row) = first-within n served row c.serve_row-served.ensures.within in
     let ages : n ≡ vec_len c.args.load.now.ages = search rules in
     let slice : row ≡ c.deref-2.result.now = search rules in
     record { within = subst (λ (l : List Item). All (IsItemWithin (vec_len c.args.load.now.ages)) (take served l)) slice (subst (λ (m : ℕ). All (IsItemWithin m) (take served row)) ages all) }

@@ -1,0 +1,36 @@
+use Rattle.std.proofs.Common.{rules, take, refl}
+use Rattle.publication.proofs.Lists.{prefix_trans}
+use Rattle.combining.proofs.Heard.{answered, keeps-trans}
+use Rattle.combining.proofs.Performed.{answerable-at, answered-at}
+use Rattle.combining.proofs.pass.answer_row.Goals as goal
+
+pub unreachable-requires : goal.unreachable-requires
+unreachable-requires c =
+    let row = take c.args.served c.args.row.now in
+    let next = answerable-at c.args.board.now.sessions c.args.book.now c.loop-item.session row c.loop-item.item-index c.item-item.result c.loop-item-test.true c.item-item.is c.history-length.ensures.legal c.loop-item.invariant.book in
+    c.in_default.not-Some next.reply next.told
+
+pub answer-requires-clause-legal : goal.answer-requires-clause-legal
+answer-requires-clause-legal c =
+    let t = c.loop-item.session in
+    let i = c.item-item.result in
+    (answered-at c.args.board.now.sessions c.args.book.now t (answered t i.session c.in-Some.reply) c.args.row.now c.args.served c.loop-item.item-index i c.in-Some.reply
+    c.requires.served c.loop-item-test.true c.item-item.is c.in-Some.is c.history-length.ensures.legal c.loop-item.invariant.book c.loop-item.invariant.row refl).legal
+
+pub loop-item-preserved : goal.loop-item-preserved
+loop-item-preserved c =
+    let before = c.args.session.now in
+    let t = c.loop-item.session in
+    let u = c.answer.new.ticket in
+    let i = c.loop-item.invariant in
+    let next = answered-at c.args.board.now.sessions c.args.book.now t u c.args.row.now c.args.served c.loop-item.item-index c.item-item.result c.in-Some.reply
+    c.requires.served c.loop-item-test.true c.item-item.is c.in-Some.is c.history-length.ensures.legal i.book i.row c.answer.ensures.ticket in
+    record {
+      same = search rules;
+      short = i.short;
+      book = next.book_is;
+      row = next.row_is;
+      longer = prefix_trans before.front t.front u.front i.longer next.longer;
+      entries = search rules;
+      calls = keeps-trans before t u i.calls next.calls;
+    }
