@@ -1,14 +1,13 @@
 -- The walk of a clean-up, one record further.
-use Rattle.std.proofs.Common.{◌≡◌, ◌≢◌, ◌⊎◌, inl, inr, ⊎_elim, ℕ, zero, suc, ◌+◌, ◌<◌, ◌≤◌, Bool, cond, Option, Some, None, List, [], ◌∷◌, ◌++◌, length, take, get_or, set, refl, sym, ap, ◌∙◌, subst, arith, eq-eqb, ne_eqb}
+use Rattle.std.proofs.Common.{◌≡◌, inl, inr, ℕ, zero, suc, ◌+◌, ◌<◌, Bool, cond, Some, None, List, [], ◌∷◌, ◌++◌, length, take, set, refl, sym, ap, ◌∙◌, subst, arith, eq-eqb, ne_eqb}
 use Rattle.std.specs.Prelude.{All}
-use Rattle.lock_rules.specs.declared.calls.Call.{Call}
 use Rattle.lock_desk.specs.declared.batch.Item.{Item}
 use Rattle.lock_desk.specs.Batches.{IsItemWithin}
 use Rattle.publication.specs.Views.{Placed}
 use Rattle.publication.specs.Boards.{IsNumber}
 use Rattle.publication.specs.List.{IsOn, AreApart, first_of, behind, without}
 use Rattle.publication.specs.Kinds.{IsRoute}
-use Rattle.publication.proofs.Chains.{on_right, IsSplit, splits, apart_front, apart_two}
+use Rattle.publication.proofs.Chains.{on_right, splits, apart_front}
 use Rattle.publication.proofs.Routes.{on_behind}
 use Rattle.combining.specs.Passes.{AreOpened}
 use Rattle.combining.proofs.Opened.{Calls}

@@ -1,5 +1,5 @@
 -- What an office asks of the sessions that are handed in, and what a board asks of its tickets.
-use Rattle.std.proofs.Common.{◌≡◌, List}
+use Rattle.std.proofs.Common.{List}
 use Rattle.std.specs.Prelude.{All}
 use Rattle.publication.specs.Views.{Placed, Known}
 use Rattle.publication.specs.Boards.{IsSettled}

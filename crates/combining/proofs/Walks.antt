@@ -1,11 +1,11 @@
 -- A walk along its route: what is ahead, and what was visited.
-use Rattle.std.proofs.Common.{◌≡◌, ◌≢◌, ◌⊎◌, inl, inr, ⊎_elim, ℕ, ◌+◌, ◌<◌, ◌==◌, Bool, true, false, cond, Option, Some, None, List, [], ◌∷◌, length, refl, sym, ap, ◌∙◌, subst, arith, eq-eqb, ne_eqb}
+use Rattle.std.proofs.Common.{◌≡◌, ◌≢◌, inl, inr, ⊎_elim, ℕ, ◌<◌, Bool, cond, Option, Some, List, [], ◌∷◌, length, refl, sym, ap, ◌∙◌, subst, arith, eq-eqb, ne_eqb}
 use mathlib.Core.Logic.{dite}
 use native.Mathlib.Decide.{ℕ_discrete}
 use Rattle.publication.specs.Views.{Known}
 use Rattle.publication.specs.List.{IsOn, AreApart, first_of, behind}
 use Rattle.publication.proofs.Routes.{on_behind}
-use Rattle.combining.specs.Passes.{KeepsCalls, IsVisited, IsSameSession, ahead, IsNext, HasMet}
+use Rattle.combining.specs.Passes.{IsVisited, ahead, IsNext, HasMet}
 
 -- what follows the first record, and any other
 behind-first : (x : ℕ) (xs : List ℕ) → behind x (x ∷ xs) ≡ xs

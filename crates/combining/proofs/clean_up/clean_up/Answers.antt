@@ -1,8 +1,6 @@
-use Rattle.std.proofs.Common.{rules, ◌≡◌, ◌≤◌, ◌+◌, ◌∙◌, ℕ, Option, Some, None, List, inl, refl, sym, ap, subst, arith}
+use Rattle.std.proofs.Common.{◌≡◌, ◌∙◌, ℕ, List, refl, sym, ap, subst, arith}
 use Rattle.publication.specs.Views.{Known}
-use Rattle.publication.specs.Boards.{IsNumber}
 use Rattle.publication.specs.List.{IsOn, first_of, behind}
-use Rattle.publication.specs.Kinds.{IsRoute}
 use Rattle.combining.proofs.Cleaning.{next-number, first-number}
 use Rattle.combining.proofs.clean_up.clean_up.Goals as goal
 

@@ -1,9 +1,8 @@
-use Rattle.std.proofs.Common.{rules, ◌≡◌, ◌≤◌, ◌+◌, ◌∙◌, ℕ, Option, Some, List, vec_len, vec_capacity, sym, ap, subst, arith}
+use Rattle.std.proofs.Common.{◌≡◌, ◌+◌, ◌∙◌, ℕ, Option, List, sym, ap, subst, arith}
 use Rattle.publication.specs.Views.{Known}
-use Rattle.publication.specs.Boards.{IsNumber}
 use Rattle.publication.specs.List.{IsOn, first_of, behind}
 use Rattle.publication.specs.Kinds.{IsRoute}
-use Rattle.combining.specs.Passes.{AreOpened, KeepsCalls, HasVisitedOpened, IsVisited, IsSameSession, ahead, IsNext, HasMet}
+use Rattle.combining.specs.Passes.{AreOpened, KeepsCalls, HasVisitedOpened, IsSameSession, IsNext, HasMet}
 use Rattle.combining.proofs.Heard.{visited-later, keeps-trans}
 use Rattle.combining.proofs.Same.{same_session-trans}
 use Rattle.combining.proofs.Walks.{met-next, next-on, ahead-smaller}
