@@ -1,7 +1,6 @@
 -- The row of the calls that are opened, with one call more or one fewer.
 use Rattle.std.proofs.Common.{◌≡◌, ◌≢◌, ℕ, zero, suc, ◌<◌, Option, Some, None, List, [], ◌∷◌, ◌++◌, length, get_or, set, take, drop, sym, ap, ◌∙◌, subst, arith, get_or-set_other, get_or-set_same}
 use Rattle.std.proofs.lemmas.List.{length-set, set-set, set-get_or, set_comm, ext_get_or}
-use Rattle.std.proofs.Math.Seq.{drop-cons}
 use Rattle.lock_rules.specs.declared.calls.Call.{Call}
 use Rattle.lock_desk.specs.declared.batch.Item.{Item}
 use Rattle.lock_desk.specs.Batches.{IsItemWithin}
@@ -46,11 +45,6 @@ pub opened-in_range : (l : Calls) (w : ℕ) (c : Call) → get_or (set l w (Some
 opened-in_range [] w c e = absurd (cc e)
 opened-in_range (x ∷ xs) zero c e = omega arith
 opened-in_range (x ∷ xs) (suc w) c e = omega (arith, opened-in_range xs w c e)
-
--- the next item of the row, and the items behind it
-pub opened-next : (n : ℕ) (l : Calls) (row : List Item) (k : ℕ) (d : Item) → k < length row → AreOpened n l (drop k row)
-    → AreOpened n l (get_or row k d ∷ drop (suc k) row)
-opened-next n l row k d h all = subst (AreOpened n l) (drop-cons row k d h) all
 
 -- where nothing is opened any more, nothing is as before
 pub none-opened : (l m : Calls) → length l ≡ length m → ((j : ℕ) → get_or l j None ≡ None) → ((j : ℕ) → get_or m j None ≡ None) → l ≡ m

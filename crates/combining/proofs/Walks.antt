@@ -14,14 +14,6 @@ behind-first x xs = ap (λ (b : Bool). cond b xs (behind x xs)) (eq-eqb x x refl
 behind-other : (q x : ℕ) (xs : List ℕ) → q ≢ x → behind q (x ∷ xs) ≡ behind q xs
 behind-other q x xs ne = ap (λ (b : Bool). cond b xs (behind q xs)) (ne_eqb q x ne)
 
-pub ahead-first : (route : List ℕ) → ahead (first_of route) route ≡ route
-ahead-first [] = refl
-ahead-first (x ∷ xs) = ap (λ (l : List ℕ). x ∷ l) (behind-first x xs)
-
-pub first-next : (route : List ℕ) → IsNext (first_of route) route
-first-next [] = tt
-first-next (x ∷ xs) = inl refl
-
 behind-next : (q b : ℕ) (route ys : List ℕ) → AreApart route → behind q route ≡ b ∷ ys → behind b route ≡ ys
 behind-next q b [] ys apart is = absurd (cc is)
 behind-next q b (x ∷ xs) ys apart is = dite (ℕ_discrete q x)
@@ -47,9 +39,6 @@ next-on q route = by_rest (behind q route) (λ p on. on_behind p q route on)
     by_rest : (l : List ℕ) → ((p : ℕ) → IsOn p l → IsOn p route) → IsNext (first_of l) route
     by_rest [] all = tt
     by_rest (b ∷ ys) all = all b (inl refl)
-
-pub met-first : (t : Known) → HasMet (first_of t.route) t
-met-first t j on = inl (subst (λ (l : List ℕ). IsOn j l) (sym (ahead-first t.route)) on)
 
 pub met-next : (q : ℕ) (t u : Known) → AreApart t.route → u.route ≡ t.route → ((j : ℕ) → IsVisited j t → IsVisited j u) → IsVisited q u → HasMet (Some q) t → HasMet (first_of (behind q t.route)) u
 met-next q t u apart same later here met j on =
