@@ -11,6 +11,8 @@ pub mod CellTable
 pub mod Places
 -- a lock or a request is given up in its cell
 pub mod CellGivesUp
+-- codes of several modes in one byte
+pub mod Codes
 -- the lockers
 -- a grant in the lockers; lists of resources
 pub mod LockerStandings
@@ -66,5 +68,9 @@ pub mod FewRequests
 -- the book
 -- what a book keeps
 pub mod BookInvariant
+-- runs of locks: what their items may be granted by
+pub mod RunItems
+-- one lock of a run is granted
+pub mod Granting
 -- a batch, one item further
 pub mod Batches

@@ -10,7 +10,7 @@ use Rattle.indexmap.proofs.CallerLemmas.{updates-with_value_at}
 use Rattle.lock_tree.specs.Paths.{same_path}
 use Rattle.lock_rules.proofs.Lists.{same_path-refl, same_path-true, same_path_tells}
 use Rattle.lock_desk.specs.declared.cells.Cell.{Cell}
-use Rattle.lock_desk.specs.Cells.{View, view_of, Cells, cell_at, CellsBecame, AreKeptCells, IsKeptCell, IsCellAt, IsPlace}
+use Rattle.lock_desk.specs.Cells.{View, view_of, Cells, cell_at, CellsBecame, AreKeptCells, IsKeptCell, IsCellAt, IsPlace, HasRoomFor, HasRoomAt}
 use Rattle.lock_desk.proofs.CellTable.{found, became, became-view}
 
 -- to be the same is an equivalence
@@ -91,6 +91,10 @@ module _ (eq : List ℕ → List ℕ → Bool) (same : (a b : List ℕ) → eq a
     pub there : Some x ≡ cell_at r cs
     there = ap Some (sym same-read) ∙ sym at.found
 
+    -- it has the room that there is at the place
+    pub room-there : (n : ℕ) → HasRoomAt cs i n → HasRoomFor n x
+    room-there n h = subst (HasRoomFor n) same-read (h r at.cell at.entry)
+
     module _ (c : Cell) where
       pub as-long : length (set_value_at m.entries i c) ≡ length m.entries
       as-long = length-written m.entries i c
@@ -110,3 +114,15 @@ module _ (eq : List ℕ → List ℕ → Bool) (same : (a b : List ℕ) → eq a
 
       pub wrote-kept : IsUnique eq m → (v : View) → AreKeptCells cs → IsKeptCell c → view_of c ≡ v → CellsBecame r v cs (set_value_at m.entries i c)
       wrote-kept unique v k kept h = became-view r (view_of c) v cs (set_value_at m.entries i c) h (became same_path (λ a b. refl) r (Some c) cs (set_value_at m.entries i c) k kept (wrote unique))
+
+      -- the resource's cell stands where it stood
+      pub still-at : IsUnique eq m → IsCellAt r (set_value_at m.entries i c) i
+      still-at unique = record {
+        cell = c;
+        entry = written-entry;
+        found = wrote unique r ∙ ap (λ (b : Bool). cond b (Some c) (cell_at r cs)) (same_path-refl r);
+      }
+
+      -- with the room of what is written
+      pub room-written : (n : ℕ) → HasRoomFor n c → HasRoomAt (set_value_at m.entries i c) i n
+      room-written n h = λ q y e. subst (HasRoomFor n) (written-cell q y e) h

@@ -1,11 +1,12 @@
 -- Private parts speak to one another here, and no public contract of this crate: what
 -- the cells say of a resource, and what is done there.
-use Rattle.std.specs.Prelude.{◌≡◌, ℕ, ◌+◌, ◌<◌, ◌≤◌, Bool, true, false, not, ◌&&◌, ◌||◌, if◌then◌else◌, ◌==◌, nat_lt, List, [], ◌∷◌, ◌++◌, filter, map, length, slice_get, slice_index_or, Option, Some, None, IfSome, vec_len, vec_capacity}
+use Rattle.std.specs.Prelude.{◌≡◌, ℕ, ◌+◌, ◌<◌, ◌≤◌, Bool, true, false, not, ◌&&◌, ◌||◌, if◌then◌else◌, ◌==◌, nat_lt, List, [], ◌∷◌, ◌++◌, filter, map, length, slice_get, slice_index_or, Option, Some, None, IfSome, vec_len, vec_capacity, bit_or}
 use Rattle.std.specs.List.{All, list_any, list_all}
 use Rattle.std.specs.Map.{lookup}
 use Rattle.std.specs.Global.{Vec}
 use Rattle.lock_modes.specs.declared.Mode.{Mode}
 use Rattle.lock_modes.specs.Compatibility.{are_compatible}
+use Rattle.lock_modes.specs.Codes.{code_of}
 use Rattle.lock_tree.specs.Paths.{same_path}
 use Rattle.lock_rules.specs.Sound.{ascend}
 use Rattle.lock_desk.specs.declared.cells.SessionMode.{SessionMode}
@@ -103,9 +104,22 @@ abbrev pub is_nobody : List SessionMode → Bool
 is_nobody [] = true
 is_nobody (c ∷ cs) = false
 
+-- the bits of their modes' codes
+abbrev pub codes_among : List SessionMode → ℕ
+codes_among [] = 0
+codes_among (h ∷ hs) = bit_or (code_of h.mode) (codes_among hs)
+
+-- those of the holders, where nobody waits
+abbrev pub codes_unless_waited : View → Option ℕ
+codes_unless_waited v = if is_nobody v.waiting then Some (codes_among v.holders) else None
+
 -- a session is granted a mode at once where it fits, and it is a holder or nobody waits
 abbrev pub can_grant : SessionMode → View → Bool
 can_grant c v = fits_among c v.holders && (has_session c.session v.holders || is_nobody v.waiting)
+
+-- what there is once a session holds it too
+abbrev pub view_with_holder : SessionMode → View → View
+view_with_holder c v = record { holders = with_holder c v.holders; waiting = v.waiting }
 
 -- whether that is what an answer says
 abbrev pub is_granted : RequestStatus → Bool
@@ -133,6 +147,10 @@ view_of c = record { holders = c.holders.items; waiting = c.waiting.items }
 -- each holder and each waiting session has room among the holders
 abbrev pub HasRoom : Cell → Type 0
 HasRoom c = vec_len c.holders + vec_len c.waiting ≤ vec_capacity c.holders
+
+-- and so many more have it too
+abbrev pub HasRoomFor : ℕ → Cell → Type 0
+HasRoomFor n c = vec_len c.holders + vec_len c.waiting + n ≤ vec_capacity c.holders
 
 -- holders stand by session number, no session waits for it twice, and sessions are numbered from 1
 pub record IsOnce (v : View) : Type 0 where
@@ -204,6 +222,10 @@ pub record IsCellAt (r : List ℕ) (cs : Cells) (i : ℕ) : Type 0 where
 abbrev pub IsPlace : List ℕ → Cells → Option ℕ → Type 0
 IsPlace r cs None = cell_at r cs ≡ None
 IsPlace r cs (Some i) = IsCellAt r cs i
+
+-- the cell at this place has room for so many holders more
+abbrev pub HasRoomAt : Cells → ℕ → ℕ → Type 0
+HasRoomAt cs i n = (r : List ℕ) (c : Cell) → slice_get cs i ≡ Some (r, c) → HasRoomFor n c
 
 -- what contracts see of the table: the cells in use
 pub record Table : Type 0 where

@@ -11,4 +11,5 @@ pub mod Changes
 pub mod Finding
 pub mod Ready
 pub mod Shows
+pub mod Runs
 pub mod Invariant

@@ -1,6 +1,6 @@
 //! The book: the desk with its history.
 
-ghost use Rattle.std.specs.Prelude.{◌≡◌, ℕ, ◌+◌, ◌<◌, ◌≤◌, List, [], ◌∷◌, ◌++◌, length, map, take, drop, IfOk, OnOk, OnErr};
+ghost use Rattle.std.specs.Prelude.{◌≡◌, ℕ, false, ◌+◌, ◌<◌, ◌≤◌, List, [], ◌∷◌, ◌++◌, length, map, take, drop, IfOk, OnOk, OnErr};
 ghost use Rattle.std.specs.List.{All};
 ghost use Rattle.lock_rules.specs.State.{held_mode, holders};
 ghost use Rattle.lock_rules.specs.Step.{step};
@@ -10,9 +10,12 @@ ghost use Rattle.lock_rules.specs.Laws.{DoesGrantStand, DoesDoomStand, DoesReque
 ghost use Rattle.lock_rules.specs.Lawful.{IsLawfulState};
 ghost use Rattle.lock_desk.specs.Batches.{IsItemWithin, entries_from, item_of};
 ghost use Rattle.lock_desk.specs.Kept.{IsEntryWithin};
+ghost use Rattle.lock_desk.specs.Runs.{AreServed};
+ghost use Rattle.lock_desk.specs.declared.batch.Item.{Item as ItemValue};
 
 use crate::batch::Item;
 use crate::desk::Desk;
+use crate::runs::grant_run;
 use lock_modes::Mode;
 use lock_rules::{Call, Entry, MAX_SESSIONS, Reply, laws};
 use lock_tree::Resource;
@@ -28,6 +31,13 @@ pub struct Book {
     sessions: u16,
     desk: Desk,
     history: Vec<Entry>,
+}
+
+/// How far a batch is served, and whether memory was refused for the next item.
+#[derive(Clone, Copy)]
+struct Progress {
+    served: usize,
+    starved: bool,
 }
 
 impl Model for Book {
@@ -146,13 +156,63 @@ impl Book {
     {
         let mut served = 0;
         while served < items.len() {
-            let asked = items[served];
-            let Ok(reply) = self.serve(asked.session, asked.call) else {
+            let progress = self.serve_next(items, served);
+            served = progress.served;
+            if progress.starved {
                 break;
-            };
-            items[served].reply = Some(reply);
-            served += 1;
+            }
         }
         served
+    }
+
+    /// Serves these items, one after another.
+    fn serve_each(&mut self, items: &mut [Item], from: usize, upto: usize) -> Progress
+        requires within { All (IsItemWithin self.old.sessions) items.old }
+        requires some { from < upto }
+        requires few { upto ≤ length items.old }
+        ensures sessions { self.new.sessions ≡ self.old.sessions }
+        ensures within { All (IsItemWithin self.new.sessions) items.new }
+        ensures further { result.starved ≡ false → from < result.served }
+        ensures served { (batch : List ItemValue) (start : List EntryValue) → AreServed from batch start self.old.history items.old
+            → AreServed result.served batch start self.new.history items.new }
+    {
+        for served in from..upto {
+            let asked = items[served];
+            let Ok(reply) = self.serve(asked.session, asked.call) else {
+                return Progress {
+                    served,
+                    starved: true,
+                };
+            };
+            items[served].reply = Some(reply);
+        }
+        Progress {
+            served: upto,
+            starved: false,
+        }
+    }
+
+    /// Serves the run of locks that begins at this item, all at once where its modes go together and memory is there, or else
+    /// one after another; or this item alone, where it begins no run.
+    fn serve_next(&mut self, items: &mut [Item], from: usize) -> Progress
+        requires within { All (IsItemWithin self.old.sessions) items.old }
+        requires some { from < length items.old }
+        ensures sessions { self.new.sessions ≡ self.old.sessions }
+        ensures within { All (IsItemWithin self.new.sessions) items.new }
+        ensures further { result.starved ≡ false → from < result.served }
+        ensures served { (batch : List ItemValue) (start : List EntryValue) → AreServed from batch start self.old.history items.old
+            → AreServed result.served batch start self.new.history items.new }
+    {
+        let Some(run) = self.desk.run_at(items, from) else {
+            return self.serve_each(items, from, from + 1);
+        };
+        let upto = run.upto;
+        if grant_run(&mut self.desk, &mut self.history, items, from, &run) {
+            return Progress {
+                served: upto,
+                starved: false,
+            };
+        }
+        self.serve_each(items, from, upto)
     }
 }

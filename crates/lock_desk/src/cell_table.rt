@@ -1,12 +1,12 @@
 //! The table of cells: where a resource's cell stands is found once a call, and an idle cell is kept for the next resource.
 
-ghost use Rattle.std.specs.Prelude.{◌≡◌, ℕ, ◌+◌, ◌<◌, ◌≤◌, ◌^◌, false, List, [], ◌∷◌, None, Some, if◌then◌else◌, slice_get, IfOk, OnOk, OnErr, vec_len};
+ghost use Rattle.std.specs.Prelude.{◌≡◌, ℕ, ◌+◌, ◌<◌, ◌≤◌, ◌^◌, true, false, List, [], ◌∷◌, None, Some, if◌then◌else◌, slice_get, IfOk, OnOk, OnErr, vec_len};
 ghost use Rattle.std.specs.List.{All};
 ghost use Rattle.std.specs.Option.{option_copied};
 ghost use Rattle.indexmap.specs.IndexMap.{index_map_len};
 ghost use Rattle.lock_tree.specs.Paths.{same_path};
 ghost use Rattle.lock_desk.specs.declared.cells.Cell.{Cell as CellValue};
-ghost use Rattle.lock_desk.specs.Cells.{no_view, view_of, has_session, mode_of, can_grant, is_granted, AreKeptCells, cell_at, cell_view, view_after_asking, view_after_giving_up, view_after_freeing, CellsBecame, ViewBecame, IsPlace, HasSpare};
+ghost use Rattle.lock_desk.specs.Cells.{no_view, view_of, has_session, mode_of, can_grant, is_granted, AreKeptCells, cell_at, cell_view, view_after_asking, view_after_giving_up, view_after_freeing, CellsBecame, ViewBecame, IsPlace, HasSpare, is_nobody, codes_unless_waited, view_with_holder, HasRoomAt};
 ghost use Rattle.lock_desk.specs.Lockers.{standings_of, IsKeptLocker, AreSameOrGranted, DoAgree};
 
 use crate::cells::{Cell, Part, RequestStatus, SessionMode};
@@ -239,5 +239,51 @@ impl CellTable {
     {
         let place = self.place_of(resource);
         self.free_at(lockers, session, place, resource, part);
+    }
+
+    /// The bits of the codes of those who hold the resource whose place this is, where nobody waits for it.
+    pub(crate) fn codes_at(&self, place: usize) -> Option<u8>
+        ensures { (r : List ℕ) → IsPlace r self.now.entries (Some place) → result ≡ codes_unless_waited (cell_view r self.now.entries) }
+    {
+        let (_, cell) = self.cells.get_index(place)?;
+        cell.codes_unless_waited()
+    }
+
+    /// Makes room for so many holders more of the resource whose place this is, where nobody waits for it.
+    pub(crate) fn make_room_at(
+        &mut self,
+        place: usize,
+        resource: Resource,
+        more: usize,
+    ) -> Result<(), AllocError>
+        requires kept { AreKeptCells self.old.entries }
+        requires place { IsPlace resource self.old.entries (Some place) }
+        requires quiet { is_nobody (cell_view resource self.old.entries).waiting ≡ true }
+        ensures same { ViewBecame resource (λ v. v) self.old.entries self.new.entries }
+        ensures place { IsPlace resource self.new.entries (Some place) }
+        ensures room { OnOk result (HasRoomAt self.new.entries place more) }
+    {
+        same_path_is_equality();
+        // The length is what says that no resource stands twice.
+        let _len = self.cells.len();
+        let cell = &mut self.cells[place];
+        cell.make_room(more)
+    }
+
+    /// One session more holds the resource whose place this is, for which there is room.
+    pub(crate) fn grant_at(&mut self, place: usize, resource: Resource, holder: SessionMode)
+        requires some { 1 ≤ holder.session }
+        requires kept { AreKeptCells self.old.entries }
+        requires place { IsPlace resource self.old.entries (Some place) }
+        requires room { HasRoomAt self.old.entries place 1 }
+        ensures granted { ViewBecame resource (view_with_holder holder) self.old.entries self.new.entries }
+        ensures place { IsPlace resource self.new.entries (Some place) }
+        ensures room { (n : ℕ) → HasRoomAt self.old.entries place (n + 1) → HasRoomAt self.new.entries place n }
+    {
+        same_path_is_equality();
+        // The length is what says that no resource stands twice.
+        let _len = self.cells.len();
+        let cell = &mut self.cells[place];
+        cell.grant(holder);
     }
 }

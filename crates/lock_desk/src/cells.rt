@@ -5,7 +5,7 @@ ghost use Rattle.std.specs.Option.{option_copied};
 ghost use Rattle.waits_for.specs.Pairs.{pairs_of};
 ghost use Rattle.lock_tree.specs.Paths.{same_path};
 ghost use Rattle.lock_desk.specs.declared.cells.SessionMode.{SessionMode as SessionModeValue};
-ghost use Rattle.lock_desk.specs.Cells.{View, no_view, view_of, has_session, mode_of, pair_of, with_holder, view_after_giving_up, without, fits_among, go_with, Ascends, AreLesser, AreOthers, next_grant, can_grant, is_granted, behind_conversions, queue_with, view_after_asking, HasRoom, IsKeptCell, AreKeptCells, is_busy};
+ghost use Rattle.lock_desk.specs.Cells.{View, no_view, view_of, has_session, mode_of, pair_of, with_holder, view_after_giving_up, without, fits_among, go_with, Ascends, AreLesser, AreOthers, next_grant, can_grant, is_granted, behind_conversions, queue_with, view_after_asking, HasRoom, IsKeptCell, AreKeptCells, is_busy, is_nobody, codes_among, codes_unless_waited, view_with_holder, HasRoomFor};
 ghost use Rattle.lock_desk.specs.Finding.{holder_blocks, stands_first, cell_blocks, AreOfSessions};
 
 use crate::positions::position_of;
@@ -205,6 +205,17 @@ fn write_queue(rows: &mut Rows, waiting: &[SessionMode], session: u16)
     }
 }
 
+/// The bits of the codes of their modes.
+fn codes_among(holders: &[SessionMode]) -> u8
+    ensures { result ≡ codes_among holders.now }
+{
+    let mut codes = 0;
+    for holder in holders {
+        codes |= holder.mode.code();
+    }
+    codes
+}
+
 impl Cell {
     /// Nobody holds its resource, and nobody waits for it.
     pub(crate) fn new(alloc: Global) -> Cell
@@ -372,5 +383,38 @@ impl Cell {
             write_holders(rows, &self.holders, session, target);
             write_queue(rows, &self.waiting, session);
         }
+    }
+
+    /// The bits of the codes of the holders' modes, where nobody waits for the resource.
+    pub(crate) fn codes_unless_waited(&self) -> Option<u8>
+        ensures { result ≡ codes_unless_waited (view_of self.now) }
+    {
+        if !self.waiting.is_empty() {
+            return None;
+        }
+        Some(codes_among(&self.holders))
+    }
+
+    /// Makes room for so many holders more, where nobody waits.
+    pub(crate) fn make_room(&mut self, more: usize) -> Result<(), AllocError>
+        requires kept { IsKeptCell self.old }
+        requires quiet { is_nobody (view_of self.old).waiting ≡ true }
+        ensures view { view_of self.new ≡ view_of self.old }
+        ensures room { OnOk result (HasRoomFor more self.new) }
+        ensures kept { IsKeptCell self.new }
+    {
+        self.holders.reserve(more)
+    }
+
+    /// One session more holds the resource, for which there is room.
+    pub(crate) fn grant(&mut self, holder: SessionMode)
+        requires some { 1 ≤ holder.session }
+        requires kept { IsKeptCell self.old }
+        requires room { HasRoomFor 1 self.old }
+        ensures view { view_of self.new ≡ view_with_holder holder (view_of self.old) }
+        ensures room { (n : ℕ) → HasRoomFor (n + 1) self.old → HasRoomFor n self.new }
+        ensures kept { IsKeptCell self.new }
+    {
+        put(&mut self.holders, holder);
     }
 }

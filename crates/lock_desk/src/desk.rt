@@ -14,6 +14,8 @@ ghost use Rattle.lock_desk.specs.Changes.{view_at, standing, IsWhole, DoesKeep, 
 ghost use Rattle.lock_desk.specs.Ready.{IsReadyDesk};
 ghost use Rattle.lock_desk.specs.Shows.{Shows, DoesAnswer};
 
+mod grants;
+
 use crate::cell_table::CellTable;
 use crate::cells::{Part, RequestStatus, SessionMode};
 use crate::lockers::{Locker, Request};

@@ -20,6 +20,7 @@ mod locks;
 mod positions;
 mod refusals;
 mod releases;
+mod runs;
 mod waits;
 
 pub use batch::Item;

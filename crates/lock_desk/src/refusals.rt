@@ -41,7 +41,7 @@ impl Desk {
     }
 
     /// The refusal of a session that has no transaction, or waits, or is doomed.
-    fn idle_refusal(&self, session: u16) -> Option<Why>
+    pub(crate) fn idle_refusal(&self, session: u16) -> Option<Why>
         requires some { 1 ≤ session }
         requires within { session ≤ vec_len self.now.lockers }
         ensures { result ≡ first_failing (idle_tests self.now session) }
@@ -174,7 +174,7 @@ impl Desk {
     }
 }
 
-fn is_nothing(mode: Mode) -> bool
+pub(crate) fn is_nothing(mode: Mode) -> bool
     ensures { result ≡ is_nothing mode }
 {
     matches!(mode, Mode::NL)

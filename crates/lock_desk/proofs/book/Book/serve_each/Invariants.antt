@@ -1,0 +1,15 @@
+use Rattle.std.proofs.Common.{◌≡◌, length, List}
+use Rattle.std.specs.List.{All}
+use Rattle.lock_rules.specs.declared.calls.Entry.{Entry}
+use Rattle.lock_desk.specs.declared.batch.Item.{Item}
+use Rattle.lock_desk.specs.Batches.{IsItemWithin}
+use Rattle.lock_desk.specs.Runs.{AreServed}
+use Rattle.lock_desk.proofs.book.Book.serve_each.Given as goal
+
+abbrev pub invariant-loop-served : goal.invariant-loop-served
+invariant-loop-served l = record {
+  sessions : l.self.sessions ≡ l.initial.self.sessions;
+  within : All (IsItemWithin l.self.sessions) l.items;
+  long : length l.items ≡ length l.initial.items;
+  served : (batch : List Item) (start : List Entry) → AreServed l.from batch start l.initial.self.history l.initial.items → AreServed l.served batch start l.self.history l.items;
+}

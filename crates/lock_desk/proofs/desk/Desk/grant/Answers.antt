@@ -1,0 +1,47 @@
+use Rattle.std.proofs.Common.{rules, true, refl, sym, ◌∙◌, ◌<◌, length, ap, subst}
+use Rattle.std.proofs.lemmas.List.Elements.{All-set}
+use Rattle.lock_tree.specs.Paths.{parent_of}
+use Rattle.lock_rules.specs.declared.calls.TheConstants.{MAX_LOCKS}
+use Rattle.lock_desk.specs.Cells.{has_path}
+use Rattle.lock_desk.specs.Lockers.{Standing, IsKeptLocker}
+use Rattle.lock_desk.specs.Changes.{view_at}
+use Rattle.lock_desk.proofs.CellTable.{became-view}
+use Rattle.lock_desk.proofs.TableViews.{in_mode}
+use Rattle.lock_desk.proofs.LockerStandings.{standing-here}
+use Rattle.lock_desk.proofs.Asking.{within, held-locker, once-own, has-asked, asked-whole}
+use Rattle.lock_desk.proofs.Granting.{can-grant, granted-view}
+use Rattle.lock_desk.proofs.desk.Desk.grant.Goals as goal
+
+pub hold-requires-clause-new : goal.hold-requires-clause-new
+hold-requires-clause-new c =
+    ap (λ (x : Standing). has_path c.args.resource x.held) (sym (standing-here c.args.self.now.lockers.items c.args.session c.index_mut-locker.result.now (within c.args.self.now c.args.session c.position_of.ensures c.requires.some c.requires.within) c.index_mut-locker.ensures.value))
+    ∙ (held-locker c.args.session c.args.resource c.args.self.now c.requires.whole ∙ c.requires.can.new)
+
+pub hold-requires-clause-under : goal.hold-requires-clause-under
+hold-requires-clause-under c = λ has.
+    ap (λ (x : Standing). has_path (parent_of c.args.resource) x.held) (sym (standing-here c.args.self.now.lockers.items c.args.session c.index_mut-locker.result.now (within c.args.self.now c.args.session c.position_of.ensures c.requires.some c.requires.within) c.index_mut-locker.ensures.value))
+    ∙ c.requires.can.under has
+
+pub hold-requires-clause-few : goal.hold-requires-clause-few
+hold-requires-clause-few c =
+    subst (λ (x : Standing). length x.held < MAX_LOCKS) (standing-here c.args.self.now.lockers.items c.args.session c.index_mut-locker.result.now (within c.args.self.now c.args.session c.position_of.ensures c.requires.some c.requires.within) c.index_mut-locker.ensures.value)
+    c.requires.can.few
+
+pub returns-clause-own : goal.returns-clause-own
+returns-clause-own c = once-own c.args.self.now c.args.session c.args.resource c.index_mut-locker.result.now c.hold.new.self _ true (within c.args.self.now c.args.session c.position_of.ensures c.requires.some c.requires.within) c.index_mut-locker.ensures.value c.hold.ensures.standing refl
+
+pub returns-clause-asked : goal.returns-clause-asked
+returns-clause-asked c =
+    has-asked c.args.self.now c.args.session c.args.resource c.args.mode true _ c.requires.whole (within c.args.self.now c.args.session c.position_of.ensures c.requires.some c.requires.within) c.requires.can.idle (can-grant (in_mode c.args.session c.args.mode) (view_at c.args.resource c.args.self.now) c.requires.quiet c.requires.fits)
+    (once-own c.args.self.now c.args.session c.args.resource c.index_mut-locker.result.now c.hold.new.self _ true (within c.args.self.now c.args.session c.position_of.ensures c.requires.some c.requires.within) c.index_mut-locker.ensures.value c.hold.ensures.standing refl)
+    (became-view c.args.resource _ _ c.args.self.now.cells.entries _ (granted-view (in_mode c.args.session c.args.mode) (view_at c.args.resource c.args.self.now) (can-grant (in_mode c.args.session c.args.mode) (view_at c.args.resource c.args.self.now) c.requires.quiet c.requires.fits)) c.grant_at.ensures.granted) refl
+
+pub returns-clause-kept : goal.returns-clause-kept
+returns-clause-kept c = record {
+  whole = asked-whole c.args.self.now c.args.session c.args.resource c.args.mode true _ c.requires.whole (within c.args.self.now c.args.session c.position_of.ensures c.requires.some c.requires.within) c.requires.can.idle (can-grant (in_mode c.args.session c.args.mode) (view_at c.args.resource c.args.self.now) c.requires.quiet c.requires.fits)
+      (once-own c.args.self.now c.args.session c.args.resource c.index_mut-locker.result.now c.hold.new.self _ true (within c.args.self.now c.args.session c.position_of.ensures c.requires.some c.requires.within) c.index_mut-locker.ensures.value c.hold.ensures.standing refl)
+      (became-view c.args.resource _ _ c.args.self.now.cells.entries _ (granted-view (in_mode c.args.session c.args.mode) (view_at c.args.resource c.args.self.now) (can-grant (in_mode c.args.session c.args.mode) (view_at c.args.resource c.args.self.now) c.requires.quiet c.requires.fits)) c.grant_at.ensures.granted)
+      (All-set IsKeptLocker c.args.self.now.lockers.items c.position_of.result c.hold.new.self c.hold.ensures.kept c.requires.whole.lockers);
+  lockers = search rules;
+  waits = search rules;
+}
