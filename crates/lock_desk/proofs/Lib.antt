@@ -9,10 +9,10 @@ pub mod ResourceViews
 pub mod CellTable
 -- where the cell of a resource stands among the cells
 pub mod Places
+-- codes of several modes in one byte, and masks that meet none of them
+pub mod Codes
 -- a lock or a request is given up in its cell
 pub mod CellGivesUp
--- codes of several modes in one byte
-pub mod Codes
 -- the lockers
 -- a grant in the lockers; lists of resources
 pub mod LockerStandings
@@ -68,9 +68,9 @@ pub mod FewRequests
 -- the book
 -- what a book keeps
 pub mod BookInvariant
--- runs of locks: what their items may be granted by
+-- runs of locks on one resource: what their items may be granted by
 pub mod RunItems
--- one lock of a run is granted
+-- one lock of a run is granted: the others can be granted still, and the desk shows the next state
 pub mod Granting
 -- a batch, one item further
 pub mod Batches

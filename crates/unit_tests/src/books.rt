@@ -1,17 +1,13 @@
 //! What a book answers, call by call. A call that finds no memory is made again, so that each test may also be run with
 //! each of its allocations refused in turn.
 
-ghost use Rattle.std.specs.Prelude.{◌≡◌, true};
-ghost use Rattle.std.specs.List.{All};
-ghost use Rattle.lock_desk.specs.Batches.{IsItemWithin};
-
-use lock_desk::{Book, Call, Entry, Item, Mode, NoMemory, Reply, Resource, Why};
+use lock_desk::{Book, Call, Entry, Mode, NoMemory, Reply, Resource, Why};
 use lock_trace::{TraceFault, read_history};
 use std::alloc::Global;
 use std::process::Abort;
 use std::test::Fail;
 
-fn resource(number: u32) -> Result<Resource, Fail> {
+pub(crate) fn resource(number: u32) -> Result<Resource, Fail> {
     let resource = Resource::from_numbers(&[number]).ok_or("no resource")?;
     Ok(resource)
 }
@@ -21,7 +17,7 @@ fn below(numbers: &[u32]) -> Result<Resource, Fail> {
     Ok(resource)
 }
 
-fn new_book(rt: &impl Abort, alloc: Global, sessions: u16) -> Result<Book, NoMemory> {
+pub(crate) fn new_book(rt: &impl Abort, alloc: Global, sessions: u16) -> Result<Book, NoMemory> {
     assert!(rt; sessions >= 1);
     assert!(rt; sessions <= 256);
     match Book::new(alloc, sessions) {
@@ -42,7 +38,12 @@ fn serve_once(
 }
 
 /// Serves the call, and once more where memory was refused: the history is then as before.
-fn serve(rt: &impl Abort, book: &mut Book, session: u16, call: Call) -> Result<Reply, NoMemory> {
+pub(crate) fn serve(
+    rt: &impl Abort,
+    book: &mut Book,
+    session: u16,
+    call: Call,
+) -> Result<Reply, NoMemory> {
     let before = book.history().len();
     let again = call;
     match serve_once(rt, book, session, call) {
@@ -71,7 +72,7 @@ fn holders(book: &Book, resource: Resource, list: &mut Vec<(u16, Mode)>) -> Resu
 }
 
 /// The calls with the replies that are wanted, and once more where memory was refused.
-fn wanted(alloc: Global, text: &str) -> Result<Vec<Entry>, TraceFault> {
+pub(crate) fn wanted(alloc: Global, text: &str) -> Result<Vec<Entry>, TraceFault> {
     match read_history(alloc, text.as_bytes(), 256) {
         Ok(entries) => Ok(entries),
         Err(_) => read_history(alloc, text.as_bytes(), 256),
@@ -112,34 +113,6 @@ fn want_holders(
     holders(book, resource(number)?, &mut list)?;
     assert_eq!(rt; list.as_slice(), wanted);
     Ok(())
-}
-
-fn item(session: u16, call: Call) -> Item {
-    Item {
-        session,
-        call,
-        reply: None,
-    }
-}
-
-fn is_within(items: &[Item], sessions: u16) -> bool
-    ensures { result ≡ true → All (IsItemWithin sessions) items.now }
-{
-    for item in items {
-        if item.session < 1 || sessions < item.session {
-            return false;
-        }
-    }
-    true
-}
-
-/// Serves the items, and what is left of them once more where memory was refused.
-fn serve_batch(rt: &impl Abort, book: &mut Book, items: &mut [Item]) -> usize {
-    assert!(rt; is_within(items, book.sessions()));
-    let served = book.serve_batch(items);
-    let rest = &mut items[served..];
-    assert!(rt; is_within(rest, book.sessions()));
-    served + book.serve_batch(rest)
 }
 
 const ARRIVALS: &str = "0,1,begin,,,began,1
@@ -439,38 +412,4 @@ fn the_victim_aborts(rt: &impl Abort, alloc: Global, book: &mut Book) -> Result<
 fn a_victim_keeps_its_locks_until_it_aborts(rt: HostRuntime) -> Result<(), Fail> {
     let mut book = serve_text(&rt, rt.alloc(), 2, VICTIM)?;
     the_victim_aborts(&rt, rt.alloc(), &mut book)
-}
-
-const BATCH: &str = "0,1,begin,,,began,1
-1,2,begin,,,began,2
-2,1,lock,1,X,granted,X
-3,2,lock,1,X,waiting,
-4,1,commit,,,committed,1
-5,2,poll,,,clear,
-";
-
-/// Serves calls as a batch: they have these replies, and stand in the history with them.
-fn want_batch(rt: &impl Abort, book: &mut Book, items: &mut [Item], entries: &[Entry]) {
-    assert_eq!(rt; serve_batch(rt, book, items), entries.len());
-    for (item, entry) in items.iter().zip(entries) {
-        assert_eq!(rt; item.reply, Some(entry.reply));
-    }
-    assert_eq!(rt; book.history(), entries);
-}
-
-#[test]
-fn a_batch_is_served_in_its_order(rt: HostRuntime) -> Result<(), Fail> {
-    let entries = wanted(rt.alloc(), BATCH)?;
-    let one = resource(1)?;
-    let mut items = [
-        item(1, Call::Begin),
-        item(2, Call::Begin),
-        item(1, Call::Lock(one, Mode::X)),
-        item(2, Call::Lock(one, Mode::X)),
-        item(1, Call::Commit),
-        item(2, Call::Poll),
-    ];
-    let mut book = new_book(&rt, rt.alloc(), 2)?;
-    want_batch(&rt, &mut book, &mut items, &entries);
-    Ok(())
 }

@@ -3,7 +3,7 @@ use Rattle.std.proofs.lemmas.List.{take_all}
 use Rattle.std.specs.List.{All}
 use Rattle.std.proofs.lemmas.List.Elements.{All-more}
 use Rattle.lock_desk.specs.Batches.{IsItemWithin}
-use Rattle.unit_tests.proofs.books.is_within.Goals as goal
+use Rattle.unit_tests.proofs.batches.is_within.Goals as goal
 
 pub loop-item-preserved : goal.loop-item-preserved
 loop-item-preserved c =

@@ -1,0 +1,147 @@
+//! What a book answers to a batch: calls in their order, and runs of locks that are granted at once.
+
+ghost use Rattle.std.specs.Prelude.{◌≡◌, true};
+ghost use Rattle.std.specs.List.{All};
+ghost use Rattle.lock_desk.specs.Batches.{IsItemWithin};
+
+use crate::books::{new_book, resource, serve, wanted};
+use lock_desk::{Book, Call, Entry, Item, Mode, NoMemory, Reply};
+use std::alloc::Global;
+use std::process::Abort;
+use std::test::Fail;
+
+fn item(session: u16, call: Call) -> Item {
+    Item {
+        session,
+        call,
+        reply: None,
+    }
+}
+
+fn is_within(items: &[Item], sessions: u16) -> bool
+    ensures { result ≡ true → All (IsItemWithin sessions) items.now }
+{
+    for item in items {
+        if item.session < 1 || sessions < item.session {
+            return false;
+        }
+    }
+    true
+}
+
+/// Serves the items, and what is left of them once more where memory was refused.
+fn serve_batch(rt: &impl Abort, book: &mut Book, items: &mut [Item]) -> usize {
+    assert!(rt; is_within(items, book.sessions()));
+    let served = book.serve_batch(items);
+    let rest = &mut items[served..];
+    assert!(rt; is_within(rest, book.sessions()));
+    served + book.serve_batch(rest)
+}
+
+const BATCH: &str = "0,1,begin,,,began,1
+1,2,begin,,,began,2
+2,1,lock,1,X,granted,X
+3,2,lock,1,X,waiting,
+4,1,commit,,,committed,1
+5,2,poll,,,clear,
+";
+
+/// Serves calls as a batch: they have these replies, and stand in the history with them.
+fn want_batch(rt: &impl Abort, book: &mut Book, items: &mut [Item], entries: &[Entry]) {
+    assert_eq!(rt; serve_batch(rt, book, items), entries.len());
+    for (item, entry) in items.iter().zip(entries) {
+        assert_eq!(rt; item.reply, Some(entry.reply));
+    }
+    assert_eq!(rt; book.history(), entries);
+}
+
+#[test]
+fn a_batch_is_served_in_its_order(rt: HostRuntime) -> Result<(), Fail> {
+    let entries = wanted(rt.alloc(), BATCH)?;
+    let one = resource(1)?;
+    let mut items = [
+        item(1, Call::Begin),
+        item(2, Call::Begin),
+        item(1, Call::Lock(one, Mode::X)),
+        item(2, Call::Lock(one, Mode::X)),
+        item(1, Call::Commit),
+        item(2, Call::Poll),
+    ];
+    let mut book = new_book(&rt, rt.alloc(), 2)?;
+    want_batch(&rt, &mut book, &mut items, &entries);
+    Ok(())
+}
+
+/// A transaction of each session begins.
+fn begin_all(rt: &impl Abort, book: &mut Book) -> Result<(), NoMemory> {
+    let sessions = book.sessions();
+    for session in 1..sessions + 1 {
+        serve(rt, book, session, Call::Begin)?;
+    }
+    Ok(())
+}
+
+/// 32 sessions lock database 1 in IS, and the next one in S.
+fn shared_locks(alloc: Global) -> Result<Vec<Item>, Fail> {
+    let one = resource(1)?;
+    let mut items = Vec::new(alloc);
+    for session in 1..33 {
+        items.push(item(session, Call::Lock(one, Mode::IS)))?;
+    }
+    items.push(item(33, Call::Lock(one, Mode::S)))?;
+    Ok(items)
+}
+
+/// Serves locks as a batch: each is granted the mode that it asks for.
+fn want_granted(rt: &impl Abort, book: &mut Book, items: &mut [Item]) {
+    assert_eq!(rt; serve_batch(rt, book, items), items.len());
+    for item in items {
+        let granted = match item.call {
+            Call::Lock(_, mode) => Some(Reply::Granted(mode)),
+            _ => None,
+        };
+        assert_eq!(rt; item.reply, granted);
+    }
+}
+
+/// Serves calls as a batch: they have these replies.
+fn want_replies(rt: &impl Abort, book: &mut Book, items: &mut [Item], replies: &[Reply]) {
+    assert_eq!(rt; serve_batch(rt, book, items), replies.len());
+    for (item, reply) in items.iter().zip(replies) {
+        assert_eq!(rt; item.reply, Some(*reply));
+    }
+}
+
+/// Behind a request that waits no run is granted.
+fn late_locks_wait(rt: &impl Abort, book: &mut Book) -> Result<(), Fail> {
+    let one = resource(1)?;
+    let mut items = [
+        item(34, Call::Lock(one, Mode::IX)),
+        item(35, Call::Lock(one, Mode::IS)),
+    ];
+    want_replies(rt, book, &mut items, &[Reply::Waiting, Reply::Waiting]);
+    Ok(())
+}
+
+/// Nor is a run whose modes conflict with one another.
+fn conflicting_locks_wait(rt: &impl Abort, book: &mut Book) -> Result<(), Fail> {
+    let two = resource(2)?;
+    let mut items = [
+        item(1, Call::Lock(two, Mode::IX)),
+        item(2, Call::Lock(two, Mode::S)),
+        item(3, Call::Lock(two, Mode::IX)),
+    ];
+    let replies = [Reply::Granted(Mode::IX), Reply::Waiting, Reply::Waiting];
+    want_replies(rt, book, &mut items, &replies);
+    Ok(())
+}
+
+#[test]
+fn a_run_of_locks_is_granted_where_its_modes_go_together(rt: HostRuntime) -> Result<(), Fail> {
+    let mut book = new_book(&rt, rt.alloc(), 40)?;
+    begin_all(&rt, &mut book)?;
+    let mut items = shared_locks(rt.alloc())?;
+    want_granted(&rt, &mut book, &mut items);
+    late_locks_wait(&rt, &mut book)?;
+    conflicting_locks_wait(&rt, &mut book)
+}
