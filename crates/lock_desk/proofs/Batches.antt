@@ -1,6 +1,5 @@
 -- A batch, one item further.
 use Rattle.std.proofs.Common.{◌≡◌, ℕ, zero, suc, ◌+◌, ◌<◌, List, [], ◌∷◌, ◌++◌, Some, length, map, take, drop, get_or, set, sym, ap, arith, ◌∙◌, append_assoc, refl}
-use Rattle.std.proofs.lemmas.List.{append-nil}
 use Rattle.lock_rules.specs.declared.calls.Reply.{Reply}
 use Rattle.lock_rules.specs.declared.calls.Entry.{Entry}
 use Rattle.lock_rules.specs.State.{State, empty}
@@ -8,7 +7,6 @@ use Rattle.lock_rules.specs.Step.{step}
 use Rattle.lock_rules.specs.Legal.{state_of, state_after}
 use Rattle.lock_rules.proofs.Histories.{state_after-append}
 use Rattle.lock_desk.specs.declared.batch.Item.{Item}
-use Rattle.lock_desk.specs.Kept.{Told}
 use Rattle.lock_desk.specs.Batches.{entries_from, item_of}
 use Rattle.lock_desk.specs.Runs.{AreServed}
 
@@ -48,14 +46,6 @@ next-item st (x ∷ xs) (suc k) d reply h e =
       written = ap (λ (is : List Item). item_of first ∷ is) n.written;
     }
 
--- what a book is seen as with another history
-abbrev pub with_history : Told → List Entry → Told
-with_history t h = record { sessions = t.sessions; history = h }
-
--- and with one entry more
-abbrev pub with_entry : Told → Entry → Told
-with_entry t e = with_history t (t.history ++ e ∷ [])
-
 -- the items are as many as before
 pub length-after : (st : State) (k : ℕ) (items : List Item) → length (items_after st k items) ≡ length items
 length-after st zero items = refl
@@ -85,7 +75,3 @@ served-next k batch start h items i reply s lt found told =
           ∙ (ap (λ (x : Item). set (items_after st k batch) k (with_reply x reply)) (sym here)
           ∙ (n.written ∙ ap (λ (j : ℕ). items_after st j batch) suc_is));
     }
-
--- a batch begins with none served
-pub served-none : (batch : List Item) (start : List Entry) → AreServed 0 batch start start batch
-served-none batch start = record { few = omega arith; entries = sym (append-nil start); replies = refl }

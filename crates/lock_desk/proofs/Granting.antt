@@ -1,12 +1,11 @@
 -- One lock of a run is granted: the others can be granted still, and the desk shows the next state.
-use Rattle.std.proofs.Common.{◌≡◌, ℕ, ◌+◌, ◌-◌, ◌<◌, ◌≤◌, Bool, true, false, cond, eqb, not, ◌&&◌, ◌||◌, inl, inr, List, [], ◌∷◌, ◌++◌, length, length-append, get_or, set, Option, Some, None, refl, sym, ◌∙◌, ap, arith, subst}
+use Rattle.std.proofs.Common.{◌≡◌, ℕ, ◌≤◌, Bool, true, false, cond, eqb, ◌&&◌, ◌||◌, inl, inr, List, [], ◌∷◌, ◌++◌, length-append, set, Option, Some, None, refl, sym, ◌∙◌, ap, arith, subst}
 use Rattle.std.specs.Prelude.{vec_len}
 use Rattle.std.specs.List.{All}
 use Rattle.std.proofs.lemmas.List.Elements.{All-push}
 use Rattle.std.proofs.lemmas.Bool.Decides.{nat_tests}
 use Rattle.lock_modes.specs.declared.Mode.{Mode}
 use Rattle.lock_modes.specs.Compatibility.{are_compatible}
-use Rattle.lock_tree.specs.Paths.{same_path}
 use Rattle.lock_rules.specs.State as rules
 use Rattle.lock_rules.specs.declared.calls.Call.{Call}
 use Rattle.lock_rules.specs.declared.calls.Call.TheVariants.{Lock}
@@ -22,20 +21,19 @@ use Rattle.lock_rules.proofs.Histories.{legal-push, state_of-push}
 use Rattle.lock_desk.specs.declared.batch.Item.{Item}
 use Rattle.lock_desk.specs.declared.cells.SessionMode.{SessionMode}
 use Rattle.lock_desk.specs.declared.desk.Desk.{Desk}
-use Rattle.lock_desk.specs.declared.runs.Run.{Run}
 use Rattle.lock_desk.specs.declared.waits.Waits.{Waits}
 use Rattle.lock_desk.specs.Kept.{IsEntryWithin}
-use Rattle.lock_desk.specs.Cells.{View, is_nobody, has_session, mode_of, with_holder, fits_among, queue_with, can_grant, view_with_holder, view_after_asking, IsPlace, HasRoomAt}
+use Rattle.lock_desk.specs.Cells.{View, is_nobody, has_session, mode_of, with_holder, fits_among, queue_with, can_grant, view_with_holder, view_after_asking}
 use Rattle.lock_desk.specs.Finding.{IsReady}
-use Rattle.lock_desk.specs.Lockers.{Standing, standing_at, standing_after_grant}
+use Rattle.lock_desk.specs.Lockers.{standing_at, standing_after_grant}
 use Rattle.lock_desk.specs.Changes.{view_at, standing, standings, mode_held, desk_tests, IsWhole, IsSameSeen, DoesKeep, HasAsked}
 use Rattle.lock_desk.specs.Ready.{IsReadyDesk}
 use Rattle.lock_desk.specs.Shows.{Shows, DoesAnswer}
-use Rattle.lock_desk.specs.Runs.{HasLockRoom, KeepsLockRooms, mode_asked, asker_of, CanJoin, CanGrant, GoesBeside, Each, EachPair, IsRun, IsGranting, AreKept}
+use Rattle.lock_desk.specs.Runs.{KeepsLockRooms, mode_asked, asker_of, CanJoin, CanGrant, GoesBeside, AreKept}
 use Rattle.lock_desk.proofs.Agreement.{other-standing}
 use Rattle.lock_desk.proofs.TableViews.{in_mode}
 use Rattle.lock_desk.proofs.Simulation.{tests-shown, lock-may, granted-answer, same-shown}
-use Rattle.lock_desk.proofs.RunItems.{each-written, pairs-written, join-same, join-may}
+use Rattle.lock_desk.proofs.RunItems.{join-same}
 
 -- holders
 

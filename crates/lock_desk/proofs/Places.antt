@@ -1,11 +1,11 @@
 -- Where the cell of a resource stands among the cells.
-use Rattle.std.proofs.Common.{◌≡◌, ℕ, zero, suc, ◌<◌, Bool, true, cond, List, [], ◌∷◌, length, slice_get, Option, None, Some, IfSome, unwrap_or, is_some, refl, sym, ◌∙◌, ap, subst, inl, inr}
+use Rattle.std.proofs.Common.{◌≡◌, ℕ, zero, suc, Bool, true, cond, List, [], ◌∷◌, length, slice_get, Option, None, Some, unwrap_or, refl, sym, ◌∙◌, ap, subst, inl, inr}
 use Rattle.std.specs.Cmp.{IsEquivalence}
-use Rattle.std.specs.Map.{lookup, lookup_key, keys_of, values_of}
+use Rattle.std.specs.Map.{lookup, lookup_key, values_of}
 use Rattle.std.specs.HashMap.{HashMap, IsUnique, Updates}
 use Rattle.std.proofs.lemmas.Map.Made.{lookup_key_passes}
 use Rattle.std.proofs.lemmas.Map.Entries.{lookup_from_place}
-use Rattle.indexmap.specs.IndexMap.{set_value_at, with_value_at}
+use Rattle.indexmap.specs.IndexMap.{set_value_at}
 use Rattle.indexmap.proofs.CallerLemmas.{updates-with_value_at}
 use Rattle.lock_tree.specs.Paths.{same_path}
 use Rattle.lock_rules.proofs.Lists.{same_path-refl, same_path-true, same_path_tells}

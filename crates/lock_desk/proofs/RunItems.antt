@@ -1,6 +1,5 @@
 -- Runs of locks on one resource: what their items may be granted by.
-use Rattle.std.proofs.Common.{◌≡◌, ℕ, zero, suc, ◌+◌, ◌-◌, ◌<◌, ◌≤◌, Bool, true, false, not, ◌&&◌, cond, eqb, leb, inl, inr, List, [], ◌∷◌, length, get_or, set, Option, Some, None, is_some, unwrap_or, refl, sym, ◌∙◌, ap, arith, subst, bit_and, bit_or}
-use Rattle.std.specs.Prelude.{vec_len}
+use Rattle.std.proofs.Common.{◌≡◌, ℕ, ◌+◌, ◌-◌, ◌<◌, Bool, true, false, not, ◌&&◌, cond, eqb, leb, inl, inr, List, [], ◌∷◌, length, get_or, set, Option, Some, None, is_some, unwrap_or, refl, sym, ◌∙◌, ap, arith, subst, bit_and, bit_or}
 use Rattle.std.proofs.lemmas.Bool.Decides.{nat_tests}
 use Rattle.std.proofs.Math.Nat.{eq-or-lt_of_le}
 use Rattle.std.proofs.lemmas.List.{get_or_default, get_or-set_other}
@@ -14,14 +13,13 @@ use Rattle.lock_rules.specs.declared.calls.Call.TheVariants.{Lock}
 use Rattle.lock_rules.specs.declared.calls.Why.TheVariants.{NoTransaction, IsWaiting, IsDoomed, NothingAsked, ParentNotHeld, TooManyLocks}
 use Rattle.lock_rules.specs.declared.calls.TheConstants.{MAX_LOCKS}
 use Rattle.lock_rules.specs.Step.{is_nothing, target_of, first_failing}
-use Rattle.lock_rules.proofs.Steps.{all-pass, is-none}
 use Rattle.lock_desk.specs.declared.batch.Item.{Item}
 use Rattle.lock_desk.specs.declared.desk.Desk.{Desk}
 use Rattle.lock_desk.specs.declared.runs.Run.{Run}
 use Rattle.lock_desk.specs.Cells.{View, is_nobody, mode_of, codes_among, codes_unless_waited, IsPlace, HasRoomAt}
-use Rattle.lock_desk.specs.Lockers.{Standing, standing_at}
+use Rattle.lock_desk.specs.Lockers.{standing_at}
 use Rattle.lock_desk.specs.Changes.{view_at, standing, mode_held, desk_tests, IsWhole, IsSameSeen, CanLock, MayAsk}
-use Rattle.lock_desk.specs.Runs.{HasLockRoom, mode_asked, asker_of, CanJoin, CanGrant, GoesBeside, Each, EachPair, HasBits, IsRun, IsGranting}
+use Rattle.lock_desk.specs.Runs.{HasLockRoom, mode_asked, asker_of, CanJoin, Each, EachPair, HasBits, IsRun, IsGranting}
 use Rattle.lock_desk.proofs.Codes.{bits-own, bits-new, bits-still, goes, fits-codes}
 use Rattle.lock_desk.proofs.Simulation.{lock-may}
 

@@ -1,6 +1,6 @@
 -- Private parts speak to one another here, and no public contract of this crate: runs of locks on one resource, which are
 -- granted together.
-use Rattle.std.specs.Prelude.{◌≡◌, ℕ, ◌+◌, ◌-◌, ◌<◌, ◌≤◌, Bool, true, false, ◌==◌, List, [], ◌∷◌, ◌++◌, length, map, take, drop, Some, None, slice_index_or, vec_len, bit_or}
+use Rattle.std.specs.Prelude.{◌≡◌, ℕ, ◌-◌, ◌<◌, ◌≤◌, true, false, ◌==◌, List, ◌++◌, length, map, take, drop, Some, None, slice_index_or, vec_len, bit_or}
 use Rattle.std.specs.List.{All}
 use Rattle.lock_modes.specs.declared.Mode.{Mode}
 use Rattle.lock_modes.specs.declared.Mode.TheVariants.{NL}

@@ -2,7 +2,7 @@
 //! at once: the resource and its parent are looked up once, one test of a mask stands for all comparisons of modes, and
 //! there is room for all before the first is granted.
 
-ghost use Rattle.std.specs.Prelude.{◌≡◌, ℕ, ◌+◌, ◌-◌, ◌<◌, ◌≤◌, true, false, None, Some, List, ◌==◌, if◌then◌else◌, length, IfSome, OnOk, slice_index_or, vec_len, vec_capacity, bit_and, bit_or};
+ghost use Rattle.std.specs.Prelude.{◌≡◌, ◌+◌, ◌-◌, ◌<◌, ◌≤◌, true, false, None, Some, List, ◌==◌, if◌then◌else◌, length, IfSome, OnOk, vec_len, vec_capacity, bit_and};
 ghost use Rattle.std.specs.List.{All};
 ghost use Rattle.lock_rules.specs.declared.calls.Call.TheVariants.{Lock};
 ghost use Rattle.lock_rules.specs.declared.calls.Entry.{Entry as EntryValue};

@@ -1,9 +1,9 @@
-use Rattle.std.proofs.Common.{◌+◌, Option, Some, refl, ap, ◌∙◌, arith}
+use Rattle.std.proofs.Common.{Option, Some, refl, ap, ◌∙◌, arith}
 use Rattle.lock_desk.specs.declared.cells.Cell.{Cell}
-use Rattle.lock_desk.specs.Cells.{Table, View, view_in, is_nobody, view_with_holder, HasRoomAt, HasRoomFor}
+use Rattle.lock_desk.specs.Cells.{Table, view_in, is_nobody}
 use Rattle.lock_desk.proofs.Results.{to-ok}
 use Rattle.lock_desk.proofs.CellTable.{kept-at}
-use Rattle.lock_desk.proofs.Places.{there, room-there, as-long, wrote-kept, still-at, room-written}
+use Rattle.lock_desk.proofs.Places.{there, as-long, wrote-kept, still-at, room-written}
 use Rattle.lock_desk.proofs.cell_table.CellTable.make_room_at.Goals as goal
 
 pub make_room-requires-clause-kept : goal.make_room-requires-clause-kept

@@ -1,9 +1,8 @@
-use Rattle.std.proofs.Common.{rules, ◌≡◌, ◌≤◌, ◌<◌, ◌+◌, ℕ, false, eqb, length, get_or, ap, sym, arith, subst, bit_or, ◌∙◌}
+use Rattle.std.proofs.Common.{rules, ◌≡◌, ◌≤◌, ◌+◌, ℕ, false, eqb, get_or, ap, sym, arith, subst, bit_or, ◌∙◌}
 use Rattle.std.proofs.lemmas.Bool.Decides.{nat_tests}
-use Rattle.lock_modes.specs.declared.Mode.{Mode}
 use Rattle.lock_modes.specs.Codes.{code_of, mask_of}
 use Rattle.lock_desk.specs.declared.batch.Item.{Item}
-use Rattle.lock_desk.specs.Runs.{mode_asked, CanJoin, Each, IsRun}
+use Rattle.lock_desk.specs.Runs.{mode_asked, Each, IsRun}
 use Rattle.lock_desk.proofs.RunItems.{each-more, run-none, run-more}
 use Rattle.lock_desk.proofs.desk.Desk.gather.Goals.{else-item-greatest-via-then-item-greatest+else-is_met, else-item-greatest-via-else-item-greatest}
 use Rattle.lock_desk.proofs.desk.Desk.gather.Goals as goal

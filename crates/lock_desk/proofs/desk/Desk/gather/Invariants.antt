@@ -1,4 +1,4 @@
-use Rattle.std.proofs.Common.{◌≡◌, ◌-◌, ◌≤◌, length}
+use Rattle.std.proofs.Common.{◌-◌, ◌≤◌, length}
 use Rattle.lock_desk.specs.Runs.{Each, IsRun}
 use Rattle.lock_desk.proofs.desk.Desk.gather.Given as goal
 
