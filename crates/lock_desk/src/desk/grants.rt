@@ -80,7 +80,7 @@ impl Desk {
         ensures others { KeepsLockRooms session self.old self.new }
     {
         let locker = &mut self.lockers[position_of(session)];
-        locker.hold(resource);
+        locker.hold(resource, place);
         self.cells
             .grant_at(place, resource, SessionMode { session, mode });
     }
