@@ -55,6 +55,8 @@ pub mod Simulation
 -- deadlocks
 -- what is written down of those who wait at one resource
 pub mod WritingWaits
+-- a request waits as one ahead of it does
+pub mod RequestsAlike
 -- whoever holds or waits has a locker
 pub mod SessionsInRange
 -- what is written down stays right after each act

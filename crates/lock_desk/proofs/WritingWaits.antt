@@ -5,10 +5,12 @@ use Rattle.waits_for.specs.Pairs.{pairs_of}
 use Rattle.lock_modes.specs.declared.Mode.{Mode}
 use Rattle.lock_desk.specs.declared.cells.SessionMode.{SessionMode}
 use Rattle.lock_desk.specs.declared.waits.Waits.{Waits}
-use Rattle.lock_desk.specs.Cells.{View, has_session, mode_of, with_holder, behind_conversions, can_grant, queue_with, view_after_asking}
+use Rattle.lock_desk.specs.declared.cells.Part.{Part}
+use Rattle.lock_desk.specs.declared.cells.Part.TheVariants as part
+use Rattle.lock_desk.specs.Cells.{View, has_session, mode_of, with_holder, without, fits_among, behind_conversions, can_grant, queue_with, view_after_asking, view_after_grants, view_after_freeing}
 use Rattle.lock_desk.specs.Finding.{holder_blocks, stands_first, target_blocks, view_blocks, IsWritten, DoFollow}
 use Rattle.lock_desk.proofs.ResourceViews.{both}
-use Rattle.lock_desk.proofs.SessionModes.{mode-has, has_session-push, has_session-queued}
+use Rattle.lock_desk.proofs.SessionModes.{mode-has, has_session-push, has_session-queued, has_session-without}
 
 -- all that stand before the session's request
 pub stands-until : (s u : ℕ) (ws : List SessionMode) (i : ℕ) (d : SessionMode) → i < length ws → (get_or ws i d).session ≡ s → has_session s (take i ws) ≡ false → stands_first u s ws ≡ has_session u (take i ws)
@@ -70,6 +72,36 @@ blocks-push s u c hs ws n h = ap (target_blocks s u (both hs (ws ++ c ∷ []))) 
     go (Some m) = ap (λ (b : Bool). holder_blocks s m u hs || b) (stands-push s u c ws h)
 
 -- what is written down after a release
+
+left-waiting : (s : ℕ) (hs ws : List SessionMode) → has_session s (view_after_grants hs ws).waiting ≡ true → has_session s ws ≡ true
+left-waiting s hs [] h = h
+left-waiting s hs (q ∷ ws) h = go (fits_among q hs) h (left-waiting s (with_holder q hs) ws)
+  where
+    or-true : (a : Bool) {b : Bool} → b ≡ true → (a || b) ≡ true
+    or-true true e = refl
+    or-true false e = e
+
+    go : (b : Bool) → has_session s (cond b (view_after_grants (with_holder q hs) ws) (both hs (q ∷ ws))).waiting ≡ true → (has_session s (view_after_grants (with_holder q hs) ws).waiting ≡ true → has_session s ws ≡ true) → (eqb q.session s || has_session s ws) ≡ true
+    go true h next = or-true (eqb q.session s) (next h)
+    go false h next = h
+
+-- who waits still has waited
+pub waits-still : (p : Part) (g s : ℕ) (v : View) → has_session s (view_after_freeing p g v).waiting ≡ true → has_session s v.waiting ≡ true
+waits-still part.Lock g s v h = left-waiting s (without g v.holders) v.waiting h
+waits-still part.Request g s v h = and-right (not (eqb s g)) (sym (has_session-without g s v.waiting) ∙ left-waiting s v.holders (without g v.waiting) h)
+  where
+    and-right : (a : Bool) {b : Bool} → (a && b) ≡ true → b ≡ true
+    and-right true h = h
+    and-right false h = absurd (cc)
+
+-- so its row was emptied
+pub emptied-still : (p : Part) (g s : ℕ) (v seen now : View) → seen ≡ v → now ≡ view_after_freeing p g v → has_session s now.waiting ≡ true → (old : Bool) {new : Bool} → new ≡ (old && not (has_session s seen.waiting)) → new ≡ false
+emptied-still p g s v seen now e f h old is =
+    is ∙ (ap (λ (b : Bool). old && not b) (ap (λ (y : View). has_session s y.waiting) e ∙ waits-still p g s v (ap (λ (y : View). has_session s y.waiting) (sym f) ∙ h)) ∙ none old)
+  where
+    none : (b : Bool) → (b && false) ≡ false
+    none true = refl
+    none false = refl
 
 -- the rows of those who waited were emptied, and those of them who wait still were written anew
 pub follows-freed : (v seen x now : View) (old mid new : Waits) → seen ≡ v → now ≡ x → mid.rows.sessions ≡ old.rows.sessions → new.rows.sessions ≡ mid.rows.sessions → mid.numbers ≡ old.numbers → new.numbers ≡ mid.numbers

@@ -1,9 +1,10 @@
 //! Who waits for whom: written down as the cells and the lockers say it, and written anew where a cell changes.
 
-ghost use Rattle.std.specs.Prelude.{◌≡◌, ℕ, ◌+◌, ◌-◌, ◌<◌, ◌≤◌, ◌&&◌, ◌||◌, ◌==◌, if◌then◌else◌, List, not, true, false, length, IfOk, IfNone, IfSome, slice_index_or, vec_len};
+ghost use Rattle.std.specs.Prelude.{◌≡◌, ℕ, ◌+◌, ◌-◌, ◌<◌, ◌≤◌, ◌&&◌, ◌||◌, ◌==◌, if◌then◌else◌, List, not, true, false, length, take, IfOk, IfNone, IfSome, slice_index_or, vec_len};
 ghost use Rattle.waits_for.specs.Pairs.{pairs_of};
 ghost use Rattle.waits_for.specs.Walks.{Reaches, IsYoungestOnCircle};
-ghost use Rattle.lock_desk.specs.Cells.{View, has_session, view_of, can_grant, is_granted, view_after_asking};
+ghost use Rattle.lock_desk.specs.declared.cells.SessionMode.{SessionMode as SessionModeValue};
+ghost use Rattle.lock_desk.specs.Cells.{View, has_session, times, view_of, can_grant, is_granted, view_after_asking};
 ghost use Rattle.lock_desk.specs.Finding.{cell_blocks, AreOfSessions, IsOfSessions, IsReady, IsWritten, DoFollow};
 
 use crate::cells::{Cell, RequestStatus, SessionMode};
@@ -62,16 +63,76 @@ pub(crate) fn clear_queue(waits: &mut Waits, cell: &Cell)
     }
 }
 
-/// For whom each of them waits is written down.
+/// The session waits for those who stand in the queue ahead of it, so many of them, too.
+fn write_ahead(rows: &mut Rows, ahead: &[SessionMode], session: u16)
+    requires some { 1 ≤ session }
+    requires own { session ≤ rows.old.sessions }
+    requires within { AreOfSessions rows.old.sessions ahead.now }
+    ensures sessions { rows.new.sessions ≡ rows.old.sessions }
+    ensures pairs { (a b : ℕ) → pairs_of rows.new a b
+        ≡ (pairs_of rows.old a b || ((a + 1 == session) && has_session (b + 1) ahead.now)) }
+{
+    for request in ahead {
+        rows.set(position_of(session), position_of(request.session));
+    }
+}
+
+/// The last request ahead of this one that is for the same mode.
+fn alike(queue: &[SessionMode], index: usize) -> Option<usize>
+    requires { index < length queue.now }
+    ensures { IfSome result (λ j. (j < index) × ((d : SessionModeValue)
+        → (slice_index_or queue.now j d).mode ≡ (slice_index_or queue.now index d).mode)) }
+{
+    let mode = queue[index].mode;
+    for step in 0..index {
+        let before = index - 1 - step;
+        if queue[before].mode == mode {
+            return Some(before);
+        }
+    }
+    None
+}
+
+/// For whom the request at this place of the queue waits is written down, those ahead of it being written. It waits for
+/// whomever one ahead of it for the same mode waits, and for those between; where it is a holder that the other one
+/// waits for, all holders are looked at.
+fn write_request(rows: &mut Rows, cell: &Cell, index: usize)
+    requires index { index < length (view_of cell.now).waiting }
+    requires within { IsOfSessions rows.old.sessions (view_of cell.now) }
+    requires once { (s : ℕ) → times s (view_of cell.now).waiting ≤ 1 }
+    requires written { (a b : ℕ) → has_session (a + 1) (take index (view_of cell.now).waiting) ≡ true
+        → pairs_of rows.old a b ≡ cell_blocks (a + 1) (b + 1) cell.now }
+    ensures sessions { rows.new.sessions ≡ rows.old.sessions }
+    ensures pairs { (a b : ℕ) (d : SessionModeValue) → pairs_of rows.new a b
+        ≡ (pairs_of rows.old a b || ((a + 1 == (slice_index_or (view_of cell.now).waiting index d).session) && cell_blocks (a + 1) (b + 1) cell.now)) }
+{
+    let queue = cell.queue();
+    let session = queue[index].session;
+    let position = position_of(session);
+    if let Some(before) = alike(queue, index) {
+        let other = position_of(queue[before].session);
+        if !rows.waits(other, position) {
+            rows.wait_as(position, other);
+            write_ahead(rows, &queue[before..index], session);
+            return;
+        }
+    }
+    cell.write_waits(rows, session);
+}
+
+/// For whom each of them waits is written down, where nothing is.
 pub(crate) fn write_queue(waits: &mut Waits, cell: &Cell)
     requires within { IsOfSessions waits.old.rows.sessions (view_of cell.now) }
+    requires once { (s : ℕ) → times s (view_of cell.now).waiting ≤ 1 }
+    requires empty { (a b : ℕ) → has_session (a + 1) (view_of cell.now).waiting ≡ true → pairs_of waits.old.rows a b ≡ false }
     ensures sessions { waits.new.rows.sessions ≡ waits.old.rows.sessions }
     ensures pairs { (a b : ℕ) → pairs_of waits.new.rows a b
         ≡ (pairs_of waits.old.rows a b || cell_blocks (a + 1) (b + 1) cell.now) }
     ensures numbers { waits.new.numbers ≡ waits.old.numbers }
 {
-    for request in cell.queue() {
-        cell.write_waits(&mut waits.rows, request.session);
+    let queue = cell.queue();
+    for index in 0..queue.len() {
+        write_request(&mut waits.rows, cell, index);
     }
 }
 
@@ -85,6 +146,7 @@ pub(crate) fn follow_request(
     requires some { 1 ≤ asker.session }
     requires own { asker.session ≤ waits.old.rows.sessions }
     requires within { IsOfSessions waits.old.rows.sessions (view_of cell.now) }
+    requires once { (s : ℕ) → times s (view_of cell.now).waiting ≤ 1 }
     ensures { (v : View) → IsWritten asker.session v waits.old → has_session asker.session v.waiting ≡ false
         → is_granted status ≡ can_grant asker v → view_of cell.now ≡ view_after_asking asker v
         → DoFollow v (view_of cell.now) waits.old waits.new }
