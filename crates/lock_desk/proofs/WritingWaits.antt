@@ -1,5 +1,5 @@
 -- What is written down of those who wait at one resource, and what it says after a request there.
-use Rattle.std.proofs.Common.{◌≡◌, ℕ, zero, suc, ◌+◌, ◌<◌, Bool, true, false, cond, not, eqb, ◌&&◌, ◌||◌, List, [], ◌∷◌, ◌++◌, length, get_or, take, Option, Some, None, is_some, refl, sym, ◌∙◌, ap, arith}
+use Rattle.std.proofs.Common.{◌≡◌, ℕ, zero, suc, ◌+◌, ◌<◌, Bool, true, false, cond, not, eqb, ◌&&◌, ◌||◌, List, [], ◌∷◌, ◌++◌, length, length-append, get_or, take, Option, Some, None, is_some, refl, sym, ◌∙◌, ap, arith}
 use Rattle.std.proofs.lemmas.Bool.Decides.{nat_tests, Decides-eqb}
 use Rattle.waits_for.specs.Pairs.{pairs_of}
 use Rattle.lock_modes.specs.declared.Mode.{Mode}
@@ -157,51 +157,85 @@ module _ (c : SessionMode) (v : View) (w : Waits) (k : IsWritten c.session v w) 
           ap (λ (o : Bool). o && not (has_session (a + 1) x.waiting)) none ∙ sym (ap (λ (o : Bool). o && not (has_session (a + 1) v.waiting)) none)
       emptied a b false e = ap (λ (o : Bool). pairs_of w.rows a b && not o) (waits (a + 1) ∙ (ap (λ (o : Bool). has_session (a + 1) v.waiting || (not (can_grant c v) && o)) e ∙ drop-false (has_session (a + 1) v.waiting) (not (can_grant c v))))
 
-  -- only that of a fresh request was written
-  pub follows-fresh : (x : View) → (new : Waits) → x ≡ view_after_asking c v → can_grant c v ≡ false → is_some (mode_of c.session x.holders) ≡ false → new.rows.sessions ≡ w.rows.sessions → new.numbers ≡ w.numbers
-      → ((a b : ℕ) → pairs_of new.rows a b ≡ (pairs_of w.rows a b || (eqb (a + 1) c.session && view_blocks c.session (b + 1) x))) → DoFollow v x w new
-  follows-fresh x new is waits fresh sessions numbers pairs = record {
-    sessions = sessions;
-    numbers = numbers;
-    pairs = λ a b. pairs a b ∙ go a b (eqb (a + 1) c.session) (has_session (a + 1) v.waiting) refl refl;
-  }
-    where
-      queued : x ≡ both v.holders (queue_with c v.holders v.waiting)
-      queued = is ∙ ap (λ (g : Bool). cond g (both (with_holder c v.holders) v.waiting) (both v.holders (queue_with c v.holders v.waiting))) waits
+  -- a fresh request that waits
 
-      new_here : has_session c.session v.holders ≡ false
-      new_here = ap (λ (y : View). has_session c.session y.holders) (sym queued) ∙ (sym (mode-has c.session x.holders) ∙ fresh)
+  module _ (x : View) (is : x ≡ view_after_asking c v) (waits : can_grant c v ≡ false) (fresh : is_some (mode_of c.session x.holders) ≡ false) where
+    queued : x ≡ both v.holders (queue_with c v.holders v.waiting)
+    queued = is ∙ ap (λ (g : Bool). cond g (both (with_holder c v.holders) v.waiting) (both v.holders (queue_with c v.holders v.waiting))) waits
 
-      last : x ≡ both v.holders (v.waiting ++ c ∷ [])
-      last = queued ∙ ap (λ (g : Bool). both v.holders (cond g (behind_conversions c v.holders v.waiting) (v.waiting ++ c ∷ []))) new_here
+    new_here : has_session c.session v.holders ≡ false
+    new_here = ap (λ (y : View). has_session c.session y.holders) (sym queued) ∙ (sym (mode-has c.session x.holders) ∙ fresh)
 
-      other : (a : ℕ) → eqb (a + 1) c.session ≡ false → eqb c.session (a + 1) ≡ false
-      other a e = grind (arith, nat_tests, e)
+    -- it stands last
+    last : x ≡ both v.holders (v.waiting ++ c ∷ [])
+    last = queued ∙ ap (λ (g : Bool). both v.holders (cond g (behind_conversions c v.holders v.waiting) (v.waiting ++ c ∷ []))) new_here
 
-      go : (a b : ℕ) (t h : Bool) → eqb (a + 1) c.session ≡ t → has_session (a + 1) v.waiting ≡ h
-          → (pairs_of w.rows a b || (t && view_blocks c.session (b + 1) x)) ≡ ((pairs_of w.rows a b && not h) || view_blocks (a + 1) (b + 1) x)
-      go a b true true e f = absurd (let g : has_session (a + 1) v.waiting ≡ false = ap (λ (s : ℕ). has_session s v.waiting) ((Decides-eqb (a + 1) c.session).0 e) ∙ idle in cc)
-      go a b true false e f = ap (λ (s : ℕ). pairs_of w.rows a b || view_blocks s (b + 1) x) (sym ((Decides-eqb (a + 1) c.session).0 e)) ∙ ap (λ (o : Bool). o || view_blocks (a + 1) (b + 1) x) (sym (and-yes (pairs_of w.rows a b)))
-        where
-          and-yes : (o : Bool) → (o && true) ≡ o
-          and-yes true = refl
-          and-yes false = refl
-      go a b false true e f =
-          or-no (pairs_of w.rows a b) ∙ (k.waiting a b f
-          ∙ (sym (ap (view_blocks (a + 1) (b + 1)) last ∙ blocks-push (a + 1) (b + 1) c v.holders v.waiting (other a e) f)
-          ∙ ap (λ (o : Bool). o || view_blocks (a + 1) (b + 1) x) (sym (and-no (pairs_of w.rows a b)))))
-        where
-          or-no : (o : Bool) → (o || false) ≡ o
-          or-no true = refl
-          or-no false = refl
+    pub last-within : length x.waiting ≡ suc (length v.waiting)
+    last-within = let n = length-append v.waiting (c ∷ []) in ap (λ (y : View). length y.waiting) last ∙ omega (arith, n)
 
-          and-no : (o : Bool) → (o && false) ≡ false
-          and-no true = refl
-          and-no false = refl
-      go a b false false e f =
-          let none : has_session (a + 1) x.waiting ≡ false = ap (λ (y : View). has_session (a + 1) y.waiting) last ∙ (has_session-push (a + 1) v.waiting c ∙ (λ i. other a e i || f i)) in
-          both-no (pairs_of w.rows a b) ∙ ap (λ (o : Bool). (pairs_of w.rows a b && true) || o) (sym (blocks-none (a + 1) (b + 1) x none))
-        where
-          both-no : (o : Bool) → (o || false) ≡ ((o && true) || false)
-          both-no true = refl
-          both-no false = refl
+    here : (i : ℕ) (d : SessionMode) → suc i ≡ length x.waiting → get_or x.waiting i d ≡ c
+    here i d e = ap (λ (y : View). get_or y.waiting i d) last ∙ (ap (λ (k : ℕ). get_or (v.waiting ++ c ∷ []) k d) (let n = last-within in omega (arith, n, e)) ∙ at-end v.waiting)
+      where
+        at-end : (ws : List SessionMode) → get_or (ws ++ c ∷ []) (length ws) d ≡ c
+        at-end [] = refl
+        at-end (w ∷ ws) = at-end ws
+
+    ahead : (i : ℕ) → suc i ≡ length x.waiting → take i x.waiting ≡ v.waiting
+    ahead i e = ap (λ (y : View). take i y.waiting) last ∙ (ap (λ (k : ℕ). take k (v.waiting ++ c ∷ [])) (let n = last-within in omega (arith, n, e)) ∙ up-to v.waiting)
+      where
+        up-to : (ws : List SessionMode) → take (length ws) (ws ++ c ∷ []) ≡ ws
+        up-to [] = refl
+        up-to (w ∷ ws) = ap (λ (xs : List SessionMode). w ∷ xs) (up-to ws)
+
+    other : (s : ℕ) → has_session s v.waiting ≡ true → eqb c.session s ≡ false
+    other s h = go (eqb c.session s) refl
+      where
+        go : (b : Bool) → eqb c.session s ≡ b → eqb c.session s ≡ false
+        go false e = e
+        go true e = absurd (let f : has_session s v.waiting ≡ false = ap (λ (k : ℕ). has_session k v.waiting) (sym ((Decides-eqb c.session s).0 e)) ∙ idle in cc)
+
+    -- the rows of those ahead of it are right
+    pub written-ahead : (i : ℕ) → suc i ≡ length x.waiting → (a b : ℕ) → has_session (a + 1) (take i x.waiting) ≡ true → pairs_of w.rows a b ≡ view_blocks (a + 1) (b + 1) x
+    written-ahead i e a b h =
+        let f : has_session (a + 1) v.waiting ≡ true = ap (has_session (a + 1)) (sym (ahead i e)) ∙ h in
+        k.waiting a b f ∙ sym (ap (view_blocks (a + 1) (b + 1)) last ∙ blocks-push (a + 1) (b + 1) c v.holders v.waiting (other (a + 1) f) f)
+
+    -- so only its own is written
+    pub follows-fresh : (new : Waits) (i : ℕ) (d : SessionMode) → suc i ≡ length x.waiting → new.rows.sessions ≡ w.rows.sessions → new.numbers ≡ w.numbers
+        → ((a b : ℕ) → pairs_of new.rows a b ≡ (pairs_of w.rows a b || (eqb (a + 1) (get_or x.waiting i d).session && view_blocks (a + 1) (b + 1) x))) → DoFollow v x w new
+    follows-fresh new i d e sessions numbers pairs = record {
+      sessions = sessions;
+      numbers = numbers;
+      pairs = λ a b. pairs a b ∙ (ap (λ (q : SessionMode). pairs_of w.rows a b || (eqb (a + 1) q.session && view_blocks (a + 1) (b + 1) x)) (here i d e) ∙ go a b (eqb (a + 1) c.session) (has_session (a + 1) v.waiting) refl refl);
+    }
+      where
+        turned : (a : ℕ) → eqb (a + 1) c.session ≡ false → eqb c.session (a + 1) ≡ false
+        turned a e = grind (arith, nat_tests, e)
+
+        and-yes : (o : Bool) → (o && true) ≡ o
+        and-yes true = refl
+        and-yes false = refl
+
+        and-no : (o : Bool) → (o && false) ≡ false
+        and-no true = refl
+        and-no false = refl
+
+        or-no : (o : Bool) → (o || false) ≡ o
+        or-no true = refl
+        or-no false = refl
+
+        both-no : (o : Bool) → (o || false) ≡ ((o && true) || false)
+        both-no true = refl
+        both-no false = refl
+
+        go : (a b : ℕ) (t h : Bool) → eqb (a + 1) c.session ≡ t → has_session (a + 1) v.waiting ≡ h
+            → (pairs_of w.rows a b || (t && view_blocks (a + 1) (b + 1) x)) ≡ ((pairs_of w.rows a b && not h) || view_blocks (a + 1) (b + 1) x)
+        go a b true true e f = absurd (let g : has_session (a + 1) v.waiting ≡ false = ap (λ (s : ℕ). has_session s v.waiting) ((Decides-eqb (a + 1) c.session).0 e) ∙ idle in cc)
+        go a b true false e f = ap (λ (o : Bool). o || view_blocks (a + 1) (b + 1) x) (sym (and-yes (pairs_of w.rows a b)))
+        go a b false true e f =
+            or-no (pairs_of w.rows a b) ∙ (k.waiting a b f
+            ∙ (sym (ap (view_blocks (a + 1) (b + 1)) last ∙ blocks-push (a + 1) (b + 1) c v.holders v.waiting (turned a e) f)
+            ∙ ap (λ (o : Bool). o || view_blocks (a + 1) (b + 1) x) (sym (and-no (pairs_of w.rows a b)))))
+        go a b false false e f =
+            let none : has_session (a + 1) x.waiting ≡ false = ap (λ (y : View). has_session (a + 1) y.waiting) last ∙ (has_session-push (a + 1) v.waiting c ∙ (λ i. turned a e i || f i)) in
+            both-no (pairs_of w.rows a b) ∙ ap (λ (o : Bool). (pairs_of w.rows a b && true) || o) (sym (blocks-none (a + 1) (b + 1) x none))

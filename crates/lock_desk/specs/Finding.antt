@@ -10,7 +10,7 @@ use Rattle.lock_rules.specs.State.{number_in}
 use Rattle.lock_desk.specs.declared.cells.SessionMode.{SessionMode}
 use Rattle.lock_desk.specs.declared.cells.Cell.{Cell}
 use Rattle.lock_desk.specs.declared.waits.Waits.{Waits}
-use Rattle.lock_desk.specs.Cells.{Cells, View, has_session, mode_of, view_of, cell_view}
+use Rattle.lock_desk.specs.Cells.{Cells, View, has_session, mode_of, view_of, can_grant, view_after_asking, cell_view}
 use Rattle.lock_desk.specs.Lockers.{Standing, standing_at}
 
 -- u holds here, is another session, and holds a mode that conflicts with this one
@@ -67,6 +67,14 @@ pub record IsWritten (s : ℕ) (v : View) (w : Waits) : Type 0 where
   pub within : IsOfSessions w.rows.sessions v
   pub waiting : (a b : ℕ) → has_session (a + 1) v.waiting ≡ true → pairs_of w.rows a b ≡ view_blocks (a + 1) (b + 1) v
   pub idle : (a b : ℕ) → a + 1 ≡ s → pairs_of w.rows a b ≡ false
+
+-- a session has asked at a resource of which this is seen now, and the rows say still what they said before
+pub record HasAskedThere (c : SessionMode) (granted : Bool) (now : View) (w : Waits) : Type 0 where
+  pub before : View
+  pub written : IsWritten c.session before w
+  pub idle : has_session c.session before.waiting ≡ false
+  pub granted_is : granted ≡ can_grant c before
+  pub after : now ≡ view_after_asking c before
 
 -- the rows follow a change of what is seen of one resource: those of the sessions that waited there before are emptied,
 -- those of the sessions that wait there after it say who keeps them waiting, and the others stand as before

@@ -4,8 +4,8 @@ ghost use Rattle.std.specs.Prelude.{◌≡◌, ℕ, ◌+◌, ◌-◌, ◌<◌, �
 ghost use Rattle.waits_for.specs.Pairs.{pairs_of};
 ghost use Rattle.waits_for.specs.Walks.{Reaches, IsYoungestOnCircle};
 ghost use Rattle.lock_desk.specs.declared.cells.SessionMode.{SessionMode as SessionModeValue};
-ghost use Rattle.lock_desk.specs.Cells.{View, has_session, times, view_of, can_grant, is_granted, view_after_asking};
-ghost use Rattle.lock_desk.specs.Finding.{cell_blocks, AreOfSessions, IsOfSessions, IsReady, IsWritten, DoFollow};
+ghost use Rattle.lock_desk.specs.Cells.{View, has_session, times, view_of, is_granted};
+ghost use Rattle.lock_desk.specs.Finding.{cell_blocks, AreOfSessions, IsOfSessions, IsReady, HasAskedThere, DoFollow};
 
 use crate::cells::{Cell, RequestStatus, SessionMode};
 use crate::positions::{position_of, session_at};
@@ -143,16 +143,15 @@ pub(crate) fn follow_request(
     asker: SessionMode,
     status: RequestStatus,
 )
-    requires some { 1 ≤ asker.session }
-    requires own { asker.session ≤ waits.old.rows.sessions }
     requires within { IsOfSessions waits.old.rows.sessions (view_of cell.now) }
     requires once { (s : ℕ) → times s (view_of cell.now).waiting ≤ 1 }
-    ensures { (v : View) → IsWritten asker.session v waits.old → has_session asker.session v.waiting ≡ false
-        → is_granted status ≡ can_grant asker v → view_of cell.now ≡ view_after_asking asker v
-        → DoFollow v (view_of cell.now) waits.old waits.new }
+    requires asked { HasAskedThere asker (is_granted status) (view_of cell.now) waits.old }
+    ensures { (h : HasAskedThere asker (is_granted status) (view_of cell.now) waits.old)
+        → DoFollow h.before (view_of cell.now) waits.old waits.new }
 {
     if status == RequestStatus::Waiting && cell.mode_held(asker.session).is_none() {
-        cell.write_waits(&mut waits.rows, asker.session);
+        let last = cell.queue().len() - 1;
+        write_request(&mut waits.rows, cell, last);
         return;
     }
     clear_queue(waits, cell);

@@ -80,6 +80,22 @@ returns-in_ok-status-in-Some-clause-ok c =
     let t = there _ c.same_path_is_equality.ensures.code m cs e r c.args.place c.in-Some.place c.in-Some.is c.requires.place x c.index_mut-cell.ensures.value in
     wrote-kept _ c.same_path_is_equality.ensures.code m cs e r c.args.place c.in-Some.place c.in-Some.is c.requires.place x c.index_mut-cell.ensures.value c.ask.new.self c.len-len.ensures.unique _ c.requires.kept c.ask.ensures.kept (c.in_ok-status-in-Some.ensures.view ∙ ap (λ (o : Option Cell). view_after_asking c.args.asker (view_in o)) t)
 
+pub follow_request-requires-clause-asked : goal.follow_request-requires-clause-asked
+follow_request-requires-clause-asked c =
+    let cs = c.args.self.now.entries in
+    let r = c.args.resource in
+    let m = c.self.inside.cells in
+    let e = ap (λ (t : Table). t.entries) c.self.view_is in
+    let x = c.index_mut-cell.result.now in
+    let t = there _ c.same_path_is_equality.ensures.code m cs e r c.args.place c.in-Some.place c.in-Some.is c.requires.place x c.index_mut-cell.ensures.value in
+    record {
+      before = cell_view r cs;
+      written = c.requires.written;
+      idle = c.requires.idle;
+      granted_is = c.in_ok-status-in-Some.ensures.granted ∙ ap (λ (o : Option Cell). can_grant c.args.asker (view_in o)) t;
+      after = c.in_ok-status-in-Some.ensures.view ∙ ap (λ (o : Option Cell). view_after_asking c.args.asker (view_in o)) t;
+    }
+
 pub returns-in_ok-status-in-Some-clause-rows : goal.returns-in_ok-status-in-Some-clause-rows
 returns-in_ok-status-in-Some-clause-rows c =
     let cs = c.args.self.now.entries in
@@ -90,7 +106,7 @@ returns-in_ok-status-in-Some-clause-rows c =
     let t = there _ c.same_path_is_equality.ensures.code m cs e r c.args.place c.in-Some.place c.in-Some.is c.requires.place x c.index_mut-cell.ensures.value in
     let asked = c.in_ok-status-in-Some.ensures.view ∙ ap (λ (o : Option Cell). view_after_asking c.args.asker (view_in o)) t in
     let granted = c.in_ok-status-in-Some.ensures.granted ∙ ap (λ (o : Option Cell). can_grant c.args.asker (view_in o)) t in
-    subst (λ (v : View). DoFollow (cell_view r cs) v c.args.waits.now c.follow_request.new.waits) asked (c.follow_request.ensures (cell_view r cs) c.requires.written c.requires.idle granted asked)
+    subst (λ (v : View). DoFollow (cell_view r cs) v c.args.waits.now c.follow_request.new.waits) asked (c.follow_request.ensures (record { before = cell_view r cs; written = c.requires.written; idle = c.requires.idle; granted_is = granted; after = asked }))
 
 pub returns-in_err-status-in-Some-clause-err : goal.returns-in_err-status-in-Some-clause-err
 returns-in_err-status-in-Some-clause-err c =
