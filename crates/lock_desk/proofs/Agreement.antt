@@ -22,7 +22,7 @@ use Rattle.lock_desk.proofs.CellTable.{map-set_same}
 
 -- an act after another keeps what both keep
 pub keeps-on : {d e f : Desk} → DoesKeep d e → DoesKeep e f → DoesKeep d f
-keeps-on h k = record { whole = k.whole; lockers = k.lockers ∙ h.lockers; waits = k.waits ∙ h.waits }
+keeps-on h k = record { whole = k.whole; lockers = k.lockers ∙ h.lockers; ready = k.ready }
 
 -- the standing of one session is written
 

@@ -13,7 +13,10 @@ use Rattle.lock_desk.specs.Cells.{View, has_session, has_path, can_grant, view_a
 use Rattle.lock_tree.specs.Paths.{parent_of}
 use Rattle.lock_desk.specs.ChildCounts.{IsUnder}
 use Rattle.lock_desk.specs.Lockers.{Standing, standing_of, standings_of, standing_at, is_wanted, standing_after_asking, IsKeptLocker, DoAgree}
-use Rattle.lock_desk.specs.Changes.{view_at, standings, standing, mode_held, IsWhole, IsSameSeen, HasAsked}
+use Rattle.lock_desk.specs.Changes.{view_at, standings, standing, mode_held, IsWhole, DoesKeep, IsSameSeen, HasAsked}
+use Rattle.lock_desk.specs.Finding.{DoFollow}
+use Rattle.lock_desk.specs.Ready.{IsReadyDesk}
+use Rattle.lock_desk.proofs.RowsOfTheDesk.{ready-follow}
 use Rattle.lock_desk.proofs.SessionModes.{mode-has}
 use Rattle.lock_desk.proofs.LockerStandings.{IsPositionOf, standings-set, standing-here, length-standings}
 use Rattle.lock_desk.proofs.CellTable.{same-view}
@@ -147,3 +150,9 @@ module _ (d : Desk) (s : ℕ) (r : List ℕ) (m : Mode) (granted : Bool) (e : De
         (subst (DoAgree r (view_after_asking (record { session = s; mode = m }) (view_at r d))) (sym own) (asked-agree (standings d) s r (record { session = s; mode = m }) long refl idle (view_at r d) granted is (w.agree r)))
         (λ x n. subst (DoAgree x (view_at x d)) (sym own) (asked-other (standings d) s r (record { session = s; mode = m }) long refl x (view_at x d) granted n idle (w.agree x)));
   }
+
+  -- and who waits for whom is written down, where the rows follow the cell
+  pub asked-keeps : All IsKeptLocker e.lockers.items → vec_len e.lockers ≡ vec_len d.lockers → e.count ≡ d.count → DoFollow (view_at r d) (view_after_asking (record { session = s; mode = m }) (view_at r d)) d.waits e.waits → IsReadyDesk d → DoesKeep d e
+  asked-keeps lockers len count rows k =
+      let whole = asked-whole lockers in
+      record { whole = whole; lockers = len; ready = ready-follow r (view_after_asking (record { session = s; mode = m }) (view_at r d)) d e w whole b.views len (has-asked count).transactions rows k }

@@ -1,9 +1,8 @@
 -- A transaction begins or ends: its locker is with_transaction.
-use Rattle.std.proofs.Common.{◌≡◌, ℕ, zero, suc, ◌+◌, ◌<◌, ◌≤◌, Bool, true, false, cond, eqb, inl, inr, List, [], ◌∷◌, length, get_or, set, Option, Some, None, refl, sym, ◌∙◌, ap, arith, subst}
+use Rattle.std.proofs.Common.{◌≡◌, ℕ, zero, suc, ◌+◌, ◌<◌, ◌≤◌, Bool, true, false, cond, eqb, inl, inr, List, [], ◌∷◌, length, get_or, set, Option, Some, None, refl, sym, ◌∙◌, ap, arith, subst, vec_len}
 use Rattle.std.proofs.lemmas.Bool.{cases_Bool}
 use Rattle.lock_rules.proofs.Sound.{eqb-swap}
 use Rattle.std.specs.List.{All}
-use Rattle.std.specs.Prelude.{vec_capacity}
 use Rattle.std.proofs.lemmas.Bool.Decides.{Decides-eqb}
 use Rattle.std.proofs.lemmas.List.Elements.{All-set, All-get_or, All-head, All-tail}
 use Rattle.lock_tree.specs.Paths.{same_path}
@@ -16,12 +15,14 @@ use Rattle.lock_desk.specs.declared.lockers.Locker.{Locker}
 use Rattle.lock_desk.specs.declared.desk.Desk.{Desk}
 use Rattle.lock_desk.specs.Cells.{View, has_session, view_after_giving_up, view_after_freeing, cell_view, has_path, AreKeptCells, CellsBecame}
 use Rattle.lock_desk.specs.Lockers.{Standing, wanted_in, standing_of, standings_of, standing_at, is_wanted, locks_to_come, IsOfKind, IsComingUnder, IsKeptLocker, AreSameOrGranted, DoAgree}
-use Rattle.lock_desk.specs.Changes.{view_at, standings, standing, view_after_unlock, view_after_cancel, IsWhole, HasFreed, HasGivenBackAll, HasCancelled, HasDoomed, HasBegun, HasEnded}
+use Rattle.lock_desk.specs.Changes.{view_at, standings, standing, view_after_unlock, view_after_cancel, IsWhole, DoesKeep, IsSameSeen, HasFreed, HasGivenBackAll, HasCancelled, HasDoomed, HasBegun, HasEnded}
+use Rattle.lock_desk.specs.Finding.{DoFollow}
+use Rattle.lock_desk.specs.Ready.{IsReadyDesk}
 use Rattle.lock_desk.proofs.LockerKept.{kept-again}
 use Rattle.lock_desk.proofs.LockerStandings.{IsPositionOf, standings-set, standing-here, length-standings}
 use Rattle.lock_desk.proofs.Agreement.{own-standing, other-standing, GivesUp}
 use Rattle.lock_desk.proofs.Asking.{idle-there}
-use Rattle.lock_desk.proofs.GivingUp.{gives-request, freed-agree, freed-own, has-freed, freed-whole}
+use Rattle.lock_desk.proofs.GivingUp.{gives-request, freed-agree, freed-own, has-freed, freed-whole, freed-keeps}
 
 -- no session holds more than its limit
 pub few-at : (ws : List Locker) (s : ℕ) → All IsKeptLocker ws → length (standing_at s (standings_of ws)).held ≤ MAX_LOCKS
@@ -185,6 +186,10 @@ module _ (d : Desk) (s : ℕ) (r : List ℕ) (locker new : Locker) (w : IsWhole 
     pub cancel-whole : IsWhole e
     cancel-whole = freed-whole d part.Request s r locker new lt at gives w e (ap wanted_in gone) b agree lockers granted
 
+    -- and who waits for whom is written down
+    pub cancel-keeps : vec_len e.lockers ≡ vec_len d.lockers → e.count ≡ d.count → DoFollow (view_at r d) (view_after_freeing part.Request s (view_at r d)) d.waits e.waits → IsReadyDesk d → DoesKeep d e
+    cancel-keeps len count rows k = freed-keeps d part.Request s r locker new lt at gives w e (ap wanted_in gone) b agree lockers granted len count rows k
+
 -- a desk with the same lockers and cells is whole too
 pub same-whole : (d e : Desk) → IsWhole d → e.lockers.items ≡ d.lockers.items → e.cells ≡ d.cells → IsWhole e
 same-whole d e w lockers cells = record {
@@ -192,6 +197,10 @@ same-whole d e w lockers cells = record {
   lockers = subst (All IsKeptLocker) (sym lockers) w.lockers;
   agree = λ r. subst (λ (ws : List Locker). DoAgree r (view_at r e) (standings_of ws)) (sym lockers) (subst (λ cs. DoAgree r (cell_view r cs.entries) (standings d)) (sym cells) (w.agree r));
 }
+
+-- and nothing of it is seen otherwise
+pub same-seen : (d e : Desk) → e.count ≡ d.count → e.lockers.items ≡ d.lockers.items → e.cells ≡ d.cells → IsSameSeen d e
+same-seen d e count lockers cells = record { count = count; standings_same = ap standings_of lockers; views = λ q. ap (λ cs. cell_view q cs.entries) cells }
 
 -- a session that doesn't wait is as if cancelled
 pub same-cancelled : (s : ℕ) (d e : Desk) → IsWhole d → (standing s d).wanted ≡ None → e.count ≡ d.count → e.lockers.items ≡ d.lockers.items → e.cells ≡ d.cells → HasCancelled s d e

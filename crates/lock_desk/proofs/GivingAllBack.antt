@@ -1,5 +1,5 @@
 -- A session gives back all its locks, the last one first.
-use Rattle.std.proofs.Common.{◌≡◌, ℕ, ◌+◌, Bool, true, false, cond, inl, inr, List, [], ◌∷◌, ◌++◌, length, length-append, get_or, set, Option, Some, None, refl, sym, ◌∙◌, ap, arith, subst}
+use Rattle.std.proofs.Common.{◌≡◌, ℕ, Bool, true, false, cond, inl, inr, List, [], ◌∷◌, ◌++◌, length, length-append, get_or, set, Option, Some, None, refl, sym, ◌∙◌, ap, arith, subst, vec_len}
 use Rattle.std.proofs.lemmas.Bool.{or_right}
 use Rattle.std.specs.List.{All}
 use Rattle.std.proofs.lemmas.List.Elements.{All-set, All-get_or}
@@ -11,10 +11,12 @@ use Rattle.lock_desk.specs.declared.lockers.Locker.{Locker}
 use Rattle.lock_desk.specs.declared.desk.Desk.{Desk}
 use Rattle.lock_desk.specs.Cells.{View, has_session, view_after_giving_up, view_after_freeing, has_path, AreApart, CellsBecame}
 use Rattle.lock_desk.specs.Lockers.{Standing, wanted_in, standing_of, standings_of, locks_to_come, IsKeptLocker, AreSameOrGranted, DoAgree}
-use Rattle.lock_desk.specs.Changes.{view_at, standings, standing, view_after_unlock, IsWhole, HasGivenBack, HasGivenBackAll}
+use Rattle.lock_desk.specs.Changes.{view_at, standings, standing, view_after_unlock, IsWhole, DoesKeep, HasGivenBack, HasGivenBackAll}
+use Rattle.lock_desk.specs.Finding.{DoFollow}
+use Rattle.lock_desk.specs.Ready.{IsReadyDesk}
 use Rattle.lock_desk.proofs.LockerStandings.{IsPositionOf, standing-here, apart-pop, has_path-push, has_path-push_other}
 use Rattle.lock_desk.proofs.Agreement.{apart-at, GivesUp}
-use Rattle.lock_desk.proofs.GivingUp.{gives-last, freed-agree, freed-own, has-freed, freed-whole}
+use Rattle.lock_desk.proofs.GivingUp.{gives-last, freed-agree, freed-own, has-freed, freed-whole, freed-keeps}
 
 -- no request is none
 pub none-in : (o : Option Request) → wanted_in o ≡ None → o ≡ None
@@ -74,6 +76,10 @@ module _ (d : Desk) (s : ℕ) (r : List ℕ) (locker new : Locker) (w : IsWhole 
     -- and the desk is whole
     pub back-whole : IsWhole e
     back-whole = freed-whole d part.Lock s r locker new lt at gives w e none-left b agree lockers granted
+
+    -- and who waits for whom is written down
+    pub back-keeps : vec_len e.lockers ≡ vec_len d.lockers → DoFollow (view_at r d) (view_after_freeing part.Lock s (view_at r d)) d.waits e.waits → IsReadyDesk d → DoesKeep d e
+    back-keeps len rows k = freed-keeps d part.Lock s r locker new lt at gives w e none-left b agree lockers granted len count rows k
 
 -- lock after lock
 

@@ -1,5 +1,5 @@
 -- A session gives up one lock, wherever it stands in its list, or its request.
-use Rattle.std.proofs.Common.{◌≡◌, ℕ, ◌+◌, ◌<◌, ◌≤◌, Bool, true, false, cond, not, eqb, ◌⊎◌, inl, inr, List, [], ◌∷◌, ◌++◌, length, get_or, set, Some, None, refl, sym, ◌∙◌, ap, arith, subst}
+use Rattle.std.proofs.Common.{◌≡◌, ℕ, ◌+◌, ◌<◌, ◌≤◌, Bool, true, false, cond, not, eqb, ◌⊎◌, inl, inr, List, [], ◌∷◌, ◌++◌, length, get_or, set, Some, None, refl, sym, ◌∙◌, ap, arith, subst, vec_len}
 use Rattle.std.proofs.lemmas.Bool.{or_parts, cases_Bool}
 use Rattle.std.specs.List.{All}
 use Rattle.std.proofs.lemmas.Bool.Decides.{Decides-eqb}
@@ -11,7 +11,10 @@ use Rattle.lock_desk.specs.declared.lockers.Locker.{Locker}
 use Rattle.lock_desk.specs.declared.desk.Desk.{Desk}
 use Rattle.lock_desk.specs.Cells.{view_after_giving_up, view_after_freeing, has_path, AreApart, CellsBecame}
 use Rattle.lock_desk.specs.Lockers.{Standing, standing_of, standings_of, standing_at, is_wanted, paths_but, IsKeptLocker, IsSameOrGranted, AreSameOrGranted, DoAgree}
-use Rattle.lock_desk.specs.Changes.{view_at, standings, standing, IsWhole, HasFreed}
+use Rattle.lock_desk.specs.Changes.{view_at, standings, standing, IsWhole, DoesKeep, HasFreed}
+use Rattle.lock_desk.specs.Finding.{DoFollow}
+use Rattle.lock_desk.specs.Ready.{IsReadyDesk}
+use Rattle.lock_desk.proofs.RowsOfTheDesk.{ready-follow}
 use Rattle.lock_desk.proofs.LockerStandings.{IsPositionOf, standings-set, standing-here, length-standings, apart-pop, has_path-push_other}
 use Rattle.lock_desk.proofs.Agreement.{own-standing, other-standing, all-agree, GivesUp, given-agree, given-other, granted-other, not-granted}
 
@@ -109,6 +112,10 @@ module _ (d : Desk) (p : Part) (s : ℕ) (r : List ℕ) (locker new : Locker) {i
       lockers = lockers;
       agree = all-agree r (view_after_freeing p s (view_at r d)) d e b.views agree (λ x n. granted-other r x (view_at x d) _ (standings e) n granted-mid (given-other (standings d) p s r (standing_of new) long here x n (view_at x d) (w.agree x)));
     }
+
+    -- and who waits for whom is written down, where the rows follow the cell
+    pub freed-keeps : vec_len e.lockers ≡ vec_len d.lockers → e.count ≡ d.count → DoFollow (view_at r d) (view_after_freeing p s (view_at r d)) d.waits e.waits → IsReadyDesk d → DoesKeep d e
+    freed-keeps len count rows k = record { whole = freed-whole; lockers = len; ready = ready-follow r (view_after_freeing p s (view_at r d)) d e w freed-whole b.views len (has-freed count).transactions rows k }
 
 -- what is given up
 

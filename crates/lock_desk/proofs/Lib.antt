@@ -55,10 +55,14 @@ pub mod AfterStep
 -- tests and acts of the desk are those of the state
 pub mod Simulation
 -- deadlocks
--- what is written down of one session
+-- what is written down of those who wait at one resource
 pub mod WritingWaits
+-- a request waits as one ahead of it does
+pub mod RequestsAlike
 -- whoever holds or waits has a locker
 pub mod SessionsInRange
+-- what is written down stays right after each act
+pub mod RowsOfTheDesk
 -- the pairs that are written down are the waits of the state
 pub mod WaitsOfTheState
 -- the victim that is found is the victim of the state

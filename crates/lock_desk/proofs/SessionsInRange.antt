@@ -1,15 +1,17 @@
 -- Whoever holds or waits in a whole desk is one of its sessions.
-use Rattle.std.proofs.Common.{◌≡◌, ℕ, zero, suc, ◌<◌, ◌≤◌, Bool, true, false, eqb, ◌||◌, List, [], ◌∷◌, length, Option, Some, None, IfSome, refl, ◌∙◌, ap, arith}
+use Rattle.std.proofs.Common.{◌≡◌, ℕ, zero, suc, ◌<◌, ◌≤◌, Bool, true, false, eqb, ◌||◌, List, [], ◌∷◌, length, Option, Some, None, IfSome, cond, refl, sym, ◌∙◌, ap, arith, subst}
 use Rattle.std.proofs.lemmas.Bool.Decides.{nat_tests, Decides-eqb}
-use Rattle.std.proofs.lemmas.List.Elements.{All-nil, All-cons}
+use Rattle.std.proofs.lemmas.List.Elements.{All-nil, All-cons, All-head, All-tail}
 use Rattle.lock_desk.specs.declared.cells.SessionMode.{SessionMode}
 use Rattle.lock_desk.specs.declared.cells.Cell.{Cell}
 use Rattle.lock_desk.specs.declared.desk.Desk.{Desk}
-use Rattle.lock_desk.specs.Cells.{Cells, cell_at, view_in, cell_view, has_session, has_path, IsOnce, IsKeptCell, AreKeptCells}
-use Rattle.lock_desk.specs.Lockers.{Standing, standing_at}
-use Rattle.lock_desk.specs.Changes.{view_at, standings, IsWhole}
+use Rattle.lock_desk.specs.declared.lockers.Locker.{Locker}
+use Rattle.lock_desk.specs.Cells.{View, Cells, cell_at, view_in, cell_view, has_session, has_path, with_holder, can_grant, queue_with, view_after_asking, IsOnce, IsKeptCell, AreKeptCells}
+use Rattle.lock_desk.specs.Lockers.{Standing, standings_of, standing_at, DoAgree}
+use Rattle.lock_desk.specs.Changes.{view_at, IsWhole}
 use Rattle.lock_desk.specs.Finding.{AreOfSessions, IsOfSessions}
-use Rattle.lock_desk.proofs.ResourceViews.{once-nobody}
+use Rattle.lock_desk.proofs.ResourceViews.{both, once-nobody}
+use Rattle.lock_desk.proofs.SessionModes.{has_session-with_holder, has_session-queued}
 use Rattle.lock_desk.proofs.LockerStandings.{waits-within, length-standings}
 
 -- what is kept of a cell is kept of what is seen of its resource
@@ -44,11 +46,49 @@ all-numbered n (c ∷ cs) h k =
     more u true e = refl
     more u false e = e
 
+-- lockers and cell agree, so each session of the cell has a locker
+pub numbered-agree : (n : ℕ) (ws : List Locker) → n ≡ length ws → (r : List ℕ) (v : View) → DoAgree r v (standings_of ws) → IsOnce v → IsOfSessions n v
+numbered-agree n ws long r v a o = record {
+  holders = all-numbered n v.holders o.holders (λ u e. omega (arith, holds-within (standings_of ws) r u (a.held u ∙ e), length-standings ws, long));
+  waiting = all-numbered n v.waiting o.waiting (λ u e. omega (arith, waits-within (standings_of ws) r u (a.wanted u ∙ e), length-standings ws, long));
+}
+
 -- each session that holds or waits has a locker
 pub numbered-whole : (d : Desk) (n : ℕ) → n ≡ length d.lockers.items → IsWhole d → (r : List ℕ) → IsOfSessions n (view_at r d)
-numbered-whole d n long w r =
-    let o = once-at r d.cells.entries w.cells in
-    record {
-      holders = all-numbered n (view_at r d).holders o.holders (λ u e. omega (arith, holds-within (standings d) r u ((w.agree r).held u ∙ e), length-standings d.lockers.items, long));
-      waiting = all-numbered n (view_at r d).waiting o.waiting (λ u e. omega (arith, waits-within (standings d) r u ((w.agree r).wanted u ∙ e), length-standings d.lockers.items, long));
-    }
+numbered-whole d n long w r = numbered-agree n d.lockers.items long r (view_at r d) (w.agree r) (once-at r d.cells.entries w.cells)
+
+-- one session more asks
+
+-- which numbers those have that are among them
+among : (n : ℕ) (cs : List SessionMode) → AreOfSessions n cs → (u : ℕ) → has_session u cs ≡ true → (1 ≤ u) × (u ≤ n)
+among n [] k u h = absurd (cc)
+among n (c ∷ cs) k u h = go (eqb c.session u) refl h (among n cs (All-tail (λ c. (1 ≤ c.session) × (c.session ≤ n)) c cs k) u)
+  where
+    go : (b : Bool) → eqb c.session u ≡ b → (b || has_session u cs) ≡ true → (has_session u cs ≡ true → (1 ≤ u) × (u ≤ n)) → (1 ≤ u) × (u ≤ n)
+    go true e f next = subst (λ (i : ℕ). (1 ≤ i) × (i ≤ n)) ((Decides-eqb c.session u).0 e) (All-head (λ c. (1 ≤ c.session) × (c.session ≤ n)) c cs k)
+    go false e f next = next f
+
+more-numbered : (n : ℕ) (c : SessionMode) (cs more : List SessionMode) → 1 ≤ c.session → c.session ≤ n → AreOfSessions n cs → ((u : ℕ) → has_session u more ≡ (eqb c.session u || has_session u cs)) → AreOfSessions n more
+more-numbered n c cs more some few k is = all-numbered n more none (λ u e. (each u (sym (is u) ∙ e)).1)
+  where
+    each : (u : ℕ) → (eqb c.session u || has_session u cs) ≡ true → (1 ≤ u) × (u ≤ n)
+    each u h = go (eqb c.session u) refl h
+      where
+        go : (b : Bool) → eqb c.session u ≡ b → (b || has_session u cs) ≡ true → (1 ≤ u) × (u ≤ n)
+        go true e f = subst (λ (i : ℕ). (1 ≤ i) × (i ≤ n)) ((Decides-eqb c.session u).0 e) (some, few)
+        go false e f = among n cs k u f
+
+    none : has_session 0 more ≡ false
+    none = go (has_session 0 more) refl
+      where
+        go : (b : Bool) → has_session 0 more ≡ b → has_session 0 more ≡ false
+        go false e = e
+        go true e = absurd (let z = (each 0 (sym (is 0) ∙ e)).0 in omega (arith, z))
+
+-- where the asker has a locker, each session that holds or waits then has one
+pub numbered-asked : (n : ℕ) (c : SessionMode) (v : View) → 1 ≤ c.session → c.session ≤ n → IsOfSessions n v → IsOfSessions n (view_after_asking c v)
+numbered-asked n c v some few k = go (can_grant c v)
+  where
+    go : (g : Bool) → IsOfSessions n (cond g (both (with_holder c v.holders) v.waiting) (both v.holders (queue_with c v.holders v.waiting)))
+    go true = record { holders = more-numbered n c v.holders (with_holder c v.holders) some few k.holders (λ u. has_session-with_holder u c v.holders); waiting = k.waiting }
+    go false = record { holders = k.holders; waiting = more-numbered n c v.waiting (queue_with c v.holders v.waiting) some few k.waiting (λ u. has_session-queued u c v.holders v.waiting) }

@@ -1,10 +1,16 @@
--- What a scan of the holders and of the queue has written down.
-use Rattle.std.proofs.Common.{◌≡◌, ℕ, zero, suc, ◌+◌, ◌-◌, ◌<◌, ◌≤◌, Bool, true, false, cond, not, eqb, ◌&&◌, ◌||◌, List, [], ◌∷◌, length, get_or, take, Some, None, refl, sym, ◌∙◌, ap, arith}
+-- What is written down of those who wait at one resource, and what it says after a request there.
+use Rattle.std.proofs.Common.{◌≡◌, ℕ, zero, suc, ◌+◌, ◌<◌, Bool, true, false, cond, not, eqb, ◌&&◌, ◌||◌, List, [], ◌∷◌, ◌++◌, length, length-append, get_or, take, Option, Some, None, is_some, refl, sym, ◌∙◌, ap, arith}
 use Rattle.std.proofs.lemmas.Bool.Decides.{nat_tests, Decides-eqb}
+use Rattle.waits_for.specs.Pairs.{pairs_of}
+use Rattle.lock_modes.specs.declared.Mode.{Mode}
 use Rattle.lock_desk.specs.declared.cells.SessionMode.{SessionMode}
-use Rattle.lock_desk.specs.Cells.{Cells, has_session, cell_at, view_in, cell_view}
-use Rattle.lock_desk.specs.Lockers.{Standing, standing_at}
-use Rattle.lock_desk.specs.Finding.{stands_first, view_blocks, blocks_at, blocks}
+use Rattle.lock_desk.specs.declared.waits.Waits.{Waits}
+use Rattle.lock_desk.specs.declared.cells.Part.{Part}
+use Rattle.lock_desk.specs.declared.cells.Part.TheVariants as part
+use Rattle.lock_desk.specs.Cells.{View, has_session, mode_of, with_holder, without, fits_among, behind_conversions, can_grant, queue_with, view_after_asking, view_after_grants, view_after_freeing}
+use Rattle.lock_desk.specs.Finding.{holder_blocks, stands_first, target_blocks, view_blocks, IsWritten, DoFollow}
+use Rattle.lock_desk.proofs.ResourceViews.{both}
+use Rattle.lock_desk.proofs.SessionModes.{mode-has, has_session-push, has_session-queued, has_session-without}
 
 -- all that stand before the session's request
 pub stands-until : (s u : ℕ) (ws : List SessionMode) (i : ℕ) (d : SessionMode) → i < length ws → (get_or ws i d).session ≡ s → has_session s (take i ws) ≡ false → stands_first u s ws ≡ has_session u (take i ws)
@@ -25,22 +31,211 @@ stands-all s u (q ∷ ws) h = go (eqb q.session s) h (stands-all s u ws)
     go true h next = absurd (cc)
     go false h next = ap (λ (b : Bool). eqb q.session u || b) (next h)
 
--- a row that was emptied, and written
+-- who waits there, and who doesn't
 
-at-position : (s a : ℕ) (old x : Bool) → 1 ≤ s → ((old && not (eqb a (s - 1))) || (eqb (a + 1) s && x)) ≡ cond (eqb (a + 1) s) x old
-at-position s a true true h = grind (arith, nat_tests)
-at-position s a true false h = grind (arith, nat_tests)
-at-position s a false true h = grind (arith, nat_tests)
-at-position s a false false h = grind (arith, nat_tests)
+-- nobody keeps a session waiting where it doesn't wait
+pub blocks-none : (s u : ℕ) (v : View) → has_session s v.waiting ≡ false → view_blocks s u v ≡ false
+blocks-none s u v h = go (mode_of s v.waiting) (mode-has s v.waiting ∙ h)
+  where
+    go : (o : Option Mode) → is_some o ≡ false → target_blocks s u v o ≡ false
+    go None e = refl
+    go (Some m) e = absurd (cc)
 
--- at the session's position, and nowhere else
-pub written : (s p a : ℕ) (old x : Bool) → 1 ≤ s → p ≡ s - 1 → ((old && not (eqb a p)) || (eqb (a + 1) s && x)) ≡ cond (eqb (a + 1) s) x old
-written s p a old x h e = ap (λ (i : ℕ). (old && not (eqb a i)) || (eqb (a + 1) s && x)) e ∙ at-position s a old x h
+-- so all that are kept waiting there are those who wait there
+pub blocks-waiting : (s u : ℕ) (v : View) → (has_session s v.waiting && view_blocks s u v) ≡ view_blocks s u v
+blocks-waiting s u v = go (has_session s v.waiting) refl
+  where
+    go : (b : Bool) → has_session s v.waiting ≡ b → (b && view_blocks s u v) ≡ view_blocks s u v
+    go true e = refl
+    go false e = sym (blocks-none s u v e)
 
--- where the session waits
-pub blocks-there : (cs : Cells) (ss : List Standing) (s u : ℕ) (r : List ℕ) → (standing_at s ss).wanted ≡ Some r → blocks cs ss s u ≡ view_blocks s u (cell_view r cs)
-blocks-there cs ss s u r h = ap (blocks_at s u cs) h
+-- a fresh request comes to the end of the queue
 
--- a locker that waits for a resource of no cell
-pub blocks-nowhere : (cs : Cells) (ss : List Standing) (s u : ℕ) (r : List ℕ) → (standing_at s ss).wanted ≡ Some r → None ≡ cell_at r cs → blocks cs ss s u ≡ false
-blocks-nowhere cs ss s u r h none = blocks-there cs ss s u r h ∙ ap (view_blocks s u) (sym (ap view_in none))
+mode-push : (s : ℕ) (c : SessionMode) (ws : List SessionMode) → eqb c.session s ≡ false → mode_of s (ws ++ c ∷ []) ≡ mode_of s ws
+mode-push s c [] n = ap (λ (b : Bool). cond b (Some c.mode) None) n
+mode-push s c (q ∷ ws) n = ap (λ (o : Option Mode). cond (eqb q.session s) (Some q.mode) o) (mode-push s c ws n)
+
+stands-push : (s u : ℕ) (c : SessionMode) (ws : List SessionMode) → has_session s ws ≡ true → stands_first u s (ws ++ c ∷ []) ≡ stands_first u s ws
+stands-push s u c [] h = absurd (cc)
+stands-push s u c (q ∷ ws) h = go (eqb q.session s) h (stands-push s u c ws)
+  where
+    go : (b : Bool) → (b || has_session s ws) ≡ true → (has_session s ws ≡ true → stands_first u s (ws ++ c ∷ []) ≡ stands_first u s ws) → cond b false (eqb q.session u || stands_first u s (ws ++ c ∷ [])) ≡ cond b false (eqb q.session u || stands_first u s ws)
+    go true h next = refl
+    go false h next = ap (λ (b : Bool). eqb q.session u || b) (next h)
+
+-- it keeps nobody waiting who was there before it
+blocks-push : (s u : ℕ) (c : SessionMode) (hs ws : List SessionMode) → eqb c.session s ≡ false → has_session s ws ≡ true → view_blocks s u (both hs (ws ++ c ∷ [])) ≡ view_blocks s u (both hs ws)
+blocks-push s u c hs ws n h = ap (target_blocks s u (both hs (ws ++ c ∷ []))) (mode-push s c ws n) ∙ go (mode_of s ws)
+  where
+    go : (o : Option Mode) → target_blocks s u (both hs (ws ++ c ∷ [])) o ≡ target_blocks s u (both hs ws) o
+    go None = refl
+    go (Some m) = ap (λ (b : Bool). holder_blocks s m u hs || b) (stands-push s u c ws h)
+
+-- what is written down after a release
+
+left-waiting : (s : ℕ) (hs ws : List SessionMode) → has_session s (view_after_grants hs ws).waiting ≡ true → has_session s ws ≡ true
+left-waiting s hs [] h = h
+left-waiting s hs (q ∷ ws) h = go (fits_among q hs) h (left-waiting s (with_holder q hs) ws)
+  where
+    or-true : (a : Bool) {b : Bool} → b ≡ true → (a || b) ≡ true
+    or-true true e = refl
+    or-true false e = e
+
+    go : (b : Bool) → has_session s (cond b (view_after_grants (with_holder q hs) ws) (both hs (q ∷ ws))).waiting ≡ true → (has_session s (view_after_grants (with_holder q hs) ws).waiting ≡ true → has_session s ws ≡ true) → (eqb q.session s || has_session s ws) ≡ true
+    go true h next = or-true (eqb q.session s) (next h)
+    go false h next = h
+
+-- who waits still has waited
+pub waits-still : (p : Part) (g s : ℕ) (v : View) → has_session s (view_after_freeing p g v).waiting ≡ true → has_session s v.waiting ≡ true
+waits-still part.Lock g s v h = left-waiting s (without g v.holders) v.waiting h
+waits-still part.Request g s v h = and-right (not (eqb s g)) (sym (has_session-without g s v.waiting) ∙ left-waiting s v.holders (without g v.waiting) h)
+  where
+    and-right : (a : Bool) {b : Bool} → (a && b) ≡ true → b ≡ true
+    and-right true h = h
+    and-right false h = absurd (cc)
+
+-- so its row was emptied
+pub emptied-still : (p : Part) (g s : ℕ) (v seen now : View) → seen ≡ v → now ≡ view_after_freeing p g v → has_session s now.waiting ≡ true → (old : Bool) {new : Bool} → new ≡ (old && not (has_session s seen.waiting)) → new ≡ false
+emptied-still p g s v seen now e f h old is =
+    is ∙ (ap (λ (b : Bool). old && not b) (ap (λ (y : View). has_session s y.waiting) e ∙ waits-still p g s v (ap (λ (y : View). has_session s y.waiting) (sym f) ∙ h)) ∙ none old)
+  where
+    none : (b : Bool) → (b && false) ≡ false
+    none true = refl
+    none false = refl
+
+-- the rows of those who waited were emptied, and those of them who wait still were written anew
+pub follows-freed : (v seen x now : View) (old mid new : Waits) → seen ≡ v → now ≡ x → mid.rows.sessions ≡ old.rows.sessions → new.rows.sessions ≡ mid.rows.sessions → mid.numbers ≡ old.numbers → new.numbers ≡ mid.numbers
+    → ((a b : ℕ) → pairs_of mid.rows a b ≡ (pairs_of old.rows a b && not (has_session (a + 1) seen.waiting))) → ((a b : ℕ) → pairs_of new.rows a b ≡ (pairs_of mid.rows a b || view_blocks (a + 1) (b + 1) now)) → DoFollow v x old new
+follows-freed v seen x now old mid new e f s t m n cleared wrote = record {
+  sessions = t ∙ s;
+  pairs = λ a b. wrote a b ∙ (λ i. cleared a b i || view_blocks (a + 1) (b + 1) (f i)) ∙ ap (λ (y : View). (pairs_of old.rows a b && not (has_session (a + 1) y.waiting)) || view_blocks (a + 1) (b + 1) x) e;
+  numbers = n ∙ m;
+}
+
+-- what is written down after a request
+
+module _ (c : SessionMode) (v : View) (w : Waits) (k : IsWritten c.session v w) (idle : has_session c.session v.waiting ≡ false) where
+  -- who waits then
+  waits-asked : (s : ℕ) (g : Bool) → has_session s (cond g (both v.holders v.waiting) (both v.holders (queue_with c v.holders v.waiting))).waiting ≡ (has_session s v.waiting || (not g && eqb c.session s))
+  waits-asked s true = sym (or-no (has_session s v.waiting))
+    where
+      or-no : (b : Bool) → (b || false) ≡ b
+      or-no true = refl
+      or-no false = refl
+  waits-asked s false = has_session-queued s c v.holders v.waiting ∙ swap (eqb c.session s) (has_session s v.waiting)
+    where
+      swap : (a b : Bool) → (a || b) ≡ (b || a)
+      swap true true = refl
+      swap true false = refl
+      swap false true = refl
+      swap false false = refl
+
+  -- all rows there were written anew
+  pub follows-all : (x : View) → (new : Waits) → x ≡ view_after_asking c v → new.rows.sessions ≡ w.rows.sessions → new.numbers ≡ w.numbers
+      → ((a b : ℕ) → pairs_of new.rows a b ≡ ((pairs_of w.rows a b && not (has_session (a + 1) x.waiting)) || view_blocks (a + 1) (b + 1) x)) → DoFollow v x w new
+  follows-all x new is sessions numbers pairs = record {
+    sessions = sessions;
+    numbers = numbers;
+    pairs = λ a b. pairs a b ∙ ap (λ (o : Bool). o || view_blocks (a + 1) (b + 1) x) (emptied a b (eqb c.session (a + 1)) refl);
+  }
+    where
+      seen : (g : Bool) → (cond g (both (with_holder c v.holders) v.waiting) (both v.holders (queue_with c v.holders v.waiting))).waiting ≡ (cond g (both v.holders v.waiting) (both v.holders (queue_with c v.holders v.waiting))).waiting
+      seen true = refl
+      seen false = refl
+
+      waits : (s : ℕ) → has_session s x.waiting ≡ (has_session s v.waiting || (not (can_grant c v) && eqb c.session s))
+      waits s = ap (λ (y : View). has_session s y.waiting) is ∙ (ap (has_session s) (seen (can_grant c v)) ∙ waits-asked s (can_grant c v))
+
+      drop-false : (a g : Bool) → (a || (g && false)) ≡ a
+      drop-false true g = refl
+      drop-false false true = refl
+      drop-false false false = refl
+
+      emptied : (a b : ℕ) (t : Bool) → eqb c.session (a + 1) ≡ t → (pairs_of w.rows a b && not (has_session (a + 1) x.waiting)) ≡ (pairs_of w.rows a b && not (has_session (a + 1) v.waiting))
+      emptied a b true e =
+          let none = k.idle a b (sym ((Decides-eqb c.session (a + 1)).0 e)) in
+          ap (λ (o : Bool). o && not (has_session (a + 1) x.waiting)) none ∙ sym (ap (λ (o : Bool). o && not (has_session (a + 1) v.waiting)) none)
+      emptied a b false e = ap (λ (o : Bool). pairs_of w.rows a b && not o) (waits (a + 1) ∙ (ap (λ (o : Bool). has_session (a + 1) v.waiting || (not (can_grant c v) && o)) e ∙ drop-false (has_session (a + 1) v.waiting) (not (can_grant c v))))
+
+  -- a fresh request that waits
+
+  module _ (x : View) (is : x ≡ view_after_asking c v) (waits : can_grant c v ≡ false) (fresh : is_some (mode_of c.session x.holders) ≡ false) where
+    queued : x ≡ both v.holders (queue_with c v.holders v.waiting)
+    queued = is ∙ ap (λ (g : Bool). cond g (both (with_holder c v.holders) v.waiting) (both v.holders (queue_with c v.holders v.waiting))) waits
+
+    new_here : has_session c.session v.holders ≡ false
+    new_here = ap (λ (y : View). has_session c.session y.holders) (sym queued) ∙ (sym (mode-has c.session x.holders) ∙ fresh)
+
+    -- it stands last
+    last : x ≡ both v.holders (v.waiting ++ c ∷ [])
+    last = queued ∙ ap (λ (g : Bool). both v.holders (cond g (behind_conversions c v.holders v.waiting) (v.waiting ++ c ∷ []))) new_here
+
+    pub last-within : length x.waiting ≡ suc (length v.waiting)
+    last-within = let n = length-append v.waiting (c ∷ []) in ap (λ (y : View). length y.waiting) last ∙ omega (arith, n)
+
+    here : (i : ℕ) (d : SessionMode) → suc i ≡ length x.waiting → get_or x.waiting i d ≡ c
+    here i d e = ap (λ (y : View). get_or y.waiting i d) last ∙ (ap (λ (k : ℕ). get_or (v.waiting ++ c ∷ []) k d) (let n = last-within in omega (arith, n, e)) ∙ at-end v.waiting)
+      where
+        at-end : (ws : List SessionMode) → get_or (ws ++ c ∷ []) (length ws) d ≡ c
+        at-end [] = refl
+        at-end (w ∷ ws) = at-end ws
+
+    ahead : (i : ℕ) → suc i ≡ length x.waiting → take i x.waiting ≡ v.waiting
+    ahead i e = ap (λ (y : View). take i y.waiting) last ∙ (ap (λ (k : ℕ). take k (v.waiting ++ c ∷ [])) (let n = last-within in omega (arith, n, e)) ∙ up-to v.waiting)
+      where
+        up-to : (ws : List SessionMode) → take (length ws) (ws ++ c ∷ []) ≡ ws
+        up-to [] = refl
+        up-to (w ∷ ws) = ap (λ (xs : List SessionMode). w ∷ xs) (up-to ws)
+
+    other : (s : ℕ) → has_session s v.waiting ≡ true → eqb c.session s ≡ false
+    other s h = go (eqb c.session s) refl
+      where
+        go : (b : Bool) → eqb c.session s ≡ b → eqb c.session s ≡ false
+        go false e = e
+        go true e = absurd (let f : has_session s v.waiting ≡ false = ap (λ (k : ℕ). has_session k v.waiting) (sym ((Decides-eqb c.session s).0 e)) ∙ idle in cc)
+
+    -- the rows of those ahead of it are right
+    pub written-ahead : (i : ℕ) → suc i ≡ length x.waiting → (a b : ℕ) → has_session (a + 1) (take i x.waiting) ≡ true → pairs_of w.rows a b ≡ view_blocks (a + 1) (b + 1) x
+    written-ahead i e a b h =
+        let f : has_session (a + 1) v.waiting ≡ true = ap (has_session (a + 1)) (sym (ahead i e)) ∙ h in
+        k.waiting a b f ∙ sym (ap (view_blocks (a + 1) (b + 1)) last ∙ blocks-push (a + 1) (b + 1) c v.holders v.waiting (other (a + 1) f) f)
+
+    -- so only its own is written
+    pub follows-fresh : (new : Waits) (i : ℕ) (d : SessionMode) → suc i ≡ length x.waiting → new.rows.sessions ≡ w.rows.sessions → new.numbers ≡ w.numbers
+        → ((a b : ℕ) → pairs_of new.rows a b ≡ (pairs_of w.rows a b || (eqb (a + 1) (get_or x.waiting i d).session && view_blocks (a + 1) (b + 1) x))) → DoFollow v x w new
+    follows-fresh new i d e sessions numbers pairs = record {
+      sessions = sessions;
+      numbers = numbers;
+      pairs = λ a b. pairs a b ∙ (ap (λ (q : SessionMode). pairs_of w.rows a b || (eqb (a + 1) q.session && view_blocks (a + 1) (b + 1) x)) (here i d e) ∙ go a b (eqb (a + 1) c.session) (has_session (a + 1) v.waiting) refl refl);
+    }
+      where
+        turned : (a : ℕ) → eqb (a + 1) c.session ≡ false → eqb c.session (a + 1) ≡ false
+        turned a e = grind (arith, nat_tests, e)
+
+        and-yes : (o : Bool) → (o && true) ≡ o
+        and-yes true = refl
+        and-yes false = refl
+
+        and-no : (o : Bool) → (o && false) ≡ false
+        and-no true = refl
+        and-no false = refl
+
+        or-no : (o : Bool) → (o || false) ≡ o
+        or-no true = refl
+        or-no false = refl
+
+        both-no : (o : Bool) → (o || false) ≡ ((o && true) || false)
+        both-no true = refl
+        both-no false = refl
+
+        go : (a b : ℕ) (t h : Bool) → eqb (a + 1) c.session ≡ t → has_session (a + 1) v.waiting ≡ h
+            → (pairs_of w.rows a b || (t && view_blocks (a + 1) (b + 1) x)) ≡ ((pairs_of w.rows a b && not h) || view_blocks (a + 1) (b + 1) x)
+        go a b true true e f = absurd (let g : has_session (a + 1) v.waiting ≡ false = ap (λ (s : ℕ). has_session s v.waiting) ((Decides-eqb (a + 1) c.session).0 e) ∙ idle in cc)
+        go a b true false e f = ap (λ (o : Bool). o || view_blocks (a + 1) (b + 1) x) (sym (and-yes (pairs_of w.rows a b)))
+        go a b false true e f =
+            or-no (pairs_of w.rows a b) ∙ (k.waiting a b f
+            ∙ (sym (ap (view_blocks (a + 1) (b + 1)) last ∙ blocks-push (a + 1) (b + 1) c v.holders v.waiting (turned a e) f)
+            ∙ ap (λ (o : Bool). o || view_blocks (a + 1) (b + 1) x) (sym (and-no (pairs_of w.rows a b)))))
+        go a b false false e f =
+            let none : has_session (a + 1) x.waiting ≡ false = ap (λ (y : View). has_session (a + 1) y.waiting) last ∙ (has_session-push (a + 1) v.waiting c ∙ (λ i. turned a e i || f i)) in
+            both-no (pairs_of w.rows a b) ∙ ap (λ (o : Bool). (pairs_of w.rows a b && true) || o) (sym (blocks-none (a + 1) (b + 1) x none))

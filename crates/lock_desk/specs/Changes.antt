@@ -19,6 +19,7 @@ use Rattle.lock_desk.specs.declared.cells.Part.TheVariants as part
 use Rattle.lock_desk.specs.Cells.{View, has_session, mode_of, cell_view, has_path, can_grant, view_after_asking, view_after_freeing, AreKeptCells, IsPlace}
 use Rattle.lock_desk.specs.ChildCounts.{has_child, IsUnder}
 use Rattle.lock_desk.specs.Lockers.{Standing, standings_of, standing_at, IsKeptLocker, DoAgree}
+use Rattle.lock_desk.specs.Ready.{IsReadyDesk}
 
 -- what the desk says of a resource
 abbrev pub view_at : List ℕ → Desk → View
@@ -37,11 +38,11 @@ pub record IsWhole (d : Desk) : Type 0 where
   pub lockers : All IsKeptLocker d.lockers.items
   pub agree : (r : List ℕ) → DoAgree r (view_at r d) (standings d)
 
--- what each act keeps: the desk is whole, has its lockers still, and its notes of who waits for whom are as before
+-- what each act keeps: the desk is whole, has its lockers still, and who waits for whom is written down
 pub record DoesKeep (d e : Desk) : Type 0 where
   pub whole : IsWhole e
   pub lockers : vec_len e.lockers ≡ vec_len d.lockers
-  pub waits : e.waits ≡ d.waits
+  pub ready : IsReadyDesk e
 
 -- what is seen of what the session holds on a resource
 abbrev pub mode_held : Desk → ℕ → List ℕ → Option Mode

@@ -1,6 +1,6 @@
 -- Private parts speak to one another here, and no public contract of this crate: who
 -- waits for whom, by what cells and lockers say.
-use Rattle.std.specs.Prelude.{◌≡◌, ℕ, ◌+◌, ◌≤◌, Bool, false, not, ◌&&◌, ◌||◌, if◌then◌else◌, ◌==◌, List, [], ◌∷◌, Option, Some, None, slice_index_or, vec_len}
+use Rattle.std.specs.Prelude.{◌≡◌, ℕ, ◌+◌, ◌≤◌, Bool, true, false, not, ◌&&◌, ◌||◌, if◌then◌else◌, ◌==◌, List, [], ◌∷◌, Option, Some, None, slice_index_or, vec_len}
 use Rattle.std.specs.List.{All, list_any}
 use Rattle.waits_for.specs.declared.TheConstants.{MAX_SESSIONS}
 use Rattle.waits_for.specs.Pairs.{pairs_of}
@@ -10,7 +10,7 @@ use Rattle.lock_rules.specs.State.{number_in}
 use Rattle.lock_desk.specs.declared.cells.SessionMode.{SessionMode}
 use Rattle.lock_desk.specs.declared.cells.Cell.{Cell}
 use Rattle.lock_desk.specs.declared.waits.Waits.{Waits}
-use Rattle.lock_desk.specs.Cells.{Cells, View, mode_of, view_of, cell_view}
+use Rattle.lock_desk.specs.Cells.{Cells, View, has_session, mode_of, view_of, can_grant, view_after_asking, cell_view}
 use Rattle.lock_desk.specs.Lockers.{Standing, standing_at}
 
 -- u holds here, is another session, and holds a mode that conflicts with this one
@@ -56,10 +56,29 @@ pub record IsOfSessions (n : ℕ) (v : View) : Type 0 where
   pub holders : AreOfSessions n v.holders
   pub waiting : AreOfSessions n v.waiting
 
--- there is room for so many sessions, and nothing stands in a locker that is not marked
+-- there is room for so many sessions
 pub record IsReady (n : ℕ) (w : Waits) : Type 0 where
   pub few : n ≤ MAX_SESSIONS
   pub sessions : w.rows.sessions ≡ n
   pub numbers : vec_len w.numbers ≡ n
-  pub filled : vec_len w.filled ≡ n
-  pub empty : (a b : ℕ) → slice_index_or w.filled.items a false ≡ false → pairs_of w.rows a b ≡ false
+
+-- the rows of those who wait at a resource say who keeps them waiting, and the row of this session is empty
+pub record IsWritten (s : ℕ) (v : View) (w : Waits) : Type 0 where
+  pub within : IsOfSessions w.rows.sessions v
+  pub waiting : (a b : ℕ) → has_session (a + 1) v.waiting ≡ true → pairs_of w.rows a b ≡ view_blocks (a + 1) (b + 1) v
+  pub idle : (a b : ℕ) → a + 1 ≡ s → pairs_of w.rows a b ≡ false
+
+-- a session has asked at a resource of which this is seen now, and the rows say still what they said before
+pub record HasAskedThere (c : SessionMode) (granted : Bool) (now : View) (w : Waits) : Type 0 where
+  pub before : View
+  pub written : IsWritten c.session before w
+  pub idle : has_session c.session before.waiting ≡ false
+  pub granted_is : granted ≡ can_grant c before
+  pub after : now ≡ view_after_asking c before
+
+-- the rows follow a change of what is seen of one resource: those of the sessions that waited there before are emptied,
+-- those of the sessions that wait there after it say who keeps them waiting, and the others stand as before
+pub record DoFollow (before after : View) (old new : Waits) : Type 0 where
+  pub sessions : new.rows.sessions ≡ old.rows.sessions
+  pub pairs : (a b : ℕ) → pairs_of new.rows a b ≡ ((pairs_of old.rows a b && not (has_session (a + 1) before.waiting)) || view_blocks (a + 1) (b + 1) after)
+  pub numbers : new.numbers ≡ old.numbers

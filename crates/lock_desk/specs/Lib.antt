@@ -7,9 +7,9 @@ pub mod Tables
 pub mod ChildCounts
 pub mod LockLists
 pub mod Lockers
-pub mod Changes
 pub mod Finding
 pub mod Ready
+pub mod Changes
 pub mod Shows
 pub mod Runs
 pub mod Invariant

@@ -8,10 +8,12 @@ ghost use Rattle.lock_tree.specs.Paths.{same_path};
 ghost use Rattle.lock_desk.specs.declared.cells.Cell.{Cell as CellValue};
 ghost use Rattle.lock_desk.specs.Cells.{no_view, view_of, has_session, mode_of, can_grant, is_granted, AreKeptCells, cell_at, cell_view, view_after_asking, view_after_giving_up, view_after_freeing, CellsBecame, ViewBecame, IsPlace, HasSpare, is_nobody, codes_unless_waited, view_with_holder, HasRoomAt};
 ghost use Rattle.lock_desk.specs.Lockers.{standings_of, IsKeptLocker, AreSameOrGranted, DoAgree};
+ghost use Rattle.lock_desk.specs.Finding.{IsOfSessions, IsWritten, DoFollow};
 
 use crate::cells::{Cell, Part, RequestStatus, SessionMode};
 use crate::lockers::Locker;
 use crate::releases::promote;
+use crate::waits::{Waits, clear_queue, follow_request, write_queue};
 use indexmap::IndexMap;
 use lock_modes::Mode;
 use lock_tree::{Resource, same_path_is_equality};
@@ -157,15 +159,21 @@ impl CellTable {
         place: Option<usize>,
         resource: Resource,
         asker: SessionMode,
+        waits: &mut Waits,
     ) -> Result<RequestStatus, AllocError>
         requires some { 1 ≤ asker.session }
+        requires within { asker.session ≤ waits.old.rows.sessions }
         requires kept { AreKeptCells self.old.entries }
         requires place { IsPlace resource self.old.entries place }
         requires idle { has_session asker.session (cell_view resource self.old.entries).waiting ≡ false }
+        requires written { IsWritten asker.session (cell_view resource self.old.entries) waits.old }
         ensures granted { let before = cell_view resource self.old.entries in
             IfOk result (λ status. is_granted status ≡ can_grant asker before) }
         ensures ok { OnOk result (ViewBecame resource (view_after_asking asker) self.old.entries self.new.entries) }
         ensures err { OnErr result (ViewBecame resource (λ v. v) self.old.entries self.new.entries) }
+        ensures rows { let before = cell_view resource self.old.entries in
+            OnOk result (DoFollow before (view_after_asking asker before) waits.old waits.new) }
+        ensures unwritten { OnErr result (waits.new ≡ waits.old) }
     {
         same_path_is_equality();
         match place {
@@ -173,7 +181,9 @@ impl CellTable {
                 // The length is what says that no resource stands twice.
                 let _len = self.cells.len();
                 let cell = &mut self.cells[place];
-                cell.ask(asker)
+                let status = cell.ask(asker)?;
+                follow_request(waits, cell, asker, status);
+                Ok(status)
             }
             None => {
                 open(&mut self.cells, &mut self.spare, resource, asker)?;
@@ -182,11 +192,12 @@ impl CellTable {
         }
     }
 
-    /// The session gives up its lock on the resource, or its request: the queue is promoted, and the cell goes
-    /// where nobody is left there.
+    /// The session gives up its lock on the resource, or its request: the queue is promoted, the rows of those who wait
+    /// there are written anew, and the cell goes where nobody is left.
     pub(crate) fn free_at(
         &mut self,
         lockers: &mut Vec<Locker>,
+        waits: &mut Waits,
         session: u16,
         place: Option<usize>,
         resource: Resource,
@@ -197,12 +208,16 @@ impl CellTable {
         requires agree { let left = view_after_giving_up part session (cell_view resource self.old.entries) in
             DoAgree resource left (standings_of lockers.old.items) }
         requires lockers { All IsKeptLocker lockers.old.items }
+        requires long { waits.old.rows.sessions ≡ vec_len lockers.old }
+        requires within { IsOfSessions waits.old.rows.sessions (cell_view resource self.old.entries) }
         ensures cells { ViewBecame resource (view_after_freeing part session) self.old.entries self.new.entries }
         ensures agree { let freed = view_after_freeing part session (cell_view resource self.old.entries) in
             DoAgree resource freed (standings_of lockers.new.items) }
         ensures lockers { All IsKeptLocker lockers.new.items }
         ensures granted { AreSameOrGranted resource (standings_of lockers.old.items) (standings_of lockers.new.items) }
         ensures len { vec_len lockers.new ≡ vec_len lockers.old }
+        ensures rows { let before = cell_view resource self.old.entries in
+            DoFollow before (view_after_freeing part session before) waits.old waits.new }
     {
         same_path_is_equality();
         let Some(place) = place else {
@@ -211,8 +226,10 @@ impl CellTable {
         // The length is what says that no resource stands twice.
         let _len = self.cells.len();
         let cell = &mut self.cells[place];
+        clear_queue(waits, cell);
         cell.give_up(session, part);
         promote(cell, resource, lockers);
+        write_queue(waits, cell);
         if cell.is_idle() {
             keep(&mut self.cells, &mut self.spare, place);
         }
@@ -222,6 +239,7 @@ impl CellTable {
     pub(crate) fn free(
         &mut self,
         lockers: &mut Vec<Locker>,
+        waits: &mut Waits,
         session: u16,
         resource: Resource,
         part: Part,
@@ -230,15 +248,19 @@ impl CellTable {
         requires agree { let left = view_after_giving_up part session (cell_view resource self.old.entries) in
             DoAgree resource left (standings_of lockers.old.items) }
         requires lockers { All IsKeptLocker lockers.old.items }
+        requires long { waits.old.rows.sessions ≡ vec_len lockers.old }
+        requires within { IsOfSessions waits.old.rows.sessions (cell_view resource self.old.entries) }
         ensures cells { ViewBecame resource (view_after_freeing part session) self.old.entries self.new.entries }
         ensures agree { let freed = view_after_freeing part session (cell_view resource self.old.entries) in
             DoAgree resource freed (standings_of lockers.new.items) }
         ensures lockers { All IsKeptLocker lockers.new.items }
         ensures granted { AreSameOrGranted resource (standings_of lockers.old.items) (standings_of lockers.new.items) }
         ensures len { vec_len lockers.new ≡ vec_len lockers.old }
+        ensures rows { let before = cell_view resource self.old.entries in
+            DoFollow before (view_after_freeing part session before) waits.old waits.new }
     {
         let place = self.place_of(resource);
-        self.free_at(lockers, session, place, resource, part);
+        self.free_at(lockers, waits, session, place, resource, part);
     }
 
     /// The bits of the codes of those who hold the resource whose place this is, where nobody waits for it.

@@ -245,6 +245,13 @@ impl Cell {
         mode_among(&self.holders, session)
     }
 
+    /// The requests that wait, the next one first.
+    pub(crate) fn queue(&self) -> &[SessionMode]
+        ensures { result.now ≡ (view_of self.now).waiting }
+    {
+        &self.waiting
+    }
+
     /// Writes the holders to the list, by session number.
     pub(crate) fn list_holders(&self, list: &mut Vec<(u16, Mode)>) -> Result<(), AllocError>
         ensures ok { OnOk result (list.new.items ≡ map pair_of self.now.holders.items) }

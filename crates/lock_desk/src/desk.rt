@@ -21,14 +21,14 @@ use crate::cells::{Part, RequestStatus, SessionMode};
 use crate::lockers::{Locker, Request};
 use crate::positions::position_of;
 use crate::refusals::target_of;
-use crate::waits::{Waits, fill, new_waits, victim};
+use crate::waits::{Waits, new_waits, set_number, victim};
 use lock_modes::Mode;
 use lock_rules::{Call, MAX_LOCKS, MAX_SESSIONS, Reply};
 use lock_tree::Resource;
 use std::alloc::{AllocError, Global};
 
-/// How many transactions have begun, a locker for each session, at its position, and a cell for each resource that is
-/// held or waited for. Who waits for whom is written down only to look for deadlocks.
+/// How many transactions have begun, a locker for each session, at its position, a cell for each resource that is held
+/// or waited for, and who waits for whom.
 #[derive(Drop)]
 pub struct Desk {
     count: u64,
@@ -141,6 +141,7 @@ impl Desk {
         requires some { 1 ≤ session }
         requires within { session ≤ vec_len self.old.lockers }
         requires whole { IsWhole self.old }
+        requires ready { IsReadyDesk self.old }
         requires place { IsPlace resource self.old.cells.entries place }
         requires can { CanLock session resource self.old }
         ensures asked { IfOk result (λ status. HasAsked session resource mode (is_granted status) self.old self.new) }
@@ -150,9 +151,12 @@ impl Desk {
         let position = position_of(session);
         let locker = &mut self.lockers[position];
         locker.make_room()?;
-        let status = self
-            .cells
-            .ask(place, resource, SessionMode { session, mode })?;
+        let status = self.cells.ask(
+            place,
+            resource,
+            SessionMode { session, mode },
+            &mut self.waits,
+        )?;
         let newest = self.cells.or_newest(place);
         let locker = &mut self.lockers[position];
         match status {
@@ -173,15 +177,19 @@ impl Desk {
         requires some { 1 ≤ session }
         requires within { session ≤ vec_len self.old.lockers }
         requires whole { IsWhole self.old }
+        requires ready { IsReadyDesk self.old }
         requires place { IsPlace resource self.old.cells.entries place }
         requires can { CanConvert session resource self.old }
         ensures asked { IfOk result (λ status. HasAsked session resource mode (is_granted status) self.old self.new) }
         ensures err { OnErr result (IsSameSeen self.old self.new) }
         ensures kept { DoesKeep self.old self.new }
     {
-        let status = self
-            .cells
-            .ask(place, resource, SessionMode { session, mode })?;
+        let status = self.cells.ask(
+            place,
+            resource,
+            SessionMode { session, mode },
+            &mut self.waits,
+        )?;
         match status {
             RequestStatus::Granted => {}
             RequestStatus::Waiting => {
@@ -205,6 +213,7 @@ impl Desk {
         requires within { session ≤ vec_len self.old.lockers }
         requires view_at { held ≡ mode_held self.old session resource }
         requires whole { IsWhole self.old }
+        requires ready { IsReadyDesk self.old }
         requires place { IsPlace resource self.old.cells.entries place }
         requires can { CanAsk session resource self.old }
         ensures held { is_held (mode_held self.old session resource) target ≡ true
@@ -226,6 +235,7 @@ impl Desk {
         requires some { 1 ≤ session }
         requires within { session ≤ vec_len self.old.lockers }
         requires whole { IsWhole self.old }
+        requires ready { IsReadyDesk self.old }
         requires place { IsPlace resource self.old.cells.entries place }
         requires can { CanRelease session resource self.old }
         ensures freed { HasFreed part.Lock session resource self.old self.new }
@@ -233,8 +243,14 @@ impl Desk {
     {
         let locker = &mut self.lockers[position_of(session)];
         locker.release(resource);
-        self.cells
-            .free_at(&mut self.lockers, session, place, resource, Part::Lock);
+        self.cells.free_at(
+            &mut self.lockers,
+            &mut self.waits,
+            session,
+            place,
+            resource,
+            Part::Lock,
+        );
     }
 
     /// Gives back what the session was granted last.
@@ -242,6 +258,7 @@ impl Desk {
         requires some { 1 ≤ session }
         requires within { session ≤ vec_len self.old.lockers }
         requires whole { IsWhole self.old }
+        requires ready { IsReadyDesk self.old }
         requires idle { (standing session self.old).wanted ≡ None }
         requires holds { 0 < length (standing session self.old).held }
         ensures back { HasGivenBack session self.old self.new }
@@ -249,8 +266,13 @@ impl Desk {
     {
         let locker = &mut self.lockers[position_of(session)];
         if let Some(resource) = locker.release_last() {
-            self.cells
-                .free(&mut self.lockers, session, resource, Part::Lock);
+            self.cells.free(
+                &mut self.lockers,
+                &mut self.waits,
+                session,
+                resource,
+                Part::Lock,
+            );
         }
     }
 
@@ -259,6 +281,7 @@ impl Desk {
         requires some { 1 ≤ session }
         requires within { session ≤ vec_len self.old.lockers }
         requires whole { IsWhole self.old }
+        requires ready { IsReadyDesk self.old }
         requires idle { (standing session self.old).wanted ≡ None }
         ensures locks { result ≡ length (standing session self.old).held }
         ensures none { length (standing session self.new).held ≡ 0 }
@@ -278,6 +301,7 @@ impl Desk {
         requires some { 1 ≤ session }
         requires within { session ≤ vec_len self.old.lockers }
         requires whole { IsWhole self.old }
+        requires ready { IsReadyDesk self.old }
         requires room { self.old.count < 18446744073709551615 }
         ensures number { result ≡ self.old.count + 1 }
         ensures begun { HasBegun session self.old self.new }
@@ -286,6 +310,7 @@ impl Desk {
         self.count += 1;
         let locker = &mut self.lockers[position_of(session)];
         locker.begin(self.count);
+        set_number(&mut self.waits, session, self.count);
         self.count
     }
 
@@ -294,13 +319,19 @@ impl Desk {
         requires some { 1 ≤ session }
         requires within { session ≤ vec_len self.old.lockers }
         requires whole { IsWhole self.old }
+        requires ready { IsReadyDesk self.old }
         ensures cancelled { HasCancelled session self.old self.new }
         ensures kept { DoesKeep self.old self.new }
     {
         let locker = &mut self.lockers[position_of(session)];
         if let Some(resource) = locker.cancel() {
-            self.cells
-                .free(&mut self.lockers, session, resource, Part::Request);
+            self.cells.free(
+                &mut self.lockers,
+                &mut self.waits,
+                session,
+                resource,
+                Part::Request,
+            );
         }
     }
 
@@ -309,6 +340,7 @@ impl Desk {
         requires some { 1 ≤ session }
         requires within { session ≤ vec_len self.old.lockers }
         requires whole { IsWhole self.old }
+        requires ready { IsReadyDesk self.old }
         requires idle { (standing session self.old).wanted ≡ None }
         ensures locks { result ≡ length (standing session self.old).held }
         ensures few { result ≤ MAX_LOCKS }
@@ -318,6 +350,7 @@ impl Desk {
         let locks = self.give_back_all(session);
         let locker = &mut self.lockers[position_of(session)];
         locker.end();
+        set_number(&mut self.waits, session, 0);
         locks
     }
 
@@ -326,6 +359,7 @@ impl Desk {
         requires some { 1 ≤ session }
         requires within { session ≤ vec_len self.old.lockers }
         requires whole { IsWhole self.old }
+        requires ready { IsReadyDesk self.old }
         ensures locks { result ≡ length (standing session self.old).held }
         ensures few { result ≤ MAX_LOCKS }
         ensures ended { HasEnded session self.old self.new }
@@ -340,6 +374,7 @@ impl Desk {
         requires some { 1 ≤ session }
         requires within { session ≤ vec_len self.old.lockers }
         requires whole { IsWhole self.old }
+        requires ready { IsReadyDesk self.old }
         ensures doomed { HasDoomed session self.old self.new }
         ensures kept { DoesKeep self.old self.new }
     {
@@ -363,7 +398,6 @@ impl Desk {
         ensures len { vec_len self.new.lockers ≡ vec_len self.old.lockers }
     {
         for _round in 0..self.lockers.len() + 1 {
-            fill(&mut self.waits, &self.lockers, &self.cells);
             let Some(chosen) = victim(&mut self.waits, session) else {
                 return;
             };
@@ -439,6 +473,7 @@ impl Desk {
         requires some { 1 ≤ session }
         requires within { session ≤ vec_len self.old.lockers }
         requires whole { IsWhole self.old }
+        requires ready { IsReadyDesk self.old }
         ensures same { IsSameSeen self.old self.new }
         ensures kept { DoesKeep self.old self.new }
     {

@@ -1,103 +1,161 @@
-//! Who waits for whom: written down anew from the cells and lockers when a deadlock is looked for.
+//! Who waits for whom: written down as the cells and the lockers say it, and written anew where a cell changes.
 
-ghost use Rattle.std.specs.Prelude.{◌≡◌, ℕ, ◌+◌, ◌-◌, ◌<◌, ◌≤◌, ◌&&◌, ◌||◌, ◌==◌, if◌then◌else◌, List, not, true, length, IfOk, IfNone, IfSome, slice_index, slice_index_or, vec_len};
+ghost use Rattle.std.specs.Prelude.{◌≡◌, ℕ, ◌+◌, ◌-◌, ◌<◌, ◌≤◌, ◌&&◌, ◌||◌, ◌==◌, if◌then◌else◌, List, not, true, false, length, take, IfOk, IfNone, IfSome, slice_index_or, vec_len};
 ghost use Rattle.waits_for.specs.Pairs.{pairs_of};
 ghost use Rattle.waits_for.specs.Walks.{Reaches, IsYoungestOnCircle};
-ghost use Rattle.lock_rules.specs.State.{number_in};
-ghost use Rattle.lock_desk.specs.Cells.{has_session, cell_view};
-ghost use Rattle.lock_desk.specs.Lockers.{standings_of, standing_at};
-ghost use Rattle.lock_desk.specs.Finding.{holder_blocks, stands_first, cell_blocks, blocks, IsReady, IsFilled, AreOfSessions, IsOfSessions};
+ghost use Rattle.lock_desk.specs.declared.cells.SessionMode.{SessionMode as SessionModeValue};
+ghost use Rattle.lock_desk.specs.Cells.{View, has_session, times, view_of, is_granted};
+ghost use Rattle.lock_desk.specs.Finding.{cell_blocks, AreOfSessions, IsOfSessions, IsReady, HasAskedThere, DoFollow};
 
-use crate::cell_table::CellTable;
-use crate::lockers::Locker;
+use crate::cells::{Cell, RequestStatus, SessionMode};
 use crate::positions::{position_of, session_at};
 use std::alloc::{AllocError, Global};
 use waits_for::{MAX_SESSIONS, Rows};
 
 /// Which session waits for which, and the number of each session's transaction, by positions: session 1 has
-/// position 0. A row of a session that is not marked as filled is empty.
+/// position 0. A session waits for one resource, so a change of a cell changes the rows of those who wait there, and
+/// no others.
 #[derive(Drop)]
 pub struct Waits {
     rows: Rows,
     numbers: Vec<u64>,
-    filled: Vec<bool>,
 }
 
-/// Room for so many sessions.
+/// Room for so many sessions, of which none waits and none has a transaction.
 pub(crate) fn new_waits(alloc: Global, sessions: u16) -> Result<Waits, AllocError>
     requires some { 1 ≤ sessions }
     requires few { sessions ≤ MAX_SESSIONS }
     ensures ready { IfOk result (IsReady sessions) }
+    ensures pairs { IfOk result (λ waits. (a b : ℕ) → pairs_of waits.rows a b ≡ false) }
+    ensures numbers { IfOk result (λ waits. (a : ℕ) → slice_index_or waits.numbers.items a 0 ≡ 0) }
 {
     let rows = Rows::new(alloc, sessions)?;
     let mut numbers = Vec::new(alloc);
-    let mut filled = Vec::new(alloc);
     for _session in 0..sessions {
         numbers.push(0)?;
-        filled.push(false)?;
     }
-    Ok(Waits {
-        rows,
-        numbers,
-        filled,
-    })
+    Ok(Waits { rows, numbers })
 }
 
-/// The row of the session at this position is emptied, if it was filled.
-fn clear(waits: &mut Waits, position: usize)
-    requires within { position < waits.old.rows.sessions }
-    requires ready { IsReady waits.old.rows.sessions waits.old }
-    ensures sessions { waits.new.rows.sessions ≡ waits.old.rows.sessions }
-    ensures ready { IsReady waits.old.rows.sessions waits.new }
-    ensures pairs { (a b : ℕ) → pairs_of waits.new.rows a b ≡ (pairs_of waits.old.rows a b && not (a == position)) }
-    ensures numbers { waits.new.numbers ≡ waits.old.numbers }
-{
-    if waits.filled[position] {
-        waits.rows.clear_row(position);
-        waits.filled[position] = false;
-    }
-}
-
-/// Writes down for whom one session waits, and the number of its transaction.
-fn fill_session(waits: &mut Waits, lockers: &[Locker], cells: &CellTable, session: u16)
+/// The number of the session's transaction, 0 for none.
+pub(crate) fn set_number(waits: &mut Waits, session: u16, number: u64)
     requires some { 1 ≤ session }
-    requires within { session ≤ length lockers.now }
-    requires long { waits.old.rows.sessions ≡ length lockers.now }
-    requires ready { IsReady waits.old.rows.sessions waits.old }
-    requires numbered { (r : List ℕ) → IsOfSessions waits.old.rows.sessions (cell_view r cells.now.entries) }
-    ensures sessions { waits.new.rows.sessions ≡ waits.old.rows.sessions }
-    ensures ready { IsReady waits.old.rows.sessions waits.new }
-    ensures pairs { let standings = standings_of lockers.now in (a b : ℕ) → pairs_of waits.new.rows a b
-        ≡ (if a + 1 == session then blocks cells.now.entries standings session (b + 1) else pairs_of waits.old.rows a b) }
-    ensures numbers { let standings = standings_of lockers.now in (a : ℕ) → slice_index_or waits.new.numbers.items a 0
-        ≡ (if a + 1 == session then number_in (standing_at session standings).transaction
-        else slice_index_or waits.old.numbers.items a 0) }
+    requires within { session ≤ vec_len waits.old.numbers }
+    ensures rows { waits.new.rows ≡ waits.old.rows }
+    ensures len { vec_len waits.new.numbers ≡ vec_len waits.old.numbers }
+    ensures numbers { (a : ℕ) → slice_index_or waits.new.numbers.items a 0
+        ≡ (if a + 1 == session then number else slice_index_or waits.old.numbers.items a 0) }
 {
     let position = position_of(session);
-    clear(waits, position);
-    let locker = &lockers[position];
-    waits.numbers[position] = locker.number();
-    if let Some(resource) = locker.resource_wanted() {
-        if let Some(cell) = cells.cell_of(resource) {
-            waits.filled[position] = true;
-            cell.write_waits(&mut waits.rows, session);
-        }
+    waits.numbers[position] = number;
+}
+
+/// The rows of those who wait at the cell are emptied.
+pub(crate) fn clear_queue(waits: &mut Waits, cell: &Cell)
+    requires within { AreOfSessions waits.old.rows.sessions (view_of cell.now).waiting }
+    ensures sessions { waits.new.rows.sessions ≡ waits.old.rows.sessions }
+    ensures pairs { (a b : ℕ) → pairs_of waits.new.rows a b
+        ≡ (pairs_of waits.old.rows a b && not (has_session (a + 1) (view_of cell.now).waiting)) }
+    ensures numbers { waits.new.numbers ≡ waits.old.numbers }
+{
+    for request in cell.queue() {
+        waits.rows.clear_row(position_of(request.session));
     }
 }
 
-/// Writes down for whom each session waits, and the numbers of the transactions.
-pub(crate) fn fill(waits: &mut Waits, lockers: &[Locker], cells: &CellTable)
-    requires long { waits.old.rows.sessions ≡ length lockers.now }
-    requires ready { IsReady waits.old.rows.sessions waits.old }
-    requires numbered { (r : List ℕ) → IsOfSessions waits.old.rows.sessions (cell_view r cells.now.entries) }
-    ensures sessions { waits.new.rows.sessions ≡ waits.old.rows.sessions }
-    ensures ready { IsReady waits.old.rows.sessions waits.new }
-    ensures filled { IsFilled cells.now.entries (standings_of lockers.now) waits.new }
+/// The session waits for those who stand in the queue ahead of it, so many of them, too.
+fn write_ahead(rows: &mut Rows, ahead: &[SessionMode], session: u16)
+    requires some { 1 ≤ session }
+    requires own { session ≤ rows.old.sessions }
+    requires within { AreOfSessions rows.old.sessions ahead.now }
+    ensures sessions { rows.new.sessions ≡ rows.old.sessions }
+    ensures pairs { (a b : ℕ) → pairs_of rows.new a b
+        ≡ (pairs_of rows.old a b || ((a + 1 == session) && has_session (b + 1) ahead.now)) }
 {
-    let sessions = waits.rows.sessions();
-    for session in 1..sessions + 1 {
-        fill_session(waits, lockers, cells, session);
+    for request in ahead {
+        rows.set(position_of(session), position_of(request.session));
     }
+}
+
+/// The last request ahead of this one that is for the same mode.
+fn alike(queue: &[SessionMode], index: usize) -> Option<usize>
+    requires { index < length queue.now }
+    ensures { IfSome result (λ j. (j < index) × ((d : SessionModeValue)
+        → (slice_index_or queue.now j d).mode ≡ (slice_index_or queue.now index d).mode)) }
+{
+    let mode = queue[index].mode;
+    for step in 0..index {
+        let before = index - 1 - step;
+        if queue[before].mode == mode {
+            return Some(before);
+        }
+    }
+    None
+}
+
+/// For whom the request at this place of the queue waits is written down, those ahead of it being written. It waits for
+/// whomever one ahead of it for the same mode waits, and for those between; where it is a holder that the other one
+/// waits for, all holders are looked at.
+fn write_request(rows: &mut Rows, cell: &Cell, index: usize)
+    requires index { index < length (view_of cell.now).waiting }
+    requires within { IsOfSessions rows.old.sessions (view_of cell.now) }
+    requires once { (s : ℕ) → times s (view_of cell.now).waiting ≤ 1 }
+    requires written { (a b : ℕ) → has_session (a + 1) (take index (view_of cell.now).waiting) ≡ true
+        → pairs_of rows.old a b ≡ cell_blocks (a + 1) (b + 1) cell.now }
+    ensures sessions { rows.new.sessions ≡ rows.old.sessions }
+    ensures pairs { (a b : ℕ) (d : SessionModeValue) → pairs_of rows.new a b
+        ≡ (pairs_of rows.old a b || ((a + 1 == (slice_index_or (view_of cell.now).waiting index d).session) && cell_blocks (a + 1) (b + 1) cell.now)) }
+{
+    let queue = cell.queue();
+    let session = queue[index].session;
+    let position = position_of(session);
+    if let Some(before) = alike(queue, index) {
+        let other = position_of(queue[before].session);
+        if !rows.waits(other, position) {
+            rows.wait_as(position, other);
+            write_ahead(rows, &queue[before..index], session);
+            return;
+        }
+    }
+    cell.write_waits(rows, session);
+}
+
+/// For whom each of them waits is written down, where nothing is.
+pub(crate) fn write_queue(waits: &mut Waits, cell: &Cell)
+    requires within { IsOfSessions waits.old.rows.sessions (view_of cell.now) }
+    requires once { (s : ℕ) → times s (view_of cell.now).waiting ≤ 1 }
+    requires empty { (a b : ℕ) → has_session (a + 1) (view_of cell.now).waiting ≡ true → pairs_of waits.old.rows a b ≡ false }
+    ensures sessions { waits.new.rows.sessions ≡ waits.old.rows.sessions }
+    ensures pairs { (a b : ℕ) → pairs_of waits.new.rows a b
+        ≡ (pairs_of waits.old.rows a b || cell_blocks (a + 1) (b + 1) cell.now) }
+    ensures numbers { waits.new.numbers ≡ waits.old.numbers }
+{
+    let queue = cell.queue();
+    for index in 0..queue.len() {
+        write_request(&mut waits.rows, cell, index);
+    }
+}
+
+/// A session has asked at the cell. A fresh request that waits stands last, and changes no row but its own.
+pub(crate) fn follow_request(
+    waits: &mut Waits,
+    cell: &Cell,
+    asker: SessionMode,
+    status: RequestStatus,
+)
+    requires within { IsOfSessions waits.old.rows.sessions (view_of cell.now) }
+    requires once { (s : ℕ) → times s (view_of cell.now).waiting ≤ 1 }
+    requires asked { HasAskedThere asker (is_granted status) (view_of cell.now) waits.old }
+    ensures { (h : HasAskedThere asker (is_granted status) (view_of cell.now) waits.old)
+        → DoFollow h.before (view_of cell.now) waits.old waits.new }
+{
+    if status == RequestStatus::Waiting && cell.mode_held(asker.session).is_none() {
+        let last = cell.queue().len() - 1;
+        write_request(&mut waits.rows, cell, last);
+        return;
+    }
+    clear_queue(waits, cell);
+    write_queue(waits, cell);
 }
 
 /// The victim that breaks a circle of the session, if there is one.

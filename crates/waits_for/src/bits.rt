@@ -1,6 +1,6 @@
 //! A row of bits, in words of 64, and what is asked of one.
 
-ghost use Rattle.std.specs.Prelude.{◌≡◌, ◌≢◌, ◌↔◌, true, IsTrue, ℕ, ◌+◌, ◌*◌, ◌/◌, ◌<◌, ◌≤◌, ◌&&◌, ◌||◌, not, ◌==◌, nat_le, nat_lt, MatchOption, length};
+ghost use Rattle.std.specs.Prelude.{◌≡◌, ◌≢◌, ◌↔◌, true, IsTrue, ℕ, ◌+◌, ◌-◌, ◌*◌, ◌/◌, ◌<◌, ◌≤◌, ◌&&◌, ◌||◌, not, ◌==◌, nat_le, nat_lt, MatchOption, length};
 ghost use Rattle.waits_for.specs.Bits.{has_bit, words_for};
 
 use mode_lanes::any_common;
@@ -44,6 +44,18 @@ pub(crate) fn clear(words: &mut [u64], from: usize, count: usize)
 {
     for i in 0..count {
         words[from + i] = 0;
+    }
+}
+
+/// Adds the bits of a row to as many words, from one word on.
+pub(crate) fn unite(words: &mut [u64], from: usize, row: &[u64])
+    requires { from + length row.now ≤ length words.old }
+    ensures { (j : ℕ) → has_bit words.new j
+        ≡ (has_bit words.old j || ((nat_le (64 * from) j && nat_lt j (64 * (from + length row.now))) && has_bit row.now (j - 64 * from))) }
+{
+    for i in 0..row.len() {
+        let word = words[from + i];
+        words[from + i] = word | row[i];
     }
 }
 

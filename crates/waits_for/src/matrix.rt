@@ -1,10 +1,11 @@
 //! The pairs, kept as a matrix of bits.
 
-ghost use Rattle.std.specs.Prelude.{◌≡◌, ℕ, ◌+◌, ◌*◌, ◌<◌, ◌≤◌, false, ◌&&◌, ◌||◌, not, ◌==◌, IfOk, length};
+ghost use Rattle.std.specs.Prelude.{◌≡◌, ℕ, ◌+◌, ◌*◌, ◌<◌, ◌≤◌, true, false, ◌&&◌, ◌||◌, not, ◌==◌, IfOk, length};
 ghost use Rattle.waits_for.specs.Bits.{has_bit, words_for};
 ghost use Rattle.waits_for.specs.Pairs.{pairs_of, seen_by};
 
-use crate::bits::{clear, set, words_for};
+use crate::bits::{clear, set, unite, words_for};
+use mode_lanes::or_into;
 use std::alloc::{AllocError, Global};
 use std::marker::Model;
 
@@ -77,6 +78,33 @@ impl Matrix {
     {
         let from = row_start(self.sessions, t);
         clear(&mut self.words, from, words_for(self.sessions));
+    }
+
+    /// The session at position `t` waits for those of the row too.
+    fn unite_row(&mut self, t: usize, row: &[u64])
+        requires t_below { t < self.old.sessions }
+        requires room { length row.now ≡ words_for self.old.sessions }
+        requires within { (u : ℕ) → has_bit row.now u ≡ true → u < self.old.sessions }
+        ensures sessions { self.new.sessions ≡ self.old.sessions }
+        ensures pairs { (a b : ℕ) →
+            pairs_of self.new a b ≡ (pairs_of self.old a b || ((a == t) && has_bit row.now b)) }
+    {
+        let from = row_start(self.sessions, t);
+        unite(&mut self.words, from, row);
+    }
+
+    /// The session at position `t` waits for those too for whom the one at position `u` waits. `room` is for a row.
+    pub(crate) fn wait_as(&mut self, t: usize, u: usize, room: &mut [u64])
+        requires t_below { t < self.old.sessions }
+        requires u_below { u < self.old.sessions }
+        requires room { length room.old ≡ words_for self.old.sessions }
+        ensures sessions { self.new.sessions ≡ self.old.sessions }
+        ensures pairs { (a b : ℕ) →
+            pairs_of self.new a b ≡ (pairs_of self.old a b || ((a == t) && pairs_of self.old u b)) }
+    {
+        clear(room, 0, room.len());
+        or_into(room, self.row(u));
+        self.unite_row(t, room);
     }
 }
 

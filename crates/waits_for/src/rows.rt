@@ -91,6 +91,26 @@ impl Rows {
         self.matrix.clear_row(t);
     }
 
+    /// From now on the session at position `t` waits for all for whom the one at position `u` waits at once too.
+    pub fn wait_as(&mut self, t: usize, u: usize)
+        requires t_below { t < self.old.sessions }
+        requires u_below { u < self.old.sessions }
+        ensures sessions { self.new.sessions ≡ self.old.sessions }
+        ensures pairs { (a b : ℕ) →
+            pairs_of self.new a b ≡ (pairs_of self.old a b || ((a == t) && pairs_of self.old u b)) }
+    {
+        self.matrix.wait_as(t, u, &mut self.reached);
+    }
+
+    /// Whether the session at position `t` waits for the one at position `u` at once.
+    pub fn waits(&self, t: usize, u: usize) -> bool
+        requires t_below { t < self.now.sessions }
+        requires u_below { u < self.now.sessions }
+        ensures pairs { result ≡ pairs_of self.now t u }
+    {
+        has(self.matrix.row(t), u)
+    }
+
     /// Whether the session at position `t` waits for the one at position `u`, at once or by way of
     /// others. Nobody waits for itself but on a circle.
     pub fn reaches(&mut self, t: usize, u: usize) -> bool

@@ -1,8 +1,9 @@
-use Rattle.std.proofs.Common.{◌≡◌, ◌∙◌, ap, arith, subst, IfOk, Option}
-use Rattle.lock_desk.specs.declared.cells.RequestStatus.{RequestStatus}
+use Rattle.std.proofs.Common.{◌∙◌, sym, ap, arith, subst, Option}
 use Rattle.lock_desk.specs.declared.cells.Cell.{Cell}
-use Rattle.lock_desk.specs.Cells.{View, Table, view_of, view_in, has_session, view_after_asking, can_grant, is_granted}
-use Rattle.lock_desk.proofs.Results.{on-ok, on-err}
+use Rattle.lock_desk.specs.Cells.{View, Table, view_in, cell_view, has_session, view_after_asking, can_grant}
+use Rattle.lock_desk.specs.Finding.{IsOfSessions, DoFollow}
+use Rattle.lock_desk.proofs.Results.{on-err-from}
+use Rattle.lock_desk.proofs.SessionsInRange.{numbered-asked}
 use Rattle.lock_desk.proofs.CellTable.{kept-at}
 use Rattle.lock_desk.proofs.Places.{there, as-long, wrote-kept}
 use Rattle.lock_desk.proofs.cell_table.CellTable.ask.Goals as goal
@@ -37,34 +38,82 @@ invariant_of-self c =
       room = omega (arith, as-long _ c.same_path_is_equality.ensures.code m cs e r c.args.place c.in-Some.place c.in-Some.is c.requires.place x c.index_mut-cell.ensures.value c.ask.new.self, c.self.invariant.room);
     }
 
-pub returns-in-Some-clause-granted : goal.returns-in-Some-clause-granted
-returns-in-Some-clause-granted c =
+pub invariant_of-self-in-Some : goal.invariant_of-self-in-Some
+invariant_of-self-in-Some c =
     let cs = c.args.self.now.entries in
     let r = c.args.resource in
     let m = c.self.inside.cells in
     let e = ap (λ (t : Table). t.entries) c.self.view_is in
     let x = c.index_mut-cell.result.now in
-    let t = there _ c.same_path_is_equality.ensures.code m cs e r c.args.place c.in-Some.place c.in-Some.is c.requires.place x c.index_mut-cell.ensures.value in
-    subst (λ (v : View). IfOk c.ask.result (λ (g : RequestStatus). is_granted g ≡ can_grant c.args.asker v)) (ap view_in t) c.ask.ensures.granted
+    record {
+      idle = c.self.invariant.idle;
+      room = omega (arith, as-long _ c.same_path_is_equality.ensures.code m cs e r c.args.place c.in-Some.place c.in-Some.is c.requires.place x c.index_mut-cell.ensures.value c.ask.new.self, c.self.invariant.room);
+    }
 
-pub returns-in-Some-clause-ok : goal.returns-in-Some-clause-ok
-returns-in-Some-clause-ok c =
+pub follow_request-requires-clause-within : goal.follow_request-requires-clause-within
+follow_request-requires-clause-within c =
     let cs = c.args.self.now.entries in
     let r = c.args.resource in
     let m = c.self.inside.cells in
     let e = ap (λ (t : Table). t.entries) c.self.view_is in
     let x = c.index_mut-cell.result.now in
     let t = there _ c.same_path_is_equality.ensures.code m cs e r c.args.place c.in-Some.place c.in-Some.is c.requires.place x c.index_mut-cell.ensures.value in
-    on-ok c.ask.result (λ (g : RequestStatus). view_of c.ask.new.self ≡ view_after_asking c.args.asker (view_of x)) _ c.ask.ensures.view
-    (λ g h. wrote-kept _ c.same_path_is_equality.ensures.code m cs e r c.args.place c.in-Some.place c.in-Some.is c.requires.place x c.index_mut-cell.ensures.value c.ask.new.self c.len-len.ensures.unique _ c.requires.kept c.ask.ensures.kept (h ∙ ap (λ (o : Option Cell). view_after_asking c.args.asker (view_in o)) t))
+    subst (IsOfSessions c.args.waits.now.rows.sessions) (sym (c.in_ok-status-in-Some.ensures.view ∙ ap (λ (o : Option Cell). view_after_asking c.args.asker (view_in o)) t)) (numbered-asked c.args.waits.now.rows.sessions c.args.asker _ c.requires.some c.requires.within c.requires.written.within)
 
-pub returns-in-Some-clause-err : goal.returns-in-Some-clause-err
-returns-in-Some-clause-err c =
+pub returns-in_ok-status-in-Some-clause-granted : goal.returns-in_ok-status-in-Some-clause-granted
+returns-in_ok-status-in-Some-clause-granted c =
     let cs = c.args.self.now.entries in
     let r = c.args.resource in
     let m = c.self.inside.cells in
     let e = ap (λ (t : Table). t.entries) c.self.view_is in
     let x = c.index_mut-cell.result.now in
     let t = there _ c.same_path_is_equality.ensures.code m cs e r c.args.place c.in-Some.place c.in-Some.is c.requires.place x c.index_mut-cell.ensures.value in
-    on-err c.ask.result (view_of c.ask.new.self ≡ view_of x) _ c.ask.ensures.err
-    (λ h. wrote-kept _ c.same_path_is_equality.ensures.code m cs e r c.args.place c.in-Some.place c.in-Some.is c.requires.place x c.index_mut-cell.ensures.value c.ask.new.self c.len-len.ensures.unique _ c.requires.kept c.ask.ensures.kept (h ∙ ap view_in t))
+    c.in_ok-status-in-Some.ensures.granted ∙ ap (λ (o : Option Cell). can_grant c.args.asker (view_in o)) t
+
+pub returns-in_ok-status-in-Some-clause-ok : goal.returns-in_ok-status-in-Some-clause-ok
+returns-in_ok-status-in-Some-clause-ok c =
+    let cs = c.args.self.now.entries in
+    let r = c.args.resource in
+    let m = c.self.inside.cells in
+    let e = ap (λ (t : Table). t.entries) c.self.view_is in
+    let x = c.index_mut-cell.result.now in
+    let t = there _ c.same_path_is_equality.ensures.code m cs e r c.args.place c.in-Some.place c.in-Some.is c.requires.place x c.index_mut-cell.ensures.value in
+    wrote-kept _ c.same_path_is_equality.ensures.code m cs e r c.args.place c.in-Some.place c.in-Some.is c.requires.place x c.index_mut-cell.ensures.value c.ask.new.self c.len-len.ensures.unique _ c.requires.kept c.ask.ensures.kept (c.in_ok-status-in-Some.ensures.view ∙ ap (λ (o : Option Cell). view_after_asking c.args.asker (view_in o)) t)
+
+pub follow_request-requires-clause-asked : goal.follow_request-requires-clause-asked
+follow_request-requires-clause-asked c =
+    let cs = c.args.self.now.entries in
+    let r = c.args.resource in
+    let m = c.self.inside.cells in
+    let e = ap (λ (t : Table). t.entries) c.self.view_is in
+    let x = c.index_mut-cell.result.now in
+    let t = there _ c.same_path_is_equality.ensures.code m cs e r c.args.place c.in-Some.place c.in-Some.is c.requires.place x c.index_mut-cell.ensures.value in
+    record {
+      before = cell_view r cs;
+      written = c.requires.written;
+      idle = c.requires.idle;
+      granted_is = c.in_ok-status-in-Some.ensures.granted ∙ ap (λ (o : Option Cell). can_grant c.args.asker (view_in o)) t;
+      after = c.in_ok-status-in-Some.ensures.view ∙ ap (λ (o : Option Cell). view_after_asking c.args.asker (view_in o)) t;
+    }
+
+pub returns-in_ok-status-in-Some-clause-rows : goal.returns-in_ok-status-in-Some-clause-rows
+returns-in_ok-status-in-Some-clause-rows c =
+    let cs = c.args.self.now.entries in
+    let r = c.args.resource in
+    let m = c.self.inside.cells in
+    let e = ap (λ (t : Table). t.entries) c.self.view_is in
+    let x = c.index_mut-cell.result.now in
+    let t = there _ c.same_path_is_equality.ensures.code m cs e r c.args.place c.in-Some.place c.in-Some.is c.requires.place x c.index_mut-cell.ensures.value in
+    let asked = c.in_ok-status-in-Some.ensures.view ∙ ap (λ (o : Option Cell). view_after_asking c.args.asker (view_in o)) t in
+    let granted = c.in_ok-status-in-Some.ensures.granted ∙ ap (λ (o : Option Cell). can_grant c.args.asker (view_in o)) t in
+    subst (λ (v : View). DoFollow (cell_view r cs) v c.args.waits.now c.follow_request.new.waits) asked (c.follow_request.ensures (record { before = cell_view r cs; written = c.requires.written; idle = c.requires.idle; granted_is = granted; after = asked }))
+
+pub returns-in_err-status-in-Some-clause-err : goal.returns-in_err-status-in-Some-clause-err
+returns-in_err-status-in-Some-clause-err c =
+    let cs = c.args.self.now.entries in
+    let r = c.args.resource in
+    let m = c.self.inside.cells in
+    let e = ap (λ (t : Table). t.entries) c.self.view_is in
+    let x = c.index_mut-cell.result.now in
+    let t = there _ c.same_path_is_equality.ensures.code m cs e r c.args.place c.in-Some.place c.in-Some.is c.requires.place x c.index_mut-cell.ensures.value in
+    on-err-from c.from_residual.result (wrote-kept _ c.same_path_is_equality.ensures.code m cs e r c.args.place c.in-Some.place c.in-Some.is c.requires.place x c.index_mut-cell.ensures.value c.ask.new.self c.len-len.ensures.unique _ c.requires.kept c.ask.ensures.kept (c.in_err-status-in-Some.ensures.err ∙ ap view_in t))

@@ -1,11 +1,14 @@
-use Rattle.std.proofs.Common.{◌∙◌, ap, arith, sym, subst, refl}
+use Rattle.std.proofs.Common.{◌+◌, ◌∙◌, ap, arith, sym, subst, refl}
 use Rattle.std.proofs.lemmas.Bool.{not-true, not-false}
+use Rattle.waits_for.specs.Pairs.{pairs_of}
 use Rattle.lock_tree.specs.Paths.{same_path}
-use Rattle.lock_desk.specs.Cells.{View, Table, view_of, is_busy}
+use Rattle.lock_desk.specs.Cells.{View, Table, view_of, view_in, is_busy}
 use Rattle.lock_desk.specs.Lockers.{standings_of, DoAgree}
 use Rattle.lock_desk.proofs.CellTable.{kept-at, idle-view}
-use Rattle.lock_desk.proofs.CellGivesUp.{free-absent, agree-absent, view-left, once-there, free-kept, free-idle, agree-there}
+use Rattle.lock_desk.proofs.CellGivesUp.{view-left, view-promoted, once-there, free-kept, free-idle, agree-there}
 use Rattle.lock_desk.proofs.Places.{there, as-long, written-cell, written-entry, wrote}
+use Rattle.lock_desk.proofs.SessionsInRange.{numbered-agree}
+use Rattle.lock_desk.proofs.WritingWaits.{emptied-still, follows-freed}
 use Rattle.lock_desk.proofs.cell_table.CellTable.free_at.Goals as goal
 
 pub give_up-requires-clause-rising : goal.give_up-requires-clause-rising
@@ -128,3 +131,48 @@ returns-else-is_idle-clause-agree c =
     let x = c.index_mut-cell.result.now in
     let t = there _ c.same_path_is_equality.ensures.code m cs e r c.args.place c.in-Some.place c.in-Some.is c.requires.place x c.index_mut-cell.ensures.value in
     agree-there c.args.part r c.args.session cs x c.give_up.new.self t c.give_up.ensures.view c.promote.new.cell c.promote.ensures.view _ c.promote.ensures.agree
+
+pub write_queue-requires-clause-within : goal.write_queue-requires-clause-within
+write_queue-requires-clause-within c =
+    let long = c.clear_queue.ensures.sessions in
+    numbered-agree c.clear_queue.new.waits.rows.sessions c.promote.new.lockers.items (omega (arith, long, c.requires.long, c.promote.ensures.len, c.promote.new.lockers.ok.0)) c.args.resource (view_of c.promote.new.cell) c.promote.ensures.agree c.promote.ensures.once
+
+pub write_queue-requires-clause-once : goal.write_queue-requires-clause-once
+write_queue-requires-clause-once c = c.promote.ensures.once.once
+
+pub write_queue-requires-clause-empty : goal.write_queue-requires-clause-empty
+write_queue-requires-clause-empty c = λ a b h.
+    let cs = c.args.self.now.entries in
+    let r = c.args.resource in
+    let m = c.self.inside.cells in
+    let e = ap (λ (t : Table). t.entries) c.self.view_is in
+    let x = c.index_mut-cell.result.now in
+    let t = there _ c.same_path_is_equality.ensures.code m cs e r c.args.place c.in-Some.place c.in-Some.is c.requires.place x c.index_mut-cell.ensures.value in
+    let after = view-promoted c.args.part r c.args.session cs x c.give_up.new.self t c.give_up.ensures.view c.promote.new.cell c.promote.ensures.view in
+    emptied-still c.args.part c.args.session (a + 1) _ _ _ (ap view_in t) after h (pairs_of c.args.waits.now.rows a b) (c.clear_queue.ensures.pairs a b)
+
+pub returns-then-is_idle-clause-rows : goal.returns-then-is_idle-clause-rows
+returns-then-is_idle-clause-rows c =
+    let cs = c.args.self.now.entries in
+    let r = c.args.resource in
+    let m = c.self.inside.cells in
+    let e = ap (λ (t : Table). t.entries) c.self.view_is in
+    let x = c.index_mut-cell.result.now in
+    let t = there _ c.same_path_is_equality.ensures.code m cs e r c.args.place c.in-Some.place c.in-Some.is c.requires.place x c.index_mut-cell.ensures.value in
+    let cleared = c.clear_queue.ensures in
+    let wrote = c.write_queue.ensures in
+    follows-freed _ (view_of x) _ (view_of c.promote.new.cell) c.args.waits.now c.clear_queue.new.waits c.write_queue.new.waits (ap view_in t)
+    (view-promoted c.args.part r c.args.session cs x c.give_up.new.self t c.give_up.ensures.view c.promote.new.cell c.promote.ensures.view) cleared.sessions wrote.sessions cleared.numbers wrote.numbers cleared.pairs wrote.pairs
+
+pub returns-else-is_idle-clause-rows : goal.returns-else-is_idle-clause-rows
+returns-else-is_idle-clause-rows c =
+    let cs = c.args.self.now.entries in
+    let r = c.args.resource in
+    let m = c.self.inside.cells in
+    let e = ap (λ (t : Table). t.entries) c.self.view_is in
+    let x = c.index_mut-cell.result.now in
+    let t = there _ c.same_path_is_equality.ensures.code m cs e r c.args.place c.in-Some.place c.in-Some.is c.requires.place x c.index_mut-cell.ensures.value in
+    let cleared = c.clear_queue.ensures in
+    let wrote = c.write_queue.ensures in
+    follows-freed _ (view_of x) _ (view_of c.promote.new.cell) c.args.waits.now c.clear_queue.new.waits c.write_queue.new.waits (ap view_in t)
+    (view-promoted c.args.part r c.args.session cs x c.give_up.new.self t c.give_up.ensures.view c.promote.new.cell c.promote.ensures.view) cleared.sessions wrote.sessions cleared.numbers wrote.numbers cleared.pairs wrote.pairs

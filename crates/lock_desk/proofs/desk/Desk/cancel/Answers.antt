@@ -1,11 +1,13 @@
-use Rattle.std.proofs.Common.{rules, ◌≡◌, refl, sym, ◌∙◌, ap, set}
+use Rattle.std.proofs.Common.{rules, arith, ◌≡◌, refl, sym, ◌∙◌, ap, set}
 use Rattle.std.proofs.lemmas.List.{set-get_or}
 use Rattle.lock_desk.specs.declared.lockers.Locker.{Locker}
 use Rattle.lock_desk.specs.Lockers.{Standing}
 use Rattle.lock_desk.proofs.LockerStandings.{standing-here}
 use Rattle.lock_desk.proofs.Asking.{within}
 use Rattle.lock_desk.proofs.GivingAllBack.{none-in}
-use Rattle.lock_desk.proofs.BeginAndEnd.{cancel-agree, cancel-lockers, has-cancelled, cancel-whole, same-cancelled, same-whole}
+use Rattle.lock_desk.proofs.BeginAndEnd.{cancel-agree, cancel-lockers, has-cancelled, cancel-keeps, same-seen, same-cancelled, same-whole}
+use Rattle.lock_desk.proofs.SessionsInRange.{numbered-whole}
+use Rattle.lock_desk.proofs.RowsOfTheDesk.{ready-same}
 use Rattle.lock_desk.proofs.desk.Desk.cancel.Goals as goal
 
 pub free-requires-clause-agree : goal.free-requires-clause-agree
@@ -30,13 +32,13 @@ returns-in-Some-clause-cancelled c =
 pub returns-in-Some-clause-kept : goal.returns-in-Some-clause-kept
 returns-in-Some-clause-kept c =
     let is = c.in-Some.ensures.value in
-    record {
-      whole = cancel-whole c.args.self.now c.args.session c.in-Some.resource c.index_mut-locker.result.now c.cancel.new.self c.requires.whole (within c.args.self.now c.args.session c.position_of.ensures c.requires.some c.requires.within) c.index_mut-locker.ensures.value
-          (sym c.in-Some.ensures.resource) (ap (λ (x : Locker). x.transaction) is) (ap (λ (x : Locker). x.held) is) (ap (λ (x : Locker). x.wanted) is)
-          _ c.free.ensures.cells c.free.ensures.agree c.free.ensures.lockers c.free.ensures.granted;
-      lockers = search rules;
-      waits = search rules;
-    }
+    cancel-keeps c.args.self.now c.args.session c.in-Some.resource c.index_mut-locker.result.now c.cancel.new.self c.requires.whole (within c.args.self.now c.args.session c.position_of.ensures c.requires.some c.requires.within) c.index_mut-locker.ensures.value
+    (sym c.in-Some.ensures.resource) (ap (λ (x : Locker). x.transaction) is) (ap (λ (x : Locker). x.held) is) (ap (λ (x : Locker). x.wanted) is)
+    _ c.free.ensures.cells c.free.ensures.agree c.free.ensures.lockers c.free.ensures.granted
+    (search rules) refl c.free.ensures.rows c.requires.ready
+
+pub free-requires-clause-within : goal.free-requires-clause-within
+free-requires-clause-within c = numbered-whole c.args.self.now c.args.self.now.waits.rows.sessions (omega (arith, c.requires.ready.long, c.args.self.now.lockers.ok.0)) c.requires.whole c.in-Some.resource
 
 pub returns-in_default-clause-cancelled : goal.returns-in_default-clause-cancelled
 returns-in_default-clause-cancelled c =
@@ -55,8 +57,9 @@ returns-in_default-clause-kept c =
     let locker = c.index_mut-locker.result.now in
     let none = none-in locker.wanted (sym c.in_default.ensures.resource) in
     let same : c.cancel.new.self ≡ locker = c.in_default.ensures.value ∙ (λ i. record locker { wanted = sym none i }) in
+    let lockers = ap (set d.lockers.items c.position_of.result) (same ∙ c.index_mut-locker.ensures.value) ∙ set-get_or d.lockers.items c.position_of.result locker in
     record {
-      whole = same-whole d _ c.requires.whole (ap (set d.lockers.items c.position_of.result) (same ∙ c.index_mut-locker.ensures.value) ∙ set-get_or d.lockers.items c.position_of.result locker) refl;
+      whole = same-whole d _ c.requires.whole lockers refl;
       lockers = search rules;
-      waits = search rules;
+      ready = ready-same d _ (same-seen d _ refl lockers refl) (search rules) refl c.requires.ready;
     }

@@ -5,8 +5,12 @@ use Rattle.lock_desk.specs.Lockers.{Standing, standing_of, standing_after_asking
 use Rattle.lock_desk.specs.Changes.{standing, standings}
 use Rattle.lock_desk.proofs.Results.{on-err-from}
 use Rattle.lock_desk.proofs.LockerStandings.{standing-here}
-use Rattle.lock_desk.proofs.Asking.{within, idle-there, held-locker, there-same, there-whole, once-own, never-own, has-asked, asked-whole}
+use Rattle.lock_desk.proofs.Asking.{within, idle-there, held-locker, there-same, there-whole, once-own, never-own, has-asked, asked-keeps}
+use Rattle.lock_desk.proofs.RowsOfTheDesk.{ready-same, written-for}
 use Rattle.lock_desk.proofs.desk.Desk.convert.Goals as goal
+
+pub ask-requires-clause-written : goal.ask-requires-clause-written
+ask-requires-clause-written c = written-for c.args.self.now c.args.session c.args.resource c.requires.whole c.requires.ready c.requires.can.idle
 
 pub ask-requires-clause-idle : goal.ask-requires-clause-idle
 ask-requires-clause-idle c = idle-there c.args.session c.args.resource c.args.self.now c.requires.whole c.requires.can.idle
@@ -19,7 +23,7 @@ returns-in_err-status-clause-kept c =
     record {
       whole = there-whole c.args.resource c.args.self.now _ refl refl c.in_err-status.ensures.err c.requires.whole;
       lockers = search rules;
-      waits = search rules;
+      ready = ready-same c.args.self.now _ (there-same c.args.resource c.args.self.now _ refl refl c.in_err-status.ensures.err) refl c.in_err-status.ensures.unwritten c.requires.ready;
     }
 
 pub wait_for-requires-clause-kind : goal.wait_for-requires-clause-kind
@@ -36,14 +40,11 @@ returns-in-Waiting-clause-asked c =
 
 pub returns-in-Waiting-clause-kept : goal.returns-in-Waiting-clause-kept
 returns-in-Waiting-clause-kept c =
-    record {
-      whole = asked-whole c.args.self.now c.args.session c.args.resource c.args.mode (is_granted c.in_ok-status.status) _ c.requires.whole (within c.args.self.now c.args.session c.position_of.ensures c.requires.some c.requires.within) c.requires.can.idle c.in_ok-status.ensures.granted
-          (once-own c.args.self.now c.args.session c.args.resource c.index_mut-locker.result.now c.wait_for.new.self _ (is_granted c.in_ok-status.status) (within c.args.self.now c.args.session c.position_of.ensures c.requires.some c.requires.within) c.index_mut-locker.ensures.value
-          (subst (λ (b : Bool). standing_of c.wait_for.new.self ≡ standing_after_asking b c.args.resource (standing_of c.index_mut-locker.result.now)) (sym (ap is_granted c.in-Waiting.is)) c.wait_for.ensures.standing) refl)
-          c.in_ok-status.ensures.ok (All-set IsKeptLocker c.args.self.now.lockers.items c.position_of.result c.wait_for.new.self c.wait_for.ensures.kept c.requires.whole.lockers);
-      lockers = search rules;
-      waits = search rules;
-    }
+    asked-keeps c.args.self.now c.args.session c.args.resource c.args.mode (is_granted c.in_ok-status.status) _ c.requires.whole (within c.args.self.now c.args.session c.position_of.ensures c.requires.some c.requires.within) c.requires.can.idle c.in_ok-status.ensures.granted
+    (once-own c.args.self.now c.args.session c.args.resource c.index_mut-locker.result.now c.wait_for.new.self _ (is_granted c.in_ok-status.status) (within c.args.self.now c.args.session c.position_of.ensures c.requires.some c.requires.within) c.index_mut-locker.ensures.value
+    (subst (λ (b : Bool). standing_of c.wait_for.new.self ≡ standing_after_asking b c.args.resource (standing_of c.index_mut-locker.result.now)) (sym (ap is_granted c.in-Waiting.is)) c.wait_for.ensures.standing) refl)
+    c.in_ok-status.ensures.ok (All-set IsKeptLocker c.args.self.now.lockers.items c.position_of.result c.wait_for.new.self c.wait_for.ensures.kept c.requires.whole.lockers)
+    (search rules) refl c.in_ok-status.ensures.rows c.requires.ready
 
 pub returns-in-Granted-clause-asked : goal.returns-in-Granted-clause-asked
 returns-in-Granted-clause-asked c =
@@ -54,11 +55,8 @@ returns-in-Granted-clause-asked c =
 
 pub returns-in-Granted-clause-kept : goal.returns-in-Granted-clause-kept
 returns-in-Granted-clause-kept c =
-    record {
-      whole = asked-whole c.args.self.now c.args.session c.args.resource c.args.mode (is_granted c.in_ok-status.status) _ c.requires.whole (within c.args.self.now c.args.session refl c.requires.some c.requires.within) c.requires.can.idle c.in_ok-status.ensures.granted
-          (subst (λ (b : Bool). standings c.args.self.now ≡ set (standings c.args.self.now) c.args.session (standing_after_asking b c.args.resource (standing c.args.session c.args.self.now))) (sym (ap is_granted c.in-Granted.is))
-          (never-own c.args.self.now c.args.session c.args.resource (held-locker c.args.session c.args.resource c.args.self.now c.requires.whole ∙ c.requires.can.held) c.requires.can.idle))
-          c.in_ok-status.ensures.ok c.requires.whole.lockers;
-      lockers = search rules;
-      waits = search rules;
-    }
+    asked-keeps c.args.self.now c.args.session c.args.resource c.args.mode (is_granted c.in_ok-status.status) _ c.requires.whole (within c.args.self.now c.args.session refl c.requires.some c.requires.within) c.requires.can.idle c.in_ok-status.ensures.granted
+    (subst (λ (b : Bool). standings c.args.self.now ≡ set (standings c.args.self.now) c.args.session (standing_after_asking b c.args.resource (standing c.args.session c.args.self.now))) (sym (ap is_granted c.in-Granted.is))
+    (never-own c.args.self.now c.args.session c.args.resource (held-locker c.args.session c.args.resource c.args.self.now c.requires.whole ∙ c.requires.can.held) c.requires.can.idle))
+    c.in_ok-status.ensures.ok c.requires.whole.lockers
+    (search rules) refl c.in_ok-status.ensures.rows c.requires.ready

@@ -6,6 +6,7 @@ use Rattle.lock_rules.specs.Waits.{doom}
 use Rattle.lock_desk.specs.Lockers.{standing_of}
 use Rattle.lock_desk.proofs.Asking.{within}
 use Rattle.lock_desk.proofs.BeginAndEnd.{told-whole, transaction-each, has-doomed, doomed-each}
+use Rattle.lock_desk.proofs.RowsOfTheDesk.{ready-doomed}
 use Rattle.lock_desk.proofs.desk.Desk.doom.Goals as goal
 
 pub returns-clause-doomed : goal.returns-clause-doomed
@@ -28,9 +29,14 @@ returns-clause-kept c =
     let locker = c.index_mut-locker.result.now in
     let new = c.doom.new.self in
     let is = c.doom.ensures in
-    let lt = within f s c.position_of.ensures c.requires.some (omega (arith, c.requires.within, c.cancel.ensures.kept.lockers)) in
+    let e : Desk = record { count = f.count; lockers = with_item f.lockers c.position_of.result new; cells = f.cells; waits = f.waits } in
+    let kept = c.cancel.ensures.kept in
+    let lt = within f s c.position_of.ensures c.requires.some (omega (arith, c.requires.within, kept.lockers)) in
+    let at = c.index_mut-locker.ensures.value in
+    let whole = told-whole f s (doom locker.transaction) locker new e kept.whole lt at (ap standing_of is) (ap (λ (x : Locker). x.held) is) (ap (λ (x : Locker). x.wanted) is) refl refl in
     record {
-      whole = told-whole f s (doom locker.transaction) locker new _ c.cancel.ensures.kept.whole lt c.index_mut-locker.ensures.value (ap standing_of is) (ap (λ (x : Locker). x.held) is) (ap (λ (x : Locker). x.wanted) is) refl refl;
+      whole = whole;
       lockers = search rules;
-      waits = search rules;
+      ready = ready-doomed f e s kept.whole whole (λ q. refl) (search rules)
+          (doomed-each f s locker (doom locker.transaction) lt at refl e (transaction-each f s (doom locker.transaction) locker new e kept.whole lt at (ap standing_of is) (ap (λ (x : Locker). x.held) is) (ap (λ (x : Locker). x.wanted) is) refl refl)) refl kept.ready;
     }

@@ -5,6 +5,7 @@ use Rattle.lock_desk.specs.declared.desk.Desk.{Desk}
 use Rattle.lock_desk.specs.Lockers.{standing_of}
 use Rattle.lock_desk.proofs.Asking.{within}
 use Rattle.lock_desk.proofs.BeginAndEnd.{few-at, told-whole, transaction-each, has-ended}
+use Rattle.lock_desk.proofs.RowsOfTheDesk.{ready-numbered}
 use Rattle.lock_desk.proofs.desk.Desk.end.Goals as goal
 
 pub returns-clause-few : goal.returns-clause-few
@@ -17,7 +18,7 @@ returns-clause-ended c =
     let locker = c.index_mut-locker.result.now in
     let new = c.end.new.self in
     let is = c.end.ensures in
-    let e : Desk = record { count = f.count; lockers = with_item f.lockers c.position_of.result new; cells = f.cells; waits = f.waits } in
+    let e : Desk = record { count = f.count; lockers = with_item f.lockers c.position_of.result new; cells = f.cells; waits = c.set_number.new.waits } in
     let lt = within f s c.position_of.ensures c.requires.some (omega (arith, c.requires.within, c.give_back_all-locks.ensures.kept.lockers)) in
     let at = c.index_mut-locker.ensures.value in
     let w = c.give_back_all-locks.ensures.kept.whole in
@@ -31,9 +32,15 @@ returns-clause-kept c =
     let locker = c.index_mut-locker.result.now in
     let new = c.end.new.self in
     let is = c.end.ensures in
-    let lt = within f s c.position_of.ensures c.requires.some (omega (arith, c.requires.within, c.give_back_all-locks.ensures.kept.lockers)) in
+    let e : Desk = record { count = f.count; lockers = with_item f.lockers c.position_of.result new; cells = f.cells; waits = c.set_number.new.waits } in
+    let kept = c.give_back_all-locks.ensures.kept in
+    let lt = within f s c.position_of.ensures c.requires.some (omega (arith, c.requires.within, kept.lockers)) in
+    let at = c.index_mut-locker.ensures.value in
+    let number = c.set_number.ensures in
+    let whole = told-whole f s None locker new e kept.whole lt at (ap standing_of is) (ap (λ (x : Locker). x.held) is) (ap (λ (x : Locker). x.wanted) is) refl refl in
     record {
-      whole = told-whole f s None locker new _ c.give_back_all-locks.ensures.kept.whole lt c.index_mut-locker.ensures.value (ap standing_of is) (ap (λ (x : Locker). x.held) is) (ap (λ (x : Locker). x.wanted) is) refl refl;
+      whole = whole;
       lockers = search rules;
-      waits = search rules;
+      ready = ready-numbered f e s 0 None refl kept.whole whole (λ q. refl) (search rules) (transaction-each f s None locker new e kept.whole lt at (ap standing_of is) (ap (λ (x : Locker). x.held) is) (ap (λ (x : Locker). x.wanted) is) refl refl)
+          number.rows number.len number.numbers kept.ready;
     }

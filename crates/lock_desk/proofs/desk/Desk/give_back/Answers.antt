@@ -1,6 +1,7 @@
-use Rattle.std.proofs.Common.{rules, refl}
+use Rattle.std.proofs.Common.{rules, arith, refl}
 use Rattle.lock_desk.proofs.Asking.{within}
-use Rattle.lock_desk.proofs.GivingAllBack.{back-agree, back-lockers, back-gives, back-whole}
+use Rattle.lock_desk.proofs.GivingAllBack.{back-agree, back-lockers, back-gives, back-keeps}
+use Rattle.lock_desk.proofs.SessionsInRange.{numbered-whole}
 use Rattle.lock_desk.proofs.desk.Desk.give_back.Goals as goal
 
 pub free-requires-clause-agree : goal.free-requires-clause-agree
@@ -16,9 +17,9 @@ returns-in-Some-clause-back c =
 
 pub returns-in-Some-clause-kept : goal.returns-in-Some-clause-kept
 returns-in-Some-clause-kept c =
-    record {
-      whole = back-whole c.args.self.now c.args.session c.in-Some.resource c.index_mut-locker.result.now c.release_last.new.self c.requires.whole (within c.args.self.now c.args.session c.position_of.ensures c.requires.some c.requires.within) c.index_mut-locker.ensures.value c.in-Some.ensures.some c.in-Some.ensures.transaction c.in-Some.ensures.wanted c.requires.idle
-          _ refl c.free.ensures.cells c.free.ensures.agree c.free.ensures.lockers c.free.ensures.granted;
-      lockers = search rules;
-      waits = search rules;
-    }
+    back-keeps c.args.self.now c.args.session c.in-Some.resource c.index_mut-locker.result.now c.release_last.new.self c.requires.whole (within c.args.self.now c.args.session c.position_of.ensures c.requires.some c.requires.within) c.index_mut-locker.ensures.value c.in-Some.ensures.some c.in-Some.ensures.transaction c.in-Some.ensures.wanted c.requires.idle
+    _ refl c.free.ensures.cells c.free.ensures.agree c.free.ensures.lockers c.free.ensures.granted
+    (search rules) c.free.ensures.rows c.requires.ready
+
+pub free-requires-clause-within : goal.free-requires-clause-within
+free-requires-clause-within c = numbered-whole c.args.self.now c.args.self.now.waits.rows.sessions (omega (arith, c.requires.ready.long, c.args.self.now.lockers.ok.0)) c.requires.whole c.in-Some.resource

@@ -11,7 +11,7 @@ loop-lock-init c =
     let long = ap (λ (x : Standing). length x.held) (sym c.locker-locker.ensures) in
     record {
       back = back-none c.args.session c.args.self.now c.requires.whole c.requires.idle;
-      kept = record { whole = c.requires.whole; lockers = refl; waits = refl };
+      kept = record { whole = c.requires.whole; lockers = refl; ready = c.requires.ready };
       left = omega (arith, c.locks-locks.ensures, long);
     }
 

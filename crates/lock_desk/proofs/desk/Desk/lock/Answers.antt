@@ -1,10 +1,10 @@
-use Rattle.std.proofs.Common.{ap, rules, ◌≡◌, ◌<◌, refl, sym, ◌∙◌, subst, Bool, arith, vec_len, vec_capacity}
-use Rattle.lock_desk.specs.declared.lockers.Locker.{Locker}
+use Rattle.std.proofs.Common.{ap, rules, ◌≡◌, refl, sym, ◌∙◌, subst, Bool}
 use Rattle.lock_desk.specs.Cells.{is_granted}
 use Rattle.lock_desk.specs.Lockers.{standing_of, standing_after_asking}
 use Rattle.lock_desk.proofs.Results.{on-err-from}
 use Rattle.lock_desk.proofs.CellTable.{became-same}
-use Rattle.lock_desk.proofs.Asking.{within, idle-there, held-locker, mid-held, mid-under, mid-same, room-same, room-whole, twice-own, twice-kept, has-asked, asked-whole}
+use Rattle.lock_desk.proofs.Asking.{within, idle-there, held-locker, mid-held, mid-under, room-same, room-whole, twice-own, twice-kept, has-asked, asked-keeps}
+use Rattle.lock_desk.proofs.RowsOfTheDesk.{ready-same, written-for}
 use Rattle.lock_desk.proofs.desk.Desk.lock.Goals as goal
 
 pub returns-in_err-make_room-clause-err : goal.returns-in_err-make_room-clause-err
@@ -17,8 +17,11 @@ returns-in_err-make_room-clause-kept c =
     record {
       whole = room-whole c.args.self.now c.args.session c.index_mut-locker.result.now c.make_room.new.self c.requires.whole (within c.args.self.now c.args.session c.position_of-position.ensures c.requires.some c.requires.within) c.index_mut-locker.ensures.value c.make_room.ensures.standing c.make_room.ensures.kept c.args.resource _ refl refl (became-same c.args.resource c.args.self.now.cells.entries c.requires.whole.cells);
       lockers = search rules;
-      waits = search rules;
+      ready = ready-same c.args.self.now _ (room-same c.args.self.now c.args.session c.index_mut-locker.result.now c.make_room.new.self c.requires.whole (within c.args.self.now c.args.session c.position_of-position.ensures c.requires.some c.requires.within) c.index_mut-locker.ensures.value c.make_room.ensures.standing c.make_room.ensures.kept c.args.resource _ refl refl (became-same c.args.resource c.args.self.now.cells.entries c.requires.whole.cells)) (search rules) refl c.requires.ready;
     }
+
+pub ask-requires-clause-written : goal.ask-requires-clause-written
+ask-requires-clause-written c = written-for c.args.self.now c.args.session c.args.resource c.requires.whole c.requires.ready c.requires.can.idle
 
 pub ask-requires-clause-idle : goal.ask-requires-clause-idle
 ask-requires-clause-idle c = idle-there c.args.session c.args.resource c.args.self.now c.requires.whole c.requires.can.idle
@@ -33,7 +36,7 @@ returns-in_err-status-clause-kept c =
     record {
       whole = room-whole c.args.self.now c.args.session c.index_mut-locker.result.now c.make_room.new.self c.requires.whole (within c.args.self.now c.args.session c.position_of-position.ensures c.requires.some c.requires.within) c.index_mut-locker.ensures.value c.make_room.ensures.standing c.make_room.ensures.kept c.args.resource _ refl refl c.in_err-status.ensures.err;
       lockers = search rules;
-      waits = search rules;
+      ready = ready-same c.args.self.now _ (room-same c.args.self.now c.args.session c.index_mut-locker.result.now c.make_room.new.self c.requires.whole (within c.args.self.now c.args.session c.position_of-position.ensures c.requires.some c.requires.within) c.index_mut-locker.ensures.value c.make_room.ensures.standing c.make_room.ensures.kept c.args.resource _ refl refl c.in_err-status.ensures.err) (search rules) c.in_err-status.ensures.unwritten c.requires.ready;
     }
 
 pub returns-in-Granted-clause-asked : goal.returns-in-Granted-clause-asked
@@ -44,14 +47,11 @@ returns-in-Granted-clause-asked c =
 
 pub returns-in-Granted-clause-kept : goal.returns-in-Granted-clause-kept
 returns-in-Granted-clause-kept c =
-    record {
-      whole = asked-whole c.args.self.now c.args.session c.args.resource c.args.mode (is_granted c.in_ok-status.status) _ c.requires.whole (within c.args.self.now c.args.session c.position_of-position.ensures c.requires.some c.requires.within) c.requires.can.idle c.in_ok-status.ensures.granted
-          (twice-own c.args.self.now c.args.session c.index_mut-locker.result.now c.make_room.new.self c.requires.whole (within c.args.self.now c.args.session c.position_of-position.ensures c.requires.some c.requires.within) c.index_mut-locker.ensures.value c.make_room.ensures.standing c.make_room.ensures.kept c.args.resource (is_granted c.in_ok-status.status) c.index_mut-locker-2.result.now c.hold.new.self _ c.index_mut-locker-2.ensures.value (subst (λ (b : Bool). standing_of c.hold.new.self ≡ standing_after_asking b c.args.resource (standing_of c.index_mut-locker-2.result.now)) (sym (ap is_granted c.in-Granted.is)) c.hold.ensures.standing) c.hold.ensures.kept refl)
-          c.in_ok-status.ensures.ok
-          (twice-kept c.args.self.now c.args.session c.index_mut-locker.result.now c.make_room.new.self c.requires.whole (within c.args.self.now c.args.session c.position_of-position.ensures c.requires.some c.requires.within) c.index_mut-locker.ensures.value c.make_room.ensures.standing c.make_room.ensures.kept c.args.resource (is_granted c.in_ok-status.status) c.index_mut-locker-2.result.now c.hold.new.self _ c.index_mut-locker-2.ensures.value (subst (λ (b : Bool). standing_of c.hold.new.self ≡ standing_after_asking b c.args.resource (standing_of c.index_mut-locker-2.result.now)) (sym (ap is_granted c.in-Granted.is)) c.hold.ensures.standing) c.hold.ensures.kept refl);
-      lockers = search rules;
-      waits = search rules;
-    }
+    asked-keeps c.args.self.now c.args.session c.args.resource c.args.mode (is_granted c.in_ok-status.status) _ c.requires.whole (within c.args.self.now c.args.session c.position_of-position.ensures c.requires.some c.requires.within) c.requires.can.idle c.in_ok-status.ensures.granted
+    (twice-own c.args.self.now c.args.session c.index_mut-locker.result.now c.make_room.new.self c.requires.whole (within c.args.self.now c.args.session c.position_of-position.ensures c.requires.some c.requires.within) c.index_mut-locker.ensures.value c.make_room.ensures.standing c.make_room.ensures.kept c.args.resource (is_granted c.in_ok-status.status) c.index_mut-locker-2.result.now c.hold.new.self _ c.index_mut-locker-2.ensures.value (subst (λ (b : Bool). standing_of c.hold.new.self ≡ standing_after_asking b c.args.resource (standing_of c.index_mut-locker-2.result.now)) (sym (ap is_granted c.in-Granted.is)) c.hold.ensures.standing) c.hold.ensures.kept refl)
+    c.in_ok-status.ensures.ok
+    (twice-kept c.args.self.now c.args.session c.index_mut-locker.result.now c.make_room.new.self c.requires.whole (within c.args.self.now c.args.session c.position_of-position.ensures c.requires.some c.requires.within) c.index_mut-locker.ensures.value c.make_room.ensures.standing c.make_room.ensures.kept c.args.resource (is_granted c.in_ok-status.status) c.index_mut-locker-2.result.now c.hold.new.self _ c.index_mut-locker-2.ensures.value (subst (λ (b : Bool). standing_of c.hold.new.self ≡ standing_after_asking b c.args.resource (standing_of c.index_mut-locker-2.result.now)) (sym (ap is_granted c.in-Granted.is)) c.hold.ensures.standing) c.hold.ensures.kept refl)
+    (search rules) refl c.in_ok-status.ensures.rows c.requires.ready
 
 pub returns-in-Waiting-clause-asked : goal.returns-in-Waiting-clause-asked
 returns-in-Waiting-clause-asked c =
@@ -61,14 +61,11 @@ returns-in-Waiting-clause-asked c =
 
 pub returns-in-Waiting-clause-kept : goal.returns-in-Waiting-clause-kept
 returns-in-Waiting-clause-kept c =
-    record {
-      whole = asked-whole c.args.self.now c.args.session c.args.resource c.args.mode (is_granted c.in_ok-status.status) _ c.requires.whole (within c.args.self.now c.args.session c.position_of-position.ensures c.requires.some c.requires.within) c.requires.can.idle c.in_ok-status.ensures.granted
-          (twice-own c.args.self.now c.args.session c.index_mut-locker.result.now c.make_room.new.self c.requires.whole (within c.args.self.now c.args.session c.position_of-position.ensures c.requires.some c.requires.within) c.index_mut-locker.ensures.value c.make_room.ensures.standing c.make_room.ensures.kept c.args.resource (is_granted c.in_ok-status.status) c.index_mut-locker-2.result.now c.wait_for.new.self _ c.index_mut-locker-2.ensures.value (subst (λ (b : Bool). standing_of c.wait_for.new.self ≡ standing_after_asking b c.args.resource (standing_of c.index_mut-locker-2.result.now)) (sym (ap is_granted c.in-Waiting.is)) c.wait_for.ensures.standing) c.wait_for.ensures.kept refl)
-          c.in_ok-status.ensures.ok
-          (twice-kept c.args.self.now c.args.session c.index_mut-locker.result.now c.make_room.new.self c.requires.whole (within c.args.self.now c.args.session c.position_of-position.ensures c.requires.some c.requires.within) c.index_mut-locker.ensures.value c.make_room.ensures.standing c.make_room.ensures.kept c.args.resource (is_granted c.in_ok-status.status) c.index_mut-locker-2.result.now c.wait_for.new.self _ c.index_mut-locker-2.ensures.value (subst (λ (b : Bool). standing_of c.wait_for.new.self ≡ standing_after_asking b c.args.resource (standing_of c.index_mut-locker-2.result.now)) (sym (ap is_granted c.in-Waiting.is)) c.wait_for.ensures.standing) c.wait_for.ensures.kept refl);
-      lockers = search rules;
-      waits = search rules;
-    }
+    asked-keeps c.args.self.now c.args.session c.args.resource c.args.mode (is_granted c.in_ok-status.status) _ c.requires.whole (within c.args.self.now c.args.session c.position_of-position.ensures c.requires.some c.requires.within) c.requires.can.idle c.in_ok-status.ensures.granted
+    (twice-own c.args.self.now c.args.session c.index_mut-locker.result.now c.make_room.new.self c.requires.whole (within c.args.self.now c.args.session c.position_of-position.ensures c.requires.some c.requires.within) c.index_mut-locker.ensures.value c.make_room.ensures.standing c.make_room.ensures.kept c.args.resource (is_granted c.in_ok-status.status) c.index_mut-locker-2.result.now c.wait_for.new.self _ c.index_mut-locker-2.ensures.value (subst (λ (b : Bool). standing_of c.wait_for.new.self ≡ standing_after_asking b c.args.resource (standing_of c.index_mut-locker-2.result.now)) (sym (ap is_granted c.in-Waiting.is)) c.wait_for.ensures.standing) c.wait_for.ensures.kept refl)
+    c.in_ok-status.ensures.ok
+    (twice-kept c.args.self.now c.args.session c.index_mut-locker.result.now c.make_room.new.self c.requires.whole (within c.args.self.now c.args.session c.position_of-position.ensures c.requires.some c.requires.within) c.index_mut-locker.ensures.value c.make_room.ensures.standing c.make_room.ensures.kept c.args.resource (is_granted c.in_ok-status.status) c.index_mut-locker-2.result.now c.wait_for.new.self _ c.index_mut-locker-2.ensures.value (subst (λ (b : Bool). standing_of c.wait_for.new.self ≡ standing_after_asking b c.args.resource (standing_of c.index_mut-locker-2.result.now)) (sym (ap is_granted c.in-Waiting.is)) c.wait_for.ensures.standing) c.wait_for.ensures.kept refl)
+    (search rules) refl c.in_ok-status.ensures.rows c.requires.ready
 
 pub hold-requires-clause-new : goal.hold-requires-clause-new
 hold-requires-clause-new c =

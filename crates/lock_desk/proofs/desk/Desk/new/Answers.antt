@@ -1,8 +1,10 @@
 use Rattle.std.proofs.Common.{◌≡◌, ℕ, List, refl, sym, ap, arith, subst, rules}
 use Rattle.std.proofs.lemmas.List.Elements.{All-push}
 use Rattle.lock_desk.specs.declared.lockers.Locker.{Locker}
+use Rattle.lock_desk.specs.Finding.{IsReady}
 use Rattle.lock_desk.specs.Lockers.{Standing, no_standing, standings_of, standing_at, IsKeptLocker}
 use Rattle.lock_desk.proofs.BookInvariant.{none-push}
+use Rattle.lock_desk.proofs.RowsOfTheDesk.{ready-new}
 use Rattle.lock_desk.proofs.desk.Desk.new.Goals as goal
 
 pub loop-locker-preserved : goal.loop-locker-preserved
@@ -20,3 +22,8 @@ returns-clause-shows c = record {
   transactions = λ s. ap (λ (x : Standing). x.transaction) (c.loop-locker.invariant.none s);
   views = search rules;
 }
+
+pub returns-clause-ready : goal.returns-clause-ready
+returns-clause-ready c =
+    let ready = c.in_ok-waits.ensures.ready in
+    ready-new _ (omega (arith, ready.sessions, c.loop-locker.invariant.long)) (subst (λ (n : ℕ). IsReady n c.in_ok-waits.waits) (sym ready.sessions) ready) c.in_ok-waits.ensures.pairs c.in_ok-waits.ensures.numbers c.loop-locker.invariant.none

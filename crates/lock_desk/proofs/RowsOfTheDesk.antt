@@ -1,0 +1,226 @@
+-- What a desk has written down of who waits for whom stays right: an act changes what is seen of one resource, and the
+-- rows of those who wait there.
+use Rattle.std.proofs.Common.{◌≡◌, ℕ, ◌+◌, Bool, true, false, cond, not, eqb, ◌&&◌, ◌||◌, inl, inr, List, length, Option, Some, None, refl, sym, ◌∙◌, ap, arith, subst}
+use Rattle.std.proofs.lemmas.Bool.Decides.{Decides-eqb}
+use Rattle.std.specs.Prelude.{vec_len, slice_index_or}
+use Rattle.waits_for.specs.Pairs.{pairs_of}
+use Rattle.lock_tree.specs.Paths.{same_path}
+use Rattle.lock_rules.specs.declared.calls.Transaction.{Transaction}
+use Rattle.lock_rules.specs.State.{number_in}
+use Rattle.lock_rules.specs.Waits.{doom}
+use Rattle.lock_rules.proofs.Lists.{same_path-refl, same_path-true, same_path_tells}
+use Rattle.lock_desk.specs.declared.desk.Desk.{Desk}
+use Rattle.lock_desk.specs.declared.waits.Waits.{Waits}
+use Rattle.lock_desk.specs.Cells.{View, has_session}
+use Rattle.lock_desk.specs.Lockers.{Standing, standing_at, is_wanted, no_standing}
+use Rattle.lock_desk.specs.Changes.{view_at, standings, standing, IsWhole, IsSameSeen}
+use Rattle.lock_desk.specs.Finding.{view_blocks, blocks_at, blocks, IsReady, IsWritten, DoFollow}
+use Rattle.lock_desk.specs.Ready.{IsReadyDesk}
+use Rattle.lock_desk.proofs.SessionsInRange.{numbered-whole}
+use Rattle.lock_desk.proofs.WritingWaits.{blocks-none}
+
+-- for whom a session waits, by what the cells say
+
+-- what it waits for
+waits-for : (o : Option (List ℕ)) (r : List ℕ) → is_wanted r o ≡ true → o ≡ Some r
+waits-for None r h = absurd (cc)
+waits-for (Some q) r h = ap (λ (p : List ℕ). Some p) (same_path-true q r h)
+
+module _ (d : Desk) (w : IsWhole d) (s u : ℕ) where
+  -- where it stands in a queue
+  pub blocks-there : (r : List ℕ) → has_session s (view_at r d).waiting ≡ true → blocks d.cells.entries (standings d) s u ≡ view_blocks s u (view_at r d)
+  blocks-there r h = ap (blocks_at s u d.cells.entries) (waits-for (standing s d).wanted r ((w.agree r).wanted s ∙ h))
+
+  -- where it stands in none
+  pub blocks-nowhere : ((q : List ℕ) → has_session s (view_at q d).waiting ≡ false) → blocks d.cells.entries (standings d) s u ≡ false
+  blocks-nowhere h = go (standing s d).wanted refl
+    where
+      go : (o : Option (List ℕ)) → (standing s d).wanted ≡ o → blocks_at s u d.cells.entries o ≡ false
+      go None e = refl
+      go (Some q) e = blocks-none s u (view_at q d) (h q)
+
+  -- it stands in no other queue
+  pub waits-once : (r q : List ℕ) → has_session s (view_at r d).waiting ≡ true → same_path r q ≡ false → has_session s (view_at q d).waiting ≡ false
+  waits-once r q h n = sym ((w.agree q).wanted s) ∙ (ap (is_wanted q) (waits-for (standing s d).wanted r ((w.agree r).wanted s ∙ h)) ∙ n)
+
+-- one resource has changed
+
+module _ (r : List ℕ) (v : View) (d e : Desk) (w : IsWhole d) (x : IsWhole e) (views : (q : List ℕ) → view_at q e ≡ cond (same_path r q) v (view_at q d)) where
+  here : view_at r e ≡ v
+  here = views r ∙ ap (λ (b : Bool). cond b v (view_at r d)) (same_path-refl r)
+
+  elsewhere : (q : List ℕ) → same_path r q ≡ false → view_at q e ≡ view_at q d
+  elsewhere q n = views q ∙ ap (λ (b : Bool). cond b v (view_at q d)) n
+
+  -- who waits elsewhere waits as before
+  blocks-elsewhere : (s u : ℕ) → has_session s (view_at r d).waiting ≡ false → has_session s v.waiting ≡ false → blocks e.cells.entries (standings e) s u ≡ blocks d.cells.entries (standings d) s u
+  blocks-elsewhere s u before after = go (standing s d).wanted refl
+    where
+      none-there : (standing s d).wanted ≡ None → (q : List ℕ) → has_session s (view_at q e).waiting ≡ false
+      none-there f q = elim (same_path_tells r q) [
+        | inl k ↦ ap (λ (p : List ℕ). has_session s (view_at p e).waiting) (sym k.1) ∙ (ap (λ (y : View). has_session s y.waiting) here ∙ after)
+        | inr k ↦ ap (λ (y : View). has_session s y.waiting) (elsewhere q k) ∙ (sym ((w.agree q).wanted s) ∙ ap (is_wanted q) f)
+      ]
+
+      go : (o : Option (List ℕ)) → (standing s d).wanted ≡ o → blocks e.cells.entries (standings e) s u ≡ blocks d.cells.entries (standings d) s u
+      go None f = blocks-nowhere e x s u (none-there f) ∙ sym (ap (blocks_at s u d.cells.entries) f)
+      go (Some q) f =
+          let there : has_session s (view_at q d).waiting ≡ true = sym ((w.agree q).wanted s) ∙ (ap (is_wanted q) f ∙ same_path-refl q) in
+          elim (same_path_tells r q) [
+            | inl k ↦ absurd (let g : has_session s (view_at q d).waiting ≡ false = ap (λ (p : List ℕ). has_session s (view_at p d).waiting) (sym k.1) ∙ before in cc)
+            | inr k ↦ blocks-there e x s u q (ap (λ (y : View). has_session s y.waiting) (elsewhere q k) ∙ there) ∙ (ap (view_blocks s u) (elsewhere q k) ∙ sym (blocks-there d w s u q there))
+          ]
+
+  -- who waited there, and waits there no more, waits for nobody
+  blocks-left : (s u : ℕ) → has_session s (view_at r d).waiting ≡ true → has_session s v.waiting ≡ false → blocks e.cells.entries (standings e) s u ≡ false
+  blocks-left s u before after = blocks-nowhere e x s u (λ q. elim (same_path_tells r q) [
+    | inl k ↦ ap (λ (p : List ℕ). has_session s (view_at p e).waiting) (sym k.1) ∙ (ap (λ (y : View). has_session s y.waiting) here ∙ after)
+    | inr k ↦ ap (λ (y : View). has_session s y.waiting) (elsewhere q k) ∙ waits-once d w s u r q before k
+  ])
+
+  -- so the rows of those who waited there or wait there are all that change
+  pub blocks-follow : (s u : ℕ) → blocks e.cells.entries (standings e) s u ≡ ((blocks d.cells.entries (standings d) s u && not (has_session s (view_at r d).waiting)) || view_blocks s u v)
+  blocks-follow s u = go (has_session s (view_at r d).waiting) (has_session s v.waiting) refl refl
+    where
+      old : Bool
+      old = blocks d.cells.entries (standings d) s u
+
+      keep : (a : Bool) → ((a && true) || false) ≡ a
+      keep true = refl
+      keep false = refl
+
+      drop-it : (a c : Bool) → ((a && false) || c) ≡ c
+      drop-it true c = refl
+      drop-it false c = refl
+
+      quiet : (a b : Bool) → (b ≡ true → a ≡ false) → (c : Bool) → ((a && not b) || c) ≡ (a || c)
+      quiet true true h c = absurd (let f = h refl in cc)
+      quiet true false h c = refl
+      quiet false true h c = refl
+      quiet false false h c = refl
+
+      go : (b c : Bool) → has_session s (view_at r d).waiting ≡ b → has_session s v.waiting ≡ c → blocks e.cells.entries (standings e) s u ≡ ((old && not b) || view_blocks s u v)
+      go true true f g = blocks-there e x s u r (ap (λ (y : View). has_session s y.waiting) here ∙ g) ∙ (ap (view_blocks s u) here ∙ sym (drop-it old (view_blocks s u v)))
+      go true false f g = blocks-left s u f g ∙ sym (drop-it old (view_blocks s u v) ∙ blocks-none s u v g)
+      go false false f g = blocks-elsewhere s u f g ∙ sym (ap (λ (o : Bool). (old && true) || o) (blocks-none s u v g) ∙ keep old)
+      go false true f g =
+          let there = ap (λ (y : View). has_session s y.waiting) here ∙ g in
+          blocks-there e x s u r there ∙ (ap (view_blocks s u) here
+          ∙ sym (ap (λ (o : Bool). (o && true) || view_blocks s u v) idle))
+        where
+          before : (q : List ℕ) → has_session s (view_at q d).waiting ≡ false
+          before q = elim (same_path_tells r q) [
+            | inl k ↦ ap (λ (p : List ℕ). has_session s (view_at p d).waiting) (sym k.1) ∙ f
+            | inr k ↦ ap (λ (y : View). has_session s y.waiting) (sym (elsewhere q k)) ∙ waits-once e x s u r q (ap (λ (y : View). has_session s y.waiting) here ∙ g) k
+          ]
+
+          idle : old ≡ false
+          idle = blocks-nowhere d w s u before
+
+  -- and what is written down is right again
+  pub ready-follow : vec_len e.lockers ≡ vec_len d.lockers → ((u : ℕ) → (standing u e).transaction ≡ (standing u d).transaction) → DoFollow (view_at r d) v d.waits e.waits → IsReadyDesk d → IsReadyDesk e
+  ready-follow len transactions f k = record {
+    long = f.sessions ∙ (k.long ∙ sym len);
+    ready = record {
+      few = omega (arith, f.sessions, k.ready.few);
+      sessions = refl;
+      numbers = ap (λ ns. vec_len ns) f.numbers ∙ (k.ready.numbers ∙ sym f.sessions);
+    };
+    filled = record {
+      pairs = λ a b. f.pairs a b ∙ (ap (λ (o : Bool). (o && not (has_session (a + 1) (view_at r d).waiting)) || view_blocks (a + 1) (b + 1) v) (k.filled.pairs a b) ∙ sym (blocks-follow (a + 1) (b + 1)));
+      numbers = λ a. ap (λ ns. slice_index_or ns.items a 0) f.numbers ∙ (k.filled.numbers a ∙ sym (ap number_in (transactions (a + 1))));
+    };
+  }
+
+-- nothing has changed of who waits where
+
+-- not even for the standings
+pub ready-same : (d e : Desk) → IsSameSeen d e → vec_len e.lockers ≡ vec_len d.lockers → e.waits ≡ d.waits → IsReadyDesk d → IsReadyDesk e
+ready-same d e same len waits k = record {
+  long = ap (λ (x : Waits). x.rows.sessions) waits ∙ (k.long ∙ sym len);
+  ready = subst (λ (x : Waits). IsReady x.rows.sessions x) (sym waits) k.ready;
+  filled = record {
+    pairs = λ a b. ap (λ (x : Waits). pairs_of x.rows a b) waits ∙ (k.filled.pairs a b ∙ sym (blocks-same (a + 1) (b + 1)));
+    numbers = λ a. ap (λ (x : Waits). slice_index_or x.numbers.items a 0) waits ∙ (k.filled.numbers a ∙ sym (ap (λ (ss : List Standing). number_in (standing_at (a + 1) ss).transaction) same.standings_same));
+  };
+}
+  where
+    blocks-same : (s u : ℕ) → blocks e.cells.entries (standings e) s u ≡ blocks d.cells.entries (standings d) s u
+    blocks-same s u = ap (λ (ss : List Standing). blocks_at s u e.cells.entries (standing_at s ss).wanted) same.standings_same ∙ go (standing s d).wanted
+      where
+        go : (o : Option (List ℕ)) → blocks_at s u e.cells.entries o ≡ blocks_at s u d.cells.entries o
+        go None = refl
+        go (Some q) = ap (view_blocks s u) (same.views q)
+
+-- only transactions have changed
+ready-told : (d e : Desk) → IsWhole d → IsWhole e → ((q : List ℕ) → view_at q e ≡ view_at q d) → vec_len e.lockers ≡ vec_len d.lockers → e.waits.rows ≡ d.waits.rows → vec_len e.waits.numbers ≡ vec_len d.waits.numbers
+    → ((a : ℕ) → slice_index_or e.waits.numbers.items a 0 ≡ number_in (standing (a + 1) e).transaction) → IsReadyDesk d → IsReadyDesk e
+ready-told d e w x views len rows length numbers k =
+    let sessions = ap (λ rs. rs.sessions) rows in
+    record {
+      long = sessions ∙ (k.long ∙ sym len);
+      ready = record { few = omega (arith, sessions, k.ready.few); sessions = refl; numbers = length ∙ (k.ready.numbers ∙ sym sessions) };
+      filled = record {
+        pairs = λ a b. ap (λ rs. pairs_of rs a b) rows ∙ (k.filled.pairs a b ∙ sym (blocks-told (a + 1) (b + 1)));
+        numbers = numbers;
+      };
+    }
+  where
+    blocks-told : (s u : ℕ) → blocks e.cells.entries (standings e) s u ≡ blocks d.cells.entries (standings d) s u
+    blocks-told s u = go (standing s d).wanted refl
+      where
+        seen : (q : List ℕ) → has_session s (view_at q e).waiting ≡ is_wanted q (standing s d).wanted
+        seen q = ap (λ (y : View). has_session s y.waiting) (views q) ∙ sym ((w.agree q).wanted s)
+
+        go : (o : Option (List ℕ)) → (standing s d).wanted ≡ o → blocks e.cells.entries (standings e) s u ≡ blocks d.cells.entries (standings d) s u
+        go None f = blocks-nowhere e x s u (λ q. seen q ∙ ap (is_wanted q) f) ∙ sym (ap (blocks_at s u d.cells.entries) f)
+        go (Some q) f =
+            blocks-there e x s u q (seen q ∙ (ap (is_wanted q) f ∙ same_path-refl q)) ∙ (ap (view_blocks s u) (views q) ∙ sym (ap (blocks_at s u d.cells.entries) f))
+
+-- the number of each transaction, where that of one session is another now
+numbers-told : (d e : Desk) (s n : ℕ) (o : Option Transaction) → n ≡ number_in o → ((u : ℕ) → (standing u e).transaction ≡ cond (eqb u s) o (standing u d).transaction)
+    → ((a : ℕ) → slice_index_or e.waits.numbers.items a 0 ≡ cond (eqb (a + 1) s) n (slice_index_or d.waits.numbers.items a 0)) → IsReadyDesk d → (a : ℕ) → slice_index_or e.waits.numbers.items a 0 ≡ number_in (standing (a + 1) e).transaction
+numbers-told d e s n o is transactions numbers k a = numbers a ∙ (go (eqb (a + 1) s) ∙ sym (ap number_in (transactions (a + 1))))
+  where
+    go : (b : Bool) → cond b n (slice_index_or d.waits.numbers.items a 0) ≡ number_in (cond b o (standing (a + 1) d).transaction)
+    go true = is
+    go false = k.filled.numbers a
+
+-- the transaction of a session has begun, or ended
+pub ready-numbered : (d e : Desk) (s n : ℕ) (o : Option Transaction) → n ≡ number_in o → IsWhole d → IsWhole e → ((q : List ℕ) → view_at q e ≡ view_at q d) → vec_len e.lockers ≡ vec_len d.lockers → ((u : ℕ) → (standing u e).transaction ≡ cond (eqb u s) o (standing u d).transaction)
+    → e.waits.rows ≡ d.waits.rows → vec_len e.waits.numbers ≡ vec_len d.waits.numbers → ((a : ℕ) → slice_index_or e.waits.numbers.items a 0 ≡ cond (eqb (a + 1) s) n (slice_index_or d.waits.numbers.items a 0)) → IsReadyDesk d → IsReadyDesk e
+ready-numbered d e s n o is w x views len transactions rows length numbers k = ready-told d e w x views len rows length (numbers-told d e s n o is transactions numbers k) k
+
+-- or it is doomed, and keeps its number
+pub ready-doomed : (d e : Desk) (s : ℕ) → IsWhole d → IsWhole e → ((q : List ℕ) → view_at q e ≡ view_at q d) → vec_len e.lockers ≡ vec_len d.lockers → ((u : ℕ) → (standing u e).transaction ≡ cond (eqb u s) (doom (standing s d).transaction) (standing u d).transaction)
+    → e.waits ≡ d.waits → IsReadyDesk d → IsReadyDesk e
+ready-doomed d e s w x views len transactions waits k =
+    ready-told d e w x views len (ap (λ (y : Waits). y.rows) waits) (ap (λ (y : Waits). vec_len y.numbers) waits)
+    (λ a. ap (λ (y : Waits). slice_index_or y.numbers.items a 0) waits ∙ (k.filled.numbers a ∙ (go a (eqb (a + 1) s) refl ∙ sym (ap number_in (transactions (a + 1)))))) k
+  where
+    same-number : (o : Option Transaction) → number_in o ≡ number_in (doom o)
+    same-number None = refl
+    same-number (Some t) = refl
+
+    go : (a : ℕ) (b : Bool) → eqb (a + 1) s ≡ b → number_in (standing (a + 1) d).transaction ≡ number_in (cond b (doom (standing s d).transaction) (standing (a + 1) d).transaction)
+    go a true e = ap (λ (i : ℕ). number_in (standing i d).transaction) ((Decides-eqb (a + 1) s).0 e) ∙ same-number (standing s d).transaction
+    go a false e = refl
+
+-- nobody waits, and none has begun
+pub ready-new : (d : Desk) → d.waits.rows.sessions ≡ vec_len d.lockers → IsReady d.waits.rows.sessions d.waits → ((a b : ℕ) → pairs_of d.waits.rows a b ≡ false) → ((a : ℕ) → slice_index_or d.waits.numbers.items a 0 ≡ 0) → ((s : ℕ) → standing s d ≡ no_standing) → IsReadyDesk d
+ready-new d long ready pairs numbers none = record {
+  long = long;
+  ready = ready;
+  filled = record {
+    pairs = λ a b. pairs a b ∙ sym (ap (λ (x : Standing). blocks_at (a + 1) (b + 1) d.cells.entries x.wanted) (none (a + 1)));
+    numbers = λ a. numbers a ∙ sym (ap (λ (x : Standing). number_in x.transaction) (none (a + 1)));
+  };
+}
+
+-- what a request asks of the rows is there
+pub written-for : (d : Desk) (s : ℕ) (r : List ℕ) → IsWhole d → IsReadyDesk d → (standing s d).wanted ≡ None → IsWritten s (view_at r d) d.waits
+written-for d s r w k idle = record {
+  within = numbered-whole d d.waits.rows.sessions (omega (arith, k.long, d.lockers.ok.0)) w r;
+  waiting = λ a b h. k.filled.pairs a b ∙ blocks-there d w (a + 1) (b + 1) r h;
+  idle = λ a b e. k.filled.pairs a b ∙ (ap (λ (i : ℕ). blocks d.cells.entries (standings d) i (b + 1)) e ∙ ap (blocks_at s (b + 1) d.cells.entries) idle);
+}
