@@ -93,12 +93,6 @@ granted-step d e st s r m w i h passed fresh asked =
     let answer = granted-answer d e st s r m m w i h may (sym (ap (λ (o : Option Mode). target_of o m) fresh)) (λ y. absurd (let f = ap (λ (o : Option Mode). is_held o m) fresh in cc)) (λ n. asked) in
     subst (λ (o : Option Why). DoesAnswer (outcome_of o st s (Lock r m)) e (Granted m)) (sym passed ∙ ap first_failing (tests-shown d st s w i h (Lock r m))) answer
 
-ready-still : (d e : Desk) → DoesKeep d e → IsReadyDesk d → IsReadyDesk e
-ready-still d e k r = record {
-  long = ap (λ (w : Waits). w.rows.sessions) k.waits ∙ (r.long ∙ sym k.lockers);
-  ready = subst (λ (w : Waits). IsReady w.rows.sessions w) (sym k.waits) r.ready;
-}
-
 abbrev pub entry_of_grant : Item → Mode → Entry
 entry_of_grant i m = record { session = i.session; call = i.call; reply = Granted m }
 
@@ -121,7 +115,7 @@ module _ (d e : Desk) (h : List Entry) (i : Item) (r : List ℕ) (m : Mode) (kep
         within = subst (λ (n : ℕ). All (IsEntryWithin n) (h ++ x ∷ [])) (sym k.lockers) (All-push (IsEntryWithin (vec_len d.lockers)) h x kept.within (record { some = some; within = within }));
         shows = subst (Shows e) (sym (state_of-push h x)) a.1;
         whole = k.whole;
-        ready = ready-still d e k kept.ready;
+        ready = k.ready;
         counted = let n = asked.count in let c = kept.counted in omega (arith, n, c, length-append h (x ∷ []));
       }
 
@@ -132,6 +126,6 @@ same-kept d e h same k kept = record {
   within = subst (λ (n : ℕ). All (IsEntryWithin n) h) (sym k.lockers) kept.within;
   shows = same-shown d e (state_of h) same kept.shows;
   whole = k.whole;
-  ready = ready-still d e k kept.ready;
+  ready = k.ready;
   counted = let n = same.count in let c = kept.counted in omega (arith, n, c);
 }

@@ -1,6 +1,6 @@
 -- What a desk has written down of who waits for whom stays right: an act changes what is seen of one resource, and the
 -- rows of those who wait there.
-use Rattle.std.proofs.Common.{◌≡◌, ℕ, ◌+◌, Bool, true, false, cond, not, eqb, ◌&&◌, ◌||◌, inl, inr, List, length, Option, Some, None, refl, sym, ◌∙◌, ap, arith, subst}
+use Rattle.std.proofs.Common.{◌≡◌, ℕ, ◌+◌, Bool, true, false, cond, not, eqb, ◌&&◌, ◌||◌, inl, inr, List, [], ◌∷◌, length, Option, Some, None, refl, sym, ◌∙◌, ap, arith, subst}
 use Rattle.std.proofs.lemmas.Bool.Decides.{Decides-eqb}
 use Rattle.std.specs.Prelude.{vec_len, slice_index_or}
 use Rattle.waits_for.specs.Pairs.{pairs_of}
@@ -11,7 +11,8 @@ use Rattle.lock_rules.specs.Waits.{doom}
 use Rattle.lock_rules.proofs.Lists.{same_path-refl, same_path-true, same_path_tells}
 use Rattle.lock_desk.specs.declared.desk.Desk.{Desk}
 use Rattle.lock_desk.specs.declared.waits.Waits.{Waits}
-use Rattle.lock_desk.specs.Cells.{View, has_session}
+use Rattle.lock_desk.specs.declared.cells.SessionMode.{SessionMode}
+use Rattle.lock_desk.specs.Cells.{View, has_session, is_nobody}
 use Rattle.lock_desk.specs.Lockers.{Standing, standing_at, is_wanted, no_standing}
 use Rattle.lock_desk.specs.Changes.{view_at, standings, standing, IsWhole, IsSameSeen}
 use Rattle.lock_desk.specs.Finding.{view_blocks, blocks_at, blocks, IsReady, IsWritten, DoFollow}
@@ -131,6 +132,23 @@ module _ (r : List ℕ) (v : View) (d e : Desk) (w : IsWhole d) (x : IsWhole e) 
       numbers = λ a. ap (λ ns. slice_index_or ns.items a 0) f.numbers ∙ (k.filled.numbers a ∙ sym (ap number_in (transactions (a + 1))));
     };
   }
+
+-- where nobody waits, before and after, no row changes
+nobody-waits : (s : ℕ) (qs : List SessionMode) → is_nobody qs ≡ true → has_session s qs ≡ false
+nobody-waits s [] h = refl
+nobody-waits s (q ∷ qs) h = absurd (cc)
+
+pub quiet-follow : (before after : View) (old new : Waits) → new ≡ old → is_nobody before.waiting ≡ true → is_nobody after.waiting ≡ true → DoFollow before after old new
+quiet-follow before after old new same f g = subst (λ (w : Waits). DoFollow before after old w) (sym same) (record {
+  sessions = refl;
+  pairs = λ a b. let p = pairs_of old.rows a b in sym (ap (λ (o : Bool). (p && not o) || view_blocks (a + 1) (b + 1) after) (nobody-waits (a + 1) before.waiting f)
+      ∙ (ap (λ (o : Bool). (p && true) || o) (blocks-none (a + 1) (b + 1) after (nobody-waits (a + 1) after.waiting g)) ∙ as-before p));
+  numbers = refl;
+})
+  where
+    as-before : (a : Bool) → ((a && true) || false) ≡ a
+    as-before true = refl
+    as-before false = refl
 
 -- nothing has changed of who waits where
 

@@ -10,6 +10,7 @@ ghost use Rattle.lock_rules.specs.Step.{first_failing};
 ghost use Rattle.lock_desk.specs.declared.batch.Item.{Item as ItemValue};
 ghost use Rattle.lock_desk.specs.Batches.{IsItemWithin};
 ghost use Rattle.lock_desk.specs.Changes.{mode_held, lacks_need, desk_tests, IsWhole, DoesKeep, IsSameSeen};
+ghost use Rattle.lock_desk.specs.Ready.{IsReadyDesk};
 ghost use Rattle.lock_desk.specs.Runs.{HasLockRoom, mode_asked, Each, CanJoin, IsSite, IsRun, IsGranting, AreKept, AreServed};
 
 use crate::batch::Item;
@@ -208,6 +209,7 @@ fn make_lock_rooms(
 ) -> Result<(), AllocError>
     requires within { All (IsItemWithin (vec_len desk.old.lockers)) items.now }
     requires whole { IsWhole desk.old }
+    requires ready { IsReadyDesk desk.old }
     requires run { IsRun desk.old items.now from run.now }
     ensures same { IsSameSeen desk.old desk.new }
     ensures kept { DoesKeep desk.old desk.new }

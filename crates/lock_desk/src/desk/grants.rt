@@ -4,6 +4,7 @@ ghost use Rattle.std.specs.Prelude.{◌≡◌, ℕ, ◌+◌, ◌≤◌, true, No
 ghost use Rattle.lock_desk.specs.Cells.{codes_unless_waited, fits_among, is_nobody, IsPlace, HasRoomAt};
 ghost use Rattle.lock_desk.specs.Lockers.{standing_after_grant};
 ghost use Rattle.lock_desk.specs.Changes.{view_at, standing, standings, IsWhole, DoesKeep, IsSameSeen, CanLock, HasAsked};
+ghost use Rattle.lock_desk.specs.Ready.{IsReadyDesk};
 ghost use Rattle.lock_desk.specs.Runs.{HasLockRoom, KeepsLockRooms};
 
 use crate::cells::SessionMode;
@@ -36,6 +37,7 @@ impl Desk {
         more: usize,
     ) -> Result<(), AllocError>
         requires whole { IsWhole self.old }
+        requires ready { IsReadyDesk self.old }
         requires place { IsPlace resource self.old.cells.entries (Some place) }
         requires quiet { is_nobody (view_at resource self.old).waiting ≡ true }
         ensures same { IsSameSeen self.old self.new }
@@ -51,6 +53,7 @@ impl Desk {
         requires some { 1 ≤ session }
         requires within { session ≤ vec_len self.old.lockers }
         requires whole { IsWhole self.old }
+        requires ready { IsReadyDesk self.old }
         requires idle { (standing session self.old).wanted ≡ None }
         ensures same { IsSameSeen self.old self.new }
         ensures kept { DoesKeep self.old self.new }
@@ -67,6 +70,7 @@ impl Desk {
         requires some { 1 ≤ session }
         requires within { session ≤ vec_len self.old.lockers }
         requires whole { IsWhole self.old }
+        requires ready { IsReadyDesk self.old }
         requires place { IsPlace resource self.old.cells.entries (Some place) }
         requires can { CanLock session resource self.old }
         requires quiet { is_nobody (view_at resource self.old).waiting ≡ true }

@@ -2,13 +2,14 @@ use Rattle.std.proofs.Common.{rules, true, refl, sym, ◌∙◌, ◌<◌, length
 use Rattle.std.proofs.lemmas.List.Elements.{All-set}
 use Rattle.lock_tree.specs.Paths.{parent_of}
 use Rattle.lock_rules.specs.declared.calls.TheConstants.{MAX_LOCKS}
-use Rattle.lock_desk.specs.Cells.{has_path}
+use Rattle.lock_desk.specs.Cells.{View, has_path, is_nobody, view_after_asking}
 use Rattle.lock_desk.specs.Lockers.{Standing, IsKeptLocker}
 use Rattle.lock_desk.specs.Changes.{view_at}
 use Rattle.lock_desk.proofs.CellTable.{became-view}
 use Rattle.lock_desk.proofs.TableViews.{in_mode}
 use Rattle.lock_desk.proofs.LockerStandings.{standing-here}
-use Rattle.lock_desk.proofs.Asking.{within, held-locker, once-own, has-asked, asked-whole}
+use Rattle.lock_desk.proofs.Asking.{within, held-locker, once-own, has-asked, asked-keeps}
+use Rattle.lock_desk.proofs.RowsOfTheDesk.{quiet-follow}
 use Rattle.lock_desk.proofs.Granting.{can-grant, granted-view}
 use Rattle.lock_desk.proofs.desk.Desk.grant.Goals as goal
 
@@ -37,11 +38,16 @@ returns-clause-asked c =
     (became-view c.args.resource _ _ c.args.self.now.cells.entries _ (granted-view (in_mode c.args.session c.args.mode) (view_at c.args.resource c.args.self.now) (can-grant (in_mode c.args.session c.args.mode) (view_at c.args.resource c.args.self.now) c.requires.quiet c.requires.fits)) c.grant_at.ensures.granted) refl
 
 pub returns-clause-kept : goal.returns-clause-kept
-returns-clause-kept c = record {
-  whole = asked-whole c.args.self.now c.args.session c.args.resource c.args.mode true _ c.requires.whole (within c.args.self.now c.args.session c.position_of.ensures c.requires.some c.requires.within) c.requires.can.idle (can-grant (in_mode c.args.session c.args.mode) (view_at c.args.resource c.args.self.now) c.requires.quiet c.requires.fits)
-      (once-own c.args.self.now c.args.session c.args.resource c.index_mut-locker.result.now c.hold.new.self _ true (within c.args.self.now c.args.session c.position_of.ensures c.requires.some c.requires.within) c.index_mut-locker.ensures.value c.hold.ensures.standing refl)
-      (became-view c.args.resource _ _ c.args.self.now.cells.entries _ (granted-view (in_mode c.args.session c.args.mode) (view_at c.args.resource c.args.self.now) (can-grant (in_mode c.args.session c.args.mode) (view_at c.args.resource c.args.self.now) c.requires.quiet c.requires.fits)) c.grant_at.ensures.granted)
-      (All-set IsKeptLocker c.args.self.now.lockers.items c.position_of.result c.hold.new.self c.hold.ensures.kept c.requires.whole.lockers);
-  lockers = search rules;
-  waits = search rules;
-}
+returns-clause-kept c =
+    let d = c.args.self.now in
+    let r = c.args.resource in
+    let asker = in_mode c.args.session c.args.mode in
+    let can = can-grant asker (view_at r d) c.requires.quiet c.requires.fits in
+    let after = granted-view asker (view_at r d) can in
+    let here = within d c.args.session c.position_of.ensures c.requires.some c.requires.within in
+    asked-keeps d c.args.session r c.args.mode true _ c.requires.whole here c.requires.can.idle can
+    (once-own d c.args.session r c.index_mut-locker.result.now c.hold.new.self _ true here c.index_mut-locker.ensures.value c.hold.ensures.standing refl)
+    (became-view r _ _ d.cells.entries _ after c.grant_at.ensures.granted)
+    (All-set IsKeptLocker d.lockers.items c.position_of.result c.hold.new.self c.hold.ensures.kept c.requires.whole.lockers)
+    (search rules) refl
+    (quiet-follow (view_at r d) (view_after_asking asker (view_at r d)) d.waits _ refl c.requires.quiet (ap (λ (v : View). is_nobody v.waiting) (sym after) ∙ c.requires.quiet)) c.requires.ready
