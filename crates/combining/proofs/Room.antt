@@ -1,7 +1,8 @@
 -- How many records are opened: no more than there are sessions, so the row has room for one more call.
-use Rattle.std.proofs.Common.{◌≡◌, ◌≢◌, ℕ, zero, suc, ◌+◌, ◌<◌, ◌≤◌, Option, Some, None, List, [], ◌∷◌, length, get_or, set, refl, sym, ap, ◌∙◌, arith, lt_of_not-le, get_or-set_other, get_or-set_same}
+use Rattle.std.proofs.Common.{◌≡◌, ℕ, zero, suc, ◌+◌, ◌<◌, ◌≤◌, Option, Some, None, List, [], ◌∷◌, length, get_or, set, refl, sym, ap, ◌∙◌, arith, get_or-set_other, get_or-set_same}
+use Rattle.std.proofs.Math.Arith.{le_of_le-suc-ne}
 use mathlib.Core.Logic.{dite}
-use native.Mathlib.Decide.{dec_le, ℕ_discrete}
+use native.Mathlib.Decide.{ℕ_discrete}
 use Rattle.lock_rules.specs.declared.calls.Call.{Call}
 use Rattle.lock_desk.specs.declared.batch.Item.{Item}
 use Rattle.combining.specs.Passes.{AreOpened}
@@ -28,10 +29,7 @@ count-none : (l : Calls) (n j : ℕ) → get_or l j None ≡ None → 0 < j → 
 count-none l zero j none some few = absurd (omega arith)
 count-none l (suc n) j none some few = dite (ℕ_discrete j (suc n))
     (λ e. let z : one_if (get_or l (suc n) None) ≡ 0 = ap one_if (sym (ap (λ (k : ℕ). get_or l k None) e) ∙ none) in omega (arith, z, count-most l n))
-    (λ ne. omega (arith, count-none l n j none some (below j n few ne), few_if (get_or l (suc n) None)))
-  where
-    below : (j n : ℕ) → j ≤ suc n → j ≢ suc n → j ≤ n
-    below j n few ne = dite (dec_le j n) (λ le. le) (λ nle. absurd (ne (let g = lt_of_not-le nle in omega (arith, g))))
+    (λ ne. omega (arith, count-none l n j none some (le_of_le-suc-ne few ne), few_if (get_or l (suc n) None)))
 
 count-past : (l : Calls) (n j : ℕ) (x : Option Call) → n < j → count (set l j x) n ≡ count l n
 count-past l zero j x past = refl
@@ -46,10 +44,7 @@ count-set l (suc n) j c shown there some few = dite (ℕ_discrete j (suc n))
     let gone : one_if (get_or (set l j None) (suc n) None) ≡ 0 = ap one_if (sym (ap (λ (k : ℕ). get_or (set l j None) k None) e) ∙ get_or-set_same l j None None there) in
     omega (arith, here, gone, count-past l n j None (omega arith)))
     (λ ne. let same : one_if (get_or (set l j None) (suc n) None) ≡ one_if (get_or l (suc n) None) = ap one_if (get_or-set_other l j (suc n) None None (λ e. ne (sym e))) in
-    omega (arith, same, count-set l n j c shown there some (below j n few ne)))
-  where
-    below : (j n : ℕ) → j ≤ suc n → j ≢ suc n → j ≤ n
-    below j n few ne = dite (dec_le j n) (λ le. le) (λ nle. absurd (ne (let g = lt_of_not-le nle in omega (arith, g))))
+    omega (arith, same, count-set l n j c shown there some (le_of_le-suc-ne few ne)))
 
 there : (l : Calls) (j : ℕ) (c : Call) → get_or l j None ≡ Some c → j < length l
 there [] j c e = absurd (cc e)
