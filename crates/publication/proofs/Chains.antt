@@ -63,11 +63,6 @@ chain_with f g k before whose (x ∷ xs) ys apart off same new next c =
     let ne : x ≢ before = λ e. apart.0 (on_right x xs (before ∷ ys) (inl e)) in
     (c.0, chain_with f g (g x) before whose xs ys apart.1 (λ on. off (inr on)) same new next (subst (λ (n : ℕ). Chain f n (xs ++ before ∷ ys)) (sym (same x ne)) c.1))
 
--- what a record in the middle of a list names
-pub link_middle : (f : ℕ → ℕ) (k x : ℕ) (xs ys : List ℕ) → Chain f k (xs ++ x ∷ ys) → f x ≡ head_of ys
-link_middle f k x [] ys c = chain_head f (f x) ys c.1
-link_middle f k x (z ∷ zs) ys c = link_middle f (f z) x zs ys c.1
-
 apart_one : (xs ys : List ℕ) (w : ℕ) → AreApart (xs ++ w ∷ ys) → AreApart (xs ++ ys) × (IsOn w (xs ++ ys) → ⊥)
 apart_one [] ys w a = (a.1, a.0)
 apart_one (x ∷ xs) ys w a = let r = apart_one xs ys w a.1 in (

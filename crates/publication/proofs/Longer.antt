@@ -26,10 +26,6 @@ maxes-at (x ∷ xs) [] j = omega arith
 maxes-at (x ∷ xs) (y ∷ ys) zero = refl
 maxes-at (x ∷ xs) (y ∷ ys) (suc j) = maxes-at xs ys j
 
-pub maxes-none : (xs : List ℕ) → maxes xs [] ≡ xs
-maxes-none [] = refl
-maxes-none (x ∷ xs) = refl
-
 pub maxes-wide : (xs ys : List ℕ) → length xs ≤ length (maxes xs ys)
 maxes-wide [] ys = omega arith
 maxes-wide (x ∷ xs) [] = omega arith
