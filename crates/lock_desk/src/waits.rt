@@ -120,8 +120,8 @@ fn write_request(rows: &mut Rows, cell: &Cell, index: usize)
     cell.write_waits(rows, session);
 }
 
-/// For whom each of them waits is written down, where nothing is.
-pub(crate) fn write_queue(waits: &mut Waits, cell: &Cell)
+/// For whom each of those waits who wait at the cell is written down, where nothing is.
+fn write_requests(waits: &mut Waits, cell: &Cell)
     requires within { IsOfSessions waits.old.rows.sessions (view_of cell.now) }
     requires once { (s : ℕ) → times s (view_of cell.now).waiting ≤ 1 }
     requires empty { (a b : ℕ) → has_session (a + 1) (view_of cell.now).waiting ≡ true → pairs_of waits.old.rows a b ≡ false }
@@ -134,6 +134,22 @@ pub(crate) fn write_queue(waits: &mut Waits, cell: &Cell)
     for index in 0..queue.len() {
         write_request(&mut waits.rows, cell, index);
     }
+}
+
+/// The same; where nobody waits, at the cost of a look.
+pub(crate) fn write_queue(waits: &mut Waits, cell: &Cell)
+    requires within { IsOfSessions waits.old.rows.sessions (view_of cell.now) }
+    requires once { (s : ℕ) → times s (view_of cell.now).waiting ≤ 1 }
+    requires empty { (a b : ℕ) → has_session (a + 1) (view_of cell.now).waiting ≡ true → pairs_of waits.old.rows a b ≡ false }
+    ensures sessions { waits.new.rows.sessions ≡ waits.old.rows.sessions }
+    ensures pairs { (a b : ℕ) → pairs_of waits.new.rows a b
+        ≡ (pairs_of waits.old.rows a b || cell_blocks (a + 1) (b + 1) cell.now) }
+    ensures numbers { waits.new.numbers ≡ waits.old.numbers }
+{
+    if cell.queue().is_empty() {
+        return;
+    }
+    write_requests(waits, cell);
 }
 
 /// A session has asked at the cell. A fresh request that waits stands last, and changes no row but its own.

@@ -13,7 +13,7 @@ loop-locker-preserved c =
     record {
       long = omega (arith, c.in_ok-push.ensures.len, k.long);
       kept = rw c.in_ok-push.ensures.items (All-push IsKeptLocker c.loop-locker.lockers.items c.new.result k.kept c.new.ensures.kept);
-      none = subst (λ (ws : List Locker). (s : ℕ) → standing_at s (standings_of ws) ≡ no_standing) (sym c.in_ok-push.ensures.items) (none-push c.loop-locker.lockers.items c.new.result k.none c.new.ensures.standing);
+      none = subst (λ (ws : List Locker). (s : ℕ) → standing_at s (standings_of ws) ≡ no_standing) (sym {A = List Locker} c.in_ok-push.ensures.items) (none-push c.loop-locker.lockers.items c.new.result k.none c.new.ensures.standing);
     }
 
 pub returns-clause-shows : goal.returns-clause-shows

@@ -2,7 +2,7 @@ use Rattle.std.proofs.Common.{◌≡◌, ℕ, ◌+◌, ◌&&◌, ◌||◌, take}
 use Rattle.waits_for.specs.Pairs.{pairs_of}
 use Rattle.lock_desk.specs.Cells.{has_session, view_of}
 use Rattle.lock_desk.specs.Finding.{cell_blocks}
-use Rattle.lock_desk.proofs.waits.write_queue.Given as goal
+use Rattle.lock_desk.proofs.waits.write_requests.Given as goal
 
 abbrev pub invariant-loop-index : goal.invariant-loop-index
 invariant-loop-index l = record {

@@ -7,7 +7,7 @@ use Rattle.lock_desk.specs.Cells.{has_session, view_of}
 use Rattle.lock_desk.specs.Finding.{cell_blocks}
 use Rattle.lock_desk.proofs.WritingWaits.{blocks-waiting}
 use Rattle.lock_desk.proofs.RequestsAlike.{has-take, written-next}
-use Rattle.lock_desk.proofs.waits.write_queue.Goals as goal
+use Rattle.lock_desk.proofs.waits.write_requests.Goals as goal
 
 pub write_request-requires-clause-written : goal.write_request-requires-clause-written
 write_request-requires-clause-written c = λ a b h.
