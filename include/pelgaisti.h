@@ -29,8 +29,9 @@
  * - A handle (pelgaisti_book, pelgaisti_session) is a struct of yours. Set it to PELGAISTI_EMPTY, or all its bytes to zero,
  *   before its first use. Never copy or move it, never look or write into it after that, and keep its memory until it is closed.
  * - Every pointer is aligned, and points to memory of its type that no other argument of the call overlaps.
- * - No pointer is NULL. A call by its name in C or C++ is told of NULL by a test that stands at the end of this header, and not
- *   in the library: through a pointer to a function, or from another language, nothing tests for it.
+ * - No pointer is NULL but where a call allows it. What tells NULL, and takes it where it is allowed, are the functions at the end
+ *   of this header, which a call by its name in C or C++ goes through. Through a pointer to a function, or from another language,
+ *   nothing tests for it, and no pointer at all is NULL.
  * - One call at a time on a handle. A handle goes to another thread only over a lock, the start or the join of a thread, or a
  *   sequentially consistent atomic. Different sessions of one office may be called at once.
  * - No call comes from a signal handler, or from the forked child of a process with threads.
@@ -226,8 +227,9 @@ uint32_t pelgaisti_book_history(pelgaisti_book *book, uint64_t first, pelgaisti_
 /* ---- An office: a lock table that threads share, each by sessions of its own. ---- */
 
 /* Opens `count` handles, which stand side by side, as the sessions of one new office: sessions[0] is session 1, and so on. Asks
-   for `count` handles at `sessions`, and for a mark that no office has that is open: a call by its name has two arguments, and
-   passes the address of the array.
+   for `count` handles at `sessions`, and for a mark that no office has that is open. A call by its name has two arguments, and
+   passes the address of the array: so let no other office begin at this handle until this one is closed, also where the session
+   that it held was handed in.
    NULL, NO_SUCH_COUNT, OPEN (one of them), NO_MEMORY. */
 uint32_t pelgaisti_office_open(pelgaisti_session *sessions, size_t count, uint64_t mark);
 
@@ -251,7 +253,7 @@ uint32_t pelgaisti_session_seen(pelgaisti_session *session, uint64_t *seen);
 
 /* The session learns what the other knows: what it publishes from then on stands in the history behind all that the other had
    seen. The other learns nothing. It is a call on both handles. Asks that sessions with one mark are of one office, as they are
-   where no handle was copied or moved.
+   where each open office has a mark of its own and no handle was copied or moved.
    NULL, SAME, CLOSED (one of them), OTHER_OFFICE. */
 uint32_t pelgaisti_session_hear(pelgaisti_session *session, pelgaisti_session *other);
 
