@@ -1,5 +1,6 @@
 /* Each allocation is refused in turn: the call tells NO_MEMORY, or a pass that it was starved, nothing has changed, and the same
-   call then succeeds. Link with -Wl,--wrap=malloc,--wrap=realloc. */
+   call then succeeds. And at an allocation of one session's pass another session tries to serve, which is told ELSEWHERE. Link
+   with -Wl,--wrap=malloc,--wrap=realloc. */
 #include "pelgaisti.h"
 #include <stdio.h>
 #include <stdlib.h>
@@ -12,8 +13,18 @@ void *__wrap_realloc(void *at, size_t size);
 
 static long left = -1, refusals, failed;
 
+/* The session that tries to serve at the next allocation, and what it is told. */
+static pelgaisti_session *meanwhile;
+static uint32_t told;
+static pelgaisti_pass unwritten;
+
 /* Counts down to the allocation that is refused, of which there is one in each round. */
 static int is_refused(void) {
+    if (meanwhile) {
+        pelgaisti_session *session = meanwhile;
+        meanwhile = NULL;
+        told = pelgaisti_session_serve(session, &unwritten);
+    }
     if (left != 0) {
         left -= left > 0;
         return 0;
@@ -125,6 +136,25 @@ static void offices(void) {
     CHECK(pelgaisti_book_close(&book) == PELGAISTI_OK);
 }
 
+/* While a session makes a pass, which allocates, another one's try to serve is told ELSEWHERE, and changes nothing: the calls of
+   both are answered after it. */
+static void elsewhere(void) {
+    pelgaisti_session sessions[2] = {PELGAISTI_EMPTY, PELGAISTI_EMPTY};
+    pelgaisti_book book = PELGAISTI_EMPTY;
+    pelgaisti_answer answer;
+    CHECK(pelgaisti_office_open(sessions, 2) == PELGAISTI_OK);
+    for (int k = 0; k < 2; k++) CHECK(pelgaisti_session_publish(&sessions[k], &begin, NULL) == PELGAISTI_OK);
+    unwritten.served = unwritten.starved = 99;
+    meanwhile = &sessions[1];
+    CHECK(pelgaisti_session_serve(&sessions[0], NULL) == PELGAISTI_OK);
+    CHECK(!meanwhile && told == PELGAISTI_ELSEWHERE && unwritten.served == 99 && unwritten.starved == 99);
+    CHECK(pelgaisti_session_serve(&sessions[1], NULL) == PELGAISTI_OK);
+    for (int k = 0; k < 2; k++) CHECK(pelgaisti_session_collect(&sessions[k], &answer) == PELGAISTI_OK && answer.reply.kind == PELGAISTI_BEGAN);
+    CHECK(pelgaisti_session_hand_in(&sessions[1], &sessions[0]) == PELGAISTI_OK);
+    CHECK(pelgaisti_office_close(&sessions[0], &book) == PELGAISTI_OK && length_of(&book) == 2);
+    CHECK(pelgaisti_book_close(&book) == PELGAISTI_OK);
+}
+
 /* Plays a round for each allocation that it makes, and one more in which none is refused. */
 static void each_in_turn(const char *name, void (*play)(void)) {
     long before;
@@ -142,5 +172,7 @@ static void each_in_turn(const char *name, void (*play)(void)) {
 int main(void) {
     each_in_turn("books", books);
     each_in_turn("offices", offices);
+    elsewhere();
+    printf("elsewhere: %ld checks failed\n", failed);
     return failed != 0;
 }

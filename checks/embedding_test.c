@@ -175,7 +175,7 @@ static void books_serve(void) {
 /* What every off argument of a session is told, and what a session goes through from its start to its end. */
 static void sessions_refuse(void) {
     static pelgaisti_session many[PELGAISTI_MAX_SESSIONS + 1];
-    pelgaisti_session two[2] = {PELGAISTI_EMPTY, PELGAISTI_EMPTY}, one[1] = {PELGAISTI_EMPTY};
+    pelgaisti_session two[2] = {PELGAISTI_EMPTY, PELGAISTI_EMPTY}, one[1] = {PELGAISTI_EMPTY}, closed = PELGAISTI_EMPTY;
     pelgaisti_book book = PELGAISTI_EMPTY, open_book = PELGAISTI_EMPTY;
     pelgaisti_call begin = call_of(PELGAISTI_BEGIN, 0, 0, 0, 0);
     pelgaisti_answer answer = {99, {77, 88}};
@@ -238,6 +238,10 @@ static void sessions_refuse(void) {
     CHECK(pelgaisti_session_collect(&two[0], &answer) == PELGAISTI_NOT_SERVED);
     CHECK(pelgaisti_session_retire(&two[0]) == PELGAISTI_PENDING);
     CHECK(pelgaisti_session_hand_in(&two[0], &two[1]) == PELGAISTI_PENDING);
+    CHECK(pelgaisti_session_hand_in(&two[0], &one[0]) == PELGAISTI_OTHER_OFFICE);
+    CHECK(pelgaisti_session_hand_in(&two[0], &closed) == PELGAISTI_CLOSED);
+    CHECK(pelgaisti_session_hear(&two[0], &closed) == PELGAISTI_CLOSED);
+    CHECK(pelgaisti_office_close(&two[0], &book) == PELGAISTI_MISSING);
     CHECK(answer.place == 99 && answer.reply.kind == 77 && answer.reply.value == 88);
     CHECK(pelgaisti_session_serve(&two[0], &pass) == PELGAISTI_OK && pass.served == 1 && pass.starved == 0);
     CHECK(pelgaisti_session_serve(&two[1], NULL) == PELGAISTI_OK);
@@ -250,6 +254,9 @@ static void sessions_refuse(void) {
     CHECK(pelgaisti_session_retire(&two[1]) == PELGAISTI_OK);
     CHECK(pelgaisti_session_retire(&two[1]) == PELGAISTI_RETIRED);
     CHECK(pelgaisti_session_publish(&two[1], &begin, NULL) == PELGAISTI_RETIRED);
+    begin.op = 0;
+    CHECK(pelgaisti_session_publish(&two[1], &begin, NULL) == PELGAISTI_NO_SUCH_OP);
+    begin.op = PELGAISTI_BEGIN;
     CHECK(pelgaisti_session_collect(&two[1], &answer) == PELGAISTI_NOTHING_PENDING);
 
     CHECK(pelgaisti_office_close(&two[0], &book) == PELGAISTI_MISSING);
@@ -262,6 +269,7 @@ static void sessions_refuse(void) {
     CHECK(answer.reply.kind == PELGAISTI_REFUSED && answer.reply.value == PELGAISTI_ALREADY_OPEN);
     CHECK(pelgaisti_book_open(&open_book, 1) == PELGAISTI_OK);
     CHECK(pelgaisti_office_close(&two[0], &open_book) == PELGAISTI_OPEN);
+    CHECK(pelgaisti_office_close(&closed, &open_book) == PELGAISTI_OPEN);
     CHECK(pelgaisti_book_close(&open_book) == PELGAISTI_OK);
     CHECK(pelgaisti_office_close(&two[0], &book) == PELGAISTI_OK);
     CHECK(pelgaisti_office_close(&two[0], &open_book) == PELGAISTI_CLOSED);
@@ -274,6 +282,27 @@ static void sessions_refuse(void) {
     for (size_t k = PELGAISTI_MAX_SESSIONS - 1; k > 0; k--) CHECK(pelgaisti_session_hand_in(&many[k], &many[k - 1]) == PELGAISTI_OK);
     CHECK(pelgaisti_office_close(&many[0], &book) == PELGAISTI_OK);
     CHECK(pelgaisti_book_close(&book) == PELGAISTI_OK);
+}
+
+/* Handles that were moved, against the rules, so that two offices have one mark, and a session of the one is handed in to the
+   other. Nothing can close what is left of them: it stays reachable by the handles. */
+static void copies_are_told(void) {
+    static pelgaisti_session moved[2], array[2];
+    pelgaisti_book book = PELGAISTI_EMPTY;
+    pelgaisti_answer answer = {99, {77, 88}};
+    uint64_t seen = 99;
+
+    CHECK(pelgaisti_office_open(array, 2) == PELGAISTI_OK);
+    memcpy(moved, array, sizeof array);
+    memset(array, 0, sizeof array);
+    CHECK(pelgaisti_office_open(array, 2) == PELGAISTI_OK);
+    CHECK(pelgaisti_session_hand_in(&array[1], &moved[0]) == PELGAISTI_OK);
+    CHECK(pelgaisti_office_close(&moved[0], &book) == PELGAISTI_COPIED);
+    CHECK(pelgaisti_session_seen(&moved[0], &seen) == PELGAISTI_CLOSED && seen == 99);
+    CHECK(pelgaisti_office_close(&moved[0], &book) == PELGAISTI_CLOSED);
+    CHECK(pelgaisti_book_close(&book) == PELGAISTI_CLOSED);
+    CHECK(pelgaisti_session_collect(&moved[1], &answer) == PELGAISTI_NOTHING_PENDING && answer.place == 99);
+    CHECK(pelgaisti_session_collect(&array[0], &answer) == PELGAISTI_NOTHING_PENDING && answer.place == 99);
 }
 
 enum { THREADS = 8, CALLS = 10000 };
@@ -352,6 +381,7 @@ int main(void) {
     books_refuse();
     books_serve();
     sessions_refuse();
+    copies_are_told();
     threads_share();
     printf("%d passed, %d failed\n", passed, failed);
     return failed != 0;

@@ -25,10 +25,13 @@
  * call is answered at once. An OFFICE is for threads: each has a session of its own, publishes a call, and then tries to serve
  * and to collect until the answer is there. No call of this library blocks.
  *
- * WHAT THE CALLER KEEPS, since no proof covers C:
+ * WHAT THE CALLER KEEPS, since no proof covers C. What a single call asks besides stands with it, after "Asks".
  * - A handle (pelgaisti_book, pelgaisti_session) is a struct of yours. Set it to PELGAISTI_EMPTY, or all its bytes to zero,
- *   before its first use. Never copy or move it, and never look or write into it after that.
- * - Every pointer is aligned, and points to memory of its type that no other argument of the call overlaps. NULL is tested.
+ *   before its first use. Never copy or move it, never look or write into it after that, and keep its memory until it is closed.
+ * - Every pointer is aligned, and points to memory of its type that no other argument of the call overlaps.
+ * - No pointer is NULL but where a call allows it. What tells NULL, and takes it where it is allowed, are the functions at the end
+ *   of this header, which a call by its name in C or C++ goes through. Through a pointer to a function, or from another language,
+ *   nothing tests for it, and no pointer at all is NULL.
  * - One call at a time on a handle. A handle goes to another thread only over a lock, the start or the join of a thread, or a
  *   sequentially consistent atomic. Different sessions of one office may be called at once.
  * - No call comes from a signal handler, or from the forked child of a process with threads.
@@ -36,8 +39,8 @@
  *
  * STATUSES. Every call tells by a pelgaisti_status what it came to. Where that isn't PELGAISTI_OK, nothing has changed and
  * nothing was written: no handle, no history, none of the places that the arguments point to; but after ELSEWHERE a call that
- * passes didn't visit may be one that they do. The arguments are tested in the order in which a call lists its statuses, and
- * the first test that fails gives the status.
+ * passes didn't visit may be one that they do, and COPIED closes a handle. The arguments are tested before anything is done, in
+ * the order in which a call lists its statuses, and the first test that fails gives the status.
  */
 #ifndef PELGAISTI_H
 #define PELGAISTI_H
@@ -66,7 +69,7 @@ typedef enum pelgaisti_status {
     PELGAISTI_ELSEWHERE = 13,      /* another session is serving: collect, or serve again */
     PELGAISTI_OTHER_OFFICE = 14,   /* the sessions are of different offices */
     PELGAISTI_MISSING = 15,        /* not all sessions of the office were handed in */
-    PELGAISTI_COPIED = 16,         /* a handle was copied, against the rules above; see pelgaisti_office_close */
+    PELGAISTI_COPIED = 16,         /* a handle was copied or moved, against the rules above; see pelgaisti_office_close */
     PELGAISTI_NULL = 17,           /* a pointer is NULL that may not be */
     PELGAISTI_SAME = 18            /* two handles are one */
 } pelgaisti_status;
@@ -207,7 +210,7 @@ uint32_t pelgaisti_book_serve(pelgaisti_book *book, uint32_t session, const pelg
 uint32_t pelgaisti_book_held(pelgaisti_book *book, uint32_t session, const pelgaisti_resource *resource, uint32_t *mode);
 
 /* Writes the holders of the resource to the list, by session number, as many as `room` says, and to `count` how many there are.
-   The list may be NULL where `room` is 0.
+   The list may be NULL where `room` is 0. Asks for `room` places at `list`.
    NULL, CLOSED, NO_SUCH_LEVEL, NO_MEMORY. */
 uint32_t pelgaisti_book_holders(pelgaisti_book *book, const pelgaisti_resource *resource, pelgaisti_holder *list, size_t room,
                                 size_t *count);
@@ -217,14 +220,16 @@ uint32_t pelgaisti_book_holders(pelgaisti_book *book, const pelgaisti_resource *
 uint32_t pelgaisti_book_length(pelgaisti_book *book, uint64_t *length);
 
 /* Writes the entries of the history from the place `first` on, oldest first, as many as `room` says and as there are, and to
-   `count` how many it wrote. The entries may be NULL where `room` is 0.
+   `count` how many it wrote. The entries may be NULL where `room` is 0. Asks for `room` places at `entries`.
    NULL, CLOSED. */
 uint32_t pelgaisti_book_history(pelgaisti_book *book, uint64_t first, pelgaisti_entry *entries, size_t room, size_t *count);
 
 /* ---- An office: a lock table that threads share, each by sessions of its own. ---- */
 
-/* Opens `count` handles, which stand side by side, as the sessions of one new office: sessions[0] is session 1, and so on. The
-   mark is a number that no other office has that is open then; pelgaisti.h passes the address of the array.
+/* Opens `count` handles, which stand side by side, as the sessions of one new office: sessions[0] is session 1, and so on. Asks
+   for `count` handles at `sessions`, and for a mark that no office has that is open. A call by its name has two arguments, and
+   passes the address of the array: so let no other office begin at this handle until this one is closed, also where the session
+   that it held was handed in.
    NULL, NO_SUCH_COUNT, OPEN (one of them), NO_MEMORY. */
 uint32_t pelgaisti_office_open(pelgaisti_session *sessions, size_t count, uint64_t mark);
 
@@ -233,8 +238,8 @@ uint32_t pelgaisti_office_open(pelgaisti_session *sessions, size_t count, uint64
    NULL, CLOSED, NO_SUCH_OP, NO_SUCH_LEVEL, NO_SUCH_MODE, RETIRED, PENDING. */
 uint32_t pelgaisti_session_publish(pelgaisti_session *session, const pelgaisti_call *call, uint32_t *posted);
 
-/* One try to serve the calls that are listed, of all sessions, and the session's own. Whether the session has one pending is of no matter. `pass`
-   may be NULL.
+/* One try to serve the calls that are listed, of all sessions, and the session's own. Whether the session has one pending is of
+   no matter. `pass` may be NULL.
    NULL, CLOSED, ELSEWHERE. */
 uint32_t pelgaisti_session_serve(pelgaisti_session *session, pelgaisti_pass *pass);
 
@@ -247,7 +252,8 @@ uint32_t pelgaisti_session_collect(pelgaisti_session *session, pelgaisti_answer 
 uint32_t pelgaisti_session_seen(pelgaisti_session *session, uint64_t *seen);
 
 /* The session learns what the other knows: what it publishes from then on stands in the history behind all that the other had
-   seen. The other learns nothing. It is a call on both handles.
+   seen. The other learns nothing. It is a call on both handles. Asks that sessions with one mark are of one office, as they are
+   where each open office has a mark of its own and no handle was copied or moved.
    NULL, SAME, CLOSED (one of them), OTHER_OFFICE. */
 uint32_t pelgaisti_session_hear(pelgaisti_session *session, pelgaisti_session *other);
 
@@ -256,16 +262,17 @@ uint32_t pelgaisti_session_hear(pelgaisti_session *session, pelgaisti_session *o
 uint32_t pelgaisti_session_retire(pelgaisti_session *session);
 
 /* Hands the session in to another one of its office, with all that were handed in to it, and closes its handle. It is a call on
-   both handles.
+   both handles. Asks what pelgaisti_session_hear asks.
    NULL, SAME, CLOSED (one of them), OTHER_OFFICE, PENDING (the one that is handed in), NO_MEMORY. */
 uint32_t pelgaisti_session_hand_in(pelgaisti_session *session, pelgaisti_session *to);
 
 /* Closes the office of the session, to which all others were handed in: its handle is closed, and the book is opened with the
-   lock table and the whole history. COPIED comes only where a handle was copied, and alone of all statuses closes the session.
+   lock table and the whole history. COPIED comes only where a handle was copied or moved, and alone of all statuses closes the
+   session.
    NULL, OPEN (the book), CLOSED (the session), MISSING, PENDING, NO_MEMORY, COPIED. */
 uint32_t pelgaisti_office_close(pelgaisti_session *session, pelgaisti_book *book);
 
-/* ---- The tests for NULL: each name above, as a call, is one of the functions below. ---- */
+/* ---- The tests for NULL, and for SAME: each name above, as a call, is one of the functions below. ---- */
 
 static inline uint32_t pelgaisti_tested_book_open(pelgaisti_book *book, uint32_t sessions) {
     return book ? pelgaisti_book_open(book, sessions) : (uint32_t)PELGAISTI_NULL;

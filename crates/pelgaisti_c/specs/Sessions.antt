@@ -5,7 +5,7 @@ use Rattle.lock_rules.specs.declared.calls.Reply.{Reply}
 use Rattle.lock_rules.specs.Legal.{calls_of}
 use Rattle.publication.specs.Boards.{heard_from, publishing, enlisted}
 use Rattle.publication.specs.Kinds.{longer, maxes}
-use Rattle.combining.specs.Sessions.{HasTried, IsPassed, IsCollected, IsPendingServed}
+use Rattle.combining.specs.Sessions.{HasTried, HasNothingPending, IsPassed, IsCollected, IsPendingServed}
 use Rattle.pelgaisti_c.specs.declared.numbers.CallNumbers.{CallNumbers}
 use Rattle.pelgaisti_c.specs.declared.numbers.AnswerNumbers.{AnswerNumbers}
 use Rattle.pelgaisti_c.specs.declared.worker.Worker.{Worker}
@@ -63,8 +63,11 @@ pub record IsSameWorker (before after : Worker) : Type 0 where
 abbrev pub IsKept : Option Worker → Option Worker → Type 0
 IsKept before after = (after ≡ before) ⊎ ((a : Worker) × (b : Worker) × (before ≡ Some a) × (after ≡ Some b) × IsSameWorker a b)
 
--- the session was handed in, behind those that were before, and after those that were handed in to it
+-- the session, of the same office and with nothing pending, was handed in, behind those that were before, and after those that were
+-- handed in to it
 pub record IsHandedIn (worker before after : Worker) : Type 0 where
+  pub one_office : worker.mark ≡ before.mark
+  pub settled : HasNothingPending worker.session
   pub handed : after.handed.items ≡ (before.handed.items ++ worker.handed.items) ++ worker.session ∷ []
   pub session : after.session ≡ before.session
   pub office : after.office ≡ before.office

@@ -52,6 +52,7 @@ pub extern "C" fn pelgaisti_book_open(alloc: Global, book: &mut BookHandle, sess
 #[unsafe(no_mangle)]
 pub extern "C" fn pelgaisti_book_close(alloc: Global, book: &mut BookHandle) -> u32
     ensures after { (book.new.is_open ≢ 1) × (book.new.held.book ≡ None) }
+    ensures failed { result ≢ OK → book.new ≡ book.old }
     ensures closed { result ≡ CLOSED ↔ (book.old.is_open ≢ 1) }
     ensures statuses { (result ≡ OK) ⊎ (result ≡ CLOSED) }
 {

@@ -4,6 +4,7 @@ ghost use Rattle.std.specs.Prelude.{◌≡◌, ◌≢◌, ◌≤◌, ◌⊎◌, 
 ghost use Rattle.lock_desk.specs.Kept.{Told};
 ghost use Rattle.publication.specs.Boards.{IsEachOnce};
 ghost use Rattle.combining.specs.Closed.{IsClosed};
+ghost use Rattle.combining.specs.Sessions.{HasNothingPending};
 ghost use Rattle.pelgaisti_c.specs.Offices.{all_of};
 ghost use Rattle.pelgaisti_c.specs.Sessions.{IsKept, IsHandedIn};
 ghost use Rattle.pelgaisti_c.specs.declared.worker.Worker.{Worker as WorkerValue};
@@ -11,7 +12,7 @@ ghost use Rattle.pelgaisti_c.specs.declared.worker.Worker.{Worker as WorkerValue
 use crate::book_handle::BookHandle;
 use crate::handing;
 use crate::session_handle::SessionHandle;
-use crate::status::{CLOSED, COPIED, MISSING, OK, OPEN, OTHER_OFFICE, PENDING};
+use crate::status::{CLOSED, COPIED, MISSING, NO_MEMORY, OK, OPEN, OTHER_OFFICE, PENDING};
 use std::alloc::Global;
 
 /// Hands the session in to another one of its office, with all that were handed in to it, and closes its handle. The caller
@@ -27,9 +28,11 @@ pub extern "C" fn pelgaisti_session_hand_in(
         × IsHandedIn worker before after }
     ensures handed { result ≡ OK → session.new.held.worker ≡ None }
     ensures same { result ≢ OK → IsKept session.old.held.worker session.new.held.worker × IsKept to.old.held.worker to.new.held.worker }
+    ensures open { result ≢ OK → (session.new.is_open ≡ session.old.is_open) × (to.new.is_open ≡ to.old.is_open) }
     ensures closed { result ≡ CLOSED ↔ ((session.old.is_open ≢ 1) ⊎ (to.old.is_open ≢ 1)) }
     ensures other_office { result ≡ OTHER_OFFICE → (a b : WorkerValue) × (session.old.held.worker ≡ Some a) × (to.old.held.worker ≡ Some b) × (a.mark ≢ b.mark) }
-    ensures pending { result ≡ PENDING → (worker : WorkerValue) × (session.old.held.worker ≡ Some worker) × (worker.session.pending ≢ None) }
+    ensures pending { result ≡ PENDING → (a b : WorkerValue) × (session.old.held.worker ≡ Some a) × (to.old.held.worker ≡ Some b) × (a.mark ≡ b.mark) × (a.session.pending ≢ None) }
+    ensures memory { result ≡ NO_MEMORY → (a b : WorkerValue) × (session.old.held.worker ≡ Some a) × (to.old.held.worker ≡ Some b) × (a.mark ≡ b.mark) × HasNothingPending a.session }
     ensures statuses { (result ≤ CLOSED) ⊎ ((result ≡ OTHER_OFFICE) ⊎ (result ≡ PENDING)) }
 {
     if session.is_open != 1 || to.is_open != 1 {
@@ -65,13 +68,14 @@ pub extern "C" fn pelgaisti_office_close(
 ) -> u32
     ensures ok { result ≡ OK → (worker : WorkerValue) × (told : Told) × (session.old.held.worker ≡ Some worker) × (book.new.held.book ≡ Some told)
         × IsClosed worker.office.value (all_of worker) told }
-    ensures done { result ≡ OK → session.new.held.worker ≡ None }
+    ensures done { (result ≡ OK) ⊎ (result ≡ COPIED) → session.new.held.worker ≡ None }
     ensures book { result ≢ OK → book.new ≡ book.old }
-    ensures same { result ≢ OK → result ≢ COPIED → IsKept session.old.held.worker session.new.held.worker }
+    ensures same { result ≢ OK → result ≢ COPIED → (session.new.is_open ≡ session.old.is_open) × IsKept session.old.held.worker session.new.held.worker }
     ensures open { result ≡ OPEN ↔ (book.old.is_open ≡ 1) }
-    ensures closed { result ≡ CLOSED → session.old.is_open ≢ 1 }
+    ensures closed { result ≡ CLOSED ↔ ((book.old.is_open ≢ 1) × (session.old.is_open ≢ 1)) }
     ensures missing { result ≡ MISSING → (worker : WorkerValue) × (session.old.held.worker ≡ Some worker) × ¬ (IsEachOnce worker.sessions (all_of worker)) }
-    ensures pending { result ≡ PENDING → (worker : WorkerValue) × (session.old.held.worker ≡ Some worker) × (worker.session.pending ≢ None) }
+    ensures pending { result ≡ PENDING → (worker : WorkerValue) × (session.old.held.worker ≡ Some worker) × IsEachOnce worker.sessions (all_of worker) × (worker.session.pending ≢ None) }
+    ensures whole { (result ≡ NO_MEMORY) ⊎ (result ≡ COPIED) → (worker : WorkerValue) × (session.old.held.worker ≡ Some worker) × IsEachOnce worker.sessions (all_of worker) × HasNothingPending worker.session }
     ensures statuses { (result ≤ CLOSED) ⊎ ((result ≡ OPEN) ⊎ ((result ≡ MISSING) ⊎ ((result ≡ PENDING) ⊎ (result ≡ COPIED)))) }
 {
     if book.is_open == 1 {

@@ -53,6 +53,7 @@ fn is_settled(session: &Session) -> bool
 // Takes in a session of the same office, with all that were handed in to it. It comes back where memory was refused.
 fn take_in(worker: Box<Worker>, to: &mut Worker) -> Result<(), Box<Worker>>
     requires one_office { worker.value.office.value ≡ to.old.office.value }
+    requires mark { worker.value.mark ≡ to.old.mark }
     requires settled { HasNothingPending worker.value.session }
     ensures ok { IfOk result (λ _. IsHandedIn worker.value to.old to.new) }
     ensures err { IfErr result (λ back. IsSameWorker worker.value back.value × IsSameWorker to.old to.new) }
@@ -81,7 +82,8 @@ pub(crate) fn hand_in(worker: Box<Worker>, to: &mut Worker) -> Result<(), (u32, 
     ensures ok { IfOk result (λ _. IsHandedIn worker.value to.old to.new) }
     ensures err { IfErr result (λ back. IsSameWorker worker.value back.1.value × IsSameWorker to.old to.new) }
     ensures other_office { IfErr result (λ back. back.0 ≡ OTHER_OFFICE → worker.value.mark ≢ to.old.mark) }
-    ensures pending { IfErr result (λ back. back.0 ≡ PENDING → worker.value.session.pending ≢ None) }
+    ensures pending { IfErr result (λ back. back.0 ≡ PENDING → (worker.value.mark ≡ to.old.mark) × (worker.value.session.pending ≢ None)) }
+    ensures memory { IfErr result (λ back. back.0 ≡ NO_MEMORY → (worker.value.mark ≡ to.old.mark) × HasNothingPending worker.value.session) }
     ensures faults { IfErr result (λ back. (back.0 ≡ OTHER_OFFICE) ⊎ ((back.0 ≡ PENDING) ⊎ (back.0 ≡ NO_MEMORY))) }
 {
     if worker.mark != to.mark {
@@ -151,7 +153,8 @@ pub(crate) fn close(
     ensures back { IfErr result (λ refused. refused.0 ≢ COPIED → IfSome refused.1 (λ same. IsSameWorker worker.value same.value) × IsSome refused.1) }
     ensures gone { IfErr result (λ refused. refused.0 ≡ COPIED → refused.1 ≡ None) }
     ensures missing { IfErr result (λ refused. refused.0 ≡ MISSING → ¬ (IsEachOnce worker.value.sessions (all_of worker.value))) }
-    ensures pending { IfErr result (λ refused. refused.0 ≡ PENDING → worker.value.session.pending ≢ None) }
+    ensures pending { IfErr result (λ refused. refused.0 ≡ PENDING → IsEachOnce worker.value.sessions (all_of worker.value) × (worker.value.session.pending ≢ None)) }
+    ensures whole { IfErr result (λ refused. (refused.0 ≡ NO_MEMORY) ⊎ (refused.0 ≡ COPIED) → IsEachOnce worker.value.sessions (all_of worker.value) × HasNothingPending worker.value.session) }
     ensures faults { IfErr result (λ refused. (refused.0 ≡ MISSING) ⊎ ((refused.0 ≡ PENDING) ⊎ ((refused.0 ≡ NO_MEMORY) ⊎ (refused.0 ≡ COPIED)))) }
 {
     let mut worker = worker;

@@ -123,7 +123,7 @@ pub extern "C" fn pelgaisti_session_hear(
 ) -> u32
     requires one_office { (a b : Worker) → session.old.held.worker ≡ Some a → other.old.held.worker ≡ Some b → a.mark ≡ b.mark → a.office.value ≡ b.office.value }
     ensures ok { result ≡ OK → (before after heard : Worker) × (session.old.held.worker ≡ Some before) × (session.new.held.worker ≡ Some after)
-        × (other.old.held.worker ≡ Some heard) × IsHeard before heard after }
+        × (other.old.held.worker ≡ Some heard) × (before.mark ≡ heard.mark) × IsHeard before heard after }
     ensures failed { result ≢ OK → session.new.held.worker ≡ session.old.held.worker }
     ensures open { session.new.is_open ≡ session.old.is_open }
     ensures other { (other.new.is_open ≡ other.old.is_open) × (other.new.held.worker ≡ other.old.held.worker) }

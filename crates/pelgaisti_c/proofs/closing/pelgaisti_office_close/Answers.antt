@@ -11,10 +11,16 @@ returns-in-Err-default-Some-clause-same c = λ _ here.
     let before = c.in-Some.worker.value in
     let back : IfSome (Some refused.worker) (λ worker. IsSameWorker before worker.value)
     = subst (λ (o : Option (Box Worker)). IfSome o (λ worker. IsSameWorker before worker.value)) refused.field-0-1-is (refused.ensures.back here).0 in
-    inr (before, refused.worker.value, c.in-Some.ensures.some, c.put-in-Err-default-Some.ensures.1, back)
+    (cc (c.put-in-Err-default-Some.ensures.0, c.in-Some.ensures.open), inr (before, refused.worker.value, c.in-Some.ensures.some, c.put-in-Err-default-Some.ensures.1, back))
 
 pub returns-in-Err-default-Some-clause-missing : goal.returns-in-Err-default-Some-clause-missing
 returns-in-Err-default-Some-clause-missing c = λ e. (c.in-Some.worker.value, c.in-Some.ensures.some, c.in-Err-default-Some.ensures.missing e)
 
 pub returns-in-Err-default-Some-clause-pending : goal.returns-in-Err-default-Some-clause-pending
-returns-in-Err-default-Some-clause-pending c = λ e. (c.in-Some.worker.value, c.in-Some.ensures.some, c.in-Err-default-Some.ensures.pending e)
+returns-in-Err-default-Some-clause-pending c = λ e. (c.in-Some.worker.value, c.in-Some.ensures.some, (c.in-Err-default-Some.ensures.pending e).0, (c.in-Err-default-Some.ensures.pending e).1)
+
+pub returns-in-Err-default-Some-clause-whole : goal.returns-in-Err-default-Some-clause-whole
+returns-in-Err-default-Some-clause-whole c = λ e. (c.in-Some.worker.value, c.in-Some.ensures.some, (c.in-Err-default-Some.ensures.whole e).0, (c.in-Err-default-Some.ensures.whole e).1)
+
+pub returns-in-Err-default-None-clause-whole : goal.returns-in-Err-default-None-clause-whole
+returns-in-Err-default-None-clause-whole c = λ e. (c.in-Some.worker.value, c.in-Some.ensures.some, (c.in-Err-default-None.ensures.whole e).0, (c.in-Err-default-None.ensures.whole e).1)

@@ -20,4 +20,11 @@ returns-in-Err-clause-other_office c = λ e.
     (c.in-Some.worker.value, c.deref_mut.result.now, c.in-Some.ensures.some, other, c.in-Err.ensures.other_office e)
 
 pub returns-in-Err-clause-pending : goal.returns-in-Err-clause-pending
-returns-in-Err-clause-pending c = λ e. (c.in-Some.worker.value, c.in-Some.ensures.some, c.in-Err.ensures.pending e)
+returns-in-Err-clause-pending c = λ e.
+    let other : c.args.to.now.held.worker ≡ Some c.deref_mut.result.now = search rules in let told = c.in-Err.ensures.pending e in
+    (c.in-Some.worker.value, c.deref_mut.result.now, c.in-Some.ensures.some, other, told.0, told.1)
+
+pub returns-in-Err-clause-memory : goal.returns-in-Err-clause-memory
+returns-in-Err-clause-memory c = λ e.
+    let other : c.args.to.now.held.worker ≡ Some c.deref_mut.result.now = search rules in let told = c.in-Err.ensures.memory e in
+    (c.in-Some.worker.value, c.deref_mut.result.now, c.in-Some.ensures.some, other, told.0, told.1)
