@@ -30,7 +30,7 @@ fn new_book(rt: &impl Abort, alloc: Global, sessions: u16) -> Result<Book, NoMem
     }
 }
 
-fn serve_once(
+pub(crate) fn serve_once(
     rt: &impl Abort,
     book: &mut Book,
     session: u16,
