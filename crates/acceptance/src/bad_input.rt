@@ -1,6 +1,6 @@
 //! Input that is no trace: each fault names its row, and nothing is written.
 
-use crate::running::{replay, run_words};
+use crate::running::{run_words, want_errors, want_output};
 use std::process::Abort;
 use std::sync::Wait;
 use std::test::Fail;
@@ -13,10 +13,7 @@ fn want_faults(
     traces: &[(&str, &str)],
 ) -> Result<(), Fail> {
     for (trace, told) in traces {
-        let ran = replay(rt, trace)?;
-        assert_eq!(abort; ran.status, 1, "{trace}");
-        assert_eq!(abort; ran.errors.as_slice(), told.as_bytes(), "{trace}");
-        assert!(abort; ran.output.is_empty(), "{trace}");
+        want_errors(rt, abort, ["replay"].as_slice(), trace, 1, told)?;
     }
     Ok(())
 }
@@ -81,21 +78,18 @@ fn bad_resources_are_named(rt: HostRuntime) -> Result<(), Fail> {
 
 #[test]
 fn bytes_that_are_no_text_are_no_number(rt: HostRuntime) -> Result<(), Fail> {
-    let ran = run_words(
-        &rt,
-        ["replay"].as_slice(),
-        b"1,begin,,\n1,lock,\xff,S\n".as_slice(),
-    )?;
+    let words = ["replay"];
+    let trace = b"1,begin,,\n1,lock,\xff,S\n".as_slice();
+    let ran = run_words(&rt, &words, trace)?;
     assert_eq!(rt; ran.status, 1);
-    assert_eq!(rt;
-        ran.errors.as_slice(),
-        b"glm: row 2: Path NotANumber\n".as_slice()
-    );
+    let told = b"glm: row 2: Path NotANumber\n".as_slice();
+    assert_eq!(rt; ran.errors.as_slice(), told);
     Ok(())
 }
 
 #[test]
 fn line_ends_and_quotes_are_those_of_csv(rt: HostRuntime) -> Result<(), Fail> {
+    let history = "0,1,begin,,,began,1\n1,1,commit,,,committed,0\n";
     for trace in [
         "1,begin,,\n1,commit,,\n",
         "1,begin,,\n1,commit,,",
@@ -103,13 +97,7 @@ fn line_ends_and_quotes_are_those_of_csv(rt: HostRuntime) -> Result<(), Fail> {
         "\n\n1,begin,,\n\r\n1,commit,,\n\n",
         "\"1\",\"begin\",\"\",\"\"\n1,commit,,\n",
     ] {
-        let ran = replay(&rt, trace)?;
-        assert_eq!(rt; ran.status, 0, "{trace}");
-        assert_eq!(rt;
-            ran.output.as_slice(),
-            b"0,1,begin,,,began,1\n1,1,commit,,,committed,0\n".as_slice(),
-            "{trace}"
-        );
+        want_output(&rt, &rt, ["replay"].as_slice(), trace, history)?;
     }
     Ok(())
 }

@@ -1,8 +1,12 @@
 //! Histories that are checked: what is legal, where the first wrong reply stands, and rows that are none.
 
+ghost use Rattle.std.specs.Prelude.{◌≤◌};
+
 use crate::devices::Cut;
 use glm::{ToolFault, Verdict, check};
 use lock_trace::{TraceFault, TraceKind};
+use std::alloc::Global;
+use std::process::Abort;
 
 /// A waiter that is promoted when the holder commits.
 const PROMOTED: &str = "0,1,begin,,,began,1
@@ -26,6 +30,21 @@ fn refused(row: u64, kind: TraceKind) -> ToolFault {
     ToolFault::Trace(TraceFault { row, kind })
 }
 
+/// Checks a history, and wants this of it.
+fn want_verdict(
+    rt: &impl Abort,
+    alloc: Global,
+    history: &str,
+    sessions: u16,
+    wanted: Result<Verdict, ToolFault>,
+)
+    requires some { 1 ≤ sessions }
+    requires few { sessions ≤ 256 }
+{
+    let verdict = check(alloc, history.as_bytes(), sessions);
+    assert_eq!(rt; verdict, wanted, "{history}");
+}
+
 #[test]
 fn histories_that_the_rules_give_are_legal(rt: HostRuntime) {
     for (history, count) in [
@@ -43,8 +62,7 @@ fn histories_that_the_rules_give_are_legal(rt: HostRuntime) {
             4,
         ),
     ] {
-        let verdict = check(rt.alloc(), history.as_bytes(), 256);
-        assert_eq!(rt; verdict, Ok(Verdict::Legal(count)), "{history}");
+        want_verdict(&rt, rt.alloc(), history, 256, Ok(Verdict::Legal(count)));
     }
 }
 
@@ -61,8 +79,7 @@ fn replies_are_compared_with_their_values(rt: HostRuntime) {
         ),
         ("0,1,poll,,,refused,IsDoomed\n1,1,poll,,,clear,\n", 0),
     ] {
-        let verdict = check(rt.alloc(), history.as_bytes(), 256);
-        assert_eq!(rt; verdict, Ok(Verdict::Illegal(place)), "{history}");
+        want_verdict(&rt, rt.alloc(), history, 256, Ok(Verdict::Illegal(place)));
     }
 }
 
@@ -101,8 +118,7 @@ fn the_first_wrong_place_is_told(rt: HostRuntime) {
             5,
         ),
     ] {
-        let verdict = check(rt.alloc(), history.as_bytes(), 2);
-        assert_eq!(rt; verdict, Ok(Verdict::Illegal(place)), "{history}");
+        want_verdict(&rt, rt.alloc(), history, 2, Ok(Verdict::Illegal(place)));
     }
 }
 
@@ -128,22 +144,27 @@ fn rows_that_are_none_are_told_before_any_is_judged(rt: HostRuntime) {
             TraceKind::Place,
         ),
     ] {
-        let verdict = check(rt.alloc(), history.as_bytes(), 2);
-        assert_eq!(rt; verdict, Err(refused(row, kind)), "{history}");
+        want_verdict(&rt, rt.alloc(), history, 2, Err(refused(row, kind)));
     }
+}
+
+/// The reader fails after so many bytes, in the row that they end in.
+fn want_cut(rt: &impl Abort, alloc: Global, text: &[u8], length: usize) {
+    assert!(rt; length <= text.len());
+    let left = &text[..length];
+    let row = 1 + left.iter().filter(|b| **b == b'\n').count() as u64;
+    let verdict = check(alloc, Cut { left }, 2);
+    assert_eq!(rt;
+        verdict,
+        Err(refused(row, TraceKind::Device)),
+        "at {length}"
+    );
 }
 
 #[test]
 fn a_reader_that_fails_is_told_with_its_row(rt: HostRuntime) {
     let text = PROMOTED.as_bytes();
     for length in [0, 1, 19, 20, 21, text.len()] {
-        let left = &text[..length];
-        let row = 1 + left.iter().filter(|b| **b == b'\n').count() as u64;
-        let verdict = check(rt.alloc(), Cut { left }, 2);
-        assert_eq!(rt;
-            verdict,
-            Err(refused(row, TraceKind::Device)),
-            "at {length}"
-        );
+        want_cut(&rt, rt.alloc(), text, length);
     }
 }

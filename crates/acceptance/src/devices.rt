@@ -5,7 +5,10 @@ use glm::{OpenGate, ToolFault, program, replay, run};
 use lock_trace::{TraceFault, TraceKind};
 use std::io;
 use std::io::{ErrorKind, Read, Write};
+use std::process::Abort;
+use std::sync::Wait;
 use std::test::Fail;
+use std::thread::Threads;
 
 /// Takes nothing.
 #[derive(Drop)]
@@ -66,21 +69,24 @@ const GIVEN: &[u8] = b"1,begin,,\n1,l";
 
 const WORDS: [&str; 2] = ["glm", "replay"];
 
+/// Runs the program on these words with an output that takes nothing: it ends with status 5, and says so.
+fn want_no_room(
+    rt: &(impl AllocGlobal + Threads + Wait),
+    abort: &impl Abort,
+    words: &[&str],
+    input: &[u8],
+) {
+    let mut errors = Vec::new(rt.alloc());
+    let alloc = rt.alloc();
+    let status = program(rt, alloc, words, input, &mut Full, &mut errors, &OpenGate);
+    assert_eq!(abort; status, 5);
+    assert_eq!(abort; errors.as_slice(), b"glm: device\n".as_slice());
+}
+
 #[test]
 fn a_writer_that_fails_ends_with_five(rt: HostRuntime) -> Result<(), Fail> {
-    let mut errors = Vec::new(rt.alloc());
     let input = b"1,begin,,\n".as_slice();
-    let status = program(
-        &rt,
-        rt.alloc(),
-        WORDS.as_slice(),
-        input,
-        &mut Full,
-        &mut errors,
-        &OpenGate,
-    );
-    assert_eq!(rt; status, 5);
-    assert_eq!(rt; errors.as_slice(), b"glm: device\n".as_slice());
+    want_no_room(&rt, &rt, WORDS.as_slice(), input);
     let fault = replay(rt.alloc(), input, &mut Full, 1);
     assert!(rt; fault == Err(ToolFault::Device));
     Ok(())
@@ -98,20 +104,7 @@ fn a_writer_that_fails_midway_is_a_device(rt: HostRuntime) {
 
 #[test]
 fn help_that_cannot_be_shown_ends_with_five(rt: HostRuntime) {
-    let mut errors = Vec::new(rt.alloc());
-    let words = ["glm", "--help"];
-    let nothing = b"".as_slice();
-    let status = program(
-        &rt,
-        rt.alloc(),
-        words.as_slice(),
-        nothing,
-        &mut Full,
-        &mut errors,
-        &OpenGate,
-    );
-    assert_eq!(rt; status, 5);
-    assert_eq!(rt; errors.as_slice(), b"glm: device\n".as_slice());
+    want_no_room(&rt, &rt, &["glm", "--help"], b"".as_slice());
 }
 
 #[test]
@@ -138,12 +131,12 @@ fn is_cut(told: Result<u64, ToolFault>) -> bool {
     )
 }
 
-#[test]
-fn a_reader_that_fails_names_its_row(rt: HostRuntime) -> Result<(), Fail> {
+/// Runs the program on a text that is cut off: it ends with status 5, and says so.
+fn want_cut(rt: &(impl AllocGlobal + Threads + Wait), abort: &impl Abort) {
     let mut output = Vec::new(rt.alloc());
     let mut errors = Vec::new(rt.alloc());
     let status = program(
-        &rt,
+        rt,
         rt.alloc(),
         WORDS.as_slice(),
         Cut { left: GIVEN },
@@ -151,28 +144,40 @@ fn a_reader_that_fails_names_its_row(rt: HostRuntime) -> Result<(), Fail> {
         &mut errors,
         &OpenGate,
     );
-    assert_eq!(rt; status, 5);
-    assert!(rt; output.is_empty());
-    assert_eq!(rt; errors.as_slice(), b"glm: device\n".as_slice());
+    assert_eq!(abort; status, 5);
+    assert!(abort; output.is_empty());
+    assert_eq!(abort; errors.as_slice(), b"glm: device\n".as_slice());
+}
+
+#[test]
+fn a_reader_that_fails_names_its_row(rt: HostRuntime) -> Result<(), Fail> {
+    want_cut(&rt, &rt);
+    let mut output = Vec::new(rt.alloc());
     let fault = replay(rt.alloc(), Cut { left: GIVEN }, &mut output, 1);
     assert!(rt; output.is_empty());
     assert!(rt; is_cut(fault));
     Ok(())
 }
 
-#[test]
-fn errors_that_cannot_be_told_change_no_status(rt: HostRuntime) -> Result<(), Fail> {
+/// Runs the program on these words and a bad row, with nowhere to tell of it: it writes nothing, and ends with this status.
+fn want_untold(
+    rt: &(impl AllocGlobal + Threads + Wait),
+    abort: &impl Abort,
+    words: &[&str],
+    wanted: u8,
+) {
     let mut output = Vec::new(rt.alloc());
     let bad = b"x,begin,,\n".as_slice();
     let alloc = rt.alloc();
-    let words = WORDS.as_slice();
-    let status = program(&rt, alloc, words, bad, &mut output, &mut Full, &OpenGate);
-    assert_eq!(rt; status, 1);
-    let words = ["glm"];
-    let words = words.as_slice();
-    let status = program(&rt, alloc, words, bad, &mut output, &mut Full, &OpenGate);
-    assert_eq!(rt; status, 2);
-    assert!(rt; output.is_empty());
+    let status = program(rt, alloc, words, bad, &mut output, &mut Full, &OpenGate);
+    assert_eq!(abort; status, wanted);
+    assert!(abort; output.is_empty());
+}
+
+#[test]
+fn errors_that_cannot_be_told_change_no_status(rt: HostRuntime) -> Result<(), Fail> {
+    want_untold(&rt, &rt, WORDS.as_slice(), 1);
+    want_untold(&rt, &rt, &["glm"], 2);
     Ok(())
 }
 
@@ -225,20 +230,6 @@ fn a_run_whose_writer_fails_is_a_device(rt: HostRuntime) {
 
 #[test]
 fn a_verdict_that_cannot_be_written_ends_with_five(rt: HostRuntime) -> Result<(), Fail> {
-    let mut errors = Vec::new(rt.alloc());
-    let words = ["glm", "check"];
-    let words = words.as_slice();
-    let nothing = b"".as_slice();
-    let status = program(
-        &rt,
-        rt.alloc(),
-        words,
-        nothing,
-        &mut Full,
-        &mut errors,
-        &OpenGate,
-    );
-    assert_eq!(rt; status, 5);
-    assert_eq!(rt; errors.as_slice(), b"glm: device\n".as_slice());
+    want_no_room(&rt, &rt, &["glm", "check"], b"".as_slice());
     Ok(())
 }

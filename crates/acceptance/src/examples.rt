@@ -1,6 +1,6 @@
 //! Traces with the histories that were worked out for them by hand.
 
-use crate::running::{run_words, want_histories};
+use crate::running::{want_errors, want_histories, want_output};
 use std::test::Fail;
 
 const QUEUE: (&str, &str) = (
@@ -89,16 +89,9 @@ fn traces_of_the_tree_give_their_histories(rt: HostRuntime) -> Result<(), Fail> 
 
 #[test]
 fn sessions_are_as_many_as_asked(rt: HostRuntime) -> Result<(), Fail> {
-    let trace = b"256,begin,,\n".as_slice();
-    let ran = run_words(&rt, ["replay"].as_slice(), trace)?;
-    assert_eq!(rt; ran.status, 0);
-    assert_eq!(rt;
-        ran.output.as_slice(),
-        b"0,256,begin,,,began,1\n".as_slice()
-    );
-    let ran = run_words(&rt, ["replay", "--sessions", "255"].as_slice(), trace)?;
-    assert_eq!(rt; ran.status, 1);
-    assert_eq!(rt; ran.errors.as_slice(), b"glm: row 1: Session\n".as_slice());
-    assert!(rt; ran.output.is_empty());
-    Ok(())
+    let trace = "256,begin,,\n";
+    let words = ["replay"];
+    want_output(&rt, &rt, &words, trace, "0,256,begin,,,began,1\n")?;
+    let words = ["replay", "--sessions", "255"];
+    want_errors(&rt, &rt, &words, trace, 1, "glm: row 1: Session\n")
 }

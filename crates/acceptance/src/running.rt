@@ -45,9 +45,65 @@ pub(crate) fn run_words_at<G: Gate>(
     })
 }
 
-/// Replays a trace.
-pub(crate) fn replay(rt: &(impl AllocGlobal + Threads + Wait), trace: &str) -> Result<Ran, Fail> {
-    run_words(rt, ["replay"].as_slice(), trace.as_bytes())
+/// Wants the run of these words to have ended with this status, and to have written this.
+pub(crate) fn want_ran(
+    abort: &impl Abort,
+    words: &[&str],
+    input: &str,
+    ran: &Ran,
+    status: u8,
+    output: &str,
+    errors: &str,
+) {
+    assert_eq!(abort; ran.status, status, "{words:?} {input}");
+    assert_eq!(abort;
+        ran.output.as_slice(),
+        output.as_bytes(),
+        "{words:?} {input}"
+    );
+    assert_eq!(abort;
+        ran.errors.as_slice(),
+        errors.as_bytes(),
+        "{words:?} {input}"
+    );
+}
+
+/// Runs the program on these words, and wants this status, this output and these errors.
+pub(crate) fn want(
+    rt: &(impl AllocGlobal + Threads + Wait),
+    abort: &impl Abort,
+    words: &[&str],
+    input: &str,
+    status: u8,
+    output: &str,
+    errors: &str,
+) -> Result<(), Fail> {
+    let ran = run_words(rt, words, input.as_bytes())?;
+    want_ran(abort, words, input, &ran, status, output, errors);
+    Ok(())
+}
+
+/// Runs the program on these words, and wants status 0, this output, and no errors.
+pub(crate) fn want_output(
+    rt: &(impl AllocGlobal + Threads + Wait),
+    abort: &impl Abort,
+    words: &[&str],
+    input: &str,
+    output: &str,
+) -> Result<(), Fail> {
+    want(rt, abort, words, input, 0, output, "")
+}
+
+/// Runs the program on these words, and wants this status, these errors, and no output.
+pub(crate) fn want_errors(
+    rt: &(impl AllocGlobal + Threads + Wait),
+    abort: &impl Abort,
+    words: &[&str],
+    input: &str,
+    status: u8,
+    errors: &str,
+) -> Result<(), Fail> {
+    want(rt, abort, words, input, status, "", errors)
 }
 
 /// Replays each trace, and wants the history beside it.
@@ -57,10 +113,7 @@ pub(crate) fn want_histories(
     worked: &[(&str, &str)],
 ) -> Result<(), Fail> {
     for (trace, history) in worked {
-        let ran = replay(rt, trace)?;
-        assert_eq!(abort; ran.status, 0, "{trace}");
-        assert_eq!(abort; ran.output.as_slice(), history.as_bytes(), "{trace}");
-        assert!(abort; ran.errors.is_empty(), "{trace}");
+        want_output(rt, abort, ["replay"].as_slice(), trace, history)?;
     }
     Ok(())
 }

@@ -3,8 +3,9 @@
 
 use crate::examples::EXAMPLES;
 use crate::gates::{Counting, Meeting, ShutFrom};
-use crate::running::{run_words, run_words_at};
+use crate::running::{run_words, run_words_at, want_output, want_ran};
 use glm::{OpenGate, ToolFault, Verdict, check, run};
+use lock_rules::Entry;
 use lock_trace::{TraceRow, read_history, read_trace};
 use std::alloc::AllocError;
 use std::process::Abort;
@@ -35,6 +36,39 @@ fn rows_of(
     Ok(own)
 }
 
+/// The rows of all sessions, in the order of the history.
+fn called(
+    rt: &(impl AllocGlobal + Threads + Wait),
+    entries: &[Entry],
+) -> Result<Vec<TraceRow>, Fail> {
+    let mut rows = Vec::new(rt.alloc());
+    for entry in entries {
+        rows.push(TraceRow {
+            session: entry.session,
+            call: entry.call,
+        })?;
+    }
+    Ok(rows)
+}
+
+/// Wants each session's calls to be its rows in the trace.
+fn want_rows_of_each(
+    rt: &(impl AllocGlobal + Threads + Wait),
+    abort: &impl Abort,
+    rows: &[TraceRow],
+    called: &[TraceRow],
+    sessions: u16,
+) -> Result<(), Fail> {
+    assert_eq!(abort; called.len(), rows.len());
+    for before in 0..sessions {
+        let session = before + 1;
+        let own = rows_of(rt, called, session)?;
+        let wanted = rows_of(rt, rows, session)?;
+        assert!(abort; own.as_slice() == wanted.as_slice());
+    }
+    Ok(())
+}
+
 /// Wants of a history that it is legal, and that each session's calls in it are its rows in the trace.
 fn want_run_of(
     rt: &(impl AllocGlobal + Threads + Wait),
@@ -45,25 +79,23 @@ fn want_run_of(
 ) -> Result<(), Fail> {
     let rows = read_trace(rt.alloc(), trace, 256).map_err(|_| AllocError)?;
     let entries = read_history(rt.alloc(), history, 256).map_err(|_| AllocError)?;
-    let mut called = Vec::new(rt.alloc());
-    for entry in &entries {
-        let row = TraceRow {
-            session: entry.session,
-            call: entry.call,
-        };
-        called.push(row)?;
-    }
-    assert_eq!(abort; called.len(), rows.len());
-    for before in 0..sessions {
-        let session = before + 1;
-        let own = rows_of(rt, &called, session)?;
-        let wanted = rows_of(rt, &rows, session)?;
-        assert!(abort; own.as_slice() == wanted.as_slice());
-    }
-    let count = rows.len() as u64;
+    let called = called(rt, &entries)?;
+    want_rows_of_each(rt, abort, &rows, &called, sessions)?;
     let verdict = check(rt.alloc(), history, 256);
-    assert!(abort; verdict == Ok(Verdict::Legal(count)));
+    assert!(abort; verdict == Ok(Verdict::Legal(rows.len() as u64)));
     Ok(())
+}
+
+/// Performs the trace, and wants a history of so many sessions.
+fn want_run(
+    rt: &(impl AllocGlobal + Threads + Wait),
+    abort: &impl Abort,
+    trace: &str,
+    sessions: u16,
+) -> Result<(), Fail> {
+    let ran = run_words(rt, ["run"].as_slice(), trace.as_bytes())?;
+    assert_eq!(abort; ran.status, 0, "{trace}");
+    want_run_of(rt, abort, trace.as_bytes(), &ran.output, sessions)
 }
 
 #[test]
@@ -78,11 +110,7 @@ fn a_run_of_no_bytes_writes_nothing(rt: HostRuntime) -> Result<(), Fail> {
 
 #[test]
 fn a_run_of_one_session_is_its_replay(rt: HostRuntime) -> Result<(), Fail> {
-    let ran = run_words(&rt, ["run"].as_slice(), TREE.as_bytes())?;
-    assert_eq!(rt; ran.status, 0);
-    assert_eq!(rt; ran.output.as_slice(), TREE_HISTORY.as_bytes());
-    assert!(rt; ran.errors.is_empty());
-    Ok(())
+    want_output(&rt, &rt, ["run"].as_slice(), TREE, TREE_HISTORY)
 }
 
 #[test]
@@ -97,22 +125,19 @@ fn no_tries_are_too_few(rt: HostRuntime) -> Result<(), Fail> {
 
 #[test]
 fn one_try_is_enough_for_one_session(rt: HostRuntime) -> Result<(), Fail> {
-    let ran = run_words(&rt, ["run", "--turns", "1"].as_slice(), TREE.as_bytes())?;
-    assert_eq!(rt; ran.status, 0);
-    assert_eq!(rt; ran.output.as_slice(), TREE_HISTORY.as_bytes());
-    Ok(())
+    let words = ["run", "--turns", "1"];
+    want_output(&rt, &rt, &words, TREE, TREE_HISTORY)
 }
 
 #[test]
 fn one_try_for_many_sessions_writes_a_history_or_nothing(rt: HostRuntime) -> Result<(), Fail> {
     let trace = many_rows(&rt, 8, 20)?;
-    let ran = run_words(&rt, ["run", "--turns=1"].as_slice(), trace.as_bytes())?;
+    let words = ["run", "--turns=1"];
+    let ran = run_words(&rt, &words, trace.as_bytes())?;
     if ran.status == 0 {
         want_run_of(&rt, &rt, trace.as_bytes(), &ran.output, 8)?;
     } else {
-        assert_eq!(rt; ran.status, 6);
-        assert!(rt; ran.output.is_empty());
-        assert_eq!(rt; ran.errors.as_slice(), b"glm: turn limit\n".as_slice());
+        want_ran(&rt, &words, "", &ran, 6, "", "glm: turn limit\n");
     }
     Ok(())
 }
@@ -137,15 +162,10 @@ fn sessions_are_threads_that_meet(rt: HostRuntime) -> Result<(), Fail> {
 #[test]
 fn a_gate_that_stays_shut_ends_with_six(rt: HostRuntime) -> Result<(), Fail> {
     // one session never meets another
-    let ran = run_words_at(
-        &rt,
-        ["run"].as_slice(),
-        TREE.as_bytes(),
-        &ShutFrom { call: 2 },
-    )?;
-    assert_eq!(rt; ran.status, 6);
-    assert!(rt; ran.output.is_empty());
-    assert_eq!(rt; ran.errors.as_slice(), b"glm: gate shut\n".as_slice());
+    let gate = ShutFrom { call: 2 };
+    let words = ["run"];
+    let ran = run_words_at(&rt, &words, TREE.as_bytes(), &gate)?;
+    want_ran(&rt, &words, "", &ran, 6, "", "glm: gate shut\n");
     Ok(())
 }
 
@@ -182,69 +202,81 @@ fn the_gate_is_entered_and_left_for_each_call(rt: HostRuntime) -> Result<(), Fai
 fn a_bad_row_starts_no_thread(rt: HostRuntime) -> Result<(), Fail> {
     let gate = Counting::new();
     let bad = b"1,begin,,\n1,lock,01,S\n".as_slice();
-    let ran = run_words_at(&rt, ["run"].as_slice(), bad, &gate)?;
-    assert_eq!(rt; ran.status, 1);
-    assert_eq!(rt; gate.entered(), 0);
-    assert!(rt; ran.output.is_empty());
-    assert_eq!(rt;
-        ran.errors.as_slice(),
-        b"glm: row 2: Path LeadingZero\n".as_slice()
+    let words = ["run"];
+    let ran = run_words_at(&rt, &words, bad, &gate)?;
+    want_ran(
+        &rt,
+        &words,
+        "",
+        &ran,
+        1,
+        "",
+        "glm: row 2: Path LeadingZero\n",
     );
+    assert_eq!(rt; gate.entered(), 0);
     Ok(())
 }
 
 #[test]
 fn the_examples_run(rt: HostRuntime) -> Result<(), Fail> {
     for (trace, _) in EXAMPLES.as_slice() {
-        let ran = run_words(&rt, ["run"].as_slice(), trace.as_bytes())?;
-        assert_eq!(rt; ran.status, 0, "{trace}");
-        want_run_of(&rt, &rt, trace.as_bytes(), &ran.output, 4)?;
+        want_run(&rt, &rt, trace, 4)?;
     }
     Ok(())
 }
 
-/// A trace of so many sessions with so many rows each, whose transactions meet on two databases.
+/// A session's row by its number: the transactions meet on two databases.
+fn row(
+    rt: &(impl AllocGlobal + Threads + Wait),
+    session: u16,
+    number: u64,
+) -> Result<String, AllocError> {
+    let call = match number % 5 {
+        0 => "begin,,",
+        1 => "lock,1,S",
+        2 => "lock,2,IX",
+        3 => "lock,1,X",
+        _ => "abort,,",
+    };
+    format!(in rt.alloc(); "{session},{call}\n")
+}
+
+/// A trace of so many sessions with so many rows each.
 fn many_rows(
     rt: &(impl AllocGlobal + Threads + Wait),
     sessions: u16,
     each: u64,
 ) -> Result<String, Fail> {
-    let alloc = rt.alloc();
-    let mut trace = String::new(alloc);
+    let mut trace = String::new(rt.alloc());
     for number in 0..each {
         for before in 0..sessions {
-            let session = before + 1;
-            let row = match number % 5 {
-                0 => format!(in alloc; "{session},begin,,\n")?,
-                1 => format!(in alloc; "{session},lock,1,S\n")?,
-                2 => format!(in alloc; "{session},lock,2,IX\n")?,
-                3 => format!(in alloc; "{session},lock,1,X\n")?,
-                _ => format!(in alloc; "{session},abort,,\n")?,
-            };
-            trace.push_str(row.as_str())?;
+            trace.push_str(row(rt, before + 1, number)?.as_str())?;
         }
     }
     Ok(trace)
 }
 
-#[test]
-fn sixty_four_sessions_run(rt: HostRuntime) -> Result<(), Fail> {
-    let trace = many_rows(&rt, 64, 200)?;
+/// Performs the trace three times.
+fn want_three_runs(
+    rt: &(impl AllocGlobal + Threads + Wait),
+    abort: &impl Abort,
+    trace: &str,
+    sessions: u16,
+) -> Result<(), Fail> {
     for _time in 0..3 {
-        let ran = run_words(&rt, ["run"].as_slice(), trace.as_bytes())?;
-        assert_eq!(rt; ran.status, 0);
-        want_run_of(&rt, &rt, trace.as_bytes(), &ran.output, 64)?;
+        want_run(rt, abort, trace, sessions)?;
     }
     Ok(())
 }
 
 #[test]
+fn sixty_four_sessions_run(rt: HostRuntime) -> Result<(), Fail> {
+    let trace = many_rows(&rt, 64, 200)?;
+    want_three_runs(&rt, &rt, trace.as_str(), 64)
+}
+
+#[test]
 fn all_sessions_that_there_can_be_run(rt: HostRuntime) -> Result<(), Fail> {
     let trace = many_rows(&rt, 256, 40)?;
-    for _time in 0..3 {
-        let ran = run_words(&rt, ["run"].as_slice(), trace.as_bytes())?;
-        assert_eq!(rt; ran.status, 0);
-        want_run_of(&rt, &rt, trace.as_bytes(), &ran.output, 256)?;
-    }
-    Ok(())
+    want_three_runs(&rt, &rt, trace.as_str(), 256)
 }

@@ -1,7 +1,23 @@
 //! The words of the command line.
 
-use crate::running::run_words;
+use crate::running::{run_words, want_output};
+use std::process::Abort;
+use std::sync::Wait;
 use std::test::Fail;
+use std::thread::Threads;
+
+/// Wants the words to end with status 2, to be told why, and nothing written.
+fn want_misused(
+    rt: &(impl AllocGlobal + Threads + Wait),
+    abort: &impl Abort,
+    words: &[&str],
+) -> Result<(), Fail> {
+    let ran = run_words(rt, words, b"1,begin,,\n".as_slice())?;
+    assert_eq!(abort; ran.status, 2, "{words:?}");
+    assert!(abort; ran.output.is_empty(), "{words:?}");
+    assert!(abort; !ran.errors.is_empty(), "{words:?}");
+    Ok(())
+}
 
 #[test]
 fn usage_faults_end_with_two(rt: HostRuntime) -> Result<(), Fail> {
@@ -16,30 +32,33 @@ fn usage_faults_end_with_two(rt: HostRuntime) -> Result<(), Fail> {
         ["replay", "--sessions", "two"].as_slice(),
         ["replay", "--session", "2"].as_slice(),
     ] {
-        let ran = run_words(&rt, words, b"1,begin,,\n".as_slice())?;
-        assert_eq!(rt; ran.status, 2, "{words:?}");
-        assert!(rt; ran.output.is_empty(), "{words:?}");
-        assert!(rt; !ran.errors.is_empty(), "{words:?}");
+        want_misused(&rt, &rt, words)?;
     }
     Ok(())
 }
 
 #[test]
 fn a_command_is_required(rt: HostRuntime) -> Result<(), Fail> {
-    let ran = run_words(&rt, &[], b"1,begin,,\n".as_slice())?;
-    assert_eq!(rt; ran.status, 2);
-    assert!(rt; ran.output.is_empty());
-    assert!(rt; !ran.errors.is_empty());
+    want_misused(&rt, &rt, &[])
+}
+
+/// Wants the words to end with status 0, and something written.
+fn want_written(
+    rt: &(impl AllocGlobal + Threads + Wait),
+    abort: &impl Abort,
+    words: &[&str],
+) -> Result<(), Fail> {
+    let ran = run_words(rt, words, b"".as_slice())?;
+    assert_eq!(abort; ran.status, 0, "{words:?}");
+    assert!(abort; !ran.output.is_empty(), "{words:?}");
+    assert!(abort; ran.errors.is_empty(), "{words:?}");
     Ok(())
 }
 
 #[test]
 fn help_goes_to_the_output(rt: HostRuntime) -> Result<(), Fail> {
     for words in [["--help"].as_slice(), ["replay", "--help"].as_slice()] {
-        let ran = run_words(&rt, words, b"".as_slice())?;
-        assert_eq!(rt; ran.status, 0, "{words:?}");
-        assert!(rt; !ran.output.is_empty(), "{words:?}");
-        assert!(rt; ran.errors.is_empty(), "{words:?}");
+        want_written(&rt, &rt, words)?;
     }
     Ok(())
 }
@@ -50,13 +69,7 @@ fn sessions_can_be_set(rt: HostRuntime) -> Result<(), Fail> {
         ["replay", "--sessions", "1"].as_slice(),
         ["replay", "--sessions=256"].as_slice(),
     ] {
-        let ran = run_words(&rt, words, b"1,begin,,\n".as_slice())?;
-        assert_eq!(rt; ran.status, 0, "{words:?}");
-        assert_eq!(rt;
-            ran.output.as_slice(),
-            b"0,1,begin,,,began,1\n".as_slice(),
-            "{words:?}"
-        );
+        want_output(&rt, &rt, words, "1,begin,,\n", "0,1,begin,,,began,1\n")?;
     }
     Ok(())
 }

@@ -1,6 +1,6 @@
 //! What the program says of a history.
 
-use crate::running::run_words;
+use crate::running::{want, want_errors};
 use std::test::Fail;
 
 const LEGAL: &str =
@@ -20,10 +20,7 @@ fn histories_get_their_verdicts(rt: HostRuntime) -> Result<(), Fail> {
         ("0,1,begin,,,began,2\n", "illegal 0\n", 3),
         ("0,1,begin,,,waiting,\n", "illegal 0\n", 3),
     ] {
-        let ran = run_words(&rt, ["check"].as_slice(), history.as_bytes())?;
-        assert_eq!(rt; ran.status, status, "{history}");
-        assert_eq!(rt; ran.output.as_slice(), verdict.as_bytes(), "{history}");
-        assert!(rt; ran.errors.is_empty(), "{history}");
+        want(&rt, &rt, ["check"].as_slice(), history, status, verdict, "")?;
     }
     Ok(())
 }
@@ -37,10 +34,7 @@ fn rows_that_are_no_entries_are_told(rt: HostRuntime) -> Result<(), Fail> {
         ("0,1,begin,,,began,01\n", "glm: row 1: Value\n"),
         ("0,1,begin,,X,start,1\n", "glm: row 1: Extra\n"),
     ] {
-        let ran = run_words(&rt, ["check"].as_slice(), history.as_bytes())?;
-        assert_eq!(rt; ran.status, 1, "{history}");
-        assert!(rt; ran.output.is_empty(), "{history}");
-        assert_eq!(rt; ran.errors.as_slice(), line.as_bytes(), "{history}");
+        want_errors(&rt, &rt, ["check"].as_slice(), history, 1, line)?;
     }
     Ok(())
 }

@@ -1,6 +1,6 @@
 //! A board of two sessions in one thread, call by call.
 
-ghost use Rattle.std.specs.Prelude.{◌≡◌, ◌+◌, true, false, Some, None, IfOk, slice_set};
+ghost use Rattle.std.specs.Prelude.{◌≡◌, ◌+◌, true, false, Some, None, IfOk, replicate, slice_set};
 ghost use Rattle.publication.specs.Rule.{IsHome};
 ghost use Rattle.publication.specs.Boards.{IsOf, IsNumber, opened_at, new_ticket, new_tickets};
 
@@ -78,6 +78,32 @@ fn takes_once(rt: &impl Abort, board: &Board, ticket: &mut Ticket, place: u64, r
     assert!(rt; board.take(ticket).is_none());
 }
 
+// The combiner opens the record of session 1 once, serves its call, and finds no more of it.
+fn serve_the_first(
+    rt: &impl Abort,
+    board: &Board,
+    second: &mut Ticket,
+    load: &mut Load,
+) -> Result<(), NoMemory>
+    requires ours { IsOf board.now second.old }
+    requires has { second.old.has_book ≡ true }
+    requires two { board.now.sessions ≡ 2 }
+    requires opened { second.old.opened ≡ replicate 3 None }
+    requires home { IsHome second.old.front (board.now.sessions + 1) load.old }
+    ensures ours { IfOk result (λ _. IsOf board.now second.new) }
+    ensures has { IfOk result (λ _. second.new.has_book ≡ true) }
+    ensures opened { IfOk result (λ _. second.new.opened ≡ replicate 3 None) }
+    ensures home { IfOk result (λ _. IsHome second.new.front (board.now.sessions + 1) load.new) }
+{
+    let call = board.open(second, 1).expect(rt, "the call");
+    assert!(rt; call == Call::Begin);
+    finds_nothing(rt, board, second, 1);
+    let reply = serve(board, second, load, 1, call)?;
+    assert!(rt; reply == Reply::Began(1));
+    finds_nothing(rt, board, second, 1);
+    Ok(())
+}
+
 #[test]
 fn a_combiner_answers_what_another_posted(rt: HostRuntime) -> Result<(), Fail> {
     let book = Book::new(rt.alloc(), 2)?;
@@ -86,12 +112,7 @@ fn a_combiner_answers_what_another_posted(rt: HostRuntime) -> Result<(), Fail> {
     posts(&rt, &board, &mut first, Call::Begin);
     let mut load = board.seize(&mut second).expect(&rt, "the load");
     assert!(rt; board.seize(&mut first).is_none());
-    let call = board.open(&mut second, 1).expect(&rt, "the call");
-    assert!(rt; call == Call::Begin);
-    finds_nothing(&rt, &board, &mut second, 1);
-    let reply = serve(&board, &mut second, &mut load, 1, call)?;
-    assert!(rt; reply == Reply::Began(1));
-    finds_nothing(&rt, &board, &mut second, 1);
+    serve_the_first(&rt, &board, &mut second, &mut load)?;
     takes_once(&rt, &board, &mut first, 0, Reply::Began(1));
     board.release(&mut second, load);
     assert!(rt; board.seize(&mut first).is_some());

@@ -26,7 +26,7 @@ pub(crate) fn new_book(rt: &impl Abort, alloc: Global, sessions: u16) -> Result<
     }
 }
 
-fn serve_once(
+pub(crate) fn serve_once(
     rt: &impl Abort,
     book: &mut Book,
     session: u16,

@@ -1,5 +1,6 @@
 //! What sessions learn of one another, and offices that are closed.
 ghost use Rattle.std.specs.Prelude.{◌≡◌, [], All, IfOk};
+ghost use Rattle.publication.specs.Boards.{new_tickets};
 ghost use Rattle.combining.specs.Sessions.{IsSessionOf, IsIdle};
 
 use crate::offices::{answer, ask, call, new_office, served_by};
@@ -9,41 +10,114 @@ use std::alloc::{AllocError, Global};
 use std::process::Abort;
 use std::test::Fail;
 
+/// An office of two sessions, which stand apart from the vector that they came in.
+#[derive(Drop)]
+struct Apart {
+    office: Office,
+    first: Session,
+    second: Session,
+    room: Vec<Session>,
+}
+
+/// The sessions of a fresh office of two.
+fn taken_apart(rt: &impl Abort, office: Office, sessions: Vec<Session>) -> Apart
+    requires sessions { sessions.items ≡ new_tickets office.id 2 2 }
+    requires ours { All (λ session. IsSessionOf office session × IsIdle session) sessions.items }
+    ensures first { IsSessionOf result.office result.first × IsIdle result.first }
+    ensures second { IsSessionOf result.office result.second × IsIdle result.second }
+    ensures room { result.room.items ≡ [] }
+{
+    let mut room = sessions;
+    let second = room.pop().expect(rt, "session 2");
+    let first = room.pop().expect(rt, "session 1");
+    Apart {
+        office,
+        first,
+        second,
+        room,
+    }
+}
+
+/// The session publishes that it begins, and its record is on the list.
+fn publish_begin(rt: &impl Abort, office: &Office, session: &mut Session)
+    requires ours { IsSessionOf office.now session.old × IsIdle session.old }
+    ensures ours { IsSessionOf office.now session.new }
+{
+    assert_eq!(rt; office.publish(session, Call::Begin), Posted::Listed);
+}
+
+/// The session collects that it began transaction 1, once.
+fn collect_begun(rt: &impl Abort, office: &Office, session: &mut Session)
+    requires ours { IsSessionOf office.now session.old }
+    ensures ours { IsSessionOf office.now session.new }
+{
+    let began = answer(0, Reply::Began(1));
+    assert_eq!(rt; office.collect(session), Some(began));
+    assert_eq!(rt; office.collect(session), None);
+}
+
 #[test]
 fn what_a_session_heard_of_is_served(rt: HostRuntime) -> Result<(), Fail> {
-    let (office, mut sessions) = new_office(rt.alloc(), 2)?;
-    let mut second = sessions.pop().expect(&rt, "session 2");
-    let mut first = sessions.pop().expect(&rt, "session 1");
-    assert_eq!(rt; office.publish(&mut first, Call::Begin), Posted::Listed);
+    let (office, sessions) = new_office(rt.alloc(), 2)?;
+    let Apart {
+        office,
+        mut first,
+        mut second,
+        room: _room,
+    } = taken_apart(&rt, office, sessions);
+    publish_begin(&rt, &office, &mut first);
     office.hear(&mut second, &mut first);
     assert_eq!(rt; served_by(&rt, &office, &mut second), 1);
-    let began = answer(0, Reply::Began(1));
-    assert_eq!(rt; office.collect(&mut first), Some(began));
-    assert_eq!(rt; office.collect(&mut first), None);
+    collect_begun(&rt, &office, &mut first);
     Ok(())
+}
+
+/// The session begins a transaction, and collects this answer.
+fn begin(rt: &impl Abort, office: &Office, session: &mut Session, place: u64, transaction: u64)
+    requires ours { IsSessionOf office.now session.old × IsIdle session.old }
+    ensures ours { IsSessionOf office.now session.new × IsIdle session.new }
+{
+    let began = ask(rt, office, session, Call::Begin);
+    assert_eq!(rt; began, answer(place, Reply::Began(transaction)));
+}
+
+/// Session 1 begins a transaction, and session 2 hears of it.
+fn hear_of_a_begin(rt: &impl Abort, office: &Office, first: &mut Session, second: &mut Session)
+    requires first { IsSessionOf office.now first.old × IsIdle first.old }
+    requires second { IsSessionOf office.now second.old × IsIdle second.old }
+    ensures first { IsSessionOf office.now first.new × IsIdle first.new }
+    ensures second { IsSessionOf office.now second.new × IsIdle second.new }
+{
+    begin(rt, office, first, 0, 1);
+    assert!(rt; first.seen() == 1 && second.seen() == 0);
+    office.hear(second, first);
+    assert!(rt; first.seen() == 1 && second.seen() == 1);
+}
+
+/// The session retires.
+fn retire(rt: &impl Abort, office: &Office, session: &mut Session)
+    requires ours { IsSessionOf office.now session.old × IsIdle session.old }
+    ensures ours { IsSessionOf office.now session.new }
+{
+    assert!(rt; session.is_idle() && !session.is_retired());
+    office.retire(session);
+    assert!(rt; !session.is_idle() && session.is_retired());
 }
 
 #[test]
 fn a_session_knows_what_it_hears(rt: HostRuntime) -> Result<(), Fail> {
-    let (office, mut sessions) = new_office(rt.alloc(), 2)?;
-    let mut second = sessions.pop().expect(&rt, "session 2");
-    let mut first = sessions.pop().expect(&rt, "session 1");
-    assert_eq!(rt;
-        ask(&rt, &office, &mut first, Call::Begin),
-        answer(0, Reply::Began(1))
-    );
-    assert!(rt; first.seen() == 1 && second.seen() == 0);
-    office.hear(&mut second, &mut first);
-    assert!(rt; first.seen() == 1 && second.seen() == 1);
-    assert_eq!(rt;
-        ask(&rt, &office, &mut second, Call::Begin),
-        answer(1, Reply::Began(2))
-    );
+    let (office, sessions) = new_office(rt.alloc(), 2)?;
+    let Apart {
+        office,
+        mut first,
+        mut second,
+        room,
+    } = taken_apart(&rt, office, sessions);
+    hear_of_a_begin(&rt, &office, &mut first, &mut second);
+    begin(&rt, &office, &mut second, 1, 2);
     assert!(rt; first.seen() == 1 && second.seen() == 2);
-    assert!(rt; first.is_idle() && !first.is_retired());
-    office.retire(&mut first);
-    assert!(rt; !first.is_idle() && first.is_retired());
-    assert_eq!(rt; closed(&rt, office, second, first, sessions)?, 2);
+    retire(&rt, &office, &mut first);
+    assert_eq!(rt; closed(&rt, office, second, first, room)?, 2);
     Ok(())
 }
 
@@ -65,6 +139,14 @@ fn refused(
     (office, sessions)
 }
 
+/// The number of entries of an office that is closed.
+fn entries_of(rt: &impl Abort, office: Office, sessions: Vec<Session>) -> usize
+    requires ours { All (IsSessionOf office) sessions.items }
+{
+    let book = office.close(sessions).ok().expect(rt, "the book");
+    book.history().len()
+}
+
 /// The number of entries of an office of two sessions that is closed with them in either order.
 fn closed(
     rt: &impl Abort,
@@ -79,32 +161,91 @@ fn closed(
     let mut sessions = room;
     sessions.push(first)?;
     sessions.push(second)?;
-    let book = office.close(sessions).ok().expect(rt, "the book");
-    Ok(book.history().len())
+    Ok(entries_of(rt, office, sessions))
+}
+
+/// An office of two sessions isn't closed while one of them is missing.
+fn missing(rt: &impl Abort, office: Office, sessions: Vec<Session>) -> Result<Apart, AllocError>
+    requires sessions { sessions.items ≡ new_tickets office.id 2 2 }
+    requires ours { All (λ session. IsSessionOf office session × IsIdle session) sessions.items }
+    ensures first { IfOk result (λ all. IsSessionOf all.office all.first × IsIdle all.first) }
+    ensures second { IfOk result (λ all. IsSessionOf all.office all.second × IsIdle all.second) }
+    ensures room { IfOk result (λ all. all.room.items ≡ []) }
+{
+    let Apart {
+        office,
+        first,
+        second,
+        mut room,
+    } = taken_apart(rt, office, sessions);
+    room.push(first)?;
+    let (office, mut room) = refused(rt, office, room, CloseFault::Missing);
+    let first = room.pop().expect(rt, "session 1");
+    Ok(Apart {
+        office,
+        first,
+        second,
+        room,
+    })
+}
+
+/// An office of two sessions isn't closed while one of them is pending.
+fn unsettled(rt: &impl Abort, all: Apart) -> Result<Apart, AllocError>
+    requires first { IsSessionOf all.office all.first }
+    requires second { IsSessionOf all.office all.second }
+    requires room { all.room.items ≡ [] }
+    ensures first { IfOk result (λ back. IsSessionOf back.office back.first) }
+    ensures second { IfOk result (λ back. IsSessionOf back.office back.second) }
+    ensures room { IfOk result (λ back. back.room.items ≡ []) }
+{
+    let Apart {
+        office,
+        first,
+        second,
+        mut room,
+    } = all;
+    room.push(first)?;
+    room.push(second)?;
+    let (office, mut room) = refused(rt, office, room, CloseFault::Unsettled);
+    let second = room.pop().expect(rt, "session 2");
+    let first = room.pop().expect(rt, "session 1");
+    assert!(rt; first.number() == 1 && second.number() == 2);
+    Ok(Apart {
+        office,
+        first,
+        second,
+        room,
+    })
+}
+
+/// The session makes a pass that serves its begin, and the office is closed with its two sessions in either order.
+fn settled(rt: &impl Abort, all: Apart, turned: bool) -> Result<usize, AllocError>
+    requires first { IsSessionOf all.office all.first }
+    requires second { IsSessionOf all.office all.second }
+    requires room { all.room.items ≡ [] }
+{
+    let Apart {
+        office,
+        mut first,
+        second,
+        room,
+    } = all;
+    assert_eq!(rt; served_by(rt, &office, &mut first), 1);
+    collect_begun(rt, &office, &mut first);
+    if turned {
+        closed(rt, office, second, first, room)
+    } else {
+        closed(rt, office, first, second, room)
+    }
 }
 
 /// An office of two sessions isn't closed while one of them is missing or pending.
 fn close_in_order(rt: &impl Abort, alloc: Global, turned: bool) -> Result<usize, Fail> {
-    let (office, mut sessions) = new_office(alloc, 2)?;
-    let second = sessions.pop().expect(rt, "session 2");
-    let (office, mut sessions) = refused(rt, office, sessions, CloseFault::Missing);
-    let mut first = sessions.pop().expect(rt, "session 1");
-    assert_eq!(rt; office.publish(&mut first, Call::Begin), Posted::Listed);
-    sessions.push(first)?;
-    sessions.push(second)?;
-    let (office, mut sessions) = refused(rt, office, sessions, CloseFault::Unsettled);
-    let second = sessions.pop().expect(rt, "session 2");
-    let mut first = sessions.pop().expect(rt, "session 1");
-    assert!(rt; first.number() == 1 && second.number() == 2);
-    assert_eq!(rt; served_by(rt, &office, &mut first), 1);
-    let began = answer(0, Reply::Began(1));
-    assert_eq!(rt; office.collect(&mut first), Some(began));
-    let entries = if turned {
-        closed(rt, office, second, first, sessions)?
-    } else {
-        closed(rt, office, first, second, sessions)?
-    };
-    Ok(entries)
+    let (office, sessions) = new_office(alloc, 2)?;
+    let mut all = missing(rt, office, sessions)?;
+    publish_begin(rt, &all.office, &mut all.first);
+    let all = unsettled(rt, all)?;
+    Ok(settled(rt, all, turned)?)
 }
 
 #[test]
@@ -155,7 +296,6 @@ fn all_256_sessions_close_in_any_order(rt: HostRuntime) -> Result<(), Fail> {
     let shuffled = begin_and_shuffle(rt.alloc(), &office, sessions)?;
     let first = shuffled.first().expect(&rt, "a session");
     assert!(rt; first.number() != 1);
-    let book = office.close(shuffled).ok().expect(&rt, "the book");
-    assert_eq!(rt; book.history().len(), 256);
+    assert_eq!(rt; entries_of(&rt, office, shuffled), 256);
     Ok(())
 }

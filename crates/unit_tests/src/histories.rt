@@ -4,7 +4,8 @@ use crate::traces::{Dribble, HISTORY_TEXT, history};
 use lock_rules::{Call, Entry, Reply};
 use lock_trace::{TraceFault, TraceKind, history_text, read_history};
 use lock_tree::PathFault;
-use std::alloc::Global;
+use std::alloc::{AllocError, Global};
+use std::process::Abort;
 use std::test::Fail;
 
 const ALL: u16 = 256;
@@ -58,6 +59,19 @@ fn fault_in(alloc: Global, text: &[u8]) -> Option<(u64, TraceKind)> {
     Some((fault.row, fault.kind))
 }
 
+/// Wants the first row to be faulty in this way.
+fn want_fault(rt: &impl Abort, alloc: Global, text: &str, kind: TraceKind) {
+    let fault = fault_in(alloc, text.as_bytes());
+    assert_eq!(rt; fault, Some((1, kind)), "at {text}");
+}
+
+/// Wants a poll to have no reply that ends like this.
+fn want_value_fault(rt: &impl Abort, alloc: Global, end: &str) -> Result<(), AllocError> {
+    let text = format!(in alloc; "0,1,poll,,,{end}")?;
+    want_fault(rt, alloc, text.as_str(), TraceKind::Value);
+    Ok(())
+}
+
 #[test]
 fn tells_faults_in_the_order_of_the_tests(rt: HostRuntime) {
     for (text, kind) in [
@@ -85,8 +99,7 @@ fn tells_faults_in_the_order_of_the_tests(rt: HostRuntime) {
         ("0,1,begin,,, began,1", TraceKind::Reply),
         ("0,1,begin,,,began,01", TraceKind::Value),
     ] {
-        let fault = fault_in(rt.alloc(), text.as_bytes());
-        assert_eq!(rt; fault, Some((1, kind)), "at {text}");
+        want_fault(&rt, rt.alloc(), text, kind);
     }
 }
 
@@ -118,10 +131,13 @@ fn tells_values_of_another_form(rt: HostRuntime) -> Result<(), Fail> {
         "refused,IsWaiting ",
         "refused,3",
     ] {
-        let text = format!(in rt.alloc(); "0,1,poll,,,{end}")?;
-        let fault = fault_in(rt.alloc(), text.as_bytes());
-        assert_eq!(rt; fault, Some((1, TraceKind::Value)), "at {end}");
+        want_value_fault(&rt, rt.alloc(), end)?;
     }
+    Ok(())
+}
+
+#[test]
+fn tells_of_bytes_that_are_no_text(rt: HostRuntime) {
     for (text, kind) in [
         (b"0,1,poll,,,\xff,".as_slice(), TraceKind::Reply),
         (b"0,1,poll,,,refused,\xff".as_slice(), TraceKind::Value),
@@ -131,7 +147,6 @@ fn tells_values_of_another_form(rt: HostRuntime) -> Result<(), Fail> {
         let fault = fault_in(rt.alloc(), text);
         assert_eq!(rt; fault, Some((1, kind)), "at {text:?}");
     }
-    Ok(())
 }
 
 #[test]

@@ -1,6 +1,6 @@
 //! Columns and rows by hand, and of many lengths beside plain loops.
 
-ghost use Rattle.std.specs.Prelude.{◌<◌, ◌≤◌};
+ghost use Rattle.std.specs.Prelude.{◌≡◌, ◌<◌, ◌≤◌, length};
 
 use mode_lanes::{and_into, any_common, any_meets, first_meets, mark_meets, or_into, union};
 use std::process::Abort;
@@ -62,6 +62,43 @@ fn rows_of_five_words(rt: HostRuntime) {
 
 const LONGEST: usize = 260;
 
+/// Whether each mark tells that the byte has a bit of the mask.
+fn are_marks(column: &[u8], mask: u8, marks: &[u8]) -> bool {
+    for (&byte, &mark) in column.iter().zip(marks.iter()) {
+        if mark != (byte & mask != 0) as u8 {
+            return false;
+        }
+    }
+    true
+}
+
+/// The column meets the mask as a plain loop says.
+fn tries_a_mask(rt: &impl Abort, column: &[u8], mask: u8, at: usize)
+    requires { length column.now ≤ LONGEST }
+{
+    let first = column.iter().position(|&byte| byte & mask != 0);
+    let length = column.len();
+    assert_eq!(rt;
+        any_meets(column, mask),
+        first.is_some(),
+        "{length} {at} {mask}"
+    );
+    assert_eq!(rt; first_meets(column, mask), first, "{length} {at} {mask}");
+    let mut marks = [7; LONGEST];
+    let marks = &mut marks[..length];
+    mark_meets(column, mask, marks);
+    assert!(rt; are_marks(column, mask, marks), "{length} {at} {mask}");
+}
+
+/// All bytes of the column, or'ed by a plain loop.
+fn or_of(column: &[u8]) -> u8 {
+    let mut all = 0;
+    for &byte in column {
+        all |= byte;
+    }
+    all
+}
+
 /// One byte of the column stands out.
 fn tries_a_column(rt: &impl Abort, length: usize, at: usize)
     requires at { at < length }
@@ -70,26 +107,33 @@ fn tries_a_column(rt: &impl Abort, length: usize, at: usize)
     let mut column = [1; LONGEST];
     column[at] = 6;
     let column = &column[..length];
-    let mut all = 0;
-    for &byte in column {
-        all |= byte;
-    }
-    assert_eq!(rt; union(column), all, "{length} {at}");
+    assert_eq!(rt; union(column), or_of(column), "{length} {at}");
     for mask in [1, 2, 8] {
-        let first = column.iter().position(|&byte| byte & mask != 0);
-        let mut marks = [7; LONGEST];
-        let marks = &mut marks[..length];
-        mark_meets(column, mask, marks);
-        assert_eq!(rt;
-            any_meets(column, mask),
-            first.is_some(),
-            "{length} {at} {mask}"
-        );
-        assert_eq!(rt; first_meets(column, mask), first, "{length} {at} {mask}");
-        for (&byte, &mark) in column.iter().zip(marks.iter()) {
-            assert_eq!(rt; mark, (byte & mask != 0) as u8, "{length} {at} {mask}");
+        tries_a_mask(rt, column, mask, at);
+    }
+}
+
+/// Whether each word is the lowest bit of the other.
+fn are_lowest_bits(row: &[u64], other: &[u64]) -> bool {
+    for (&word, &before) in row.iter().zip(other.iter()) {
+        if word != before & 1 {
+            return false;
         }
     }
+    true
+}
+
+/// Rows of 2 alone become the other, in which one word is 3, and then what they have in common with rows of 1.
+fn tries_to_join(rt: &impl Abort, row: &mut [u64], other: &[u64], ones: &[u64], at: usize)
+    requires other { length row.old ≡ length other.now }
+    requires ones { length row.old ≡ length ones.now }
+{
+    let length = other.len();
+    assert!(rt; or_into(row, other), "{length} {at}");
+    assert!(rt; &*row == other, "{length} {at}");
+    assert!(rt; !or_into(row, other), "{length} {at}");
+    and_into(row, ones);
+    assert!(rt; are_lowest_bits(row, other), "{length} {at}");
 }
 
 /// One word of the row stands out.
@@ -106,15 +150,7 @@ fn tries_a_row(rt: &impl Abort, length: usize, at: usize)
     assert!(rt; !any_common(other, ones), "{length}");
     other[at] = 3;
     assert!(rt; any_common(other, ones), "{length} {at}");
-    assert!(rt; or_into(row, other), "{length} {at}");
-    for (&word, &wanted) in row.iter().zip(other.iter()) {
-        assert_eq!(rt; word, wanted, "{length} {at}");
-    }
-    assert!(rt; !or_into(row, other), "{length} {at}");
-    and_into(row, ones);
-    for (&word, &before) in row.iter().zip(other.iter()) {
-        assert_eq!(rt; word, before & 1, "{length} {at}");
-    }
+    tries_to_join(rt, row, other, ones, at);
 }
 
 /// One item stands out, at each position in turn.

@@ -1,6 +1,7 @@
 //! The publication list: which call stands before which, as records come to the list and are taken off it.
 
 ghost use Rattle.std.specs.Prelude.{◌≡◌, All, IfOk, IfSome};
+ghost use Rattle.publication.specs.Boards.{new_tickets};
 ghost use Rattle.combining.specs.Sessions.{IsSessionOf, IsIdle};
 
 use combining::{Answer, Office, Posted, Session, Turn};
@@ -76,15 +77,44 @@ fn poll(rt: &impl Abort, office: &Office, session: &mut Session, first: u64, pol
     }
 }
 
+/// The sessions of an office of three.
+#[derive(Drop)]
+struct Three {
+    first: Session,
+    second: Session,
+    third: Session,
+}
+
+/// The sessions of an office, each of which has begun a transaction.
+fn three_begun(rt: &impl Abort, office: &Office, sessions: Vec<Session>) -> Three
+    requires sessions { sessions.items ≡ new_tickets office.now.id 3 3 }
+    requires ours { All (λ session. IsSessionOf office.now session × IsIdle session) sessions.items }
+    ensures first { IsSessionOf office.now result.first × IsIdle result.first }
+    ensures second { IsSessionOf office.now result.second × IsIdle result.second }
+    ensures third { IsSessionOf office.now result.third × IsIdle result.third }
+{
+    let mut sessions = sessions;
+    let mut third = sessions.pop().expect(rt, "session 3");
+    let mut second = sessions.pop().expect(rt, "session 2");
+    let mut first = sessions.pop().expect(rt, "session 1");
+    ask(rt, office, &mut first, Call::Begin, 0, Reply::Began(1));
+    ask(rt, office, &mut second, Call::Begin, 1, Reply::Began(2));
+    ask(rt, office, &mut third, Call::Begin, 2, Reply::Began(3));
+    Three {
+        first,
+        second,
+        third,
+    }
+}
+
 #[test]
 fn idle_records_are_taken_off_the_list(rt: HostRuntime) -> Result<(), Fail> {
-    let (office, mut sessions) = Office::open(rt.alloc(), 3)?;
-    let mut third = sessions.pop().expect(&rt, "session 3");
-    let mut second = sessions.pop().expect(&rt, "session 2");
-    let mut first = sessions.pop().expect(&rt, "session 1");
-    ask(&rt, &office, &mut first, Call::Begin, 0, Reply::Began(1));
-    ask(&rt, &office, &mut second, Call::Begin, 1, Reply::Began(2));
-    ask(&rt, &office, &mut third, Call::Begin, 2, Reply::Began(3));
+    let (office, sessions) = Office::open(rt.alloc(), 3)?;
+    let Three {
+        mut first,
+        second: _second,
+        mut third,
+    } = three_begun(&rt, &office, sessions);
     // passes 4 to 128: at the last one records 2 and 1 are taken off, 126 and 127 passes behind
     poll(&rt, &office, &mut third, 3, 125);
     publish(&rt, &office, &mut first, Call::Poll);
@@ -95,29 +125,53 @@ fn idle_records_are_taken_off_the_list(rt: HostRuntime) -> Result<(), Fail> {
     Ok(())
 }
 
+/// Both sessions poll, and a pass of the later one serves both, of which it collects its own answer.
+fn leave_an_answer(rt: &impl Abort, office: &Office, second: &mut Session, third: &mut Session)
+    requires second { IsSessionOf office.now second.old × IsIdle second.old }
+    requires third { IsSessionOf office.now third.old × IsIdle third.old }
+    ensures second { IsSessionOf office.now second.new }
+    ensures third { IsSessionOf office.now third.new × IsIdle third.new }
+{
+    publish(rt, office, second, Call::Poll);
+    publish(rt, office, third, Call::Poll);
+    pass(rt, office, third, 2);
+    collect(rt, office, third, 3, Reply::Clear);
+}
+
+/// All three poll, and a pass of session 3 serves them: record 1 was linked after the others.
+fn poll_with_the_last_first(
+    rt: &impl Abort,
+    office: &Office,
+    first: &mut Session,
+    second: &mut Session,
+    third: &mut Session,
+)
+    requires first { IsSessionOf office.now first.old × IsIdle first.old }
+    requires second { IsSessionOf office.now second.old × IsIdle second.old }
+    requires third { IsSessionOf office.now third.old × IsIdle third.old }
+{
+    publish(rt, office, first, Call::Poll);
+    publish(rt, office, second, Call::Poll);
+    publish(rt, office, third, Call::Poll);
+    pass(rt, office, third, 3);
+    collect(rt, office, first, 129, Reply::Clear);
+    collect(rt, office, third, 130, Reply::Clear);
+    collect(rt, office, second, 131, Reply::Clear);
+}
+
 #[test]
 fn a_record_whose_answer_is_not_collected_stays_on_the_list(rt: HostRuntime) -> Result<(), Fail> {
-    let (office, mut sessions) = Office::open(rt.alloc(), 3)?;
-    let mut third = sessions.pop().expect(&rt, "session 3");
-    let mut second = sessions.pop().expect(&rt, "session 2");
-    let mut first = sessions.pop().expect(&rt, "session 1");
-    ask(&rt, &office, &mut first, Call::Begin, 0, Reply::Began(1));
-    ask(&rt, &office, &mut second, Call::Begin, 1, Reply::Began(2));
-    ask(&rt, &office, &mut third, Call::Begin, 2, Reply::Began(3));
-    publish(&rt, &office, &mut second, Call::Poll);
-    publish(&rt, &office, &mut third, Call::Poll);
-    pass(&rt, &office, &mut third, 2);
-    collect(&rt, &office, &mut third, 3, Reply::Clear);
+    let (office, sessions) = Office::open(rt.alloc(), 3)?;
+    let Three {
+        mut first,
+        mut second,
+        mut third,
+    } = three_begun(&rt, &office, sessions);
+    leave_an_answer(&rt, &office, &mut second, &mut third);
     // passes 5 to 128: at the last one record 1 is taken off, and record 2 is linked again
     poll(&rt, &office, &mut third, 5, 124);
     collect(&rt, &office, &mut second, 4, Reply::Clear);
-    publish(&rt, &office, &mut first, Call::Poll);
-    publish(&rt, &office, &mut second, Call::Poll);
-    publish(&rt, &office, &mut third, Call::Poll);
-    pass(&rt, &office, &mut third, 3);
-    collect(&rt, &office, &mut first, 129, Reply::Clear);
-    collect(&rt, &office, &mut third, 130, Reply::Clear);
-    collect(&rt, &office, &mut second, 131, Reply::Clear);
+    poll_with_the_last_first(&rt, &office, &mut first, &mut second, &mut third);
     Ok(())
 }
 

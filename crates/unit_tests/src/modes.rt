@@ -2,12 +2,19 @@
 
 use lock_modes::Mode;
 use std::mem::size_of;
+use std::process::Abort;
 
 const YES: bool = true;
 
 const NO: bool = false;
 
 const MODES: [Mode; 6] = [Mode::NL, Mode::IS, Mode::IX, Mode::S, Mode::SIX, Mode::X];
+
+fn want_row(rt: &impl Abort, mode: Mode, code: u8, mask: u8, need: Mode) {
+    assert_eq!(rt; mode.code(), code, "the code of {mode:?}");
+    assert_eq!(rt; mode.conflict_mask(), mask, "the mask of {mode:?}");
+    assert_eq!(rt; mode.parent_need(), need, "the need of {mode:?}");
+}
 
 #[test]
 fn codes_masks_and_needs(rt: HostRuntime) {
@@ -20,9 +27,17 @@ fn codes_masks_and_needs(rt: HostRuntime) {
         (Mode::X, 15, 1, Mode::IX),
     ];
     for (mode, code, mask, need) in rows {
-        assert_eq!(rt; mode.code(), code, "the code of {mode:?}");
-        assert_eq!(rt; mode.conflict_mask(), mask, "the mask of {mode:?}");
-        assert_eq!(rt; mode.parent_need(), need, "the need of {mode:?}");
+        want_row(&rt, mode, code, mask, need);
+    }
+}
+
+fn want_compatible(rt: &impl Abort, asked: Mode, row: [bool; 6]) {
+    for (granted, want) in MODES.into_iter().zip(row) {
+        assert_eq!(rt;
+            Mode::compatible(asked, granted),
+            want,
+            "{asked:?} beside {granted:?}"
+        );
     }
 }
 
@@ -37,13 +52,14 @@ fn compatible_pairs(rt: HostRuntime) {
         (Mode::X, [YES, NO, NO, NO, NO, NO]),
     ];
     for (asked, row) in table {
-        for (granted, want) in MODES.into_iter().zip(row) {
-            assert_eq!(rt;
-                Mode::compatible(asked, granted),
-                want,
-                "{asked:?} beside {granted:?}"
-            );
-        }
+        want_compatible(&rt, asked, row);
+    }
+}
+
+fn want_bounds(rt: &impl Abort, mode: Mode, row: [Mode; 6]) {
+    for (other, want) in MODES.into_iter().zip(row) {
+        assert_eq!(rt; mode.sup(other), want, "{mode:?} and {other:?}");
+        assert_eq!(rt; mode.covers(other), want == mode, "{mode:?} over {other:?}");
     }
 }
 
@@ -59,18 +75,19 @@ fn least_upper_bounds(rt: HostRuntime) {
         (X, [X, X, X, X, X, X]),
     ];
     for (mode, row) in table {
-        for (other, want) in MODES.into_iter().zip(row) {
-            assert_eq!(rt; mode.sup(other), want, "{mode:?} and {other:?}");
-            assert_eq!(rt; mode.covers(other), want == mode, "{mode:?} over {other:?}");
-        }
+        want_bounds(&rt, mode, row);
     }
+}
+
+fn want_name(rt: &impl Abort, mode: Mode, name: &str) {
+    assert_eq!(rt; mode.name(), name);
+    assert_eq!(rt; Mode::parse(name), Some(mode), "{name}");
 }
 
 #[test]
 fn names(rt: HostRuntime) {
     for (mode, name) in MODES.into_iter().zip(["NL", "IS", "IX", "S", "SIX", "X"]) {
-        assert_eq!(rt; mode.name(), name);
-        assert_eq!(rt; Mode::parse(name), Some(mode), "{name}");
+        want_name(&rt, mode, name);
     }
     for text in [
         "", " ", "is", "Six", "x", " IS", "IS ", "IS\n", "I", "SI", "SIXX", "IS,IX", "Х",

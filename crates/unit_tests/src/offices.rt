@@ -1,12 +1,14 @@
 //! What no clause says of an office: which calls a pass serves and in which order, and that one history has all answers,
 //! whatever the threads do. A call that finds no memory is made again, so that the tests without threads may also be run
 //! with each of their allocations refused in turn.
-ghost use Rattle.std.specs.Prelude.{◌≡◌, IfOk, IfSome};
+ghost use Rattle.std.specs.Prelude.{◌≡◌, All, IfOk, IfSome};
 ghost use Rattle.publication.specs.Boards.{new_tickets};
 ghost use Rattle.combining.specs.Sessions.{IsSessionOf, IsIdle};
 
+use crate::acts::{Act, perform_in_office};
+use crate::books::serve_once;
 use combining::{Answer, Office, OpenFault, Posted, Session, Turn};
-use lock_desk::{Book, Call, Mode, Reply, Resource, Why};
+use lock_desk::{Book, Call, Mode, NoMemory, Reply, Resource, Why};
 use std::alloc::{AllocError, Global};
 use std::process::Abort;
 use std::test::Fail;
@@ -21,7 +23,8 @@ fn database(number: u32) -> Result<Resource, Fail> {
 }
 
 pub(crate) fn new_office(alloc: Global, sessions: u16) -> Result<(Office, Vec<Session>), OpenFault>
-    ensures { IfOk result (λ made. made.1.items ≡ new_tickets made.0.id sessions sessions) }
+    ensures sessions { IfOk result (λ made. made.1.items ≡ new_tickets made.0.id sessions sessions) }
+    ensures ready { IfOk result (λ made. All (λ session. IsSessionOf made.0 session × IsIdle session) made.1.items) }
 {
     match Office::open(alloc, sessions) {
         Err(OpenFault::NoMemory) => Office::open(alloc, sessions),
@@ -71,6 +74,14 @@ pub(crate) fn answer(place: u64, reply: Reply) -> Answer {
     Answer { place, reply }
 }
 
+/// Wants the sessions to be numbered from 1 on, idle, and to know nothing of the history.
+fn want_fresh(rt: &impl Abort, sessions: &[Session]) {
+    for (at, session) in sessions.iter().enumerate() {
+        assert_eq!(rt; usize::from(session.number()), at + 1);
+        assert!(rt; session.is_idle() && session.seen() == 0);
+    }
+}
+
 #[test]
 fn an_office_is_opened_for_1_to_256_sessions(rt: HostRuntime) -> Result<(), Fail> {
     assert_eq!(rt; OpenFault::NoSessions as u8, 1);
@@ -79,111 +90,130 @@ fn an_office_is_opened_for_1_to_256_sessions(rt: HostRuntime) -> Result<(), Fail
     assert!(rt; new_office(rt.alloc(), 0).err() == Some(OpenFault::NoSessions));
     assert!(rt; new_office(rt.alloc(), 257).err() == Some(OpenFault::TooManySessions));
     let (_office, sessions) = new_office(rt.alloc(), 256)?;
-    for (at, session) in sessions.iter().enumerate() {
-        assert_eq!(rt; usize::from(session.number()), at + 1);
-        assert!(rt; session.is_idle() && session.seen() == 0);
-    }
+    want_fresh(&rt, &sessions);
     Ok(())
 }
 
 #[test]
 fn the_combiner_serves_what_another_session_published(rt: HostRuntime) -> Result<(), Fail> {
-    let (office, mut sessions) = new_office(rt.alloc(), 2)?;
-    let mut second = sessions.pop().expect(&rt, "session 2");
-    let mut first = sessions.pop().expect(&rt, "session 1");
-    assert_eq!(rt; office.publish(&mut first, Call::Begin), Posted::Listed);
-    assert!(rt; office.collect(&mut first).is_none() && !first.is_idle());
-    assert_eq!(rt; served_by(&rt, &office, &mut second), 1);
-    let began = answer(0, Reply::Began(1));
-    assert_eq!(rt; office.collect(&mut first), Some(began));
-    assert_eq!(rt; office.collect(&mut first), None);
-    assert!(rt; first.is_idle() && first.seen() == 1 && second.seen() == 1);
-    Ok(())
+    let acts = [
+        (1, Act::Publishes(Call::Begin)),
+        (1, Act::Waits),
+        (2, Act::Serves(1)),
+        (1, Act::Collects(0, Reply::Began(1))),
+        (1, Act::Rests),
+        (1, Act::HasSeen(1)),
+        (2, Act::HasSeen(1)),
+    ];
+    perform_in_office(&rt, rt.alloc(), 2, &acts)
+}
+
+/// A pass that serves so many calls.
+fn pass(served: u32) -> Turn {
+    Turn::Pass {
+        served,
+        starved: false,
+    }
+}
+
+/// The session begins a transaction, and makes a pass: whether it was starved, and then there is no answer yet.
+fn begin_is_starved(rt: &impl Abort, office: &Office, only: &mut Session) -> bool
+    requires ours { IsSessionOf office.now only.old × IsIdle only.old }
+    ensures ours { IsSessionOf office.now only.new }
+{
+    assert_eq!(rt; office.publish(only, Call::Begin), Posted::Listed);
+    let turn = office.serve(only);
+    let starved = Turn::Pass {
+        served: 0,
+        starved: true,
+    };
+    if turn == starved {
+        assert_eq!(rt; office.collect(only), None);
+        return true;
+    }
+    assert_eq!(rt; turn, pass(1));
+    false
+}
+
+/// The session collects that it began transaction 1, and a pass more has nothing to serve.
+fn collect_begun(rt: &impl Abort, office: &Office, only: &mut Session)
+    requires ours { IsSessionOf office.now only.old }
+{
+    assert_eq!(rt; office.collect(only), Some(answer(0, Reply::Began(1))));
+    assert_eq!(rt; office.serve(only), pass(0));
 }
 
 #[test]
 fn a_call_that_found_no_memory_is_served_by_the_next_pass(rt: HostRuntime) -> Result<(), Fail> {
     let (office, mut sessions) = new_office(rt.alloc(), 1)?;
     let mut only = sessions.pop().expect(&rt, "session 1");
-    assert_eq!(rt; office.publish(&mut only, Call::Begin), Posted::Listed);
-    let starved = Turn::Pass {
-        served: 0,
-        starved: true,
-    };
-    let mut turn = office.serve(&mut only);
-    if turn == starved {
+    if begin_is_starved(&rt, &office, &mut only) {
         println!(&rt; "starved")?;
-        assert_eq!(rt; office.collect(&mut only), None);
-        turn = office.serve(&mut only);
+        assert_eq!(rt; office.serve(&mut only), pass(1));
     }
-    let pass = Turn::Pass {
-        served: 1,
-        starved: false,
-    };
-    assert_eq!(rt; turn, pass);
-    let began = answer(0, Reply::Began(1));
-    assert_eq!(rt; office.collect(&mut only), Some(began));
-    let idle = Turn::Pass {
-        served: 0,
-        starved: false,
-    };
-    assert_eq!(rt; office.serve(&mut only), idle);
+    collect_begun(&rt, &office, &mut only);
     Ok(())
 }
 
 #[test]
 fn locks_are_given_back_before_others_are_asked_for(rt: HostRuntime) -> Result<(), Fail> {
     let one = database(1)?;
-    let (office, mut sessions) = new_office(rt.alloc(), 3)?;
-    let mut third = sessions.pop().expect(&rt, "session 3");
-    let mut second = sessions.pop().expect(&rt, "session 2");
-    let mut first = sessions.pop().expect(&rt, "session 1");
-    let began = ask(&rt, &office, &mut first, Call::Begin);
-    assert_eq!(rt; began, answer(0, Reply::Began(1)));
-    let began = ask(&rt, &office, &mut second, Call::Begin);
-    assert_eq!(rt; began, answer(1, Reply::Began(2)));
-    let began = ask(&rt, &office, &mut third, Call::Begin);
-    assert_eq!(rt; began, answer(2, Reply::Began(3)));
-    let locked = ask(&rt, &office, &mut first, Call::Lock(one, Mode::X));
-    assert_eq!(rt; locked, answer(3, Reply::Granted(Mode::X)));
-    let _posted = office.publish(&mut second, Call::Lock(one, Mode::S));
-    let _posted = office.publish(&mut first, Call::Commit);
-    assert_eq!(rt; served_by(&rt, &office, &mut third), 2);
-    let ended = answer(4, Reply::Committed(1));
-    assert_eq!(rt; office.collect(&mut first), Some(ended));
-    let granted = answer(5, Reply::Granted(Mode::S));
-    assert_eq!(rt; office.collect(&mut second), Some(granted));
-    Ok(())
+    let acts = [
+        (1, Act::Asks(Call::Begin, 0, Reply::Began(1))),
+        (2, Act::Asks(Call::Begin, 1, Reply::Began(2))),
+        (3, Act::Asks(Call::Begin, 2, Reply::Began(3))),
+        (
+            1,
+            Act::Asks(Call::Lock(one, Mode::X), 3, Reply::Granted(Mode::X)),
+        ),
+        (2, Act::Publishes(Call::Lock(one, Mode::S))),
+        (1, Act::Publishes(Call::Commit)),
+        (3, Act::Serves(2)),
+        (1, Act::Collects(4, Reply::Committed(1))),
+        (2, Act::Collects(5, Reply::Granted(Mode::S))),
+    ];
+    perform_in_office(&rt, rt.alloc(), 3, &acts)
+}
+
+/// A pass serves this call of session 2, which holds a database, before those that stand before it on the list.
+fn gives_back_first(
+    rt: &impl Abort,
+    alloc: Global,
+    one: Resource,
+    giver: Call,
+    reply: Reply,
+) -> Result<(), Fail> {
+    let refused = Reply::Refused(Why::NoTransaction);
+    let acts = [
+        (1, Act::Asks(Call::Begin, 0, Reply::Began(1))),
+        (2, Act::Asks(Call::Begin, 1, Reply::Began(2))),
+        (
+            2,
+            Act::Asks(Call::Lock(one, Mode::X), 2, Reply::Granted(Mode::X)),
+        ),
+        (1, Act::Publishes(Call::Lock(one, Mode::S))),
+        (2, Act::Publishes(giver)),
+        (3, Act::Publishes(Call::Poll)),
+        (4, Act::Publishes(Call::Commit)),
+        (3, Act::Serves(4)),
+        // the publication list is 4, 3, 2, 1
+        (4, Act::Collects(3, refused)),
+        (2, Act::Collects(4, reply)),
+        (3, Act::Collects(5, refused)),
+        (1, Act::Collects(6, Reply::Granted(Mode::S))),
+    ];
+    perform_in_office(rt, alloc, 4, &acts)
 }
 
 #[test]
 fn a_pass_serves_what_gives_locks_back_first(rt: HostRuntime) -> Result<(), Fail> {
     let one = database(1)?;
-    let refused = Reply::Refused(Why::NoTransaction);
     for (giver, reply) in [
         (Call::Commit, Reply::Committed(1)),
         (Call::Abort, Reply::Aborted(1)),
         (Call::Release(one), Reply::Released),
     ] {
-        let (office, mut sessions) = new_office(rt.alloc(), 4)?;
-        let mut fourth = sessions.pop().expect(&rt, "session 4");
-        let mut third = sessions.pop().expect(&rt, "session 3");
-        let mut second = sessions.pop().expect(&rt, "session 2");
-        let mut first = sessions.pop().expect(&rt, "session 1");
-        let _began = ask(&rt, &office, &mut first, Call::Begin);
-        let _began = ask(&rt, &office, &mut second, Call::Begin);
-        let _locked = ask(&rt, &office, &mut second, Call::Lock(one, Mode::X));
-        let _posted = office.publish(&mut first, Call::Lock(one, Mode::S));
-        let _posted = office.publish(&mut second, giver);
-        let _posted = office.publish(&mut third, Call::Poll);
-        let _posted = office.publish(&mut fourth, Call::Commit);
-        assert_eq!(rt; served_by(&rt, &office, &mut third), 4);
-        // the publication list is 4, 3, 2, 1
-        assert_eq!(rt; office.collect(&mut fourth), Some(answer(3, refused)));
-        assert_eq!(rt; office.collect(&mut second), Some(answer(4, reply)));
-        assert_eq!(rt; office.collect(&mut third), Some(answer(5, refused)));
-        let granted = Reply::Granted(Mode::S);
-        assert_eq!(rt; office.collect(&mut first), Some(answer(6, granted)));
+        gives_back_first(&rt, rt.alloc(), one, giver, reply)?;
     }
     Ok(())
 }
@@ -309,6 +339,25 @@ fn work(
     Ok(all)
 }
 
+/// The answers of all threads in the order of their places, each of which is there once.
+fn in_order(
+    rt: &impl Abort,
+    alloc: Global,
+    worked: Vec<Result<Vec<Answered>, AllocError>>,
+) -> Result<Vec<Answered>, AllocError> {
+    let mut all = Vec::new(alloc);
+    for answered in worked {
+        for one in answered? {
+            all.push(one)?;
+        }
+    }
+    all.sort_unstable_by_key(|answered| answered.place);
+    for (place, answered) in all.iter().enumerate() {
+        assert_eq!(rt; answered.place, place as u64);
+    }
+    Ok(all)
+}
+
 /// So many threads with a session each make as many calls: the answers in the order of their places, each of which is there
 /// once.
 fn history_of_threads<R: Threads + Abort + Sync>(
@@ -325,35 +374,41 @@ fn history_of_threads<R: Threads + Abort + Sync>(
         sessions,
         &|session: Session| work(alloc, office, session, load, calls),
     )?;
-    let mut all = Vec::new(alloc);
-    for answered in worked {
-        for one in answered? {
-            all.push(one)?;
-        }
+    Ok(in_order(rt, alloc, worked)?)
+}
+
+/// Wants each of so many polls to be refused.
+fn want_refused_polls(rt: &impl Abort, history: &[Answered], polls: usize) {
+    assert_eq!(rt; history.len(), polls);
+    for answered in history {
+        assert_eq!(rt; answered.reply, Reply::Refused(Why::NoTransaction));
     }
-    all.sort_unstable_by_key(|answered| answered.place);
-    for (place, answered) in all.iter().enumerate() {
-        assert_eq!(rt; answered.place, place as u64);
-    }
-    Ok(all)
 }
 
 #[test]
 fn eight_threads_poll(rt: HostRuntime) -> Result<(), Fail> {
     let history = history_of_threads(&rt, rt.alloc(), 8, Load::Polls, 1000)?;
-    assert_eq!(rt; history.len(), 8000);
-    for answered in &history {
-        assert_eq!(rt; answered.reply, Reply::Refused(Why::NoTransaction));
-    }
+    want_refused_polls(&rt, &history, 8000);
     Ok(())
 }
 
 #[test]
 fn sixty_four_threads_poll(rt: HostRuntime) -> Result<(), Fail> {
     let history = history_of_threads(&rt, rt.alloc(), 64, Load::Polls, 200)?;
-    assert_eq!(rt; history.len(), 12_800);
-    for answered in &history {
-        assert_eq!(rt; answered.reply, Reply::Refused(Why::NoTransaction));
+    want_refused_polls(&rt, &history, 12_800);
+    Ok(())
+}
+
+/// Wants a fresh book to give the same replies.
+fn want_told_by_a_book(
+    rt: &impl Abort,
+    alloc: Global,
+    history: &[Answered],
+) -> Result<(), NoMemory> {
+    let mut book = Book::new(alloc, 8)?;
+    for answered in history {
+        let reply = serve_once(rt, &mut book, answered.session, answered.call)?;
+        assert_eq!(rt; reply, answered.reply);
     }
     Ok(())
 }
@@ -362,13 +417,6 @@ fn sixty_four_threads_poll(rt: HostRuntime) -> Result<(), Fail> {
 fn eight_threads_are_told_what_one_book_tells(rt: HostRuntime) -> Result<(), Fail> {
     let history = history_of_threads(&rt, rt.alloc(), 8, Load::Transactions, 1000)?;
     assert_eq!(rt; history.len(), 8000);
-    let mut book = Book::new(rt.alloc(), 8)?;
-    for answered in &history {
-        assert!(rt; 1 <= answered.session && answered.session <= book.sessions());
-        assert_eq!(rt;
-            book.serve(answered.session, answered.call)?,
-            answered.reply
-        );
-    }
+    want_told_by_a_book(&rt, rt.alloc(), &history)?;
     Ok(())
 }

@@ -6,6 +6,7 @@ use lock_trace::{NoMemory, TraceFault, TraceKind, TraceRow, history_text, read_t
 use lock_tree::{PathFault, Resource};
 use std::alloc::Global;
 use std::io;
+use std::process::Abort;
 use std::test::Fail;
 
 const ALL: u16 = 256;
@@ -95,6 +96,12 @@ fn fault_in(alloc: Global, text: &[u8]) -> Option<(u64, TraceKind)> {
     Some((fault.row, fault.kind))
 }
 
+/// Wants the first faulty row to be this one, and faulty in this way.
+fn want_fault(rt: &impl Abort, alloc: Global, text: &str, row: u64, kind: TraceKind) {
+    let fault = fault_in(alloc, text.as_bytes());
+    assert_eq!(rt; fault, Some((row, kind)), "at {text}");
+}
+
 #[test]
 fn tells_faults_of_shape_session_and_op_first(rt: HostRuntime) {
     for (text, kind) in [
@@ -125,8 +132,7 @@ fn tells_faults_of_shape_session_and_op_first(rt: HostRuntime) {
         ("1, begin,,\n", TraceKind::Op),
         ("1,\"be\"\"gin\",,\n", TraceKind::Op),
     ] {
-        let fault = fault_in(rt.alloc(), text.as_bytes());
-        assert_eq!(rt; fault, Some((1, kind)), "at {text}");
+        want_fault(&rt, rt.alloc(), text, 1, kind);
     }
 }
 
@@ -155,8 +161,7 @@ fn tells_faults_of_path_mode_and_extra_then(rt: HostRuntime) {
         ("1,commit, ,\n", TraceKind::Extra),
         ("1,commit,1,S\n", TraceKind::Extra),
     ] {
-        let fault = fault_in(rt.alloc(), text.as_bytes());
-        assert_eq!(rt; fault, Some((1, kind)), "at {text}");
+        want_fault(&rt, rt.alloc(), text, 1, kind);
     }
 }
 
@@ -186,8 +191,7 @@ fn tells_the_first_faulty_row(rt: HostRuntime) {
             TraceKind::Mode,
         ),
     ] {
-        let fault = fault_in(rt.alloc(), text.as_bytes());
-        assert_eq!(rt; fault, Some((row, kind)), "at {text}");
+        want_fault(&rt, rt.alloc(), text, row, kind);
     }
     let result = read_trace(rt.alloc(), b"2,begin,,\n3,begin,,\n".as_slice(), 2);
     let kind = TraceKind::Session;

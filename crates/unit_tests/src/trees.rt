@@ -1,23 +1,29 @@
 //! Texts, order and size, by hand.
 
 use lock_tree::{LEVELS, NumeralFault, PathFault, Resource, parse_numeral};
+use std::alloc::Global;
 use std::cmp::Ordering;
+use std::process::Abort;
 use std::test::Fail;
 
 const HUNDRED_DIGITS: &str = "99999999999999999999999999999999999999999999999999\
     99999999999999999999999999999999999999999999999999";
 
+/// The text is read as these numbers, and written again.
+fn want_numbers(rt: &impl Abort, alloc: Global, text: &str, numbers: &[u32]) -> Result<(), Fail> {
+    let resource = Resource::parse(text)?;
+    assert_eq!(rt; resource.numbers(), numbers, "at {text}");
+    assert_eq!(rt; resource.level() as usize, numbers.len(), "at {text}");
+    assert_eq!(rt; resource.to_string(alloc)?.as_str(), text);
+    Ok(())
+}
+
 #[test]
 fn reads_numbers(rt: HostRuntime) -> Result<(), Fail> {
     for (text, number) in [("0", 0), ("7", 7), ("10", 10), ("4294967295", 4294967295)] {
-        let resource = Resource::parse(text)?;
-        assert_eq!(rt; resource.numbers(), [number].as_slice(), "at {text}");
-        assert_eq!(rt;
-            Some(resource),
-            Resource::from_numbers(&[number]),
-            "at {text}"
-        );
-        assert_eq!(rt; resource.to_string(rt.alloc())?.as_str(), text);
+        want_numbers(&rt, rt.alloc(), text, &[number])?;
+        let resource = Resource::from_numbers(&[number]);
+        assert_eq!(rt; resource, Resource::parse(text).ok(), "at {text}");
     }
     Ok(())
 }
@@ -29,19 +35,13 @@ fn reads_paths(rt: HostRuntime) -> Result<(), Fail> {
         ("1/2/3", [1, 2, 3].as_slice()),
         ("4294967295/0/0/10", [4294967295, 0, 0, 10].as_slice()),
     ] {
-        let resource = Resource::parse(text)?;
-        assert_eq!(rt; resource.numbers(), numbers, "at {text}");
-        assert_eq!(rt; resource.level() as usize, numbers.len(), "at {text}");
-        assert_eq!(rt; resource.to_string(rt.alloc())?.as_str(), text);
+        want_numbers(&rt, rt.alloc(), text, numbers)?;
     }
     Ok(())
 }
 
-#[test]
-fn stands_under_its_parent(rt: HostRuntime) -> Result<(), Fail> {
-    let database = Resource::parse("0")?;
-    let file = Resource::parse("0/4294967295")?;
-    let page = Resource::parse("0/4294967295/7")?;
+/// These three stand one under the other.
+fn want_line(rt: &impl Abort, database: Resource, file: Resource, page: Resource) {
     assert_eq!(rt; database.parent(), None);
     assert_eq!(rt; file.parent(), Some(database));
     assert_eq!(rt; page.parent(), Some(file));
@@ -49,11 +49,27 @@ fn stands_under_its_parent(rt: HostRuntime) -> Result<(), Fail> {
     assert!(rt; file.is_ancestor_of(&page));
     assert!(rt; !page.is_ancestor_of(&page));
     assert!(rt; !page.is_ancestor_of(&file));
-    assert!(rt; !Resource::parse("1")?.is_ancestor_of(&page));
     assert!(rt; database < file);
     assert!(rt; file < page);
-    assert!(rt; page < Resource::parse("1")?);
+}
+
+#[test]
+fn stands_under_its_parent(rt: HostRuntime) -> Result<(), Fail> {
+    let page = Resource::parse("0/4294967295/7")?;
+    want_line(
+        &rt,
+        Resource::parse("0")?,
+        Resource::parse("0/4294967295")?,
+        page,
+    );
+    let other = Resource::parse("1")?;
+    assert!(rt; !other.is_ancestor_of(&page));
+    assert!(rt; page < other);
     Ok(())
+}
+
+fn want_fault(rt: &impl Abort, text: &str, fault: PathFault) {
+    assert_eq!(rt; Resource::parse(text), Err(fault), "at {text}");
 }
 
 #[test]
@@ -84,7 +100,7 @@ fn tells_faults(rt: HostRuntime) {
         ("00", PathFault::LeadingZero),
         ("01", PathFault::LeadingZero),
     ] {
-        assert_eq!(rt; Resource::parse(text), Err(fault), "at {text}");
+        want_fault(&rt, text, fault);
     }
 }
 
