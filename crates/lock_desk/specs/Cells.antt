@@ -1,6 +1,6 @@
 -- Private parts speak to one another here, and no public contract of this crate: what
 -- the cells say of a resource, and what is done there.
-use Rattle.std.specs.Prelude.{◌≡◌, ℕ, ◌+◌, ◌<◌, ◌≤◌, Bool, true, false, not, ◌&&◌, ◌||◌, if◌then◌else◌, ◌==◌, nat_lt, List, [], ◌∷◌, ◌++◌, filter, map, length, slice_get, slice_index_or, Option, Some, None, IfSome, vec_len, vec_capacity}
+use Rattle.std.specs.Prelude.{◌≡◌, ℕ, ◌+◌, ◌≤◌, Bool, true, false, not, ◌&&◌, ◌||◌, if◌then◌else◌, ◌==◌, nat_lt, List, [], ◌∷◌, ◌++◌, filter, map, length, slice_get, Option, Some, None, IfSome, vec_len, vec_capacity}
 use Rattle.std.specs.List.{All, list_any, list_all}
 use Rattle.std.specs.Map.{lookup}
 use Rattle.std.specs.Global.{Vec}
@@ -57,14 +57,6 @@ go_with m hs = list_all (λ h. are_compatible m h.mode) hs
 -- the session numbers rise
 abbrev pub Ascends : List SessionMode → Type 0
 Ascends hs = ascend (map pair_of hs) ≡ true
-
--- the first ones, so many, are of lesser sessions
-abbrev pub AreLesser : ℕ → ℕ → List SessionMode → Type 0
-AreLesser s n cs = (i : ℕ) (d : SessionMode) → i < n → (slice_index_or cs i d).session < s
-
--- and those behind them are not
-abbrev pub AreOthers : ℕ → ℕ → List SessionMode → Type 0
-AreOthers s n cs = (i : ℕ) (d : SessionMode) → n ≤ i → i < length cs → s ≤ (slice_index_or cs i d).session
 
 -- one resource
 
@@ -132,7 +124,7 @@ view_of c = record { holders = c.holders.items; waiting = c.waiting.items }
 
 -- each holder and each waiting session has room among the holders
 abbrev pub HasRoom : Cell → Type 0
-HasRoom c = vec_len c.holders + vec_len c.waiting ≤ vec_capacity c.holders
+HasRoom c = length c.holders.items + vec_len c.waiting ≤ c.holders.capacity
 
 -- holders stand by session number, no session waits for it twice, and sessions are numbered from 1
 pub record IsOnce (v : View) : Type 0 where
