@@ -1,31 +1,22 @@
 -- Codes of several modes in one byte, and masks that meet none of them.
-use Rattle.std.proofs.Common.{◌≡◌, ℕ, ◌+◌, ◌<◌, Bool, true, false, ◌&&◌, ◌||◌, eqb, List, [], ◌∷◌, ◌++◌, length, get_or, take, refl, sym, ◌∙◌, ap, arith, bit_and, bit_or}
+use Rattle.std.proofs.Common.{◌≡◌, ℕ, ◌+◌, ◌<◌, Bool, true, false, ◌&&◌, ◌||◌, eqb, List, [], ◌∷◌, map, refl, sym, ◌∙◌, ap, arith, bit_and, bit_or}
 use Rattle.std.proofs.lemmas.Bool.Decides.{Decides-eqb}
 use Rattle.std.proofs.lemmas.Nat.Bits.{bit_at_or, bit_at_and, bit_at-zero, same_from_bits}
-use Rattle.std.proofs.lemmas.Grind.{take_at_read}
 use Rattle.std.specs.Int.{bit_at}
-use Rattle.std.specs.Int.Bits.{or_zero_l, or_zero_r}
 use Rattle.lock_modes.specs.declared.Mode.{Mode}
 use Rattle.lock_modes.specs.Compatibility.{are_compatible}
 use Rattle.lock_modes.specs.Codes.{code_of, mask_of}
 use Rattle.lock_modes.proofs.Codes.{mask-same}
+use Rattle.mode_lanes.specs.Masks.{union_of}
 use Rattle.lock_desk.specs.declared.cells.SessionMode.{SessionMode}
+use Rattle.lock_desk.specs.Columns.{code_at}
 use Rattle.lock_desk.specs.Cells.{codes_among, fits_among}
 use Rattle.lock_desk.specs.Runs.{HasBits}
 
-or_assoc : (a b c : ℕ) → bit_or (bit_or a b) c ≡ bit_or a (bit_or b c)
-or_assoc a b c = same_from_bits _ _ (λ i. omega (arith, bit_at_or (bit_or a b) c i, bit_at_or a b i, bit_at_or a (bit_or b c) i, bit_at_or b c i))
-
-codes-append : (xs ys : List SessionMode) → codes_among (xs ++ ys) ≡ bit_or (codes_among xs) (codes_among ys)
-codes-append [] ys = sym (or_zero_l (codes_among ys))
-codes-append (x ∷ xs) ys = ap (bit_or (code_of x.mode)) (codes-append xs ys) ∙ sym (or_assoc (code_of x.mode) (codes_among xs) (codes_among ys))
-
--- the codes of one holder more
-pub codes-item : (hs : List SessionMode) (k : ℕ) (d : SessionMode) → k < length hs → codes_among (take (k + 1) hs) ≡ bit_or (codes_among (take k hs)) (code_of (get_or hs k d).mode)
-codes-item hs k d lt =
-    ap codes_among (take_at_read hs k d lt).1
-    ∙ (codes-append (take k hs) (get_or hs k d ∷ [])
-    ∙ ap (bit_or (codes_among (take k hs))) (or_zero_r (code_of (get_or hs k d).mode)))
+-- the codes of holders are those of the column
+pub codes-column : (hs : List SessionMode) → union_of (map code_at hs) ≡ codes_among hs
+codes-column [] = refl
+codes-column (h ∷ hs) = ap (bit_or (code_of h.mode)) (codes-column hs)
 
 -- bits that are set
 

@@ -3,6 +3,8 @@
 pub mod SessionModes
 -- holders whose session numbers rise
 pub mod Rising
+-- two columns side by side
+pub mod Columns
 -- one resource: a grant, a request, a release
 pub mod ResourceViews
 -- the table of cells after a change of one of them

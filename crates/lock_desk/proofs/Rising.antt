@@ -1,13 +1,16 @@
 -- Holders whose session numbers rise: where one stands is found by a search, and a mode that goes with itself fits again.
-use Rattle.std.proofs.Common.{◌≡◌, ℕ, zero, suc, ◌+◌, ◌<◌, ◌≤◌, Bool, true, false, cond, not, eqb, inl, inr, List, [], ◌∷◌, ◌++◌, length, get_or, take, drop, insert, map, refl, sym, ◌∙◌, ap, arith}
+use Rattle.std.proofs.Common.{◌≡◌, ℕ, zero, suc, ◌+◌, ◌<◌, ◌≤◌, Bool, true, false, cond, not, eqb, ◌&&◌, ◌||◌, inl, inr, List, [], ◌∷◌, ◌++◌, length, get_or, take, drop, insert, remove, set, map, Some, None, is_some, nat_lt, refl, sym, ◌∙◌, ap, arith}
 use Rattle.std.proofs.lemmas.Bool.Decides.{nat_tests, Decides-eqb}
-use Rattle.std.proofs.lemmas.Bool.{and_parts, and_from, cases_Bool, cases_lt, cases_order}
-use Rattle.std.proofs.lemmas.List.{get_or_default, drop_more, take_all, drop_all}
+use Rattle.std.proofs.lemmas.Bool.{and_parts, and_from, cases_Bool, cases_lt}
+use Rattle.std.proofs.lemmas.List.{get_or_default}
 use Rattle.lock_modes.specs.Compatibility.{are_compatible}
 use Rattle.lock_rules.specs.Sound.{after, ascend}
 use Rattle.lock_rules.proofs.Lists.{after-trans}
+use Rattle.lock_modes.specs.declared.Mode.TheVariants.{NL}
 use Rattle.lock_desk.specs.declared.cells.SessionMode.{SessionMode}
-use Rattle.lock_desk.specs.Cells.{pair_of, with_holder, without, fits_among, go_with, Ascends, AreLesser, AreOthers}
+use Rattle.lock_desk.specs.Cells.{pair_of, has_session, mode_of, with_holder, without, fits_among, go_with, Ascends}
+use Rattle.lock_desk.specs.Holders.{AreLesser, IsOwn, IsBetween}
+use Rattle.lock_desk.proofs.SessionModes.{with_holder-set, mode-has}
 
 -- each of them has a greater session number
 abbrev pub IsAfter : ℕ → List SessionMode → Type 0
@@ -58,44 +61,35 @@ lesser-with c (k ∷ hs) (suc n) l le =
     let rest = lesser-with c hs n (λ i d lt. l (suc i) d (omega arith)) (omega arith) in
     grind (arith, nat_tests)
 
--- a holder of a lesser session, and those before it
-pub lesser-more : (s : ℕ) (hs : List SessionMode) (m : ℕ) (x : SessionMode) → Ascends hs → m < length hs → (get_or hs m x).session < s → AreLesser s (m + 1) hs
-lesser-more s hs m x a lt less i d le =
-    let k = ap (λ (c : SessionMode). c.session) (get_or_default hs m d x lt) in
-    elim (cases_order i m) [
-      | inl e ↦ rw e (omega (arith, less, k))
-      | inr o ↦ elim o [
-        | inl l ↦ omega (arith, rising-at hs i m d a l lt, less, k)
-        | inr l ↦ absurd (omega arith)
-      ]
-    ]
-
--- a holder of no lesser session, and those behind it
-pub others-more : (s : ℕ) (hs : List SessionMode) (m : ℕ) (x : SessionMode) → Ascends hs → m < length hs → s ≤ (get_or hs m x).session → AreOthers s m hs
-others-more s hs m x a lt less i d le within =
-    let k = ap (λ (c : SessionMode). c.session) (get_or_default hs m d x lt) in
-    elim (cases_order m i) [
-      | inl e ↦ rw (← e) (omega (arith, less, k))
-      | inr o ↦ elim o [
-        | inl l ↦ omega (arith, rising-at hs m i d a l within, less, k)
-        | inr l ↦ absurd (omega arith)
-      ]
-    ]
-
--- behind all it is the last
-pub with-last : (c : SessionMode) (hs : List SessionMode) (n : ℕ) → n ≡ length hs → AreLesser c.session n hs → hs ++ c ∷ [] ≡ with_holder c hs
-with-last c hs n e l = sym (lesser-with c hs n l (omega (arith, e)) ∙ (λ i. take_all n hs (omega (arith, e)) i ++ with_holder c (drop_all n hs (omega (arith, e)) i)))
-
--- or before the first that isn't of a lesser session
-pub with-between : (c : SessionMode) (hs : List SessionMode) (n : ℕ) (h : SessionMode) → n < length hs → AreLesser c.session n hs → h ≡ get_or hs n h → c.session < h.session → insert hs n c ≡ with_holder c hs
-with-between c hs n h lt l at more =
-    let d : drop n hs ≡ h ∷ drop (n + 1) hs = drop_more hs n h lt ∙ ap (λ (x : SessionMode). x ∷ drop (n + 1) hs) (sym at) in
-    ap (λ (xs : List SessionMode). take n hs ++ c ∷ xs) d
-    ∙ (ap (λ (xs : List SessionMode). take n hs ++ xs) (sym (first (drop (n + 1) hs)))
-    ∙ (ap (λ (xs : List SessionMode). take n hs ++ with_holder c xs) (sym d) ∙ sym (lesser-with c hs n l (omega (arith, lt)))))
+-- or before the first that is of a greater session
+pub with-between : (c : SessionMode) (hs : List SessionMode) (n : ℕ) → IsBetween c.session hs n → insert hs n c ≡ with_holder c hs
+with-between c [] zero b = refl
+with-between c (k ∷ hs) zero b = let more = b.greater 0 k (omega arith) (omega arith) in grind (arith, nat_tests)
+with-between c [] (suc n) b = absurd (let w = b.within in omega (arith, w))
+with-between c (k ∷ hs) (suc n) b =
+    let less : k.session < c.session = b.lesser 0 k (omega arith) in
+    let rest : insert hs n c ≡ with_holder c hs = with-between c hs n (record {
+      within = let w = b.within in omega (arith, w);
+      lesser = λ i d l. b.lesser (suc i) d (omega (arith, l));
+      greater = λ i d l w. b.greater (suc i) d (omega (arith, l)) (omega (arith, w));
+    }) in
+    ap (λ (xs : List SessionMode). k ∷ xs) rest ∙ sym (passed (eqb k.session c.session) (nat_lt c.session k.session) (grind (arith, nat_tests)) (grind (arith, nat_tests)))
   where
-    first : (xs : List SessionMode) → with_holder c (h ∷ xs) ≡ c ∷ h ∷ xs
-    first xs = grind (arith, nat_tests)
+    passed : (x y : Bool) → x ≡ false → y ≡ false → cond x (c ∷ hs) (cond y (c ∷ k ∷ hs) (k ∷ with_holder c hs)) ≡ k ∷ with_holder c hs
+    passed x y e f = rw (e, f) refl
+
+-- where it stands, its own lock is replaced
+pub with-own : (c : SessionMode) (hs : List SessionMode) (n : ℕ) → IsOwn c.session hs n → set hs n c ≡ with_holder c hs
+with-own c hs n o =
+    with_holder-set hs n c (get_or hs n c) o.within (get_or_default hs n c (get_or hs n c) o.within) (o.here c) (lesser-with c hs n o.lesser (let w = o.within in omega (arith, w)))
+
+pub length-with : (c : SessionMode) (hs : List SessionMode) → length (with_holder c hs) ≤ length hs + 1
+length-with c [] = omega arith
+length-with c (k ∷ hs) = grind (arith, nat_tests, length-with c hs)
+
+pub length-without : (s : ℕ) (hs : List SessionMode) → length (without s hs) ≤ length hs
+length-without s [] = omega arith
+length-without s (k ∷ hs) = grind (arith, nat_tests, length-without s hs)
 
 -- whoever isn't among them leaves all
 without-all : (s : ℕ) (hs : List SessionMode) → ((i : ℕ) (d : SessionMode) → i < length hs → (get_or hs i d).session ≡ s → ⊥) → without s hs ≡ hs
@@ -124,6 +118,85 @@ left-one s (k ∷ hs) (suc n) lt lesser at greater =
     let e : eqb k.session s ≡ false = grind (arith, nat_tests) in
     ap (λ (xs : List SessionMode). k ∷ xs) (left-one s hs n (omega arith) (λ i d l. lesser (suc i) d (omega arith)) at (λ i d l f. greater (suc i) d (omega arith) (omega arith)))
     ∙ sym (ap (λ (c : Bool). cond (not c) (k ∷ without s hs) (without s hs)) e)
+
+-- nobody there is the session where it stands between others
+pub none-there : (s : ℕ) (hs : List SessionMode) (n : ℕ) → IsBetween s hs n → (i : ℕ) (d : SessionMode) → i < length hs → (get_or hs i d).session ≡ s → ⊥
+none-there s hs n b i d lt e = elim (cases_lt i n) [
+  | inl l ↦ (let a = b.lesser i d l in omega (arith, a, e))
+  | inr l ↦ (let a = b.greater i d l lt in omega (arith, a, e))
+]
+
+pub left-own : (s : ℕ) (hs : List SessionMode) (n : ℕ) → IsOwn s hs n → remove hs n ≡ without s hs
+left-own s hs n o = left-one s hs n o.within o.lesser o.here o.greater
+
+pub left-between : (s : ℕ) (hs : List SessionMode) (n : ℕ) → IsBetween s hs n → without s hs ≡ hs
+left-between s hs n b = without-all s hs (none-there s hs n b)
+
+-- what it holds where it stands
+pub mode-own : (s : ℕ) (hs : List SessionMode) (n : ℕ) (d : SessionMode) → IsOwn s hs n → mode_of s hs ≡ Some (get_or hs n d).mode
+mode-own s [] n d o = absurd (let w = o.within in omega (arith, w))
+mode-own s (k ∷ hs) zero d o = ap (λ (b : Bool). cond b (Some k.mode) (mode_of s hs)) ((Decides-eqb k.session s).1 (o.here d))
+mode-own s (k ∷ hs) (suc n) d o =
+    let less : k.session < s = o.lesser 0 k (omega arith) in
+    let other : eqb k.session s ≡ false = grind (arith, nat_tests) in
+    ap (λ (b : Bool). cond b (Some k.mode) (mode_of s hs)) other ∙ mode-own s hs n d (record {
+      within = let w = o.within in omega (arith, w);
+      lesser = λ i e l. o.lesser (suc i) e (omega (arith, l));
+      here = o.here;
+      greater = λ i e l w. o.greater (suc i) e (omega (arith, l)) (omega (arith, w));
+    })
+
+mode-nowhere : (s : ℕ) (hs : List SessionMode) → ((i : ℕ) (d : SessionMode) → i < length hs → (get_or hs i d).session ≡ s → ⊥) → mode_of s hs ≡ None
+mode-nowhere s [] n = refl
+mode-nowhere s (k ∷ hs) n = go (eqb k.session s) refl (mode-nowhere s hs (λ i d lt. n (suc i) d (omega (arith, lt))))
+  where
+    go : (b : Bool) → eqb k.session s ≡ b → mode_of s hs ≡ None → mode_of s (k ∷ hs) ≡ None
+    go true e rest = absurd (n 0 k (omega arith) ((Decides-eqb k.session s).0 e))
+    go false e rest = ap (λ (c : Bool). cond c (Some k.mode) (mode_of s hs)) e ∙ rest
+
+pub mode-between : (s : ℕ) (hs : List SessionMode) (n : ℕ) → IsBetween s hs n → mode_of s hs ≡ None
+mode-between s hs n b = mode-nowhere s hs (none-there s hs n b)
+
+-- whoever stands there is one of them
+pub has-own : (s : ℕ) (hs : List SessionMode) (n : ℕ) → IsOwn s hs n → has_session s hs ≡ true
+has-own s hs n o = sym (mode-has s hs) ∙ ap is_some (mode-own s hs n (record { session = 0; mode = NL }) o)
+
+pub has-between : (s : ℕ) (hs : List SessionMode) (n : ℕ) → IsBetween s hs n → has_session s hs ≡ false
+has-between s hs n b = sym (mode-has s hs) ∙ ap is_some (mode-between s hs n b)
+
+-- the mode of another session has to go with all holders
+fits-others : (c : SessionMode) (hs : List SessionMode) → ((i : ℕ) (d : SessionMode) → i < length hs → (get_or hs i d).session ≡ c.session → ⊥) → fits_among c hs ≡ go_with c.mode hs
+fits-others c [] n = refl
+fits-others c (k ∷ hs) n = go (eqb k.session c.session) refl (fits-others c hs (λ i d lt. n (suc i) d (omega (arith, lt))))
+  where
+    go : (b : Bool) → eqb k.session c.session ≡ b → fits_among c hs ≡ go_with c.mode hs → fits_among c (k ∷ hs) ≡ go_with c.mode (k ∷ hs)
+    go true e rest = absurd (n 0 k (omega arith) ((Decides-eqb k.session c.session).0 e))
+    go false e rest = ap (λ (x : Bool). (x || are_compatible c.mode k.mode) && fits_among c hs) e ∙ ap (λ (x : Bool). are_compatible c.mode k.mode && x) rest
+
+pub fits-between : (c : SessionMode) (hs : List SessionMode) (n : ℕ) → IsBetween c.session hs n → fits_among c hs ≡ go_with c.mode hs
+fits-between c hs n b = fits-others c hs (none-there c.session hs n b)
+
+-- and that of a holder with those before it and those behind it
+pub fits-own : (c : SessionMode) (hs : List SessionMode) (n : ℕ) → IsOwn c.session hs n → fits_among c hs ≡ (go_with c.mode (take n hs) && go_with c.mode (drop (suc n) hs))
+fits-own c [] n o = absurd (let w = o.within in omega (arith, w))
+fits-own c (k ∷ hs) zero o =
+    ap (λ (x : Bool). (x || are_compatible c.mode k.mode) && fits_among c hs) ((Decides-eqb k.session c.session).1 (o.here k))
+    ∙ fits-others c hs (λ i d lt e. let a = o.greater (suc i) d (omega arith) (omega (arith, lt)) in omega (arith, a, e))
+fits-own c (k ∷ hs) (suc n) o =
+    let less : k.session < c.session = o.lesser 0 k (omega arith) in
+    let other : eqb k.session c.session ≡ false = grind (arith, nat_tests) in
+    let rest = fits-own c hs n (record {
+      within = let w = o.within in omega (arith, w);
+      lesser = λ i d l. o.lesser (suc i) d (omega (arith, l));
+      here = o.here;
+      greater = λ i d l w. o.greater (suc i) d (omega (arith, l)) (omega (arith, w));
+    }) in
+    ap (λ (x : Bool). (x || are_compatible c.mode k.mode) && fits_among c hs) other
+    ∙ (ap (λ (x : Bool). are_compatible c.mode k.mode && x) rest ∙ sym (and-assoc (are_compatible c.mode k.mode) (go_with c.mode (take n hs)) (go_with c.mode (drop (suc n) hs))))
+  where
+    and-assoc : (x y z : Bool) → ((x && y) && z) ≡ (x && (y && z))
+    and-assoc true y z = refl
+    and-assoc false y z = refl
 
 -- a mode that goes with all holders fits
 pub go-fits : (c : SessionMode) (hs : List SessionMode) → go_with c.mode hs ≡ true → fits_among c hs ≡ true

@@ -59,14 +59,6 @@ go_with m hs = list_all (λ h. are_compatible m h.mode) hs
 abbrev pub Ascends : List SessionMode → Type 0
 Ascends hs = ascend (map pair_of hs) ≡ true
 
--- the first ones, so many, are of lesser sessions
-abbrev pub AreLesser : ℕ → ℕ → List SessionMode → Type 0
-AreLesser s n cs = (i : ℕ) (d : SessionMode) → i < n → (slice_index_or cs i d).session < s
-
--- and those behind them are not
-abbrev pub AreOthers : ℕ → ℕ → List SessionMode → Type 0
-AreOthers s n cs = (i : ℕ) (d : SessionMode) → n ≤ i → i < length cs → s ≤ (slice_index_or cs i d).session
-
 -- one resource
 
 -- the holders of a resource, and its queue
@@ -146,11 +138,11 @@ view_of c = record { holders = c.holders.items; waiting = c.waiting.items }
 
 -- each holder and each waiting session has room among the holders
 abbrev pub HasRoom : Cell → Type 0
-HasRoom c = vec_len c.holders + vec_len c.waiting ≤ vec_capacity c.holders
+HasRoom c = length c.holders.items + vec_len c.waiting ≤ c.holders.capacity
 
 -- and so many more have it too
 abbrev pub HasRoomFor : ℕ → Cell → Type 0
-HasRoomFor n c = vec_len c.holders + vec_len c.waiting + n ≤ vec_capacity c.holders
+HasRoomFor n c = length c.holders.items + vec_len c.waiting + n ≤ c.holders.capacity
 
 -- holders stand by session number, no session waits for it twice, and sessions are numbered from 1
 pub record IsOnce (v : View) : Type 0 where

@@ -2,7 +2,9 @@
 pub mod Kept
 pub mod Batches
 -- what private parts say to one another
+pub mod Holders
 pub mod Cells
+pub mod Columns
 pub mod Tables
 pub mod ChildCounts
 pub mod LockLists

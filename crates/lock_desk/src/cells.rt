@@ -5,9 +5,11 @@ ghost use Rattle.std.specs.Option.{option_copied};
 ghost use Rattle.waits_for.specs.Pairs.{pairs_of};
 ghost use Rattle.lock_tree.specs.Paths.{same_path};
 ghost use Rattle.lock_desk.specs.declared.cells.SessionMode.{SessionMode as SessionModeValue};
-ghost use Rattle.lock_desk.specs.Cells.{View, no_view, view_of, has_session, mode_of, pair_of, with_holder, view_after_giving_up, without, fits_among, go_with, Ascends, AreLesser, AreOthers, next_grant, can_grant, is_granted, behind_conversions, queue_with, view_after_asking, HasRoom, IsKeptCell, AreKeptCells, is_busy, is_nobody, codes_among, codes_unless_waited, view_with_holder, HasRoomFor};
-ghost use Rattle.lock_desk.specs.Finding.{holder_blocks, stands_first, cell_blocks, AreOfSessions};
+ghost use Rattle.lock_desk.specs.Cells.{View, no_view, view_of, has_session, mode_of, pair_of, with_holder, view_after_giving_up, without, fits_among, go_with, Ascends, next_grant, can_grant, is_granted, behind_conversions, queue_with, view_after_asking, view_with_holder, codes_unless_waited, is_nobody, HasRoom, HasRoomFor, IsKeptCell, AreKeptCells, is_busy};
+ghost use Rattle.lock_desk.specs.Holders.{IsPlaceOf};
+ghost use Rattle.lock_desk.specs.Finding.{stands_first, cell_blocks, AreOfSessions};
 
+use crate::holders::{Holders, Place};
 use crate::positions::position_of;
 use lock_modes::Mode;
 use lock_tree::{Resource, same_path_is_equality};
@@ -44,7 +46,7 @@ pub enum RequestStatus {
 /// promotion takes no memory.
 #[derive(Drop)]
 pub struct Cell {
-    holders: Vec<SessionMode>,
+    holders: Holders,
     waiting: Vec<SessionMode>,
 }
 
@@ -53,12 +55,6 @@ pub(crate) fn is_same(a: Resource, b: Resource) -> bool
 {
     same_path_is_equality();
     a == b
-}
-
-pub(crate) fn is_among(list: &[SessionMode], session: u16) -> bool
-    ensures { result ≡ has_session session list.now }
-{
-    list.iter().any(|one| one.session == session)
 }
 
 /// The mode of the session among them.
@@ -82,14 +78,6 @@ fn is_mode(shared: Option<Mode>, mode: Mode) -> bool
     }
 }
 
-/// Whether the asker's mode is compatible with what each other session holds.
-pub(crate) fn fits(holders: &[SessionMode], asker: SessionMode) -> bool
-    ensures { result ≡ fits_among asker holders.now }
-{
-    holders.iter().all(|held| held.session == asker.session
-        || Mode::compatible(asker.mode, held.mode))
-}
-
 fn insert_at(list: &mut Vec<SessionMode>, index: usize, one: SessionMode)
     requires index { index ≤ vec_len list.old }
     requires room { vec_len list.old < vec_capacity list.old }
@@ -100,92 +88,18 @@ fn insert_at(list: &mut Vec<SessionMode>, index: usize, one: SessionMode)
     let _inserted = list.insert(index, one);
 }
 
-/// How many of the holders have a lesser session number.
-fn rank(holders: &[SessionMode], session: u16) -> usize
-    requires rising { Ascends holders.now }
-    ensures within { result ≤ length holders.now }
-    ensures lesser { AreLesser session result holders.now }
-    ensures others { AreOthers session result holders.now }
-{
-    let mut low = 0;
-    let mut high = holders.len();
-    while low < high {
-        let middle = low + (high - low) / 2;
-        if holders[middle].session < session {
-            low = middle + 1;
-        } else {
-            high = middle;
-        }
-    }
-    low
-}
-
-/// The holder replaces the session's own lock, or comes between its neighbours by session number.
-pub(crate) fn put(holders: &mut Vec<SessionMode>, holder: SessionMode)
-    requires rising { Ascends holders.old.items }
-    requires room { vec_len holders.old < vec_capacity holders.old }
-    ensures items { holders.new.items ≡ with_holder holder holders.old.items }
-    ensures len { vec_len holders.new ≤ vec_len holders.old + 1 }
-    ensures capacity { vec_capacity holders.old ≤ vec_capacity holders.new }
-{
-    let index = rank(holders, holder.session);
-    if index == holders.len() {
-        holders.push_reserved(holder);
-        return;
-    }
-    let session = holders[index].session;
-    if session == holder.session {
-        holders[index] = holder;
-        return;
-    }
-    insert_at(holders, index, holder);
-}
-
-/// The session's lock is taken away, if it is among them: its place is found by a search in the session numbers.
-fn leave(holders: &mut Vec<SessionMode>, session: u16)
-    requires rising { Ascends holders.old.items }
-    ensures items { holders.new.items ≡ without session holders.old.items }
-    ensures len { vec_len holders.new ≤ vec_len holders.old }
-    ensures capacity { vec_capacity holders.new ≡ vec_capacity holders.old }
-{
-    let index = rank(holders, session);
-    if index == holders.len() {
-        return;
-    }
-    let holder = holders[index].session;
-    if holder == session {
-        let _left = holders.remove(index);
-    }
-}
-
 /// How many conversions wait: the index of the next one in the queue.
-fn conversions(holders: &[SessionMode], waiting: &[SessionMode]) -> usize
+fn conversions(holders: &Holders, waiting: &[SessionMode]) -> usize
     ensures within { result ≤ length waiting.now }
     ensures index { (asker : SessionModeValue)
-        → behind_conversions asker holders.now waiting.now ≡ insert waiting.now result asker }
+        → behind_conversions asker holders.now.items waiting.now ≡ insert waiting.now result asker }
 {
     for (index, request) in waiting.iter().enumerate() {
-        if !is_among(holders, request.session) {
+        if !holders.has(request.session) {
             return index;
         }
     }
     waiting.len()
-}
-
-/// Writes down the holders that the session waits for: those whose mode conflicts with its target.
-fn write_holders(rows: &mut Rows, holders: &[SessionMode], session: u16, target: Mode)
-    requires some { 1 ≤ session }
-    requires within { session ≤ rows.old.sessions }
-    requires numbered { AreOfSessions rows.old.sessions holders.now }
-    ensures sessions { rows.new.sessions ≡ rows.old.sessions }
-    ensures pairs { (a b : ℕ) → pairs_of rows.new a b
-        ≡ (pairs_of rows.old a b || ((a + 1 == session) && holder_blocks session target (b + 1) holders.now)) }
-{
-    for holder in holders {
-        if holder.session != session && !Mode::compatible(target, holder.mode) {
-            rows.set(position_of(session), position_of(holder.session));
-        }
-    }
 }
 
 /// Writes down the sessions whose requests stand before that of the session.
@@ -205,24 +119,13 @@ fn write_queue(rows: &mut Rows, waiting: &[SessionMode], session: u16)
     }
 }
 
-/// The bits of the codes of their modes.
-fn codes_among(holders: &[SessionMode]) -> u8
-    ensures { result ≡ codes_among holders.now }
-{
-    let mut codes = 0;
-    for holder in holders {
-        codes |= holder.mode.code();
-    }
-    codes
-}
-
 impl Cell {
     /// Nobody holds its resource, and nobody waits for it.
     pub(crate) fn new(alloc: Global) -> Cell
         ensures { view_of result ≡ no_view }
     {
         Cell {
-            holders: Vec::new(alloc),
+            holders: Holders::new(alloc),
             waiting: Vec::new(alloc),
         }
     }
@@ -234,15 +137,14 @@ impl Cell {
         ensures view { OnOk result (view_of self.new ≡ record { holders = holder ∷ []; waiting = [] }) }
         ensures kept { OnOk result (IsKeptCell self.new) }
     {
-        self.holders.push(holder)?;
-        Ok(())
+        self.holders.open(holder)
     }
 
     /// The mode that the session holds.
     pub(crate) fn mode_held(&self, session: u16) -> Option<Mode>
         ensures { result ≡ mode_of session (view_of self.now).holders }
     {
-        mode_among(&self.holders, session)
+        self.holders.mode_of(session)
     }
 
     /// The requests that wait, the next one first.
@@ -257,20 +159,14 @@ impl Cell {
         ensures ok { OnOk result (list.new.items ≡ map pair_of self.now.holders.items) }
         ensures err { OnErr result (list.new.items ≡ list.old.items) }
     {
-        let more = self.holders.len().saturating_sub(list.len());
-        list.reserve(more)?;
-        list.clear();
-        for holder in &self.holders {
-            list.push_reserved((holder.session, holder.mode));
-        }
-        Ok(())
+        self.holders.list(list)
     }
 
     /// Whether nobody holds the resource and nobody waits for it.
     pub(crate) fn is_idle(&self) -> bool
         ensures { result ≡ not (is_busy (view_of self.now)) }
     {
-        self.holders.is_empty() && self.waiting.is_empty()
+        self.holders.len() == 0 && self.waiting.is_empty()
     }
 
     /// The request of the queue behind so many that were granted, where it fits. One in a mode that goes with all
@@ -283,7 +179,11 @@ impl Cell {
             return None;
         }
         let next = self.waiting[granted];
-        if is_mode(shared, next.mode) || fits(&self.holders, next) {
+        if is_mode(shared, next.mode) {
+            return Some(next);
+        }
+        let place = self.holders.place_of(next.session);
+        if self.holders.fits(place, next) {
             return Some(next);
         }
         None
@@ -293,15 +193,16 @@ impl Cell {
     /// holders.
     pub(crate) fn admit(&mut self, holder: SessionMode) -> Option<Mode>
         requires rising { Ascends self.old.holders.items }
-        requires room { vec_len self.old.holders < vec_capacity self.old.holders }
+        requires room { length self.old.holders.items < self.old.holders.capacity }
         requires fits { fits_among holder self.old.holders.items ≡ true }
         ensures shared { IfSome result (λ m. go_with m self.new.holders.items ≡ true) }
         ensures holders { self.new.holders.items ≡ with_holder holder self.old.holders.items }
-        ensures len { vec_len self.new.holders ≤ vec_len self.old.holders + 1 }
-        ensures capacity { vec_capacity self.old.holders ≤ vec_capacity self.new.holders }
+        ensures len { length self.new.holders.items ≤ length self.old.holders.items + 1 }
+        ensures capacity { self.old.holders.capacity ≤ self.new.holders.capacity }
         ensures waiting { self.new.waiting ≡ self.old.waiting }
     {
-        put(&mut self.holders, holder);
+        let place = self.holders.place_of(holder.session);
+        self.holders.put(place, holder);
         if Mode::compatible(holder.mode, holder.mode) {
             return Some(holder.mode);
         }
@@ -330,7 +231,7 @@ impl Cell {
         ensures room { HasRoom self.new }
     {
         match part {
-            Part::Lock => leave(&mut self.holders, session),
+            Part::Lock => self.holders.leave(session),
             Part::Request => self.waiting.retain(|request| request.session != session),
         }
     }
@@ -338,19 +239,32 @@ impl Cell {
     /// The request comes into the queue: a conversion behind those that wait, a fresh request at the end.
     fn enqueue(&mut self, asker: SessionMode)
         requires room { HasRoom self.old }
-        requires holders { vec_len self.old.holders + vec_len self.old.waiting < vec_capacity self.old.holders }
+        requires holders { length self.old.holders.items + vec_len self.old.waiting < self.old.holders.capacity }
         requires waiting { vec_len self.old.waiting < vec_capacity self.old.waiting }
         ensures view { let before = view_of self.old in view_of self.new ≡ record before {
           waiting = queue_with asker before.holders before.waiting;
         } }
         ensures room { HasRoom self.new }
     {
-        let index = if is_among(&self.holders, asker.session) {
+        let index = if self.holders.has(asker.session) {
             conversions(&self.holders, &self.waiting)
         } else {
             self.waiting.len()
         };
         insert_at(&mut self.waiting, index, asker);
+    }
+
+    /// Whether the asker, whose place this is, is granted its mode at once: it fits, and the asker is a holder or
+    /// nobody waits.
+    #[inline]
+    fn can_grant(&self, place: Place, asker: SessionMode) -> bool
+        requires { IsPlaceOf asker.session self.now.holders.items place }
+        ensures { result ≡ can_grant asker (view_of self.now) }
+    {
+        if self.waiting.is_empty() || place.is_own() {
+            return self.holders.fits(place, asker);
+        }
+        false
     }
 
     /// A session that doesn't wait for the cell's resource asks for it.
@@ -365,9 +279,9 @@ impl Cell {
     {
         let waiting = self.waiting.len();
         self.holders.reserve(waiting + 1)?;
-        let unhindered = self.waiting.is_empty() || is_among(&self.holders, asker.session);
-        if unhindered && fits(&self.holders, asker) {
-            put(&mut self.holders, asker);
+        let place = self.holders.place_of(asker.session);
+        if self.can_grant(place, asker) {
+            self.holders.put(place, asker);
             Ok(RequestStatus::Granted)
         } else {
             self.waiting.reserve(1)?;
@@ -387,7 +301,7 @@ impl Cell {
             ≡ (pairs_of rows.old a b || ((a + 1 == session) && cell_blocks session (b + 1) self.now)) }
     {
         if let Some(target) = mode_among(&self.waiting, session) {
-            write_holders(rows, &self.holders, session, target);
+            self.holders.write_waits(rows, session, target);
             write_queue(rows, &self.waiting, session);
         }
     }
@@ -399,7 +313,7 @@ impl Cell {
         if !self.waiting.is_empty() {
             return None;
         }
-        Some(codes_among(&self.holders))
+        Some(self.holders.codes())
     }
 
     /// Makes room for so many holders more, where nobody waits.
@@ -422,6 +336,7 @@ impl Cell {
         ensures room { (n : ℕ) → HasRoomFor (n + 1) self.old → HasRoomFor n self.new }
         ensures kept { IsKeptCell self.new }
     {
-        put(&mut self.holders, holder);
+        let place = self.holders.place_of(holder.session);
+        self.holders.put(place, holder);
     }
 }

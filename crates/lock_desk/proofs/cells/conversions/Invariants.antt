@@ -4,4 +4,4 @@ use Rattle.lock_desk.specs.Cells.{behind_conversions}
 use Rattle.lock_desk.proofs.cells.conversions.Given as goal
 
 abbrev pub invariant-loop-index : goal.invariant-loop-index
-invariant-loop-index l = (c : SessionMode) → behind_conversions c l.holders l.waiting ≡ take l.index l.waiting ++ behind_conversions c l.holders (drop l.index l.waiting)
+invariant-loop-index l = (c : SessionMode) → behind_conversions c l.holders.items l.waiting ≡ take l.index l.waiting ++ behind_conversions c l.holders.items (drop l.index l.waiting)

@@ -1,4 +1,4 @@
-use Rattle.std.proofs.Common.{◌≡◌, ◌+◌, ◌-◌, ◌≤◌, true, drop, vec_len, vec_capacity, IfSome}
+use Rattle.std.proofs.Common.{◌≡◌, ◌+◌, ◌-◌, ◌≤◌, true, length, drop, vec_len, IfSome}
 use Rattle.std.specs.List.{All}
 use Rattle.lock_desk.specs.Cells.{go_with, view_of, view_after_promotion, IsOnce}
 use Rattle.lock_desk.specs.Lockers.{standings_of, IsKeptLocker, AreSameOrGranted, DoAgree}
@@ -11,7 +11,7 @@ invariant-loop-next l =
     record {
       view : view_after_promotion now ≡ view_after_promotion (view_of l.initial.cell);
       passed : l.granted ≤ vec_len l.cell.waiting;
-      room : vec_len l.cell.holders + vec_len l.cell.waiting ≤ vec_capacity l.cell.holders + l.granted;
+      room : length l.cell.holders.items + vec_len l.cell.waiting ≤ l.cell.holders.capacity + l.granted;
       shared : IfSome l.shared (λ m. go_with m l.cell.holders.items ≡ true);
       once : IsOnce now;
       agree : DoAgree l.resource now (standings_of l.lockers.items);

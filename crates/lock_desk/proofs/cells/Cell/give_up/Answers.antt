@@ -5,11 +5,6 @@ use Rattle.lock_desk.specs.declared.cells.Part.{Part}
 use Rattle.lock_desk.specs.Cells.{view_of, without, view_after_giving_up}
 use Rattle.lock_desk.proofs.cells.Cell.give_up.Goals as goal
 
-pub returns-in-Lock-clause-view : goal.returns-in-Lock-clause-view
-returns-in-Lock-clause-view c =
-    ap (λ (xs : List SessionMode). record { holders = xs; waiting = c.args.self.now.waiting.items }) c.leave.ensures.items
-    ∙ sym (ap (λ (p : Part). view_after_giving_up p c.args.session (view_of c.args.self.now)) c.in-Lock.is)
-
 pub returns-in-Request-clause-view : goal.returns-in-Request-clause-view
 returns-in-Request-clause-view c =
     let e : c.retain.new.self.items ≡ without c.args.session c.args.self.now.waiting.items = filter_same _ _ _ (λ x b f' k. search rules) _ _ c.retain.ensures.filtered in

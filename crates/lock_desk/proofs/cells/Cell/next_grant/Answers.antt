@@ -5,7 +5,6 @@ use Rattle.lock_desk.specs.declared.cells.SessionMode.{SessionMode}
 use Rattle.lock_desk.specs.Cells.{fits_among, go_with, next_grant}
 use Rattle.lock_desk.proofs.Rising.{go-fits}
 use Rattle.lock_desk.proofs.cells.Cell.next_grant.Goals as goal
-use Rattle.lock_desk.proofs.cells.Cell.next_grant.Goals.{then-is_mode-via-then-is_mode, then-is_mode-via-else-is_mode+then-fits}
 
 pub returns-then-is_mode : goal.returns-then-is_mode
 returns-then-is_mode c =
@@ -14,8 +13,5 @@ returns-then-is_mode c =
     let next = c.index-next.result.now in
     let within : c.args.granted < length ws = omega (arith, c.if-granted-len.false, c.len.ensures, c.args.self.now.waiting.ok.0) in
     let first : drop c.args.granted ws ≡ next ∷ drop (c.args.granted + 1) ws = drop_more ws c.args.granted next within ∙ ap (λ (x : SessionMode). x ∷ drop (c.args.granted + 1) ws) (sym c.index-next.ensures) in
-    let fits : fits_among next hs ≡ true = elim c.then-is_mode.branch [
-      | then-is_mode-via-then-is_mode w ↦ go-fits next hs (subst (λ o. IfSome o (λ (m : Mode). go_with m hs ≡ true)) (c.is_mode.ensures w.if-is_mode.true) c.requires.shared)
-      | then-is_mode-via-else-is_mode+then-fits w ↦ ap (fits_among next) (sym w.deref.ensures.value) ∙ (sym w.fits.ensures ∙ w.if-fits.true)
-    ] in
+    let fits : fits_among next hs ≡ true = go-fits next hs (subst (λ o. IfSome o (λ (m : Mode). go_with m hs ≡ true)) (c.is_mode.ensures c.if-is_mode.true) c.requires.shared) in
     sym (ap (next_grant hs) first ∙ ap (λ (b : Bool). cond b (Some next) None) fits)

@@ -1,0 +1,255 @@
+-- Two columns side by side: what is read there, what comes and goes in both, and what a mask says of the codes.
+use Rattle.std.proofs.Common.{◌≡◌, ℕ, zero, suc, ◌+◌, ◌-◌, ◌<◌, ◌≤◌, Bool, true, false, not, eqb, ◌&&◌, ◌||◌, inl, inr, List, [], ◌∷◌, ◌++◌, length, get_or, take, drop, insert, remove, set, map, refl, sym, ◌∙◌, ap, subst, arith, bit_and}
+use Rattle.std.specs.List.{list_any}
+use Rattle.std.proofs.lemmas.Bool.{cases_order}
+use Rattle.std.proofs.lemmas.Nat.{and_comm}
+use Rattle.std.proofs.Math.Bool.{or-false}
+use Rattle.std.proofs.lemmas.Bool.Decides.{nat_tests}
+use Rattle.std.proofs.lemmas.List.Elements.{All-get_or}
+use Rattle.std.proofs.lemmas.List.Folds.{list_any-append}
+use Rattle.std.proofs.lemmas.List.{get_or_default, take_more, length-map, get_or-map, map-append, map-set, take-map, drop-map}
+use Rattle.std.proofs.Math.Seq.{map-set_same}
+use Rattle.mode_lanes.specs.Masks.{meets}
+use Rattle.lock_modes.specs.declared.Mode.{Mode}
+use Rattle.lock_modes.specs.declared.Mode.TheVariants.{NL, IS, IX, S, SIX, X}
+use Rattle.lock_modes.specs.Codes.{code_of, mask_of}
+use Rattle.lock_modes.specs.Compatibility.{are_compatible}
+use Rattle.lock_modes.proofs.Codes.{mask-same}
+use Rattle.lock_desk.specs.declared.cells.SessionMode.{SessionMode}
+use Rattle.lock_desk.specs.declared.holders.Holders.TheInside.{Inside}
+use Rattle.lock_desk.specs.Cells.{Ascends, with_holder, without, go_with}
+use Rattle.lock_desk.specs.Columns.{mode_in, number_at, code_at, side_by_side, holders_of, AreColumns, DoRise, AreBelow, AreNotBelow}
+use Rattle.lock_desk.specs.Finding.{holder_blocks, AreOfSessions}
+use Rattle.lock_desk.specs.Holders.{HolderList, AreLesser, IsOwn, IsBetween}
+use Rattle.lock_desk.proofs.Rising.{rising-at, ascends-with, ascends-without, with-own, with-between, left-own}
+
+pub mode_in-code : (m : Mode) → mode_in (code_of m) ≡ m
+mode_in-code NL = refl
+mode_in-code IS = refl
+mode_in-code IX = refl
+mode_in-code S = refl
+mode_in-code SIX = refl
+mode_in-code X = refl
+
+-- holders as two columns, and side by side again
+beside : (hs : List SessionMode) → side_by_side (map number_at hs) (map code_at hs) ≡ hs
+beside [] = refl
+beside (h ∷ hs) = λ i. record { session = h.session; mode = mode_in-code h.mode i } ∷ beside hs i
+
+-- the two columns are those of these holders, who rise
+pub record AreOf (ss cs : List ℕ) (hs : List SessionMode) : Type 0 where
+  pub sessions : ss ≡ map number_at hs
+  pub codes : cs ≡ map code_at hs
+  pub rising : Ascends hs
+
+pub beside-as : (ss cs : List ℕ) (hs : List SessionMode) → AreOf ss cs hs → side_by_side ss cs ≡ hs
+beside-as ss cs hs o = (λ i. side_by_side (o.sessions i) (o.codes i)) ∙ beside hs
+
+pub are-columns : (a : Inside) (hs : List SessionMode) → AreOf a.sessions.items a.codes.items hs → AreColumns a
+are-columns a hs o =
+    let e = beside-as a.sessions.items a.codes.items hs o in
+    record {
+      sessions = o.sessions ∙ ap (map number_at) (sym e);
+      codes = o.codes ∙ ap (map code_at) (sym e);
+      rising = subst Ascends (sym e) o.rising;
+    }
+
+-- as contracts see them
+pub columns-of : (a : Inside) (v : HolderList) → holders_of a ≡ v → AreColumns a → AreOf a.sessions.items a.codes.items v.items
+columns-of a v e k =
+    let same = ap (λ (w : HolderList). w.items) e in
+    record {
+      sessions = k.sessions ∙ ap (map number_at) same;
+      codes = k.codes ∙ ap (map code_at) same;
+      rising = subst Ascends same k.rising;
+    }
+
+-- both columns are as long as the holders
+pub as-long : (f : SessionMode → ℕ) (xs : List ℕ) (hs : List SessionMode) → xs ≡ map f hs → length xs ≡ length hs
+as-long f xs hs e = ap length e ∙ length-map hs f
+
+-- what stands at a place of a column
+pub reads : (f : SessionMode → ℕ) (xs : List ℕ) (hs : List SessionMode) → xs ≡ map f hs → (i d : ℕ) (h : SessionMode) → i < length hs → get_or xs i d ≡ f (get_or hs i h)
+reads f xs hs e i d h lt = ap (λ (ys : List ℕ). get_or ys i d) e ∙ get_or-map f hs i h d lt
+
+-- one comes into a column, or goes
+pub map-insert : (f : SessionMode → ℕ) (hs : List SessionMode) (i : ℕ) (h : SessionMode) → insert (map f hs) i (f h) ≡ map f (insert hs i h)
+map-insert f hs i h = (λ j. take-map f i hs j ++ f h ∷ drop-map f i hs j) ∙ sym (map-append f (take i hs) (h ∷ drop i hs))
+
+pub map-remove : (f : SessionMode → ℕ) (hs : List SessionMode) (i : ℕ) → remove (map f hs) i ≡ map f (remove hs i)
+map-remove f hs i = (λ j. take-map f i hs j ++ drop-map f (suc i) hs j) ∙ sym (map-append f (take i hs) (drop (suc i) hs))
+
+nobody : SessionMode
+nobody = record { session = 0; mode = NL }
+
+-- the numbers of holders that rise
+pub do-rise : (ss : List ℕ) (hs : List SessionMode) → ss ≡ map number_at hs → Ascends hs → DoRise ss
+do-rise ss hs e a i j d lt le =
+    let within : j < length hs = omega (arith, le, as-long number_at ss hs e) in
+    omega (arith, rising-at hs i j nobody a lt within, reads number_at ss hs e i d nobody (omega (arith, lt, within)), reads number_at ss hs e j d nobody within)
+
+lesser-of : (s n : ℕ) (ss : List ℕ) (hs : List SessionMode) → ss ≡ map number_at hs → n ≤ length hs → AreBelow s n ss → AreLesser s n hs
+lesser-of s n ss hs e le below i d lt = omega (arith, below i 0 lt, reads number_at ss hs e i 0 d (omega (arith, lt, le)))
+
+-- the session stands where its number does
+pub is-own : (s n x : ℕ) (ss : List ℕ) (hs : List SessionMode) → ss ≡ map number_at hs → Ascends hs → n < length ss → AreBelow s n ss → x ≡ get_or ss n x → x ≡ s → IsOwn s hs n
+is-own s n x ss hs e a lt below at own =
+    let within : n < length hs = omega (arith, lt, as-long number_at ss hs e) in
+    let here : (d : SessionMode) → (get_or hs n d).session ≡ s = λ d. sym (reads number_at ss hs e n x d within) ∙ (sym at ∙ own) in
+    record {
+      within = within;
+      lesser = lesser-of s n ss hs e (omega (arith, within)) below;
+      here = here;
+      greater = λ i d l le. omega (arith, rising-at hs n i d a l le, here d);
+    }
+
+-- where it does not, the session would come before the first that is greater
+pub is-between : (s n : ℕ) (ss : List ℕ) (hs : List SessionMode) → ss ≡ map number_at hs → Ascends hs → n ≤ length ss → AreBelow s n ss → AreNotBelow s n ss → ((d : ℕ) → n < length ss → get_or ss n d ≡ s → ⊥) → IsBetween s hs n
+is-between s n ss hs e a le below others other =
+    let long = as-long number_at ss hs e in
+    let first : (d : SessionMode) → n < length hs → s < (get_or hs n d).session =
+    λ d lt. strict s (get_or ss n 0) (get_or hs n d).session (reads number_at ss hs e n 0 d lt) (others n 0 (omega arith) (omega (arith, lt, long))) (other 0 (omega (arith, lt, long))) in
+    record {
+      within = omega (arith, le, long);
+      lesser = lesser-of s n ss hs e (omega (arith, le, long)) below;
+      greater = λ i d l lt. elim (cases_order n i) [
+        | inl m ↦ subst (λ (k : ℕ). s < (get_or hs k d).session) m (first d (omega (arith, l, lt)))
+        | inr o ↦ elim o [
+          | inl m ↦ omega (arith, rising-at hs n i d a m lt, first d (omega (arith, m, lt)))
+          | inr m ↦ absurd (omega (arith, l, m))
+        ]
+      ];
+    }
+  where
+    strict : (s x y : ℕ) → x ≡ y → s ≤ x → (x ≡ s → ⊥) → s < y
+    strict s x y e le other = elim (cases_order s x) [
+      | inl m ↦ absurd (other (sym m))
+      | inr o ↦ elim o [
+        | inl m ↦ omega (arith, m, e)
+        | inr m ↦ absurd (omega (arith, le, m))
+      ]
+    ]
+
+-- a mask meets no code where the mode goes with each holder
+pub meets-goes : (m : Mode) (hs : List SessionMode) → not (list_any (meets (mask_of m)) (map code_at hs)) ≡ go_with m hs
+meets-goes m [] = refl
+meets-goes m (h ∷ hs) = step (eqb (bit_and (code_of h.mode) (mask_of m)) 0) (list_any (meets (mask_of m)) (map code_at hs)) ∙ (λ i. one i && meets-goes m hs i)
+  where
+    step : (x y : Bool) → not (not x || y) ≡ (x && not y)
+    step true y = refl
+    step false y = refl
+
+    one : eqb (bit_and (code_of h.mode) (mask_of m)) 0 ≡ are_compatible m h.mode
+    one = ap (λ x. eqb x 0) (and_comm (code_of h.mode) (mask_of m)) ∙ mask-same m h.mode
+
+-- the same of the codes before a place, and of those behind it
+pub goes-before : (m : Mode) (cs : List ℕ) (hs : List SessionMode) (n : ℕ) → cs ≡ map code_at hs → not (list_any (meets (mask_of m)) (take n cs)) ≡ go_with m (take n hs)
+goes-before m cs hs n e = ap (λ (xs : List ℕ). not (list_any (meets (mask_of m)) xs)) (ap (take n) e ∙ take-map code_at n hs) ∙ meets-goes m (take n hs)
+
+pub goes-behind : (m : Mode) (cs : List ℕ) (hs : List SessionMode) (n : ℕ) → cs ≡ map code_at hs → not (list_any (meets (mask_of m)) (drop n cs)) ≡ go_with m (drop n hs)
+goes-behind m cs hs n e = ap (λ (xs : List ℕ). not (list_any (meets (mask_of m)) xs)) (ap (drop n) e ∙ drop-map code_at n hs) ∙ meets-goes m (drop n hs)
+
+-- a number that is lesser, and those before it
+pub below-more : (s : ℕ) (ns : List ℕ) (m : ℕ) → DoRise ns → m < length ns → get_or ns m 0 < s → AreBelow s (m + 1) ns
+below-more s ns m r lt less i d le =
+    let k = get_or_default ns m d 0 lt in
+    elim (cases_order i m) [
+      | inl e ↦ rw e (omega (arith, less, k))
+      | inr o ↦ elim o [
+        | inl l ↦ omega (arith, r i m d l lt, less, k)
+        | inr l ↦ absurd (omega (arith, l, le))
+      ]
+    ]
+
+-- a number that is not, and those behind it
+pub others-more : (s : ℕ) (ns : List ℕ) (m : ℕ) → DoRise ns → m < length ns → s ≤ get_or ns m 0 → AreNotBelow s m ns
+others-more s ns m r lt less i d le within =
+    let k = get_or_default ns m d 0 lt in
+    elim (cases_order m i) [
+      | inl e ↦ rw (← e) (omega (arith, less, k))
+      | inr o ↦ elim o [
+        | inl l ↦ omega (arith, r m i d l within, less, k)
+        | inr l ↦ absurd (omega (arith, l, le))
+      ]
+    ]
+
+pub side-long : (ss cs : List ℕ) → length cs ≡ length ss → length (side_by_side ss cs) ≡ length ss
+side-long [] cs e = refl
+side-long (s ∷ ss) [] e = absurd (omega (arith, e))
+side-long (s ∷ ss) (c ∷ cs) e = ap (λ n. suc n) (side-long ss cs (omega (arith, e)))
+
+-- what stands at a place of both columns
+pub side-at : (ss cs : List ℕ) (i : ℕ) (d : SessionMode) → length cs ≡ length ss → i < length ss → get_or (side_by_side ss cs) i d ≡ record { session = get_or ss i 0; mode = mode_in (get_or cs i 0) }
+side-at [] cs i d e lt = absurd (omega (arith, lt))
+side-at (s ∷ ss) [] i d e lt = absurd (omega (arith, e))
+side-at (s ∷ ss) (c ∷ cs) zero d e lt = refl
+side-at (s ∷ ss) (c ∷ cs) (suc i) d e lt = side-at ss cs i d (omega (arith, e)) (omega (arith, lt))
+
+-- the next holder
+pub side-next : (ss cs : List ℕ) (i : ℕ) → length cs ≡ length ss → i < length ss → take (i + 1) (side_by_side ss cs) ≡ take i (side_by_side ss cs) ++ record { session = get_or ss i 0; mode = mode_in (get_or cs i 0) } ∷ []
+side-next ss cs i e lt =
+    take_more (side_by_side ss cs) i nobody (omega (arith, lt, side-long ss cs e)) ∙ ap (λ (h : SessionMode). take i (side_by_side ss cs) ++ h ∷ []) (side-at ss cs i nobody e lt)
+
+-- a holder's mode is written over its own
+pub set-in : (ss cs : List ℕ) (hs : List SessionMode) (n : ℕ) (c : SessionMode) (x : ℕ) → AreOf ss cs hs → IsOwn c.session hs n → x ≡ code_of c.mode → AreOf ss (set cs n x) (with_holder c hs)
+set-in ss cs hs n c x o own e =
+    let new = with-own c hs n own in
+    record {
+      sessions = o.sessions ∙ (sym (map-set_same number_at hs n c c (sym (own.here c))) ∙ ap (map number_at) new);
+      codes = (λ i. set (o.codes i) n (e i)) ∙ (sym (map-set code_at hs n c) ∙ ap (map code_at) new);
+      rising = ascends-with c hs o.rising;
+    }
+
+-- a holder comes between others
+pub insert-in : (ss cs new-ss new-cs : List ℕ) (hs : List SessionMode) (n : ℕ) (c : SessionMode) (x : ℕ) → AreOf ss cs hs → IsBetween c.session hs n → x ≡ code_of c.mode → new-ss ≡ insert ss n c.session → new-cs ≡ insert cs n x → AreOf new-ss new-cs (with_holder c hs)
+insert-in ss cs new-ss new-cs hs n c x o between e s k =
+    let new = with-between c hs n between in
+    record {
+      sessions = s ∙ ((λ i. insert (o.sessions i) n c.session) ∙ (map-insert number_at hs n c ∙ ap (map number_at) new));
+      codes = k ∙ ((λ i. insert (o.codes i) n (e i)) ∙ (map-insert code_at hs n c ∙ ap (map code_at) new));
+      rising = ascends-with c hs o.rising;
+    }
+
+-- a holder goes
+pub remove-in : (ss cs new-ss new-cs : List ℕ) (hs : List SessionMode) (n s : ℕ) → AreOf ss cs hs → IsOwn s hs n → new-ss ≡ remove ss n → new-cs ≡ remove cs n → AreOf new-ss new-cs (without s hs)
+remove-in ss cs new-ss new-cs hs n s o own a b =
+    let new = left-own s hs n own in
+    record {
+      sessions = a ∙ ((λ i. remove (o.sessions i) n) ∙ (map-remove number_at hs n ∙ ap (map number_at) new));
+      codes = b ∙ ((λ i. remove (o.codes i) n) ∙ (map-remove code_at hs n ∙ ap (map code_at) new));
+      rising = ascends-without s hs o.rising;
+    }
+
+-- what the next holder adds to those that are waited for
+pub blocks-next : (s u : ℕ) (m : Mode) (ss cs : List ℕ) (i : ℕ) → length cs ≡ length ss → i < length ss
+    → holder_blocks s m u (take (i + 1) (side_by_side ss cs)) ≡ (holder_blocks s m u (take i (side_by_side ss cs)) || (eqb (get_or ss i 0) u && (not (eqb (get_or ss i 0) s) && not (are_compatible m (mode_in (get_or cs i 0))))))
+blocks-next s u m ss cs i e lt =
+    let hs = take i (side_by_side ss cs) in
+    let h : SessionMode = record { session = get_or ss i 0; mode = mode_in (get_or cs i 0) } in
+    ap (holder_blocks s m u) (side-next ss cs i e lt)
+    ∙ (list_any-append (λ h. eqb h.session u && (not (eqb h.session s) && not (are_compatible m h.mode))) hs (h ∷ [])
+    ∙ ap (λ (b : Bool). holder_blocks s m u hs || b) (or-false (eqb h.session u && (not (eqb h.session s) && not (are_compatible m h.mode)))))
+
+-- a holder that conflicts is written down
+pub wrote : (s x a b t v : ℕ) (first blocked ok : Bool) → 1 ≤ s → 1 ≤ x → t ≡ s - 1 → v ≡ x - 1 → (x ≡ s → ⊥) → ok ≡ false
+    → ((first || (eqb (a + 1) s && blocked)) || (eqb a t && eqb b v)) ≡ (first || (eqb (a + 1) s && (blocked || (eqb x (b + 1) && (not (eqb x s) && not ok)))))
+wrote s x a b t v true blocked ok some there et ev other e = refl
+wrote s x a b t v false true ok some there et ev other e = grind (arith, nat_tests)
+wrote s x a b t v false false ok some there et ev other e = grind (arith, nat_tests)
+
+-- and no other
+pub passed : (s x a b : ℕ) (first blocked ok : Bool) → (not (eqb x s) && not ok) ≡ false
+    → (first || (eqb (a + 1) s && blocked)) ≡ (first || (eqb (a + 1) s && (blocked || (eqb x (b + 1) && (not (eqb x s) && not ok)))))
+passed s x a b first blocked ok e = ap (λ (y : Bool). first || (eqb (a + 1) s && y)) (sym (ap (λ (y : Bool). blocked || (eqb x (b + 1) && y)) e ∙ none blocked (eqb x (b + 1))))
+  where
+    none : (y z : Bool) → (y || (z && false)) ≡ y
+    none true z = refl
+    none false true = refl
+    none false false = refl
+
+-- a holder's number is one of so many
+pub numbered-at : (n : ℕ) (ss cs : List ℕ) (i : ℕ) → length cs ≡ length ss → i < length ss → AreOfSessions n (side_by_side ss cs) → (1 ≤ get_or ss i 0) × (get_or ss i 0 ≤ n)
+numbered-at n ss cs i e lt all =
+    let at = ap (λ (h : SessionMode). h.session) (side-at ss cs i nobody e lt) in
+    let p = All-get_or (λ (h : SessionMode). (1 ≤ h.session) × (h.session ≤ n)) (side_by_side ss cs) i nobody (omega (arith, lt, side-long ss cs e)) all in
+    (omega (arith, p.0, at), omega (arith, p.1, at))

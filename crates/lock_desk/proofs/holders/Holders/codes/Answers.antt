@@ -1,0 +1,11 @@
+use Rattle.std.proofs.Common.{List, ℕ, ◌∙◌, ap}
+use Rattle.mode_lanes.specs.Masks.{union_of}
+use Rattle.lock_desk.proofs.Codes.{codes-column}
+use Rattle.lock_desk.proofs.Columns.{columns-of}
+use Rattle.lock_desk.proofs.holders.Holders.codes.Goals as goal
+
+pub returns : goal.returns
+returns c =
+    let hs = c.args.self.now.items in
+    let o = columns-of c.self.inside c.args.self.now c.self.view_is c.self.invariant in
+    c.union.ensures ∙ (ap union_of c.deref.ensures.value ∙ (ap union_of o.codes ∙ codes-column hs))
