@@ -2,6 +2,7 @@
 use Rattle.std.proofs.Common.{◌≡◌, ℕ, ◌≤◌, Bool, true, false, cond, eqb, ◌&&◌, ◌||◌, inl, inr, List, [], ◌∷◌, ◌++◌, length-append, set, Option, Some, None, refl, sym, ◌∙◌, ap, arith, subst}
 use Rattle.std.specs.Prelude.{vec_len}
 use Rattle.std.specs.List.{All}
+use Rattle.std.proofs.Math.Bool.{or-true}
 use Rattle.std.proofs.lemmas.List.Elements.{All-push}
 use Rattle.std.proofs.lemmas.Bool.Decides.{nat_tests}
 use Rattle.lock_modes.specs.declared.Mode.{Mode}
@@ -50,10 +51,6 @@ fits-still c x (h ∷ hs) g f = grind (arith, nat_tests, fits-still c x hs g)
 -- what fits where nobody waits is granted
 pub can-grant : (c : SessionMode) (v : View) → is_nobody v.waiting ≡ true → fits_among c v.holders ≡ true → true ≡ can_grant c v
 can-grant c v quiet fits = sym (ap (λ (b : Bool). b && (has_session c.session v.holders || is_nobody v.waiting)) fits ∙ (ap (λ (b : Bool). has_session c.session v.holders || b) quiet ∙ or-true (has_session c.session v.holders)))
-  where
-    or-true : (b : Bool) → (b || true) ≡ true
-    or-true true = refl
-    or-true false = refl
 
 pub granted-view : (c : SessionMode) (v : View) → true ≡ can_grant c v → view_with_holder c v ≡ view_after_asking c v
 granted-view c v is = ap (λ (b : Bool). cond b (view_with_holder c v) (record { holders = v.holders; waiting = queue_with c v.holders v.waiting })) is
