@@ -22,7 +22,7 @@ TOP = Path(__file__).resolve().parent.parent
 PROGRAM = TOP / "crates/glm_main/out/glm_main"
 TESTS = TOP / "crates/unit_tests/out/unit_tests_tests"
 # those whose calls are made once more where memory was refused
-TESTED = ("books::", "offices::", "closing::", "hearing::")
+TESTED = ("books::", "batches::", "offices::", "closing::", "hearing::")
 # what allocates too often to go through: a transaction of 4096 locks, and threads, which don't ask again either
 LONG_TESTS = [
     "a_transaction_holds_4096_locks_and_no_more",

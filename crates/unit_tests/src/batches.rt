@@ -18,6 +18,15 @@ fn item(session: u16, call: Call) -> Item {
     }
 }
 
+/// Puts the item behind the others, and tries once more where memory was refused.
+fn put(items: &mut Vec<Item>, item: Item) -> Result<(), NoMemory> {
+    let again = item;
+    if items.push(item).is_err() {
+        items.push(again)?;
+    }
+    Ok(())
+}
+
 fn is_within(items: &[Item], sessions: u16) -> bool
     ensures { result ≡ true → All (IsItemWithin sessions) items.now }
 {
@@ -86,9 +95,9 @@ fn shared_locks(alloc: Global) -> Result<Vec<Item>, Fail> {
     let one = resource(1)?;
     let mut items = Vec::new(alloc);
     for session in 1..33 {
-        items.push(item(session, Call::Lock(one, Mode::IS)))?;
+        put(&mut items, item(session, Call::Lock(one, Mode::IS)))?;
     }
-    items.push(item(33, Call::Lock(one, Mode::S)))?;
+    put(&mut items, item(33, Call::Lock(one, Mode::S)))?;
     Ok(items)
 }
 
@@ -144,4 +153,82 @@ fn a_run_of_locks_is_granted_where_its_modes_go_together(rt: HostRuntime) -> Res
     want_granted(&rt, &mut book, &mut items);
     late_locks_wait(&rt, &mut book)?;
     conflicting_locks_wait(&rt, &mut book)
+}
+
+/// The next number of a fixed sequence, in which the high bits look like chance.
+fn next(seed: &mut u64) -> u64 {
+    *seed = seed
+        .wrapping_mul(6_364_136_223_846_793_005)
+        .wrapping_add(1_442_695_040_888_963_407);
+    *seed >> 33
+}
+
+fn mode_by_chance(seed: &mut u64) -> Mode {
+    match next(seed) % 8 {
+        0 => Mode::X,
+        1 => Mode::S,
+        2 => Mode::IX,
+        _ => Mode::IS,
+    }
+}
+
+/// Most of them are locks on one of two databases, so that runs come of themselves.
+fn call_by_chance(seed: &mut u64) -> Result<Call, Fail> {
+    let number = 1 + (next(seed) % 2) as u32;
+    let database = resource(number)?;
+    Ok(match next(seed) % 16 {
+        0 | 1 => Call::Begin,
+        2 => Call::Poll,
+        3 => Call::Commit,
+        4 => Call::Abort,
+        5 => Call::Release(database),
+        _ => Call::Lock(database, mode_by_chance(seed)),
+    })
+}
+
+/// 64 calls, of 40 sessions.
+fn calls_by_chance(alloc: Global, seed: &mut u64) -> Result<Vec<Item>, Fail> {
+    let mut items = Vec::new(alloc);
+    for _call in 0..64 {
+        let session = 1 + (next(seed) % 40) as u16;
+        let call = call_by_chance(seed)?;
+        put(&mut items, item(session, call))?;
+    }
+    Ok(items)
+}
+
+/// Serves the calls of the items one by one: they have the replies that stand there.
+fn want_one_by_one(rt: &impl Abort, book: &mut Book, items: &[Item]) -> Result<(), NoMemory> {
+    for item in items {
+        let reply = serve(rt, book, item.session, item.call)?;
+        assert_eq!(rt; item.reply, Some(reply));
+    }
+    Ok(())
+}
+
+/// One book serves calls as a batch, the other one by one.
+fn want_alike(
+    rt: &impl Abort,
+    batches: &mut Book,
+    singles: &mut Book,
+    items: &mut [Item],
+) -> Result<(), NoMemory> {
+    assert_eq!(rt; serve_batch(rt, batches, items), items.len());
+    want_one_by_one(rt, singles, items)?;
+    assert_eq!(rt; batches.history(), singles.history());
+    Ok(())
+}
+
+#[test]
+fn calls_by_chance_are_served_as_a_batch_as_they_are_one_by_one(
+    rt: HostRuntime,
+) -> Result<(), Fail> {
+    let mut batches = new_book(&rt, rt.alloc(), 40)?;
+    let mut singles = new_book(&rt, rt.alloc(), 40)?;
+    let mut seed = 20_261_123;
+    for _batch in 0..16 {
+        let mut items = calls_by_chance(rt.alloc(), &mut seed)?;
+        want_alike(&rt, &mut batches, &mut singles, &mut items)?;
+    }
+    Ok(())
 }
