@@ -18,13 +18,12 @@ fn item(session: u16, call: Call) -> Item {
     }
 }
 
-/// Puts the item behind the others, and tries once more where memory was refused.
-fn put(items: &mut Vec<Item>, item: Item) -> Result<(), NoMemory> {
-    let again = item;
-    if items.push(item).is_err() {
-        items.push(again)?;
+/// Room for so many items, asked for once more where memory was refused.
+fn room_for(alloc: Global, count: usize) -> Result<Vec<Item>, NoMemory> {
+    match Vec::with_capacity(alloc, count) {
+        Ok(items) => Ok(items),
+        Err(_) => Vec::with_capacity(alloc, count),
     }
-    Ok(())
 }
 
 fn is_within(items: &[Item], sessions: u16) -> bool
@@ -93,11 +92,11 @@ fn begin_all(rt: &impl Abort, book: &mut Book) -> Result<(), NoMemory> {
 /// 32 sessions lock database 1 in IS, and the next one in S.
 fn shared_locks(alloc: Global) -> Result<Vec<Item>, Fail> {
     let one = resource(1)?;
-    let mut items = Vec::new(alloc);
+    let mut items = room_for(alloc, 33)?;
     for session in 1..33 {
-        put(&mut items, item(session, Call::Lock(one, Mode::IS)))?;
+        items.push(item(session, Call::Lock(one, Mode::IS)))?;
     }
-    put(&mut items, item(33, Call::Lock(one, Mode::S)))?;
+    items.push(item(33, Call::Lock(one, Mode::S)))?;
     Ok(items)
 }
 
@@ -188,11 +187,11 @@ fn call_by_chance(seed: &mut u64) -> Result<Call, Fail> {
 
 /// 64 calls, of 40 sessions.
 fn calls_by_chance(alloc: Global, seed: &mut u64) -> Result<Vec<Item>, Fail> {
-    let mut items = Vec::new(alloc);
+    let mut items = room_for(alloc, 64)?;
     for _call in 0..64 {
         let session = 1 + (next(seed) % 40) as u16;
         let call = call_by_chance(seed)?;
-        put(&mut items, item(session, call))?;
+        items.push(item(session, call))?;
     }
     Ok(items)
 }
