@@ -253,7 +253,7 @@ impl Desk {
         );
     }
 
-    /// Gives back what the session was granted last.
+    /// Gives back the last lock of the session's list.
     fn give_back(&mut self, session: u16)
         requires some { 1 ≤ session }
         requires within { session ≤ vec_len self.old.lockers }

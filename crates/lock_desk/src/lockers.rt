@@ -22,7 +22,7 @@ pub enum Request {
     Conversion(Resource),
 }
 
-/// The transaction of a session, what it holds in the order in which it was granted, and what it waits for.
+/// The transaction of a session, what it holds, and what it waits for.
 /// Among what it holds there is room for a lock that it waits for.
 #[derive(Drop)]
 pub struct Locker {
@@ -32,8 +32,8 @@ pub struct Locker {
     trail: Trail,
 }
 
-/// Where the cell of the lock that a session was granted last stood, and that of the lock above it: sessions go down
-/// the tree and along its leaves, so the parent of the next lock is likely one of them. Nothing rests on it.
+/// Where the cell of the lock stood that a session was last granted at once, and that of the lock above it: sessions go
+/// down the tree and along its leaves, so the parent of the next lock is likely one of them. Nothing rests on it.
 #[derive(Clone, Copy, Debug, PartialEq, Eq)]
 pub struct Trail {
     level: u8,
@@ -270,7 +270,7 @@ impl Locker {
         resource
     }
 
-    /// The session doesn't hold the resource that it was granted last any more: which one that was.
+    /// The session doesn't hold the last resource of its list any more: which one that was.
     pub(crate) fn release_last(&mut self) -> Option<Resource>
         ensures some { IfSome result (λ r. self.old.held.items ≡ self.new.held.items ++ r ∷ []) }
         ensures none { IfNone result (self.old.held.items ≡ []) }

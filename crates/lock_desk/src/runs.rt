@@ -1,6 +1,6 @@
-//! Runs: locks on one resource by distinct sessions, which follow one another in a batch and go together. They are granted
-//! at once: the resource and its parent are looked up once, one test of a mask stands for all comparisons of modes, and
-//! there is room for all before the first is granted.
+//! Runs: locks on one resource by distinct sessions, which follow one another in a batch. Where their modes go together,
+//! and with those of the holders, they are granted at once: the resource and its parent are looked up once, one test of a
+//! mask stands for all comparisons of modes, and there is room for all before the first is granted.
 
 ghost use Rattle.std.specs.Prelude.{◌≡◌, ◌+◌, ◌-◌, ◌<◌, ◌≤◌, true, false, None, Some, List, ◌==◌, if◌then◌else◌, length, IfSome, OnOk, vec_len, vec_capacity, bit_and};
 ghost use Rattle.std.specs.List.{All};
@@ -149,8 +149,8 @@ impl Desk {
         None
     }
 
-    /// Takes the items into a run, up to the first that doesn't belong to it. Sessions mostly rise in a batch, since a pass
-    /// visits them so: one that is above all before it is another one, and the others are looked for.
+    /// Takes the items into a run, up to the first that doesn't belong to it. A session above all before it is another one,
+    /// and any other is looked for. In a pass sessions come in the order of the publication list, which may fall.
     fn gather(&self, items: &[Item], from: usize, site: &Site) -> Run
         requires within { All (IsItemWithin (vec_len self.now.lockers)) items.now }
         requires from { from < length items.now }

@@ -1,4 +1,5 @@
-//! Who waits for whom: written down as the cells and the lockers say it, and written anew where a cell changes.
+//! Who waits for whom: written down as the cells and the lockers say it, and kept with each change of a cell. A fresh
+//! request writes its own row, and any other change those of the queue.
 
 ghost use Rattle.std.specs.Prelude.{◌≡◌, ℕ, ◌+◌, ◌-◌, ◌<◌, ◌≤◌, ◌&&◌, ◌||◌, ◌==◌, if◌then◌else◌, List, not, true, false, length, take, IfOk, IfNone, IfSome, slice_index_or, vec_len};
 ghost use Rattle.waits_for.specs.Pairs.{pairs_of};
@@ -94,8 +95,8 @@ fn alike(queue: &[SessionMode], index: usize) -> Option<usize>
 }
 
 /// For whom the request at this place of the queue waits is written down, those ahead of it being written. It waits for
-/// whomever one ahead of it for the same mode waits, and for those between; where it is a holder that the other one
-/// waits for, all holders are looked at.
+/// whomever one ahead of it for the same mode waits, for that one, and for those between; where it is a holder that the other
+/// one waits for, all holders are looked at.
 fn write_request(rows: &mut Rows, cell: &Cell, index: usize)
     requires index { index < length (view_of cell.now).waiting }
     requires within { IsOfSessions rows.old.sessions (view_of cell.now) }

@@ -13,8 +13,8 @@ use std::marker::Model;
 
 /// Which session waits for which. Contracts see the number of sessions and the pairs, by `pairs_of`.
 ///
-/// Only [`Rows::new`] takes memory. The three questions take `&mut self` for the room that a search
-/// needs, and leave the pairs as they are.
+/// Only [`Rows::new`] takes memory. The three questions about walks take `&mut self` for the room that
+/// a search needs, and leave the pairs as they are.
 #[derive(Drop)]
 pub struct Rows {
     matrix: Matrix,
