@@ -82,6 +82,20 @@ fn is_met(items: &[Item], from: usize, upto: usize, session: u16) -> bool
     false
 }
 
+/// Whether none of the items from a place up to another is of this session, their sessions being from the least to the
+/// greatest. Only a session between these two is looked for.
+fn is_new(items: &[Item], from: usize, upto: usize, session: u16, least: u16, greatest: u16) -> bool
+    requires upto { upto ≤ length items.now }
+    requires least { Each (λ i. least ≤ i.session) items.now from upto }
+    requires greatest { Each (λ i. i.session ≤ greatest) items.now from upto }
+    ensures { result ≡ true → Each (λ i. (i.session == session) ≡ false) items.now from upto }
+{
+    if session < least || greatest < session {
+        return true;
+    }
+    !is_met(items, from, upto, session)
+}
+
 impl Desk {
     /// Looks up the resource and its parent: `None` where nobody holds the resource, or somebody waits for it.
     fn site_of(&self, resource: Resource) -> Option<Site>
@@ -149,8 +163,9 @@ impl Desk {
         None
     }
 
-    /// Takes the items into a run, up to the first that doesn't belong to it. A session above all before it is another one,
-    /// and any other is looked for. In a pass sessions come in the order of the publication list, which may fall.
+    /// Takes the items into a run, up to the first that doesn't belong to it. A session below or above all before it is
+    /// another one, and any other is looked for: in a pass sessions come in the order of the publication list, which falls
+    /// where they enlist one after another.
     fn gather(&self, items: &[Item], from: usize, site: &Site) -> Run
         requires within { All (IsItemWithin (vec_len self.now.lockers)) items.now }
         requires from { from < length items.now }
@@ -160,10 +175,11 @@ impl Desk {
         let mut upto = from;
         let mut codes = site.codes;
         let mut masks = 0;
+        let mut least = u16::MAX;
         let mut greatest = 0;
         while upto < items.len() {
             let item = items[upto];
-            if item.session <= greatest && is_met(items, from, upto, item.session) {
+            if !is_new(items, from, upto, item.session, least, greatest) {
                 break;
             }
             let Some(mode) = self.mode_joining(&item, site) else {
@@ -171,6 +187,7 @@ impl Desk {
             };
             codes |= mode.code();
             masks |= mode.conflict_mask();
+            least = least.min(item.session);
             greatest = greatest.max(item.session);
             upto += 1;
         }

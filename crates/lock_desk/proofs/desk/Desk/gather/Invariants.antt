@@ -11,6 +11,7 @@ invariant-loop-upto l = record {
     codes = l.codes;
     masks = l.masks;
   });
+  least : Each (λ i. l.least ≤ i.session) l.items l.from l.upto;
   greatest : Each (λ i. i.session ≤ l.greatest) l.items l.from l.upto;
 }
 
