@@ -24,6 +24,8 @@ mod modes;
 #[cfg(test)]
 mod offices;
 #[cfg(test)]
+mod queues;
+#[cfg(test)]
 mod rules;
 #[cfg(test)]
 mod traces;
