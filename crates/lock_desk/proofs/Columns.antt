@@ -11,30 +11,22 @@ use Rattle.std.proofs.lemmas.List.{get_or_default, take_more, length-map, get_or
 use Rattle.std.proofs.Math.Seq.{map-set_same}
 use Rattle.mode_lanes.specs.Masks.{meets}
 use Rattle.lock_modes.specs.declared.Mode.{Mode}
-use Rattle.lock_modes.specs.declared.Mode.TheVariants.{NL, IS, IX, S, SIX, X}
-use Rattle.lock_modes.specs.Codes.{code_of, mask_of}
+use Rattle.lock_modes.specs.declared.Mode.TheVariants.{NL}
+use Rattle.lock_modes.specs.Codes.{code_of, mode_of_code, mask_of}
 use Rattle.lock_modes.specs.Compatibility.{are_compatible}
-use Rattle.lock_modes.proofs.Codes.{mask-same}
+use Rattle.lock_modes.proofs.Codes.{mode_of_code-code, mask-same}
 use Rattle.lock_desk.specs.declared.cells.SessionMode.{SessionMode}
 use Rattle.lock_desk.specs.declared.holders.Holders.TheInside.{Inside}
 use Rattle.lock_desk.specs.Cells.{Ascends, with_holder, without, go_with}
-use Rattle.lock_desk.specs.Columns.{mode_in, number_at, code_at, side_by_side, holders_of, AreColumns, DoRise, AreBelow, AreNotBelow}
+use Rattle.lock_desk.specs.Columns.{number_at, code_at, side_by_side, holders_of, AreColumns, DoRise, AreBelow, AreNotBelow}
 use Rattle.lock_desk.specs.Finding.{holder_blocks, AreOfSessions}
 use Rattle.lock_desk.specs.Holders.{HolderList, AreLesser, IsOwn, IsBetween}
 use Rattle.lock_desk.proofs.Rising.{rising-at, ascends-with, ascends-without, with-own, with-between, left-own}
 
-pub mode_in-code : (m : Mode) → mode_in (code_of m) ≡ m
-mode_in-code NL = refl
-mode_in-code IS = refl
-mode_in-code IX = refl
-mode_in-code S = refl
-mode_in-code SIX = refl
-mode_in-code X = refl
-
 -- holders as two columns, and side by side again
 beside : (hs : List SessionMode) → side_by_side (map number_at hs) (map code_at hs) ≡ hs
 beside [] = refl
-beside (h ∷ hs) = λ i. record { session = h.session; mode = mode_in-code h.mode i } ∷ beside hs i
+beside (h ∷ hs) = λ i. record { session = h.session; mode = mode_of_code-code h.mode i } ∷ beside hs i
 
 -- the two columns are those of these holders, who rise
 pub record AreOf (ss cs : List ℕ) (hs : List SessionMode) : Type 0 where
@@ -179,14 +171,14 @@ side-long (s ∷ ss) [] e = absurd (omega (arith, e))
 side-long (s ∷ ss) (c ∷ cs) e = ap (λ n. suc n) (side-long ss cs (omega (arith, e)))
 
 -- what stands at a place of both columns
-pub side-at : (ss cs : List ℕ) (i : ℕ) (d : SessionMode) → length cs ≡ length ss → i < length ss → get_or (side_by_side ss cs) i d ≡ record { session = get_or ss i 0; mode = mode_in (get_or cs i 0) }
+pub side-at : (ss cs : List ℕ) (i : ℕ) (d : SessionMode) → length cs ≡ length ss → i < length ss → get_or (side_by_side ss cs) i d ≡ record { session = get_or ss i 0; mode = mode_of_code (get_or cs i 0) }
 side-at [] cs i d e lt = absurd (omega (arith, lt))
 side-at (s ∷ ss) [] i d e lt = absurd (omega (arith, e))
 side-at (s ∷ ss) (c ∷ cs) zero d e lt = refl
 side-at (s ∷ ss) (c ∷ cs) (suc i) d e lt = side-at ss cs i d (omega (arith, e)) (omega (arith, lt))
 
 -- the next holder
-pub side-next : (ss cs : List ℕ) (i : ℕ) → length cs ≡ length ss → i < length ss → take (i + 1) (side_by_side ss cs) ≡ take i (side_by_side ss cs) ++ record { session = get_or ss i 0; mode = mode_in (get_or cs i 0) } ∷ []
+pub side-next : (ss cs : List ℕ) (i : ℕ) → length cs ≡ length ss → i < length ss → take (i + 1) (side_by_side ss cs) ≡ take i (side_by_side ss cs) ++ record { session = get_or ss i 0; mode = mode_of_code (get_or cs i 0) } ∷ []
 side-next ss cs i e lt =
     take_more (side_by_side ss cs) i nobody (omega (arith, lt, side-long ss cs e)) ∙ ap (λ (h : SessionMode). take i (side_by_side ss cs) ++ h ∷ []) (side-at ss cs i nobody e lt)
 
@@ -222,10 +214,10 @@ remove-in ss cs new-ss new-cs hs n s o own a b =
 
 -- what the next holder adds to those that are waited for
 pub blocks-next : (s u : ℕ) (m : Mode) (ss cs : List ℕ) (i : ℕ) → length cs ≡ length ss → i < length ss
-    → holder_blocks s m u (take (i + 1) (side_by_side ss cs)) ≡ (holder_blocks s m u (take i (side_by_side ss cs)) || (eqb (get_or ss i 0) u && (not (eqb (get_or ss i 0) s) && not (are_compatible m (mode_in (get_or cs i 0))))))
+    → holder_blocks s m u (take (i + 1) (side_by_side ss cs)) ≡ (holder_blocks s m u (take i (side_by_side ss cs)) || (eqb (get_or ss i 0) u && (not (eqb (get_or ss i 0) s) && not (are_compatible m (mode_of_code (get_or cs i 0))))))
 blocks-next s u m ss cs i e lt =
     let hs = take i (side_by_side ss cs) in
-    let h : SessionMode = record { session = get_or ss i 0; mode = mode_in (get_or cs i 0) } in
+    let h : SessionMode = record { session = get_or ss i 0; mode = mode_of_code (get_or cs i 0) } in
     ap (holder_blocks s m u) (side-next ss cs i e lt)
     ∙ (list_any-append (λ h. eqb h.session u && (not (eqb h.session s) && not (are_compatible m h.mode))) hs (h ∷ [])
     ∙ ap (λ (b : Bool). holder_blocks s m u hs || b) (or-false (eqb h.session u && (not (eqb h.session s) && not (are_compatible m h.mode)))))

@@ -1,17 +1,11 @@
 -- Private parts speak to one another here, and no public contract of this crate: two
 -- columns, of session numbers and of codes, that are the holders of a resource side by side.
-use Rattle.std.specs.Prelude.{◌≡◌, ℕ, ◌<◌, ◌≤◌, if◌then◌else◌, ◌==◌, List, [], ◌∷◌, length, map, min, slice_index_or, vec_capacity}
-use Rattle.lock_modes.specs.declared.Mode.{Mode}
-use Rattle.lock_modes.specs.declared.Mode.TheVariants.{NL, IS, IX, S, SIX, X}
-use Rattle.lock_modes.specs.Codes.{code_of}
+use Rattle.std.specs.Prelude.{◌≡◌, ℕ, ◌<◌, ◌≤◌, List, [], ◌∷◌, length, map, min, slice_index_or, vec_capacity}
+use Rattle.lock_modes.specs.Codes.{code_of, mode_of_code}
 use Rattle.lock_desk.specs.declared.cells.SessionMode.{SessionMode}
 use Rattle.lock_desk.specs.declared.holders.Holders.TheInside.{Inside}
 use Rattle.lock_desk.specs.Cells.{Ascends}
 use Rattle.lock_desk.specs.Holders.{HolderList}
-
--- the mode of a code
-abbrev pub mode_in : ℕ → Mode
-mode_in c = if c == 1 then IS else (if c == 3 then IX else (if c == 5 then S else (if c == 7 then SIX else (if c == 15 then X else NL))))
 
 -- the number of a holder, and the code of what it holds
 abbrev pub number_at : SessionMode → ℕ
@@ -24,7 +18,7 @@ code_at h = code_of h.mode
 abbrev pub side_by_side : List ℕ → List ℕ → List SessionMode
 side_by_side [] cs = []
 side_by_side (s ∷ ss) [] = []
-side_by_side (s ∷ ss) (c ∷ cs) = record { session = s; mode = mode_in c } ∷ side_by_side ss cs
+side_by_side (s ∷ ss) (c ∷ cs) = record { session = s; mode = mode_of_code c } ∷ side_by_side ss cs
 
 -- what contracts see of them
 abbrev pub holders_of : Inside → HolderList

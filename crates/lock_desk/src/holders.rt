@@ -6,7 +6,7 @@ ghost use Rattle.std.specs.List.{list_any};
 ghost use Rattle.mode_lanes.specs.Masks.{meets};
 ghost use Rattle.waits_for.specs.Pairs.{pairs_of};
 ghost use Rattle.lock_desk.specs.Cells.{has_session, mode_of, pair_of, with_holder, without, codes_among, fits_among};
-ghost use Rattle.lock_desk.specs.Columns.{mode_in, side_by_side, DoRise, AreBelow, AreNotBelow};
+ghost use Rattle.lock_desk.specs.Columns.{side_by_side, DoRise, AreBelow, AreNotBelow};
 ghost use Rattle.lock_desk.specs.Finding.{holder_blocks, AreOfSessions};
 ghost use Rattle.lock_desk.specs.Holders.{IsPlaceOf};
 ghost use Rattle.lock_desk.specs.declared.cells.SessionMode.{SessionMode as SessionModeValue};
@@ -59,20 +59,6 @@ impl Place {
             Place::Own(_) => true,
             Place::Between(_) => false,
         }
-    }
-}
-
-/// The mode of a code.
-fn mode_in(code: u8) -> Mode
-    ensures { result ≡ mode_in code }
-{
-    match code {
-        1 => Mode::IS,
-        3 => Mode::IX,
-        5 => Mode::S,
-        7 => Mode::SIX,
-        15 => Mode::X,
-        _ => Mode::NL,
     }
 }
 
@@ -173,7 +159,7 @@ fn write_list(sessions: &[u16], codes: &[u8], list: &mut Vec<(u16, Mode)>)
     for index in 0..sessions.len() {
         let session = sessions[index];
         let code = codes[index];
-        list.push_reserved((session, mode_in(code)));
+        list.push_reserved((session, Mode::from_code_or_nl(code)));
     }
 }
 
@@ -190,7 +176,7 @@ fn write_conflicts(rows: &mut Rows, sessions: &[u16], codes: &[u8], session: u16
     for index in 0..sessions.len() {
         let holder = sessions[index];
         let code = codes[index];
-        if holder != session && !Mode::compatible(target, mode_in(code)) {
+        if holder != session && !Mode::compatible(target, Mode::from_code_or_nl(code)) {
             rows.set(position_of(session), position_of(holder));
         }
     }
@@ -274,7 +260,7 @@ impl Holders {
         ensures { result ≡ mode_of session self.now.items }
     {
         match self.place_of(session) {
-            Place::Own(index) => Some(mode_in(self.codes[index])),
+            Place::Own(index) => Some(Mode::from_code_or_nl(self.codes[index])),
             Place::Between(_) => None,
         }
     }

@@ -1,31 +1,32 @@
 -- Codes and masks agree with the order, the least upper bound and the table of compatible modes.
-use Rattle.std.proofs.Common.{◌≡◌, ℕ, ◌↔◌, cond, eqb, refl, sym, ◌∙◌, ap, bit_and, bit_or}
+use Rattle.std.proofs.Common.{◌≡◌, ℕ, ◌↔◌, false, eqb, refl, sym, ◌∙◌, ap, bit_and, bit_or}
 use mathlib.Core.Bool.{beq}
+use Rattle.std.proofs.lemmas.Bool.{ne_eqb}
 use Rattle.std.proofs.lemmas.Bool.Decides.{Decides-eqb}
 use Rattle.lock_modes.specs.declared.Mode.{Mode}
 use Rattle.lock_modes.specs.declared.Mode.TheVariants.{NL, IS, IX, S, SIX, X}
 use Rattle.lock_modes.specs.Order.{at_or_below, sup_of}
 use Rattle.lock_modes.specs.Compatibility.{IsCompatible, are_compatible}
-use Rattle.lock_modes.specs.Codes.{code_of, mask_of}
+use Rattle.lock_modes.specs.Codes.{code_of, mode_of_code, mask_of}
 use Rattle.lock_modes.proofs.Every.{every2-at, beq-same}
 use Rattle.lock_modes.proofs.Compatibility.{compatible-from, compatible-tests}
 
--- the mode of a code; any other number counts as the code of X
-mode_of : ℕ → Mode
-mode_of n = cond (eqb n 0) NL (cond (eqb n 1) IS (cond (eqb n 3) IX (cond (eqb n 5) S (cond (eqb n 7) SIX X))))
+pub mode_of_code-code : (m : Mode) → mode_of_code (code_of m) ≡ m
+mode_of_code-code NL = refl
+mode_of_code-code IS = refl
+mode_of_code-code IX = refl
+mode_of_code-code S = refl
+mode_of_code-code SIX = refl
+mode_of_code-code X = refl
 
-mode_of-code : (m : Mode) → mode_of (code_of m) ≡ m
-unfolding mode_of
-mode_of-code NL = refl
-mode_of-code IS = refl
-mode_of-code IX = refl
-mode_of-code S = refl
-mode_of-code SIX = refl
-mode_of-code X = refl
+pub mode_of_code-none : (c : ℕ) → ((m : Mode) → c ≡ code_of m → ⊥) → mode_of_code c ≡ NL
+mode_of_code-none c other =
+    let not : (m : Mode) → eqb c (code_of m) ≡ false = λ m. ne_eqb c (code_of m) (other m) in
+    rw (not IS, not IX, not S, not SIX, not X) refl
 
 -- each mode has a code of its own
 pub same_code : (a b : Mode) → code_of a ≡ code_of b → a ≡ b
-same_code a b e = sym (mode_of-code a) ∙ ap mode_of e ∙ mode_of-code b
+same_code a b e = sym (mode_of_code-code a) ∙ ap mode_of_code e ∙ mode_of_code-code b
 
 -- the test that `compatible` makes
 pub mask-same : (a b : Mode) → eqb (bit_and (mask_of a) (code_of b)) 0 ≡ are_compatible a b

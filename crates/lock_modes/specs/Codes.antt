@@ -1,5 +1,5 @@
 -- How the modes are written: as bits, so that scans are fast, and as names. Codes and masks are this project's own.
-use Rattle.std.specs.Prelude.{ℕ, List, [], ◌∷◌, codes, bit_or}
+use Rattle.std.specs.Prelude.{ℕ, if◌then◌else◌, ◌==◌, List, [], ◌∷◌, codes, bit_or}
 use Rattle.lock_modes.specs.declared.Mode.{Mode}
 use Rattle.lock_modes.specs.declared.Mode.TheVariants.{NL, IS, IX, S, SIX, X}
 
@@ -11,6 +11,10 @@ code_of IX = 3
 code_of S = 5
 code_of SIX = 7
 code_of X = 15
+
+-- the mode of a code, and NL where no mode has it
+abbrev pub mode_of_code : ℕ → Mode
+mode_of_code c = if c == code_of IS then IS else (if c == code_of IX then IX else (if c == code_of S then S else (if c == code_of SIX then SIX else (if c == code_of X then X else NL))))
 
 -- the mask of a mode meets the codes of the modes that it conflicts with, and no others
 abbrev pub mask_of : Mode → ℕ

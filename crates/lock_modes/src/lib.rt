@@ -5,7 +5,7 @@ ghost use Rattle.std.specs.Prelude.{◌≡◌, ◌↔◌, IsTrue, bit_and, bit_o
 ghost use Rattle.lock_modes.specs.declared.Mode.{Mode as ModeValue};
 ghost use Rattle.lock_modes.specs.Order.{IsAtOrBelow, at_or_below, IsLeastUpperBound, sup_of, need_of};
 ghost use Rattle.lock_modes.specs.Compatibility.{IsCompatible, are_compatible};
-ghost use Rattle.lock_modes.specs.Codes.{code_of, mask_of, name_of};
+ghost use Rattle.lock_modes.specs.Codes.{code_of, mode_of_code, mask_of, name_of};
 
 pub mod laws;
 
@@ -57,6 +57,18 @@ impl Mode {
             7 => Some(Mode::SIX),
             15 => Some(Mode::X),
             _ => None,
+        }
+    }
+
+    /// Reads a code of a column back, where no other bytes stand. NL for a byte that is the code of no
+    /// mode, so that no caller has to say what can't be.
+    #[inline]
+    pub fn from_code_or_nl(code: u8) -> Mode
+        ensures { result ≡ mode_of_code code }
+    {
+        match Mode::from_code(code) {
+            Some(mode) => mode,
+            None => Mode::NL,
         }
     }
 

@@ -1,9 +1,10 @@
 use Rattle.std.proofs.Common.{◌≡◌, ◌+◌, ◌∷◌, ◌++◌, [], ℕ, List, map, take, get_or, sym, ◌∙◌, ap, arith}
 use Rattle.std.proofs.lemmas.List.{append_assoc, map-append, take_all}
 use Rattle.lock_modes.specs.declared.Mode.{Mode}
+use Rattle.lock_modes.specs.Codes.{mode_of_code}
 use Rattle.lock_desk.specs.declared.cells.SessionMode.{SessionMode}
 use Rattle.lock_desk.specs.Cells.{pair_of}
-use Rattle.lock_desk.specs.Columns.{mode_in, side_by_side}
+use Rattle.lock_desk.specs.Columns.{side_by_side}
 use Rattle.lock_desk.proofs.Columns.{side-next, side-long}
 use Rattle.lock_desk.proofs.holders.write_list.Goals as goal
 
@@ -16,10 +17,10 @@ loop-index-preserved c =
     let hs = take i (side_by_side ss cs) in
     let x = get_or ss i 0 in
     let y = get_or cs i 0 in
-    let next : map pair_of (take (i + 1) (side_by_side ss cs)) ≡ map pair_of hs ++ (x, mode_in y) ∷ [] =
-    ap (map pair_of) (side-next ss cs i c.requires.long c.loop-index-test.true) ∙ map-append pair_of hs (record { session = x; mode = mode_in y } ∷ []) in
+    let next : map pair_of (take (i + 1) (side_by_side ss cs)) ≡ map pair_of hs ++ (x, mode_of_code y) ∷ [] =
+    ap (map pair_of) (side-next ss cs i c.requires.long c.loop-index-test.true) ∙ map-append pair_of hs (record { session = x; mode = mode_of_code y } ∷ []) in
     record {
-      items = c.push_reserved.ensures.items ∙ ((λ j. k.items j ++ (x, c.mode_in.ensures j) ∷ []) ∙ (append_assoc c.args.list.now.items (map pair_of hs) ((x, mode_in y) ∷ []) ∙ ap (λ (ps : List (ℕ × Mode)). c.args.list.now.items ++ ps) (sym next)));
+      items = c.push_reserved.ensures.items ∙ ((λ j. k.items j ++ (x, c.from_code_or_nl.ensures j) ∷ []) ∙ (append_assoc c.args.list.now.items (map pair_of hs) ((x, mode_of_code y) ∷ []) ∙ ap (λ (ps : List (ℕ × Mode)). c.args.list.now.items ++ ps) (sym next)));
       len = omega (arith, k.len, c.push_reserved.ensures.len);
       room = omega (arith, k.room, c.push_reserved.ensures.capacity);
     }

@@ -1,11 +1,13 @@
 use Rattle.std.proofs.Common.{◌≡◌, get_or, Some, ap, sym, ◌∙◌}
 use Rattle.lock_modes.specs.declared.Mode.{Mode}
 use Rattle.lock_modes.specs.declared.Mode.TheVariants.{NL}
+use Rattle.lock_modes.specs.Codes.{mode_of_code}
+use Rattle.lock_modes.proofs.Codes.{mode_of_code-code}
 use Rattle.lock_desk.specs.declared.cells.SessionMode.{SessionMode}
-use Rattle.lock_desk.specs.Columns.{mode_in, code_at}
+use Rattle.lock_desk.specs.Columns.{code_at}
 use Rattle.lock_desk.specs.Holders.{IsOwn}
 use Rattle.lock_desk.proofs.Rising.{mode-own, mode-between}
-use Rattle.lock_desk.proofs.Columns.{columns-of, reads, mode_in-code}
+use Rattle.lock_desk.proofs.Columns.{columns-of, reads}
 use Rattle.lock_desk.proofs.holders.Holders.mode_of.Goals as goal
 
 pub returns-in-Own : goal.returns-in-Own
@@ -16,7 +18,7 @@ returns-in-Own c =
     let own : IsOwn c.args.session hs n = c.in-Own.ensures in
     let o = columns-of c.self.inside c.args.self.now c.self.view_is c.self.invariant in
     let at : c.index.result.now ≡ code_at (get_or hs n d) = c.index.ensures ∙ reads code_at c.self.inside.codes.items hs o.codes n c.index.result.now d own.within in
-    ap (λ (m : Mode). Some m) (c.mode_in.ensures ∙ (ap mode_in at ∙ mode_in-code (get_or hs n d).mode)) ∙ sym (mode-own c.args.session hs n d own)
+    ap (λ (m : Mode). Some m) (c.from_code_or_nl.ensures ∙ (ap mode_of_code at ∙ mode_of_code-code (get_or hs n d).mode)) ∙ sym (mode-own c.args.session hs n d own)
 
 pub returns-in-Between : goal.returns-in-Between
 returns-in-Between c = sym (mode-between c.args.session c.args.self.now.items _ c.in-Between.ensures)
