@@ -13,8 +13,8 @@ use Rattle.lock_rules.specs.declared.calls.Entry.{Entry}
 use Rattle.publication.specs.Words.{word_of, link_of, END, OUT}
 use Rattle.publication.specs.List.{IsOn, link, belongs, is_listed, IsLinked, IsRuled}
 use Rattle.publication.specs.Views.{Own}
-use Rattle.publication.specs.Rule.{BoardState, blank, apart, AreTrue, fresh, own_at, announced, maker, newcomer, word, home, seat, IsHome, IsIdle, Stands, HasBook, IsOpened, IsSession, IsMaker, IsOrderly}
-use Rattle.publication.specs.Rule.Stands.{idle}
+use Rattle.publication.specs.Rule.{BoardState, blank, apart, AreTrue, fresh, own_at, announced, maker, newcomer, word, home, seat, IsHome, IsVacant, Stands, HasBook, IsOpened, IsSession, IsMaker, IsOrderly}
+use Rattle.publication.specs.Rule.Stands.{vacant}
 use Rattle.publication.specs.declared.view.View.{View}
 use Rattle.publication.specs.declared.slot.Load.{Load}
 use Rattle.publication.specs.declared.slot.Held.TheVariants.{Nothing, Home}
@@ -52,12 +52,12 @@ module _ (n : ℕ) (load : Box Load) (ready : IsHome [] (n + 1) load.value) wher
   words_zero : (i : ℕ) → word laid_out i ≡ 0
   words_zero i = get_or-set_other (replicate (word_of (n + 1)) 0) 1 (word_of i) END 0 (λ e. omega (arith, e)) ∙ same_all (word_of (n + 1)) (word_of i) 0
 
-  idle_first : (i : ℕ) → IsIdle [] i OUT (opt.some Nothing) fresh
-  idle_first i = record { is = inr refl; none = refl; out = λ e. absurd (cc e); laid = λ _. refl; publishes = refl; calls = refl }
+  vacant_first : (i : ℕ) → IsVacant [] i OUT (opt.some Nothing) fresh
+  vacant_first i = record { is = inr refl; none = refl; out = λ e. absurd (cc e); laid = λ _. refl; publishes = refl; calls = refl }
 
   stands_first : (i : ℕ) → 0 < i → i < n + 1 → Stands [] i 0 (home laid_out i) (own_at (replicate (n + 1) fresh) i)
   stands_first zero h few = absurd (omega arith)
-  stands_first (suc i) h few = rw (nothings n i (omega arith), same_all (n + 1) (suc i) fresh) (idle (idle_first (suc i)))
+  stands_first (suc i) h few = rw (nothings n i (omega arith), same_all (n + 1) (suc i) fresh) (vacant (vacant_first (suc i)))
 
   heard_first : (k j : ℕ) → get_or (seat laid_out k).heard j 0 ≤ announced (own_at (replicate (n + 1) fresh) j)
   heard_first k j = each (λ u. get_or u.heard j 0 ≤ announced (own_at (replicate (n + 1) fresh) j)) (omega arith) (omega arith) k

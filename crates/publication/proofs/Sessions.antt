@@ -16,8 +16,8 @@ use Rattle.lock_rules.specs.declared.calls.Entry.{Entry}
 use Rattle.lock_rules.specs.Legal.{Answered, calls_of}
 use Rattle.publication.specs.Words.{word_of, OUT, POSTED, SERVED, CLOSED, EMPTY}
 use Rattle.publication.specs.Views.{Own, Listing, entry, answer, asks}
-use Rattle.publication.specs.Rule.{blank, BoardState, word, home, seat, own_at, announced, IsIdle, IsServed, Stands, HasBook, IsSession, IsOrderly}
-use Rattle.publication.specs.Rule.Stands.{idle, posted, closed}
+use Rattle.publication.specs.Rule.{blank, BoardState, word, home, seat, own_at, announced, IsVacant, IsServed, Stands, HasBook, IsSession, IsOrderly}
+use Rattle.publication.specs.Rule.Stands.{vacant, posted, retired}
 use Rattle.publication.specs.List.{link, belongs, IsLinked, IsRuled}
 use Rattle.publication.specs.Kinds.{Seated, own, as_session, idling, heard_all, started, starts, posting, posts, IsUnanswered, looks_for_reply, taking, Took, takes_reply, retiring, retires, leaving, leaves}
 use Rattle.publication.specs.declared.view.View.{View}
@@ -25,7 +25,7 @@ use Rattle.publication.specs.declared.slot.Held.{Held}
 use Rattle.publication.specs.declared.slot.Held.TheVariants.{Nothing, Asked, Replied}
 use Rattle.publication.proofs.Lists.{at_there, at_home, at_taken, IsCut, cut}
 use Rattle.publication.proofs.Histories.{legal-begins, length-begins, calls-cut, calls-fewer}
-use Rattle.publication.proofs.Records.{idle_word, at_most_one, is_idle, is_served, is_waiting, left, IsLeft, leaves_record, lacks, idle_announced, waits_announced}
+use Rattle.publication.proofs.Records.{vacant_word, at_most_one, is_vacant, is_served, is_waiting, left, IsLeft, leaves_record, lacks, idle_announced, waits_announced}
 use Rattle.publication.proofs.Linking.{links_kept, IsKeptHere, aside, same_walk}
 use Rattle.publication.proofs.Moves.{IsOwnStep, moved}
 
@@ -110,20 +110,20 @@ module _ (i : ℕ) (v : View) (is : v.number ≡ i) (some_number : 0 < i) (s : B
 
   -- start
 
-  start_step : IsIdle o.history i (word s i) (home s i) v.own
+  start_step : IsVacant o.history i (word s i) (home s i) v.own
       → IsOwnStep s o i v (word s i) opt.none v.front (own None v.own.collected v.own.listed) v.heard (idling v.listing) me some_number small lives
   start_step t = record {
     more = omega (arith, idle_announced v.own t.none);
     hears = λ j ne. refl;
     hears_own = omega (arith, heard_own, idle_announced v.own t.none);
-    was_busy = λ e. absurd (idle_word (word s i) t.is (omega arith) (omega arith));
+    was_busy = λ e. absurd (vacant_word (word s i) t.is (omega arith) (omega arith));
     is_busy = λ e. e;
     begins = begins;
     whole = whole;
-    stands = idle record { is = t.is; none = refl; out = λ _. refl; laid = λ e. absurd (cc e); publishes = refl; calls = t.calls };
+    stands = vacant record { is = t.is; none = refl; out = λ _. refl; laid = λ e. absurd (cc e); publishes = refl; calls = t.calls };
   }
 
-  start_goes : (more : List (ℕ × Held)) → v.own.started ≡ false → IsIdle o.history i (word s i) (home s i) v.own
+  start_goes : (more : List (ℕ × Held)) → v.own.started ≡ false → IsVacant o.history i (word s i) (home s i) v.own
       → Goes s i i (v, more) (starts (step o.slots (word_of i) 0 0 opt.none) (v, more)) (word s i)
   start_goes more unstarted t = (
     started v,
@@ -162,13 +162,13 @@ module _ (i : ℕ) (v : View) (is : v.number ≡ i) (some_number : 0 < i) (s : B
   hears_posted call true was = heard_at_most
   hears_posted call false was = was
 
-  post_step : (call : Call) (b : Bool) → IsIdle o.history i (word s i) (home s i) v.own
+  post_step : (call : Call) (b : Bool) → IsVacant o.history i (word s i) (home s i) v.own
       → IsOwnStep s o i v POSTED (opt.some (Asked call)) v.front (own_posted call b) (heard_posted b) (idling v.listing) me some_number small lives
   post_step call b t = record {
     more = omega (arith, idle_announced v.own t.none);
     hears = hears_others b;
     hears_own = hears_posted call b (omega (arith, heard_own, idle_announced v.own t.none));
-    was_busy = λ e. absurd (idle_word (word s i) t.is (omega arith) (omega arith));
+    was_busy = λ e. absurd (vacant_word (word s i) t.is (omega arith) (omega arith));
     is_busy = λ e. absurd (omega arith);
     begins = begins;
     whole = whole;
@@ -181,7 +181,7 @@ module _ (i : ℕ) (v : View) (is : v.number ≡ i) (some_number : 0 < i) (s : B
       (λ (here : w ≡ EMPTY). subst (λ (n : ℕ). belongs POSTED (n == EMPTY) ≡ Some b → belongs n v.own.listed ≡ Some b) (sym here) (λ z. z) e)
       (λ (out : w ≡ OUT). subst (λ (n : ℕ). belongs POSTED (n == EMPTY) ≡ Some b → belongs n v.own.listed ≡ Some b) (sym out) (λ z. z) e) is
 
-  post_goes : (call : Call) (more : List (ℕ × Held)) → IsIdle o.history i (word s i) (home s i) v.own
+  post_goes : (call : Call) (more : List (ℕ × Held)) → IsVacant o.history i (word s i) (home s i) v.own
       → Goes s i i (v, (i, Asked call) ∷ more) (posts (step o.slots (word_of i) POSTED 0 opt.none) (v, (i, Asked call) ∷ more)) POSTED
   post_goes call more t = (
     posting v call (word s i == EMPTY),
@@ -209,9 +209,9 @@ module _ (i : ℕ) (v : View) (is : v.number ≡ i) (some_number : 0 < i) (s : B
   abbrev left_word : Bool → ℕ
   left_word b = cond b EMPTY OUT
 
-  left_idle : (b : Bool) → (left_word b ≡ EMPTY) ⊎ (left_word b ≡ OUT)
-  left_idle true = inl refl
-  left_idle false = inr refl
+  left_vacant : (b : Bool) → (left_word b ≡ EMPTY) ⊎ (left_word b ≡ OUT)
+  left_vacant true = inl refl
+  left_vacant false = inr refl
 
   left_belongs : (b c : Bool) → belongs (left_word b) c ≡ Some b
   left_belongs true c = refl
@@ -262,10 +262,10 @@ module _ (i : ℕ) (v : View) (is : v.number ≡ i) (some_number : 0 < i) (s : B
       hears = λ j ne. refl;
       hears_own = omega (arith, heard_own, no_more);
       was_busy = λ e. absurd (omega (arith, f.is));
-      is_busy = λ e. absurd (idle_word (left_word b) (left_idle b) (omega arith) (omega arith));
+      is_busy = λ e. absurd (vacant_word (left_word b) (left_vacant b) (omega arith) (omega arith));
       begins = cut_off.front;
       whole = known_whole;
-      stands = idle record { is = left_idle b; none = refl; out = λ _. refl; laid = λ e. absurd (cc e); publishes = f.publishes; calls = f.calls };
+      stands = vacant record { is = left_vacant b; none = refl; out = λ _. refl; laid = λ e. absurd (cc e); publishes = f.publishes; calls = f.calls };
     }
 
     take_won : (more : List (ℕ × Held)) → word s i ≡ SERVED
@@ -297,20 +297,20 @@ module _ (i : ℕ) (v : View) (is : v.number ≡ i) (some_number : 0 < i) (s : B
   abbrev own_retired : Own
   own_retired = record { started = true; retired = true; pending = None; collected = v.own.collected; listed = v.own.listed }
 
-  retire_step : v.own.started ≡ true → IsIdle o.history i (word s i) (home s i) v.own
+  retire_step : v.own.started ≡ true → IsVacant o.history i (word s i) (home s i) v.own
       → IsOwnStep s o i v CLOSED (home s i) v.front own_retired v.heard (idling v.listing) me some_number small lives
   retire_step has_started t = record {
     more = omega (arith, idle_announced v.own t.none);
     hears = λ j ne. refl;
     hears_own = omega (arith, heard_own, idle_announced v.own t.none);
-    was_busy = λ e. absurd (idle_word (word s i) t.is (omega arith) (omega arith));
+    was_busy = λ e. absurd (vacant_word (word s i) t.is (omega arith) (omega arith));
     is_busy = λ e. absurd (omega arith);
     begins = begins;
     whole = whole;
-    stands = closed record { is = refl; none = refl; out = λ _. t.out has_started; laid = λ e. absurd (cc e); retired = refl; calls = t.calls };
+    stands = retired record { is = refl; none = refl; out = λ _. t.out has_started; laid = λ e. absurd (cc e); retired = refl; calls = t.calls };
   }
 
-  retire_goes : (more : List (ℕ × Held)) → v.own.started ≡ true → IsIdle o.history i (word s i) (home s i) v.own
+  retire_goes : (more : List (ℕ × Held)) → v.own.started ≡ true → IsVacant o.history i (word s i) (home s i) v.own
       → Goes s i i (v, more) (λ _. retires (step o.slots (word_of i) CLOSED 0 opt.none) (v, more) CLOSED) CLOSED
   retire_goes more has_started t = (
     retiring v,
@@ -356,12 +356,12 @@ module _ (slots id i : ℕ) (v : View) (more : List (ℕ × Held)) (is : v.numbe
   pub start_kept : v.own.started ≡ false → v.own.pending ≡ None → v.own.retired ≡ false
       → Allows IsRuled slots id (v, more) (word_of i) (λ n. n) (starts (step slots (word_of i) 0 0 opt.none) (v, more))
   start_kept unstarted none live = seated slots id i i v more (λ n. n) (starts (step slots (word_of i) 0 0 opt.none) (v, more)) is some_number
-      (λ s o l me small wide e. start_goes i v is some_number s o l me small more unstarted (is_idle (stand i v is some_number s o l me small) none live))
+      (λ s o l me small wide e. start_goes i v is some_number s o l me small more unstarted (is_vacant (stand i v is some_number s o l me small) none live))
 
   pub post_kept : (call : Call) → is_some v.own.pending ≡ false → v.own.retired ≡ false
       → Allows IsRuled slots id (v, (i, Asked call) ∷ more) (word_of i) (λ _. POSTED) (posts (step slots (word_of i) POSTED 0 opt.none) (v, (i, Asked call) ∷ more))
   post_kept call none live = seated slots id i i v ((i, Asked call) ∷ more) (λ _. POSTED) (posts (step slots (word_of i) POSTED 0 opt.none) (v, (i, Asked call) ∷ more)) is some_number
-      (λ s o l me small wide e. post_goes i v is some_number s o l me small call more (is_idle (stand i v is some_number s o l me small) (lacks v.own.pending none) live))
+      (λ s o l me small wide e. post_goes i v is some_number s o l me small call more (is_vacant (stand i v is some_number s o l me small) (lacks v.own.pending none) live))
 
   pub look_kept : Allows IsRuled slots id (v, more) (word_of i) (λ n. n) (looks_for_reply (step slots (word_of i) 0 0 opt.none) (v, more))
   look_kept = seated slots id i i v more (λ n. n) (looks_for_reply (step slots (word_of i) 0 0 opt.none) (v, more)) is some_number
@@ -374,7 +374,7 @@ module _ (slots id i : ℕ) (v : View) (more : List (ℕ × Held)) (is : v.numbe
   pub retire_kept : is_some v.own.pending ≡ false → v.own.retired ≡ false → v.own.started ≡ true
       → Allows IsRuled slots id (v, more) (word_of i) (λ _. CLOSED) (λ _. retires (step slots (word_of i) CLOSED 0 opt.none) (v, more) CLOSED)
   retire_kept none live has_started = seated slots id i i v more (λ _. CLOSED) (λ _. retires (step slots (word_of i) CLOSED 0 opt.none) (v, more) CLOSED) is some_number
-      (λ s o l me small wide e. retire_goes i v is some_number s o l me small more has_started (is_idle (stand i v is some_number s o l me small) (lacks v.own.pending none) live))
+      (λ s o l me small wide e. retire_goes i v is some_number s o l me small more has_started (is_vacant (stand i v is some_number s o l me small) (lacks v.own.pending none) live))
 
   pub leave_kept : is_some v.own.pending ≡ false
       → Allows IsRuled slots id (v, (i, Nothing) ∷ more) (word_of i) (λ n. n) (leaves (step slots (word_of i) 0 0 opt.none) (v, (i, Nothing) ∷ more))

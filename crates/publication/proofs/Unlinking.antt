@@ -12,7 +12,7 @@ use Rattle.lock_rules.specs.declared.calls.Call.{Call}
 use Rattle.publication.specs.Words.{word_of, link_of, session_of_word, FREE, OUT, BUSY, CLOSED, EMPTY}
 use Rattle.publication.specs.Views.{Combiner, Listing}
 use Rattle.publication.specs.Rule.{blank, BoardState, word, home, seat, own_at, Stands, HasBook, IsOrderly}
-use Rattle.publication.specs.Rule.Stands.{idle}
+use Rattle.publication.specs.Rule.Stands.{vacant}
 use Rattle.publication.specs.List.{IsOn, AreApart, head_of, first_of, behind, without, with_behind, Chain, link, belongs, is_listed, IsUnlinked, IsWalking, IsLinked, IsRuled}
 use Rattle.publication.specs.Kinds.{parting, unlinks_behind, unlinks, parted, marks_out, rejoining, relinks}
 use Rattle.publication.specs.declared.view.View.{View}
@@ -199,7 +199,7 @@ module _ (i : ℕ) (v : View) (is : v.number ≡ i) (some_number : 0 < i) (s : B
       hands = λ j some ne e. omega (arith, e, empty, some);
       new_open = λ call shown. absurd (let t = o.opens i w call (ap (λ (x : View). get_elem? x.combiner.opened w) seat_is ∙ shown) in omega (arith, t.is_busy, hit));
       new_busy = λ e. absurd (omega arith);
-      stands = let t = is_empty (o.stands w some_off few) hit in idle record { is = inr refl; none = t.none; out = t.out; laid = t.laid; publishes = t.publishes; calls = t.calls };
+      stands = let t = is_empty (o.stands w some_off few) hit in vacant record { is = inr refl; none = t.none; out = t.out; laid = t.laid; publishes = t.publishes; calls = t.calls };
       grow = λ j x a y ne t. t;
     }
 

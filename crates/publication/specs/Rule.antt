@@ -82,7 +82,7 @@ heard_of v j = slice_index v.heard j
 module _ (h : List Entry) (i w : ℕ) (slot : opt.Option Held) (own : Own) where
   -- EMPTY or OUT: nothing is pending, all calls in the history are collected, and the slot is with the session, from its start
   -- until it is handed in
-  pub record IsIdle : Type 0 where
+  pub record IsVacant : Type 0 where
     pub is : (w ≡ EMPTY) ⊎ (w ≡ OUT)
     pub none : own.pending ≡ None
     pub out : own.started ≡ true → slot ≡ opt.none
@@ -120,7 +120,7 @@ module _ (h : List Entry) (i w : ℕ) (slot : opt.Option Held) (own : Own) where
 
   -- CLOSED: nothing is pending, all calls in the history are collected, and the session publishes no more; the slot is with it
   -- until it is handed in
-  pub record IsClosed : Type 0 where
+  pub record IsRetired : Type 0 where
     pub is : w ≡ CLOSED
     pub none : own.pending ≡ None
     pub out : own.started ≡ true → slot ≡ opt.none
@@ -130,11 +130,11 @@ module _ (h : List Entry) (i w : ℕ) (slot : opt.Option Held) (own : Own) where
 
 -- a record stands in one of these ways
 pub data Stands (h : List Entry) (i w : ℕ) (slot : opt.Option Held) (own : Own) : Type 0 where
-  idle : IsIdle h i w slot own → Stands h i w slot own
+  vacant : IsVacant h i w slot own → Stands h i w slot own
   posted : (call : Call) (floor : ℕ) → IsPosted h i w slot own call floor → Stands h i w slot own
   busy : (call : Call) (floor : ℕ) → IsBusy h i w slot own call floor → Stands h i w slot own
   served : (call : Call) (floor place : ℕ) (reply : Reply) → IsServed h i w slot own call floor place reply → Stands h i w slot own
-  closed : IsClosed h i w slot own → Stands h i w slot own
+  retired : IsRetired h i w slot own → Stands h i w slot own
 
 -- Where the book is, and what is opened.
 
