@@ -1,5 +1,6 @@
 -- The publication list as plain data: what is on it, and what its links name.
-use Rattle.std.proofs.Common.{◌≡◌, ◌≢◌, ◌⊎◌, inl, inr, ⊎_elim, ℕ, ◌<◌, ◌==◌, true, false, Bool, cond, Option, Some, None, drop, List, [], ◌∷◌, ◌++◌, refl, sym, ap, ◌∙◌, subst, arith, eq-eqb, ne_eqb}
+use Rattle.std.proofs.Common.{◌≡◌, ◌≢◌, ◌⊎◌, inl, inr, ⊎_elim, ℕ, Bool, cond, Some, drop, List, [], ◌∷◌, ◌++◌, refl, sym, ap, ◌∙◌, subst, eq-eqb, ne_eqb}
+use Rattle.std.proofs.lemmas.Option.{same_Some}
 use mathlib.Core.Logic.{dite}
 use native.Mathlib.Decide.{ℕ_discrete}
 use Rattle.publication.specs.List.{IsOn, AreApart, head_of, first_of, behind, without, with_behind, Chain}
@@ -112,10 +113,7 @@ pub record IsSplit (q w : ℕ) (l : List ℕ) : Type 0 where
 
 next_of : (l : List ℕ) (w : ℕ) → first_of l ≡ Some w → (ys : List ℕ) × (l ≡ w ∷ ys)
 next_of [] w e = absurd (cc e)
-next_of (x ∷ xs) w e = (xs, ap (λ (y : ℕ). y ∷ xs) (same x w e))
-  where
-    same : (a b : ℕ) → Some a ≡ Some b → a ≡ b
-    same a b e = cc e
+next_of (x ∷ xs) w e = (xs, ap (λ (y : ℕ). y ∷ xs) (same_Some x w e))
 
 pub splits : (q w : ℕ) (l : List ℕ) → IsOn q l → first_of (behind q l) ≡ Some w → IsSplit q w l
 splits q w [] on e = absurd on

@@ -12,19 +12,20 @@ use Rattle.lock_rules.specs.declared.calls.Reply.{Reply}
 use Rattle.lock_rules.specs.declared.calls.Entry.{Entry}
 use Rattle.lock_rules.specs.Legal.{Answered, IsLegal, calls_of}
 use Rattle.publication.specs.Words.{word_of, session_of_word, POSTED, BUSY, SERVED}
-use Rattle.publication.specs.List.{link, belongs, IsLinked, IsRuled}
+use Rattle.publication.specs.List.{belongs, IsLinked, IsRuled}
 use Rattle.publication.specs.Views.{Own, Combiner, entry, answer, asks}
-use Rattle.publication.specs.Rule.{blank, BoardState, word, home, seat, own_at, announced, IsPosted, IsBusy, Stands, HasBook, IsOpened, IsSession, IsOrderly}
+use Rattle.publication.specs.Rule.{blank, BoardState, word, home, seat, own_at, announced, IsPosted, IsBusy, Stands, HasBook, IsOpened, IsOrderly}
 use Rattle.publication.specs.Rule.Stands.{posted, busy, served}
 use Rattle.publication.specs.Kinds.{combiner, as_combiner, opened_in, called, call_at, HasEntered, looks_at, looks_at_record, opening, Opened, opens_record, opens, in_hand, lays, picks_slot, picks, answering, answers, putting_back, puts_back}
 use Rattle.publication.specs.declared.view.View.{View}
 use Rattle.publication.specs.declared.slot.Held.{Held}
 use Rattle.publication.specs.declared.slot.Held.TheVariants.{Nothing, Asked, Replied}
 use Rattle.publication.proofs.Lists.{at_there, at_home, prefix_self, there_at}
+use Rattle.publication.proofs.Seen.{session_of, heard_few, book_of, opened_of}
 use Rattle.publication.proofs.Histories.{calls-mine}
 use Rattle.publication.proofs.Records.{is_posted, is_busy, all_entered, posted_entered, own_entered, grown, as_called}
 use Rattle.publication.proofs.Sessions.{Goes, seated, unmoved}
-use Rattle.publication.proofs.Linking.{links_kept, IsKeptHere, aside, same_walk}
+use Rattle.publication.proofs.Linking.{links_kept, aside, same_walk}
 use Rattle.publication.proofs.Combines.{IsRecordStep, combined}
 
 -- the words of the sessions lie apart
@@ -37,13 +38,13 @@ module _ (i : ℕ) (v : View) (is : v.number ≡ i) (some_number : 0 < i) (s : B
   is_me = (at_there s.views i v blank me).0
 
   book : HasBook o.history (word s 0) i v
-  book = subst (λ (u : View). u.combiner.has_book ≡ true → HasBook o.history (word s 0) i u) is_me (o.books i) has
+  book = book_of s o i v me has
 
   stands_at : Stands o.history j (word s j) (home s j) (own_at o.owns j)
   stands_at = o.stands j some_record few
 
   heard_at : get_or v.heard j 0 ≤ announced (own_at o.owns j)
-  heard_at = subst (λ (u : View). get_or u.heard j 0 ≤ announced (own_at o.owns j)) is_me (o.heard i j)
+  heard_at = heard_few s o i v me j
 
   known : length (calls_of j v.front) ≡ length (calls_of j o.history)
   known = ap (λ (f : List Entry). length (calls_of j f)) book.whole
@@ -73,7 +74,7 @@ module _ (i : ℕ) (v : View) (is : v.number ≡ i) (some_number : 0 < i) (s : B
   }
 
   own_is : v.own ≡ own_at o.owns i
-  own_is = (subst (λ (u : View). u.number ≢ 0 → IsSession o.slots o.owns i u) is_me (o.sessions i) (λ e. omega arith)).own_is
+  own_is = (session_of s o i v me (λ e. omega arith)).own_is
 
   -- a change of the record's word from one to another that stand for a pending call leaves the publication list as it is
   still_listed : (n : ℕ) (at : opt.Option Held) (front : List Entry) (d : Combiner) → ((b : Bool) → belongs n b ≡ belongs (word s j) b)
@@ -175,7 +176,7 @@ module _ (i : ℕ) (v : View) (is : v.number ≡ i) (some_number : 0 < i) (s : B
   -- the record is opened, with this call
   module _ (call : Call) (shown : get_elem? v.combiner.opened j ≡ opt.some (Some call)) where
     was : IsOpened s o.owns v.combiner j call
-    was = subst (λ (u : View). get_elem? u.combiner.opened j ≡ opt.some (Some call) → IsOpened s o.owns u.combiner j call) is_me (o.opens i j call) shown
+    was = opened_of s o i v me j call shown
 
     busy_is : IsBusy o.history j (word s j) (home s j) (own_at o.owns j) call was.call_of.0
     busy_is = let t = is_busy stands_at was.is_busy in as_called o.history j (word s j) (home s j) (own_at o.owns j) t.0 t.1 call was.call_of.0 t.2 was.call_of.1

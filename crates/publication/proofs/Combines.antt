@@ -18,6 +18,7 @@ use Rattle.publication.specs.declared.slot.Load.{Load}
 use Rattle.publication.specs.declared.slot.Held.{Held}
 use Rattle.publication.specs.declared.slot.Held.TheVariants.{Nothing, Home}
 use Rattle.publication.proofs.Lists.{at_there, each_set, prefix_self, prefix_trans}
+use Rattle.publication.proofs.Seen.{session_of, heard_few, others_of, book_of, opened_of}
 use Rattle.publication.proofs.Others.{still-true}
 
 -- a combiner has opened no record
@@ -67,7 +68,7 @@ module _ (s : BoardState) (o : IsOrderly s) (k : ℕ) (v : View) (x n : ℕ) (at
 
   heard_kept : (i j : ℕ) → get_or (seat after i).heard j 0 ≤ announced (own_at o.owns j)
   heard_kept i j = each_set s.views k u blank (λ i y. get_or y.heard j 0 ≤ announced (own_at o.owns j)) sits
-      (subst (λ (y : View). get_or y.heard j 0 ≤ announced (own_at o.owns j)) is_me (o.heard k j)) (λ i ne. o.heard i j) i
+      (heard_few s o k v me j) (λ i ne. o.heard i j) i
 
   waits_kept : (j : ℕ) → (own_at o.owns j).pending ≢ None → (seat after j).own ≡ own_at o.owns j
   waits_kept = each_set s.views k u blank (λ j y. (own_at o.owns j).pending ≢ None → y.own ≡ own_at o.owns j) sits
@@ -82,16 +83,31 @@ module _ (s : BoardState) (o : IsOrderly s) (k : ℕ) (v : View) (x n : ℕ) (at
 
   others_kept : (h : List Entry) → IsPrefix o.history h → (i : ℕ) → AreTrue h after o.slots o.owns (seat after i).others
   others_kept h grows = each_set s.views k u blank (λ i y. AreTrue h after o.slots o.owns y.others) sits
-      (still h grows v.others (subst (λ (y : View). AreTrue o.history s o.slots o.owns y.others) is_me (o.others k))) (λ i ne. still h grows (seat s i).others (o.others i))
+      (still h grows v.others (others_of s o k v me)) (λ i ne. still h grows (seat s i).others (o.others i))
 
   sessions_kept : length d.opened ≡ length v.combiner.opened → (j : ℕ) → (seat after j).number ≢ 0 → IsSession o.slots o.owns j (seat after j)
   sessions_kept wide = each_set s.views k u blank (λ j y. y.number ≢ 0 → IsSession o.slots o.owns j y) sits
-      (λ some_number. let t : IsSession o.slots o.owns k v = subst (λ (y : View). y.number ≢ 0 → IsSession o.slots o.owns k y) is_me (o.sessions k) some_number in
+      (λ some_number. let t = session_of s o k v me some_number in
       record { own_is = t.own_is; is = t.is; small = t.small; wide = wide ∙ t.wide })
       (λ j ne. o.sessions j)
 
   makes_kept : IsMaker o.slots (length (set s.views k u)) (seat after 0)
   makes_kept = subst (λ (j : ℕ). IsMaker o.slots j (seat after 0)) (sym seats_kept) (subst (λ (y : View). IsMaker o.slots (length s.views) y) (sym (seat_other 0 not_mine)) o.makes)
+
+  -- the seat of the book, where this one alone may have it
+  books_kept : (h : List Entry) → (d.has_book ≡ true → HasBook h (word after 0) k u) → ((j : ℕ) → j ≢ k → (seat s j).combiner.has_book ≢ true)
+      → (j : ℕ) → (seat after j).combiner.has_book ≡ true → HasBook h (word after 0) j (seat after j)
+  books_kept h here alone = each_set s.views k u blank (λ j y. y.combiner.has_book ≡ true → HasBook h (word after 0) j y) sits here (λ j ne has_too. absurd (alone j ne has_too))
+
+  -- this one has it
+  with_book : word after 0 ≡ k → d.has_book ≡ true → k < o.slots → home after 0 ≡ opt.none → ((seat after (word after 0)).combiner.has_book ≡ true) × (word after 0 < o.slots) × (home after 0 ≡ opt.none)
+  with_book lock has few out = (ap (λ (j : ℕ). (seat after j).combiner.has_book) lock ∙ (ap (λ (y : View). y.combiner.has_book) seat_here ∙ has), omega (arith, lock, few), out)
+
+  -- what is opened, where no other seat has opened a record
+  opens_kept : ((j : ℕ) (call : Call) → get_elem? d.opened j ≡ opt.some (Some call) → IsOpened after o.owns d j call) → ((i : ℕ) → i ≢ k → IsNothingOpened (seat s i).combiner)
+      → (i j : ℕ) (call : Call) → get_elem? (seat after i).combiner.opened j ≡ opt.some (Some call) → IsOpened after o.owns (seat after i).combiner j call
+  opens_kept here none = each_set s.views k u blank (λ i y. (j : ℕ) (call : Call) → get_elem? y.combiner.opened j ≡ opt.some (Some call) → IsOpened after o.owns y.combiner j call) sits
+      here (λ i ne j call is. absurd (none i ne j call is))
 
   -- what a combiner's step on record x has to show, where h is the history after it: it knows that whole; other records are opened as they were, and no slot of theirs was in hand;
   -- record x is opened where its word is BUSY, and stands; and the others stand in the longer history as they stood
@@ -114,7 +130,7 @@ module _ (s : BoardState) (o : IsOrderly s) (k : ℕ) (v : View) (x n : ℕ) (at
 
   module _ (h : List Entry) (t : IsRecordStep h) where
     book_before : HasBook o.history (word s 0) k v
-    book_before = subst (λ (y : View). y.combiner.has_book ≡ true → HasBook o.history (word s 0) k y) is_me (o.books k) t.has
+    book_before = book_of s o k v me t.has
 
     not_lock : 0 ≢ x
     not_lock e = omega (arith, t.some_record)
@@ -125,9 +141,6 @@ module _ (s : BoardState) (o : IsOrderly s) (k : ℕ) (v : View) (x n : ℕ) (at
     alone : (j : ℕ) → j ≢ k → (seat s j).combiner.has_book ≡ true → ⊥
     alone j ne has_too = ne (sym (o.books j has_too).lock_is ∙ book_before.lock_is)
 
-    was_open : (j : ℕ) (call : Call) → get_elem? v.combiner.opened j ≡ opt.some (Some call) → IsOpened s o.owns v.combiner j call
-    was_open j call = subst (λ (y : View). get_elem? y.combiner.opened j ≡ opt.some (Some call) → IsOpened s o.owns y.combiner j call) is_me (o.opens k j call)
-
     fronts_after : (j : ℕ) → IsPrefix (seat after j).front h
     fronts_after = each_set s.views k u blank (λ j y. IsPrefix y.front h) sits (subst (λ (f : List Entry). IsPrefix f h) (sym t.whole) (prefix_self h))
         (λ j ne. prefix_trans (seat s j).front o.history h (o.fronts j) t.grows)
@@ -136,17 +149,6 @@ module _ (s : BoardState) (o : IsOrderly s) (k : ℕ) (v : View) (x n : ℕ) (at
     stands_after j some_session small = dite (ℕ_discrete j x)
         (λ e. subst (λ (i : ℕ). Stands h i (word after i) (home after i) (own_at o.owns i)) (sym e) (rw (word_here t.few, home_here t.few) t.stands))
         (λ ne. rw (word_other j ne, home_other j ne) (t.grow j (word s j) (home s j) (own_at o.owns j) ne (o.stands j some_session small)))
-
-    books_after : (j : ℕ) → (seat after j).combiner.has_book ≡ true → HasBook h (word after 0) j (seat after j)
-    books_after = each_set s.views k u blank (λ j y. y.combiner.has_book ≡ true → HasBook h (word after 0) j y) sits
-        (λ _. record { lock_is = lock_after; session = mine; named = book_before.named; whole = t.whole }) (λ j ne has_too. absurd (alone j ne has_too))
-
-    taken_after : word after 0 ≢ FREE → ((seat after (word after 0)).combiner.has_book ≡ true) × (word after 0 < o.slots) × (home after 0 ≡ opt.none)
-    taken_after _ = let r = o.taken (λ none. omega (arith, book_before.lock_is)) in (
-      ap (λ (j : ℕ). (seat after j).combiner.has_book) lock_after ∙ (ap (λ (y : View). y.combiner.has_book) seat_here ∙ t.still),
-      omega (arith, r.1, word_other 0 not_lock),
-      home_other 0 not_lock ∙ r.2,
-    )
 
     open_here : (j : ℕ) (call : Call) → j ≡ x → get_elem? d.opened j ≡ opt.some (Some call) → IsOpened after o.owns d j call
     open_here j call e is = let r = t.new_open call (sym (ap (λ (i : ℕ). get_elem? d.opened i) e) ∙ is) in record {
@@ -158,18 +160,13 @@ module _ (s : BoardState) (o : IsOrderly s) (k : ℕ) (v : View) (x n : ℕ) (at
     }
 
     open_other : (j : ℕ) (call : Call) → j ≢ x → get_elem? d.opened j ≡ opt.some (Some call) → IsOpened after o.owns d j call
-    open_other j call ne is = let r = was_open j call (sym (t.others j ne) ∙ is) in record {
+    open_other j call ne is = let r = opened_of s o k v me j call (sym (t.others j ne) ∙ is) in record {
       book = t.still;
       record_of = r.record_of;
       is_busy = word_other j ne ∙ r.is_busy;
       call_of = r.call_of;
       laid = λ away. home_other j ne ∙ r.laid (t.hands j r.record_of ne);
     }
-
-    opens_after : (i j : ℕ) (call : Call) → get_elem? (seat after i).combiner.opened j ≡ opt.some (Some call) → IsOpened after o.owns (seat after i).combiner j call
-    opens_after = each_set s.views k u blank (λ i y. (j : ℕ) (call : Call) → get_elem? y.combiner.opened j ≡ opt.some (Some call) → IsOpened after o.owns y.combiner j call) sits
-        (λ j call is. dite (ℕ_discrete j x) (λ e. open_here j call e is) (λ ne. open_other j call ne is))
-        (λ i ne j call is. absurd (alone i ne (o.opens i j call is).book))
 
     -- a record that was BUSY is opened by this seat
     was_opened : (j : ℕ) → 0 < j → word s j ≡ BUSY → (call : Call) × (get_elem? v.combiner.opened j ≡ opt.some (Some call))
@@ -199,10 +196,10 @@ module _ (s : BoardState) (o : IsOrderly s) (k : ℕ) (v : View) (x n : ℕ) (at
       heard = heard_kept;
       others = others_kept h t.grows;
       stands = stands_after;
-      books = books_after;
+      books = books_kept h (λ _. record { lock_is = lock_after; session = mine; named = book_before.named; whole = t.whole }) alone;
       free = λ none. absurd (omega (arith, lock_after));
-      taken = taken_after;
-      opens = opens_after;
+      taken = λ _. let r = o.taken (λ none. omega (arith, book_before.lock_is)) in with_book lock_after t.still (omega (arith, r.1, book_before.lock_is)) (home_other 0 not_lock ∙ r.2);
+      opens = opens_kept (λ j call is. dite (ℕ_discrete j x) (λ e. open_here j call e is) (λ ne. open_other j call ne is)) (λ i ne j call is. alone i ne (o.opens i j call is).book);
       opened = opened_after;
     }
 
@@ -213,7 +210,6 @@ module _ (s : BoardState) (o : IsOrderly s) (k : ℕ) (v : View) (x n : ℕ) (at
     pub named : v.number ≡ k
     pub same : d.opened ≡ v.combiner.opened
     pub none : (i : ℕ) → IsNothingOpened (seat s i).combiner
-    pub idle_all : (j : ℕ) → 0 < j → word s j ≢ BUSY
     pub alone : (j : ℕ) → j ≢ k → (seat s j).combiner.has_book ≢ true
     pub free : n ≡ FREE → (l : Box Load) × (at ≡ opt.some (Home l)) × IsHome o.history o.slots l.value
     pub taken : n ≢ FREE → (n ≡ k) × (d.has_book ≡ true) × (k < o.slots) × (at ≡ opt.none)
@@ -235,21 +231,6 @@ module _ (s : BoardState) (o : IsOrderly s) (k : ℕ) (v : View) (x n : ℕ) (at
     none_here : IsNothingOpened d
     none_here j call is = t.none k j call (ap (λ (y : View). get_elem? y.combiner.opened j) is_me ∙ (sym (ap (λ (l : List (Option Call)). get_elem? l j) t.same) ∙ is))
 
-    books_with : (j : ℕ) → (seat after j).combiner.has_book ≡ true → HasBook o.history (word after 0) j (seat after j)
-    books_with = each_set s.views k u blank (λ j y. y.combiner.has_book ≡ true → HasBook o.history (word after 0) j y) sits
-        (λ has. record { lock_is = lock_now ∙ t.mine_then has; session = mine; named = t.named; whole = t.whole }) (λ j ne has_too. absurd (t.alone j ne has_too))
-
-    taken_with : word after 0 ≢ FREE → ((seat after (word after 0)).combiner.has_book ≡ true) × (word after 0 < o.slots) × (home after 0 ≡ opt.none)
-    taken_with some_now = let r = t.taken (λ z. some_now (lock_now ∙ z)) in (
-      ap (λ (j : ℕ). (seat after j).combiner.has_book) (lock_now ∙ r.0) ∙ (ap (λ (y : View). y.combiner.has_book) seat_here ∙ r.1),
-      omega (arith, lock_now, r.0, r.2),
-      slot_now ∙ r.3,
-    )
-
-    opens_none : (i j : ℕ) (call : Call) → get_elem? (seat after i).combiner.opened j ≡ opt.some (Some call) → IsOpened after o.owns (seat after i).combiner j call
-    opens_none = each_set s.views k u blank (λ i y. (j : ℕ) (call : Call) → get_elem? y.combiner.opened j ≡ opt.some (Some call) → IsOpened after o.owns y.combiner j call) sits
-        (λ j call is. absurd (none_here j call is)) (λ i ne j call is. absurd (t.none i j call is))
-
     pub relocked : IsOrderly after
     relocked = record {
       history = o.history;
@@ -268,9 +249,9 @@ module _ (s : BoardState) (o : IsOrderly s) (k : ℕ) (v : View) (x n : ℕ) (at
       heard = heard_kept;
       others = others_kept o.history (prefix_self o.history);
       stands = λ j some_session small. rw (word_other j (not_record j some_session), home_other j (not_record j some_session)) (o.stands j some_session small);
-      books = books_with;
+      books = books_kept o.history (λ has. record { lock_is = lock_now ∙ t.mine_then has; session = mine; named = t.named; whole = t.whole }) t.alone;
       free = λ free_now. let r = t.free (sym lock_now ∙ free_now) in (r.0, slot_now ∙ r.1, r.2);
-      taken = taken_with;
-      opens = opens_none;
-      opened = λ j some_session is. absurd (t.idle_all j some_session (sym (word_other j (not_record j some_session)) ∙ is));
+      taken = λ some_now. let r = t.taken (λ z. some_now (lock_now ∙ z)) in with_book (lock_now ∙ r.0) r.1 r.2 (slot_now ∙ r.3);
+      opens = opens_kept (λ j call is. absurd (none_here j call is)) (λ i ne. t.none i);
+      opened = λ j some_session is. let r = o.opened j some_session (sym (word_other j (not_record j some_session)) ∙ is) in absurd (t.none (word s 0) j r.0 r.1);
     }

@@ -11,13 +11,14 @@ use Rattle.lock_rules.specs.declared.calls.Entry.{Entry}
 use Rattle.lock_rules.specs.Legal.{IsLegal, calls_of}
 use Rattle.publication.specs.Views.{Handed}
 use Rattle.publication.specs.Closing.{WereHanded, Ends}
-use Rattle.publication.specs.Rule.{blank, BoardState, word, home, seat, own_at, IsHome, IsHanded, AreTrue, IsOrderly}
+use Rattle.publication.specs.Rule.{blank, BoardState, word, home, seat, own_at, IsHome, IsHanded, IsOrderly}
 use Rattle.publication.specs.List.{IsRuled}
 use Rattle.publication.specs.declared.view.View.{View}
 use Rattle.publication.specs.declared.slot.Load.{Load}
 use Rattle.publication.specs.declared.slot.Held.{Held}
 use Rattle.publication.specs.declared.slot.Held.TheVariants.{Home}
 use Rattle.publication.proofs.Lists.{at_there, at_home}
+use Rattle.publication.proofs.Seen.{others_of}
 use Rattle.publication.proofs.Records.{leaves_record}
 
 -- each session was handed in to the seat with the view v
@@ -34,7 +35,7 @@ pub record IsLast (slots : ℕ) (v : View) (l : Load) : Type 0 where
 ends : (s : BoardState) (o : IsOrderly s) (id : ℕ) (v : View) → get_elem? s.views id ≡ opt.some v → HasAll o.slots v → (l : Box Load) × (home s 0 ≡ opt.some (Home l)) × IsLast o.slots v l.value
 ends s o id v me all =
     let v_is : seat s id ≡ v = (at_there s.views id v blank me).0 in
-    let has : (p : ℕ) (x : Handed) → get_elem? v.others.handed p ≡ opt.some x → IsHanded o.history s o.slots o.owns x = (subst (λ (u : View). AreTrue o.history s o.slots o.owns u.others) v_is (o.others id)).handed in
+    let has : (p : ℕ) (x : Handed) → get_elem? v.others.handed p ≡ opt.some x → IsHanded o.history s o.slots o.owns x = (others_of s o id v me).handed in
     let is_free : word s 0 ≡ 0 = dite (ℕ_discrete (word s 0) 0) (λ e. e) (λ ne. absurd (
     let t = o.taken ne in let b = o.books (word s 0) t.0 in let g = all (word s 0) b.session t.1 in let y = has g.0 g.1 g.2 in
     not_gone s o (word s 0) t.0 (ap (λ (j : ℕ). (seat s j).number) (sym g.3) ∙ y.gone))) in

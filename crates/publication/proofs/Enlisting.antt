@@ -1,9 +1,8 @@
 -- The kinds of step on the publication list: the look at the head, link, the head exchange, and the walk.
-use Rattle.std.proofs.Common.{◌≡◌, ◌≢◌, ◌⊎◌, inl, inr, ⊎_elim, ℕ, zero, suc, ◌+◌, ◌<◌, ◌≤◌, cond, Bool, true, false, Option, Some, None, List, [], ◌∷◌, ◌++◌, length, get_or, set, eqb, sym, refl, ap, ◌∙◌, subst, arith, length-set, get_or-set_other, get_or-set_same}
+use Rattle.std.proofs.Common.{◌≡◌, ◌≢◌, ◌⊎◌, inl, inr, ⊎_elim, ℕ, zero, suc, ◌+◌, ◌<◌, ◌≤◌, Bool, true, false, Some, None, List, [], ◌∷◌, length, get_or, set, eqb, sym, refl, ap, ◌∙◌, subst, arith, length-set, get_or-set_other, get_or-set_same}
 use Rattle.std.proofs.lemmas.List.{set-get_or}
+use Rattle.std.proofs.lemmas.Option.{same_Some}
 use mathlib.Core.Option as opt
-use mathlib.Core.Logic.{dite}
-use native.Mathlib.Decide.{ℕ_discrete}
 use prog.Atomic.{either}
 use lib.ListN.{get_elem?}
 use Rattle.atomic_table.specs.Table.{keeps, step, Allows}
@@ -12,18 +11,19 @@ use Rattle.lock_rules.specs.declared.calls.Entry.{Entry}
 use Rattle.lock_rules.specs.Legal.{calls_of}
 use Rattle.publication.specs.Words.{word_of, link_of, session_of_word, END}
 use Rattle.publication.specs.Views.{Own, Listing}
-use Rattle.publication.specs.Rule.{blank, BoardState, word, home, seat, own_at, announced, Stands, HasBook, IsOpened, AreTrue, IsOrderly}
-use Rattle.publication.specs.List.{IsOn, AreApart, head_of, behind, Chain, link, belongs, is_listed, IsWalking, IsLinked, IsRuled}
-use Rattle.publication.specs.Kinds.{as_session, idling, heard_all, HasAnother, looks_at_head, linking, links, unlinking, enlisting, enlists, routing, IsRoute, MeetsAll, walks, walks_on_from, walks_on}
+use Rattle.publication.specs.Rule.{blank, BoardState, word, home, seat, own_at, announced, Stands, HasBook, IsOrderly}
+use Rattle.publication.specs.List.{IsOn, AreApart, Chain, link, belongs, is_listed, IsWalking, IsLinked, IsRuled}
+use Rattle.publication.specs.Kinds.{as_session, idling, heard_all, HasAnother, looks_at_head, linking, links, unlinking, enlisting, enlists, routing, MeetsAll, walks, walks_on_from, walks_on}
 use Rattle.publication.specs.declared.view.View.{View}
 use Rattle.publication.specs.declared.slot.Held.{Held}
 use Rattle.publication.proofs.Lists.{at_there, each_set, prefix_self}
+use Rattle.publication.proofs.Seen.{front_of, heard_few, whole_of}
 use Rattle.publication.proofs.Others.{still-true}
 use Rattle.publication.proofs.Chains.{chain_same, chain_head, on_right, chain_right, apart_right, link_names}
-use Rattle.publication.proofs.Linking.{IsKeptHere, aside, same_walk}
+use Rattle.publication.proofs.Linking.{aside, same_walk}
 use Rattle.publication.proofs.Records.{waiting_belongs, announced_listed, stands_listed, waits_for, waits_announced, at_most_one}
-use Rattle.publication.proofs.Moves.{IsOwnStep, moved}
-use Rattle.publication.proofs.Sessions.{GoesAt, seated_at, stand, begins, whole, heard_own, lives, is_me, hears_others, heard_at_most}
+use Rattle.publication.proofs.Moves.{moved}
+use Rattle.publication.proofs.Sessions.{GoesAt, seated_at, stand, heard_own, lives, is_me, hears_others, heard_at_most}
 
 -- the records' rule speaks of their words alone
 reworded : (s : BoardState) (ws : List ℕ) → length ws ≡ length s.words → ((j : ℕ) → get_or ws (word_of j) 0 ≡ word s j) → IsOrderly s → IsOrderly record { words = ws; homes = s.homes; views = s.views }
@@ -88,8 +88,8 @@ module _ (i : ℕ) (v : View) (is : v.number ≡ i) (some_number : 0 < i) (s : B
         hears_own = hears_own;
         was_busy = λ e. (e, refl, refl);
         is_busy = λ e. e;
-        begins = begins i v is some_number s o l me small;
-        whole = whole i v is some_number s o l me small;
+        begins = front_of s o i v me;
+        whole = whole_of s o i v me;
         stands = stands_listed b stands_here;
       }) in
       let kept : IsOrderly record { words = s.words; homes = s.homes; views = vs } =
@@ -168,14 +168,11 @@ module _ (i : ℕ) (v : View) (is : v.number ≡ i) (some_number : 0 < i) (s : B
       ons = λ j some e. l.ons j some (sym (claims_same j) ∙ e);
       offs = λ j some e. l.offs j some (sym (claims_same j) ∙ e);
       aims = each_set s.views i (linking v head) blank (λ j x. (n : ℕ) → x.listing.aim ≡ Some n → (0 < j) × (is_listed linked j ≡ Some false) × (link linked j ≡ n)) sits
-          (λ n e. (some_number, claims_same i ∙ claim waits unlisted, link_here ∙ some_is head n e))
+          (λ n e. (some_number, claims_same i ∙ claim waits unlisted, link_here ∙ same_Some head n e))
           (λ j ne n e. let r = l.aims j n e in (r.0, claims_same j ∙ r.1, link_other j ne ∙ r.2));
       walkers = each_set s.views i (linking v head) blank (λ j x. x.combiner.has_book ≡ true → IsWalking l.list l.off l.before x.listing) sits
           (λ has. same_walk s l i v (linking v head) linked_words s.homes me has refl refl refl) (λ j ne has. l.walkers j has);
     }
-      where
-        some_is : (a b : ℕ) → Some a ≡ Some b → a ≡ b
-        some_is a b e = cc e
 
     link_goes : (more : List (ℕ × Held)) → GoesAt s (link_of i) i (v, more) (λ _. links (step o.slots (link_of i) head 0 opt.none) (v, more) head) head
     link_goes more = (
@@ -289,8 +286,8 @@ module _ (i : ℕ) (v : View) (is : v.number ≡ i) (some_number : 0 < i) (s : B
 
     meets_all : v.listing.off ≡ 0 → MeetsAll o.slots v l.list
     meets_all none_off j some few more =
-        let known : length (calls_of j v.front) ≡ length (calls_of j o.history) = ap (λ (f : List Entry). length (calls_of j f)) (whole i v is some_number s o l me small has) in
-        let heard : get_or v.heard j 0 ≤ announced (own_at o.owns j) = subst (λ (x : View). get_or x.heard j 0 ≤ announced (own_at o.owns j)) seat_is (o.heard i j) in
+        let known : length (calls_of j v.front) ≡ length (calls_of j o.history) = ap (λ (f : List Entry). length (calls_of j f)) (whole_of s o i v me has) in
+        let heard : get_or v.heard j 0 ≤ announced (own_at o.owns j) = heard_few s o i v me j in
         let t = announced_listed o.history j (word s j) (home s j) (own_at o.owns j) (o.stands j some few) (omega (arith, more, known, heard)) in
         ⊎_elim (λ on. on) (λ (e : j ≡ l.off). absurd (omega (arith, e, some, here_walks.off_is, none_off))) (l.ons j some (ap (λ (w : Own). belongs (word s j) w.listed) (o.waits j t.0) ∙ t.1))
 

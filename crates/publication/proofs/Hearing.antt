@@ -1,21 +1,22 @@
 -- The load after a join: a seat learns which of two fronts is the longer one.
-use Rattle.std.proofs.Common.{◌≡◌, ◌≢◌, ℕ, ◌<◌, ◌≤◌, List, length, get_or, set, refl, sym, ap, ◌∙◌, subst, arith, length-set}
+use Rattle.std.proofs.Common.{◌≡◌, ℕ, ◌<◌, ◌≤◌, List, length, get_or, set, refl, sym, ap, ◌∙◌, subst, arith, length-set}
 use Rattle.std.proofs.lemmas.List.{set-get_or}
 use mathlib.Core.Option as opt
 use mathlib.Core.List.{IsPrefix}
 use lib.ListN.{get_elem?}
 use Rattle.atomic_table.specs.Table.{keeps, step, Allows}
 use Rattle.lock_rules.specs.declared.calls.Entry.{Entry}
-use Rattle.publication.specs.Rule.{blank, BoardState, word, seat, own_at, announced, IsSession, AreTrue, IsOrderly}
+use Rattle.publication.specs.Rule.{blank, BoardState, word, seat, own_at, announced, AreTrue, IsOrderly}
 use Rattle.publication.specs.List.{IsLinked, IsRuled}
 use Rattle.publication.specs.Kinds.{longer, learning, learns}
 use Rattle.publication.specs.declared.view.View.{View}
 use Rattle.publication.specs.declared.slot.Held.{Held}
 use Rattle.publication.proofs.Lists.{at_there, each_set, prefix_whole}
+use Rattle.publication.proofs.Seen.{session_of, front_of, heard_few, others_of, whole_of}
 use Rattle.publication.proofs.Histories.{legal-begins, length-begins}
 use Rattle.publication.proofs.Longer.{IsLonger, is-longer}
 use Rattle.publication.proofs.Others.{StaysGone}
-use Rattle.publication.proofs.Sessions.{Goes, seated, begins, whole}
+use Rattle.publication.proofs.Sessions.{Goes, seated}
 use Rattle.publication.proofs.Seats.{viewed, sits-others}
 use Rattle.publication.proofs.Meets.{learned, learned_listed}
 
@@ -24,19 +25,16 @@ module _ (i : ℕ) (v : View) (is : v.number ≡ i) (some_number : 0 < i) (s : B
   is_me = (at_there s.views i v blank me).0
 
   own_is : v.own ≡ own_at o.owns i
-  own_is = (subst (λ (u : View). u.number ≢ 0 → IsSession o.slots o.owns i u) is_me (o.sessions i) (λ e. omega arith)).own_is
-
-  heard : (j : ℕ) → get_or v.heard j 0 ≤ announced (own_at o.owns j)
-  heard = subst (λ (u : View). (j : ℕ) → get_or u.heard j 0 ≤ announced (own_at o.owns j)) is_me (o.heard i)
+  own_is = (session_of s o i v me (λ e. omega arith)).own_is
 
   beside : IsPrefix v.others.beside o.history
-  beside = subst (λ (u : View). IsPrefix u.others.beside o.history) is_me (o.others i).beside
+  beside = (others_of s o i v me).beside
 
   front : List Entry
   front = longer v.front v.others.beside
 
   is_long : IsLonger v.front v.others.beside o.history (longer v.front v.others.beside)
-  is_long = is-longer v.front v.others.beside o.history (begins i v is some_number s o l me small) beside
+  is_long = is-longer v.front v.others.beside o.history (front_of s o i v me) beside
 
   learn_goes : (more : List (ℕ × Held)) → Goes s 0 i (v, more) (learns (step o.slots 0 0 0 opt.none) (v, more)) (word s 0)
   learn_goes more = let k = is_long in let f : List Entry = longer v.front v.others.beside in
@@ -48,8 +46,8 @@ module _ (i : ℕ) (v : View) (is : v.number ≡ i) (some_number : 0 < i) (s : B
         tt,
         subst (λ (ws : List ℕ). IsRuled record { words = ws; homes = s.homes; views = vs }) (sym (set-get_or s.words 0 0)) (record {
           records = learned s o i v f v.heard v.others me k.begins
-              (λ has. let w = whole i v is some_number s o l me small has in prefix_whole f o.history k.begins (let a = length-begins v.front f k.mine in omega (arith, ap (λ (x : List Entry). length x) w)))
-              heard
+              (λ has. let w = whole_of s o i v me has in prefix_whole f o.history k.begins (let a = length-begins v.front f k.mine in omega (arith, ap (λ (x : List Entry). length x) w)))
+              (heard_few s o i v me)
               (subst (λ (x : View). AreTrue o.history (viewed s o vs) o.slots o.owns x.others) is_me (sits-others s o vs (omega arith) gone i));
           list = learned_listed s l i v f v.heard v.others me;
         }),
@@ -60,7 +58,7 @@ module _ (i : ℕ) (v : View) (is : v.number ≡ i) (some_number : 0 < i) (s : B
             short = let a = length-begins f o.history k.begins in let b = o.short in omega arith;
             mine = k.mine;
             theirs = k.theirs;
-            heard = subst (λ (k : ℕ). get_or v.heard k 0 ≤ announced v.own) (sym is) (let a = heard i in omega (arith, ap announced own_is));
+            heard = subst (λ (k : ℕ). get_or v.heard k 0 ≤ announced v.own) (sym is) (let a = heard_few s o i v me i in omega (arith, ap announced own_is));
           },
         ),
       )

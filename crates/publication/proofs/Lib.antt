@@ -1,4 +1,5 @@
 pub mod Lists
+pub mod Seen
 pub mod Histories
 pub mod Others
 pub mod Records

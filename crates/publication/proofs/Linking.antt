@@ -1,11 +1,11 @@
 -- Steps that leave the publication list as it is.
-use Rattle.std.proofs.Common.{◌≡◌, ◌≢◌, ⊎_elim, ℕ, ◌<◌, ◌≤◌, Bool, true, false, Option, Some, None, List, [], ◌++◌, length, get_or, set, sym, refl, ap, ◌∙◌, subst, arith, get_or-set_other}
+use Rattle.std.proofs.Common.{◌≡◌, ◌≢◌, ℕ, ◌<◌, Bool, true, false, Some, None, List, ◌++◌, length, get_or, set, sym, refl, ap, ◌∙◌, subst, arith, get_or-set_other}
 use mathlib.Core.Option as opt
 use lib.ListN.{get_elem?}
 use Rattle.publication.specs.Words.{word_of, link_of, FREE}
 use Rattle.publication.specs.Views.{Own, Combiner, Listing}
 use Rattle.publication.specs.Rule.{blank, BoardState, word, seat}
-use Rattle.publication.specs.List.{IsOn, Chain, link, belongs, is_listed, IsWalking, IsLinked}
+use Rattle.publication.specs.List.{Chain, link, belongs, is_listed, IsWalking, IsLinked}
 use Rattle.publication.specs.declared.view.View.{View}
 use Rattle.publication.specs.declared.slot.Held.{Held}
 use Rattle.publication.proofs.Lists.{at_there, each_set}

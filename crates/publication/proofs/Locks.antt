@@ -1,5 +1,5 @@
 -- The kinds of step on the lock word: the look, seize and release.
-use Rattle.std.proofs.Common.{◌≡◌, ◌≢◌, ℕ, zero, suc, ◌<◌, true, false, eqb, Some, None, List, [], ◌∷◌, length, get_or, length-set, get_or-set_other, set, sym, refl, ap, ◌∙◌, subst, arith, append-nil}
+use Rattle.std.proofs.Common.{◌≡◌, ◌≢◌, ℕ, zero, suc, ◌<◌, true, false, eqb, Some, None, List, ◌∷◌, get_or, length-set, get_or-set_other, set, sym, refl, ap, ◌∙◌, subst, arith, append-nil}
 use Rattle.std.proofs.lemmas.Bool.{false_from_ne_true}
 use mathlib.Core.Option as opt
 use mathlib.Core.Logic.{dite}
@@ -12,8 +12,8 @@ use Rattle.atomic_table.specs.Table.{keeps, takes, gives, step, Allows}
 use Rattle.atomic_table.proofs.Lists.{exchanged}
 use Rattle.lock_rules.specs.declared.calls.Entry.{Entry}
 use Rattle.lock_rules.specs.Legal.{IsLegal}
-use Rattle.publication.specs.Words.{word_of, FREE, BUSY}
-use Rattle.publication.specs.List.{link, belongs, IsWalking, IsLinked, IsRuled}
+use Rattle.publication.specs.Words.{word_of, FREE}
+use Rattle.publication.specs.List.{belongs, IsWalking, IsLinked, IsRuled}
 use Rattle.publication.specs.Rule.{blank, BoardState, word, seat, no_combiner, IsHome, HasBook, IsOrderly, unwalked}
 use Rattle.publication.specs.Views.{Combiner}
 use Rattle.publication.specs.Kinds.{combiner, as_combiner, HasOthers, looks_at_lock, seizing, Seized, seizes, releasing, releases}
@@ -22,8 +22,9 @@ use Rattle.publication.specs.declared.slot.Load.{Load}
 use Rattle.publication.specs.declared.slot.Held.{Held}
 use Rattle.publication.specs.declared.slot.Held.TheVariants.{Home}
 use Rattle.publication.proofs.Lists.{at_there, at_home}
+use Rattle.publication.proofs.Seen.{front_of, book_of}
 use Rattle.publication.proofs.Sessions.{Goes, seated, unmoved}
-use Rattle.publication.proofs.Linking.{links_kept, IsKeptHere, aside}
+use Rattle.publication.proofs.Linking.{links_kept, aside}
 use Rattle.publication.proofs.Combines.{IsNothingOpened, IsLockStep, relocked}
 
 pub nothing_at : (slots : ℕ) → IsNothingOpened (no_combiner slots)
@@ -69,9 +70,6 @@ module _ (i : ℕ) (v : View) (is : v.number ≡ i) (some_number : 0 < i) (s : B
     nobody : (k : ℕ) → (seat s k).combiner.has_book ≢ true
     nobody k has = let b = o.books k has in absurd (omega (arith, b.lock_is, b.session))
 
-    idle_all : (j : ℕ) → 0 < j → word s j ≢ BUSY
-    idle_all j some_record is_busy = let b = o.opened j some_record is_busy in nobody (word s 0) (o.opens (word s 0) j b.0 b.1).book
-
     seize_step : IsLockStep s o i v 0 i opt.none o.history (combiner true v.combiner.opened 0) unwalked me some_number
     seize_step = record {
       lock = refl;
@@ -79,7 +77,6 @@ module _ (i : ℕ) (v : View) (is : v.number ≡ i) (some_number : 0 < i) (s : B
       named = is;
       same = refl;
       none = λ k j call shown. nobody k (o.opens k j call shown).book;
-      idle_all = idle_all;
       alone = λ k ne has. nobody k has;
       free = λ z. absurd (omega arith);
       taken = λ _. (refl, refl, small, refl);
@@ -91,7 +88,7 @@ module _ (i : ℕ) (v : View) (is : v.number ≡ i) (some_number : 0 < i) (s : B
       lacked = false_from_ne_true v.combiner.has_book (λ has. nobody i (book_here ∙ has));
       home = record { history = refl; sessions = home.sessions; empty = home.empty; room = home.room; ages = home.ages };
       legal = subst IsLegal (sym home.history) o.legal;
-      longer = subst (λ (f : List Entry). IsPrefix v.front f) (sym home.history) (subst (λ (u : View). IsPrefix u.front o.history) is_me (o.fronts i));
+      longer = subst (λ (f : List Entry). IsPrefix v.front f) (sym home.history) (front_of s o i v me);
     }
 
     seize_won : (more : List (ℕ × Held)) → Goes s 0 i (v, more) (seizes (step o.slots 0 FREE i opt.none) (v, more)) i
@@ -119,7 +116,7 @@ module _ (i : ℕ) (v : View) (is : v.number ≡ i) (some_number : 0 < i) (s : B
     none_off = sym (subst (λ (u : View). u.combiner.has_book ≡ true → IsWalking l.list l.off l.before u.listing) is_me (l.walkers i) has).off_is ∙ settled
 
     book : HasBook o.history (word s 0) i v
-    book = subst (λ (u : View). u.combiner.has_book ≡ true → HasBook o.history (word s 0) i u) is_me (o.books i) has
+    book = book_of s o i v me has
 
     nobody_else : (k : ℕ) → k ≢ i → (seat s k).combiner.has_book ≢ true
     nobody_else k ne too = ne (sym (o.books k too).lock_is ∙ book.lock_is)
@@ -127,19 +124,15 @@ module _ (i : ℕ) (v : View) (is : v.number ≡ i) (some_number : 0 < i) (s : B
     none_here : IsNothingOpened (seat s i).combiner
     none_here = subst (λ (u : View). IsNothingOpened u.combiner) (sym is_me) none
 
-    none_all : (k : ℕ) → IsNothingOpened (seat s k).combiner
-    none_all k = dite (ℕ_discrete k i)
-        (λ e. subst (λ (l : ℕ). IsNothingOpened (seat s l).combiner) (sym e) none_here)
-        (λ ne j call shown. nobody_else k ne (o.opens k j call shown).book)
-
     release_step : IsLockStep s o i v 0 FREE (opt.some (Home load)) o.history (combiner false v.combiner.opened 0) unwalked me some_number
     release_step = record {
       lock = refl;
       whole = refl;
       named = is;
       same = refl;
-      none = none_all;
-      idle_all = λ j some_record is_busy. let t = o.opened j some_record is_busy in none_all (word s 0) j t.0 t.1;
+      none = λ k. dite (ℕ_discrete k i)
+          (λ e. subst (λ (l : ℕ). IsNothingOpened (seat s l).combiner) (sym e) none_here)
+          (λ ne j call shown. nobody_else k ne (o.opens k j call shown).book);
       alone = nobody_else;
       free = λ _. (load, refl, record { history = full.history ∙ book.whole; sessions = full.sessions; empty = full.empty; room = full.room; ages = full.ages });
       taken = λ z. absurd (z refl);

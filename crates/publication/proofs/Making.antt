@@ -1,5 +1,5 @@
 -- A board begins in order, and stays so while its sessions are made.
-use Rattle.std.proofs.Common.{◌≡◌, ◌≢◌, ℕ, zero, suc, ◌+◌, ◌<◌, ◌≤◌, Bool, true, false, Some, None, List, [], ◌∷◌, ◌++◌, length, map, replicate, get_or, set, Option, sym, refl, ap, ◌∙◌, subst, arith, length-set, length-append, get_or-set_other, get_or-set_same, inr}
+use Rattle.std.proofs.Common.{◌≡◌, ◌≢◌, ℕ, zero, suc, ◌+◌, ◌<◌, ◌≤◌, Bool, true, false, Some, None, List, [], ◌∷◌, ◌++◌, length, map, replicate, get_or, set, sym, refl, ap, ◌∙◌, subst, arith, length-set, length-append, get_or-set_other, get_or-set_same, inr}
 use Rattle.std.proofs.lemmas.List.{length-map, length-replicate}
 use mathlib.Core.Option as opt
 use mathlib.Core.List.{IsPrefix}
@@ -10,8 +10,8 @@ use Rattle.std.specs.Global.{Box}
 use Rattle.atomic_table.specs.Table.{opening, Splits}
 use Rattle.lock_rules.specs.declared.calls.Call.{Call}
 use Rattle.lock_rules.specs.declared.calls.Entry.{Entry}
-use Rattle.publication.specs.Words.{word_of, link_of, END, OUT}
-use Rattle.publication.specs.List.{IsOn, link, belongs, is_listed, IsLinked, IsRuled}
+use Rattle.publication.specs.Words.{word_of, END, OUT}
+use Rattle.publication.specs.List.{link, belongs, IsLinked, IsRuled}
 use Rattle.publication.specs.Views.{Own}
 use Rattle.publication.specs.Rule.{BoardState, blank, apart, AreTrue, fresh, own_at, announced, maker, newcomer, word, home, seat, IsHome, IsVacant, Stands, HasBook, IsOpened, IsSession, IsMaker, IsOrderly}
 use Rattle.publication.specs.Rule.Stands.{vacant}

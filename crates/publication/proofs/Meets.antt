@@ -1,17 +1,18 @@
 -- What one seat knows reaches another: a seat is cut in two, or takes another in, which ends.
-use Rattle.std.proofs.Common.{◌≡◌, ◌≢◌, ◌⊎◌, inl, inr, ⊎_elim, ℕ, ◌+◌, ◌<◌, ◌≤◌, ◌||◌, Bool, true, false, Option, Some, None, List, [], ◌∷◌, ◌++◌, length, get_or, set, sym, refl, ap, ◌∙◌, subst, arith, length-set, length-append, get_or-set_same}
+use Rattle.std.proofs.Common.{◌≡◌, ◌≢◌, ◌⊎◌, inl, inr, ⊎_elim, ℕ, ◌+◌, ◌<◌, ◌≤◌, ◌||◌, Bool, true, false, Some, None, List, [], ◌∷◌, ◌++◌, length, get_or, set, sym, refl, ap, ◌∙◌, subst, arith, length-set, length-append, get_or-set_same}
 use mathlib.Core.Option as opt
 use mathlib.Core.List.{IsPrefix}
 use lib.ListN.{get_elem?}
 use Rattle.atomic_table.specs.Table.{Splits, Joins}
 use Rattle.lock_rules.specs.declared.calls.Entry.{Entry}
 use Rattle.publication.specs.Views.{Own, Others}
-use Rattle.publication.specs.Rule.{blank, BoardState, word, home, seat, own_at, announced, Stands, HasBook, IsSession, IsMaker, IsHanded, AreTrue, IsOrderly}
+use Rattle.publication.specs.Rule.{blank, BoardState, word, home, seat, own_at, announced, Stands, IsSession, IsMaker, IsHanded, AreTrue, IsOrderly}
 use Rattle.publication.specs.List.{belongs, IsLinked, IsRuled}
 use Rattle.publication.specs.Kinds.{copy_of, as_hearer, joined, handed_in, gathered}
 use Rattle.publication.specs.declared.view.View.{View}
 use Rattle.atomic_table.proofs.Lists.{set_again, set_else}
 use Rattle.publication.proofs.Lists.{at_there, at_pushed, each_set, each_snoc, past_end}
+use Rattle.publication.proofs.Seen.{seat_of, session_of, front_of, heard_few, book_of, whole_of}
 use Rattle.publication.proofs.Others.{StaysGone}
 use Rattle.publication.proofs.Longer.{maxes-at}
 use Rattle.publication.proofs.Making.{told_nothing}
@@ -41,8 +42,8 @@ module _ (s : BoardState) (o : IsOrderly s) (id : ℕ) (v : View) (front : List 
     heard = hears;
     others = tells;
     waits = λ some. ap (λ (x : View). x.own) (sym is_me) ∙ o.waits id some;
-    session = λ some_number. session_on s o id v front heard others (subst (λ (x : View). x.number ≢ 0 → IsSession o.slots o.owns id x) is_me (o.sessions id) some_number);
-    book = λ has. let t = subst (λ (x : View). x.combiner.has_book ≡ true → HasBook o.history (word s 0) id x) is_me (o.books id) has in record { lock_is = t.lock_is; session = t.session; named = t.named; whole = whole has };
+    session = λ some_number. session_on s o id v front heard others (session_of s o id v me some_number);
+    book = λ has. let t = book_of s o id v me has in record { lock_is = t.lock_is; session = t.session; named = t.named; whole = whole has };
     combiner = inl (ap (λ (x : View). x.combiner) (sym is_me));
   }
 
@@ -130,19 +131,6 @@ either_of : (a b : Bool) → a || b ≡ true → (a ≡ true) ⊎ (b ≡ true)
 either_of true b e = inl refl
 either_of false b e = inr e
 
-module _ (id : ℕ) (v : View) (other : ℕ) (w : View) (s : BoardState) (o : IsOrderly s) (me : get_elem? s.views id ≡ opt.some v) where
-  v_is : seat s id ≡ v
-  v_is = (at_there s.views id v blank me).0
-
-  v_begins : IsPrefix v.front o.history
-  v_begins = subst (λ (x : View). IsPrefix x.front o.history) v_is (o.fronts id)
-
-  v_whole : v.combiner.has_book ≡ true → v.front ≡ o.history
-  v_whole has = (subst (λ (x : View). x.combiner.has_book ≡ true → HasBook o.history (word s 0) id x) v_is (o.books id) has).whole
-
-  v_heard : (j : ℕ) → get_or v.heard j 0 ≤ announced (own_at o.owns j)
-  v_heard = subst (λ (x : View). (j : ℕ) → get_or x.heard j 0 ≤ announced (own_at o.owns j)) v_is (o.heard id)
-
 -- hear: a copy of what another seat knows is taken in
 pub joins : (id : ℕ) (v : View) (other : ℕ) (w : View) → w.number ≡ 0 → w.slots ≡ 0 → w.combiner.has_book ≡ false → (w.own.pending ≡ None) × (w.own.listed ≡ false) → Joins IsRuled id v other w (joined v w) blank
 joins id v other w no_number no_slots no_book idle s r me apart_from with =
@@ -152,14 +140,14 @@ joins id v other w no_number no_slots no_book idle s r me apart_from with =
     let w_is : seat s other ≡ w = is_other s o id v v.front hs k me other w apart_from with in
     let long = long_joint s o id v v.front hs k me other w apart_from with in
     let vs : List View = joint s o id v v.front hs k me other w apart_from with in
-    let was : AreTrue o.history (viewed s o vs) o.slots o.owns v.others = subst (λ (x : View). AreTrue o.history (viewed s o vs) o.slots o.owns x.others) (v_is id v other w s o me) (sits-others s o vs (omega arith) (gone_joint s o id v v.front hs k me other w apart_from with) id) in
+    let was : AreTrue o.history (viewed s o vs) o.slots o.owns v.others = subst (λ (x : View). AreTrue o.history (viewed s o vs) o.slots o.owns x.others) (seat_of s o id v me) (sits-others s o vs (omega arith) (gone_joint s o id v v.front hs k me other w apart_from with) id) in
     let theirs : AreTrue o.history (viewed s o vs) o.slots o.owns w.others = subst (λ (x : View). AreTrue o.history (viewed s o vs) o.slots o.owns x.others) w_is (sits-others s o vs (omega arith) (gone_joint s o id v v.front hs k me other w apart_from with) other) in
     record {
       records =
           merged s o id v v.front hs k me other w apart_from with
           (λ e. let z : w.slots ≡ o.slots = ap (λ (x : View). x.slots) (sym w_is) ∙ (ap (λ (j : ℕ). (seat s j).slots) e ∙ o.makes.slots_are) in omega (arith, o.makes.some_slot))
-          idle.0 no_book (v_begins id v other w s o me) (v_whole id v other w s o me)
-          (λ j. let a = v_heard id v other w s o me j in let b : get_or w.heard j 0 ≤ announced (own_at o.owns j) = subst (λ (x : View). get_or x.heard j 0 ≤ announced (own_at o.owns j)) w_is (o.heard other j) in
+          idle.0 no_book (front_of s o id v me) (whole_of s o id v me)
+          (λ j. let a = heard_few s o id v me j in let b : get_or w.heard j 0 ≤ announced (own_at o.owns j) = subst (λ (x : View). get_or x.heard j 0 ≤ announced (own_at o.owns j)) w_is (o.heard other j) in
           let c = maxes-at v.heard w.heard j in omega arith)
           (record {
             all_made = λ is. ⊎_elim was.all_made theirs.all_made (either_of v.others.all_made w.others.all_made is);
@@ -178,7 +166,7 @@ gathers id v other w some_number settled no_book s r me apart_from with =
     let w_is : seat s other ≡ w = is_other s o id v v.front v.heard k me other w apart_from with in
     let long = long_joint s o id v v.front v.heard k me other w apart_from with in
     let vs : List View = joint s o id v v.front v.heard k me other w apart_from with in
-    let was : AreTrue o.history (viewed s o vs) o.slots o.owns v.others = subst (λ (x : View). AreTrue o.history (viewed s o vs) o.slots o.owns x.others) (v_is id v other w s o me) (sits-others s o vs (omega arith) (gone_joint s o id v v.front v.heard k me other w apart_from with) id) in
+    let was : AreTrue o.history (viewed s o vs) o.slots o.owns v.others = subst (λ (x : View). AreTrue o.history (viewed s o vs) o.slots o.owns x.others) (seat_of s o id v me) (sits-others s o vs (omega arith) (gone_joint s o id v v.front v.heard k me other w apart_from with) id) in
     let t : IsSession o.slots o.owns other w = subst (λ (x : View). x.number ≢ 0 → IsSession o.slots o.owns other x) w_is (o.sessions other) some_number in
     let far : other < length s.views = (at_there s.views other w blank (there s o id v v.front v.heard k me other w apart_from with)).1 in
     let own_is : own_at o.owns w.number ≡ w.own = ap (own_at o.owns) t.is ∙ sym t.own_is in
@@ -196,7 +184,7 @@ gathers id v other w some_number settled no_book s r me apart_from with =
       records =
           merged s o id v v.front v.heard k me other w apart_from with
           (λ e. some_number (omega (arith, t.is)))
-          settled no_book (v_begins id v other w s o me) (v_whole id v other w s o me) (v_heard id v other w s o me)
+          settled no_book (front_of s o id v me) (whole_of s o id v me) (heard_few s o id v me)
           (record {
             all_made = was.all_made;
             beside = was.beside;
@@ -221,8 +209,8 @@ cuts id v all_made s r me =
           (subst (λ (x : View). IsMaker o.slots (length vs) x) (sym (first_kept s.views b o.makes.there)) (let t = o.makes in record { slots_are = t.slots_are; number = t.number; none = t.none; there = omega arith; some_slot = t.some_slot; made = λ few. absurd (let q = t.made few in omega arith) }))
           (each (Sits s o vs)
           (record {
-            front = subst (λ (x : View). IsPrefix x.front o.history) v_is (o.fronts id);
-            heard = subst (λ (x : View). (j : ℕ) → get_or x.heard j 0 ≤ announced (own_at o.owns j)) v_is (o.heard id);
+            front = front_of s o id v me;
+            heard = heard_few s o id v me;
             others = told_nothing o.history (viewed s o vs) o.slots o.owns true (λ _. omega arith);
             waits = λ some. absurd (some (ap (λ (y : Own). y.pending) (o.unmade (length s.views) (omega arith))));
             session = λ some_number. absurd (some_number refl);

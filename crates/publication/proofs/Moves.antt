@@ -1,5 +1,5 @@
 -- A session's step on its own record keeps the rule.
-use Rattle.std.proofs.Common.{◌≡◌, ◌≢◌, ℕ, ◌<◌, ◌≤◌, true, Option, Some, None, List, length, get_or, set, sym, ap, ◌∙◌, subst, arith, length-set, get_or-set_other, get_or-set_same}
+use Rattle.std.proofs.Common.{◌≡◌, ◌≢◌, ℕ, ◌<◌, ◌≤◌, true, Some, None, List, length, get_or, set, sym, ap, ◌∙◌, subst, arith, length-set, get_or-set_other, get_or-set_same}
 use mathlib.Core.Option as opt
 use mathlib.Core.Logic.{dite}
 use mathlib.Core.List.{IsPrefix}
@@ -8,12 +8,13 @@ use lib.ListN.{get_elem?}
 use Rattle.lock_rules.specs.declared.calls.Call.{Call}
 use Rattle.lock_rules.specs.declared.calls.Entry.{Entry}
 use Rattle.publication.specs.Words.{word_of, BUSY}
-use Rattle.publication.specs.Views.{Pending, Own, Combiner, Listing, Others}
+use Rattle.publication.specs.Views.{Own, Combiner, Listing, Others}
 use Rattle.publication.specs.Rule.{blank, BoardState, word, home, seat, fresh, own_at, announced, Stands, HasBook, IsOpened, IsSession, IsMaker, AreTrue, IsOrderly}
 use Rattle.publication.specs.Kinds.{as_session}
 use Rattle.publication.specs.declared.view.View.{View}
 use Rattle.publication.specs.declared.slot.Held.{Held}
 use Rattle.publication.proofs.Lists.{at_there, each_set, prefix_self}
+use Rattle.publication.proofs.Seen.{session_of, heard_few, others_of, book_of}
 use Rattle.publication.proofs.Others.{still-true}
 
 -- session i, whose seat has the view v, changes its word, its slot, its front, what it knows of its own calls, what it heard, and what it knows of the publication list
@@ -82,13 +83,7 @@ module _ (s : BoardState) (o : IsOrderly s) (i : ℕ) (v : View) (n : ℕ) (at :
       (λ ne. ap (λ (x : View). x.combiner) (seat_other k ne))
 
   session_before : IsSession o.slots o.owns i v
-  session_before = subst (λ (x : View). x.number ≢ 0 → IsSession o.slots o.owns i x) is_me (o.sessions i) lives
-
-  heard_before : (j : ℕ) → get_or v.heard j 0 ≤ announced (own_at o.owns j)
-  heard_before j = subst (λ (x : View). get_or x.heard j 0 ≤ announced (own_at o.owns j)) is_me (o.heard i j)
-
-  book_before : v.combiner.has_book ≡ true → HasBook o.history (word s 0) i v
-  book_before = subst (λ (x : View). x.combiner.has_book ≡ true → HasBook o.history (word s 0) i x) is_me (o.books i)
+  session_before = session_of s o i v me lives
 
   module _ (k : IsOwnStep) where
     published_here : (j : ℕ) → j ≡ i → announced (own_at owns_after j) ≡ announced w
@@ -115,7 +110,7 @@ module _ (s : BoardState) (o : IsOrderly s) (i : ℕ) (v : View) (n : ℕ) (at :
     heard_here : (j : ℕ) → get_or heard j 0 ≤ announced (own_at owns_after j)
     heard_here j = dite (ℕ_discrete j i)
         (λ e. let a : get_or heard j 0 ≡ get_or heard i 0 = ap (λ (m : ℕ). get_or heard m 0) e in omega (arith, k.hears_own, published_here j e))
-        (λ ne. omega (arith, k.hears j ne, heard_before j, published_more j))
+        (λ ne. omega (arith, k.hears j ne, heard_few s o i v me j, published_more j))
 
     heard_after : (m j : ℕ) → get_or (seat after m).heard j 0 ≤ announced (own_at owns_after j)
     heard_after m j = each_set s.views i u blank (λ m x. get_or x.heard j 0 ≤ announced (own_at owns_after j)) sits (heard_here j)
@@ -128,7 +123,7 @@ module _ (s : BoardState) (o : IsOrderly s) (i : ℕ) (v : View) (n : ℕ) (at :
 
     others_after : (m : ℕ) → AreTrue o.history after o.slots owns_after (seat after m).others
     others_after = each_set s.views i u blank (λ m x. AreTrue o.history after o.slots owns_after x.others) sits
-        (still v.others (subst (λ (x : View). AreTrue o.history s o.slots o.owns x.others) is_me (o.others i))) (λ m ne. still (seat s m).others (o.others m))
+        (still v.others (others_of s o i v me)) (λ m ne. still (seat s m).others (o.others m))
 
     stands_after : (j : ℕ) → 0 < j → j < o.slots → Stands o.history j (word after j) (home after j) (own_at owns_after j)
     stands_after j some_record few = dite (ℕ_discrete j i)
@@ -137,7 +132,7 @@ module _ (s : BoardState) (o : IsOrderly s) (i : ℕ) (v : View) (n : ℕ) (at :
 
     books_after : (j : ℕ) → (seat after j).combiner.has_book ≡ true → HasBook o.history (word after 0) j (seat after j)
     books_after = each_set s.views i u blank (λ j x. x.combiner.has_book ≡ true → HasBook o.history (word after 0) j x) sits
-        (λ has. let t = book_before has in record { lock_is = word_other 0 not_lock ∙ t.lock_is; session = mine; named = t.named; whole = k.whole has })
+        (λ has. let t = book_of s o i v me has in record { lock_is = word_other 0 not_lock ∙ t.lock_is; session = mine; named = t.named; whole = k.whole has })
         (λ j ne has. let t = o.books j has in record { lock_is = word_other 0 not_lock ∙ t.lock_is; session = t.session; named = t.named; whole = t.whole })
 
     taken_after : word after 0 ≢ 0 → ((seat after (word after 0)).combiner.has_book ≡ true) × (word after 0 < o.slots) × (home after 0 ≡ opt.none)

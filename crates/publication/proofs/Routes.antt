@@ -1,6 +1,5 @@
 -- What the head word or a link names, as a record's number.
-use Rattle.std.proofs.Common.{◌≡◌, ◌≢◌, inl, inr, ⊎_elim, ℕ, ◌<◌, ◌==◌, ◌+◌, Bool, true, false, cond, Option, Some, None, List, [], ◌∷◌, sym, refl, ap, ◌∙◌, subst, arith, IfSome, IfNone}
-use Rattle.publication.specs.Words.{END}
+use Rattle.std.proofs.Common.{◌≡◌, ◌≢◌, inl, inr, ℕ, ◌<◌, ◌==◌, Bool, true, false, cond, Option, Some, None, List, [], ◌∷◌, refl, ap, ◌∙◌, arith, IfSome, IfNone}
 use Rattle.publication.specs.List.{IsOn, AreApart, head_of, first_of, behind}
 use Rattle.publication.specs.Kinds.{IsRoute}
 

@@ -1,9 +1,8 @@
 -- The kinds of step of a session on its own record: start, post, the look for the reply, take, retire and leave.
-use Rattle.std.proofs.Common.{◌≡◌, ◌≢◌, ◌⊎◌, inl, inr, ⊎_elim, ℕ, zero, suc, ◌+◌, ◌<◌, ◌≤◌, ◌==◌, max, cond, Bool, true, false, Option, Some, None, List, [], ◌∷◌, ◌++◌, length, get_or, set, take, sym, refl, ap, ◌∙◌, subst, arith, length-append, length-set, eqb, is_some, get_or-set_other, get_or-set_same}
+use Rattle.std.proofs.Common.{◌≡◌, ◌≢◌, ◌⊎◌, inl, inr, ⊎_elim, ℕ, zero, suc, ◌+◌, ◌<◌, ◌≤◌, ◌==◌, max, cond, Bool, true, false, Some, None, List, [], ◌∷◌, ◌++◌, length, get_or, set, take, sym, refl, ap, ◌∙◌, subst, arith, length-append, length-set, eqb, is_some, get_or-set_other, get_or-set_same}
 use Rattle.std.proofs.lemmas.List.{set-get_or}
 use Rattle.std.proofs.Math.Seq.{take-length}
 use mathlib.Core.Option as opt
-use mathlib.Core.List.{IsPrefix}
 use prog.Atomic.{either}
 use lib.ListN.{get_elem?}
 use Rattle.atomic_table.specs.Table.{Act, keeps, takes, gives, Valid, carried_after, stepped, step, Allows}
@@ -15,18 +14,19 @@ use Rattle.lock_rules.specs.declared.calls.Reply.TheVariants.{Clear}
 use Rattle.lock_rules.specs.declared.calls.Entry.{Entry}
 use Rattle.lock_rules.specs.Legal.{Answered, calls_of}
 use Rattle.publication.specs.Words.{word_of, OUT, POSTED, SERVED, CLOSED, EMPTY}
-use Rattle.publication.specs.Views.{Own, Listing, entry, answer, asks}
-use Rattle.publication.specs.Rule.{blank, BoardState, word, home, seat, own_at, announced, IsVacant, IsServed, Stands, HasBook, IsSession, IsOrderly}
+use Rattle.publication.specs.Views.{Own, entry, answer, asks}
+use Rattle.publication.specs.Rule.{blank, BoardState, word, home, seat, own_at, announced, IsVacant, IsServed, Stands, IsOrderly}
 use Rattle.publication.specs.Rule.Stands.{vacant, posted, retired}
-use Rattle.publication.specs.List.{link, belongs, IsLinked, IsRuled}
+use Rattle.publication.specs.List.{belongs, IsLinked, IsRuled}
 use Rattle.publication.specs.Kinds.{Seated, own, as_session, idling, heard_all, started, starts, posting, posts, IsUnanswered, looks_for_reply, taking, Took, takes_reply, retiring, retires, leaving, leaves}
 use Rattle.publication.specs.declared.view.View.{View}
 use Rattle.publication.specs.declared.slot.Held.{Held}
 use Rattle.publication.specs.declared.slot.Held.TheVariants.{Nothing, Asked, Replied}
 use Rattle.publication.proofs.Lists.{at_there, at_home, at_taken, IsCut, cut}
+use Rattle.publication.proofs.Seen.{session_of, front_of, heard_few, whole_of}
 use Rattle.publication.proofs.Histories.{legal-begins, length-begins, calls-cut, calls-fewer}
-use Rattle.publication.proofs.Records.{vacant_word, at_most_one, is_vacant, is_served, is_waiting, left, IsLeft, leaves_record, lacks, idle_announced, waits_announced}
-use Rattle.publication.proofs.Linking.{links_kept, IsKeptHere, aside, same_walk}
+use Rattle.publication.proofs.Records.{vacant_word, at_most_one, is_vacant, is_served, is_waiting, left, leaves_record, lacks, idle_announced, waits_announced}
+use Rattle.publication.proofs.Linking.{links_kept, aside, same_walk}
 use Rattle.publication.proofs.Moves.{IsOwnStep, moved}
 
 -- a step that changes nothing
@@ -42,8 +42,7 @@ Goes s i id m then k = (w : View) × (a : Act Held) × Valid s.homes m.1 a × Is
 -- which seat a session's is
 pub named : (s : BoardState) (o : IsOrderly s) (id i : ℕ) (v : View) → get_elem? s.views id ≡ opt.some v → v.number ≡ i → 0 < i → (id ≡ i) × (i < o.slots) × (length v.combiner.opened ≡ o.slots)
 named s o id i v me is some_number =
-    let e : seat s id ≡ v = (at_there s.views id v blank me).0 in
-    let t : IsSession o.slots o.owns id v = subst (λ (u : View). u.number ≢ 0 → IsSession o.slots o.owns id u) e (o.sessions id) (λ z. omega arith) in
+    let t = session_of s o id v me (λ z. omega arith) in
     (omega (arith, t.is), omega (arith, t.is, t.small), t.wide)
 
 -- the same of the word at p, which may be a link
@@ -75,19 +74,13 @@ module _ (i : ℕ) (v : View) (is : v.number ≡ i) (some_number : 0 < i) (s : B
   is_me = (at_there s.views i v blank me).0
 
   pub own_is : v.own ≡ own_at o.owns i
-  own_is = (subst (λ (u : View). u.number ≢ 0 → IsSession o.slots o.owns i u) is_me (o.sessions i) lives).own_is
+  own_is = (session_of s o i v me lives).own_is
 
   pub stand : Stands o.history i (word s i) (home s i) v.own
   stand = subst (λ (u : Own). Stands o.history i (word s i) (home s i) u) (sym own_is) (o.stands i some_number small)
 
-  pub begins : IsPrefix v.front o.history
-  begins = subst (λ (u : View). IsPrefix u.front o.history) is_me (o.fronts i)
-
-  pub whole : v.combiner.has_book ≡ true → v.front ≡ o.history
-  whole has = (subst (λ (u : View). u.combiner.has_book ≡ true → HasBook o.history (word s 0) i u) is_me (o.books i) has).whole
-
   pub heard_own : get_or v.heard i 0 ≤ announced v.own
-  heard_own = subst (λ (u : Own). get_or v.heard i 0 ≤ announced u) (sym own_is) (subst (λ (u : View). get_or u.heard i 0 ≤ announced (own_at o.owns i)) is_me (o.heard i i))
+  heard_own = subst (λ (u : Own). get_or v.heard i 0 ≤ announced u) (sym own_is) (heard_few s o i v me i)
 
   here_now : (n : ℕ) → get_or (set s.words (word_of i) n) (word_of i) 0 ≡ n
   here_now n = get_or-set_same s.words (word_of i) n 0 (omega (arith, o.words_are))
@@ -118,8 +111,8 @@ module _ (i : ℕ) (v : View) (is : v.number ≡ i) (some_number : 0 < i) (s : B
     hears_own = omega (arith, heard_own, idle_announced v.own t.none);
     was_busy = λ e. absurd (vacant_word (word s i) t.is (omega arith) (omega arith));
     is_busy = λ e. e;
-    begins = begins;
-    whole = whole;
+    begins = front_of s o i v me;
+    whole = whole_of s o i v me;
     stands = vacant record { is = t.is; none = refl; out = λ _. refl; laid = λ e. absurd (cc e); publishes = refl; calls = t.calls };
   }
 
@@ -170,9 +163,9 @@ module _ (i : ℕ) (v : View) (is : v.number ≡ i) (some_number : 0 < i) (s : B
     hears_own = hears_posted call b (omega (arith, heard_own, idle_announced v.own t.none));
     was_busy = λ e. absurd (vacant_word (word s i) t.is (omega arith) (omega arith));
     is_busy = λ e. absurd (omega arith);
-    begins = begins;
-    whole = whole;
-    stands = posted call (length v.front) record { is = refl; some = refl; asked = refl; early = length-begins v.front o.history begins; publishes = refl; calls = t.calls };
+    begins = front_of s o i v me;
+    whole = whole_of s o i v me;
+    stands = posted call (length v.front) record { is = refl; some = refl; asked = refl; early = length-begins v.front o.history (front_of s o i v me); publishes = refl; calls = t.calls };
   }
 
   -- the record of a posted call belongs on the list where it did before
@@ -199,7 +192,7 @@ module _ (i : ℕ) (v : View) (is : v.number ≡ i) (some_number : 0 < i) (s : B
 
   unanswered : word s i ≢ SERVED → IsUnanswered v
   unanswered miss some = subst (λ (k : ℕ). length (calls_of k v.front) ≤ length v.own.collected) (sym is)
-      (subst (λ (l : List Answered). length (calls_of i v.front) ≤ length l) (is_waiting stand miss some) (calls-fewer i v.front o.history begins))
+      (subst (λ (l : List Answered). length (calls_of i v.front) ≤ length l) (is_waiting stand miss some) (calls-fewer i v.front o.history (front_of s o i v me)))
 
   look_goes : (more : List (ℕ × Held)) → Goes s i i (v, more) (looks_for_reply (step o.slots (word_of i) 0 0 opt.none) (v, more)) (word s i)
   look_goes more = (v, keeps, tt, unmoved s o l i i v me, (refl, unanswered))
@@ -234,13 +227,10 @@ module _ (i : ℕ) (v : View) (is : v.number ≡ i) (some_number : 0 < i) (s : B
     stands_there = (at_there o.history place (entry i call reply) (entry 0 Poll Clear) f.stands).1
 
     cut_off : IsCut v.front o.history known
-    cut_off = cut v.front o.history known begins (omega arith) (omega (arith, stands_there, length-begins v.front o.history begins))
+    cut_off = cut v.front o.history known (front_of s o i v me) (omega arith) (omega (arith, stands_there, length-begins v.front o.history (front_of s o i v me)))
 
     calls_known : calls_of i front ≡ collected
     calls_known = calls-cut i 0 known o.history v.own.collected (answer place call reply) f.calls (omega arith) ∙ f.calls
-
-    known_whole : v.combiner.has_book ≡ true → front ≡ o.history
-    known_whole has = let e : known ≡ length o.history = omega (arith, stands_there, ap (λ (l : List Entry). length l) (whole has)) in rw e (take-length o.history)
 
     took : Took v.number v.front v.own.collected call floor place reply front
     took = record {
@@ -264,7 +254,7 @@ module _ (i : ℕ) (v : View) (is : v.number ≡ i) (some_number : 0 < i) (s : B
       was_busy = λ e. absurd (omega (arith, f.is));
       is_busy = λ e. absurd (vacant_word (left_word b) (left_vacant b) (omega arith) (omega arith));
       begins = cut_off.front;
-      whole = known_whole;
+      whole = λ has. let e : known ≡ length o.history = omega (arith, stands_there, ap (λ (l : List Entry). length l) (whole_of s o i v me has)) in rw e (take-length o.history);
       stands = vacant record { is = left_vacant b; none = refl; out = λ _. refl; laid = λ e. absurd (cc e); publishes = f.publishes; calls = f.calls };
     }
 
@@ -305,8 +295,8 @@ module _ (i : ℕ) (v : View) (is : v.number ≡ i) (some_number : 0 < i) (s : B
     hears_own = omega (arith, heard_own, idle_announced v.own t.none);
     was_busy = λ e. absurd (vacant_word (word s i) t.is (omega arith) (omega arith));
     is_busy = λ e. absurd (omega arith);
-    begins = begins;
-    whole = whole;
+    begins = front_of s o i v me;
+    whole = whole_of s o i v me;
     stands = retired record { is = refl; none = refl; out = λ _. t.out has_started; laid = λ e. absurd (cc e); retired = refl; calls = t.calls };
   }
 
@@ -333,8 +323,8 @@ module _ (i : ℕ) (v : View) (is : v.number ≡ i) (some_number : 0 < i) (s : B
     hears_own = omega (arith, heard_own, idle_announced v.own none);
     was_busy = λ e. absurd (t.shut e);
     is_busy = λ e. e;
-    begins = begins;
-    whole = whole;
+    begins = front_of s o i v me;
+    whole = whole_of s o i v me;
     stands = t.stands;
   }
 

@@ -1,5 +1,5 @@
 -- The kinds of step that take a record off the publication list, or link it again: unlink, mark out and relink.
-use Rattle.std.proofs.Common.{◌≡◌, ◌≢◌, ◌⊎◌, inl, inr, ⊎_elim, ℕ, ◌+◌, ◌<◌, ◌≤◌, Bool, true, false, Option, Some, None, List, [], ◌∷◌, ◌++◌, length, get_or, set, eqb, sym, refl, ap, ◌∙◌, subst, arith, append_assoc, length-set, get_or-set_other, get_or-set_same}
+use Rattle.std.proofs.Common.{◌≡◌, ◌≢◌, ◌⊎◌, inl, inr, ⊎_elim, ℕ, ◌<◌, true, false, Some, None, List, ◌∷◌, ◌++◌, length, get_or, set, eqb, sym, refl, ap, ◌∙◌, subst, arith, append_assoc, length-set, get_or-set_other, get_or-set_same}
 use Rattle.std.proofs.lemmas.List.{set-get_or}
 use mathlib.Core.Option as opt
 use mathlib.Core.Logic.{dite}
@@ -8,21 +8,21 @@ use prog.Atomic.{either}
 use lib.ListN.{get_elem?}
 use Rattle.atomic_table.specs.Table.{keeps, step, Allows}
 use Rattle.atomic_table.proofs.Lists.{exchanged}
-use Rattle.lock_rules.specs.declared.calls.Call.{Call}
-use Rattle.publication.specs.Words.{word_of, link_of, session_of_word, FREE, OUT, BUSY, CLOSED, EMPTY}
-use Rattle.publication.specs.Views.{Combiner, Listing}
-use Rattle.publication.specs.Rule.{blank, BoardState, word, home, seat, own_at, Stands, HasBook, IsOrderly}
+use Rattle.publication.specs.Words.{word_of, link_of, FREE, OUT, CLOSED, EMPTY}
+use Rattle.publication.specs.Views.{Listing}
+use Rattle.publication.specs.Rule.{blank, BoardState, word, home, seat, IsOrderly}
 use Rattle.publication.specs.Rule.Stands.{vacant}
-use Rattle.publication.specs.List.{IsOn, AreApart, head_of, first_of, behind, without, with_behind, Chain, link, belongs, is_listed, IsUnlinked, IsWalking, IsLinked, IsRuled}
+use Rattle.publication.specs.List.{IsOn, AreApart, head_of, first_of, behind, with_behind, Chain, link, belongs, is_listed, IsUnlinked, IsWalking, IsLinked, IsRuled}
 use Rattle.publication.specs.Kinds.{parting, unlinks_behind, unlinks, parted, marks_out, rejoining, relinks}
 use Rattle.publication.specs.declared.view.View.{View}
 use Rattle.publication.specs.declared.slot.Held.{Held}
 use Rattle.publication.proofs.Lists.{at_there, each_set, prefix_self}
+use Rattle.publication.proofs.Seen.{book_of, whole_of}
 use Rattle.publication.proofs.Chains.{chain_same, chain_right, link_names, on_right, chain_without, chain_with, link_second, drop_two, add_two, apart_two, apart_again, apart_front, apart_parts, IsSplit, splits, rejoins, rejoins_behind}
 use Rattle.publication.proofs.Linking.{links_kept}
 use Rattle.publication.proofs.Records.{is_empty}
 use Rattle.publication.proofs.Combines.{IsRecordStep, combined}
-use Rattle.publication.proofs.Sessions.{GoesAt, seated_at, is_me, whole}
+use Rattle.publication.proofs.Sessions.{GoesAt, seated_at, is_me}
 use Rattle.publication.proofs.Enlisting.{same_calls, same_rule, session_of_its_link}
 
 module _ (i : ℕ) (v : View) (is : v.number ≡ i) (some_number : 0 < i) (s : BoardState) (o : IsOrderly s) (l : IsLinked s) (me : get_elem? s.views i ≡ opt.some v) (small : i < o.slots)
@@ -37,7 +37,7 @@ module _ (i : ℕ) (v : View) (is : v.number ≡ i) (some_number : 0 < i) (s : B
   walk = subst (λ (x : View). x.combiner.has_book ≡ true → IsWalking l.list l.off l.before x.listing) seat_is (l.walkers i) has
 
   lock_is : word s 0 ≡ i
-  lock_is = (subst (λ (x : View). x.combiner.has_book ≡ true → HasBook o.history (word s 0) i x) seat_is (o.books i) has).lock_is
+  lock_is = (book_of s o i v me has).lock_is
 
   alone : (k : ℕ) → k ≢ i → (seat s k).combiner.has_book ≡ true → ⊥
   alone k ne too = ne (sym (o.books k too).lock_is ∙ lock_is)
@@ -193,7 +193,7 @@ module _ (i : ℕ) (v : View) (is : v.number ≡ i) (some_number : 0 < i) (s : B
       legal = o.legal;
       short = o.short;
       grows = prefix_self o.history;
-      whole = whole i v is some_number s o l me small has;
+      whole = whole_of s o i v me has;
       wide = refl;
       others = λ j ne. refl;
       hands = λ j some ne e. omega (arith, e, empty, some);

@@ -1,4 +1,4 @@
-use Rattle.std.proofs.Common.{rules, ◌≡◌, ◌∙◌, ℕ, eqb, refl, sym, ap, subst}
+use Rattle.std.proofs.Common.{rules, ◌≡◌, ◌∙◌, eqb, refl, sym, ap, subst}
 use mathlib.Core.Option as opt
 use prog.Atomic.{either}
 use Rattle.atomic_table.specs.Table.{Allows, step}

@@ -2,7 +2,6 @@ use Rattle.std.proofs.Common.{rules, ◌≡◌, ◌∷◌, ◌∙◌, ℕ, Some,
 use Rattle.publication.specs.List.{IsOn, AreApart, head_of, without, with_behind, behind}
 use Rattle.publication.specs.Kinds.{Seated, parting, rejoining}
 use Rattle.publication.specs.Tickets.{IsCombiner}
-use Rattle.publication.specs.declared.view.View.{View}
 use Rattle.publication.proofs.Chains.{on_right, splits, apart_front, rejoins}
 use Rattle.publication.proofs.steps.unlink_record.Goals as goal
 

@@ -1,5 +1,4 @@
-use Rattle.std.proofs.Common.{rules, ◌≡◌, ℕ, subst}
-use Rattle.publication.specs.Words.{session_of_word, link_of}
+use Rattle.std.proofs.Common.{rules, ℕ, subst}
 use Rattle.publication.specs.Kinds.{walks_on_from}
 use Rattle.publication.proofs.Enlisting.{walk_on_kept, session_of_its_link}
 use Rattle.publication.proofs.Routes.{named_first, named_few, route_behind}

@@ -1,9 +1,8 @@
-use Rattle.std.proofs.Common.{rules, ◌≡◌, ◌+◌, ◌∷◌, ◌++◌, ◌∙◌, Bool, true, false, List, [], map, sym, ap, subst}
-use Rattle.std.specs.Prelude.{All, IsTrue}
-use Rattle.std.specs.List.{list_all}
+use Rattle.std.proofs.Common.{rules, ◌≡◌, ◌+◌, ◌∷◌, ◌++◌, ◌∙◌, true, false, List, [], map, sym, ap, subst}
+use Rattle.std.specs.Prelude.{All}
 use Rattle.publication.specs.Views.{Known, Handed}
-use Rattle.publication.specs.Boards.{IsOf, IsEachOnce, IsSettled}
-use Rattle.publication.specs.Closing.{is_settled, handed_by, WereHanded, AreEnded}
+use Rattle.publication.specs.Boards.{IsOf, IsSettled}
+use Rattle.publication.specs.Closing.{handed_by, WereHanded, AreEnded}
 use Rattle.publication.proofs.Gathering.{map_push, all_before, settled_tells, were_handed, all_accounted}
 use Rattle.publication.proofs.board.Board.gather.Goals as goal
 

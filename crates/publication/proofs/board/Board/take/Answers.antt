@@ -1,6 +1,6 @@
 use Rattle.std.proofs.Common.{rules, ◌≡◌, ◌∷◌, ℕ, List, [], Bool, true, false, cond, is_some, length-append, refl, sym, ap, ◌∙◌, subst, arith}
 use Rattle.atomic_table.specs.Table.{turned}
-use Rattle.publication.specs.Views.{answer, asks}
+use Rattle.publication.specs.Views.{answer}
 use Rattle.publication.specs.Kinds.{Seated, taking}
 use Rattle.publication.specs.Tickets.{own_slot, book_slot, IsBetweenCalls}
 use Rattle.publication.specs.declared.slot.Held.{Held}
