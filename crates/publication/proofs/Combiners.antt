@@ -5,7 +5,7 @@ use mathlib.Core.Logic.{dite}
 use native.Mathlib.Decide.{ℕ_discrete}
 use prog.Atomic.{either}
 use lib.ListN.{get_elem?}
-use Rattle.atomic_table.specs.Table.{keeps, takes, gives, step, Allows}
+use Rattle.atomic_table.specs.Table.{keeps, takes, gives, step, Allows, rest}
 use Rattle.atomic_table.proofs.Lists.{exchanged, set_here, set_else, at_last}
 use Rattle.lock_rules.specs.declared.calls.Call.{Call}
 use Rattle.lock_rules.specs.declared.calls.Reply.{Reply}
@@ -16,7 +16,7 @@ use Rattle.publication.specs.List.{belongs, IsLinked, IsRuled}
 use Rattle.publication.specs.Views.{Own, Combiner, entry, answer, asks}
 use Rattle.publication.specs.Rule.{blank, BoardState, word, home, seat, own_at, announced, IsPosted, IsBusy, Stands, HasBook, IsOpened, IsOrderly}
 use Rattle.publication.specs.Rule.Stands.{posted, busy, served}
-use Rattle.publication.specs.Kinds.{combiner, as_combiner, opened_in, called, call_at, HasEntered, looks_at, looks_at_record, opening, Opened, opens_record, opens, in_hand, lays, picks_slot, picks, answering, answers, putting_back, puts_back}
+use Rattle.publication.specs.Kinds.{Seated, combiner, as_combiner, opened_in, called, call_at, HasEntered, looks_at, looks_at_record, opening, Opened, opens_record, opens, in_hand, lays, picks_slot, picks, answering, answers, putting_back, puts_back}
 use Rattle.publication.specs.declared.view.View.{View}
 use Rattle.publication.specs.declared.slot.Held.{Held}
 use Rattle.publication.specs.declared.slot.Held.TheVariants.{Nothing, Asked, Replied}
@@ -31,6 +31,12 @@ use Rattle.publication.proofs.Combines.{IsRecordStep, combined}
 -- the words of the sessions lie apart
 pub session_of_its_word : (number : ℕ) → session_of_word (word_of number) ≡ number
 session_of_its_word number = omega arith
+
+-- the slot in hand is that of the record whose word this is, and has what was put into it
+pub in_hand_with : (at : ℕ) (m x y : Seated) (held : Held) → x ≡ (in_hand m.0 (session_of_word (word_of at)), (session_of_word (word_of at), Nothing) ∷ m.1) → y ≡ (x.0, (at, held) ∷ rest x.1)
+    → y ≡ (in_hand m.0 at, (at, held) ∷ m.1)
+in_hand_with at m x y held picked put =
+    put ∙ ap (λ (z : Seated). (z.0, (at, held) ∷ rest z.1)) (subst (λ (k : ℕ). x ≡ (in_hand m.0 k, (k, Nothing) ∷ m.1)) (session_of_its_word at) picked)
 
 module _ (i : ℕ) (v : View) (is : v.number ≡ i) (some_number : 0 < i) (s : BoardState) (o : IsOrderly s) (l : IsLinked s) (me : get_elem? s.views i ≡ opt.some v) (small : i < o.slots)
     (has : v.combiner.has_book ≡ true) (j : ℕ) (some_record : 0 < j) (few : j < o.slots) (wide : length v.combiner.opened ≡ o.slots) where

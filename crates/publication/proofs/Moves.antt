@@ -163,6 +163,7 @@ module _ (s : BoardState) (o : IsOrderly s) (i : ℕ) (v : View) (n : ℕ) (at :
           laid = λ away. home_other j ne ∙ t.laid away;
         }))
 
+    -- the same words as in `Combines`, of another board: there `after` is that of a combiner's step
     opened_after : (j : ℕ) → 0 < j → word after j ≡ BUSY → (call : Call) × (get_elem? (seat after (word after 0)).combiner.opened j ≡ opt.some (Some call))
     opened_after j some_record is =
         let was : word s j ≡ BUSY = dite (ℕ_discrete j i)

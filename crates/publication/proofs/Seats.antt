@@ -33,6 +33,7 @@ module _ (s : BoardState) (o : IsOrderly s) (vs : List View) where
     pub sits-same : StaysGone s viewed o.owns o.owns → (k : ℕ) → Sits k (seat s k)
     sits-same gone k = record { front = o.fronts k; heard = o.heard k; others = sits-others gone k; waits = o.waits k; session = o.sessions k; book = o.books k; combiner = inl refl }
 
+    -- the rule is of one board, so of another board its facts are said anew, also those that stay: here as in `Combines`, `Enlisting` and `Making`
     pub reviewed : IsMaker o.slots (length vs) (get_or vs 0 blank) → ((k : ℕ) → Sits k (get_or vs k blank)) → IsOrderly viewed
     reviewed makes sits = record {
       history = o.history;

@@ -175,8 +175,11 @@ module _ (i : ℕ) (v : View) (is : v.number ≡ i) (some_number : 0 < i) (s : B
     few : w < o.slots
     few = let g = gone.small in omega (arith, gone_off, g, o.homes_are)
 
+    abbrev parted_with : List ℕ → BoardState
+    parted_with ws = record { words = ws; homes = s.homes; views = set s.views i (parted v) }
+
     abbrev marked_state : BoardState
-    marked_state = record { words = set s.words (word_of w) OUT; homes = s.homes; views = set s.views i (parted v) }
+    marked_state = parted_with (set s.words (word_of w) OUT)
 
     marked_word : (j : ℕ) → j ≢ w → word marked_state j ≡ word s j
     marked_word j ne = get_or-set_other s.words (word_of w) (word_of j) OUT 0 (λ e. ne (omega (arith, e)))
@@ -224,34 +227,37 @@ module _ (i : ℕ) (v : View) (is : v.number ≡ i) (some_number : 0 < i) (s : B
     parted_walks = each_set s.views i (parted v) blank (λ k x. x.combiner.has_book ≡ true → IsWalking l.list 0 0 x.listing) sits
         (λ _. record { new = walk.new; list_is = walk.list_is; off_is = refl; before_is = λ some. absurd (some refl) }) (λ k ne too. absurd (alone k ne too))
 
-    mark_listed : IsLinked marked_state
-    mark_listed = record {
+    -- with other words, where no record is on the list by them but those that are, and those that aren't are off it as they were
+    parted_listed : (ws : List ℕ) → ((j : ℕ) → get_or ws (link_of j) 0 ≡ link s j) → ((j : ℕ) → 0 < j → is_listed (parted_with ws) j ≡ Some true → IsOn j l.list)
+        → ((j : ℕ) → 0 < j → is_listed (parted_with ws) j ≡ Some false → IsOn j l.list → ⊥) → ((j : ℕ) → is_listed s j ≡ Some false → is_listed (parted_with ws) j ≡ Some false) → IsLinked (parted_with ws)
+    parted_listed ws links on_it off_it still_off = record {
       list = l.list;
-      chain = subst (λ (k : ℕ). Chain (link marked_state) k l.list) (sym (links_kept s.words w OUT 0))
-          (chain_same (link s) (link marked_state) (link s 0) l.list (λ q on. sym (links_kept s.words w OUT q)) l.chain);
+      chain = subst (λ (k : ℕ). Chain (link (parted_with ws)) k l.list) (sym (links 0)) (chain_same (link s) (link (parted_with ws)) (link s 0) l.list (λ q on. sym (links q)) l.chain);
       apart = l.apart;
       within = l.within;
       off = 0;
       before = 0;
       unlinked = λ some. absurd (some refl);
       whole = λ _. refl;
-      ons = λ j some e. dite (ℕ_discrete j w)
-          (λ z. absurd (let q : Some false ≡ Some true = sym (marked_out j z) ∙ e in cc q))
-          (λ ne. ⊎_elim (λ on. inl on) (λ (z : j ≡ l.off). absurd (ne (z ∙ gone_off))) (l.ons j some (sym (marked_claims j ne) ∙ e)));
-      offs = λ j some e. (
-        dite (ℕ_discrete j w)
-            (λ z on. gone.gone (subst (λ (q : ℕ). IsOn q l.list) (z ∙ sym gone_off) on))
-            (λ ne. (l.offs j some (sym (marked_claims j ne) ∙ e)).0),
-        λ z. omega (arith, z, some),
-      );
-      aims = λ j m e. let r = l.aims j m (aim_after j m e) in
-          (r.0, dite (ℕ_discrete j w) (λ z. marked_out j z) (λ ne. marked_claims j ne ∙ r.1), links_kept s.words w OUT j ∙ r.2);
+      ons = λ j some e. inl (on_it j some e);
+      offs = λ j some e. (off_it j some e, λ z. omega (arith, z, some));
+      aims = λ j m e. let r = l.aims j m (aim_after j m e) in (r.0, still_off j r.1, links j ∙ r.2);
       walkers = parted_walks;
     }
 
+    mark_listed : IsLinked marked_state
+    mark_listed = parted_listed (set s.words (word_of w) OUT) (links_kept s.words w OUT)
+        (λ j some e. dite (ℕ_discrete j w)
+        (λ z. absurd (let q : Some false ≡ Some true = sym (marked_out j z) ∙ e in cc q))
+        (λ ne. ⊎_elim (λ on. on) (λ (z : j ≡ l.off). absurd (ne (z ∙ gone_off))) (l.ons j some (sym (marked_claims j ne) ∙ e))))
+        (λ j some e. dite (ℕ_discrete j w)
+        (λ z on. gone.gone (subst (λ (q : ℕ). IsOn q l.list) (z ∙ sym gone_off) on))
+        (λ ne. (l.offs j some (sym (marked_claims j ne) ∙ e)).0))
+        (λ j e. dite (ℕ_discrete j w) (λ z. marked_out j z) (λ ne. marked_claims j ne ∙ e))
+
     -- a record that was CLOSED is off the list for good
     abbrev left_state : BoardState
-    left_state = record { words = s.words; homes = s.homes; views = set s.views i (parted v) }
+    left_state = parted_with s.words
 
     left_claims : (j : ℕ) → is_listed left_state j ≡ is_listed s j
     left_claims = each_set s.views i (parted v) blank (λ j x. belongs (word s j) x.own.listed ≡ is_listed s j) sits
@@ -261,21 +267,10 @@ module _ (i : ℕ) (v : View) (is : v.number ≡ i) (some_number : 0 < i) (s : B
     closed_is hit j e = ap (λ (m : ℕ). belongs m (seat s j).own.listed) (ap (word s) e ∙ hit)
 
     closed_listed : word s w ≡ CLOSED → IsLinked left_state
-    closed_listed hit = record {
-      list = l.list;
-      chain = l.chain;
-      apart = l.apart;
-      within = l.within;
-      off = 0;
-      before = 0;
-      unlinked = λ some. absurd (some refl);
-      whole = λ _. refl;
-      ons = λ j some e. ⊎_elim (λ on. inl on)
-          (λ (z : j ≡ l.off). absurd (let q : None ≡ Some true = sym (closed_is hit j (z ∙ gone_off)) ∙ (sym (left_claims j) ∙ e) in cc q)) (l.ons j some (sym (left_claims j) ∙ e));
-      offs = λ j some e. ((l.offs j some (sym (left_claims j) ∙ e)).0, λ z. omega (arith, z, some));
-      aims = λ j m e. let r = l.aims j m (aim_after j m e) in (r.0, left_claims j ∙ r.1, r.2);
-      walkers = parted_walks;
-    }
+    closed_listed hit = parted_listed s.words (λ j. refl)
+        (λ j some e. ⊎_elim (λ on. on)
+        (λ (z : j ≡ l.off). absurd (let q : None ≡ Some true = sym (closed_is hit j (z ∙ gone_off)) ∙ (sym (left_claims j) ∙ e) in cc q)) (l.ons j some (sym (left_claims j) ∙ e)))
+        (λ j some e. (l.offs j some (sym (left_claims j) ∙ e)).0) (λ j e. left_claims j ∙ e)
 
     abbrev MarkTells : List (ℕ × Held) → ℕ → Type 0
     MarkTells more n = GoesAt s (word_of w) i (v, more) (marks_out (step o.slots (word_of w) EMPTY OUT opt.none) (v, more)) n

@@ -1,12 +1,12 @@
-use Rattle.std.proofs.Common.{rules, ◌≡◌, ◌∷◌, ◌∙◌, ℕ, refl, sym, ap, subst, arith}
+use Rattle.std.proofs.Common.{rules, ◌∙◌, refl, sym, ap, subst, arith}
 use mathlib.Core.Option as opt
 use Rattle.atomic_table.specs.Table.{Allows, step, rest}
 use Rattle.publication.specs.Words.{word_of, SERVED}
 use Rattle.publication.specs.List.{IsRuled}
 use Rattle.publication.specs.Kinds.{Seated, answers, call_at, replied, in_hand, answering}
 use Rattle.publication.specs.declared.slot.Held.{Held}
-use Rattle.publication.specs.declared.slot.Held.TheVariants.{Nothing, Replied}
-use Rattle.publication.proofs.Combiners.{session_of_its_word, pick_kept, answer_kept}
+use Rattle.publication.specs.declared.slot.Held.TheVariants.{Replied}
+use Rattle.publication.proofs.Combiners.{in_hand_with, pick_kept, answer_kept}
 use Rattle.publication.proofs.Lists.{there_at}
 use Rattle.publication.proofs.steps.answer_record.Goals as goal
 
@@ -26,8 +26,7 @@ store-requires c =
     let id = c.exchange.new.seat.id in
     let held : Held = Replied c.args.place c.args.reply in
     let there = there_at m.0.combiner.opened at (call_at m.0 at) c.requires.opened in
-    let picked = subst (λ (k : ℕ). c.load.new.seat.me ≡ (in_hand m.0 k, (k, Nothing) ∷ m.1)) (session_of_its_word at) c.load.ensures.2 in
-    let after : c.exchange.new.seat.me ≡ (in_hand m.0 at, (at, held) ∷ m.1) = c.exchange.ensures.3 ∙ ap (λ (x : Seated). (x.0, (at, held) ∷ rest x.1)) picked in (
+    let after = in_hand_with at m c.load.new.seat.me c.exchange.new.seat.me held c.load.ensures.2 c.exchange.ensures.3 in (
       search rules,
       search rules,
       subst (λ (x : Seated). Allows IsRuled slots id x (word_of at) (λ _. SERVED) (λ _. answers (step slots (word_of at) SERVED 0 opt.none) x SERVED)) (sym after)
@@ -40,6 +39,5 @@ returns-clause-step c =
     let m = c.args.seat.now.me in
     let at = c.args.at in
     let held : Held = Replied c.args.place c.args.reply in
-    let picked = subst (λ (k : ℕ). c.load.new.seat.me ≡ (in_hand m.0 k, (k, Nothing) ∷ m.1)) (session_of_its_word at) c.load.ensures.2 in
-    let after : c.exchange.new.seat.me ≡ (in_hand m.0 at, (at, held) ∷ m.1) = c.exchange.ensures.3 ∙ ap (λ (x : Seated). (x.0, (at, held) ∷ rest x.1)) picked in
+    let after = in_hand_with at m c.load.new.seat.me c.exchange.new.seat.me held c.load.ensures.2 c.exchange.ensures.3 in
     c.store.ensures.2 ∙ ap (λ (x : Seated). (answering x.0 x.0.combiner.hand (call_at x.0 x.0.combiner.hand) (replied x.1), rest x.1)) after

@@ -1,12 +1,12 @@
-use Rattle.std.proofs.Common.{rules, ◌≡◌, ◌∷◌, ◌∙◌, ℕ, refl, sym, ap, subst}
+use Rattle.std.proofs.Common.{rules, refl, sym, subst}
 use mathlib.Core.Option as opt
-use Rattle.atomic_table.specs.Table.{Allows, step, rest}
+use Rattle.atomic_table.specs.Table.{Allows, step}
 use Rattle.publication.specs.Words.{word_of, POSTED}
 use Rattle.publication.specs.List.{IsRuled}
 use Rattle.publication.specs.Kinds.{Seated, puts_back, in_hand}
 use Rattle.publication.specs.declared.slot.Held.{Held}
-use Rattle.publication.specs.declared.slot.Held.TheVariants.{Nothing, Asked}
-use Rattle.publication.proofs.Combiners.{session_of_its_word, pick_kept, put_back_kept}
+use Rattle.publication.specs.declared.slot.Held.TheVariants.{Asked}
+use Rattle.publication.proofs.Combiners.{in_hand_with, pick_kept, put_back_kept}
 use Rattle.publication.proofs.Lists.{there_at}
 use Rattle.publication.proofs.steps.put_back_record.Goals as goal
 
@@ -26,8 +26,7 @@ store-requires c =
     let id = c.exchange.new.seat.id in
     let held : Held = Asked c.args.call in
     let there = there_at m.0.combiner.opened at c.args.call c.requires.opened in
-    let picked = subst (λ (k : ℕ). c.load.new.seat.me ≡ (in_hand m.0 k, (k, Nothing) ∷ m.1)) (session_of_its_word at) c.load.ensures.2 in
-    let after : c.exchange.new.seat.me ≡ (in_hand m.0 at, (at, held) ∷ m.1) = c.exchange.ensures.3 ∙ ap (λ (x : Seated). (x.0, (at, held) ∷ rest x.1)) picked in (
+    let after = in_hand_with at m c.load.new.seat.me c.exchange.new.seat.me held c.load.ensures.2 c.exchange.ensures.3 in (
       search rules,
       search rules,
       subst (λ (x : Seated). Allows IsRuled slots id x (word_of at) (λ _. POSTED) (λ _. puts_back (step slots (word_of at) POSTED 0 opt.none) x POSTED)) (sym after)
