@@ -1,16 +1,17 @@
 //! The board and its tickets.
 
-ghost use Rattle.std.specs.Prelude.{◌≡◌, ◌≢◌, ◌+◌, ◌-◌, ◌^◌, ◌<◌, ◌≤◌, ◌∷◌, ◌++◌, [], true, false, Some, None, IfOk, IfErr, IfSome, IfNone, length, map, max, cond, slice_set, All, IsTrue, ◌↔◌};
+ghost use Rattle.std.specs.Prelude.{◌≡◌, ◌≢◌, ◌+◌, ◌-◌, ◌<◌, ◌≤◌, ◌∷◌, ◌++◌, [], true, false, Some, None, IfOk, IfErr, IfSome, IfNone, length, map, max, cond, All, IsTrue, ◌↔◌};
 ghost use mathlib.Core.List.{IsPrefix};
 ghost use Rattle.atomic_table.specs.Table.{turned};
 ghost use Rattle.lock_rules.specs.Legal.{IsLegal, calls_of};
-ghost use Rattle.publication.specs.Tickets.{IsBoard, IsAt};
+ghost use Rattle.publication.specs.Tickets.{IsBoard};
 ghost use Rattle.publication.specs.Views.{entry, answer, asks};
-ghost use Rattle.publication.specs.Rule.{IsHome, maker, newcomer};
-ghost use Rattle.publication.specs.List.{IsOn, first_of, behind, without};
-ghost use Rattle.publication.specs.Kinds.{Took, IsRoute, longer, maxes};
-ghost use Rattle.publication.specs.Boards.{IsOf, IsNumber, OpensNone, opened_at, asked_at, heard_from, published_by, new_ticket, new_tickets, publishing, enlisted, IsEachOnce, IsSettled, AccountsFor};
+ghost use Rattle.publication.specs.Rule.{maker, newcomer};
+ghost use Rattle.publication.specs.Kinds.{Took, longer, maxes};
+ghost use Rattle.publication.specs.Boards.{IsOf, heard_from, published_by, new_ticket, new_tickets, publishing, enlisted, IsEachOnce, IsSettled, AccountsFor};
 ghost use Rattle.publication.specs.Closing.{is_settled, handed_by, WereHanded, AreEnded};
+
+mod combiner;
 
 use crate::closing::{CloseFault, are_settled, close_table, is_each_once};
 use crate::kinds::{Law, Start};
@@ -298,141 +299,6 @@ impl Board {
         ticket.is_pending = false;
         ticket.seen = u64::max(ticket.seen, place + 1);
         Some((place, reply))
-    }
-
-    /// One try to become the combiner, who has the lock table until it is released. `None` where somebody is; the lock word
-    /// is written only after a look found it free. The load comes and goes in the box in which it was made.
-    pub fn seize(&self, ticket: &mut Ticket) -> Option<Box<Load>>
-        requires ours { IsOf self.now ticket.old }
-        ensures ticket { IfSome result (λ load. ticket.new ≡ record ticket.old {
-          front = load.value.book.history;
-          has_book = true;
-        }) }
-        ensures home { IfSome result (λ load. IsHome load.value.book.history (self.now.sessions + 1) load.value) }
-        ensures legal { IfSome result (λ load. IsLegal load.value.book.history) }
-        ensures longer { IfSome result (λ load. IsPrefix ticket.old.front load.value.book.history) }
-        ensures lacked { IfSome result (λ _. ticket.old.has_book ≡ false) }
-        ensures none { IfNone result (ticket.new ≡ ticket.old) }
-        ensures others { IfNone result (ticket.old.has_book ≡ false → 1 < self.now.sessions) }
-        ensures number { IsNumber self.now ticket.old.number }
-        ensures own { ticket.old.pending ≢ None → ticket.old.listed ≡ true → heard_from ticket.old ticket.old.number ≡ published_by ticket.old }
-    {
-        let load = steps::take_load(
-            &self.table.shared,
-            &mut ticket.seat,
-            u64::from(ticket.number),
-        )?;
-        ticket.has_book = true;
-        ticket.seen = load.book.history().len() as u64;
-        Some(load)
-    }
-
-    /// The combiner gives the lock table back, with the history that the board has, and with nothing opened and an empty row.
-    pub fn release(&self, ticket: &mut Ticket, load: Box<Load>)
-        requires ours { IsOf self.now ticket.old }
-        requires has { ticket.old.has_book ≡ true }
-        requires none { OpensNone ticket.old }
-        requires home { IsHome ticket.old.front (self.now.sessions + 1) load.value }
-        ensures ticket { ticket.new ≡ record ticket.old { has_book = false; route = [] } }
-    {
-        steps::give_load(&self.table.shared, &mut ticket.seat, load);
-        ticket.has_book = false;
-    }
-
-    /// The combiner looks where its walk of the publication list goes on: at the head word, or at the link of a record that it has
-    /// met. `None` at the end mark. A walk that begins meets each record that is on the list then, once.
-    pub fn walk(&self, ticket: &mut Ticket, after: Option<u16>) -> Option<u16>
-        requires ours { IsOf self.now ticket.old }
-        requires has { ticket.old.has_book ≡ true }
-        requires on { IfSome after (λ q. IsNumber self.now q × IsOn q ticket.old.route) }
-        ensures ticket { ticket.new ≡ record ticket.old { route = ticket.new.route } }
-        ensures first { IfNone after (result ≡ first_of ticket.new.route) }
-        ensures next { IfSome after (λ q. (ticket.new ≡ ticket.old) × (result ≡ first_of (behind q ticket.old.route))) }
-        ensures route { IsRoute (self.now.sessions + 1) ticket.new.route }
-        ensures all { IfNone after ((j : _) → 0 < j → j ≤ self.now.sessions → length (calls_of j ticket.old.front) < heard_from ticket.old j → IsOn j ticket.new.route) }
-    {
-        match after {
-            None => steps::walk_from_head(&self.table.shared, &mut ticket.seat),
-            Some(whose) => steps::walk_on(&self.table.shared, &mut ticket.seat, usize::from(whose)),
-        }
-    }
-
-    /// The combiner takes a record off the publication list, which stands there behind another: it links that one past it, and then
-    /// tries to mark it out. Whether it is off the list: a record that isn't EMPTY, nor CLOSED, is linked again at once, so the list is as
-    /// it was. The first record can't be taken off.
-    pub fn unlink(&self, ticket: &mut Ticket, before: u16, whose: u16) -> bool
-        requires ours { IsOf self.now ticket.old }
-        requires has { ticket.old.has_book ≡ true }
-        requires before { IsNumber self.now before × IsOn before ticket.old.route }
-        requires whose { IsNumber self.now whose × (first_of (behind before ticket.old.route) ≡ Some whose) }
-        ensures off { result ≡ true → ticket.new ≡ record ticket.old { route = without before ticket.old.route } }
-        ensures kept { result ≡ false → ticket.new ≡ ticket.old }
-    {
-        steps::unlink_record(
-            &self.table.shared,
-            &mut ticket.seat,
-            usize::from(before),
-            usize::from(whose),
-        )
-    }
-
-    /// The combiner opens the record of a session: the call that is posted there. `None` where none is; the record is
-    /// written only after a look found one.
-    pub fn open(&self, ticket: &mut Ticket, whose: u16) -> Option<Call>
-        requires ours { IsOf self.now ticket.old }
-        requires has { ticket.old.has_book ≡ true }
-        requires whose { IsNumber self.now whose }
-        ensures ticket { IfSome result (λ call. ticket.new ≡ record ticket.old { opened = slice_set ticket.old.opened whose (Some call) }) }
-        ensures opened { IfSome result (λ call. opened_at ticket.new whose ≡ Some call) }
-        ensures lacked { IfSome result (λ _. opened_at ticket.old whose ≡ None) }
-        ensures heard { IfSome result (λ _. heard_from ticket.old whose ≤ length (calls_of whose ticket.old.front) + 1) }
-        ensures own { IfSome result (λ _. ticket.old.number ≡ whose → length ticket.old.collected ≡ length (calls_of whose ticket.old.front)) }
-        ensures none { IfNone result (ticket.new ≡ ticket.old) }
-        ensures entered { IfNone result (opened_at ticket.old whose ≡ None → heard_from ticket.old whose ≤ length (calls_of whose ticket.old.front)) }
-        ensures own_entered { IfNone result (opened_at ticket.old whose ≡ None → ticket.old.number ≡ whose → ticket.old.pending ≢ None
-            → length ticket.old.collected < length (calls_of whose ticket.old.front)) }
-    {
-        steps::open_record(&self.table.shared, &mut ticket.seat, usize::from(whose))
-    }
-
-    /// The combiner answers a call that it opened. The call's entry joins the board's history as the last one.
-    pub fn answer(&self, ticket: &mut Ticket, whose: u16, reply: Reply)
-        requires ours { IsOf self.now ticket.old }
-        requires has { ticket.old.has_book ≡ true }
-        requires whose { IsNumber self.now whose }
-        requires short { length ticket.old.front + 1 < 2 ^ 64 }
-        requires opened { opened_at ticket.old whose ≡ Some (asked_at ticket.old whose) }
-        requires legal { IsLegal (ticket.old.front ++ entry whose (asked_at ticket.old whose) reply ∷ []) }
-        ensures ticket { ticket.new ≡ record ticket.old {
-          front = ticket.old.front ++ entry whose (asked_at ticket.old whose) reply ∷ [];
-          opened = slice_set ticket.old.opened whose None;
-        } }
-    {
-        let place = ticket.seen;
-        steps::answer_record(
-            &self.table.shared,
-            &mut ticket.seat,
-            usize::from(whose),
-            place,
-            reply,
-        );
-        ticket.seen = place + 1;
-    }
-
-    /// The combiner puts a call back that it opened and hasn't performed. The call is posted again.
-    pub fn put_back(&self, ticket: &mut Ticket, whose: u16, call: Call)
-        requires ours { IsOf self.now ticket.old }
-        requires has { ticket.old.has_book ≡ true }
-        requires whose { IsNumber self.now whose }
-        requires opened { opened_at ticket.old whose ≡ Some call }
-        ensures ticket { ticket.new ≡ record ticket.old { opened = slice_set ticket.old.opened whose None } }
-    {
-        steps::put_back_record(
-            &self.table.shared,
-            &mut ticket.seat,
-            usize::from(whose),
-            call,
-        );
     }
 
     /// The first session learns what the second knows: the longer of their fronts of the history, and of each session the larger
