@@ -1,4 +1,5 @@
 pub mod PointerValues
+pub mod Moving
 pub mod HeldValues
 pub mod Writing
 pub mod Handles

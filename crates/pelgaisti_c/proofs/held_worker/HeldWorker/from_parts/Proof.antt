@@ -6,10 +6,7 @@ use base.Logic.{SProp, emp}
 use prog.Wp.{WpFn}
 use contract.Monad.{fact, fact_i}
 use contract.Running.{tables}
-use types.Kit.{‵, raw, ◌⊛◌, prop, ◌$◌, ◌∵◌, !, qed, by, move, drop, keep, use0, split, regoal, fsplit, fjoin}
-use types.Part.{whole, sub, agg}
-use types.Run.{stop, fld, of_opd, no_more, and_then, returns, enter}
-use types.ByLocal.{alloc_all, pass_all, free_all, look_at, get, get_in, sets}
+use types.Kit.{suffices, ‵, raw, ◌⊛◌, prop, ◌$◌, ◌∵◌, !, qed, by, move, drop, keep, use0, split, regoal, fsplit, fjoin}
 use denote.RattleType.{RattleType, owns}
 use denote.Signature.{types_at, plain}
 use denote.Steps.{nothing}
@@ -17,7 +14,8 @@ use denote.Triple.Entry.{alive}
 use denote.Triple.Walked.{Stays, stay_dropped, walk_of}
 use Rattle.core.proofs.alloc.Calls.{Goes-blank}
 use Rattle.std.proofs.raw_atomic.Walks.{proved_at, leaves}
-use Rattle.pelgaisti_c.proofs.PointerValues.{word, own, told, made, ptr_typed, typed}
+use Rattle.pelgaisti_c.proofs.PointerValues.{word, own, told, made}
+use Rattle.pelgaisti_c.proofs.Moving.{moves}
 use Rattle.std.specs.contracts.alloc.Global as heap
 use Rattle.std.specs.contracts.impls.GlobalAllocator.TheImpl.{ghosts}
 use Rattle.pelgaisti_c.specs.contracts.worker.Worker as inner
@@ -43,14 +41,8 @@ from_parts_spec 𝓤 𝓛 𝓜 𝓡 wired =
     qed 𝓛 ((raw (alive 𝓛 ended.signature z.0.0 z.0.1) ⊛ ‵ (owns (types_at ended.signature.params z.0.0) z.0.3 vss)) ∷ raw ((c z.0.0 z.0.3).requires z.1) ∷ []) ∵ move ! (1 ∷ []) $ drop ! $ split ! $ move ! (1 ∷ []) $
     fsplit ! $ fsplit ! $ drop ! $
     regoal ! (λ (us : List Val). prop (WpFn 𝓤 H C Λ fn us Post)) (λ i. told x.ptr x.alloc vss.0 are.0.0 i ++ []) refl $
-    enter ! C Λ fn (word x.ptr ∷ []) Post $
-    alloc_all ! (λ l. pass_all ! refl (typed x.ptr, tt) $
-    sets ! (of_opd ! (get_in ! (fld ! refl (stop !)) (sub ! 0 refl (whole !)))) refl (ptr_typed x.ptr) $
-    sets ! (of_opd ! (get_in ! (fld ! refl (stop !)) (sub ! 1 refl (whole !)))) refl (tt, ((tt, tt), tt)) $
-    sets ! (of_opd ! (get ! refl)) refl (ptr_typed x.ptr) $
-    sets ! (agg ! (and_then ! (get ! refl) (and_then ! (get ! refl) (no_more !)))) refl (typed x.ptr) $
-    returns ! (look_at ! 0 refl) $ free_all ! refl $
+    suffices ! (Post (word x.ptr)) (moves 𝓛 C Λ Post _ _ x.ptr) $
     -- [what the parts owned; true; the tokens]
     use0 𝓛 (‵ (own x.ptr x.alloc (word x.ptr ∷ []))) (made 𝓛 x.ptr x.alloc) $ fjoin ! $
     use0 𝓛 (raw (fact 𝓤 (kept ≡ kept))) (fact_i 𝓤 (kept ≡ kept) (emp 𝓤) refl) $ nothing ! $ nothing ! $ fjoin ! $ keep ! (4 ∷ 0 ∷ 2 ∷ 1 ∷ []) $
-    by ! (leaves 𝓛 ended stays c z (word x.ptr) to (tt, tt) (tt, tt))))
+    by ! (leaves 𝓛 ended stays c z (word x.ptr) to (tt, tt) (tt, tt)))

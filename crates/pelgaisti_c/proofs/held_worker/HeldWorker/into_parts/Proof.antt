@@ -6,10 +6,7 @@ use base.Logic.{SProp, emp}
 use prog.Wp.{WpFn}
 use contract.Monad.{fact, fact_i}
 use contract.Running.{tables}
-use types.Kit.{‵, raw, ◌⊛◌, prop, ◌$◌, ◌∵◌, !, qed, by, move, drop, keep, use0, split, regoal, rewrite, fsplit, fjoin}
-use types.Part.{whole, sub, agg}
-use types.Run.{stop, fld, of_opd, no_more, and_then, returns, enter}
-use types.ByLocal.{alloc_all, pass_all, free_all, look_at, get, get_in, sets}
+use types.Kit.{suffices, ‵, raw, ◌⊛◌, prop, ◌$◌, ◌∵◌, !, qed, by, move, drop, keep, use0, split, regoal, rewrite, fsplit, fjoin}
 use denote.RattleType.{RattleType, owns}
 use denote.Signature.{types_at, plain}
 use denote.Steps.{nothing, heard}
@@ -17,7 +14,8 @@ use denote.Triple.Entry.{alive}
 use denote.Triple.Walked.{Stays, stay_dropped, walk_of}
 use Rattle.core.proofs.alloc.Calls.{Goes-blank}
 use Rattle.std.proofs.raw_atomic.Walks.{proved_at, leaves}
-use Rattle.pelgaisti_c.proofs.PointerValues.{word, own, told, made, ptr_typed, typed}
+use Rattle.pelgaisti_c.proofs.PointerValues.{word, own, told, made}
+use Rattle.pelgaisti_c.proofs.Moving.{moves}
 use Rattle.pelgaisti_c.specs.HeldWorkers.{worker_at}
 use Rattle.pelgaisti_c.proofs.HeldValues.{value_in}
 use Rattle.pelgaisti_c.specs.declared.worker.Worker.{Worker}
@@ -47,14 +45,8 @@ into_parts_spec 𝓤 𝓛 𝓜 𝓡 wired =
     qed 𝓛 ((raw (alive 𝓛 ended.signature z.0.0 z.0.1) ⊛ ‵ (owns (types_at ended.signature.params z.0.0) z.0.3 vss)) ∷ raw (fact 𝓤 (IsSome x.worker)) ∷ []) ∵ move ! (1 ∷ []) $ heard ! (IsSome x.worker) (λ full. let kept = value_in x.worker full in let to : Parts.Denot = record { ptr = x.at; alloc = x.alloc; value = kept.0 } in split ! $ move ! (1 ∷ []) $
     fsplit ! $ fsplit ! $ drop ! $ rewrite ! 0 (λ (o : Option Worker). ‵ (worker_at x.alloc x.at o)) kept.1 refl $
     regoal ! (λ (us : List Val). prop (WpFn 𝓤 H C Λ fn us Post)) (λ i. told x.at x.alloc vss.0 are.0.0 i ++ []) refl $
-    enter ! C Λ fn (word x.at ∷ []) Post $
-    alloc_all ! (λ l. pass_all ! refl (typed x.at, tt) $
-    sets ! (of_opd ! (get_in ! (fld ! refl (stop !)) (sub ! 0 refl (whole !)))) refl (ptr_typed x.at) $
-    sets ! (of_opd ! (get_in ! (fld ! refl (stop !)) (sub ! 1 refl (whole !)))) refl (tt, ((tt, tt), tt)) $
-    sets ! (of_opd ! (get ! refl)) refl (ptr_typed x.at) $
-    sets ! (agg ! (and_then ! (get ! refl) (and_then ! (get ! refl) (no_more !)))) refl (typed x.at) $
-    returns ! (look_at ! 0 refl) $ free_all ! refl $
+    suffices ! (Post (word x.at)) (moves 𝓛 C Λ Post _ _ x.at) $
     -- [what the parts owned; true; the tokens]
     use0 𝓛 (‵ (own x.at x.alloc (word x.at ∷ []))) (made 𝓛 x.at x.alloc) $ fjoin ! $
     use0 𝓛 (raw (fact 𝓤 (x.worker ≡ Some kept.0))) (fact_i 𝓤 (x.worker ≡ Some kept.0) (emp 𝓤) kept.1) $ nothing ! $ nothing ! $ fjoin ! $ keep ! (4 ∷ 0 ∷ 2 ∷ 1 ∷ []) $
-    by ! (leaves 𝓛 ended stays c z (word x.at) to (tt, tt) (tt, tt)))))
+    by ! (leaves 𝓛 ended stays c z (word x.at) to (tt, tt) (tt, tt))))

@@ -6,10 +6,7 @@ use base.Logic.{SProp, emp}
 use prog.Wp.{WpFn}
 use contract.Monad.{fact, fact_i}
 use contract.Running.{tables}
-use types.Kit.{‵, raw, ◌⊛◌, prop, ◌$◌, ◌∵◌, !, qed, by, move, drop, keep, use0, split, regoal, fsplit, fjoin}
-use types.Part.{agg}
-use types.Run.{lit, no_more, and_then, returns, enter}
-use types.ByLocal.{alloc_all, pass_all, free_all, look_at, get, sets}
+use types.Kit.{suffices, ‵, raw, ◌⊛◌, prop, ◌$◌, ◌∵◌, !, qed, by, move, drop, keep, use0, split, regoal, fsplit, fjoin}
 use denote.RattleType.{owns}
 use denote.RawPtr.{null_ptr}
 use denote.Signature.{types_at, plain}
@@ -18,7 +15,8 @@ use denote.Triple.Entry.{alive}
 use denote.Triple.Walked.{Stays, stay_dropped, walk_of}
 use Rattle.core.proofs.alloc.Calls.{Goes-blank}
 use Rattle.std.proofs.raw_atomic.Walks.{proved_at, leaves}
-use Rattle.pelgaisti_c.proofs.PointerValues.{word, heap_val, heap_told, own, made, typed}
+use Rattle.pelgaisti_c.proofs.PointerValues.{word, heap_told, own, made}
+use Rattle.pelgaisti_c.proofs.Moving.{holds_none}
 use Rattle.std.specs.contracts.alloc.Global as heap
 use Rattle.pelgaisti_c.specs.declared.worker.Worker.{Worker}
 use Rattle.pelgaisti_c.specs.contracts.held_worker.HeldWorker as held
@@ -38,11 +36,8 @@ nothing_spec 𝓤 𝓛 𝓜 𝓡 wired =
     qed 𝓛 ((raw (alive 𝓛 ended.signature z.0.0 z.0.1) ⊛ ‵ (owns (types_at ended.signature.params z.0.0) z.0.3 vss)) ∷ raw ((c z.0.0 z.0.3).requires z.1) ∷ []) ∵ move ! (1 ∷ []) $ drop ! $ split ! $ move ! (1 ∷ []) $
     fsplit ! $ drop ! $
     regoal ! (λ (us : List Val). prop (WpFn 𝓤 H C Λ fn us Post)) (λ i. heap_told x vss.0 are.0 i ++ []) refl $
-    enter ! C Λ fn (heap_val ∷ []) Post $
-    alloc_all ! (λ l. pass_all ! refl ((tt, ((tt, tt), tt)), tt) $
-    sets ! (agg ! (and_then ! (lit ! tt) (and_then ! (get ! refl) (no_more !)))) refl (typed null_ptr) $
-    returns ! (look_at ! 0 refl) $ free_all ! refl $
+    suffices ! (Post (word null_ptr)) (holds_none 𝓛 C Λ Post _) $
     -- [true; the tokens]
     use0 𝓛 (‵ (own null_ptr x (word null_ptr ∷ []))) (made 𝓛 null_ptr x) $ fjoin ! $
     use0 𝓛 (raw (fact 𝓤 (kept ≡ kept))) (fact_i 𝓤 (kept ≡ kept) (emp 𝓤) refl) $ nothing ! $ nothing ! $ fjoin ! $ keep ! (3 ∷ 0 ∷ 2 ∷ 1 ∷ []) $
-    by ! (leaves 𝓛 ended stays c z (word null_ptr) to (tt, tt) (tt, tt))))
+    by ! (leaves 𝓛 ended stays c z (word null_ptr) to (tt, tt) (tt, tt)))
