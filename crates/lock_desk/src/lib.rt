@@ -5,8 +5,8 @@
 //!
 //! 1. the cells, by resource (`cells.rt`, in a table, `cell_table.rt`), each with its holders as two columns (`holders.rt`), and
 //!    the lockers, by session (`lockers.rt`), each with methods that alone read its fields; a session's locks, with how many
-//!    children of each it holds (`locks.rt`); what is promoted in both (`releases.rt`); who waits for whom (`waits.rt`,
-//!    `positions.rt`);
+//!    children it holds of each that is indexed (`locks.rt`); what is promoted in both (`releases.rt`); who waits for whom
+//!    (`waits.rt`, `positions.rt`);
 //! 2. the desk, which does what each call does to all of them (`desk.rt`) once its tests are passed (`refusals.rt`), and
 //!    grants locks that go together in one go (`runs.rt`, by what `desk/grants.rt` does);
 //! 3. the book, which is the desk with its history, and what callers see (`book.rt`, `batch.rt`).
