@@ -18,6 +18,7 @@ load-requires c =
     let there = there_at m.0.combiner.opened at c.args.call c.requires.opened in
     (search rules, search rules, pick_kept c.args.shared.now.table_id.slots c.args.seat.now.id m.0 mine.session mine.book at c.requires.at.some c.requires.at.there c.args.call there m.1 mine.empty)
 
+-- the names are those of `answer_record`, and the goals are each function's own
 pub store-requires : goal.store-requires
 store-requires c =
     let m = c.args.seat.now.me in
