@@ -99,6 +99,7 @@ fn names(rt: HostRuntime) {
 #[test]
 fn codes_of_all_bytes(rt: HostRuntime) {
     for byte in 0..=255 {
+        // by hand, from the table of the rules: the code's own table says nothing of itself
         let want = match byte {
             0 => Some(Mode::NL),
             1 => Some(Mode::IS),
@@ -109,6 +110,11 @@ fn codes_of_all_bytes(rt: HostRuntime) {
             _ => None,
         };
         assert_eq!(rt; Mode::from_code(byte), want, "{byte}");
+        assert_eq!(rt;
+            Mode::from_code_or_nl(byte),
+            want.unwrap_or(Mode::NL),
+            "{byte}"
+        );
     }
 }
 
