@@ -4,8 +4,7 @@ ghost use Rattle.std.specs.Prelude.{◌≡◌, ℕ, ◌+◌, ◌*◌, ◌<◌, �
 ghost use Rattle.waits_for.specs.Bits.{has_bit, words_for};
 ghost use Rattle.waits_for.specs.Pairs.{pairs_of, seen_by};
 
-use crate::bits::{clear, set, unite, words_for};
-use mode_lanes::or_into;
+use crate::bits::{clear, set, unite_within, words_for};
 use std::alloc::{AllocError, Global};
 use std::marker::Model;
 
@@ -80,31 +79,17 @@ impl Matrix {
         clear(&mut self.words, from, words_for(self.sessions));
     }
 
-    /// The session at position `t` waits for those of the row too.
-    fn unite_row(&mut self, t: usize, row: &[u64])
-        requires t_below { t < self.old.sessions }
-        requires room { length row.now ≡ words_for self.old.sessions }
-        requires within { (u : ℕ) → has_bit row.now u ≡ true → u < self.old.sessions }
-        ensures sessions { self.new.sessions ≡ self.old.sessions }
-        ensures pairs { (a b : ℕ) →
-            pairs_of self.new a b ≡ (pairs_of self.old a b || ((a == t) && has_bit row.now b)) }
-    {
-        let from = row_start(self.sessions, t);
-        unite(&mut self.words, from, row);
-    }
-
-    /// The session at position `t` waits for those too for whom the one at position `u` waits. `room` is for a row.
-    pub(crate) fn wait_as(&mut self, t: usize, u: usize, room: &mut [u64])
+    /// The session at position `t` waits for those too for whom the one at position `u` waits.
+    pub(crate) fn wait_as(&mut self, t: usize, u: usize)
         requires t_below { t < self.old.sessions }
         requires u_below { u < self.old.sessions }
-        requires room { length room.old ≡ words_for self.old.sessions }
         ensures sessions { self.new.sessions ≡ self.old.sessions }
         ensures pairs { (a b : ℕ) →
             pairs_of self.new a b ≡ (pairs_of self.old a b || ((a == t) && pairs_of self.old u b)) }
     {
-        clear(room, 0, room.len());
-        or_into(room, self.row(u));
-        self.unite_row(t, room);
+        let from = row_start(self.sessions, t);
+        let other = row_start(self.sessions, u);
+        unite_within(&mut self.words, from, other, words_for(self.sessions));
     }
 }
 
