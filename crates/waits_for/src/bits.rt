@@ -1,7 +1,9 @@
 //! A row of bits, in words of 64, and what is asked of one.
 
-ghost use Rattle.std.specs.Prelude.{◌≡◌, ◌↔◌, ◌⊎◌, true, false, IsTrue, ℕ, ◌+◌, ◌-◌, ◌*◌, ◌/◌, ◌<◌, ◌≤◌, ◌&&◌, ◌||◌, not, ◌==◌, nat_le, nat_lt, IfSome, IfNone, length};
+ghost use Rattle.std.specs.Prelude.{◌≡◌, ◌↔◌, ◌⊎◌, true, false, IsTrue, ℕ, ◌+◌, ◌-◌, ◌*◌, ◌/◌, ◌<◌, ◌≤◌, ◌&&◌, ◌||◌, not, ◌==◌, nat_le, nat_lt, IfSome, IfNone, EachIndex, slice_index, length};
 ghost use Rattle.std.specs.Simd.Lanes.{chunk};
+ghost use Rattle.mode_lanes.specs.Masks.{meets};
+ghost use Rattle.waits_for.specs.Pairs.{is_met};
 ghost use Rattle.waits_for.specs.Bits.{has_bit, words_for};
 
 use mode_lanes::any_common;
@@ -26,6 +28,47 @@ pub(crate) fn set(words: &mut [u64], k: usize)
 {
     let word = words[k / 64];
     words[k / 64] = word | (1 << (k % 64));
+}
+
+/// Adds the bit of a number, at the bit `from` for the number 1, if its code has a bit of the mask; never the bit `own` from there.
+#[inline(always)]
+fn set_if_met(words: &mut [u64], from: usize, own: usize, number: u16, code: u8, mask: u8)
+    requires small { from < 4294967296 }
+    requires small_too { own < 65536 }
+    requires some { 1 ≤ number }
+    requires room { (from + number - 1) / 64 < length words.old }
+    ensures { (j : ℕ) → has_bit words.new j ≡ (has_bit words.old j
+        || (nat_le from j && (not (j - from == own) && ((number == j - from + 1) && meets mask code)))) }
+{
+    let number = number as usize;
+    if code & mask != 0 && number != own + 1 {
+        set(words, from + number - 1);
+    }
+}
+
+/// Adds the bits of those numbers whose codes have a bit of the mask, at the bit `from` for the number 1, but not the bit `own`
+/// from there.
+pub(crate) fn set_met(
+    words: &mut [u64],
+    from: usize,
+    own: usize,
+    numbers: &[u16],
+    codes: &[u8],
+    mask: u8,
+)
+    requires a_code_each { length codes.now ≡ length numbers.now }
+    requires small { from < 4294967296 }
+    requires small_too { own < 65536 }
+    requires some { EachIndex numbers.now (λ k. 1 ≤ slice_index numbers.now k) }
+    requires room { EachIndex numbers.now (λ k. (from + slice_index numbers.now k - 1) / 64 < length words.old) }
+    ensures { (j : ℕ) → has_bit words.new j ≡ (has_bit words.old j
+        || (nat_le from j && (not (j - from == own) && is_met mask (j - from) numbers.now codes.now))) }
+{
+    for index in 0..numbers.len() {
+        let number = numbers[index];
+        let code = codes[index];
+        set_if_met(words, from, own, number, code, mask);
+    }
 }
 
 /// Takes one bit away.

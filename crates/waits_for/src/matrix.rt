@@ -1,10 +1,10 @@
 //! The pairs, kept as a matrix of bits.
 
-ghost use Rattle.std.specs.Prelude.{◌≡◌, ℕ, ◌+◌, ◌*◌, ◌<◌, ◌≤◌, true, false, ◌&&◌, ◌||◌, not, ◌==◌, IfOk, length};
+ghost use Rattle.std.specs.Prelude.{◌≡◌, ℕ, ◌+◌, ◌*◌, ◌<◌, ◌≤◌, true, false, ◌&&◌, ◌||◌, not, ◌==◌, IfOk, EachIndex, slice_index, length};
 ghost use Rattle.waits_for.specs.Bits.{has_bit, words_for};
-ghost use Rattle.waits_for.specs.Pairs.{pairs_of, seen_by};
+ghost use Rattle.waits_for.specs.Pairs.{is_met, pairs_of, seen_by};
 
-use crate::bits::{clear, set, unite_within, words_for};
+use crate::bits::{clear, set, set_met, unite_within, words_for};
 use std::alloc::{AllocError, Global};
 use std::marker::Model;
 
@@ -67,6 +67,20 @@ impl Matrix {
     {
         let place = row_start(self.sessions, t) * 64 + u;
         set(&mut self.words, place);
+    }
+
+    /// The session at position `t` waits for the others whose codes have a bit of the mask.
+    pub(crate) fn set_met(&mut self, t: usize, numbers: &[u16], codes: &[u8], mask: u8)
+        requires t_below { t < self.old.sessions }
+        requires a_code_each { length codes.now ≡ length numbers.now }
+        requires within { EachIndex numbers.now (λ k.
+            (1 ≤ slice_index numbers.now k) × (slice_index numbers.now k ≤ self.old.sessions)) }
+        ensures sessions { self.new.sessions ≡ self.old.sessions }
+        ensures pairs { (a b : ℕ) → pairs_of self.new a b
+            ≡ (pairs_of self.old a b || ((a == t) && (not (b == t) && is_met mask b numbers.now codes.now))) }
+    {
+        let from = row_start(self.sessions, t) * 64;
+        set_met(&mut self.words, from, t, numbers, codes, mask);
     }
 
     pub(crate) fn clear_row(&mut self, t: usize)

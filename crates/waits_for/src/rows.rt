@@ -1,7 +1,7 @@
 //! The rows: who waits for whom, and the questions about it.
 
-ghost use Rattle.std.specs.Prelude.{◌≡◌, ℕ, ◌<◌, ◌≤◌, ◌↔◌, ◌&&◌, ◌||◌, not, ◌==◌, false, true, IfOk, IfSome, IsSome, IsTrue, length};
-ghost use Rattle.waits_for.specs.Pairs.{pairs_of};
+ghost use Rattle.std.specs.Prelude.{◌≡◌, ℕ, ◌<◌, ◌≤◌, ◌↔◌, ◌&&◌, ◌||◌, not, ◌==◌, false, true, IfOk, IfSome, IsSome, IsTrue, EachIndex, slice_index, length};
+ghost use Rattle.waits_for.specs.Pairs.{is_met, pairs_of};
 ghost use Rattle.waits_for.specs.Walks.{Reaches, IsYoungestOnCircle};
 
 use crate::bits::{has, set, unset, words_for};
@@ -86,6 +86,21 @@ impl Rows {
             pairs_of self.new a b ≡ (pairs_of self.old a b || ((a == t) && (b == u))) }
     {
         self.matrix.set(t, u);
+        set(&mut self.waiting, t);
+    }
+
+    /// From now on the session at position `t` waits for those others whose codes have a bit of the mask, too. Codes stand beside
+    /// session numbers, each of which is a position and 1.
+    pub fn set_met(&mut self, t: usize, numbers: &[u16], codes: &[u8], mask: u8)
+        requires t_below { t < self.old.sessions }
+        requires a_code_each { length codes.now ≡ length numbers.now }
+        requires within { EachIndex numbers.now (λ k.
+            (1 ≤ slice_index numbers.now k) × (slice_index numbers.now k ≤ self.old.sessions)) }
+        ensures sessions { self.new.sessions ≡ self.old.sessions }
+        ensures pairs { (a b : ℕ) → pairs_of self.new a b
+            ≡ (pairs_of self.old a b || ((a == t) && (not (b == t) && is_met mask b numbers.now codes.now))) }
+    {
+        self.matrix.set_met(t, numbers, codes, mask);
         set(&mut self.waiting, t);
     }
 
