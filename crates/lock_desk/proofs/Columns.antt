@@ -10,6 +10,7 @@ use Rattle.std.proofs.lemmas.List.Folds.{list_any-append}
 use Rattle.std.proofs.lemmas.List.{get_or_default, take_more, length-map, get_or-map, map-append, map-set, take-map, drop-map}
 use Rattle.std.proofs.Math.Seq.{map-set_same}
 use Rattle.mode_lanes.specs.Masks.{meets}
+use Rattle.waits_for.specs.Pairs.{is_met}
 use Rattle.lock_modes.specs.declared.Mode.{Mode}
 use Rattle.lock_modes.specs.declared.Mode.TheVariants.{NL}
 use Rattle.lock_modes.specs.Codes.{code_of, mode_of_code, mask_of}
@@ -122,17 +123,18 @@ is-between s n ss hs e a le below others other =
       ]
     ]
 
+-- a mask meets no code of a mode that goes with its own
+code-goes : (m : Mode) (h : SessionMode) → eqb (bit_and (code_of h.mode) (mask_of m)) 0 ≡ are_compatible m h.mode
+code-goes m h = ap (λ x. eqb x 0) (and_comm (code_of h.mode) (mask_of m)) ∙ mask-same m h.mode
+
 -- a mask meets no code where the mode goes with each holder
 pub meets-goes : (m : Mode) (hs : List SessionMode) → not (list_any (meets (mask_of m)) (map code_at hs)) ≡ go_with m hs
 meets-goes m [] = refl
-meets-goes m (h ∷ hs) = step (eqb (bit_and (code_of h.mode) (mask_of m)) 0) (list_any (meets (mask_of m)) (map code_at hs)) ∙ (λ i. one i && meets-goes m hs i)
+meets-goes m (h ∷ hs) = step (eqb (bit_and (code_of h.mode) (mask_of m)) 0) (list_any (meets (mask_of m)) (map code_at hs)) ∙ (λ i. code-goes m h i && meets-goes m hs i)
   where
     step : (x y : Bool) → not (not x || y) ≡ (x && not y)
     step true y = refl
     step false y = refl
-
-    one : eqb (bit_and (code_of h.mode) (mask_of m)) 0 ≡ are_compatible m h.mode
-    one = ap (λ x. eqb x 0) (and_comm (code_of h.mode) (mask_of m)) ∙ mask-same m h.mode
 
 -- the same of the codes before a place, and of those behind it
 pub goes-before : (m : Mode) (cs : List ℕ) (hs : List SessionMode) (n : ℕ) → cs ≡ map code_at hs → not (list_any (meets (mask_of m)) (take n cs)) ≡ go_with m (take n hs)
@@ -212,36 +214,40 @@ remove-in ss cs new-ss new-cs hs n s o own a b =
       rising = ascends-without s hs o.rising;
     }
 
--- what the next holder adds to those that are waited for
-pub blocks-next : (s u : ℕ) (m : Mode) (ss cs : List ℕ) (i : ℕ) → length cs ≡ length ss → i < length ss
-    → holder_blocks s m u (take (i + 1) (side_by_side ss cs)) ≡ (holder_blocks s m u (take i (side_by_side ss cs)) || (eqb (get_or ss i 0) u && (not (eqb (get_or ss i 0) s) && not (are_compatible m (mode_of_code (get_or cs i 0))))))
-blocks-next s u m ss cs i e lt =
-    let hs = take i (side_by_side ss cs) in
-    let h : SessionMode = record { session = get_or ss i 0; mode = mode_of_code (get_or cs i 0) } in
-    ap (holder_blocks s m u) (side-next ss cs i e lt)
-    ∙ (list_any-append (λ h. eqb h.session u && (not (eqb h.session s) && not (are_compatible m h.mode))) hs (h ∷ [])
-    ∙ ap (λ (b : Bool). holder_blocks s m u hs || b) (or-false (eqb h.session u && (not (eqb h.session s) && not (are_compatible m h.mode)))))
+-- whoever has a code that the mask meets, and is another session, is waited for
+module _ (s t b : ℕ) (m : Mode) (own : s ≡ t + 1) where
+  met-blocks : (hs : List SessionMode) → (not (eqb b t) && is_met (mask_of m) b (map number_at hs) (map code_at hs)) ≡ holder_blocks s m (b + 1) hs
+  met-blocks [] = none (not (eqb b t))
+    where
+      none : (x : Bool) → (x && false) ≡ false
+      none true = refl
+      none false = refl
+  met-blocks (h ∷ hs) =
+      ap (λ (k : Bool). not (eqb b t) && ((eqb h.session (b + 1) && not k) || is_met (mask_of m) b (map number_at hs) (map code_at hs))) (code-goes m h)
+      ∙ (split (eqb h.session (b + 1)) (eqb h.session s) (eqb b t) (not (are_compatible m h.mode)) (is_met (mask_of m) b (map number_at hs) (map code_at hs)) same
+      ∙ ap (λ (rest : Bool). (eqb h.session (b + 1) && (not (eqb h.session s) && not (are_compatible m h.mode))) || rest) (met-blocks hs))
+    where
+      same : eqb h.session (b + 1) ≡ true → eqb h.session s ≡ eqb b t
+      same e = grind (arith, nat_tests, e, own)
 
--- a holder that conflicts is written down
-pub wrote : (s x a b t v : ℕ) (first blocked ok : Bool) → 1 ≤ s → 1 ≤ x → t ≡ s - 1 → v ≡ x - 1 → (x ≡ s → ⊥) → ok ≡ false
-    → ((first || (eqb (a + 1) s && blocked)) || (eqb a t && eqb b v)) ≡ (first || (eqb (a + 1) s && (blocked || (eqb x (b + 1) && (not (eqb x s) && not ok)))))
-wrote s x a b t v true blocked ok some there et ev other e = refl
-wrote s x a b t v false true ok some there et ev other e = grind (arith, nat_tests)
-wrote s x a b t v false false ok some there et ev other e = grind (arith, nat_tests)
+      split : (x y q k met : Bool) → (x ≡ true → y ≡ q) → (not q && ((x && k) || met)) ≡ ((x && (not y && k)) || (not q && met))
+      split false y q k met h = refl
+      split true y q k met h = rw (h refl) (both q k met)
+        where
+          both : (q k met : Bool) → (not q && (k || met)) ≡ ((not q && k) || (not q && met))
+          both true k met = refl
+          both false k met = refl
 
--- and no other
-pub passed : (s x a b : ℕ) (first blocked ok : Bool) → (not (eqb x s) && not ok) ≡ false
-    → (first || (eqb (a + 1) s && blocked)) ≡ (first || (eqb (a + 1) s && (blocked || (eqb x (b + 1) && (not (eqb x s) && not ok)))))
-passed s x a b first blocked ok e = ap (λ (y : Bool). first || (eqb (a + 1) s && y)) (sym (ap (λ (y : Bool). blocked || (eqb x (b + 1) && y)) e ∙ none blocked (eqb x (b + 1))))
-  where
-    none : (y z : Bool) → (y || (z && false)) ≡ y
-    none true z = refl
-    none false true = refl
-    none false false = refl
+  pub blocks-met : (a : ℕ) → (hs : List SessionMode) → (eqb a t && (not (eqb b t) && is_met (mask_of m) b (map number_at hs) (map code_at hs))) ≡ (eqb (a + 1) s && holder_blocks s m (b + 1) hs)
+  blocks-met a hs = λ i. tests i && met-blocks hs i
+    where
+      tests : eqb a t ≡ eqb (a + 1) s
+      tests = grind (arith, nat_tests, own)
 
 -- a holder's number is one of so many
-pub numbered-at : (n : ℕ) (ss cs : List ℕ) (i : ℕ) → length cs ≡ length ss → i < length ss → AreOfSessions n (side_by_side ss cs) → (1 ≤ get_or ss i 0) × (get_or ss i 0 ≤ n)
-numbered-at n ss cs i e lt all =
-    let at = ap (λ (h : SessionMode). h.session) (side-at ss cs i nobody e lt) in
-    let p = All-get_or (λ (h : SessionMode). (1 ≤ h.session) × (h.session ≤ n)) (side_by_side ss cs) i nobody (omega (arith, lt, side-long ss cs e)) all in
+pub numbered-of : (n : ℕ) (ss : List ℕ) (hs : List SessionMode) → ss ≡ map number_at hs → AreOfSessions n hs → (k : ℕ) → k < length ss → (1 ≤ get_or ss k 0) × (get_or ss k 0 ≤ n)
+numbered-of n ss hs e all k lt =
+    let within : k < length hs = omega (arith, lt, as-long number_at ss hs e) in
+    let at = reads number_at ss hs e k 0 nobody within in
+    let p = All-get_or (λ (h : SessionMode). (1 ≤ h.session) × (h.session ≤ n)) hs k nobody within all in
     (omega (arith, p.0, at), omega (arith, p.1, at))

@@ -1,9 +1,13 @@
 -- What a desk has written down of who waits for whom stays right: an act changes what is seen of one resource, and the
 -- rows of those who wait there.
-use Rattle.std.proofs.Common.{◌≡◌, ℕ, ◌+◌, Bool, true, false, cond, not, eqb, ◌&&◌, ◌||◌, inl, inr, List, [], ◌∷◌, length, Option, Some, None, refl, sym, ◌∙◌, ap, arith, subst}
+use Rattle.std.proofs.Common.{◌≡◌, ℕ, ◌+◌, ◌-◌, leb, Bool, true, false, cond, not, eqb, ◌&&◌, ◌||◌, inl, inr, List, [], ◌∷◌, length, Option, Some, None, refl, sym, ◌∙◌, ap, arith, subst}
+use Rattle.std.proofs.lemmas.Bool.{cases_lt, le-leb}
 use Rattle.std.proofs.lemmas.Bool.Decides.{Decides-eqb}
+use Rattle.std.proofs.Math.Bool.{and-false}
 use Rattle.std.specs.Prelude.{vec_len, slice_index_or}
 use Rattle.waits_for.specs.Pairs.{pairs_of}
+use Rattle.lock_modes.specs.declared.Mode.{Mode}
+use Rattle.lock_modes.specs.Compatibility.{are_compatible}
 use Rattle.lock_tree.specs.Paths.{same_path}
 use Rattle.lock_rules.specs.declared.calls.Transaction.{Transaction}
 use Rattle.lock_rules.specs.State.{number_in}
@@ -12,12 +16,12 @@ use Rattle.lock_rules.proofs.Lists.{same_path-refl, same_path-true, same_path_te
 use Rattle.lock_desk.specs.declared.desk.Desk.{Desk}
 use Rattle.lock_desk.specs.declared.waits.Waits.{Waits}
 use Rattle.lock_desk.specs.declared.cells.SessionMode.{SessionMode}
-use Rattle.lock_desk.specs.Cells.{View, has_session, is_nobody}
+use Rattle.lock_desk.specs.Cells.{View, has_session, mode_of, is_nobody}
 use Rattle.lock_desk.specs.Lockers.{Standing, standing_at, is_wanted, no_standing}
 use Rattle.lock_desk.specs.Changes.{view_at, standings, standing, IsWhole, IsSameSeen}
-use Rattle.lock_desk.specs.Finding.{view_blocks, blocks_at, blocks, IsReady, IsWritten, DoFollow}
+use Rattle.lock_desk.specs.Finding.{holder_blocks, stands_first, target_blocks, view_blocks, blocks_at, blocks, IsReady, IsWritten, DoFollow}
 use Rattle.lock_desk.specs.Ready.{IsReadyDesk}
-use Rattle.lock_desk.proofs.SessionsInRange.{numbered-whole}
+use Rattle.lock_desk.proofs.SessionsInRange.{numbered-whole, once-at}
 use Rattle.lock_desk.proofs.WritingWaits.{blocks-none}
 
 -- for whom a session waits, by what the cells say
@@ -242,3 +246,47 @@ written-for d s r w k idle = record {
   waiting = λ a b h. k.filled.pairs a b ∙ blocks-there d w (a + 1) (b + 1) r h;
   idle = λ a b e. k.filled.pairs a b ∙ (ap (λ (i : ℕ). blocks d.cells.entries (standings d) i (b + 1)) e ∙ ap (blocks_at s (b + 1) d.cells.entries) idle);
 }
+
+-- what is written down of any two sessions is what cells and lockers say
+
+-- of nobody is said that it holds here
+no_holder-blocks : (s u : ℕ) (m : Mode) (hs : List SessionMode) → has_session u hs ≡ false → holder_blocks s m u hs ≡ false
+no_holder-blocks s u m [] h = refl
+no_holder-blocks s u m (k ∷ hs) h = go (eqb k.session u) h (no_holder-blocks s u m hs)
+  where
+    go : (b : Bool) → (b || has_session u hs) ≡ false → (has_session u hs ≡ false → holder_blocks s m u hs ≡ false) → ((b && (not (eqb k.session s) && not (are_compatible m k.mode))) || holder_blocks s m u hs) ≡ false
+    go true e next = absurd (cc)
+    go false e next = next e
+
+no_request-first : (s u : ℕ) (qs : List SessionMode) → has_session u qs ≡ false → stands_first u s qs ≡ false
+no_request-first s u [] h = refl
+no_request-first s u (q ∷ qs) h = go (eqb q.session s) (eqb q.session u) h (no_request-first s u qs)
+  where
+    go : (a b : Bool) → (b || has_session u qs) ≡ false → (has_session u qs ≡ false → stands_first u s qs ≡ false) → cond a false (b || stands_first u s qs) ≡ false
+    go true b e next = refl
+    go false true e next = absurd (cc)
+    go false false e next = next e
+
+-- nobody keeps another one waiting who isn't there
+absent-blocks : (s u : ℕ) (v : View) → has_session u v.holders ≡ false → has_session u v.waiting ≡ false → view_blocks s u v ≡ false
+absent-blocks s u v h q = go (mode_of s v.waiting)
+  where
+    go : (o : Option Mode) → target_blocks s u v o ≡ false
+    go None = refl
+    go (Some m) = (λ i. no_holder-blocks s u m v.holders h i || no_request-first s u v.waiting q i)
+
+pub written-blocks : (d : Desk) → IsWhole d → IsReadyDesk d → (s u : ℕ) → (leb 1 s && (leb 1 u && pairs_of d.waits.rows (s - 1) (u - 1))) ≡ blocks d.cells.entries (standings d) s u
+written-blocks d w k s u = elim (cases_lt 0 s) [
+  | inr none ↦ let zero_is : s ≡ 0 = omega (arith, none) in rw zero_is (sym (blocks-nowhere d w 0 u (λ q. (once-at q d.cells.entries w.cells).waiting)))
+  | inl some ↦ elim (cases_lt 0 u) [
+    | inr none ↦ let zero_is : u ≡ 0 = omega (arith, none) in rw zero_is (and-false (leb 1 s) ∙ sym (nobody (standing s d).wanted))
+    | inl other ↦
+        let one : s - 1 + 1 ≡ s = omega (arith, some) in
+        let two : u - 1 + 1 ≡ u = omega (arith, other) in
+        (λ i. le-leb 1 s (omega (arith, some)) i && (le-leb 1 u (omega (arith, other)) i && k.filled.pairs (s - 1) (u - 1) i)) ∙ (λ i. blocks d.cells.entries (standings d) (one i) (two i))
+  ]
+]
+  where
+    nobody : (o : Option (List ℕ)) → blocks_at s 0 d.cells.entries o ≡ false
+    nobody None = refl
+    nobody (Some r) = let o = once-at r d.cells.entries w.cells in absent-blocks s 0 (view_at r d) o.holders o.waiting

@@ -4,6 +4,7 @@ ghost use Rattle.std.specs.Prelude.{◌≡◌, false, ◌+◌, ◌<◌, ◌≤�
 ghost use Rattle.std.specs.List.{All};
 ghost use Rattle.lock_rules.specs.State.{held_mode, holders};
 ghost use Rattle.lock_rules.specs.Step.{step};
+ghost use Rattle.lock_rules.specs.Waits.{waits_for};
 ghost use Rattle.lock_rules.specs.declared.calls.Entry.{Entry as EntryValue};
 ghost use Rattle.lock_rules.specs.Legal.{state_of, IsLegal};
 ghost use Rattle.lock_rules.specs.Laws.{DoesGrantStand, DoesDoomStand, DoesRequestStand};
@@ -104,6 +105,15 @@ impl Book {
         ensures { result ≡ held_mode (state_of self.now.history).table session resource }
     {
         self.desk.held(session, resource)
+    }
+
+    /// Whether the session waits for the other one at once: that one holds the resource of its request in a mode that
+    /// conflicts, or stands before it in the queue. So an engine tells who blocks whom. A session that the book doesn't
+    /// have waits for nobody, and nobody waits for it.
+    pub fn waits_for(&self, session: u16, other: u16) -> bool
+        ensures { result ≡ waits_for (state_of self.now.history).table session other }
+    {
+        self.desk.waits_for(session, other)
     }
 
     /// Writes the sessions that hold the resource, each with its mode, to the list, by session number.

@@ -1,6 +1,7 @@
 //! The desk: all cells and lockers, and what each call does to them.
 
-ghost use Rattle.std.specs.Prelude.{◌≡◌, ℕ, ◌+◌, ◌<◌, ◌≤◌, List, true, false, None, is_some, if◌then◌else◌, map, length, IfOk, OnOk, OnErr, vec_len};
+ghost use Rattle.std.specs.Prelude.{◌≡◌, ℕ, ◌+◌, ◌-◌, ◌<◌, ◌≤◌, ◌&&◌, nat_le, List, true, false, None, is_some, if◌then◌else◌, map, length, IfOk, OnOk, OnErr, vec_len};
+ghost use Rattle.waits_for.specs.Pairs.{pairs_of};
 ghost use Rattle.lock_rules.specs.declared.calls.Reply.TheVariants.{Waiting, Deadlock};
 ghost use Rattle.lock_rules.specs.State.{State, empty, held_mode, doomed_in};
 ghost use Rattle.lock_rules.specs.Step.{target_of, is_held, first_failing, ask, act, step};
@@ -21,7 +22,7 @@ use crate::cells::{Part, RequestStatus, SessionMode};
 use crate::lockers::{Locker, Request};
 use crate::positions::position_of;
 use crate::refusals::target_of;
-use crate::waits::{Waits, new_waits, set_number, victim};
+use crate::waits::{Waits, is_written, new_waits, set_number, victim};
 use lock_modes::Mode;
 use lock_rules::{Call, MAX_LOCKS, MAX_SESSIONS, Reply};
 use lock_tree::Resource;
@@ -77,6 +78,13 @@ impl Desk {
             Some(cell) => cell.mode_held(session),
             None => None,
         }
+    }
+
+    /// Whether the session waits for the other one at once.
+    pub(crate) fn waits_for(&self, session: u16, other: u16) -> bool
+        ensures { result ≡ (nat_le 1 session && (nat_le 1 other && pairs_of self.now.waits.rows (session - 1) (other - 1))) }
+    {
+        is_written(&self.waits, session, other)
     }
 
     /// The mode that the session holds on the resource whose place this is.

@@ -163,25 +163,6 @@ fn write_list(sessions: &[u16], codes: &[u8], list: &mut Vec<(u16, Mode)>)
     }
 }
 
-/// Writes down the holders that the session waits for: those whose codes its mask meets.
-fn write_conflicts(rows: &mut Rows, sessions: &[u16], codes: &[u8], session: u16, target: Mode)
-    requires some { 1 ≤ session }
-    requires within { session ≤ rows.old.sessions }
-    requires long { length codes.now ≡ length sessions.now }
-    requires numbered { AreOfSessions rows.old.sessions (side_by_side sessions.now codes.now) }
-    ensures sessions { rows.new.sessions ≡ rows.old.sessions }
-    ensures pairs { (a b : ℕ) → pairs_of rows.new a b ≡ (pairs_of rows.old a b
-        || ((a + 1 == session) && holder_blocks session target (b + 1) (side_by_side sessions.now codes.now))) }
-{
-    for index in 0..sessions.len() {
-        let holder = sessions[index];
-        let code = codes[index];
-        if holder != session && !Mode::compatible(target, Mode::from_code_or_nl(code)) {
-            rows.set(position_of(session), position_of(holder));
-        }
-    }
-}
-
 impl Holders {
     /// Nobody.
     pub(crate) fn new(alloc: Global) -> Holders
@@ -331,6 +312,12 @@ impl Holders {
         ensures pairs { (a b : ℕ) → pairs_of rows.new a b
             ≡ (pairs_of rows.old a b || ((a + 1 == session) && holder_blocks session target (b + 1) self.now.items)) }
     {
-        write_conflicts(rows, &self.sessions, &self.codes, session, target);
+        let position = position_of(session);
+        rows.set_met(
+            position,
+            &self.sessions,
+            &self.codes,
+            target.conflict_mask(),
+        );
     }
 }

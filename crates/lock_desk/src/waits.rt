@@ -1,7 +1,7 @@
 //! Who waits for whom: written down as the cells and the lockers say it, and kept with each change of a cell. A fresh
 //! request writes its own row, and any other change those of the queue.
 
-ghost use Rattle.std.specs.Prelude.{◌≡◌, ℕ, ◌+◌, ◌-◌, ◌<◌, ◌≤◌, ◌&&◌, ◌||◌, ◌==◌, if◌then◌else◌, List, not, true, false, length, take, IfOk, IfNone, IfSome, slice_index_or, vec_len};
+ghost use Rattle.std.specs.Prelude.{◌≡◌, ℕ, ◌+◌, ◌-◌, ◌<◌, ◌≤◌, ◌&&◌, ◌||◌, ◌==◌, if◌then◌else◌, List, not, true, false, length, take, IfOk, IfNone, IfSome, nat_le, slice_index_or, vec_len};
 ghost use Rattle.waits_for.specs.Pairs.{pairs_of};
 ghost use Rattle.waits_for.specs.Walks.{Reaches, IsYoungestOnCircle};
 ghost use Rattle.lock_desk.specs.declared.cells.SessionMode.{SessionMode as SessionModeValue};
@@ -173,6 +173,20 @@ pub(crate) fn follow_request(
     }
     clear_queue(waits, cell);
     write_queue(waits, cell);
+}
+
+/// Whether it is written down that the session waits for the other one at once. Of sessions that aren't there nothing is.
+pub(crate) fn is_written(waits: &Waits, session: u16, other: u16) -> bool
+    ensures { result ≡ (nat_le 1 session && (nat_le 1 other && pairs_of waits.now.rows (session - 1) (other - 1))) }
+{
+    if session == 0 || other == 0 {
+        return false;
+    }
+    let sessions = waits.rows.sessions();
+    if session > sessions || other > sessions {
+        return false;
+    }
+    waits.rows.waits(position_of(session), position_of(other))
 }
 
 /// The victim that breaks a circle of the session, if there is one.

@@ -1,6 +1,9 @@
 //! A row of bits, in words of 64, and what is asked of one.
 
-ghost use Rattle.std.specs.Prelude.{◌≡◌, ◌≢◌, ◌↔◌, true, IsTrue, ℕ, ◌+◌, ◌-◌, ◌*◌, ◌/◌, ◌<◌, ◌≤◌, ◌&&◌, ◌||◌, not, ◌==◌, nat_le, nat_lt, MatchOption, length};
+ghost use Rattle.std.specs.Prelude.{◌≡◌, ◌↔◌, ◌⊎◌, true, false, IsTrue, ℕ, ◌+◌, ◌-◌, ◌*◌, ◌/◌, ◌<◌, ◌≤◌, ◌&&◌, ◌||◌, not, ◌==◌, nat_le, nat_lt, IfSome, IfNone, EachIndex, slice_index, length};
+ghost use Rattle.std.specs.Simd.Lanes.{chunk};
+ghost use Rattle.mode_lanes.specs.Masks.{meets};
+ghost use Rattle.waits_for.specs.Pairs.{is_met};
 ghost use Rattle.waits_for.specs.Bits.{has_bit, words_for};
 
 use mode_lanes::any_common;
@@ -27,6 +30,56 @@ pub(crate) fn set(words: &mut [u64], k: usize)
     words[k / 64] = word | (1 << (k % 64));
 }
 
+/// Adds the bit of a number, at the bit `from` for the number 1, if its code has a bit of the mask; never the bit `own` from there.
+#[inline(always)]
+fn set_if_met(words: &mut [u64], from: usize, own: usize, number: u16, code: u8, mask: u8)
+    requires small { from < 4294967296 }
+    requires small_too { own < 65536 }
+    requires some { 1 ≤ number }
+    requires room { (from + number - 1) / 64 < length words.old }
+    ensures { (j : ℕ) → has_bit words.new j ≡ (has_bit words.old j
+        || (nat_le from j && (not (j - from == own) && ((number == j - from + 1) && meets mask code)))) }
+{
+    let number = number as usize;
+    if code & mask != 0 && number != own + 1 {
+        set(words, from + number - 1);
+    }
+}
+
+/// Adds the bits of those numbers whose codes have a bit of the mask, at the bit `from` for the number 1, but not the bit `own`
+/// from there.
+pub(crate) fn set_met(
+    words: &mut [u64],
+    from: usize,
+    own: usize,
+    numbers: &[u16],
+    codes: &[u8],
+    mask: u8,
+)
+    requires a_code_each { length codes.now ≡ length numbers.now }
+    requires small { from < 4294967296 }
+    requires small_too { own < 65536 }
+    requires some { EachIndex numbers.now (λ k. 1 ≤ slice_index numbers.now k) }
+    requires room { EachIndex numbers.now (λ k. (from + slice_index numbers.now k - 1) / 64 < length words.old) }
+    ensures { (j : ℕ) → has_bit words.new j ≡ (has_bit words.old j
+        || (nat_le from j && (not (j - from == own) && is_met mask (j - from) numbers.now codes.now))) }
+{
+    for index in 0..numbers.len() {
+        let number = numbers[index];
+        let code = codes[index];
+        set_if_met(words, from, own, number, code, mask);
+    }
+}
+
+/// Takes one bit away.
+pub(crate) fn unset(words: &mut [u64], k: usize)
+    requires { k / 64 < length words.old }
+    ensures { (j : ℕ) → has_bit words.new j ≡ (has_bit words.old j && not (j == k)) }
+{
+    let word = words[k / 64];
+    words[k / 64] = word & !(1 << (k % 64));
+}
+
 /// Whether two rows have a bit in common.
 pub(crate) fn have_common(row: &[u64], other: &[u64]) -> bool
     requires { length row.now ≡ length other.now }
@@ -47,28 +100,33 @@ pub(crate) fn clear(words: &mut [u64], from: usize, count: usize)
     }
 }
 
-/// Adds the bits of a row to as many words, from one word on.
-pub(crate) fn unite(words: &mut [u64], from: usize, row: &[u64])
-    requires { from + length row.now ≤ length words.old }
+/// Adds the bits of so many words, from one word on, to as many others. Where the two overlap, those read aren't the first.
+pub(crate) fn unite_within(words: &mut [u64], from: usize, other: usize, count: usize)
+    requires room { from + count ≤ length words.old }
+    requires room_too { other + count ≤ length words.old }
+    requires apart { (from ≤ other) ⊎ (other + count ≤ from) }
     ensures { (j : ℕ) → has_bit words.new j
-        ≡ (has_bit words.old j || ((nat_le (64 * from) j && nat_lt j (64 * (from + length row.now))) && has_bit row.now (j - 64 * from))) }
+        ≡ (has_bit words.old j || ((nat_le (64 * from) j && nat_lt j (64 * (from + count))) && has_bit (chunk other count words.old) (j - 64 * from))) }
 {
-    for i in 0..row.len() {
-        let word = words[from + i];
-        words[from + i] = word | row[i];
+    for i in 0..count {
+        let word = words[other + i];
+        words[from + i] |= word;
     }
 }
 
-/// A bit that one of two rows has and the other doesn't, if they differ: the first one.
-pub(crate) fn first_apart(row: &[u64], other: &[u64]) -> Option<usize>
-    requires same { length row.now ≡ length other.now }
+/// A bit that two rows have and a third one doesn't: the first one.
+pub(crate) fn first_new(row: &[u64], among: &[u64], known: &[u64]) -> Option<usize>
+    requires same { length among.now ≡ length row.now }
+    requires same_too { length known.now ≡ length row.now }
     requires few { length row.now ≤ 1024 }
-    ensures { MatchOption result (row.now ≡ other.now) (λ k. has_bit row.now k ≢ has_bit other.now k) }
+    ensures some { IfSome result (λ k. (has_bit row.now k ≡ true) × (has_bit among.now k ≡ true) × (has_bit known.now k ≡ false)) }
+    ensures none { IfNone result ((k : ℕ) → has_bit row.now k ≡ true → has_bit among.now k ≡ true → has_bit known.now k ≡ true) }
 {
     for w in 0..row.len() {
-        let apart = row[w] ^ other[w];
-        if apart != 0 {
-            return Some(w * 64 + apart.trailing_zeros() as usize);
+        let both = row[w] & among[w];
+        let new = both ^ (both & known[w]);
+        if new != 0 {
+            return Some(w * 64 + new.trailing_zeros() as usize);
         }
     }
     None

@@ -1,11 +1,10 @@
 //! The pairs, kept as a matrix of bits.
 
-ghost use Rattle.std.specs.Prelude.{◌≡◌, ℕ, ◌+◌, ◌*◌, ◌<◌, ◌≤◌, true, false, ◌&&◌, ◌||◌, not, ◌==◌, IfOk, length};
+ghost use Rattle.std.specs.Prelude.{◌≡◌, ℕ, ◌+◌, ◌*◌, ◌<◌, ◌≤◌, true, false, ◌&&◌, ◌||◌, not, ◌==◌, IfOk, EachIndex, slice_index, length};
 ghost use Rattle.waits_for.specs.Bits.{has_bit, words_for};
-ghost use Rattle.waits_for.specs.Pairs.{pairs_of, seen_by};
+ghost use Rattle.waits_for.specs.Pairs.{is_met, pairs_of, seen_by};
 
-use crate::bits::{clear, set, unite, words_for};
-use mode_lanes::or_into;
+use crate::bits::{clear, set, set_met, unite_within, words_for};
 use std::alloc::{AllocError, Global};
 use std::marker::Model;
 
@@ -70,6 +69,20 @@ impl Matrix {
         set(&mut self.words, place);
     }
 
+    /// The session at position `t` waits for the others whose codes have a bit of the mask.
+    pub(crate) fn set_met(&mut self, t: usize, numbers: &[u16], codes: &[u8], mask: u8)
+        requires t_below { t < self.old.sessions }
+        requires a_code_each { length codes.now ≡ length numbers.now }
+        requires within { EachIndex numbers.now (λ k.
+            (1 ≤ slice_index numbers.now k) × (slice_index numbers.now k ≤ self.old.sessions)) }
+        ensures sessions { self.new.sessions ≡ self.old.sessions }
+        ensures pairs { (a b : ℕ) → pairs_of self.new a b
+            ≡ (pairs_of self.old a b || ((a == t) && (not (b == t) && is_met mask b numbers.now codes.now))) }
+    {
+        let from = row_start(self.sessions, t) * 64;
+        set_met(&mut self.words, from, t, numbers, codes, mask);
+    }
+
     pub(crate) fn clear_row(&mut self, t: usize)
         requires { t < self.old.sessions }
         ensures sessions { self.new.sessions ≡ self.old.sessions }
@@ -80,31 +93,17 @@ impl Matrix {
         clear(&mut self.words, from, words_for(self.sessions));
     }
 
-    /// The session at position `t` waits for those of the row too.
-    fn unite_row(&mut self, t: usize, row: &[u64])
-        requires t_below { t < self.old.sessions }
-        requires room { length row.now ≡ words_for self.old.sessions }
-        requires within { (u : ℕ) → has_bit row.now u ≡ true → u < self.old.sessions }
-        ensures sessions { self.new.sessions ≡ self.old.sessions }
-        ensures pairs { (a b : ℕ) →
-            pairs_of self.new a b ≡ (pairs_of self.old a b || ((a == t) && has_bit row.now b)) }
-    {
-        let from = row_start(self.sessions, t);
-        unite(&mut self.words, from, row);
-    }
-
-    /// The session at position `t` waits for those too for whom the one at position `u` waits. `room` is for a row.
-    pub(crate) fn wait_as(&mut self, t: usize, u: usize, room: &mut [u64])
+    /// The session at position `t` waits for those too for whom the one at position `u` waits.
+    pub(crate) fn wait_as(&mut self, t: usize, u: usize)
         requires t_below { t < self.old.sessions }
         requires u_below { u < self.old.sessions }
-        requires room { length room.old ≡ words_for self.old.sessions }
         ensures sessions { self.new.sessions ≡ self.old.sessions }
         ensures pairs { (a b : ℕ) →
             pairs_of self.new a b ≡ (pairs_of self.old a b || ((a == t) && pairs_of self.old u b)) }
     {
-        clear(room, 0, room.len());
-        or_into(room, self.row(u));
-        self.unite_row(t, room);
+        let from = row_start(self.sessions, t);
+        let other = row_start(self.sessions, u);
+        unite_within(&mut self.words, from, other, words_for(self.sessions));
     }
 }
 

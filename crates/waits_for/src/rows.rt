@@ -1,10 +1,10 @@
 //! The rows: who waits for whom, and the questions about it.
 
-ghost use Rattle.std.specs.Prelude.{◌≡◌, ℕ, ◌<◌, ◌≤◌, ◌↔◌, ◌&&◌, ◌||◌, not, ◌==◌, false, true, IfOk, IfSome, IsSome, IsTrue, length};
-ghost use Rattle.waits_for.specs.Pairs.{pairs_of};
+ghost use Rattle.std.specs.Prelude.{◌≡◌, ℕ, ◌<◌, ◌≤◌, ◌↔◌, ◌&&◌, ◌||◌, not, ◌==◌, false, true, IfOk, IfSome, IsSome, IsTrue, EachIndex, slice_index, length};
+ghost use Rattle.waits_for.specs.Pairs.{is_met, pairs_of};
 ghost use Rattle.waits_for.specs.Walks.{Reaches, IsYoungestOnCircle};
 
-use crate::bits::{has, words_for};
+use crate::bits::{has, set, unset, words_for};
 use crate::matrix::Matrix;
 use crate::search::{find_circle, find_reached, youngest_in};
 use crate::{MAX_SESSIONS, NoMemory};
@@ -18,6 +18,8 @@ use std::marker::Model;
 #[derive(Drop)]
 pub struct Rows {
     matrix: Matrix,
+    // those who were given a pair since their rows were last emptied
+    waiting: Vec<u64>,
     reached: Vec<u64>,
     looked_at: Vec<u64>,
     circle: Vec<u64>,
@@ -26,15 +28,18 @@ pub struct Rows {
 
 impl Model for Rows {
     ghost use Rattle.std.specs.Prelude.{◌≡◌, length};
-    ghost use Rattle.waits_for.specs.Pairs.{Pairs};
+    ghost use Rattle.waits_for.specs.Pairs.{Pairs, pairs_of};
     ghost use Rattle.waits_for.specs.Bits.{words_for};
+    ghost use Rattle.waits_for.specs.Search.{HasAllWaiting};
 
     ghost Value = { Pairs };
 
     ghost view = { λ r. r.matrix };
 
     ghost invariant = { λ r.
-        (length r.reached.items ≡ words_for r.matrix.sessions)
+        (length r.waiting.items ≡ words_for r.matrix.sessions)
+        × HasAllWaiting (pairs_of r.matrix) r.waiting.items
+        × (length r.reached.items ≡ words_for r.matrix.sessions)
         × (length r.looked_at.items ≡ words_for r.matrix.sessions)
         × (length r.circle.items ≡ words_for r.matrix.sessions) };
 }
@@ -48,12 +53,14 @@ impl Rows {
         ensures no_pairs { IfOk result (λ rows. (t u : ℕ) → pairs_of rows t u ≡ false) }
     {
         let matrix = Matrix::new(alloc, sessions)?;
+        let waiting = vec![in alloc; 0; words_for(sessions)]?;
         let reached = vec![in alloc; 0; words_for(sessions)]?;
         let looked_at = vec![in alloc; 0; words_for(sessions)]?;
         let circle = vec![in alloc; 0; words_for(sessions)]?;
         let order = vec![in alloc; 0; sessions as usize]?;
         Ok(Rows {
             matrix,
+            waiting,
             reached,
             looked_at,
             circle,
@@ -79,6 +86,22 @@ impl Rows {
             pairs_of self.new a b ≡ (pairs_of self.old a b || ((a == t) && (b == u))) }
     {
         self.matrix.set(t, u);
+        set(&mut self.waiting, t);
+    }
+
+    /// From now on the session at position `t` waits for those others whose codes have a bit of the mask, too. Codes stand beside
+    /// session numbers, each of which is a position and 1.
+    pub fn set_met(&mut self, t: usize, numbers: &[u16], codes: &[u8], mask: u8)
+        requires t_below { t < self.old.sessions }
+        requires a_code_each { length codes.now ≡ length numbers.now }
+        requires within { EachIndex numbers.now (λ k.
+            (1 ≤ slice_index numbers.now k) × (slice_index numbers.now k ≤ self.old.sessions)) }
+        ensures sessions { self.new.sessions ≡ self.old.sessions }
+        ensures pairs { (a b : ℕ) → pairs_of self.new a b
+            ≡ (pairs_of self.old a b || ((a == t) && (not (b == t) && is_met mask b numbers.now codes.now))) }
+    {
+        self.matrix.set_met(t, numbers, codes, mask);
+        set(&mut self.waiting, t);
     }
 
     /// From now on the session at position `t` waits for nobody. Others may wait for it still.
@@ -89,6 +112,7 @@ impl Rows {
             pairs_of self.new a b ≡ (pairs_of self.old a b && not (a == t)) }
     {
         self.matrix.clear_row(t);
+        unset(&mut self.waiting, t);
     }
 
     /// From now on the session at position `t` waits for all for whom the one at position `u` waits at once too.
@@ -99,7 +123,8 @@ impl Rows {
         ensures pairs { (a b : ℕ) →
             pairs_of self.new a b ≡ (pairs_of self.old a b || ((a == t) && pairs_of self.old u b)) }
     {
-        self.matrix.wait_as(t, u, &mut self.reached);
+        self.matrix.wait_as(t, u);
+        set(&mut self.waiting, t);
     }
 
     /// Whether the session at position `t` waits for the one at position `u` at once.
@@ -121,6 +146,7 @@ impl Rows {
     {
         find_reached(
             &self.matrix,
+            &self.waiting,
             t,
             &mut self.reached,
             &mut self.looked_at,
@@ -153,6 +179,7 @@ impl Rows {
         let matrix = &self.matrix;
         if !find_circle(
             matrix,
+            &self.waiting,
             t,
             &mut self.reached,
             &mut self.looked_at,

@@ -5,15 +5,16 @@ ghost use Rattle.std.specs.Option.{ForSome};
 ghost use Rattle.waits_for.specs.Pairs.{pairs_of};
 ghost use Rattle.waits_for.specs.Walks.{Reaches, AreOnCircle};
 ghost use Rattle.waits_for.specs.Bits.{has_bit, words_for, unset_below};
-ghost use Rattle.waits_for.specs.Search.{IsBestBelow, IsClosedBack, TakesIn, younger};
+ghost use Rattle.waits_for.specs.Search.{HasAllWaiting, IsBestBelow, IsClosedBack, TakesIn, younger};
 
-use crate::bits::{clear, first_apart, has, have_common, set};
+use crate::bits::{clear, first_new, has, have_common, set};
 use crate::matrix::Matrix;
 use mode_lanes::{and_into, or_into};
 
 /// Finds those that are on a circle with `t`, and tells whether there is one.
 pub(crate) fn find_circle(
     matrix: &Matrix,
+    waiting: &[u64],
     t: usize,
     reached: &mut [u64],
     looked_at: &mut [u64],
@@ -21,6 +22,8 @@ pub(crate) fn find_circle(
     order: &mut [usize],
 ) -> bool
     requires t_below { t < matrix.now.sessions }
+    requires waiting_room { length waiting.now ≡ words_for matrix.now.sessions }
+    requires waiting { HasAllWaiting (pairs_of matrix.now) waiting.now }
     requires reached_room { length reached.old ≡ words_for matrix.now.sessions }
     requires looked_at_room { length looked_at.old ≡ words_for matrix.now.sessions }
     requires circle_room { length circle.old ≡ words_for matrix.now.sessions }
@@ -28,7 +31,7 @@ pub(crate) fn find_circle(
     ensures circle { result ≡ true →
         (u : ℕ) → IsTrue (has_bit circle.new u) ↔ AreOnCircle (pairs_of matrix.now) t u }
 {
-    let count = find_reached(matrix, t, reached, looked_at, order);
+    let count = find_reached(matrix, waiting, t, reached, looked_at, order);
     if !has(reached, t) {
         return false;
     }
@@ -39,15 +42,18 @@ pub(crate) fn find_circle(
 
 /// Finds those that a walk from `t` leads to, and lists them in the order found, as far as `order` has
 /// room; it tells how many. `looked_at` is room for those whose rows were added: each row is added once
-/// at most.
+/// at most, and none of those who aren't `waiting`, whose rows are empty.
 pub(crate) fn find_reached(
     matrix: &Matrix,
+    waiting: &[u64],
     t: usize,
     reached: &mut [u64],
     looked_at: &mut [u64],
     order: &mut [usize],
 ) -> usize
     requires t_below { t < matrix.now.sessions }
+    requires waiting_room { length waiting.now ≡ words_for matrix.now.sessions }
+    requires waiting { HasAllWaiting (pairs_of matrix.now) waiting.now }
     requires reached_room { length reached.old ≡ words_for matrix.now.sessions }
     requires looked_at_room { length looked_at.old ≡ words_for matrix.now.sessions }
     ensures reached { (u : ℕ) →
@@ -58,7 +64,7 @@ pub(crate) fn find_reached(
     clear(looked_at, 0, looked_at.len());
     or_into(reached, matrix.row(t));
     let mut count = 0;
-    while let Some(v) = first_apart(reached, looked_at) {
+    while let Some(v) = first_new(reached, waiting, looked_at) {
         set(looked_at, v);
         or_into(reached, matrix.row(v));
         if count < order.len() {

@@ -1,18 +1,58 @@
-use Rattle.std.proofs.Common.{◌≡◌, ◌||◌, ◌&&◌, eqb, Bool, refl, sym, ◌∙◌, ap, length, arith}
-use Rattle.waits_for.specs.Pairs.{pairs_of}
-use Rattle.waits_for.specs.Bits.{has_bit}
-use Rattle.waits_for.proofs.BitRows.{bit-or, bit-all_cleared}
-use Rattle.waits_for.proofs.Places.{pairs_of-within}
+use Rattle.std.proofs.Common.{◌≡◌, ℕ, ◌+◌, ◌-◌, ◌*◌, ◌<◌, ◌≤◌, inl, inr, ◌&&◌, ◌||◌, leb, ltb, eqb, true, Bool, List, ◌++◌, length, drop, take, ap, ◌∙◌, sym, subst, arith}
+use Rattle.std.specs.Simd.Lanes.{chunk}
+use Rattle.std.proofs.lemmas.Bool.{cases_lt, cases_eq}
+use Rattle.std.proofs.lemmas.Nat.{row_fits}
+use Rattle.std.proofs.lemmas.List.{take_at}
+use Rattle.waits_for.specs.Pairs.{Pairs, pairs_of, seen_by}
+use Rattle.waits_for.specs.Bits.{words_for, has_bit, marked_in, IsClearPast}
+use Rattle.waits_for.proofs.Places.{pairs_of-unite, pairs_of-row, pairs_of-within, past-unite, seen-sessions}
 use Rattle.waits_for.proofs.matrix.Matrix.wait_as.Goals as goal
 
-pub unite_row-requires-clause-within : goal.unite_row-requires-clause-within
-unite_row-requires-clause-within c = λ u h.
-    let none = bit-all_cleared c.args.room.now c.clear.new.words (length c.args.room.now) (omega arith) c.clear.ensures in
-    let same = bit-or c.clear.new.words c.row.result.now c.or_into.new.row c.or_into.auto.row (omega (arith, c.clear.auto.words, c.requires.room, c.row.ensures.room)) c.or_into.ensures.words u ∙ rw (none u) refl in
-    (pairs_of-within c.args.self.now c.args.u u (sym (c.row.ensures.bits u) ∙ (sym same ∙ h))).1
+pub unite_within-requires-clause-apart : goal.unite_within-requires-clause-apart
+unite_within-requires-clause-apart c = rw c.row_start-from.ensures.start (rw c.row_start-other.ensures.start (rw c.words_for.ensures (elim (cases_lt c.args.u c.args.t) [
+  | inl lt ↦ inr (omega (arith, row_fits c.args.u (words_for c.self.inside.sessions) c.args.t (words_for c.self.inside.sessions) lt (omega arith)))
+  | inr le ↦ inl (rows-rise c.args.t c.args.u (words_for c.self.inside.sessions) le)
+])))
+  where
+    rows-rise : (t u w : ℕ) → t ≤ u → t * w ≤ u * w
+    rows-rise t u w le = elim (cases_eq t u) [
+      | inl e ↦ rw e (omega arith)
+      | inr ne ↦ omega (arith, row_fits t w u w (omega (arith, le, ne)) (omega arith))
+    ]
+
+-- the row that is taken over, in the words of all
+module _ (n : ℕ) (words new : List ℕ) (p : Pairs) (seen : seen_by n (marked_in n words) ≡ p) (t u : ℕ) (room : length words ≡ n * words_for n) (past : IsClearPast n words) (h : t < p.sessions) (k : u < p.sessions)
+    (more : (j : ℕ) → has_bit new j ≡ (has_bit words j || ((leb (64 * (t * words_for n)) j && ltb j (64 * (t * words_for n + words_for n))) && has_bit (chunk (u * words_for n) (words_for n) words) (j - 64 * (t * words_for n))))) where
+  bits : (b : ℕ) → has_bit (chunk (u * words_for n) (words_for n) words) b ≡ pairs_of p u b
+  bits = pairs_of-row n words p seen u (rw (← seen-sessions n words p seen) at k) room past
+
+  within : (b : ℕ) → has_bit (chunk (u * words_for n) (words_for n) words) b ≡ true → b < p.sessions
+  within b is = (pairs_of-within p u b (sym (bits b) ∙ is)).1
+
+  taken-pairs : (a b : ℕ) → pairs_of (seen_by n (marked_in n new)) a b ≡ (pairs_of p a b || (eqb a t && pairs_of p u b))
+  taken-pairs a b = pairs_of-unite n words p seen new (chunk (u * words_for n) (words_for n) words) t h within more a b ∙ ap (λ (x : Bool). pairs_of p a b || (eqb a t && x)) (bits b)
+
+  taken-past : IsClearPast n new
+  taken-past = past-unite n words new (chunk (u * words_for n) (words_for n) words) t (subst (λ (m : ℕ). (b : ℕ) → has_bit (chunk (u * words_for n) (words_for n) words) b ≡ true → b < m) (sym (seen-sessions n words p seen)) within) more past
+
+pub invariant_of-self : goal.invariant_of-self
+invariant_of-self c =
+    let n = c.self.inside.sessions in
+    let w = c.self.inside.words in
+    let new = c.unite_within.new.words in
+    let t = c.args.t in
+    let u = c.args.u in
+    let more : (j : ℕ) → has_bit new j ≡ (has_bit w.items j || ((leb (64 * (t * words_for n)) j && ltb j (64 * (t * words_for n + words_for n))) && has_bit (chunk (u * words_for n) (words_for n) w.items) (j - 64 * (t * words_for n)))) = λ j. rw (← c.deref_mut.ensures.value) (rw (← c.row_start-from.ensures.start) (rw (← c.row_start-other.ensures.start) (rw (← c.words_for.ensures) (c.unite_within.ensures j)))) in
+    let whole : take w.len (new ++ drop (length new) w.items) ≡ new = take_at new (drop (length new) w.items) w.len (c.unite_within.auto.words ∙ c.deref_mut.ensures.len) in
+    (ap length whole ∙ c.unite_within.auto.words ∙ ap length c.deref_mut.ensures.value ∙ c.self.invariant.0, λ a b p q r. ap (λ (ws : List ℕ). has_bit ws (a * (64 * words_for n) + b)) whole ∙ taken-past n w.items new c.args.self.now c.self.view_is t u c.self.invariant.0 c.self.invariant.1 c.requires.t_below c.requires.u_below more a b p q r)
 
 pub returns-clause-pairs : goal.returns-clause-pairs
-returns-clause-pairs c = λ a b.
-    let none = bit-all_cleared c.args.room.now c.clear.new.words (length c.args.room.now) (omega arith) c.clear.ensures in
-    let same : has_bit c.or_into.new.row b ≡ has_bit c.row.result.now b = bit-or c.clear.new.words c.row.result.now c.or_into.new.row c.or_into.auto.row (omega (arith, c.clear.auto.words, c.requires.room, c.row.ensures.room)) c.or_into.ensures.words b ∙ rw (none b) refl in
-    c.unite_row.ensures.pairs a b ∙ ap (λ (x : Bool). pairs_of c.args.self.now a b || (eqb a c.args.t && x)) (same ∙ c.row.ensures.bits b)
+returns-clause-pairs c a b =
+    let n = c.self.inside.sessions in
+    let w = c.self.inside.words in
+    let new = c.unite_within.new.words in
+    let t = c.args.t in
+    let u = c.args.u in
+    let more : (j : ℕ) → has_bit new j ≡ (has_bit w.items j || ((leb (64 * (t * words_for n)) j && ltb j (64 * (t * words_for n + words_for n))) && has_bit (chunk (u * words_for n) (words_for n) w.items) (j - 64 * (t * words_for n)))) = λ j. rw (← c.deref_mut.ensures.value) (rw (← c.row_start-from.ensures.start) (rw (← c.row_start-other.ensures.start) (rw (← c.words_for.ensures) (c.unite_within.ensures j)))) in
+    let whole : take w.len (new ++ drop (length new) w.items) ≡ new = take_at new (drop (length new) w.items) w.len (c.unite_within.auto.words ∙ c.deref_mut.ensures.len) in
+    ap (λ (ws : List ℕ). pairs_of (seen_by n (marked_in n ws)) a b) whole ∙ taken-pairs n w.items new c.args.self.now c.self.view_is t u c.self.invariant.0 c.self.invariant.1 c.requires.t_below c.requires.u_below more a b
