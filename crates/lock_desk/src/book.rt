@@ -1,6 +1,6 @@
 //! The book: the desk with its history.
 
-ghost use Rattle.std.specs.Prelude.{◌≡◌, false, ◌+◌, ◌<◌, ◌≤◌, List, [], ◌∷◌, ◌++◌, length, map, take, drop, IfOk, OnOk, OnErr};
+ghost use Rattle.std.specs.Prelude.{◌≡◌, false, ◌+◌, ◌<◌, ◌≤◌, List, [], ◌∷◌, ◌++◌, if◌then◌else◌, length, map, take, drop, IfOk, OnOk, OnErr};
 ghost use Rattle.std.specs.List.{All};
 ghost use Rattle.lock_rules.specs.State.{held_mode, holders};
 ghost use Rattle.lock_rules.specs.Step.{step};
@@ -15,12 +15,13 @@ ghost use Rattle.lock_desk.specs.declared.batch.Item.{Item as ItemValue};
 
 use crate::batch::Item;
 use crate::desk::Desk;
-use crate::runs::grant_run;
+use crate::runs::{grant_run, resource_shared};
 use lock_modes::Mode;
 use lock_rules::{Call, Entry, MAX_SESSIONS, Reply, laws};
 use lock_tree::Resource;
 use std::alloc::{AllocError as NoMemory, Global};
 use std::marker::Model;
+use waits_for::Marks;
 
 /// A lock table with the history of the calls that it has served, oldest first.
 ///
@@ -31,6 +32,7 @@ pub struct Book {
     sessions: u16,
     desk: Desk,
     history: Vec<Entry>,
+    marks: Marks,
 }
 
 /// How far a batch is served, and whether memory was refused for the next item.
@@ -53,7 +55,7 @@ impl Model for Book {
 
 impl Book {
     /// An empty table for sessions 1 to `sessions`, of which there are 1 to `MAX_SESSIONS`.
-    /// `NoMemory` where the lockers of the sessions found no room.
+    /// `NoMemory` where the lockers of the sessions or their marks found no room.
     pub fn new(alloc: Global, sessions: u16) -> Result<Book, NoMemory>
         requires some { 1 ≤ sessions }
         requires few { sessions ≤ MAX_SESSIONS }
@@ -61,10 +63,12 @@ impl Book {
         ensures empty { IfOk result (λ book. book.history ≡ []) }
     {
         let desk = Desk::new(alloc, sessions)?;
+        let marks = Marks::new(alloc, sessions)?;
         Ok(Book {
             sessions,
             desk,
             history: Vec::new(alloc),
+            marks,
         })
     }
 
@@ -165,6 +169,24 @@ impl Book {
         served
     }
 
+    /// Serves the item at this place, and writes its reply: whether memory was there.
+    fn serve_item(&mut self, items: &mut [Item], at: usize) -> bool
+        requires within { All (IsItemWithin self.old.sessions) items.old }
+        requires some { at < length items.old }
+        ensures sessions { self.new.sessions ≡ self.old.sessions }
+        ensures within { All (IsItemWithin self.new.sessions) items.new }
+        ensures len { length items.new ≡ length items.old }
+        ensures served { (batch : List ItemValue) (start : List EntryValue) → AreServed at batch start self.old.history items.old
+            → AreServed (if result then at + 1 else at) batch start self.new.history items.new }
+    {
+        let asked = items[at];
+        let Ok(reply) = self.serve(asked.session, asked.call) else {
+            return false;
+        };
+        items[at].reply = Some(reply);
+        true
+    }
+
     /// Serves these items, one after another.
     fn serve_each(&mut self, items: &mut [Item], from: usize, upto: usize) -> Progress
         requires within { All (IsItemWithin self.old.sessions) items.old }
@@ -177,14 +199,12 @@ impl Book {
             → AreServed result.served batch start self.new.history items.new }
     {
         for served in from..upto {
-            let asked = items[served];
-            let Ok(reply) = self.serve(asked.session, asked.call) else {
+            if !self.serve_item(items, served) {
                 return Progress {
                     served,
                     starved: true,
                 };
-            };
-            items[served].reply = Some(reply);
+            }
         }
         Progress {
             served: upto,
@@ -192,9 +212,9 @@ impl Book {
         }
     }
 
-    /// Serves the run of locks that begins at this item, all at once where its modes go together and memory is there, or else
-    /// one after another; or this item alone, where it begins no run.
-    fn serve_next(&mut self, items: &mut [Item], from: usize) -> Progress
+    /// Serves the run of locks on this resource that begins at this item, all at once where its modes go together and memory
+    /// is there, or else one after another; or this item alone, where it begins no run.
+    fn serve_run(&mut self, items: &mut [Item], from: usize, resource: Resource) -> Progress
         requires within { All (IsItemWithin self.old.sessions) items.old }
         requires some { from < length items.old }
         ensures sessions { self.new.sessions ≡ self.old.sessions }
@@ -203,7 +223,7 @@ impl Book {
         ensures served { (batch : List ItemValue) (start : List EntryValue) → AreServed from batch start self.old.history items.old
             → AreServed result.served batch start self.new.history items.new }
     {
-        let Some(run) = self.desk.run_at(items, from) else {
+        let Some(run) = self.desk.run_at(items, from, resource, &mut self.marks) else {
             return self.serve_each(items, from, from + 1);
         };
         let upto = run.upto;
@@ -214,5 +234,31 @@ impl Book {
             };
         }
         self.serve_each(items, from, upto)
+    }
+
+    /// Serves the run that begins at this item, or this item alone: where the next one doesn't lock the same resource, no
+    /// run is looked for.
+    fn serve_next(&mut self, items: &mut [Item], from: usize) -> Progress
+        requires within { All (IsItemWithin self.old.sessions) items.old }
+        requires some { from < length items.old }
+        ensures sessions { self.new.sessions ≡ self.old.sessions }
+        ensures within { All (IsItemWithin self.new.sessions) items.new }
+        ensures further { result.starved ≡ false → from < result.served }
+        ensures served { (batch : List ItemValue) (start : List EntryValue) → AreServed from batch start self.old.history items.old
+            → AreServed result.served batch start self.new.history items.new }
+    {
+        if let Some(resource) = resource_shared(items, from) {
+            return self.serve_run(items, from, resource);
+        }
+        if self.serve_item(items, from) {
+            return Progress {
+                served: from + 1,
+                starved: false,
+            };
+        }
+        Progress {
+            served: from,
+            starved: true,
+        }
     }
 }
