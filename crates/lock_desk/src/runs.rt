@@ -56,11 +56,8 @@ fn mode_of_lock(call: Call, resource: Resource) -> Option<Mode>
 
 /// The resource that this item and the next one lock, if they do.
 pub(crate) fn resource_shared(items: &[Item], from: usize) -> Option<Resource>
-    requires { from < length items.now }
+    requires { from + 1 < length items.now }
 {
-    if items.len() - from < 2 {
-        return None;
-    }
     let next = items[from + 1];
     let Call::Lock(resource, _) = items[from].call else {
         return None;
