@@ -160,9 +160,31 @@ impl Book {
         } }
         ensures items { items.new ≡ map item_of (entries_from (state_of self.old.history) (take result items.old)) ++ drop result items.old }
     {
+        if items.len() == 1 {
+            return if self.serve_item(items, 0) { 1 } else { 0 };
+        }
+        self.serve_several(items)
+    }
+
+    /// Serves the items from the first on, run by run, and says how many it served. Where the next item doesn't lock the
+    /// resource that this one locks, no run is looked for; the last item begins none.
+    // apart from the way of a batch of one call, which is to be no longer than that of the call
+    #[inline(never)]
+    fn serve_several(&mut self, items: &mut [Item]) -> usize
+        requires within { All (IsItemWithin self.old.sessions) items.old }
+        ensures sessions { self.new.sessions ≡ self.old.sessions }
+        ensures served { AreServed result items.old self.old.history self.new.history items.new }
+    {
         let mut served = 0;
         while served + 1 < items.len() {
-            let progress = self.serve_next(items, served);
+            let Some(resource) = resource_shared(items, served) else {
+                if !self.serve_item(items, served) {
+                    return served;
+                }
+                served += 1;
+                continue;
+            };
+            let progress = self.serve_run(items, served, resource);
             served = progress.served;
             if progress.starved {
                 return served;
@@ -241,31 +263,5 @@ impl Book {
             };
         }
         self.serve_each(items, from, upto)
-    }
-
-    /// Serves the run that begins at this item, or this item alone: where the next one doesn't lock the same resource, no
-    /// run is looked for. The last item of a batch begins none.
-    fn serve_next(&mut self, items: &mut [Item], from: usize) -> Progress
-        requires within { All (IsItemWithin self.old.sessions) items.old }
-        requires next { from + 1 < length items.old }
-        ensures sessions { self.new.sessions ≡ self.old.sessions }
-        ensures within { All (IsItemWithin self.new.sessions) items.new }
-        ensures further { result.starved ≡ false → from < result.served }
-        ensures served { (batch : List ItemValue) (start : List EntryValue) → AreServed from batch start self.old.history items.old
-            → AreServed result.served batch start self.new.history items.new }
-    {
-        if let Some(resource) = resource_shared(items, from) {
-            return self.serve_run(items, from, resource);
-        }
-        if self.serve_item(items, from) {
-            return Progress {
-                served: from + 1,
-                starved: false,
-            };
-        }
-        Progress {
-            served: from,
-            starved: true,
-        }
     }
 }
