@@ -1,5 +1,5 @@
 -- A batch, one item further.
-use Rattle.std.proofs.Common.{◌≡◌, ℕ, zero, suc, ◌+◌, ◌<◌, List, [], ◌∷◌, ◌++◌, Some, length, map, take, drop, get_or, set, sym, ap, arith, ◌∙◌, append_assoc, refl}
+use Rattle.std.proofs.Common.{◌≡◌, ℕ, zero, suc, ◌+◌, ◌<◌, List, [], ◌∷◌, ◌++◌, Some, length, map, take, drop, get_or, set, sym, ap, arith, ◌∙◌, append_assoc, append-nil, refl}
 use Rattle.lock_rules.specs.declared.calls.Reply.{Reply}
 use Rattle.lock_rules.specs.declared.calls.Entry.{Entry}
 use Rattle.lock_rules.specs.State.{State, empty}
@@ -51,6 +51,10 @@ pub length-after : (st : State) (k : ℕ) (items : List Item) → length (items_
 length-after st zero items = refl
 length-after st (suc k) [] = refl
 length-after st (suc k) (x ∷ xs) = ap suc (length-after (step st x.session x.call).state k xs)
+
+-- none is served yet
+pub served-none : (batch : List Item) (start : List Entry) → AreServed 0 batch start start batch
+served-none batch start = record { few = omega arith; entries = sym (append-nil start); replies = refl }
 
 -- the next item of a batch is served
 pub served-next : (k : ℕ) (batch : List Item) (start h : List Entry) (items : List Item) (i : Item) (reply : Reply) → AreServed k batch start h items → k < length items → i ≡ get_or items k i

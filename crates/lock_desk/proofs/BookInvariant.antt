@@ -22,8 +22,8 @@ use Rattle.lock_desk.specs.Invariant.{IsKept}
 -- one entry more
 pub kept-more : (a : Inside) (es : List Entry) (session : ℕ) (call : Call) (reply : Reply) → a.history.items ≡ es ++ record { session = session; call = call; reply = reply } ∷ []
     → 1 ≤ a.sessions → a.sessions ≤ MAX_SESSIONS → IsLegal es → All (IsEntryWithin a.sessions) es → 1 ≤ session → session ≤ a.sessions
-    → reply ≡ (step (state_of es) session call).reply → Shows a.desk (step (state_of es) session call).state → IsWhole a.desk → IsReadyDesk a.desk → vec_len a.desk.lockers ≡ a.sessions → a.desk.count ≤ length es + 1 → IsKept a
-kept-more a es session call reply h any few legal within some most same shows whole ready lockers counted =
+    → reply ≡ (step (state_of es) session call).reply → Shows a.desk (step (state_of es) session call).state → IsWhole a.desk → IsReadyDesk a.desk → vec_len a.desk.lockers ≡ a.sessions → a.desk.count ≤ length es + 1 → a.marks.sessions ≡ a.sessions → IsKept a
+kept-more a es session call reply h any few legal within some most same shows whole ready lockers counted marked =
     let e : Entry = record { session = session; call = call; reply = reply } in
     record {
       some = any;
@@ -35,11 +35,12 @@ kept-more a es session call reply h any few legal within some most same shows wh
       ready = ready;
       lockers = lockers;
       counted = let n = ap length h in omega (arith, n, length-append es (e ∷ []), counted);
+      marked = marked;
     }
 
 -- the same history
-pub kept-same : (a : Inside) (es : List Entry) → a.history.items ≡ es → 1 ≤ a.sessions → a.sessions ≤ MAX_SESSIONS → IsLegal es → All (IsEntryWithin a.sessions) es → Shows a.desk (state_of es) → IsWhole a.desk → IsReadyDesk a.desk → vec_len a.desk.lockers ≡ a.sessions → (n : ℕ) → n ≡ (state_of es).count → n ≤ length es → IsKept a
-kept-same a es h any few legal within shows whole ready lockers n c least = record {
+pub kept-same : (a : Inside) (es : List Entry) → a.history.items ≡ es → 1 ≤ a.sessions → a.sessions ≤ MAX_SESSIONS → IsLegal es → All (IsEntryWithin a.sessions) es → Shows a.desk (state_of es) → IsWhole a.desk → IsReadyDesk a.desk → vec_len a.desk.lockers ≡ a.sessions → (n : ℕ) → n ≡ (state_of es).count → n ≤ length es → a.marks.sessions ≡ a.sessions → IsKept a
+kept-same a es h any few legal within shows whole ready lockers n c least marked = record {
   some = any;
   few = few;
   legal = subst IsLegal (sym h) legal;
@@ -49,6 +50,7 @@ kept-same a es h any few legal within shows whole ready lockers n c least = reco
   ready = ready;
   lockers = lockers;
   counted = let k = ap length h in let m = shows.count in omega (arith, k, m, c, least);
+  marked = marked;
 }
 
 -- one entry more allows one transaction more

@@ -1,5 +1,5 @@
 -- One lock of a run is granted: the others can be granted still, and the desk shows the next state.
-use Rattle.std.proofs.Common.{◌≡◌, ℕ, ◌≤◌, Bool, true, false, cond, eqb, ◌&&◌, ◌||◌, inl, inr, List, [], ◌∷◌, ◌++◌, length-append, set, Option, Some, None, refl, sym, ◌∙◌, ap, arith, subst}
+use Rattle.std.proofs.Common.{◌≡◌, ℕ, ◌≤◌, Bool, true, false, cond, eqb, ◌&&◌, ◌||◌, inl, inr, List, [], ◌∷◌, ◌++◌, length-append, set, Option, Some, None, sym, ◌∙◌, ap, arith, subst}
 use Rattle.std.specs.Prelude.{vec_len}
 use Rattle.std.specs.List.{All}
 use Rattle.std.proofs.Math.Bool.{or-true}
@@ -22,13 +22,10 @@ use Rattle.lock_rules.proofs.Histories.{legal-push, state_of-push}
 use Rattle.lock_desk.specs.declared.batch.Item.{Item}
 use Rattle.lock_desk.specs.declared.cells.SessionMode.{SessionMode}
 use Rattle.lock_desk.specs.declared.desk.Desk.{Desk}
-use Rattle.lock_desk.specs.declared.waits.Waits.{Waits}
 use Rattle.lock_desk.specs.Kept.{IsEntryWithin}
 use Rattle.lock_desk.specs.Cells.{View, is_nobody, has_session, mode_of, with_holder, fits_among, queue_with, can_grant, view_with_holder, view_after_asking}
-use Rattle.lock_desk.specs.Finding.{IsReady}
 use Rattle.lock_desk.specs.Lockers.{standing_at, standing_after_grant}
 use Rattle.lock_desk.specs.Changes.{view_at, standing, standings, mode_held, desk_tests, IsWhole, IsSameSeen, DoesKeep, HasAsked}
-use Rattle.lock_desk.specs.Ready.{IsReadyDesk}
 use Rattle.lock_desk.specs.Shows.{Shows, DoesAnswer}
 use Rattle.lock_desk.specs.Runs.{KeepsLockRooms, mode_asked, asker_of, CanJoin, CanGrant, GoesBeside, AreKept}
 use Rattle.lock_desk.proofs.Agreement.{other-standing}

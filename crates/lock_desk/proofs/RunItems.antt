@@ -1,8 +1,10 @@
 -- Runs of locks on one resource: what their items may be granted by.
-use Rattle.std.proofs.Common.{◌≡◌, ℕ, ◌+◌, ◌-◌, ◌<◌, Bool, true, false, not, ◌&&◌, cond, eqb, leb, inl, inr, List, [], ◌∷◌, length, get_or, set, Option, Some, None, is_some, unwrap_or, refl, sym, ◌∙◌, ap, arith, subst, bit_and, bit_or}
+use Rattle.std.proofs.Common.{◌≡◌, ℕ, ◌+◌, ◌-◌, ◌<◌, Bool, true, false, not, ◌&&◌, ◌||◌, cond, eqb, leb, inl, inr, List, [], ◌∷◌, length, get_or, set, Option, Some, None, is_some, unwrap_or, refl, sym, ◌∙◌, ap, arith, subst, bit_and, bit_or}
+use Rattle.std.proofs.lemmas.Bool.{eq-eqb, ne_eqb, or_right, false≢true}
 use Rattle.std.proofs.lemmas.Bool.Decides.{nat_tests}
 use Rattle.std.proofs.Math.Nat.{eq-or-lt_of_le}
 use Rattle.std.proofs.lemmas.List.{get_or_default, get_or-set_other}
+use Rattle.waits_for.specs.Marks.{Marking, is_marked}
 use Rattle.lock_modes.specs.declared.Mode.{Mode}
 use Rattle.lock_modes.specs.Order.{at_or_below, need_of}
 use Rattle.lock_modes.specs.Codes.{code_of, mask_of}
@@ -38,6 +40,22 @@ pairs-more P items from upto i lt at h p = λ j k x lo mid hi. elim (eq-or-lt_of
   | inl e ↦ subst (P (get_or items j x)) (at ∙ (get_or_default items upto i x lt ∙ ap (λ (n : ℕ). get_or items n x) (sym e))) (p j x lo (omega (arith, mid, e)))
   | inr l ↦ h j k x lo mid l
 ]
+
+-- what gets a first mark had none
+pub without-mark : (had first : Bool) → first ≡ not had → first ≡ true → had ≡ false
+without-mark true first e h = absurd (cc)
+without-mark false first e h = refl
+
+-- a session without a mark is none of those that are marked
+pub each-apart : (marks : Marking) (items : List Item) (from upto s : ℕ) → is_marked marks (s - 1) ≡ false → Each (λ i. is_marked marks (i.session - 1) ≡ true) items from upto → Each (λ i. eqb i.session s ≡ false) items from upto
+each-apart marks items from upto s new h = λ k x lo hi. ne_eqb (get_or items k x).session s (λ e. absurd (false≢true (sym new ∙ (ap (λ (n : ℕ). is_marked marks (n - 1)) (sym e) ∙ h k x lo hi))))
+
+-- one mark more, which is that of the next item
+pub each-marked : (old new : Marking) (items : List Item) (from upto : ℕ) (i : Item) → upto < length items → i ≡ get_or items upto i → ((t : ℕ) → is_marked new t ≡ (is_marked old t || eqb t (i.session - 1)))
+    → Each (λ j. is_marked old (j.session - 1) ≡ true) items from upto → Each (λ j. is_marked new (j.session - 1) ≡ true) items from (upto + 1)
+each-marked old new items from upto i lt at more h = each-more (λ (j : Item). is_marked new (j.session - 1) ≡ true) items from upto i lt at
+    (λ k x lo hi. let t = (get_or items k x).session - 1 in more t ∙ ap (λ (b : Bool). b || eqb t (i.session - 1)) (h k x lo hi))
+    (let t = i.session - 1 in more t ∙ or_right (is_marked old t) (eqb t t) (eq-eqb t t refl))
 
 -- an item is written, and those behind it are as before
 pub each-written : (P : Item → Type 0) (items : List Item) (from upto : ℕ) (i : Item) → Each P items (from + 1) upto → Each P (set items from i) (from + 1) upto

@@ -14,7 +14,7 @@ use Rattle.lock_desk.specs.declared.book.Book.TheInside.{Inside}
 abbrev pub told_of : Inside → Told
 told_of a = record { sessions = a.sessions; history = a.history.items }
 
--- the history is legal, and the desk shows the state that it leads to
+-- the history is legal, the desk shows the state that it leads to, and there is a mark for each session
 pub record IsKept (a : Inside) : Type 0 where
   pub some : 1 ≤ a.sessions
   pub few : a.sessions ≤ MAX_SESSIONS
@@ -25,3 +25,4 @@ pub record IsKept (a : Inside) : Type 0 where
   pub ready : IsReadyDesk a.desk
   pub lockers : vec_len a.desk.lockers ≡ a.sessions
   pub counted : a.desk.count ≤ length a.history.items
+  pub marked : a.marks.sessions ≡ a.sessions

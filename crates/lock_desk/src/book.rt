@@ -1,6 +1,6 @@
 //! The book: the desk with its history.
 
-ghost use Rattle.std.specs.Prelude.{◌≡◌, false, ◌+◌, ◌<◌, ◌≤◌, List, [], ◌∷◌, ◌++◌, length, map, take, drop, IfOk, OnOk, OnErr};
+ghost use Rattle.std.specs.Prelude.{◌≡◌, false, ◌+◌, ◌<◌, ◌≤◌, List, [], ◌∷◌, ◌++◌, if◌then◌else◌, length, map, take, drop, IfOk, OnOk, OnErr};
 ghost use Rattle.std.specs.List.{All};
 ghost use Rattle.lock_rules.specs.State.{held_mode, holders};
 ghost use Rattle.lock_rules.specs.Step.{step};
@@ -16,12 +16,13 @@ ghost use Rattle.lock_desk.specs.declared.batch.Item.{Item as ItemValue};
 
 use crate::batch::Item;
 use crate::desk::Desk;
-use crate::runs::grant_run;
+use crate::runs::{grant_run, resource_shared};
 use lock_modes::Mode;
 use lock_rules::{Call, Entry, MAX_SESSIONS, Reply, laws};
 use lock_tree::Resource;
 use std::alloc::{AllocError as NoMemory, Global};
 use std::marker::Model;
+use waits_for::Marks;
 
 /// A lock table with the history of the calls that it has served, oldest first.
 ///
@@ -32,6 +33,7 @@ pub struct Book {
     sessions: u16,
     desk: Desk,
     history: Vec<Entry>,
+    marks: Marks,
 }
 
 /// How far a batch is served, and whether memory was refused for the next item.
@@ -54,7 +56,7 @@ impl Model for Book {
 
 impl Book {
     /// An empty table for sessions 1 to `sessions`, of which there are 1 to `MAX_SESSIONS`.
-    /// `NoMemory` where the lockers of the sessions found no room.
+    /// `NoMemory` where the lockers of the sessions or their marks found no room.
     pub fn new(alloc: Global, sessions: u16) -> Result<Book, NoMemory>
         requires some { 1 ≤ sessions }
         requires few { sessions ≤ MAX_SESSIONS }
@@ -62,10 +64,12 @@ impl Book {
         ensures empty { IfOk result (λ book. book.history ≡ []) }
     {
         let desk = Desk::new(alloc, sessions)?;
+        let marks = Marks::new(alloc, sessions)?;
         Ok(Book {
             sessions,
             desk,
             history: Vec::new(alloc),
+            marks,
         })
     }
 
@@ -131,6 +135,8 @@ impl Book {
     /// All growths come before the first change. `NoMemory` only where one of them was refused: the book is as before,
     /// and the same call may be made again. A Begin, a Poll, a Release, a Commit, an Abort and a refused call grow the
     /// history alone.
+    // written out where it is called, so that a batch of one call takes no longer way to the desk than one call does
+    #[inline(always)]
     pub fn serve(&mut self, session: u16, call: Call) -> Result<Reply, NoMemory>
         requires some { 1 ≤ session }
         requires within { session ≤ self.old.sessions }
@@ -164,15 +170,59 @@ impl Book {
         } }
         ensures items { items.new ≡ map item_of (entries_from (state_of self.old.history) (take result items.old)) ++ drop result items.old }
     {
+        if items.len() == 1 {
+            return if self.serve_item(items, 0) { 1 } else { 0 };
+        }
+        self.serve_several(items)
+    }
+
+    /// Serves the items from the first on, run by run, and says how many it served. Where the next item doesn't lock the
+    /// resource that this one locks, no run is looked for; the last item begins none.
+    // apart from the way of a batch of one call, which is to be no longer than that of the call
+    #[inline(never)]
+    fn serve_several(&mut self, items: &mut [Item]) -> usize
+        requires within { All (IsItemWithin self.old.sessions) items.old }
+        ensures sessions { self.new.sessions ≡ self.old.sessions }
+        ensures served { AreServed result items.old self.old.history self.new.history items.new }
+    {
         let mut served = 0;
-        while served < items.len() {
-            let progress = self.serve_next(items, served);
+        while served + 1 < items.len() {
+            let Some(resource) = resource_shared(items, served) else {
+                if !self.serve_item(items, served) {
+                    return served;
+                }
+                served += 1;
+                continue;
+            };
+            let progress = self.serve_run(items, served, resource);
             served = progress.served;
             if progress.starved {
-                break;
+                return served;
             }
         }
+        if served < items.len() && self.serve_item(items, served) {
+            served += 1;
+        }
         served
+    }
+
+    /// Serves the item at this place, and writes its reply: whether memory was there.
+    #[inline(always)]
+    fn serve_item(&mut self, items: &mut [Item], at: usize) -> bool
+        requires within { All (IsItemWithin self.old.sessions) items.old }
+        requires some { at < length items.old }
+        ensures sessions { self.new.sessions ≡ self.old.sessions }
+        ensures within { All (IsItemWithin self.new.sessions) items.new }
+        ensures len { length items.new ≡ length items.old }
+        ensures served { (batch : List ItemValue) (start : List EntryValue) → AreServed at batch start self.old.history items.old
+            → AreServed (if result then at + 1 else at) batch start self.new.history items.new }
+    {
+        let asked = items[at];
+        let Ok(reply) = self.serve(asked.session, asked.call) else {
+            return false;
+        };
+        items[at].reply = Some(reply);
+        true
     }
 
     /// Serves these items, one after another.
@@ -187,14 +237,12 @@ impl Book {
             → AreServed result.served batch start self.new.history items.new }
     {
         for served in from..upto {
-            let asked = items[served];
-            let Ok(reply) = self.serve(asked.session, asked.call) else {
+            if !self.serve_item(items, served) {
                 return Progress {
                     served,
                     starved: true,
                 };
-            };
-            items[served].reply = Some(reply);
+            }
         }
         Progress {
             served: upto,
@@ -202,9 +250,10 @@ impl Book {
         }
     }
 
-    /// Serves the run of locks that begins at this item, all at once where its modes go together and memory is there, or else
-    /// one after another; or this item alone, where it begins no run.
-    fn serve_next(&mut self, items: &mut [Item], from: usize) -> Progress
+    /// Serves the run of locks on this resource that begins at this item, all at once where its modes go together and memory
+    /// is there, or else one after another; or this item alone, where it begins no run.
+    #[inline(never)]
+    fn serve_run(&mut self, items: &mut [Item], from: usize, resource: Resource) -> Progress
         requires within { All (IsItemWithin self.old.sessions) items.old }
         requires some { from < length items.old }
         ensures sessions { self.new.sessions ≡ self.old.sessions }
@@ -213,7 +262,7 @@ impl Book {
         ensures served { (batch : List ItemValue) (start : List EntryValue) → AreServed from batch start self.old.history items.old
             → AreServed result.served batch start self.new.history items.new }
     {
-        let Some(run) = self.desk.run_at(items, from) else {
+        let Some(run) = self.desk.run_at(items, from, resource, &mut self.marks) else {
             return self.serve_each(items, from, from + 1);
         };
         let upto = run.upto;

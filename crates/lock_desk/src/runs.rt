@@ -16,11 +16,13 @@ ghost use Rattle.lock_desk.specs.Runs.{HasLockRoom, mode_asked, Each, CanJoin, I
 use crate::batch::Item;
 use crate::cells::is_same;
 use crate::desk::Desk;
+use crate::positions::position_of;
 use crate::refusals::is_nothing;
 use lock_modes::Mode;
 use lock_rules::{Call, Entry, MAX_LOCKS, Reply};
 use lock_tree::Resource;
 use std::alloc::AllocError;
+use waits_for::Marks;
 
 /// The resource of a run, the place of its cell, and the place of the item behind the run's last one. The codes are those of
 /// the resource's holders and of the run, the masks those of the run, each all in one byte.
@@ -53,12 +55,9 @@ fn mode_of_lock(call: Call, resource: Resource) -> Option<Mode>
 }
 
 /// The resource that this item and the next one lock, if they do.
-fn resource_shared(items: &[Item], from: usize) -> Option<Resource>
-    requires { from < length items.now }
+pub(crate) fn resource_shared(items: &[Item], from: usize) -> Option<Resource>
+    requires { from + 1 < length items.now }
 {
-    if items.len() - from < 2 {
-        return None;
-    }
     let next = items[from + 1];
     let Call::Lock(resource, _) = items[from].call else {
         return None;
@@ -67,33 +66,6 @@ fn resource_shared(items: &[Item], from: usize) -> Option<Resource>
         Some(_) => Some(resource),
         None => None,
     }
-}
-
-/// Whether one of the items from a place up to another is of this session.
-fn is_met(items: &[Item], from: usize, upto: usize, session: u16) -> bool
-    requires { upto ≤ length items.now }
-    ensures { result ≡ false → Each (λ i. (i.session == session) ≡ false) items.now from upto }
-{
-    for index in from..upto {
-        if items[index].session == session {
-            return true;
-        }
-    }
-    false
-}
-
-/// Whether none of the items from a place up to another is of this session, their sessions being from the least to the
-/// greatest. Only a session between these two is looked for.
-fn is_new(items: &[Item], from: usize, upto: usize, session: u16, least: u16, greatest: u16) -> bool
-    requires upto { upto ≤ length items.now }
-    requires least { Each (λ i. least ≤ i.session) items.now from upto }
-    requires greatest { Each (λ i. i.session ≤ greatest) items.now from upto }
-    ensures { result ≡ true → Each (λ i. (i.session == session) ≡ false) items.now from upto }
-{
-    if session < least || greatest < session {
-        return true;
-    }
-    !is_met(items, from, upto, session)
 }
 
 impl Desk {
@@ -163,23 +135,23 @@ impl Desk {
         None
     }
 
-    /// Takes the items into a run, up to the first that doesn't belong to it. A session below or above all before it is
-    /// another one, and any other is looked for: in a pass sessions come in the order of the publication list, which falls
-    /// where they enlist one after another.
-    fn gather(&self, items: &[Item], from: usize, site: &Site) -> Run
+    /// Takes the items into a run, up to the first that doesn't belong to it. The sessions of the run are marked, so that
+    /// each is asked once whether it is another one; what is left of an earlier run's marks is taken away first.
+    fn gather(&self, items: &[Item], from: usize, site: &Site, marks: &mut Marks) -> Run
         requires within { All (IsItemWithin (vec_len self.now.lockers)) items.now }
         requires from { from < length items.now }
         requires site { IsSite self.now site.now }
+        requires marks { marks.old.sessions ≡ vec_len self.now.lockers }
         ensures run { IsRun self.now items.now from result }
+        ensures marks { marks.new.sessions ≡ marks.old.sessions }
     {
+        marks.clear();
         let mut upto = from;
         let mut codes = site.codes;
         let mut masks = 0;
-        let mut least = u16::MAX;
-        let mut greatest = 0;
         while upto < items.len() {
             let item = items[upto];
-            if !is_new(items, from, upto, item.session, least, greatest) {
+            if !marks.mark(position_of(item.session)) {
                 break;
             }
             let Some(mode) = self.mode_joining(&item, site) else {
@@ -187,8 +159,6 @@ impl Desk {
             };
             codes |= mode.code();
             masks |= mode.conflict_mask();
-            least = least.min(item.session);
-            greatest = greatest.max(item.session);
             upto += 1;
         }
         Run {
@@ -200,16 +170,24 @@ impl Desk {
         }
     }
 
-    /// The run that begins at this item: `None` where it has no second item, nobody holds the resource, or somebody waits.
-    pub(crate) fn run_at(&self, items: &[Item], from: usize) -> Option<Run>
+    /// The run of locks on this resource that begins at this item: `None` where it has no second item, nobody holds the
+    /// resource, or somebody waits.
+    pub(crate) fn run_at(
+        &self,
+        items: &[Item],
+        from: usize,
+        resource: Resource,
+        marks: &mut Marks,
+    ) -> Option<Run>
         requires within { All (IsItemWithin (vec_len self.now.lockers)) items.now }
         requires from { from < length items.now }
+        requires marks { marks.old.sessions ≡ vec_len self.now.lockers }
         ensures long { IfSome result (λ run. from + 2 ≤ run.upto) }
         ensures run { IfSome result (IsRun self.now items.now from) }
+        ensures marks { marks.new.sessions ≡ marks.old.sessions }
     {
-        let resource = resource_shared(items, from)?;
         let site = self.site_of(resource)?;
-        let run = self.gather(items, from, &site);
+        let run = self.gather(items, from, &site, marks);
         if run.upto < from + 2 {
             return None;
         }

@@ -12,7 +12,7 @@ pub invariant_of-self-in_err-reply : goal.invariant_of-self-in_err-reply
 invariant_of-self-in_err-reply c =
     let k = c.self.invariant in
     let es = c.self.inside.history.items in
-    kept-same _ es c.reserve.ensures.items k.some k.few k.legal k.within (c.in_err-reply.ensures.err (state_of es) k.shows) c.in_err-reply.ensures.whole c.in_err-reply.ensures.ready (c.in_err-reply.ensures.len ∙ k.lockers) c.self.inside.desk.count k.shows.count k.counted
+    kept-same _ es c.reserve.ensures.items k.some k.few k.legal k.within (c.in_err-reply.ensures.err (state_of es) k.shows) c.in_err-reply.ensures.whole c.in_err-reply.ensures.ready (c.in_err-reply.ensures.len ∙ k.lockers) c.self.inside.desk.count k.shows.count k.counted k.marked
 
 pub invariant_of-self-2 : goal.invariant_of-self-2
 invariant_of-self-2 c =
@@ -22,7 +22,7 @@ invariant_of-self-2 c =
     let most = subst (λ (t : Told). c.args.session ≤ t.sessions) (sym c.self.view_is) c.requires.within in
     kept-more _ es c.args.session c.args.call c.in_ok-reply.reply
     (c.push_reserved.ensures.items ∙ ap (λ (xs : List Entry). xs ++ record { session = c.args.session; call = c.args.call; reply = c.in_ok-reply.reply } ∷ []) c.in_ok-reserve.ensures.items)
-    k.some k.few k.legal k.within c.requires.some most s.0 s.1 c.in_ok-reply.ensures.whole c.in_ok-reply.ensures.ready (c.in_ok-reply.ensures.len ∙ k.lockers) (bound c.in_ok-reply.ensures.count k.counted)
+    k.some k.few k.legal k.within c.requires.some most s.0 s.1 c.in_ok-reply.ensures.whole c.in_ok-reply.ensures.ready (c.in_ok-reply.ensures.len ∙ k.lockers) (bound c.in_ok-reply.ensures.count k.counted) k.marked
 
 pub returns-clause-reply : goal.returns-clause-reply
 returns-clause-reply c =

@@ -1,4 +1,5 @@
-use Rattle.std.proofs.Common.{◌-◌, ◌≤◌, length}
+use Rattle.std.proofs.Common.{◌≡◌, ◌-◌, true, length, vec_len}
+use Rattle.waits_for.specs.Marks.{is_marked}
 use Rattle.lock_desk.specs.Runs.{Each, IsRun}
 use Rattle.lock_desk.proofs.desk.Desk.gather.Given as goal
 
@@ -11,8 +12,8 @@ invariant-loop-upto l = record {
     codes = l.codes;
     masks = l.masks;
   });
-  least : Each (λ i. l.least ≤ i.session) l.items l.from l.upto;
-  greatest : Each (λ i. i.session ≤ l.greatest) l.items l.from l.upto;
+  sessions : l.marks.sessions ≡ vec_len l.self.lockers;
+  marked : Each (λ i. is_marked l.marks (i.session - 1) ≡ true) l.items l.from l.upto;
 }
 
 abbrev pub decreases-loop-upto : goal.decreases-loop-upto

@@ -1,0 +1,61 @@
+//! Marks of sessions, a bit for each.
+
+ghost use Rattle.std.specs.Prelude.{◌≡◌, ℕ, ◌<◌, ◌||◌, not, ◌==◌, false, IfOk};
+ghost use Rattle.waits_for.specs.Marks.{is_marked};
+
+use crate::NoMemory;
+use crate::bits::{clear, has, set, words_for};
+use std::alloc::Global;
+use std::marker::Model;
+
+/// Which sessions are marked. Contracts see the number of sessions and the marks, by `is_marked`.
+///
+/// Only [`Marks::new`] takes memory.
+#[derive(Drop)]
+pub struct Marks {
+    sessions: u16,
+    words: Vec<u64>,
+}
+
+impl Model for Marks {
+    ghost use Rattle.std.specs.Prelude.{◌≡◌, length};
+    ghost use Rattle.waits_for.specs.Marks.{Marking, marked_by};
+    ghost use Rattle.waits_for.specs.Bits.{has_bit, words_for};
+
+    ghost Value = { Marking };
+
+    ghost view = { λ m. marked_by m.sessions (has_bit m.words.items) };
+
+    ghost invariant = { λ m. length m.words.items ≡ words_for m.sessions };
+}
+
+impl Marks {
+    /// So many sessions, none of which is marked. `NoMemory` only where a growth was refused.
+    pub fn new(alloc: Global, sessions: u16) -> Result<Marks, NoMemory>
+        ensures sessions { IfOk result (λ marks. marks.sessions ≡ sessions) }
+        ensures none { IfOk result (λ marks. (t : ℕ) → is_marked marks t ≡ false) }
+    {
+        let words = vec![in alloc; 0; words_for(sessions)]?;
+        Ok(Marks { sessions, words })
+    }
+
+    /// Marks the session at position `t`, and tells whether it had no mark.
+    pub fn mark(&mut self, t: usize) -> bool
+        requires { t < self.old.sessions }
+        ensures first { result ≡ not (is_marked self.old t) }
+        ensures sessions { self.new.sessions ≡ self.old.sessions }
+        ensures marks { (a : ℕ) → is_marked self.new a ≡ (is_marked self.old a || (a == t)) }
+    {
+        let had = has(&self.words, t);
+        set(&mut self.words, t);
+        !had
+    }
+
+    /// Takes all marks away.
+    pub fn clear(&mut self)
+        ensures sessions { self.new.sessions ≡ self.old.sessions }
+        ensures none { (t : ℕ) → is_marked self.new t ≡ false }
+    {
+        clear(&mut self.words, 0, words_for(self.sessions));
+    }
+}
