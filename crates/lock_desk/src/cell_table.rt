@@ -319,19 +319,20 @@ impl CellTable {
         let cell = &mut self.cells[place];
         clear_queue(waits, cell);
         cell.give_up(session, part);
-        promote(cell, resource, lockers);
+        promote(cell, place, resource, lockers);
         write_queue(waits, cell);
         if cell.is_idle() {
             self.vacate(place);
         }
     }
 
-    /// The same, where the resource's place isn't known.
+    /// The same, where the resource is likely to stand at this place.
     pub(crate) fn free(
         &mut self,
         lockers: &mut Vec<Locker>,
         waits: &mut Waits,
         session: u16,
+        likely: usize,
         resource: Resource,
         part: Part,
     )
@@ -350,7 +351,7 @@ impl CellTable {
         ensures rows { let before = cell_view resource self.old.entries in
             DoFollow before (view_after_freeing part session before) waits.old waits.new }
     {
-        let place = self.place_of(resource);
+        let place = self.place_near(likely, resource);
         self.free_at(lockers, waits, session, place, resource, part);
     }
 

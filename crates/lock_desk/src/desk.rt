@@ -265,12 +265,13 @@ impl Desk {
         ensures kept { DoesKeep self.old self.new }
     {
         let locker = &mut self.lockers[position_of(session)];
-        if let Some(resource) = locker.release_last() {
+        if let Some(last) = locker.release_last() {
             self.cells.free(
                 &mut self.lockers,
                 &mut self.waits,
                 session,
-                resource,
+                last.likely,
+                last.resource,
                 Part::Lock,
             );
         }
@@ -329,6 +330,7 @@ impl Desk {
                 &mut self.lockers,
                 &mut self.waits,
                 session,
+                0,
                 resource,
                 Part::Request,
             );
