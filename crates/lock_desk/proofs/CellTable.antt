@@ -57,13 +57,6 @@ module _ (eq : List ℕ → List ℕ → Bool) (same : (a b : List ℕ) → eq a
       kept-cond true o h = kept
       kept-cond false o h = h
 
-  -- the cell was written through what was lent
-  pub written : (r : List ℕ) {S : Type 0} (old new : HashMap (List ℕ) Cell S) (x c : Cell) (v : View) → AreKeptCells old.entries → Some x ≡ get eq old r → IsKeptCell c → WritesThrough eq (eq r) old c new → view_of c ≡ v
-      → CellsBecame r v old.entries new.entries
-  written r old new x c v k there kept lent e =
-      became-view r (view_of c) v old.entries new.entries e
-      (became r (Some c) old.entries new.entries k kept (lent.3 (subst IsSome there refl)).0)
-
 -- nobody holds what is idle, and nobody waits for it
 pub idle-view : (v : View) → is_busy v ≡ false → v ≡ no_view
 idle-view v h = λ i. record { holders = no-holders v.holders v.waiting h i; waiting = no-waiting v.holders v.waiting h i }

@@ -1,17 +1,26 @@
--- Where the cell of a resource stands among the cells.
-use Rattle.std.proofs.Common.{◌≡◌, ℕ, zero, suc, Bool, true, cond, List, [], ◌∷◌, length, slice_get, Option, None, Some, unwrap_or, refl, sym, ◌∙◌, ap, subst, inl, inr}
-use Rattle.std.specs.Cmp.{IsEquivalence}
-use Rattle.std.specs.Map.{lookup, lookup_key, values_of}
-use Rattle.std.specs.HashMap.{HashMap, IsUnique, Updates}
-use Rattle.std.proofs.lemmas.Map.Made.{lookup_key_passes}
+-- Where the cell of a resource stands among the cells, each of which stands beside its resource.
+use Rattle.std.proofs.Common.{◌||◌, ◌≡◌, ℕ, zero, suc, ◌+◌, ◌-◌, ◌<◌, ◌≤◌, Bool, true, false, cond, List, [], ◌∷◌, ◌++◌, length, take, set, swap, slice_get, get_or, zip, Option, None, Some, is_some, IfSome, unwrap_or, position, IsSome, refl, sym, ◌∙◌, ap, subst, inl, inr, arith}
+use Rattle.std.proofs.lemmas.List.{get_or-take, get_or_default, get_or-set_other, length-take, length-set, length-append, take-set, take-append-le, take_all}
+use Rattle.std.proofs.lemmas.Option.{slice_get_within, get_or_from_slice_get, slice_get-get_or}
+use Rattle.std.proofs.lemmas.Bool.{cases_lt}
+use Rattle.std.proofs.lemmas.Grind.{get_or-set_at}
+use Rattle.std.proofs.lemmas.List.Edits.{length-swap}
+use Rattle.std.proofs.lemmas.List.Quantifiers.{position-Some}
+use Rattle.std.proofs.lemmas.Map.Made.{is_some-lookup}
 use Rattle.std.proofs.lemmas.Map.Entries.{lookup_from_place}
-use Rattle.indexmap.specs.IndexMap.{set_value_at}
-use Rattle.indexmap.proofs.CallerLemmas.{updates-with_value_at}
+use Rattle.std.specs.Cmp.{IsEquivalence}
+use Rattle.std.specs.List.{IsDistinct, swap_remove, list_any}
+use Rattle.std.specs.Map.{keys_of, lookup, IsKeyTest}
+use Rattle.indexmap.specs.IndexMap.{set_value_at, insert_entry}
+use Rattle.indexmap.proofs.MapLemmas.{distinct-take, index-first, insert_entry-first}
+use Rattle.indexmap.proofs.RemoveLemmas.{swap_out, own_first}
+use Rattle.indexmap.proofs.ReorderLemmas.{slice_get-zip_some, zip-take}
 use Rattle.lock_tree.specs.Paths.{same_path}
 use Rattle.lock_rules.proofs.Lists.{same_path-refl, same_path-true, same_path_tells}
 use Rattle.lock_desk.specs.declared.cells.Cell.{Cell}
-use Rattle.lock_desk.specs.Cells.{View, view_of, Cells, cell_at, CellsBecame, AreKeptCells, IsKeptCell, IsCellAt, IsPlace, HasRoomFor, HasRoomAt}
-use Rattle.lock_desk.proofs.CellTable.{found, became, became-view}
+use Rattle.lock_desk.specs.Cells.{View, no_view, view_of, Cells, cell_at, CellsBecame, AreKeptCells, IsKeptCell, IsCellAt, IsPlace, HasRoomFor, HasRoomAt}
+use Rattle.lock_desk.specs.Tables.{in_use, AreIdleFrom}
+use Rattle.lock_desk.proofs.CellTable.{became, became-view}
 
 -- to be the same is an equivalence
 pub same_path-equivalence : IsEquivalence same_path
@@ -26,66 +35,388 @@ same_path-equivalence = record { refl = same_path-refl; symm = symm; congr = λ 
       ]
     ]
 
--- the first of two that are the same entry
-same-path : (k r : List ℕ) (c x : Cell) → ◌≡◌ {A = Option (List ℕ × Cell)} (Some (k, c)) (Some (r, x)) → k ≡ r
-same-path k r c x e = ap (λ (o : Option (List ℕ × Cell)). (unwrap_or o (k, c)).0) e
+-- lists
 
+set-there : (xs : List Cell) (i : ℕ) (c : Cell) → i < length xs → slice_get (set xs i c) i ≡ Some c
+set-there [] i c h = absurd (omega arith)
+set-there (x ∷ xs) zero c h = refl
+set-there (x ∷ xs) (suc i) c h = set-there xs i c (omega arith)
+
+-- the second of two entries that are the same
 same-cell : (k r : List ℕ) (c x : Cell) → ◌≡◌ {A = Option (List ℕ × Cell)} (Some (k, c)) (Some (r, x)) → c ≡ x
 same-cell k r c x e = ap (λ (o : Option (List ℕ × Cell)). (unwrap_or o (k, c)).1) e
 
--- the cell that is read at a place is the one of the entry there
-read-at : (cs : Cells) (r : List ℕ) (i : ℕ) (x c : Cell) → slice_get cs i ≡ Some (r, x) → slice_get (values_of cs) i ≡ Some c → x ≡ c
-read-at [] r i x c e f = absurd (cc)
-read-at (y ∷ cs) r zero x c e f = ap (λ (o : Option (List ℕ × Cell)). (unwrap_or o (r, x)).1) (sym e) ∙ ap (λ (o : Option Cell). unwrap_or o c) f
-read-at (y ∷ cs) r (suc i) x c e f = read-at cs r i x c e f
-
--- and the one that is written there is read there
-write-at : (cs : Cells) (r : List ℕ) (i : ℕ) (x c : Cell) → slice_get cs i ≡ Some (r, x) → slice_get (set_value_at cs i c) i ≡ Some (r, c)
-write-at [] r i x c e = absurd (cc)
-write-at (y ∷ cs) r zero x c e = ap (λ (p : List ℕ). Some (p, c)) (ap (λ (o : Option (List ℕ × Cell)). (unwrap_or o (r, x)).0) e)
-write-at (y ∷ cs) r (suc i) x c e = write-at cs r i x c e
-
-length-written : (cs : Cells) (i : ℕ) (c : Cell) → length (set_value_at cs i c) ≡ length cs
-length-written [] i c = refl
-length-written (y ∷ cs) zero c = refl
-length-written (y ∷ cs) (suc i) c = ap suc (length-written cs i c)
+-- resources that are apart
 
 module _ (eq : List ℕ → List ℕ → Bool) (same : (a b : List ℕ) → eq a b ≡ same_path a b) where
-  -- what a search finds stands at its place
-  pub found-place : (r : List ℕ) (cs : Cells) (i : ℕ) (k : List ℕ) (c : Cell) → Some k ≡ lookup_key (eq r) cs → Some c ≡ lookup (eq r) cs → slice_get cs i ≡ Some (k, c) → IsCellAt r cs i
-  found-place r cs i k c key value entry = record {
-    cell = c;
-    entry = entry ∙ ap (λ (q : List ℕ). Some (q, c)) (sym (same_path-true r k (sym (same r k) ∙ lookup_key_passes (eq r) cs k (sym key))));
-    found = sym (found eq same r cs) ∙ sym value;
-  }
+  -- those in use are apart where all are
+  pub apart-in_use : (rs : List (List ℕ)) (b : Bool) → IsDistinct eq rs → IsDistinct same_path (in_use rs b)
+  apart-in_use rs true h = distinct-take same_path-equivalence _ rs (subst (λ (t : List ℕ → List ℕ → Bool). IsDistinct t rs) (λ j x y. same x y j) h)
+  apart-in_use rs false h = subst (λ (t : List ℕ → List ℕ → Bool). IsDistinct t rs) (λ j x y. same x y j) h
 
-  -- where the key of an entry is the resource, its cell stands there
-  pub likely-place : {S : Type 0} (m : HashMap (List ℕ) Cell S) (r k : List ℕ) (c : Cell) (i : ℕ) → IsUnique eq m → Some (k, c) ≡ slice_get m.entries i → eq k r ≡ true → IsCellAt r m.entries i
-  likely-place m r k c i unique entry is =
-      let there : slice_get m.entries i ≡ Some (r, c) = sym entry ∙ ap (λ (q : List ℕ). Some (q, c)) (same_path-true k r (sym (same k r) ∙ is)) in
-      record {
-        cell = c;
-        entry = there;
-        found = lookup_from_place same_path-equivalence m.entries i r c (subst (λ (t : List ℕ → List ℕ → Bool). IsUnique t m) (λ j a b. same a b j) unique) there;
-      }
+-- cells beside resources
 
-  -- the cell of an entry that is taken out is found no more
-  pub taken-out : {S : Type 0} (old new : HashMap (List ℕ) Cell S) (k : List ℕ) (c : Cell) (i : ℕ) → Some (k, c) ≡ slice_get old.entries i → Updates eq old new k None
-      → (r : List ℕ) (x : Cell) → slice_get old.entries i ≡ Some (r, x) → (q : List ℕ) → cell_at q new.entries ≡ cond (same_path r q) None (cell_at q old.entries)
-  taken-out old new k c i entry updates r x at q =
-      sym (found eq same q new.entries) ∙ (updates.0 q ∙ ((λ j. cond (same k q j) None (found eq same q old.entries j))
-      ∙ ap (λ (p : List ℕ). cond (same_path p q) None (cell_at q old.entries)) (same-path k r c x (entry ∙ at))))
+pub keys-beside : (rs : List (List ℕ)) (xs : List Cell) → length rs ≤ length xs → keys_of (zip rs xs) ≡ rs
+keys-beside [] xs h = refl
+keys-beside (r ∷ rs) [] h = absurd (omega arith)
+keys-beside (r ∷ rs) (x ∷ xs) h = ap (λ (ks : List (List ℕ)). r ∷ ks) (keys-beside rs xs (omega arith))
 
-  -- the cell at a place is read and written
-  module _ {S : Type 0} (m : HashMap (List ℕ) Cell S) (cs : Cells) (e : m.entries ≡ cs) (r : List ℕ) (o : Option ℕ) (i : ℕ) (is : o ≡ Some i) (place : IsPlace r cs o) (x : Cell) (read : slice_get (values_of m.entries) i ≡ Some x) where
-    at : IsCellAt r cs i
-    at = subst (IsPlace r cs) is place
+-- what stands at a place is the resource there with the cell there
+pub resource-at : (rs : List (List ℕ)) (xs : List Cell) (i : ℕ) (r : List ℕ) (x : Cell) → slice_get (zip rs xs) i ≡ Some (r, x) → slice_get rs i ≡ Some r
+resource-at [] xs i r x h = absurd (cc)
+resource-at (q ∷ rs) [] i r x h = absurd (cc)
+resource-at (q ∷ rs) (y ∷ xs) zero r x h = ap (λ (o : Option (List ℕ × Cell)). Some (unwrap_or o (r, x)).0) h
+resource-at (q ∷ rs) (y ∷ xs) (suc i) r x h = resource-at rs xs i r x h
 
-    here : slice_get m.entries i ≡ Some (r, at.cell)
-    here = ap (λ (xs : Cells). slice_get xs i) e ∙ at.entry
+pub cell-at : (rs : List (List ℕ)) (xs : List Cell) (i : ℕ) (r : List ℕ) (x : Cell) → slice_get (zip rs xs) i ≡ Some (r, x) → slice_get xs i ≡ Some x
+cell-at [] xs i r x h = absurd (cc)
+cell-at (q ∷ rs) [] i r x h = absurd (cc)
+cell-at (q ∷ rs) (y ∷ xs) zero r x h = ap (λ (o : Option (List ℕ × Cell)). Some (unwrap_or o (r, x)).1) h
+cell-at (q ∷ rs) (y ∷ xs) (suc i) r x h = cell-at rs xs i r x h
 
+-- a cell that is written is written in the entry
+pub beside-written : (rs : List (List ℕ)) (xs : List Cell) (i : ℕ) (c : Cell) → zip rs (set xs i c) ≡ set_value_at (zip rs xs) i c
+beside-written [] xs i c = refl
+beside-written (r ∷ rs) [] i c = refl
+beside-written (r ∷ rs) (x ∷ xs) zero c = refl
+beside-written (r ∷ rs) (x ∷ xs) (suc i) c = ap (λ (es : Cells). (r, x) ∷ es) (beside-written rs xs i c)
+
+-- one that comes is the last entry
+pub beside-pushed : (rs : List (List ℕ)) (xs : List Cell) (r : List ℕ) (c : Cell) → length rs < length xs → zip (rs ++ r ∷ []) (set xs (length rs) c) ≡ zip rs xs ++ (r, c) ∷ []
+beside-pushed [] [] r c h = absurd (omega arith)
+beside-pushed [] (x ∷ xs) r c h = refl
+beside-pushed (q ∷ rs) [] r c h = absurd (omega arith)
+beside-pushed (q ∷ rs) (x ∷ xs) r c h = ap (λ (es : Cells). (q, x) ∷ es) (beside-pushed rs xs r c (omega arith))
+
+-- an entry that is written is a resource and a cell that are written
+beside-set : (rs : List (List ℕ)) (xs : List Cell) (i : ℕ) (r : List ℕ) (c : Cell) → zip (set rs i r) (set xs i c) ≡ set (zip rs xs) i (r, c)
+beside-set [] xs i r c = refl
+beside-set (q ∷ rs) [] zero r c = refl
+beside-set (q ∷ rs) [] (suc i) r c = refl
+beside-set (q ∷ rs) (x ∷ xs) zero r c = refl
+beside-set (q ∷ rs) (x ∷ xs) (suc i) r c = ap (λ (es : Cells). (q, x) ∷ es) (beside-set rs xs i r c)
+
+entry-last : (rs : List (List ℕ)) (xs : List Cell) (i : ℕ) (r : List ℕ) (d x : Cell) → i < length rs → i < length xs → get_or (zip rs xs) i (r, x) ≡ (get_or rs i r, get_or xs i d)
+entry-last [] xs i r d x h g = absurd (omega arith)
+entry-last (q ∷ rs) [] i r d x h g = absurd (omega arith)
+entry-last (q ∷ rs) (y ∷ xs) zero r d x h g = refl
+entry-last (q ∷ rs) (y ∷ xs) (suc i) r d x h g = entry-last rs xs i r d x (omega arith) (omega arith)
+
+pub length-beside : (rs : List (List ℕ)) (xs : List Cell) → length rs ≤ length xs → length (zip rs xs) ≡ length rs
+length-beside [] xs h = refl
+length-beside (r ∷ rs) [] h = absurd (omega arith)
+length-beside (r ∷ rs) (x ∷ xs) h = ap suc (length-beside rs xs (omega arith))
+
+-- cells that stand behind are no entries
+pub beside-cut : (rs : List (List ℕ)) (xs : List Cell) (n : ℕ) → length rs ≤ n → zip rs (take n xs) ≡ zip rs xs
+beside-cut [] xs n h = refl
+beside-cut (r ∷ rs) [] zero h = refl
+beside-cut (r ∷ rs) [] (suc n) h = refl
+beside-cut (r ∷ rs) (x ∷ xs) zero h = absurd (omega arith)
+beside-cut (r ∷ rs) (x ∷ xs) (suc n) h = ap (λ (es : Cells). (r, x) ∷ es) (beside-cut rs xs n (omega arith))
+
+-- a cell further behind changes nothing, either
+pub beside-more : (rs : List (List ℕ)) (xs : List Cell) (c : Cell) → length rs ≤ length xs → zip rs (xs ++ c ∷ []) ≡ zip rs xs
+beside-more [] xs c h = refl
+beside-more (r ∷ rs) [] c h = absurd (omega arith)
+beside-more (r ∷ rs) (x ∷ xs) c h = ap (λ (es : Cells). (r, x) ∷ es) (beside-more rs xs c (omega arith))
+
+-- what the entries say of a resource
+
+head-off : (b : Bool) (x : Cell) (o : Option Cell) → cond b (Some x) o ≡ None → (b ≡ false) × (o ≡ None)
+head-off true x o h = absurd (cc)
+head-off false x o h = (refl, h)
+
+-- once its entry has come
+pub cell-pushed : (es : Cells) (r : List ℕ) (c : Cell) → cell_at r es ≡ None → (q : List ℕ) → cell_at q (es ++ (r, c) ∷ []) ≡ cond (same_path r q) (Some c) (cell_at q es)
+cell-pushed [] r c h q = ap (λ (b : Bool). cond b (Some c) None) (same_path-equivalence.symm q r)
+cell-pushed ((k, x) ∷ es) r c h q = elim (same_path_tells q k) [
+  | inl p ↦ (let off : same_path r q ≡ false = ap (same_path r) p.1 ∙ parts.0 in rw p.0 (rw off refl))
+  | inr n ↦ rw n (cell-pushed es r c parts.1 q)
+]
+  where
+    parts : (same_path r k ≡ false) × (cell_at r es ≡ None)
+    parts = head-off (same_path r k) x (cell_at r es) h
+
+-- the resource is the first that passes for it
+one : (r : List ℕ) → IsKeyTest same_path (same_path r)
+one r = λ x y h. ap (λ (z : List ℕ). same_path z y) (same_path-true r x h)
+
+-- once its entry has gone
+pub cell-gone : (es : Cells) (r : List ℕ) (c : Cell) (i : ℕ) → IsDistinct same_path (keys_of es) → slice_get es i ≡ Some (r, c) → (q : List ℕ) → cell_at q (swap_remove es i (r, c)) ≡ cond (same_path r q) None (cell_at q es)
+cell-gone es r c i apart at q =
+    (swap_out same_path same_path-equivalence (same_path r) (one r) es i (r, c) (index-first (same_path r) es i (own_first same_path same_path-equivalence es i r c apart at)) at apart (swap_remove es i (r, c)) refl).updated.0 q
+
+-- once its cell is written
+cell-inserted : (es : Cells) (r : List ℕ) (c : Cell) (q : List ℕ) → cell_at q (insert_entry same_path es r c) ≡ cond (same_path r q) (Some c) (cell_at q es)
+cell-inserted [] r c q = ap (λ (b : Bool). cond b (Some c) None) (same_path-equivalence.symm q r)
+cell-inserted ((k, x) ∷ es) r c q = elim (same_path_tells r k) [
+  | inl p ↦ rw p.0 (rw (ap (λ (z : List ℕ). same_path z q) p.1 ∙ same_path-equivalence.symm k q) (twice (same_path q k) (cell_at q es)))
+  | inr n ↦ rw n (elim (same_path_tells q k) [
+    | inl p ↦ (let off : same_path r q ≡ false = ap (same_path r) p.1 ∙ n in rw p.0 (rw off refl))
+    | inr m ↦ rw m (cell-inserted es r c q)
+  ])
+]
+  where
+    twice : (b : Bool) (o : Option Cell) → cond b (Some c) o ≡ cond b (Some c) (cond b (Some x) o)
+    twice true o = refl
+    twice false o = refl
+
+pub cell-set : (es : Cells) (r : List ℕ) (x c : Cell) (i : ℕ) → IsDistinct same_path (keys_of es) → slice_get es i ≡ Some (r, x) → (q : List ℕ) → cell_at q (set_value_at es i c) ≡ cond (same_path r q) (Some c) (cell_at q es)
+cell-set es r x c i apart at q =
+    ap (cell_at q) (sym (insert_entry-first same_path r c es i (own_first same_path same_path-equivalence es i r x apart at))) ∙ cell-inserted es r c q
+
+-- the cells that stand behind those in use
+
+pub long-still : (xs : List Cell) (n i : ℕ) (c : Cell) → n ≤ length xs → n ≤ length (set xs i c)
+long-still xs n i c h = omega (arith, h, length-set xs i c)
+
+pub idle-still : (xs : List Cell) (n i : ℕ) (c : Cell) → i < n → ((j : ℕ) (d : Cell) → n ≤ j → j < length xs → view_of (get_or xs j d) ≡ no_view)
+    → (j : ℕ) (d : Cell) → n ≤ j → j < length (set xs i c) → view_of (get_or (set xs i c) j d) ≡ no_view
+idle-still xs n i c lt idle j d h g =
+    ap view_of (get_or-set_other xs i j c d (λ e. absurd (omega (arith, lt, h, e)))) ∙ idle j d h (omega (arith, g, length-set xs i c))
+
+-- none of them where the resource isn't in use
+pub unused : (r : List ℕ) (rs : List (List ℕ)) (xs : List Cell) → length rs ≤ length xs → cell_at r (zip rs xs) ≡ None → list_any (same_path r) rs ≡ false
+unused r rs xs long h = ap (list_any (same_path r)) (sym (keys-beside rs xs long)) ∙ (sym (is_some-lookup (same_path r) (zip rs xs)) ∙ ap is_some h)
+
+-- two cells change places, of which the one goes with its resource
+pub beside-swapped : (rs : List (List ℕ)) (xs : List Cell) (i : ℕ) (r : List ℕ) (x : Cell) → length rs ≤ length xs → i < length rs
+    → zip (swap_remove rs i r) (swap xs i (length rs - 1)) ≡ swap_remove (zip rs xs) i (r, x)
+beside-swapped rs [] i r x long lt = absurd (omega arith)
+beside-swapped rs (d ∷ ys) i r x long lt =
+    sym (beside-cut (take m named) (swap xs i m) m (omega (arith, length-take m named)))
+    ∙ ap (zip (take m named)) (take-set (set xs i moved) m (get_or xs i d))
+    ∙ zip-take m named (set xs i moved)
+    ∙ ap (take m) (beside-set rs xs i (get_or rs m r) moved)
+    ∙ ap (λ (e : List ℕ × Cell). take m (set (zip rs xs) i e)) (sym (entry-last rs xs m r d x (omega arith) (omega arith)))
+    ∙ ap (λ (k : ℕ). take (k - 1) (set (zip rs xs) i (get_or (zip rs xs) (k - 1) (r, x)))) (sym long-beside)
+  where
+    xs : List Cell
+    xs = d ∷ ys
+
+    m : ℕ
+    m = length rs - 1
+
+    moved : Cell
+    moved = get_or xs m d
+
+    named : List (List ℕ)
+    named = set rs i (get_or rs m r)
+
+    long-beside : length (zip rs xs) ≡ length rs
+    long-beside = length-beside rs xs long
+
+none-there : (o : Option Cell) → is_some o ≡ false → o ≡ None
+none-there None h = refl
+none-there (Some x) h = absurd (cc)
+
+pub absent : (r : List ℕ) (rs : List (List ℕ)) (xs : List Cell) → length rs ≤ length xs → list_any (same_path r) rs ≡ false → cell_at r (zip rs xs) ≡ None
+absent r rs xs long h = none-there _ (is_some-lookup (same_path r) (zip rs xs) ∙ (ap (list_any (same_path r)) (keys-beside rs xs long) ∙ h))
+
+-- how many are in use
+
+pub count-but_one : (rs : List (List ℕ)) (b : Bool) → b ≡ true → length (in_use rs b) ≡ length rs - 1
+count-but_one rs true h = omega (arith, length-take (length rs - 1) rs)
+count-but_one rs false h = absurd (cc)
+
+pub count-all : (rs : List (List ℕ)) (b : Bool) → b ≡ false → length (in_use rs b) ≡ length rs
+count-all rs true h = absurd (cc)
+count-all rs false h = refl
+
+-- what a search says
+
+split-at : (rs : List (List ℕ)) (n : ℕ) (r : List ℕ) → length rs ≡ n + 1 → slice_get rs n ≡ Some r → rs ≡ take n rs ++ r ∷ []
+split-at [] n r e h = absurd (cc)
+split-at (q ∷ []) zero r e h = ap (λ (o : Option (List ℕ)). unwrap_or o q ∷ []) h
+split-at (q ∷ []) (suc n) r e h = absurd (cc)
+split-at (q ∷ k ∷ rs) zero r e h = absurd (omega (arith, e))
+split-at (q ∷ k ∷ rs) (suc n) r e h = ap (λ (ks : List (List ℕ)). q ∷ ks) (split-at (k ∷ rs) n r (omega (arith, e)) h)
+
+pub split-at-last : (rs : List (List ℕ)) (r : List ℕ) → slice_get rs (length rs - 1) ≡ Some r → rs ≡ take (length rs - 1) rs ++ r ∷ []
+split-at-last rs r h = split-at rs (length rs - 1) r (omega (arith, slice_get_within rs (length rs - 1) r h)) h
+
+slice_get-take : (n : ℕ) (rs : List (List ℕ)) (i : ℕ) → i < n → slice_get (take n rs) i ≡ slice_get rs i
+slice_get-take zero rs i h = absurd (omega (arith, h))
+slice_get-take (suc n) [] i h = refl
+slice_get-take (suc n) (r ∷ rs) zero h = refl
+slice_get-take (suc n) (r ∷ rs) (suc i) h = slice_get-take n rs i (omega (arith, h))
+
+-- what stands at a place in use stands there among all
+pub in_use-at : (rs : List (List ℕ)) (b : Bool) (i : ℕ) → i < length (in_use rs b) → slice_get (in_use rs b) i ≡ slice_get rs i
+in_use-at rs true i h = slice_get-take (length rs - 1) rs i (omega (arith, h, length-take (length rs - 1) rs))
+in_use-at rs false i h = refl
+
+list_any-take : (test : List ℕ → Bool) (n : ℕ) (rs : List (List ℕ)) → ((k : ℕ) (d : List ℕ) → k < n → test (get_or rs k d) ≡ false) → list_any test (take n rs) ≡ false
+list_any-take test zero rs h = refl
+list_any-take test (suc n) [] h = refl
+list_any-take test (suc n) (r ∷ rs) h = rw (h 0 [] (omega arith)) (list_any-take test n rs (λ k d lt. h (suc k) d (omega (arith, lt))))
+
+list_any-front : (test : List ℕ → Bool) (n : ℕ) (rs : List (List ℕ)) → list_any test rs ≡ false → list_any test (take n rs) ≡ false
+list_any-front test zero rs h = refl
+list_any-front test (suc n) [] h = refl
+list_any-front test (suc n) (r ∷ rs) h = let e = or-false (test r) (list_any test rs) h in rw e.0 (list_any-front test n rs e.1)
+  where
+    or-false : (a b : Bool) → (a || b) ≡ false → (a ≡ false) × (b ≡ false)
+    or-false true b h = absurd (cc)
+    or-false false b h = (refl, h)
+
+module _ (eq : List ℕ → List ℕ → Bool) (same : (a b : List ℕ) → eq a b ≡ same_path a b) (r : List ℕ) (rs : List (List ℕ)) where
+  -- none found, none in use
+  pub unnamed : (b : Bool) → false ≡ list_any (eq r) rs → list_any (same_path r) (in_use rs b) ≡ false
+  unnamed true h = list_any-front (same_path r) (length rs - 1) rs (ap (λ (test : List ℕ → Bool). list_any test rs) (λ j q. sym (same r q) j) ∙ sym h)
+  unnamed false h = ap (λ (test : List ℕ → Bool). list_any test rs) (λ j q. sym (same r q) j) ∙ sym h
+
+  module _ (i : ℕ) (found : Some i ≡ position (eq r) rs) where
+    -- the resource stands where it is found
+    pub named-at : slice_get rs i ≡ Some r
+    named-at =
+        let p = position-Some (eq r) rs i r (sym found) in
+        slice_get-get_or rs i r p.0 ∙ ap Some (sym (same_path-true r (get_or rs i r) (sym (same r (get_or rs i r)) ∙ p.1)))
+
+    -- and, where that is no place in use, it isn't in use
+    pub unused-there : (b : Bool) → length (in_use rs b) ≤ i → list_any (same_path r) (in_use rs b) ≡ false
+    unused-there true h =
+        let p = position-Some (eq r) rs i r (sym found) in
+        list_any-take (same_path r) (length rs - 1) rs (λ k d lt. sym (same r (get_or rs k d)) ∙ (position-Some (eq r) rs i d (sym found)).2 k (omega (arith, lt, h, p.0, length-take (length rs - 1) rs)))
+    unused-there false h = absurd (let p = position-Some (eq r) rs i r (sym found) in omega (arith, h, p.0))
+
+-- with no newcomer all are in use
+pub still : (ns : List (List ℕ)) (b : Bool) (ys : List Cell) → b ≡ false → zip (in_use ns b) ys ≡ zip ns ys
+still ns true ys h = absurd (cc)
+still ns false ys h = refl
+
+-- one is fewer once one has gone
+pub fewer : (rs : List (List ℕ)) (i : ℕ) → i < length rs → (ks ns : List (List ℕ)) (b : Bool) → ks ≡ rs → b ≡ false → (out : Option (List ℕ)) → out ≡ slice_get ks i → IfSome out (λ k. ns ≡ swap_remove ks i k) → length (in_use ns b) + 1 ≡ length rs
+fewer rs i lt ks ns true e h out is after = absurd (cc)
+fewer rs i lt ks ns false e h out is after =
+    let at = is ∙ ap (λ (qs : List (List ℕ)). slice_get qs i) e ∙ slice_get-get_or rs i [] lt in
+    let named = subst (λ (o : Option (List ℕ)). IfSome o (λ k. ns ≡ swap_remove ks i k)) at after in
+    let m = length ks - 1 in
+    omega (arith, ap length named, length-take m (set ks i (get_or ks m (get_or rs i []))), length-set ks i (get_or ks m (get_or rs i [])), ap length e, lt)
+
+-- a resource goes, and its cell changes places with the last one in use
+
+module _ (rs : List (List ℕ)) (xs : List Cell) (es : Cells) (e : zip rs xs ≡ es) (long : length rs ≤ length xs) (i : ℕ) (lt : i < length rs) where
+  pub gone-there : IsDistinct same_path rs → (ns : List (List ℕ)) (ys : List Cell) (out : Option (List ℕ)) → out ≡ slice_get rs i → IfSome out (λ k. ns ≡ swap_remove rs i k) → ys ≡ swap xs i (length rs - 1)
+      → (r : List ℕ) (c : Cell) → slice_get es i ≡ Some (r, c) → (q : List ℕ) → cell_at q (zip ns ys) ≡ cond (same_path r q) None (cell_at q es)
+  gone-there apart ns ys out is after swapped r c at q =
+      (λ j. cell_at q (zip (named j) (swapped j)))
+      ∙ ap (cell_at q) (beside-swapped rs xs i r c long lt)
+      ∙ cell-gone (zip rs xs) r c i (subst (IsDistinct same_path) (sym (keys-beside rs xs long)) apart) there q
+      ∙ ap (λ (os : Cells). cond (same_path r q) None (cell_at q os)) e
+    where
+      there : slice_get (zip rs xs) i ≡ Some (r, c)
+      there = ap (λ (os : Cells). slice_get os i) e ∙ at
+
+      named : ns ≡ swap_remove rs i r
+      named = subst (λ (o : Option (List ℕ)). IfSome o (λ k. ns ≡ swap_remove rs i k)) (is ∙ resource-at rs xs i r c there) after
+
+  -- the cells behind those in use are idle then
+  pub idle-swapped : ((r : List ℕ) (c : Cell) → slice_get es i ≡ Some (r, c) → view_of c ≡ no_view) → ((j : ℕ) (d : Cell) → length rs ≤ j → j < length xs → view_of (get_or xs j d) ≡ no_view)
+      → (j : ℕ) (d : Cell) → length rs ≤ j + 1 → j < length (swap xs i (length rs - 1)) → view_of (get_or (swap xs i (length rs - 1)) j d) ≡ no_view
+  idle-swapped left idle = go xs refl
+    where
+      go : (zs : List Cell) → zs ≡ xs → (j : ℕ) (d : Cell) → length rs ≤ j + 1 → j < length (swap zs i (length rs - 1)) → view_of (get_or (swap zs i (length rs - 1)) j d) ≡ no_view
+      go [] z j d h g = absurd (omega (arith, lt, long, ap length z))
+      go (x ∷ zs) z j d h g = elim (cases_lt j (length rs)) [
+        | inl less ↦ ap view_of (get_or-set_at (set (x ∷ zs) i (get_or (x ∷ zs) (length rs - 1) x)) (length rs - 1) j (get_or (x ∷ zs) i x) d (omega (arith, less, h)) (omega (arith, lt, long, longer, written)))
+            ∙ left (get_or rs i []) (get_or (x ∷ zs) i x) (ap (λ (os : Cells). slice_get os i) (sym e) ∙ slice_get-zip_some rs xs i _ _ (slice_get-get_or rs i [] lt) (ap (λ (os : List Cell). slice_get os i) (sym z) ∙ slice_get-get_or (x ∷ zs) i x (omega (arith, lt, long, longer))))
+        | inr more ↦ ap view_of (get_or-set_other (set (x ∷ zs) i (get_or (x ∷ zs) (length rs - 1) x)) (length rs - 1) j (get_or (x ∷ zs) i x) d (λ f. absurd (omega (arith, f, more, lt)))
+            ∙ get_or-set_other (x ∷ zs) i j (get_or (x ∷ zs) (length rs - 1) x) d (λ f. absurd (omega (arith, f, more, lt)))
+            ∙ ap (λ (os : List Cell). get_or os j d) z)
+            ∙ idle j d more (omega (arith, g, longer, length-swap (x ∷ zs) i (length rs - 1)))
+      ]
+        where
+          longer : length (x ∷ zs) ≡ length xs
+          longer = ap length z
+
+          written : length (set (x ∷ zs) i (get_or (x ∷ zs) (length rs - 1) x)) ≡ length (x ∷ zs)
+          written = length-set (x ∷ zs) i (get_or (x ∷ zs) (length rs - 1) x)
+
+-- all but the last of them
+pub last-off : (rs : List (List ℕ)) (r : List ℕ) (ks : List (List ℕ)) (b : Bool) → ks ≡ rs ++ r ∷ [] → b ≡ true → in_use ks b ≡ rs
+last-off rs r ks true e h = ap (λ (qs : List (List ℕ)). take (length qs - 1) qs) e ∙ ap (λ n. take n (rs ++ r ∷ [])) (omega (arith, length-append rs (r ∷ []))) ∙ take-append-le (length rs) rs (r ∷ []) (omega arith) ∙ take_all (length rs) rs (omega arith)
+last-off rs r ks false e h = absurd (cc)
+
+-- its place is behind those in use
+pub count-place : (rs : List (List ℕ)) (r : List ℕ) (ks : List (List ℕ)) (n : ℕ) → ks ≡ rs ++ r ∷ [] → n ≡ length ks → n - 1 ≡ length rs
+count-place rs r ks n come is = omega (arith, is, ap length come, length-append rs (r ∷ []))
+
+-- cells that are the same up to the last resource stand beside the resources alike
+pub beside-front : (rs : List (List ℕ)) (xs ys : List Cell) → take (length rs) ys ≡ take (length rs) xs → zip rs ys ≡ zip rs xs
+beside-front rs xs ys h = sym (beside-cut rs ys (length rs) (omega arith)) ∙ ap (zip rs) h ∙ beside-cut rs xs (length rs) (omega arith)
+
+-- a resource comes, with a cell that nobody used
+
+module _ (rs : List (List ℕ)) (xs ys : List Cell) (cs : Cells) (e : zip rs xs ≡ cs) (r : List ℕ) (n : ℕ) (is : n ≡ length rs) (front : take n ys ≡ take n xs) where
+  front-alike : zip rs ys ≡ cs
+  front-alike = beside-front rs xs ys (subst (λ m. take m ys ≡ take m xs) is front) ∙ e
+
+  module _ (ks : List (List ℕ)) (b : Bool) (come : ks ≡ rs ++ r ∷ []) where
+    -- as a newcomer it changes nothing
+    pub newcomer-apart : b ≡ true → zip (in_use ks b) ys ≡ cs
+    newcomer-apart h = ap (λ (qs : List (List ℕ)). zip qs ys) (last-off rs r ks b come h) ∙ front-alike
+
+    -- nor does it with a cell that is written
+    pub newcomer-still-apart : b ≡ true → (c : Cell) → zip (in_use ks b) (set ys n c) ≡ cs
+    newcomer-still-apart h c =
+        ap (λ (qs : List (List ℕ)). zip qs (set ys n c)) (last-off rs r ks b come h)
+        ∙ beside-front rs ys (set ys n c) (ap (λ m. take (length rs) (set ys m c)) is ∙ take-set ys (length rs) c)
+        ∙ front-alike
+
+    -- in use it has the cell
+    pub cell-come : (c : Cell) → n < length ys → cell_at r cs ≡ None → (q : List ℕ) → cell_at q (zip ks (set ys n c)) ≡ cond (same_path r q) (Some c) (cell_at q cs)
+    cell-come c lt none q =
+        (λ j. cell_at q (zip (come j) (set ys (is j) c)))
+        ∙ ap (cell_at q) (beside-pushed rs ys r c (omega (arith, lt, is)))
+        ∙ cell-pushed (zip rs ys) r c (ap (cell_at r) front-alike ∙ none) q
+        ∙ ap (λ (os : Cells). cond (same_path r q) (Some c) (cell_at q os)) front-alike
+
+    -- and the cells behind are idle as they were
+    pub long-come : n < length ys → (c : Cell) → length ks ≤ length (set ys n c)
+    long-come lt c = omega (arith, lt, is, ap length come, length-append rs (r ∷ []), length-set ys n c)
+
+    pub idle-come : AreIdleFrom n ys → (c : Cell) → AreIdleFrom (length ks) (set ys n c)
+    idle-come idle c = λ j d h g.
+        ap view_of (get_or-set_other ys n j c d (λ f. absurd (omega (arith, f, h, is, ap length come, length-append rs (r ∷ [])))))
+        ∙ idle j d (omega (arith, h, is, ap length come, length-append rs (r ∷ []))) (omega (arith, g, length-set ys n c))
+
+-- where a resource stands
+
+-- what a search finds stands at its place
+pub found-place : (rs : List (List ℕ)) (xs : List Cell) (r : List ℕ) (i : ℕ) → IsDistinct same_path rs → length rs ≤ length xs → slice_get rs i ≡ Some r → IsCellAt r (zip rs xs) i
+found-place rs [] r i apart long at = absurd (let lt = slice_get_within rs i r at in omega (arith, lt, long))
+found-place rs (d ∷ ys) r i apart long at = record {
+  cell = get_or (d ∷ ys) i d;
+  entry = entry;
+  found = lookup_from_place same_path-equivalence (zip rs (d ∷ ys)) i r _ (subst (IsDistinct same_path) (sym (keys-beside rs (d ∷ ys) long)) apart) entry;
+}
+  where
+    lt : i < length rs
+    lt = slice_get_within rs i r at
+
+    entry : slice_get (zip rs (d ∷ ys)) i ≡ Some (r, get_or (d ∷ ys) i d)
+    entry = slice_get-zip_some rs (d ∷ ys) i r _ at (slice_get-get_or (d ∷ ys) i d (omega (arith, lt, long)))
+
+-- the cell at a place is read and written
+module _ (rs : List (List ℕ)) (xs : List Cell) (cs : Cells) (e : zip rs xs ≡ cs) (r : List ℕ) (o : Option ℕ) (i : ℕ) (is : o ≡ Some i) (place : IsPlace r cs o) where
+  at : IsCellAt r cs i
+  at = subst (IsPlace r cs) is place
+
+  here : slice_get (zip rs xs) i ≡ Some (r, at.cell)
+  here = ap (λ (es : Cells). slice_get es i) e ∙ at.entry
+
+  -- it is one of the cells in use
+  pub cell-within : i < length xs
+  cell-within = slice_get_within xs i at.cell (cell-at rs xs i r at.cell here)
+
+  pub resource-within : i < length rs
+  resource-within = slice_get_within rs i r (resource-at rs xs i r at.cell here)
+
+  module _ (x : Cell) (read : x ≡ get_or xs i x) where
     same-read : at.cell ≡ x
-    same-read = read-at m.entries r i at.cell x here read
+    same-read = sym (read ∙ get_or_from_slice_get xs i at.cell x (cell-at rs xs i r at.cell here))
 
     -- it is the cell of the resource
     pub there : Some x ≡ cell_at r cs
@@ -96,33 +427,32 @@ module _ (eq : List ℕ → List ℕ → Bool) (same : (a b : List ℕ) → eq a
     room-there n h = subst (HasRoomFor n) same-read (h r at.cell at.entry)
 
     module _ (c : Cell) where
-      pub as-long : length (set_value_at m.entries i c) ≡ length m.entries
-      as-long = length-written m.entries i c
+      pub written-entry : slice_get (zip rs (set xs i c)) i ≡ Some (r, c)
+      written-entry = slice_get-zip_some rs (set xs i c) i r c (resource-at rs xs i r at.cell here) (set-there xs i c cell-within)
 
       -- what is written there is the cell of the entry
-      pub written-cell : (q : List ℕ) (y : Cell) → slice_get (set_value_at m.entries i c) i ≡ Some (q, y) → c ≡ y
-      written-cell q y h = same-cell r q c y (sym (write-at m.entries r i at.cell c here) ∙ h)
+      pub written-cell : (q : List ℕ) (y : Cell) → slice_get (zip rs (set xs i c)) i ≡ Some (q, y) → c ≡ y
+      written-cell q y h = same-cell r q c y (sym written-entry ∙ h)
 
-      pub written-entry : slice_get (set_value_at m.entries i c) i ≡ Some (r, c)
-      written-entry = write-at m.entries r i at.cell c here
+      module _ (apart : IsDistinct same_path rs) (long : length rs ≤ length xs) where
+        -- and of the resource
+        pub wrote : (q : List ℕ) → cell_at q (zip rs (set xs i c)) ≡ cond (same_path r q) (Some c) (cell_at q cs)
+        wrote q =
+            ap (cell_at q) (beside-written rs xs i c)
+            ∙ (cell-set (zip rs xs) r at.cell c i (subst (IsDistinct same_path) (sym (keys-beside rs xs long)) apart) here q
+            ∙ ap (λ (es : Cells). cond (same_path r q) (Some c) (cell_at q es)) e)
 
-      -- and of the resource
-      pub wrote : IsUnique eq m → (q : List ℕ) → cell_at q (set_value_at m.entries i c) ≡ cond (same_path r q) (Some c) (cell_at q cs)
-      wrote unique q =
-          (updates-with_value_at m i c same_path-equivalence (subst (λ (t : List ℕ → List ℕ → Bool). IsUnique t m) (λ j a b. same a b j) unique) r at.cell here).0 q
-          ∙ ap (λ (xs : Cells). cond (same_path r q) (Some c) (cell_at q xs)) e
+        pub wrote-kept : (v : View) → AreKeptCells cs → IsKeptCell c → view_of c ≡ v → CellsBecame r v cs (zip rs (set xs i c))
+        wrote-kept v k kept h = became-view r (view_of c) v cs _ h (became same_path (λ a b. refl) r (Some c) cs _ k kept wrote)
 
-      pub wrote-kept : IsUnique eq m → (v : View) → AreKeptCells cs → IsKeptCell c → view_of c ≡ v → CellsBecame r v cs (set_value_at m.entries i c)
-      wrote-kept unique v k kept h = became-view r (view_of c) v cs (set_value_at m.entries i c) h (became same_path (λ a b. refl) r (Some c) cs (set_value_at m.entries i c) k kept (wrote unique))
-
-      -- the resource's cell stands where it stood
-      pub still-at : IsUnique eq m → IsCellAt r (set_value_at m.entries i c) i
-      still-at unique = record {
-        cell = c;
-        entry = written-entry;
-        found = wrote unique r ∙ ap (λ (b : Bool). cond b (Some c) (cell_at r cs)) (same_path-refl r);
-      }
+        -- the resource's cell stands where it stood
+        pub still-at : IsCellAt r (zip rs (set xs i c)) i
+        still-at = record {
+          cell = c;
+          entry = written-entry;
+          found = wrote r ∙ ap (λ (b : Bool). cond b (Some c) (cell_at r cs)) (same_path-refl r);
+        }
 
       -- with the room of what is written
-      pub room-written : (n : ℕ) → HasRoomFor n c → HasRoomAt (set_value_at m.entries i c) i n
-      room-written n h = λ q y e. subst (HasRoomFor n) (written-cell q y e) h
+      pub room-written : (n : ℕ) → HasRoomFor n c → HasRoomAt (zip rs (set xs i c)) i n
+      room-written n h = λ q y f. subst (HasRoomFor n) (written-cell q y f) h

@@ -222,8 +222,3 @@ HasRoomAt cs i n = (r : List ℕ) (c : Cell) → slice_get cs i ≡ Some (r, c) 
 -- what contracts see of the table: the cells in use
 pub record Table : Type 0 where
   pub entries : Cells
-
--- cells that nobody uses, with room for all that are used
-pub record HasSpare (used : ℕ) (spare : Vec Cell) : Type 0 where
-  pub idle : All (λ c. view_of c ≡ no_view) spare.items
-  pub room : used + vec_len spare ≤ vec_capacity spare

@@ -136,6 +136,7 @@ impl Cell {
         requires idle { view_of self.old ≡ no_view }
         ensures view { OnOk result (view_of self.new ≡ record { holders = holder ∷ []; waiting = [] }) }
         ensures kept { OnOk result (IsKeptCell self.new) }
+        ensures err { OnErr result (view_of self.new ≡ no_view) }
     {
         self.holders.open(holder)
     }

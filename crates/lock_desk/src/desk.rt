@@ -273,12 +273,13 @@ impl Desk {
         ensures kept { DoesKeep self.old self.new }
     {
         let locker = &mut self.lockers[position_of(session)];
-        if let Some(resource) = locker.release_last() {
+        if let Some(last) = locker.release_last() {
             self.cells.free(
                 &mut self.lockers,
                 &mut self.waits,
                 session,
-                resource,
+                last.likely,
+                last.resource,
                 Part::Lock,
             );
         }
@@ -337,6 +338,7 @@ impl Desk {
                 &mut self.lockers,
                 &mut self.waits,
                 session,
+                0,
                 resource,
                 Part::Request,
             );
@@ -465,13 +467,13 @@ impl Desk {
     }
 
     /// Where the cell of the resource stands that the call names.
-    fn place_of(&self, call: Call) -> Option<usize>
-        ensures { IsFound self.now call result }
+    fn find(&mut self, call: Call) -> Option<usize>
+        ensures found { IsFound self.old call result }
+        ensures same { self.new ≡ self.old }
     {
         match call {
-            Call::Lock(resource, _) | Call::Convert(resource, _) | Call::Release(resource) => {
-                self.cells.place_of(resource)
-            }
+            Call::Lock(resource, _) => self.cells.find(resource),
+            Call::Convert(resource, _) | Call::Release(resource) => self.cells.place_of(resource),
             Call::Begin | Call::Poll | Call::Commit | Call::Abort => None,
         }
     }
@@ -541,7 +543,7 @@ impl Desk {
         let made = call;
         self.index(session, made);
         let named = call;
-        let place = self.place_of(named);
+        let place = self.find(named);
         let asked = call;
         match self.refusal(session, place, asked) {
             Some(why) => Ok(Reply::Refused(why)),

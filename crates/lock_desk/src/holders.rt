@@ -180,6 +180,7 @@ impl Holders {
         requires nobody { self.old.items ≡ [] }
         ensures ok { OnOk result (self.new.items ≡ holder ∷ []) }
         ensures room { OnOk result (1 ≤ self.new.capacity) }
+        ensures err { OnErr result (self.new.items ≡ self.old.items) }
     {
         self.sessions.reserve(1)?;
         self.codes.reserve(1)?;

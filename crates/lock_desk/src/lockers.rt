@@ -8,7 +8,7 @@ ghost use Rattle.lock_desk.specs.Cells.{has_path};
 ghost use Rattle.lock_desk.specs.ChildCounts.{has_child, IsUnder};
 ghost use Rattle.lock_desk.specs.Lockers.{no_standing, resource_asked, is_fresh, wanted_in, standing_of, standing_after_grant, standing_after_asking, is_wanted, locks_to_come, IsOfKind, IsComingUnder, IsKeptLocker};
 
-use crate::locks::Locks;
+use crate::locks::{LastLock, Locks};
 use lock_rules::{MAX_LOCKS, Transaction};
 use lock_tree::Resource;
 use std::alloc::{AllocError, Global};
@@ -217,7 +217,7 @@ impl Locker {
             latest: place,
             above: self.likely_parent(resource),
         };
-        self.held.push(resource);
+        self.held.push(resource, place);
     }
 
     /// The session waits.
@@ -233,15 +233,15 @@ impl Locker {
         self.wanted = Some(request);
     }
 
-    /// The request that the session waits for is granted.
-    pub(crate) fn grant(&mut self, resource: Resource)
+    /// The request that the session waits for is granted: the resource's cell stands at this place.
+    pub(crate) fn grant(&mut self, resource: Resource, place: usize)
         requires kept { IsKeptLocker self.old }
         requires waits { is_wanted resource (wanted_in self.old.wanted) ≡ true }
         ensures standing { standing_of self.new ≡ standing_after_grant resource (standing_of self.old) }
         ensures kept { IsKeptLocker self.new }
     {
         if is_fresh(self.wanted) {
-            self.held.push(resource);
+            self.held.push(resource, place);
         }
         self.wanted = None;
     }
@@ -271,8 +271,8 @@ impl Locker {
     }
 
     /// The session doesn't hold the last resource of its list any more: which one that was.
-    pub(crate) fn release_last(&mut self) -> Option<Resource>
-        ensures some { IfSome result (λ r. self.old.held.items ≡ self.new.held.items ++ r ∷ []) }
+    pub(crate) fn release_last(&mut self) -> Option<LastLock>
+        ensures some { IfSome result (λ last. self.old.held.items ≡ self.new.held.items ++ last.resource ∷ []) }
         ensures none { IfNone result (self.old.held.items ≡ []) }
         ensures transaction { self.new.transaction ≡ self.old.transaction }
         ensures wanted { self.new.wanted ≡ self.old.wanted }

@@ -21,11 +21,20 @@ const SHORT: usize = 16;
 /// early: those that were indexed, each with the number of its children among them, and those that came since.
 /// There is room to index all of them, so that a release takes no memory. The counts stand until the transaction's
 /// locks are all given back, one after another, and again once none is left.
+/// Beside those that came since it is noted where the cell of each stood when it was granted; nothing rests on that.
 #[derive(Drop)]
 pub struct Locks {
     indexed: IndexMap<Resource, u32>,
     recent: Vec<Resource>,
+    places: Vec<usize>,
     stand: bool,
+}
+
+/// The lock that came last, and where its cell is likely to stand.
+#[derive(Clone, Copy, Debug, PartialEq, Eq)]
+pub struct LastLock {
+    pub(crate) resource: Resource,
+    pub(crate) likely: usize,
 }
 
 impl Model for Locks {
@@ -38,6 +47,28 @@ impl Model for Locks {
     ghost view = { locks_of };
 
     ghost invariant = { AreIndexed };
+}
+
+/// Notes where the cell of one lock more stands, where there is room.
+fn note(places: &mut Vec<usize>, place: usize) {
+    if places.len() < places.capacity() {
+        places.push_reserved(place);
+    }
+}
+
+/// What was noted last.
+fn recall(places: &mut Vec<usize>) -> usize {
+    match places.pop() {
+        Some(place) => place,
+        None => 0,
+    }
+}
+
+/// The note at this index goes.
+fn strike(places: &mut Vec<usize>, index: usize) {
+    if index < places.len() {
+        let _struck = places.remove(index);
+    }
 }
 
 fn is_child(resource: Resource, other: Resource) -> bool
@@ -210,6 +241,7 @@ impl Locks {
         Locks {
             indexed: IndexMap::new(alloc),
             recent: Vec::new(alloc),
+            places: Vec::new(alloc),
             stand: true,
         }
     }
@@ -241,29 +273,32 @@ impl Locks {
         ensures items { self.new.items ≡ self.old.items }
     {
         self.recent.reserve(1)?;
+        self.places.reserve(1)?;
         self.indexed.reserve(self.recent.len() + 1)
     }
 
-    /// One more comes.
-    pub(crate) fn push(&mut self, resource: Resource)
+    /// One more comes, whose cell stands at this place.
+    pub(crate) fn push(&mut self, resource: Resource, place: usize)
         requires under { IsUnder self.old.items resource }
         requires room { 0 < self.old.room }
         ensures { self.new.items ≡ self.old.items ++ resource ∷ [] }
     {
         self.recent.push_reserved(resource);
+        note(&mut self.places, place);
     }
 
-    /// The last one goes: which one that was.
-    pub(crate) fn pop(&mut self) -> Option<Resource>
-        ensures some { IfSome result (λ r. self.old.items ≡ self.new.items ++ r ∷ []) }
+    /// The last one goes.
+    pub(crate) fn pop(&mut self) -> Option<LastLock>
+        ensures some { IfSome result (λ last. self.old.items ≡ self.new.items ++ last.resource ∷ []) }
         ensures none { IfNone result (self.old.items ≡ []) }
     {
+        let likely = recall(&mut self.places);
         if let Some(resource) = self.recent.pop() {
-            return Some(resource);
+            return Some(LastLock { resource, likely });
         }
         let (resource, _) = self.indexed.pop()?;
         self.stand = self.indexed.is_empty();
-        Some(resource)
+        Some(LastLock { resource, likely })
     }
 
     /// Makes the index of all, where they are more than can be looked through.
@@ -276,6 +311,7 @@ impl Locks {
         if self.stand && self.recent.len() > SHORT {
             index_all(&mut self.indexed, &self.recent);
             self.recent.clear();
+            self.places.clear();
         }
     }
 
@@ -290,6 +326,7 @@ impl Locks {
     {
         if let Some(place) = search(&self.recent, resource) {
             let _removed = self.recent.remove(place);
+            strike(&mut self.places, place);
             return;
         }
         same_path_is_equality();

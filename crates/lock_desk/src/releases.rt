@@ -10,8 +10,8 @@ use crate::lockers::Locker;
 use crate::positions::position_of;
 use lock_tree::Resource;
 
-/// Grants the requests at the front of the queue, up to the first that doesn't fit.
-pub(crate) fn promote(cell: &mut Cell, resource: Resource, lockers: &mut Vec<Locker>)
+/// Grants the requests at the front of the queue, up to the first that doesn't fit, at a cell that stands at this place.
+pub(crate) fn promote(cell: &mut Cell, place: usize, resource: Resource, lockers: &mut Vec<Locker>)
     requires room { HasRoom cell.old }
     requires once { IsOnce (view_of cell.old) }
     requires agree { DoAgree resource (view_of cell.old) (standings_of lockers.old.items) }
@@ -29,7 +29,7 @@ pub(crate) fn promote(cell: &mut Cell, resource: Resource, lockers: &mut Vec<Loc
     while let Some(next) = cell.next_grant(granted, shared) {
         shared = cell.admit(next);
         let locker = &mut lockers[position_of(next.session)];
-        locker.grant(resource);
+        locker.grant(resource, place);
         granted += 1;
     }
     cell.pass(granted);

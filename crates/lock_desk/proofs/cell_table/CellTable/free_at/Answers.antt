@@ -1,135 +1,155 @@
-use Rattle.std.proofs.Common.{◌+◌, ◌∙◌, ap, arith, sym, subst, refl}
+use Rattle.std.proofs.Common.{◌+◌, ◌∙◌, ap, arith, sym, subst, refl, length, set}
 use Rattle.std.proofs.lemmas.Bool.{not-true, not-false}
 use Rattle.waits_for.specs.Pairs.{pairs_of}
 use Rattle.lock_tree.specs.Paths.{same_path}
+use Rattle.lock_desk.specs.Tables.{in_use}
 use Rattle.lock_desk.specs.Cells.{View, Table, view_of, view_in, is_busy}
+use Rattle.lock_desk.specs.Finding.{IsOfSessions}
 use Rattle.lock_desk.specs.Lockers.{standings_of, DoAgree}
 use Rattle.lock_desk.proofs.CellTable.{kept-at, idle-view}
 use Rattle.lock_desk.proofs.CellGivesUp.{view-left, view-promoted, once-there, free-kept, free-idle, agree-there}
-use Rattle.lock_desk.proofs.Places.{there, as-long, written-cell, written-entry, wrote}
+use Rattle.lock_desk.proofs.Places.{length-beside, apart-in_use, cell-within, resource-within, long-still, idle-still, there, written-cell, written-entry, wrote}
 use Rattle.lock_desk.proofs.SessionsInRange.{numbered-agree}
 use Rattle.lock_desk.proofs.WritingWaits.{emptied-still, follows-freed}
 use Rattle.lock_desk.proofs.cell_table.CellTable.free_at.Goals as goal
+
+pub index_mut-cell-requires : goal.index_mut-cell-requires
+index_mut-cell-requires c =
+    let rs = in_use c.self.inside.resources.keys c.self.inside.newcomer in
+    let e = ap (λ (t : Table). t.entries) c.self.view_is in
+    omega (arith, cell-within rs c.self.inside.cells.items c.args.self.now.entries e c.args.resource c.args.place c.in-Some.place c.in-Some.is c.requires.place, c.self.inside.cells.ok.0)
+
+pub clear_queue-requires : goal.clear_queue-requires
+clear_queue-requires c =
+    let cs = c.args.self.now.entries in
+    let r = c.args.resource in
+    let rs = in_use c.self.inside.resources.keys c.self.inside.newcomer in
+    let xs = c.self.inside.cells.items in
+    let e = ap (λ (t : Table). t.entries) c.self.view_is in
+    let x = c.index_mut-cell.result.now in
+    let t = there rs xs cs e r c.args.place c.in-Some.place c.in-Some.is c.requires.place x c.index_mut-cell.ensures.value in
+    record { within = (subst (IsOfSessions c.args.waits.now.rows.sessions) (sym (ap view_in t)) c.requires.within).waiting }
 
 pub give_up-requires-clause-rising : goal.give_up-requires-clause-rising
 give_up-requires-clause-rising c =
     let cs = c.args.self.now.entries in
     let r = c.args.resource in
-    let m = c.self.inside.cells in
+    let rs = in_use c.self.inside.resources.keys c.self.inside.newcomer in
+    let xs = c.self.inside.cells.items in
     let e = ap (λ (t : Table). t.entries) c.self.view_is in
     let x = c.index_mut-cell.result.now in
-    let t = there _ c.same_path_is_equality.ensures.code m cs e r c.args.place c.in-Some.place c.in-Some.is c.requires.place x c.index_mut-cell.ensures.value in
+    let t = there rs xs cs e r c.args.place c.in-Some.place c.in-Some.is c.requires.place x c.index_mut-cell.ensures.value in
     (kept-at r cs x c.requires.cells t).once.rising
 
 pub give_up-requires-clause-room : goal.give_up-requires-clause-room
 give_up-requires-clause-room c =
     let cs = c.args.self.now.entries in
     let r = c.args.resource in
-    let m = c.self.inside.cells in
+    let rs = in_use c.self.inside.resources.keys c.self.inside.newcomer in
+    let xs = c.self.inside.cells.items in
     let e = ap (λ (t : Table). t.entries) c.self.view_is in
     let x = c.index_mut-cell.result.now in
-    let t = there _ c.same_path_is_equality.ensures.code m cs e r c.args.place c.in-Some.place c.in-Some.is c.requires.place x c.index_mut-cell.ensures.value in
+    let t = there rs xs cs e r c.args.place c.in-Some.place c.in-Some.is c.requires.place x c.index_mut-cell.ensures.value in
     (kept-at r cs x c.requires.cells t).room
 
 pub promote-requires-clause-once : goal.promote-requires-clause-once
 promote-requires-clause-once c =
     let cs = c.args.self.now.entries in
     let r = c.args.resource in
-    let m = c.self.inside.cells in
+    let rs = in_use c.self.inside.resources.keys c.self.inside.newcomer in
+    let xs = c.self.inside.cells.items in
     let e = ap (λ (t : Table). t.entries) c.self.view_is in
     let x = c.index_mut-cell.result.now in
-    let t = there _ c.same_path_is_equality.ensures.code m cs e r c.args.place c.in-Some.place c.in-Some.is c.requires.place x c.index_mut-cell.ensures.value in
+    let t = there rs xs cs e r c.args.place c.in-Some.place c.in-Some.is c.requires.place x c.index_mut-cell.ensures.value in
     once-there c.args.part r c.args.session cs x c.give_up.new.self t c.give_up.ensures.view (kept-at r cs x c.requires.cells t).once
 
 pub promote-requires-clause-agree : goal.promote-requires-clause-agree
 promote-requires-clause-agree c =
     let cs = c.args.self.now.entries in
     let r = c.args.resource in
-    let m = c.self.inside.cells in
+    let rs = in_use c.self.inside.resources.keys c.self.inside.newcomer in
+    let xs = c.self.inside.cells.items in
     let e = ap (λ (t : Table). t.entries) c.self.view_is in
     let x = c.index_mut-cell.result.now in
-    let t = there _ c.same_path_is_equality.ensures.code m cs e r c.args.place c.in-Some.place c.in-Some.is c.requires.place x c.index_mut-cell.ensures.value in
+    let t = there rs xs cs e r c.args.place c.in-Some.place c.in-Some.is c.requires.place x c.index_mut-cell.ensures.value in
     let v = view-left c.args.part r c.args.session cs x c.give_up.new.self t c.give_up.ensures.view in
     subst (λ (w : View). DoAgree r w (standings_of c.args.lockers.now.items)) (sym v) c.requires.agree
 
-pub keep-requires-clause-spare : goal.keep-requires-clause-spare
-keep-requires-clause-spare c =
-    let cs = c.args.self.now.entries in
-    let r = c.args.resource in
-    let m = c.self.inside.cells in
-    let e = ap (λ (t : Table). t.entries) c.self.view_is in
-    let x = c.index_mut-cell.result.now in
-    record {
-      idle = c.self.invariant.idle;
-      room = omega (arith, as-long _ c.same_path_is_equality.ensures.code m cs e r c.args.place c.in-Some.place c.in-Some.is c.requires.place x c.index_mut-cell.ensures.value c.promote.new.cell, c.self.invariant.room);
-    }
+pub invariant_of-self-else-is_idle : goal.invariant_of-self-else-is_idle
+invariant_of-self-else-is_idle c = record {
+  long = long-still _ _ c.in-Some.place c.promote.new.cell c.self.invariant.long;
+  idle = idle-still _ _ c.in-Some.place c.promote.new.cell (resource-within (in_use c.self.inside.resources.keys c.self.inside.newcomer) c.self.inside.cells.items c.args.self.now.entries (ap (λ (t : Table). t.entries) c.self.view_is) c.args.resource c.args.place c.in-Some.place c.in-Some.is c.requires.place) c.self.invariant.idle;
+}
 
-pub keep-requires-clause-idle : goal.keep-requires-clause-idle
-keep-requires-clause-idle c = λ q y h.
+pub vacate-requires-clause-within : goal.vacate-requires-clause-within
+vacate-requires-clause-within c =
+    let cs = c.args.self.now.entries in
+    let rs = in_use c.self.inside.resources.keys c.self.inside.newcomer in
+    let xs = c.self.inside.cells.items in
+    let e = ap (λ (t : Table). t.entries) c.self.view_is in
+    let new = c.promote.new.cell in
+    let within = resource-within rs xs cs e c.args.resource c.args.place c.in-Some.place c.in-Some.is c.requires.place in
+    omega (arith, within, length-beside rs (set xs c.in-Some.place new) (long-still xs (length rs) c.in-Some.place new c.self.invariant.long))
+
+pub vacate-requires-clause-idle : goal.vacate-requires-clause-idle
+vacate-requires-clause-idle c = λ q y h.
     let cs = c.args.self.now.entries in
     let r = c.args.resource in
-    let m = c.self.inside.cells in
+    let rs = in_use c.self.inside.resources.keys c.self.inside.newcomer in
+    let xs = c.self.inside.cells.items in
     let e = ap (λ (t : Table). t.entries) c.self.view_is in
     let x = c.index_mut-cell.result.now in
     let new = c.promote.new.cell in
-    ap view_of (sym (written-cell _ c.same_path_is_equality.ensures.code m cs e r c.args.place c.in-Some.place c.in-Some.is c.requires.place x c.index_mut-cell.ensures.value new q y h)) ∙ idle-view (view_of new) (not-true (is_busy (view_of new)) (sym c.is_idle.ensures ∙ c.if-is_idle.true))
-
-pub invariant_of-self-else-is_idle : goal.invariant_of-self-else-is_idle
-invariant_of-self-else-is_idle c =
-    let cs = c.args.self.now.entries in
-    let r = c.args.resource in
-    let m = c.self.inside.cells in
-    let e = ap (λ (t : Table). t.entries) c.self.view_is in
-    let x = c.index_mut-cell.result.now in
-    record {
-      idle = c.self.invariant.idle;
-      room = omega (arith, as-long _ c.same_path_is_equality.ensures.code m cs e r c.args.place c.in-Some.place c.in-Some.is c.requires.place x c.index_mut-cell.ensures.value c.promote.new.cell, c.self.invariant.room);
-    }
+    ap view_of (sym (written-cell rs xs cs e r c.args.place c.in-Some.place c.in-Some.is c.requires.place x c.index_mut-cell.ensures.value new q y h)) ∙ idle-view (view_of new) (not-true (is_busy (view_of new)) (sym c.is_idle.ensures ∙ c.if-is_idle.true))
 
 pub returns-then-is_idle-clause-cells : goal.returns-then-is_idle-clause-cells
 returns-then-is_idle-clause-cells c =
     let cs = c.args.self.now.entries in
     let r = c.args.resource in
-    let m = c.self.inside.cells in
+    let rs = in_use c.self.inside.resources.keys c.self.inside.newcomer in
+    let xs = c.self.inside.cells.items in
     let e = ap (λ (t : Table). t.entries) c.self.view_is in
     let x = c.index_mut-cell.result.now in
-    let t = there _ c.same_path_is_equality.ensures.code m cs e r c.args.place c.in-Some.place c.in-Some.is c.requires.place x c.index_mut-cell.ensures.value in
+    let t = there rs xs cs e r c.args.place c.in-Some.place c.in-Some.is c.requires.place x c.index_mut-cell.ensures.value in
     let new = c.promote.new.cell in
     free-idle c.args.part r c.args.session cs x c.give_up.new.self t c.give_up.ensures.view
-    new c.promote.ensures.view same_path (λ a b. refl) c.requires.cells c.keep.new.cells.entries _ (not-true (is_busy (view_of new)) (sym c.is_idle.ensures ∙ c.if-is_idle.true))
-    (wrote _ c.same_path_is_equality.ensures.code m cs e r c.args.place c.in-Some.place c.in-Some.is c.requires.place x c.index_mut-cell.ensures.value new c.len-len.ensures.unique) (c.keep.ensures.gone r new (written-entry _ c.same_path_is_equality.ensures.code m cs e r c.args.place c.in-Some.place c.in-Some.is c.requires.place x c.index_mut-cell.ensures.value new))
+    new c.promote.ensures.view same_path (λ a b. refl) c.requires.cells c.vacate.new.self.entries _ (not-true (is_busy (view_of new)) (sym c.is_idle.ensures ∙ c.if-is_idle.true))
+    (wrote rs xs cs e r c.args.place c.in-Some.place c.in-Some.is c.requires.place x c.index_mut-cell.ensures.value new (apart-in_use _ c.same_path_is_equality.ensures.code c.self.inside.resources.keys c.self.inside.newcomer c.len-len.ensures.unique) c.self.invariant.long) (c.vacate.ensures.gone r new (written-entry rs xs cs e r c.args.place c.in-Some.place c.in-Some.is c.requires.place x c.index_mut-cell.ensures.value new))
 
 pub returns-then-is_idle-clause-agree : goal.returns-then-is_idle-clause-agree
 returns-then-is_idle-clause-agree c =
     let cs = c.args.self.now.entries in
     let r = c.args.resource in
-    let m = c.self.inside.cells in
+    let rs = in_use c.self.inside.resources.keys c.self.inside.newcomer in
+    let xs = c.self.inside.cells.items in
     let e = ap (λ (t : Table). t.entries) c.self.view_is in
     let x = c.index_mut-cell.result.now in
-    let t = there _ c.same_path_is_equality.ensures.code m cs e r c.args.place c.in-Some.place c.in-Some.is c.requires.place x c.index_mut-cell.ensures.value in
+    let t = there rs xs cs e r c.args.place c.in-Some.place c.in-Some.is c.requires.place x c.index_mut-cell.ensures.value in
     agree-there c.args.part r c.args.session cs x c.give_up.new.self t c.give_up.ensures.view c.promote.new.cell c.promote.ensures.view _ c.promote.ensures.agree
 
 pub returns-else-is_idle-clause-cells : goal.returns-else-is_idle-clause-cells
 returns-else-is_idle-clause-cells c =
     let cs = c.args.self.now.entries in
     let r = c.args.resource in
-    let m = c.self.inside.cells in
+    let rs = in_use c.self.inside.resources.keys c.self.inside.newcomer in
+    let xs = c.self.inside.cells.items in
     let e = ap (λ (t : Table). t.entries) c.self.view_is in
     let x = c.index_mut-cell.result.now in
-    let t = there _ c.same_path_is_equality.ensures.code m cs e r c.args.place c.in-Some.place c.in-Some.is c.requires.place x c.index_mut-cell.ensures.value in
+    let t = there rs xs cs e r c.args.place c.in-Some.place c.in-Some.is c.requires.place x c.index_mut-cell.ensures.value in
     let new = c.promote.new.cell in
     free-kept c.args.part r c.args.session cs x c.give_up.new.self t c.give_up.ensures.view
     new c.promote.ensures.view same_path (λ a b. refl) c.requires.cells _ c.promote.ensures.room c.promote.ensures.once (not-false (is_busy (view_of new)) (sym c.is_idle.ensures ∙ c.if-is_idle.false))
-    (wrote _ c.same_path_is_equality.ensures.code m cs e r c.args.place c.in-Some.place c.in-Some.is c.requires.place x c.index_mut-cell.ensures.value new c.len-len.ensures.unique)
+    (wrote rs xs cs e r c.args.place c.in-Some.place c.in-Some.is c.requires.place x c.index_mut-cell.ensures.value new (apart-in_use _ c.same_path_is_equality.ensures.code c.self.inside.resources.keys c.self.inside.newcomer c.len-len.ensures.unique) c.self.invariant.long)
 
 pub returns-else-is_idle-clause-agree : goal.returns-else-is_idle-clause-agree
 returns-else-is_idle-clause-agree c =
     let cs = c.args.self.now.entries in
     let r = c.args.resource in
-    let m = c.self.inside.cells in
+    let rs = in_use c.self.inside.resources.keys c.self.inside.newcomer in
+    let xs = c.self.inside.cells.items in
     let e = ap (λ (t : Table). t.entries) c.self.view_is in
     let x = c.index_mut-cell.result.now in
-    let t = there _ c.same_path_is_equality.ensures.code m cs e r c.args.place c.in-Some.place c.in-Some.is c.requires.place x c.index_mut-cell.ensures.value in
+    let t = there rs xs cs e r c.args.place c.in-Some.place c.in-Some.is c.requires.place x c.index_mut-cell.ensures.value in
     agree-there c.args.part r c.args.session cs x c.give_up.new.self t c.give_up.ensures.view c.promote.new.cell c.promote.ensures.view _ c.promote.ensures.agree
 
 pub write_queue-requires-clause-within : goal.write_queue-requires-clause-within
@@ -144,10 +164,11 @@ pub write_queue-requires-clause-empty : goal.write_queue-requires-clause-empty
 write_queue-requires-clause-empty c = λ a b h.
     let cs = c.args.self.now.entries in
     let r = c.args.resource in
-    let m = c.self.inside.cells in
+    let rs = in_use c.self.inside.resources.keys c.self.inside.newcomer in
+    let xs = c.self.inside.cells.items in
     let e = ap (λ (t : Table). t.entries) c.self.view_is in
     let x = c.index_mut-cell.result.now in
-    let t = there _ c.same_path_is_equality.ensures.code m cs e r c.args.place c.in-Some.place c.in-Some.is c.requires.place x c.index_mut-cell.ensures.value in
+    let t = there rs xs cs e r c.args.place c.in-Some.place c.in-Some.is c.requires.place x c.index_mut-cell.ensures.value in
     let after = view-promoted c.args.part r c.args.session cs x c.give_up.new.self t c.give_up.ensures.view c.promote.new.cell c.promote.ensures.view in
     emptied-still c.args.part c.args.session (a + 1) _ _ _ (ap view_in t) after h (pairs_of c.args.waits.now.rows a b) (c.clear_queue.ensures.pairs a b)
 
@@ -155,10 +176,11 @@ pub returns-then-is_idle-clause-rows : goal.returns-then-is_idle-clause-rows
 returns-then-is_idle-clause-rows c =
     let cs = c.args.self.now.entries in
     let r = c.args.resource in
-    let m = c.self.inside.cells in
+    let rs = in_use c.self.inside.resources.keys c.self.inside.newcomer in
+    let xs = c.self.inside.cells.items in
     let e = ap (λ (t : Table). t.entries) c.self.view_is in
     let x = c.index_mut-cell.result.now in
-    let t = there _ c.same_path_is_equality.ensures.code m cs e r c.args.place c.in-Some.place c.in-Some.is c.requires.place x c.index_mut-cell.ensures.value in
+    let t = there rs xs cs e r c.args.place c.in-Some.place c.in-Some.is c.requires.place x c.index_mut-cell.ensures.value in
     let cleared = c.clear_queue.ensures in
     let wrote = c.write_queue.ensures in
     follows-freed _ (view_of x) _ (view_of c.promote.new.cell) c.args.waits.now c.clear_queue.new.waits c.write_queue.new.waits (ap view_in t)
@@ -168,10 +190,11 @@ pub returns-else-is_idle-clause-rows : goal.returns-else-is_idle-clause-rows
 returns-else-is_idle-clause-rows c =
     let cs = c.args.self.now.entries in
     let r = c.args.resource in
-    let m = c.self.inside.cells in
+    let rs = in_use c.self.inside.resources.keys c.self.inside.newcomer in
+    let xs = c.self.inside.cells.items in
     let e = ap (λ (t : Table). t.entries) c.self.view_is in
     let x = c.index_mut-cell.result.now in
-    let t = there _ c.same_path_is_equality.ensures.code m cs e r c.args.place c.in-Some.place c.in-Some.is c.requires.place x c.index_mut-cell.ensures.value in
+    let t = there rs xs cs e r c.args.place c.in-Some.place c.in-Some.is c.requires.place x c.index_mut-cell.ensures.value in
     let cleared = c.clear_queue.ensures in
     let wrote = c.write_queue.ensures in
     follows-freed _ (view_of x) _ (view_of c.promote.new.cell) c.args.waits.now c.clear_queue.new.waits c.write_queue.new.waits (ap view_in t)

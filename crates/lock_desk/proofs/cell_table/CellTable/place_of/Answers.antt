@@ -1,15 +1,33 @@
-use Rattle.std.proofs.Common.{◌≡◌, sym, ◌∙◌, subst, Some, None}
+use Rattle.std.proofs.Common.{◌≡◌, ◌<◌, ◌∙◌, sym, ap, subst, length, arith, Some, None}
+use Rattle.lock_desk.specs.Tables.{in_use}
 use Rattle.lock_desk.specs.Cells.{Table, cell_at, IsPlace}
-use Rattle.lock_desk.proofs.CellTable.{found}
-use Rattle.lock_desk.proofs.Places.{found-place}
+use Rattle.lock_desk.proofs.Places.{length-beside, apart-in_use, absent, in_use-at, unnamed, named-at, unused-there, found-place}
 use Rattle.lock_desk.proofs.cell_table.CellTable.place_of.Goals as goal
 
 pub returns-in-Some : goal.returns-in-Some
 returns-in-Some c =
+    let rs = c.self.inside.resources.keys in
+    let b = c.self.inside.newcomer in
+    let xs = c.self.inside.cells.items in
+    let eq-is = c.same_path_is_equality.ensures.code in
+    let count = sym (ap (λ (t : Table). length t.entries) c.self.view_is) ∙ length-beside (in_use rs b) xs c.self.invariant.long in
+    let lt : c.in-Some.place < length (in_use rs b) = omega (arith, c.if-place-len.true, c.len.ensures, count) in
     subst (λ (t : Table). IsPlace c.args.resource t.entries (Some c.in-Some.place)) c.self.view_is
-    (found-place _ c.same_path_is_equality.ensures.code c.args.resource c.self.inside.cells.entries c.in-Some.place _ _ c.in-Some.ensures.key c.in-Some.ensures.value c.in-Some.ensures.entry)
+    (found-place (in_use rs b) xs c.args.resource c.in-Some.place (apart-in_use _ eq-is rs b c.len-len.ensures.unique) c.self.invariant.long (in_use-at rs b c.in-Some.place lt ∙ named-at _ eq-is c.args.resource rs c.in-Some.place c.in-Some.ensures.index))
 
-pub returns-in-None : goal.returns-in-None
-returns-in-None c =
-    let r = c.args.resource in
-    subst (λ (t : Table). cell_at r t.entries ≡ None) c.self.view_is (sym (found _ c.same_path_is_equality.ensures.code r c.self.inside.cells.entries) ∙ sym c.in-None.ensures.value)
+pub returns-in_default : goal.returns-in_default
+returns-in_default c =
+    let rs = c.self.inside.resources.keys in
+    let b = c.self.inside.newcomer in
+    let xs = c.self.inside.cells.items in
+    let eq-is = c.same_path_is_equality.ensures.code in
+    let count = sym (ap (λ (t : Table). length t.entries) c.self.view_is) ∙ length-beside (in_use rs b) xs c.self.invariant.long in
+    subst (λ (t : Table). cell_at c.args.resource t.entries ≡ None) c.self.view_is
+    (absent c.args.resource (in_use rs b) xs c.self.invariant.long (unused-there _ eq-is c.args.resource rs c.in-Some.place c.in-Some.ensures.index b (omega (arith, c.if-place-len.false, c.len.ensures, count))))
+
+pub returns-in_default-2 : goal.returns-in_default-2
+returns-in_default-2 c =
+    let rs = c.self.inside.resources.keys in
+    let b = c.self.inside.newcomer in
+    subst (λ (t : Table). cell_at c.args.resource t.entries ≡ None) c.self.view_is
+    (absent c.args.resource (in_use rs b) c.self.inside.cells.items c.self.invariant.long (unnamed _ c.same_path_is_equality.ensures.code c.args.resource rs b c.in_default.ensures.found))

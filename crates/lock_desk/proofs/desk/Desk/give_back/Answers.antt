@@ -5,21 +5,21 @@ use Rattle.lock_desk.proofs.SessionsInRange.{numbered-whole}
 use Rattle.lock_desk.proofs.desk.Desk.give_back.Goals as goal
 
 pub free-requires-clause-agree : goal.free-requires-clause-agree
-free-requires-clause-agree c = back-agree c.args.self.now c.args.session c.in-Some.resource c.index_mut-locker.result.now c.release_last.new.self c.requires.whole (within c.args.self.now c.args.session c.position_of.ensures c.requires.some c.requires.within) c.index_mut-locker.ensures.value c.in-Some.ensures.some c.in-Some.ensures.transaction c.in-Some.ensures.wanted c.requires.idle
+free-requires-clause-agree c = back-agree c.args.self.now c.args.session c.in-Some.last.resource c.index_mut-locker.result.now c.release_last.new.self c.requires.whole (within c.args.self.now c.args.session c.position_of.ensures c.requires.some c.requires.within) c.index_mut-locker.ensures.value c.in-Some.ensures.some c.in-Some.ensures.transaction c.in-Some.ensures.wanted c.requires.idle
 
 pub free-requires-clause-lockers : goal.free-requires-clause-lockers
-free-requires-clause-lockers c = back-lockers c.args.self.now c.args.session c.in-Some.resource c.index_mut-locker.result.now c.release_last.new.self c.requires.whole (within c.args.self.now c.args.session c.position_of.ensures c.requires.some c.requires.within) c.index_mut-locker.ensures.value c.in-Some.ensures.some c.in-Some.ensures.transaction c.in-Some.ensures.wanted c.requires.idle
+free-requires-clause-lockers c = back-lockers c.args.self.now c.args.session c.in-Some.last.resource c.index_mut-locker.result.now c.release_last.new.self c.requires.whole (within c.args.self.now c.args.session c.position_of.ensures c.requires.some c.requires.within) c.index_mut-locker.ensures.value c.in-Some.ensures.some c.in-Some.ensures.transaction c.in-Some.ensures.wanted c.requires.idle
 
 pub returns-in-Some-clause-back : goal.returns-in-Some-clause-back
 returns-in-Some-clause-back c =
-    back-gives c.args.self.now c.args.session c.in-Some.resource c.index_mut-locker.result.now c.release_last.new.self c.requires.whole (within c.args.self.now c.args.session c.position_of.ensures c.requires.some c.requires.within) c.index_mut-locker.ensures.value c.in-Some.ensures.some c.in-Some.ensures.transaction c.in-Some.ensures.wanted c.requires.idle
+    back-gives c.args.self.now c.args.session c.in-Some.last.resource c.index_mut-locker.result.now c.release_last.new.self c.requires.whole (within c.args.self.now c.args.session c.position_of.ensures c.requires.some c.requires.within) c.index_mut-locker.ensures.value c.in-Some.ensures.some c.in-Some.ensures.transaction c.in-Some.ensures.wanted c.requires.idle
     _ refl c.free.ensures.cells c.free.ensures.agree c.free.ensures.lockers c.free.ensures.granted
 
 pub returns-in-Some-clause-kept : goal.returns-in-Some-clause-kept
 returns-in-Some-clause-kept c =
-    back-keeps c.args.self.now c.args.session c.in-Some.resource c.index_mut-locker.result.now c.release_last.new.self c.requires.whole (within c.args.self.now c.args.session c.position_of.ensures c.requires.some c.requires.within) c.index_mut-locker.ensures.value c.in-Some.ensures.some c.in-Some.ensures.transaction c.in-Some.ensures.wanted c.requires.idle
+    back-keeps c.args.self.now c.args.session c.in-Some.last.resource c.index_mut-locker.result.now c.release_last.new.self c.requires.whole (within c.args.self.now c.args.session c.position_of.ensures c.requires.some c.requires.within) c.index_mut-locker.ensures.value c.in-Some.ensures.some c.in-Some.ensures.transaction c.in-Some.ensures.wanted c.requires.idle
     _ refl c.free.ensures.cells c.free.ensures.agree c.free.ensures.lockers c.free.ensures.granted
     (search rules) c.free.ensures.rows c.requires.ready
 
 pub free-requires-clause-within : goal.free-requires-clause-within
-free-requires-clause-within c = numbered-whole c.args.self.now c.args.self.now.waits.rows.sessions (omega (arith, c.requires.ready.long, c.args.self.now.lockers.ok.0)) c.requires.whole c.in-Some.resource
+free-requires-clause-within c = numbered-whole c.args.self.now c.args.self.now.waits.rows.sessions (omega (arith, c.requires.ready.long, c.args.self.now.lockers.ok.0)) c.requires.whole c.in-Some.last.resource
