@@ -25,7 +25,8 @@ const WORDS: usize = (LEVELS + 1) / 2;
 #[derive(Clone, Copy, Debug, PartialEq, Eq, PartialOrd, Ord)]
 pub struct Resource {
     numbers: [u32; LEVELS],
-    level: u8,
+    // As wide as a number, so that no padding is copied with it.
+    level: u32,
 }
 
 impl Model for Resource {
@@ -72,7 +73,7 @@ impl Resource {
                     Some(fault) => Err(fault),
                     None => Ok(Resource {
                         numbers,
-                        level: level as u8 + 1,
+                        level: level as u32 + 1,
                     }),
                 };
             }
@@ -94,7 +95,7 @@ impl Resource {
         padded[..numbers.len()].copy_from_slice(numbers);
         Some(Resource {
             numbers: padded,
-            level: numbers.len() as u8,
+            level: numbers.len() as u32,
         })
     }
 
@@ -102,7 +103,7 @@ impl Resource {
     pub fn level(&self) -> u8
         ensures { result ≡ length self.now }
     {
-        self.level
+        self.level as u8
     }
 
     /// The resource above: all numbers but the last. `None` for a database, which has nothing above.
