@@ -12,12 +12,19 @@ digit_more n d some small lt =
     ∙ ap (λ (k : ℕ). decimal k ++ (48 + (n * 10 + d) % 10) ∷ []) front
     ∙ ap (λ (k : ℕ). decimal n ++ (48 + k) ∷ []) last
 
-two_digits : (n : ℕ) → 10 ≤ n → n < 100 → decimal n ≡ (48 + n / 10) ∷ (48 + n % 10) ∷ []
+-- two digits
+pub two_digits : (n : ℕ) → 10 ≤ n → n < 100 → decimal n ≡ (48 + n / 10) ∷ (48 + n % 10) ∷ []
 two_digits n low high = decimal_step n low (omega (arith, high)) ∙ ap (λ (t : List ℕ). t ++ (48 + n % 10) ∷ []) (decimal_digit (n / 10) (omega (arith, high)))
 
--- two digits are written, one after the other
-pub pair_written : (out mid out2 : List ℕ) (n : ℕ) → 10 ≤ n → n < 100 → mid ≡ out ++ (48 + n / 10) ∷ [] → out2 ≡ mid ++ (48 + n % 10) ∷ [] → out2 ≡ out ++ decimal n
-pair_written out mid out2 n low high first second =
-    second ∙ ap (λ (t : List ℕ). t ++ (48 + n % 10) ∷ []) first
-    ∙ append_assoc out ((48 + n / 10) ∷ []) ((48 + n % 10) ∷ [])
-    ∙ ap (λ (t : List ℕ). out ++ t) (sym (two_digits n low high))
+-- a number of three digits or more is its hundreds, and two digits
+pub hundreds : (n : ℕ) → 100 ≤ n → n < 2 ^ 64 → decimal n ≡ decimal (n / 100) ++ (48 + n % 100 / 10) ∷ (48 + n % 100 % 10) ∷ []
+hundreds n low high =
+    let tens : n / 10 / 10 ≡ n / 100 = omega arith in
+    let first : n / 10 % 10 ≡ n % 100 / 10 = omega arith in
+    let second : n % 10 ≡ n % 100 % 10 = omega arith in
+    decimal_step n (omega (arith, low)) high
+    ∙ ap (λ (t : List ℕ). t ++ (48 + n % 10) ∷ []) (decimal_step (n / 10) (omega (arith, low)) (omega (arith, high)))
+    ∙ append_assoc (decimal (n / 10 / 10)) ((48 + n / 10 % 10) ∷ []) ((48 + n % 10) ∷ [])
+    ∙ ap (λ (k : ℕ). decimal k ++ (48 + n / 10 % 10) ∷ (48 + n % 10) ∷ []) tens
+    ∙ ap (λ (k : ℕ). decimal (n / 100) ++ (48 + k) ∷ (48 + n % 10) ∷ []) first
+    ∙ ap (λ (k : ℕ). decimal (n / 100) ++ (48 + n % 100 / 10) ∷ (48 + k) ∷ []) second

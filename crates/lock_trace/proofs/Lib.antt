@@ -12,6 +12,7 @@ pub mod FileSteps
 pub mod TraceLaws
 pub mod Digits
 pub mod PlainTexts
+pub mod LineSteps
 pub mod Lines
 pub mod ReadBack
 pub mod HistoryLaws

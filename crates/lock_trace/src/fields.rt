@@ -6,7 +6,7 @@ ghost use Rattle.lock_tree.specs.Readings.{reading_of};
 ghost use Rattle.lock_trace.specs.Fields.{session_in, op_in, resource_in, mode_in, place_in, reply_word_in, number_in, granted_in, why_in, most_32};
 
 use crate::faults::TraceKind;
-use crate::plain::plain_resource;
+use crate::plain::{plain_number, plain_resource};
 use crate::words::{OPS, Op, REPLY_WORDS, ReplyWord};
 use itoa::Buffer;
 use lock_modes::Mode;
@@ -14,7 +14,11 @@ use lock_rules::Why;
 use lock_tree::{PathFault, Resource, parse_numeral};
 use std::str;
 
-pub(crate) fn session_of(field: &[u8], sessions: u16) -> Result<u16, TraceKind>
+// All modes, each once.
+const MODES: [Mode; 6] = [Mode::NL, Mode::IS, Mode::IX, Mode::S, Mode::SIX, Mode::X];
+
+// A session, or that the field isn't one, whatever it has.
+fn tested_session(field: &[u8], sessions: u16) -> Result<u16, TraceKind>
     ensures value { result ≡ session_in sessions field.now }
     ensures range { IfOk result (λ session. (0 < session) × (session ≤ sessions)) }
 {
@@ -25,6 +29,17 @@ pub(crate) fn session_of(field: &[u8], sessions: u16) -> Result<u16, TraceKind>
         return Err(TraceKind::Session);
     }
     Ok(session as u16)
+}
+
+#[inline(always)]
+pub(crate) fn session_of(field: &[u8], sessions: u16) -> Result<u16, TraceKind>
+    ensures value { result ≡ session_in sessions field.now }
+    ensures range { IfOk result (λ session. (0 < session) × (session ≤ sessions)) }
+{
+    match plain_number(field) {
+        Some(session) if session != 0 && session <= sessions as u32 => Ok(session as u16),
+        _ => tested_session(field, sessions),
+    }
 }
 
 pub(crate) fn op_of(field: &[u8]) -> Result<Op, TraceKind>
@@ -78,16 +93,16 @@ pub(crate) fn resource_of(field: &[u8]) -> Result<Resource, TraceKind>
     }
 }
 
+#[inline(always)]
 pub(crate) fn mode_of(field: &[u8]) -> Result<Mode, TraceKind>
     ensures { result ≡ mode_in field.now }
 {
-    let Some(text) = text_in(field) else {
-        return Err(TraceKind::Mode);
-    };
-    match Mode::parse(text) {
-        Some(mode) => Ok(mode),
-        None => Err(TraceKind::Mode),
+    for mode in MODES {
+        if field == mode.name().as_bytes() {
+            return Ok(mode);
+        }
     }
+    Err(TraceKind::Mode)
 }
 
 pub(crate) fn place_of(field: &[u8], place: u64) -> Result<(), TraceKind>

@@ -6,9 +6,11 @@ mod faults;
 mod fields;
 mod files;
 pub mod laws;
+mod line;
 mod plain;
 mod reading;
 mod rows;
+mod tokens;
 mod words;
 mod writing;
 

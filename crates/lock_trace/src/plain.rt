@@ -1,4 +1,4 @@
-//! Resources whose texts have no fault, read in one pass. The bytes aren't tested for UTF-8, since they
+//! Resources and numbers whose texts have no fault, read in one pass. The bytes aren't tested for UTF-8, since they
 //! are digits and `/` alone. What isn't read here is looked at again, for its fault.
 
 ghost use Rattle.std.specs.Prelude.{◌≡◌, ◌≤◌, ◌++◌, length, take, IfSome, Ok, decimal};
@@ -10,6 +10,7 @@ use lock_tree::{LEVELS, Resource};
 const MOST: u32 = 429_496_728;
 
 // The number in decimal that stands from a place on, and where it ends.
+#[inline(always)]
 fn number_from(field: &[u8], start: usize) -> Option<(u32, usize)>
     requires { start ≤ length field.now }
     ensures end { IfSome result (λ found. found.1 ≤ length field.now) }
@@ -35,6 +36,18 @@ fn number_from(field: &[u8], start: usize) -> Option<(u32, usize)>
         return None;
     }
     Some((number, end))
+}
+
+/// The number that a field is, unless the field is faulty or the number is above 4294967289.
+#[inline(always)]
+pub(crate) fn plain_number(field: &[u8]) -> Option<u32>
+    ensures { IfSome result (λ number. field.now ≡ decimal number) }
+{
+    let (number, end) = number_from(field, 0)?;
+    if end != field.len() {
+        return None;
+    }
+    Some(number)
 }
 
 /// The resource that a field is, unless the field is faulty or has a number above 4294967289.

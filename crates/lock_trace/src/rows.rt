@@ -24,6 +24,7 @@ pub struct TraceRow {
 }
 
 // A call that takes neither a resource nor a mode.
+#[inline(always)]
 fn bare_call(call: Call, resource: &[u8], mode: &[u8]) -> Result<Call, TraceKind>
     ensures { result ≡ bare call resource.now mode.now }
 {
@@ -34,6 +35,7 @@ fn bare_call(call: Call, resource: &[u8], mode: &[u8]) -> Result<Call, TraceKind
 }
 
 // The resource and the mode of a call that takes both.
+#[inline(always)]
 fn resource_and_mode(resource: &[u8], mode: &[u8]) -> Result<(Resource, Mode), TraceKind>
     ensures { result ≡ resource_and_mode_in resource.now mode.now }
 {
@@ -42,6 +44,7 @@ fn resource_and_mode(resource: &[u8], mode: &[u8]) -> Result<(Resource, Mode), T
     Ok((resource, mode))
 }
 
+#[inline(always)]
 fn call_of(op: Op, resource: &[u8], mode: &[u8]) -> Result<Call, TraceKind>
     ensures { result ≡ call_in op resource.now mode.now }
 {
@@ -68,6 +71,7 @@ fn call_of(op: Op, resource: &[u8], mode: &[u8]) -> Result<Call, TraceKind>
     }
 }
 
+#[inline(always)]
 pub(crate) fn read_row(
     sessions: u16,
     session: &[u8],

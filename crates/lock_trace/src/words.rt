@@ -1,9 +1,7 @@
-//! The words of operations and of replies: each stands once, for reading and for writing.
+//! The words of operations and of replies, which rows are read by.
 
 ghost use Rattle.std.specs.Prelude.{◌≡◌};
-ghost use Rattle.lock_trace.specs.Words.{word_of, op_of_call, word_of_reply, reply_word_of};
-
-use lock_rules::{Call, Reply};
+ghost use Rattle.lock_trace.specs.Words.{word_of, word_of_reply};
 
 /// What a row asks for.
 #[derive(Clone, Copy)]
@@ -29,20 +27,6 @@ pub(crate) const OPS: [Op; 7] = [
 ];
 
 impl Op {
-    pub(crate) fn of(call: &Call) -> Op
-        ensures { result ≡ op_of_call call.now }
-    {
-        match call {
-            Call::Begin => Op::Begin,
-            Call::Lock(_, _) => Op::Lock,
-            Call::Convert(_, _) => Op::Convert,
-            Call::Poll => Op::Poll,
-            Call::Release(_) => Op::Release,
-            Call::Commit => Op::Commit,
-            Call::Abort => Op::Abort,
-        }
-    }
-
     /// Its word in traces and histories, in lower case.
     pub(crate) fn word(self) -> &'static str
         ensures { result.now ≡ word_of self }
@@ -87,22 +71,6 @@ pub(crate) const REPLY_WORDS: [ReplyWord; 9] = [
 ];
 
 impl ReplyWord {
-    pub(crate) fn of(reply: Reply) -> ReplyWord
-        ensures { result ≡ reply_word_of reply }
-    {
-        match reply {
-            Reply::Began(_) => ReplyWord::Began,
-            Reply::Granted(_) => ReplyWord::Granted,
-            Reply::Waiting => ReplyWord::Waiting,
-            Reply::Deadlock => ReplyWord::Deadlock,
-            Reply::Clear => ReplyWord::Clear,
-            Reply::Released => ReplyWord::Released,
-            Reply::Committed(_) => ReplyWord::Committed,
-            Reply::Aborted(_) => ReplyWord::Aborted,
-            Reply::Refused(_) => ReplyWord::Refused,
-        }
-    }
-
     /// Its word in histories, in lower case.
     pub(crate) fn word(self) -> &'static str
         ensures { result.now ≡ word_of_reply self }

@@ -1,12 +1,9 @@
-use Rattle.std.proofs.Common.{◌∙◌, sym, refl}
-use Rattle.lock_trace.proofs.Names.{mode_by_name, no_mode, no_text_no_mode}
+use Rattle.std.proofs.Common.{◌∙◌, sym}
+use Rattle.lock_modes.specs.Codes.{name_of}
+use Rattle.lock_trace.specs.declared.faults.TraceKind.TheVariants as kind
+use Rattle.lock_trace.proofs.Names.{passed_over}
 use Rattle.lock_trace.proofs.fields.mode_of.Goals as goal
 
-pub returns-in_default : goal.returns-in_default
-returns-in_default c = sym (no_text_no_mode c.args.field.now c.in_default.ensures.none)
-
-pub returns-in-Some-parse : goal.returns-in-Some-parse
-returns-in-Some-parse c = sym (mode_by_name c.in-Some-parse.mode c.args.field.now (sym c.in-Some.ensures.some.0 ∙ (c.in-Some-parse.ensures c.in-Some-parse.mode).0 refl))
-
-pub returns-in-None : goal.returns-in-None
-returns-in-None c = sym (no_mode c.args.field.now (λ m e. let bad = (c.in-None.ensures m).1 (c.in-Some.ensures.some.0 ∙ e) in cc))
+pub loop-mode-preserved : goal.loop-mode-preserved
+loop-mode-preserved c =
+    passed_over name_of kind.Mode _ c.loop-mode.mode-index _ c.args.field.now c.as_bytes.result.now _ c.loop-mode-test.true (c.as_bytes.ensures.value ∙ c.name.ensures) (sym c.eq.ensures ∙ c.if-eq.false) c.loop-mode.invariant

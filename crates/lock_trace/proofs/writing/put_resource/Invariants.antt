@@ -1,8 +1,12 @@
-use Rattle.std.proofs.Common.{◌≡◌, ◌++◌, ◌∷◌, take}
-use Rattle.std.specs.Prelude.{decimal}
-use Rattle.std.specs.List.{flat_map}
+use Rattle.std.proofs.Common.{◌≡◌, ◌+◌, ◌*◌, ◌<◌, ◌≤◌, ◌++◌, length, take}
+use Rattle.lock_tree.specs.Text.{text_of}
 use Rattle.lock_trace.proofs.writing.put_resource.Given as goal
 
--- the first number has been written, and each one so far after a `/`
-abbrev pub invariant-loop-number : goal.invariant-loop-number
-invariant-loop-number l = l.out.items ≡ l.fn.out.items ++ (decimal l.first ++ flat_map (λ n. 47 ∷ decimal n) (take l.number-index l.number-items))
+-- the numbers above this level have been written
+abbrev pub invariant-loop-level : goal.invariant-loop-level
+invariant-loop-level l = record {
+  some : 0 < l.level;
+  text : take l.end l.line ≡ take l.at l.fn.line ++ text_of (take l.level l.numbers);
+  room : length l.line ≡ length l.fn.line;
+  few : l.end ≤ l.at + l.level * 21;
+}

@@ -1,0 +1,62 @@
+//! The words of histories with the commas beside them, each at the front of sixteen bytes, so that it is copied by one
+//! move.
+
+ghost use Rattle.std.specs.Prelude.{◌≡◌, ◌≤◌, ◌++◌, [], ◌∷◌, take};
+ghost use Rattle.lock_modes.specs.Codes.{name_of};
+ghost use Rattle.lock_trace.specs.Words.{word_of, op_of_call, word_of_reply, reply_word_of};
+
+use crate::line::TOKEN;
+use lock_modes::Mode;
+use lock_rules::{Call, Reply};
+
+/// The word of the call, between commas.
+#[inline(always)]
+pub(crate) fn op_token(call: &Call) -> (&'static [u8; 16], usize)
+    ensures text { take result.1 result.0.now ≡ 44 ∷ (word_of (op_of_call call.now) ++ 44 ∷ []) }
+    ensures few { result.1 ≤ 9 }
+{
+    match call {
+        Call::Begin => (b",begin,.........", 7),
+        Call::Lock(_, _) => (b",lock,..........", 6),
+        Call::Convert(_, _) => (b",convert,.......", 9),
+        Call::Poll => (b",poll,..........", 6),
+        Call::Release(_) => (b",release,.......", 9),
+        Call::Commit => (b",commit,........", 8),
+        Call::Abort => (b",abort,.........", 7),
+    }
+}
+
+/// The name of the mode.
+#[inline(always)]
+pub(crate) fn mode_token(mode: Mode) -> (&'static [u8; 16], usize)
+    ensures text { take result.1 result.0.now ≡ name_of mode }
+    ensures few { result.1 ≤ 3 }
+{
+    match mode {
+        Mode::NL => (b"NL..............", 2),
+        Mode::IS => (b"IS..............", 2),
+        Mode::IX => (b"IX..............", 2),
+        Mode::S => (b"S...............", 1),
+        Mode::SIX => (b"SIX.............", 3),
+        Mode::X => (b"X...............", 1),
+    }
+}
+
+/// The word of the reply, between commas.
+#[inline(always)]
+pub(crate) fn reply_token(reply: &Reply) -> (&'static [u8; 16], usize)
+    ensures text { take result.1 result.0.now ≡ 44 ∷ (word_of_reply (reply_word_of reply.now) ++ 44 ∷ []) }
+    ensures few { result.1 ≤ 11 }
+{
+    match reply {
+        Reply::Began(_) => (b",began,.........", 7),
+        Reply::Granted(_) => (b",granted,.......", 9),
+        Reply::Waiting => (b",waiting,.......", 9),
+        Reply::Deadlock => (b",deadlock,......", 10),
+        Reply::Clear => (b",clear,.........", 7),
+        Reply::Released => (b",released,......", 10),
+        Reply::Committed(_) => (b",committed,.....", 11),
+        Reply::Aborted(_) => (b",aborted,.......", 9),
+        Reply::Refused(_) => (b",refused,.......", 9),
+    }
+}
