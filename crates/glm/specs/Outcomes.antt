@@ -10,8 +10,8 @@ use Rattle.glm.specs.declared.outcomes.Outcome.{Outcome}
 use Rattle.glm.specs.declared.outcomes.Outcome.TheVariants as outcome
 use Rattle.glm.specs.declared.outcomes.TheConstants.{DONE, USAGE, ILLEGAL, NO_MEMORY, DEVICE}
 use Rattle.glm.specs.CommandLine.{AskReplay, AskRun, AskCheck, AskHelp, AskVersion, AskNothing}
-use Rattle.glm.specs.Replays.{Replays}
-use Rattle.glm.specs.Runs.{Runs}
+use Rattle.glm.specs.Replays.{HasServed, IsFaultOfOneThread, Replays}
+use Rattle.glm.specs.Runs.{HasPerformed, Runs}
 use Rattle.glm.specs.Statuses.{status_for}
 use Rattle.glm.specs.Verdicts.{Checks, IsHistory}
 
@@ -37,6 +37,8 @@ pub record HasAnswered (words : List Text) (input old new : Option (List ℕ)) (
   pub sessions : ℕ
   pub asked : AskReplay words sessions
   pub kept : IfErr answer (λ fault. fault ≢ tool.Device → Keeps old new)
+  pub served : IfOk answer (λ count. HasServed sessions count old new)
+  pub faults : IfErr answer (λ fault. IsFaultOfOneThread fault)
   pub replays : (bytes : List ℕ) → input ≡ Some bytes → Replays sessions bytes old new answer
 
 -- the words ask for a run, and this is what it answers of the input's bytes
@@ -45,6 +47,7 @@ pub record HasAnsweredRun (words : List Text) (input old new : Option (List ℕ)
   pub turns : ℕ
   pub asked : AskRun words sessions turns
   pub kept : IfErr answer (λ fault. fault ≢ tool.Device → Keeps old new)
+  pub performed : IfOk answer (λ count. HasPerformed sessions count old new)
   pub runs : (bytes : List ℕ) → input ≡ Some bytes → Runs sessions bytes old new answer
 
 -- the line that tells a verdict
@@ -67,6 +70,7 @@ pub record HasAnsweredCheck (words : List Text) (input old new : Option (List �
   pub asked : AskCheck words sessions
   pub kept : IfErr answer (λ fault. fault ≢ tool.Device → Keeps old new)
   pub told : IfOk answer (λ found. Appends old new (text_of_verdict found))
+  pub faults : IfErr answer (λ fault. IsFaultOfOneThread fault)
   pub checks : (bytes : List ℕ) → input ≡ Some bytes → TellsVerdict sessions bytes answer
 
 -- what is printed of the version: the project's, and the kit and the logic that it was proved with

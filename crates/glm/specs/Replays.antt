@@ -29,6 +29,18 @@ pub record HasReplayed (rows : List TraceRow) (old new : Option (List ℕ)) : Ty
   pub is_history : IsTextFor rows text
   pub written : Appends old new text
 
+-- so many rows were served in their order, which are for so many sessions, and the text of their history was written, and nothing else
+abbrev pub HasServed : ℕ → ℕ → Option (List ℕ) → Option (List ℕ) → Type 0
+HasServed n count old new = (rows : List TraceRow) × (AreRows n rows × (count ≡ length rows) × HasReplayed rows old new)
+
+-- a fault that needs no threads: of a row, of memory or of a device, and not of a gate or of tries
+abbrev pub IsFaultOfOneThread : ToolFault → Type 0
+IsFaultOfOneThread (tool.Trace fault) = Unit {0}
+IsFaultOfOneThread tool.NoMemory = Unit {0}
+IsFaultOfOneThread tool.Device = Unit {0}
+IsFaultOfOneThread tool.GateShut = ⊥
+IsFaultOfOneThread tool.TurnLimit = ⊥
+
 -- the bytes are a trace
 abbrev pub IsTrace : ℕ → List ℕ → Type 0
 IsTrace n bytes = (rows : List TraceRow) × (trace_of n bytes ≡ Ok rows)

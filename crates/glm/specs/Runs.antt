@@ -9,7 +9,7 @@ use Rattle.lock_trace.specs.Histories.{text_of_history}
 use Rattle.glm.specs.declared.replaying.ToolFault.{ToolFault}
 use Rattle.glm.specs.declared.replaying.ToolFault.TheVariants as tool
 use Rattle.glm.specs.Calls.{calls_answered, calls_of_rows}
-use Rattle.glm.specs.Replays.{IsTrace}
+use Rattle.glm.specs.Replays.{AreRows, IsTrace}
 
 -- a legal history of these rows, in some order: the calls of each session in it are those of its rows, in their order
 pub record IsRunOf (rows : List TraceRow) (history : List Entry) : Type 0 where
@@ -26,6 +26,10 @@ pub record HasRun (rows : List TraceRow) (old new : Option (List ℕ)) : Type 0 
   pub text : List ℕ
   pub is_history : IsTextOfRun rows text
   pub written : Appends old new text
+
+-- so many rows were performed, which are for so many sessions, and the text of the history was written, and nothing else
+abbrev pub HasPerformed : ℕ → ℕ → Option (List ℕ) → Option (List ℕ) → Type 0
+HasPerformed n count old new = (rows : List TraceRow) × (AreRows n rows × (count ≡ length rows) × HasRun rows old new)
 
 -- what a run of these bytes for so many sessions answers, where the writer held the old bytes before and the new ones after
 abbrev pub Runs : ℕ → List ℕ → Option (List ℕ) → Option (List ℕ) → Result ℕ ToolFault → Type 0

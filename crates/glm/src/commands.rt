@@ -9,6 +9,7 @@ ghost use Rattle.glm.specs.declared.outcomes.Outcome.{Outcome};
 ghost use Rattle.glm.specs.declared.outcomes.TheConstants.{DONE, ILLEGAL, DEVICE};
 ghost use Rattle.glm.specs.Outcomes.{HasDone, TellsVerdict, status_of_outcome, text_of_verdict};
 ghost use Rattle.glm.specs.ParserErrors.{IsOutcomeOfError};
+ghost use Rattle.glm.specs.Replays.{IsFaultOfOneThread};
 ghost use Rattle.glm.specs.Statuses.{IsStatus};
 
 use crate::checking::{Verdict, check};
@@ -66,6 +67,7 @@ fn tell_verdict<R: Read + Drop, W: Write>(
     requires some { 0 < sessions }
     requires few { sessions ≤ MAX_SESSIONS }
     ensures kept { IfErr result (λ fault. fault ≢ ToolFault.Device → Keeps (W.contents output.old) (W.contents output.new)) }
+    ensures faults { IfErr result (λ fault. IsFaultOfOneThread fault) }
     ensures told { IfOk result (λ verdict. Appends (W.contents output.old) (W.contents output.new) (text_of_verdict verdict)) }
     ensures checks { (bytes : List ℕ) → R.remaining input ≡ Some bytes → TellsVerdict sessions bytes result }
 {

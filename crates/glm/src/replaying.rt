@@ -4,7 +4,7 @@ ghost use Rattle.std.specs.Io.KnownBytes.{Keeps};
 ghost use Rattle.std.specs.Prelude.{◌≡◌, ◌≢◌, ℕ, ◌<◌, ◌≤◌, List, Some, map, IfOk, IfErr};
 ghost use Rattle.lock_rules.specs.declared.calls.TheConstants.{MAX_SESSIONS};
 ghost use Rattle.lock_trace.specs.Histories.{row_of_entry};
-ghost use Rattle.glm.specs.Replays.{AreRows, IsTextFor, Replays};
+ghost use Rattle.glm.specs.Replays.{AreRows, HasServed, IsFaultOfOneThread, IsTextFor, Replays};
 ghost use Rattle.glm.specs.Statuses.{number_of_fault};
 
 use lock_desk::{Book, NoMemory};
@@ -89,8 +89,10 @@ pub fn replay<R: Read + Drop, W: Write>(
 ) -> Result<u64, ToolFault>
     requires some { 0 < sessions }
     requires few { sessions ≤ MAX_SESSIONS }
-    // This holds whatever the reader gives.
+    // These hold whatever the reader gives.
     ensures kept { IfErr result (λ fault. fault ≢ ToolFault.Device → Keeps (W.contents output.old) (W.contents output.new)) }
+    ensures served { IfOk result (λ count. HasServed sessions count (W.contents output.old) (W.contents output.new)) }
+    ensures faults { IfErr result (λ fault. IsFaultOfOneThread fault) }
 
     // This holds where the reader tells what it gives.
     ensures replays { (bytes : List ℕ) → R.remaining input ≡ Some bytes → Replays sessions bytes (W.contents output.old) (W.contents output.new) result }

@@ -5,7 +5,7 @@ ghost use Rattle.std.specs.Prelude.{◌≡◌, ◌≢◌, ℕ, ◌<◌, ◌≤�
 ghost use Rattle.lock_rules.specs.declared.calls.TheConstants.{MAX_SESSIONS};
 ghost use Rattle.lock_trace.specs.Histories.{text_of_history};
 ghost use Rattle.glm.specs.Replays.{AreRows};
-ghost use Rattle.glm.specs.Runs.{IsRunOf, IsTextOfRun, Runs};
+ghost use Rattle.glm.specs.Runs.{HasPerformed, IsRunOf, IsTextOfRun, Runs};
 ghost use Rattle.glm.specs.Workers.{fault_of_stop};
 
 use crate::gates::Gate;
@@ -99,8 +99,9 @@ pub fn run<R: Read + Drop, W: Write, T: Threads + Wait, G: Gate>(
 ) -> Result<u64, ToolFault>
     requires some { 0 < sessions }
     requires few { sessions ≤ MAX_SESSIONS }
-    // This holds whatever the reader gives.
+    // These hold whatever the reader gives.
     ensures kept { IfErr result (λ fault. fault ≢ ToolFault.Device → Keeps (W.contents output.old) (W.contents output.new)) }
+    ensures performed { IfOk result (λ count. HasPerformed sessions count (W.contents output.old) (W.contents output.new)) }
 
     // This holds where the reader tells what it gives.
     ensures runs { (bytes : List ℕ) → R.remaining input ≡ Some bytes → Runs sessions bytes (W.contents output.old) (W.contents output.new) result }

@@ -1,6 +1,6 @@
 //! Traces and histories out of bytes.
 
-ghost use Rattle.std.specs.Prelude.{◌≡◌, ℕ, ◌+◌, Bool, true, List, [], Some, IsSome, IfSome, IfOk, OnOk, if◌then◌else◌, option_map, All};
+ghost use Rattle.std.specs.Prelude.{◌≡◌, ℕ, ◌+◌, ◌<◌, Bool, true, List, [], Some, IsSome, IfSome, IfOk, IfErr, OnOk, if◌then◌else◌, option_map, All};
 ghost use Rattle.csv.specs.Reading.{source_of, strip_bom, is_io, error_kind};
 ghost use Rattle.csv.specs.Records.{fields_of};
 ghost use Rattle.csv.specs.declared.parser.State.TheVariants as st;
@@ -89,6 +89,7 @@ fn read_rows<R: Read + Drop, T: Row>(
 ) -> Result<Vec<T>, TraceFault>
     requires format { IsFormat (T.is sessions) T.records T.fields (T.read sessions) }
     ensures rows { IfOk result (λ rows. All (T.is sessions) rows.items) }
+    ensures from_one { IfErr result (λ fault. 0 < fault.row) }
     ensures answer { (bytes : List ℕ) → R.remaining input ≡ Some bytes
         → AnswersWith (T.is sessions) T.records (records_of bytes) (rows_from (T.read sessions) 0 (records_of bytes)) result }
 {
@@ -127,8 +128,9 @@ pub fn read_trace<R: Read + Drop>(
     input: R,
     sessions: u16,
 ) -> Result<Vec<TraceRow>, TraceFault>
-    // This holds whatever the reader gives.
+    // These hold whatever the reader gives.
     ensures rows { IfOk result (λ rows. All (IsRow sessions) rows.items) }
+    ensures from_one { IfErr result (λ fault. 0 < fault.row) }
 
     // This holds where the reader tells what it gives.
     ensures answer { (bytes : List ℕ) → R.remaining input ≡ Some bytes
@@ -149,8 +151,9 @@ pub fn read_history<R: Read + Drop>(
     input: R,
     sessions: u16,
 ) -> Result<Vec<Entry>, TraceFault>
-    // This holds whatever the reader gives.
+    // These hold whatever the reader gives.
     ensures entries { IfOk result (λ entries. All (IsEntry sessions) entries.items) }
+    ensures from_one { IfErr result (λ fault. 0 < fault.row) }
 
     // This holds where the reader tells what it gives.
     ensures answer { (bytes : List ℕ) → R.remaining input ≡ Some bytes
