@@ -1,4 +1,4 @@
-//! The table of cells: where a resource's cell stands is found once a call, and an idle cell is kept for the next resource.
+//! The table of cells: where a resource's cell stands is found once a call, and an idle cell stays for the next resource.
 
 ghost use Rattle.std.specs.Prelude.{◌≡◌, ℕ, ◌+◌, ◌<◌, ◌≤◌, true, false, List, [], ◌∷◌, ◌++◌, None, Some, if◌then◌else◌, length, take, slice_get, IfOk, OnOk, OnErr, vec_len};
 ghost use Rattle.std.specs.List.{All};
