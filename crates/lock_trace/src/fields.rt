@@ -42,6 +42,7 @@ pub(crate) fn session_of(field: &[u8], sessions: u16) -> Result<u16, TraceKind>
     }
 }
 
+#[inline(always)]
 pub(crate) fn op_of(field: &[u8]) -> Result<Op, TraceKind>
     ensures { result ≡ op_in field.now }
 {

@@ -1,7 +1,8 @@
 //! Resources and numbers whose texts have no fault, read in one pass. The bytes aren't tested for UTF-8, since they
 //! are digits and `/` alone. What isn't read here is looked at again, for its fault.
 
-ghost use Rattle.std.specs.Prelude.{◌≡◌, ◌≤◌, ◌++◌, length, take, IfSome, Ok, decimal};
+ghost use Rattle.std.specs.Prelude.{◌≡◌, ◌↔◌, ◌+◌, ◌<◌, ◌≤◌, ◌++◌, length, take, IsSome, IfSome, Ok, decimal};
+ghost use Rattle.lock_tree.specs.Paths.{IsResource};
 ghost use Rattle.lock_trace.specs.Fields.{resource_in};
 
 use lock_tree::{LEVELS, Resource};
@@ -50,6 +51,22 @@ pub(crate) fn plain_number(field: &[u8]) -> Option<u32>
     Some(number)
 }
 
+// The resource of the numbers down to a level, which is counted from 0. Each length stands by itself, since a copy of a
+// length that is known takes a move or two, and any other a call.
+#[inline(always)]
+fn resource_to(numbers: &[u32; LEVELS], level: usize) -> Option<Resource>
+    requires { level < LEVELS }
+    ensures found { IsSome result ↔ IsResource (take (level + 1) numbers.now) }
+    ensures value { IfSome result (λ resource. resource ≡ take (level + 1) numbers.now) }
+{
+    match level {
+        0 => Resource::from_numbers(&numbers[..1]),
+        1 => Resource::from_numbers(&numbers[..2]),
+        2 => Resource::from_numbers(&numbers[..3]),
+        _ => Resource::from_numbers(&numbers[..4]),
+    }
+}
+
 /// The resource that a field is, unless the field is faulty or has a number above 4294967289.
 pub(crate) fn plain_resource(field: &[u8]) -> Option<Resource>
     ensures { IfSome result (λ resource. resource_in field.now ≡ Ok resource) }
@@ -60,7 +77,7 @@ pub(crate) fn plain_resource(field: &[u8]) -> Option<Resource>
         let (number, end) = number_from(field, start)?;
         numbers[level] = number;
         if end == field.len() {
-            return Resource::from_numbers(&numbers[..level + 1]);
+            return resource_to(&numbers, level);
         }
         if field[end] != b'/' {
             return None;

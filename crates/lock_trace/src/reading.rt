@@ -21,6 +21,11 @@ use lock_rules::Entry;
 use std::alloc::Global;
 use std::io::Read;
 
+// The room of the record that rows are read into. It grows where a row is longer.
+const RECORD_BYTES: usize = 256;
+
+const RECORD_FIELDS: usize = 8;
+
 // A reader of records of any length, with no header.
 fn records<R: Read>(alloc: Global, input: R) -> Reader<R>
     ensures reading { IsReading result }
@@ -33,7 +38,20 @@ fn records<R: Read>(alloc: Global, input: R) -> Reader<R>
         .from_reader(alloc, input)
 }
 
+// A record with room for a row of common length, where memory is there. The reader takes as many bytes of a row at once
+// as the record has room for, so a record that grows by itself, and by little, is read in several pieces.
+fn roomy_record(alloc: Global) -> ByteRecord
+    ensures { fields_of result ≡ [] }
+{
+    match ByteRecord::with_capacity(alloc, RECORD_BYTES, RECORD_FIELDS) {
+        Ok(record) => record,
+        Err(_) => ByteRecord::new(alloc),
+    }
+}
+
 // The reader refuses no record for its length or its bytes.
+#[cold]
+#[inline(never)]
 fn kind_of(error: &Error) -> TraceKind
     requires { is_of_device_or_memory (error_kind error.now) ≡ true }
     ensures { result ≡ (if is_io (error_kind error.now) then kind.Device else kind.NoMemory) }
@@ -46,6 +64,7 @@ fn kind_of(error: &Error) -> TraceKind
 }
 
 // Reads the next record, and whether there was one.
+#[inline(always)]
 fn next_record<R: Read>(reader: &mut Reader<R>, row: &mut ByteRecord) -> Result<bool, TraceKind>
     requires { IsReading reader.old }
     ensures reading { OnOk result (IsReading reader.new) }
@@ -94,7 +113,7 @@ fn read_rows<R: Read + Drop, T: Row>(
         → AnswersWith (T.is sessions) T.records (records_of bytes) (rows_from (T.read sessions) 0 (records_of bytes)) result }
 {
     let mut reader = records(alloc, input);
-    let mut row = ByteRecord::new(alloc);
+    let mut row = roomy_record(alloc);
     let mut rows = Vec::new(alloc);
     for _ in 0..u64::MAX {
         let place = rows.len() as u64;
