@@ -33,3 +33,5 @@ mod traces;
 mod trees;
 #[cfg(test)]
 mod waits;
+#[cfg(test)]
+mod waits_beside_a_walk;
