@@ -385,7 +385,7 @@ fn the_book_and_the_rows_say_what_a_walk_says(rt: HostRuntime) -> Result<(), Fai
         },
     };
     let mut lot = 2026;
-    for turn in 0..600 {
+    for turn in 0..3000 {
         take_turn(&rt, &mut model, &mut places, &mut lot, turn)?;
     }
     assert!(&rt; model.seen.waits > 100);
