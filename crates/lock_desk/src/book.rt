@@ -135,7 +135,6 @@ impl Book {
     /// All growths come before the first change. `NoMemory` only where one of them was refused: the book is as before,
     /// and the same call may be made again. A Begin, a Poll, a Release, a Commit, an Abort and a refused call grow the
     /// history alone.
-    // written out where it is called, so that a batch of one call takes no longer way to the desk than one call does
     #[inline(always)]
     pub fn serve(&mut self, session: u16, call: Call) -> Result<Reply, NoMemory>
         requires some { 1 ≤ session }
@@ -147,6 +146,7 @@ impl Book {
         }) }
         ensures err { OnErr result (self.new ≡ self.old) }
     {
+        // Written out where it is called: a batch of one call takes no longer way to the desk than one call does.
         self.history.reserve(1)?;
         let asked = call;
         let reply = self.desk.serve(session, call)?;
