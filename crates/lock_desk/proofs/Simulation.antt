@@ -1,5 +1,5 @@
 -- A desk that shows a state makes its tests, and shows the next state after each act.
-use Rattle.std.proofs.Common.{◌≡◌, ℕ, ◌+◌, ◌<◌, Bool, true, false, cond, not, eqb, ◌&&◌, leb, inl, inr, List, [], ◌∷◌, ◌++◌, length, length-append, map, Option, Some, None, is_some, refl, sym, ◌∙◌, ap, arith, subst}
+use Rattle.std.proofs.Common.{◌≡◌, ℕ, ◌+◌, ◌<◌, Bool, true, false, cond, not, eqb, ◌&&◌, leb, inl, inr, List, [], ◌∷◌, ◌++◌, length, length-append, map, Option, Some, None, is_some, refl, sym, ◌∙◌, ap, arith, subst, Result, IfOk}
 use Rattle.std.proofs.lemmas.Bool.{not-false, cases_Bool}
 use Rattle.lock_modes.specs.declared.Mode.{Mode}
 use Rattle.lock_modes.specs.Order.{at_or_below, need_of}
@@ -11,11 +11,11 @@ use Rattle.lock_rules.specs.declared.calls.Call.TheVariants.{Begin, Lock, Conver
 use Rattle.lock_rules.specs.declared.calls.Why.{Why}
 use Rattle.lock_rules.specs.declared.calls.Why.TheVariants.{AlreadyOpen, NoTransaction, IsWaiting, IsDoomed, NothingAsked, NotHeld, ParentNotHeld, ChildHeld, TooManyLocks}
 use Rattle.lock_rules.specs.declared.calls.Reply.{Reply}
-use Rattle.lock_rules.specs.declared.calls.Reply.TheVariants.{Granted, Waiting, Deadlock}
+use Rattle.lock_rules.specs.declared.calls.Reply.TheVariants.{Granted, Waiting, Deadlock, Refused}
 use Rattle.lock_rules.specs.declared.calls.TheConstants.{MAX_LOCKS}
 use Rattle.lock_rules.specs.Queue.{after_grant, is_granted_at_once, with_request}
 use Rattle.lock_rules.specs.Waits.{after_victims}
-use Rattle.lock_rules.specs.Step.{is_nothing, lacks_parent, holds_child, target_of, tests, first_failing, is_held, after_asking, after_wait, ask, after_end, act}
+use Rattle.lock_rules.specs.Step.{is_nothing, lacks_parent, holds_child, target_of, tests, first_failing, is_held, after_asking, after_wait, ask, after_end, act, outcome_of, step}
 use Rattle.lock_rules.specs.Sound.{IsNumbered, IsSound, Stands}
 use Rattle.lock_rules.proofs.Lists.{request_of-claims_but}
 use Rattle.lock_rules.proofs.Marks.{below-sup, sup-some}
@@ -297,3 +297,17 @@ begun-shown d e st s k h = record {
       ∙ ap (cond (eqb u s) (Some (record { number = st.count + 1; doomed = false }))) (h.transactions u));
   views = λ q. k.views q ∙ h.views q;
 }
+
+-- a call is answered
+
+-- a test that fails gives the refusal, and nothing changes
+pub refused-step : (d : Desk) (st : rules.State) (s : ℕ) (c : Call) (why : Why) → IsWhole d → IsSound st.table → Shows d st → Some why ≡ first_failing (desk_tests d s c) → DoesAnswer (step st s c) d (Refused why)
+refused-step d st s c why w i h e = subst (λ (o : Option Why). (Refused why ≡ (outcome_of o st s c).reply) × Shows d (outcome_of o st s c).state) (e ∙ ap first_failing (tests-shown d st s w i h c)) (refl, h)
+
+-- where none fails, the call acts
+pub passed-step : (d e : Desk) (st : rules.State) (s : ℕ) (c : Call) (reply : Reply) → IsWhole d → IsSound st.table → Shows d st → None ≡ first_failing (desk_tests d s c) → DoesAnswer (act st s c) e reply → DoesAnswer (step st s c) e reply
+passed-step d e st s c reply w i h none acted = subst (λ (o : Option Why). (reply ≡ (outcome_of o st s c).reply) × Shows e (outcome_of o st s c).state) (none ∙ ap first_failing (tests-shown d st s w i h c)) acted
+
+-- where it is answered at all
+pub passed-steps : {E : Type 0} (d e : Desk) (st : rules.State) (s : ℕ) (c : Call) (result : Result Reply E) → IsWhole d → IsSound st.table → Shows d st → None ≡ first_failing (desk_tests d s c) → IfOk result (DoesAnswer (act st s c) e) → IfOk result (DoesAnswer (step st s c) e)
+passed-steps d e st s c result w i h none acted = subst (λ (o : Option Why). IfOk result (λ (reply : Reply). (reply ≡ (outcome_of o st s c).reply) × Shows e (outcome_of o st s c).state)) (none ∙ ap first_failing (tests-shown d st s w i h c)) acted

@@ -101,16 +101,6 @@ request_tests d s Abort = []
 abbrev pub desk_tests : Desk → ℕ → Call → List (Bool × Why)
 desk_tests d s c = standing_tests d s c ++ request_tests d s c
 
--- this is where the cell of the resource stands that the call names
-abbrev pub IsFound : Desk → Call → Option ℕ → Type 0
-IsFound d (Lock r m) place = IsPlace r d.cells.entries place
-IsFound d (Convert r m) place = IsPlace r d.cells.entries place
-IsFound d (Release r) place = IsPlace r d.cells.entries place
-IsFound d Begin place = Unit {0}
-IsFound d Poll place = Unit {0}
-IsFound d Commit place = Unit {0}
-IsFound d Abort place = Unit {0}
-
 -- nothing that is seen has changed
 pub record IsSameSeen (d e : Desk) : Type 0 where
   pub count : e.count ≡ d.count

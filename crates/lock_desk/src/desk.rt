@@ -1,30 +1,30 @@
 //! The desk: all cells and lockers, and what each call does to them.
 
-ghost use Rattle.std.specs.Prelude.{◌≡◌, ℕ, ◌+◌, ◌-◌, ◌<◌, ◌≤◌, ◌&&◌, nat_le, List, true, false, None, is_some, if◌then◌else◌, map, length, IfOk, OnOk, OnErr, vec_len};
+ghost use Rattle.std.specs.Prelude.{◌≡◌, ℕ, ◌+◌, ◌-◌, ◌<◌, ◌≤◌, ◌&&◌, nat_le, List, None, is_some, if◌then◌else◌, map, length, IfOk, OnOk, OnErr, vec_len};
 ghost use Rattle.waits_for.specs.Pairs.{pairs_of};
 ghost use Rattle.lock_rules.specs.declared.calls.Reply.TheVariants.{Waiting, Deadlock};
-ghost use Rattle.lock_rules.specs.State.{State, empty, held_mode, doomed_in};
-ghost use Rattle.lock_rules.specs.Step.{target_of, is_held, first_failing, ask, act, step};
+ghost use Rattle.lock_rules.specs.State.{State, empty, doomed_in};
 ghost use Rattle.lock_rules.specs.Waits.{after_victims};
 ghost use Rattle.lock_rules.specs.Sound.{IsNumbered, IsSound};
-ghost use Rattle.lock_desk.specs.Cells.{pair_of, is_granted, IsPlace};
+ghost use Rattle.lock_desk.specs.Cells.{pair_of, IsPlace};
 ghost use Rattle.lock_desk.specs.declared.cells.Part.TheVariants as part;
 ghost use Rattle.lock_desk.specs.ChildCounts.{has_child};
 ghost use Rattle.lock_desk.specs.Lockers.{standing_of};
-ghost use Rattle.lock_desk.specs.Changes.{view_at, standing, IsWhole, DoesKeep, mode_held, desk_tests, IsFound, IsSameSeen, CanAsk, MayAsk, CanLock, CanConvert, HasAsked, CanRelease, HasFreed, HasGivenBack, HasGivenBackAll, HasCancelled, HasDoomed, HasBegun, HasEnded};
+ghost use Rattle.lock_desk.specs.Changes.{view_at, standing, IsWhole, DoesKeep, mode_held, CanRelease, HasFreed, HasGivenBack, HasGivenBackAll, HasCancelled, HasDoomed, HasBegun, HasEnded};
 ghost use Rattle.lock_desk.specs.Ready.{IsReadyDesk};
-ghost use Rattle.lock_desk.specs.Shows.{Shows, DoesAnswer};
+ghost use Rattle.lock_desk.specs.Shows.{Shows};
 
+mod asking;
 mod grants;
+mod steps;
 
 use crate::cell_table::CellTable;
-use crate::cells::{Part, RequestStatus, SessionMode};
-use crate::lockers::{Locker, Request};
+use crate::cells::Part;
+use crate::lockers::Locker;
 use crate::positions::position_of;
-use crate::refusals::target_of;
 use crate::waits::{Waits, is_written, new_waits, set_number, victim};
 use lock_modes::Mode;
-use lock_rules::{Call, MAX_LOCKS, MAX_SESSIONS, Reply};
+use lock_rules::{MAX_LOCKS, MAX_SESSIONS, Reply};
 use lock_tree::Resource;
 use std::alloc::{AllocError, Global};
 
@@ -136,106 +136,6 @@ impl Desk {
     {
         let locker = &self.lockers[position_of(session)];
         locker.holds_child(resource)
-    }
-
-    /// Asks for a resource that the session doesn't hold.
-    fn lock(
-        &mut self,
-        session: u16,
-        place: Option<usize>,
-        resource: Resource,
-        mode: Mode,
-    ) -> Result<RequestStatus, AllocError>
-        requires some { 1 ≤ session }
-        requires within { session ≤ vec_len self.old.lockers }
-        requires whole { IsWhole self.old }
-        requires ready { IsReadyDesk self.old }
-        requires place { IsPlace resource self.old.cells.entries place }
-        requires can { CanLock session resource self.old }
-        ensures asked { IfOk result (λ status. HasAsked session resource mode (is_granted status) self.old self.new) }
-        ensures err { OnErr result (IsSameSeen self.old self.new) }
-        ensures kept { DoesKeep self.old self.new }
-    {
-        let position = position_of(session);
-        let locker = &mut self.lockers[position];
-        locker.make_room()?;
-        let status = self.cells.ask(
-            place,
-            resource,
-            SessionMode { session, mode },
-            &mut self.waits,
-        )?;
-        let newest = self.cells.or_newest(place);
-        let locker = &mut self.lockers[position];
-        match status {
-            RequestStatus::Granted => locker.hold(resource, newest),
-            RequestStatus::Waiting => locker.wait_for(Request::Fresh(resource)),
-        }
-        Ok(status)
-    }
-
-    /// Asks for a higher mode on a resource that the session holds.
-    fn convert(
-        &mut self,
-        session: u16,
-        place: Option<usize>,
-        resource: Resource,
-        mode: Mode,
-    ) -> Result<RequestStatus, AllocError>
-        requires some { 1 ≤ session }
-        requires within { session ≤ vec_len self.old.lockers }
-        requires whole { IsWhole self.old }
-        requires ready { IsReadyDesk self.old }
-        requires place { IsPlace resource self.old.cells.entries place }
-        requires can { CanConvert session resource self.old }
-        ensures asked { IfOk result (λ status. HasAsked session resource mode (is_granted status) self.old self.new) }
-        ensures err { OnErr result (IsSameSeen self.old self.new) }
-        ensures kept { DoesKeep self.old self.new }
-    {
-        let status = self.cells.ask(
-            place,
-            resource,
-            SessionMode { session, mode },
-            &mut self.waits,
-        )?;
-        match status {
-            RequestStatus::Granted => {}
-            RequestStatus::Waiting => {
-                let locker = &mut self.lockers[position_of(session)];
-                locker.wait_for(Request::Conversion(resource));
-            }
-        }
-        Ok(status)
-    }
-
-    /// Asks for a target, where the session holds the resource in this mode, or not at all.
-    fn seek(
-        &mut self,
-        session: u16,
-        place: Option<usize>,
-        resource: Resource,
-        held: Option<Mode>,
-        target: Mode,
-    ) -> Result<RequestStatus, AllocError>
-        requires some { 1 ≤ session }
-        requires within { session ≤ vec_len self.old.lockers }
-        requires view_at { held ≡ mode_held self.old session resource }
-        requires whole { IsWhole self.old }
-        requires ready { IsReadyDesk self.old }
-        requires place { IsPlace resource self.old.cells.entries place }
-        requires can { CanAsk session resource self.old }
-        ensures held { is_held (mode_held self.old session resource) target ≡ true
-            → IfOk result (λ status. (is_granted status ≡ true) × IsSameSeen self.old self.new) }
-        ensures asked { is_held (mode_held self.old session resource) target ≡ false
-            → IfOk result (λ status. HasAsked session resource target (is_granted status) self.old self.new) }
-        ensures err { OnErr result (IsSameSeen self.old self.new) }
-        ensures kept { DoesKeep self.old self.new }
-    {
-        match held {
-            Some(held) if held.covers(target) => Ok(RequestStatus::Granted),
-            Some(_) => self.convert(session, place, resource, target),
-            None => self.lock(session, place, resource, target),
-        }
     }
 
     /// The session gives the resource back.
@@ -430,124 +330,5 @@ impl Desk {
             return Reply::Waiting;
         }
         otherwise
-    }
-
-    /// Asks for a mode on the resource, or for what covers it and what is held there.
-    fn ask(
-        &mut self,
-        session: u16,
-        place: Option<usize>,
-        resource: Resource,
-        mode: Mode,
-    ) -> Result<Reply, AllocError>
-        requires some { 1 ≤ session }
-        requires within { session ≤ vec_len self.old.lockers }
-        requires whole { IsWhole self.old }
-        requires ready { IsReadyDesk self.old }
-        requires place { IsPlace resource self.old.cells.entries place }
-        requires may { MayAsk session resource mode self.old }
-        ensures ask { (st : State) → IsSound st.table → IsNumbered st → Shows self.old st
-            → let held = held_mode st.table session resource in
-            IfOk result (DoesAnswer (ask st session resource (target_of held mode)) self.new) }
-        ensures err { OnErr result (IsSameSeen self.old self.new) }
-        ensures count { self.new.count ≡ self.old.count }
-        ensures whole { IsWhole self.new }
-        ensures ready { IsReadyDesk self.new }
-        ensures len { vec_len self.new.lockers ≡ vec_len self.old.lockers }
-    {
-        let held = self.mode_at(session, place);
-        let target = target_of(held, mode);
-        match self.seek(session, place, resource, held, target)? {
-            RequestStatus::Granted => Ok(Reply::Granted(target)),
-            RequestStatus::Waiting => {
-                self.settle(session);
-                Ok(self.standing_reply(session, Reply::Granted(target)))
-            }
-        }
-    }
-
-    /// Where the cell of the resource stands that the call names.
-    fn find(&mut self, call: Call) -> Option<usize>
-        ensures found { IsFound self.old call result }
-        ensures same { self.new ≡ self.old }
-    {
-        match call {
-            Call::Lock(resource, _) => self.cells.find(resource),
-            Call::Convert(resource, _) | Call::Release(resource) => self.cells.place_of(resource),
-            Call::Begin | Call::Poll | Call::Commit | Call::Abort => None,
-        }
-    }
-
-    /// Makes ready for a release, if the call is one.
-    fn index(&mut self, session: u16, call: Call)
-        requires some { 1 ≤ session }
-        requires within { session ≤ vec_len self.old.lockers }
-        requires whole { IsWhole self.old }
-        requires ready { IsReadyDesk self.old }
-        ensures same { IsSameSeen self.old self.new }
-        ensures kept { DoesKeep self.old self.new }
-    {
-        if matches!(call, Call::Release(_)) {
-            let locker = &mut self.lockers[position_of(session)];
-            locker.index();
-        }
-    }
-
-    /// What the call does where no test fails.
-    fn act(&mut self, session: u16, place: Option<usize>, call: Call) -> Result<Reply, AllocError>
-        requires some { 1 ≤ session }
-        requires within { session ≤ vec_len self.old.lockers }
-        requires whole { IsWhole self.old }
-        requires ready { IsReadyDesk self.old }
-        requires found { IsFound self.old call place }
-        requires passed { first_failing (desk_tests self.old session call) ≡ None }
-        requires room { self.old.count < 18446744073709551615 }
-        ensures act { (st : State) → IsSound st.table → IsNumbered st → Shows self.old st
-            → IfOk result (DoesAnswer (act st session call) self.new) }
-        ensures err { OnErr result (IsSameSeen self.old self.new) }
-        ensures count { self.new.count ≤ self.old.count + 1 }
-        ensures whole { IsWhole self.new }
-        ensures ready { IsReadyDesk self.new }
-        ensures len { vec_len self.new.lockers ≡ vec_len self.old.lockers }
-    {
-        match call {
-            Call::Begin => Ok(Reply::Began(self.begin(session))),
-            Call::Lock(resource, mode) | Call::Convert(resource, mode) => {
-                self.ask(session, place, resource, mode)
-            }
-            Call::Poll => Ok(self.standing_reply(session, Reply::Clear)),
-            Call::Release(resource) => {
-                self.release(session, place, resource);
-                Ok(Reply::Released)
-            }
-            Call::Commit => Ok(Reply::Committed(self.end(session) as u32)),
-            Call::Abort => Ok(Reply::Aborted(self.abort(session) as u32)),
-        }
-    }
-
-    /// One step of the sequential lock manager.
-    pub(crate) fn serve(&mut self, session: u16, call: Call) -> Result<Reply, AllocError>
-        requires some { 1 ≤ session }
-        requires within { session ≤ vec_len self.old.lockers }
-        requires whole { IsWhole self.old }
-        requires ready { IsReadyDesk self.old }
-        requires room { self.old.count < 18446744073709551615 }
-        ensures step { (st : State) → IsSound st.table → IsNumbered st → Shows self.old st
-            → IfOk result (DoesAnswer (step st session call) self.new) }
-        ensures err { (st : State) → Shows self.old st → OnErr result (Shows self.new st) }
-        ensures count { self.new.count ≤ self.old.count + 1 }
-        ensures whole { IsWhole self.new }
-        ensures ready { IsReadyDesk self.new }
-        ensures len { vec_len self.new.lockers ≡ vec_len self.old.lockers }
-    {
-        let made = call;
-        self.index(session, made);
-        let named = call;
-        let place = self.find(named);
-        let asked = call;
-        match self.refusal(session, place, asked) {
-            Some(why) => Ok(Reply::Refused(why)),
-            None => self.act(session, place, call),
-        }
     }
 }

@@ -3,11 +3,11 @@
 ghost use Rattle.std.specs.Prelude.{◌≡◌, ◌≤◌, vec_len};
 ghost use Rattle.lock_rules.specs.Step.{is_nothing, target_of, first_failing};
 ghost use Rattle.lock_desk.specs.Cells.{IsPlace};
-ghost use Rattle.lock_desk.specs.Changes.{lacks_need, open_tests, idle_tests, standing_tests, lock_tests, convert_tests, release_tests, request_tests, desk_tests, IsFound, IsWhole};
+ghost use Rattle.lock_desk.specs.Changes.{mode_held, lacks_need, open_tests, idle_tests, lock_tests, convert_tests, release_tests, IsWhole};
 
 use crate::desk::Desk;
 use lock_modes::Mode;
-use lock_rules::{Call, MAX_LOCKS, Why};
+use lock_rules::{MAX_LOCKS, Why};
 use lock_tree::Resource;
 
 impl Desk {
@@ -29,7 +29,7 @@ impl Desk {
     }
 
     /// The refusal of a session that has no transaction.
-    fn open_refusal(&self, session: u16) -> Option<Why>
+    pub(crate) fn open_refusal(&self, session: u16) -> Option<Why>
         requires some { 1 ≤ session }
         requires within { session ≤ vec_len self.now.lockers }
         ensures { result ≡ first_failing (open_tests self.now session) }
@@ -59,22 +59,22 @@ impl Desk {
         None
     }
 
-    fn lock_refusal(
+    /// The refusal of a lock by what it is for, where the session holds the resource in this mode, or not at all.
+    pub(crate) fn lock_refusal(
         &self,
         session: u16,
-        place: Option<usize>,
+        held: Option<Mode>,
         resource: Resource,
         mode: Mode,
     ) -> Option<Why>
         requires some { 1 ≤ session }
         requires within { session ≤ vec_len self.now.lockers }
-        requires place { IsPlace resource self.now.cells.entries place }
+        requires held { held ≡ mode_held self.now session resource }
         ensures { result ≡ first_failing (lock_tests self.now session resource mode) }
     {
         if is_nothing(mode) {
             return Some(Why::NothingAsked);
         }
-        let held = self.mode_at(session, place);
         if self.lacks_parent(session, resource, target_of(held, mode)) {
             return Some(Why::ParentNotHeld);
         }
@@ -85,22 +85,22 @@ impl Desk {
         None
     }
 
-    fn convert_refusal(
+    /// The refusal of a conversion by what it is for, where the session holds the resource in this mode, or not at all.
+    pub(crate) fn convert_refusal(
         &self,
         session: u16,
-        place: Option<usize>,
+        held: Option<Mode>,
         resource: Resource,
         mode: Mode,
     ) -> Option<Why>
         requires some { 1 ≤ session }
         requires within { session ≤ vec_len self.now.lockers }
-        requires place { IsPlace resource self.now.cells.entries place }
+        requires held { held ≡ mode_held self.now session resource }
         ensures { result ≡ first_failing (convert_tests self.now session resource mode) }
     {
         if is_nothing(mode) {
             return Some(Why::NothingAsked);
         }
-        let held = self.mode_at(session, place);
         if held.is_none() {
             return Some(Why::NotHeld);
         }
@@ -110,7 +110,13 @@ impl Desk {
         None
     }
 
-    fn release_refusal(&self, session: u16, place: Option<usize>, resource: Resource) -> Option<Why>
+    /// The refusal of a release by what it is for.
+    pub(crate) fn release_refusal(
+        &self,
+        session: u16,
+        place: Option<usize>,
+        resource: Resource,
+    ) -> Option<Why>
         requires some { 1 ≤ session }
         requires within { session ≤ vec_len self.now.lockers }
         requires whole { IsWhole self.now }
@@ -124,53 +130,6 @@ impl Desk {
             return Some(Why::ChildHeld);
         }
         None
-    }
-
-    /// The refusal by the tests of a call that ask what it is for.
-    fn request_refusal(&self, session: u16, place: Option<usize>, call: Call) -> Option<Why>
-        requires some { 1 ≤ session }
-        requires within { session ≤ vec_len self.now.lockers }
-        requires whole { IsWhole self.now }
-        requires found { IsFound self.now call place }
-        ensures { result ≡ first_failing (request_tests self.now session call) }
-    {
-        match call {
-            Call::Lock(resource, mode) => self.lock_refusal(session, place, resource, mode),
-            Call::Convert(resource, mode) => self.convert_refusal(session, place, resource, mode),
-            Call::Release(resource) => self.release_refusal(session, place, resource),
-            Call::Begin | Call::Poll | Call::Commit | Call::Abort => None,
-        }
-    }
-
-    /// The refusal by the tests of a call that ask how the session stands.
-    fn standing_refusal(&self, session: u16, call: Call) -> Option<Why>
-        requires some { 1 ≤ session }
-        requires within { session ≤ vec_len self.now.lockers }
-        ensures { result ≡ first_failing (standing_tests self.now session call) }
-    {
-        match call {
-            Call::Begin if self.locker(session).is_open() => { Some(Why::AlreadyOpen) }
-            Call::Begin => None,
-            Call::Poll | Call::Abort => self.open_refusal(session),
-            Call::Lock(_, _) | Call::Convert(_, _) | Call::Release(_) | Call::Commit => {
-                self.idle_refusal(session)
-            }
-        }
-    }
-
-    /// The refusal of the first test of the call that fails.
-    pub(crate) fn refusal(&self, session: u16, place: Option<usize>, call: Call) -> Option<Why>
-        requires some { 1 ≤ session }
-        requires within { session ≤ vec_len self.now.lockers }
-        requires whole { IsWhole self.now }
-        requires found { IsFound self.now call place }
-        ensures { result ≡ first_failing (desk_tests self.now session call) }
-    {
-        let asked = call;
-        match self.standing_refusal(session, asked) {
-            Some(why) => Some(why),
-            None => self.request_refusal(session, place, call),
-        }
     }
 }
 

@@ -14,7 +14,7 @@ returns-in-Granted-clause-ask c = λ st i j h.
     let s = c.args.session in
     let r = c.args.resource in
     let m = c.target_of-target.result in
-    granted-answer d c.seek.new.self st s r c.args.mode m c.requires.whole i h c.requires.may (c.target_of-target.ensures ∙ ap (λ o. target_of o c.args.mode) (c.mode_at-held.ensures r c.requires.place))
+    granted-answer d c.seek.new.self st s r c.args.mode m c.requires.whole i h c.requires.may (c.target_of-target.ensures ∙ ap (λ o. target_of o c.args.mode) c.requires.held)
     (λ y. (c.in_ok-seek.ensures.held y).1)
     (λ n. subst (λ (b : Bool). HasAsked s r c.target_of-target.result b c.args.self.now c.seek.new.self) (ap is_granted c.in-Granted.is) (c.in_ok-seek.ensures.asked n))
 
@@ -24,7 +24,7 @@ returns-in-Waiting-clause-ask c = λ st i j h.
     let s = c.args.session in
     let r = c.args.resource in
     let m = c.target_of-target.result in
-    let target = c.target_of-target.ensures ∙ ap (λ o. target_of o c.args.mode) (c.mode_at-held.ensures r c.requires.place) in
+    let target = c.target_of-target.ensures ∙ ap (λ o. target_of o c.args.mode) c.requires.held in
     elim (cases_Bool (is_held (mode_held c.args.self.now c.args.session c.args.resource) c.target_of-target.result)) [
       | inl y ↦ absurd (let a = (c.in_ok-seek.ensures.held y).0 in let b = ap is_granted c.in-Waiting.is in cc)
       | inr n ↦

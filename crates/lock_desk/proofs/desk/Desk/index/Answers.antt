@@ -4,12 +4,12 @@ use Rattle.lock_desk.proofs.Asking.{within, room-same, room-whole}
 use Rattle.lock_desk.proofs.RowsOfTheDesk.{ready-same}
 use Rattle.lock_desk.proofs.desk.Desk.index.Goals as goal
 
-pub returns-then-matches-clause-same : goal.returns-then-matches-clause-same
-returns-then-matches-clause-same c =
+pub returns-clause-same : goal.returns-clause-same
+returns-clause-same c =
     room-same c.args.self.now c.args.session c.index_mut-locker.result.now c.index.new.self c.requires.whole (within c.args.self.now c.args.session c.position_of.ensures c.requires.some c.requires.within) c.index_mut-locker.ensures.value c.index.ensures.standing c.index.ensures.kept [] _ refl refl (became-same [] c.args.self.now.cells.entries c.requires.whole.cells)
 
-pub returns-then-matches-clause-kept : goal.returns-then-matches-clause-kept
-returns-then-matches-clause-kept c =
+pub returns-clause-kept : goal.returns-clause-kept
+returns-clause-kept c =
     record {
       whole = room-whole c.args.self.now c.args.session c.index_mut-locker.result.now c.index.new.self c.requires.whole (within c.args.self.now c.args.session c.position_of.ensures c.requires.some c.requires.within) c.index_mut-locker.ensures.value c.index.ensures.standing c.index.ensures.kept [] _ refl refl (became-same [] c.args.self.now.cells.entries c.requires.whole.cells);
       lockers = search rules;
