@@ -7,8 +7,9 @@
 //!    the lockers, by session (`lockers.rt`), each with methods that alone read its fields; a session's locks, with how many
 //!    children it holds of each that is indexed (`locks.rt`); what is promoted in both (`releases.rt`); who waits for whom
 //!    (`waits.rt`, `positions.rt`);
-//! 2. the desk, which does what each call does to all of them (`desk.rt`) once its tests are passed (`refusals.rt`), and
-//!    grants locks that go together in one go (`runs.rt`, by what `desk/grants.rt` does);
+//! 2. the desk (`desk.rt`), which serves each kind of call by its tests (`refusals.rt`) and by what it does where none fails
+//!    (`desk/steps.rt`), asks for resources (`desk/asking.rt`), and grants locks that go together in one go (`runs.rt`, by what
+//!    `desk/grants.rt` does);
 //! 3. the book, which is the desk with its history, and what callers see (`book.rt`, `batch.rt`).
 #![tactic(auto)]
 
