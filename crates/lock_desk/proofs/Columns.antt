@@ -1,12 +1,10 @@
 -- Two columns side by side: what is read there, what comes and goes in both, and what a mask says of the codes.
-use Rattle.std.proofs.Common.{◌≡◌, ℕ, zero, suc, ◌+◌, ◌-◌, ◌<◌, ◌≤◌, Bool, true, false, not, eqb, ◌&&◌, ◌||◌, inl, inr, List, [], ◌∷◌, ◌++◌, length, get_or, take, drop, insert, remove, set, map, refl, sym, ◌∙◌, ap, subst, arith, bit_and}
+use Rattle.std.proofs.Common.{◌≡◌, ℕ, zero, suc, ◌+◌, ◌<◌, ◌≤◌, Bool, true, false, not, eqb, ◌&&◌, ◌||◌, inl, inr, List, [], ◌∷◌, ◌++◌, length, get_or, take, drop, insert, remove, set, map, refl, sym, ◌∙◌, ap, subst, arith, bit_and}
 use Rattle.std.specs.List.{list_any}
 use Rattle.std.proofs.lemmas.Bool.{cases_order}
 use Rattle.std.proofs.lemmas.Nat.{and_comm}
-use Rattle.std.proofs.Math.Bool.{or-false}
 use Rattle.std.proofs.lemmas.Bool.Decides.{nat_tests}
 use Rattle.std.proofs.lemmas.List.Elements.{All-get_or}
-use Rattle.std.proofs.lemmas.List.Folds.{list_any-append}
 use Rattle.std.proofs.lemmas.List.{get_or_default, take_more, length-map, get_or-map, map-append, map-set, take-map, drop-map}
 use Rattle.std.proofs.Math.Seq.{map-set_same}
 use Rattle.mode_lanes.specs.Masks.{meets}
@@ -17,7 +15,7 @@ use Rattle.lock_modes.specs.Codes.{code_of, mode_of_code, mask_of}
 use Rattle.lock_modes.specs.Compatibility.{are_compatible}
 use Rattle.lock_modes.proofs.Codes.{mode_of_code-code, mask-same}
 use Rattle.lock_desk.specs.declared.cells.SessionMode.{SessionMode}
-use Rattle.lock_desk.specs.declared.holders.Holders.TheInside.{Inside}
+use Rattle.lock_desk.specs.declared.holder_columns.Columns.TheInside.{Inside}
 use Rattle.lock_desk.specs.Cells.{Ascends, with_holder, without, go_with}
 use Rattle.lock_desk.specs.Columns.{number_at, code_at, side_by_side, holders_of, AreColumns, DoRise, AreBelow, AreNotBelow}
 use Rattle.lock_desk.specs.Finding.{holder_blocks, AreOfSessions}

@@ -1,6 +1,6 @@
 -- Where the cell of a resource stands among the cells, each of which stands beside its resource.
-use Rattle.std.proofs.Common.{◌||◌, ◌≡◌, ℕ, zero, suc, ◌+◌, ◌-◌, ◌<◌, ◌≤◌, Bool, true, false, cond, List, [], ◌∷◌, ◌++◌, length, take, set, swap, slice_get, get_or, zip, Option, None, Some, is_some, IfSome, unwrap_or, position, IsSome, refl, sym, ◌∙◌, ap, subst, inl, inr, arith}
-use Rattle.std.proofs.lemmas.List.{get_or-take, get_or_default, get_or-set_other, length-take, length-set, length-append, take-set, take-append-le, take_all}
+use Rattle.std.proofs.Common.{◌||◌, ◌≡◌, ℕ, zero, suc, ◌+◌, ◌-◌, ◌<◌, ◌≤◌, Bool, true, false, cond, List, [], ◌∷◌, ◌++◌, length, take, set, swap, slice_get, get_or, zip, Option, None, Some, is_some, IfSome, unwrap_or, position, refl, sym, ◌∙◌, ap, subst, inl, inr, arith}
+use Rattle.std.proofs.lemmas.List.{get_or-set_other, length-take, length-set, length-append, take-set, take-append-le, take_all}
 use Rattle.std.proofs.lemmas.Option.{slice_get_within, get_or_from_slice_get, slice_get-get_or}
 use Rattle.std.proofs.lemmas.Bool.{cases_lt}
 use Rattle.std.proofs.lemmas.Grind.{get_or-set_at}
@@ -10,7 +10,7 @@ use Rattle.std.proofs.lemmas.Map.Made.{is_some-lookup}
 use Rattle.std.proofs.lemmas.Map.Entries.{lookup_from_place}
 use Rattle.std.specs.Cmp.{IsEquivalence}
 use Rattle.std.specs.List.{IsDistinct, swap_remove, list_any}
-use Rattle.std.specs.Map.{keys_of, lookup, IsKeyTest}
+use Rattle.std.specs.Map.{keys_of, IsKeyTest}
 use Rattle.indexmap.specs.IndexMap.{set_value_at, insert_entry}
 use Rattle.indexmap.proofs.MapLemmas.{distinct-take, index-first, insert_entry-first}
 use Rattle.indexmap.proofs.RemoveLemmas.{swap_out, own_first}
@@ -357,13 +357,6 @@ module _ (rs : List (List ℕ)) (xs ys : List Cell) (cs : Cells) (e : zip rs xs 
     -- as a newcomer it changes nothing
     pub newcomer-apart : b ≡ true → zip (in_use ks b) ys ≡ cs
     newcomer-apart h = ap (λ (qs : List (List ℕ)). zip qs ys) (last-off rs r ks b come h) ∙ front-alike
-
-    -- nor does it with a cell that is written
-    pub newcomer-still-apart : b ≡ true → (c : Cell) → zip (in_use ks b) (set ys n c) ≡ cs
-    newcomer-still-apart h c =
-        ap (λ (qs : List (List ℕ)). zip qs (set ys n c)) (last-off rs r ks b come h)
-        ∙ beside-front rs ys (set ys n c) (ap (λ m. take (length rs) (set ys m c)) is ∙ take-set ys (length rs) c)
-        ∙ front-alike
 
     -- in use it has the cell
     pub cell-come : (c : Cell) → n < length ys → cell_at r cs ≡ None → (q : List ℕ) → cell_at q (zip ks (set ys n c)) ≡ cond (same_path r q) (Some c) (cell_at q cs)

@@ -16,7 +16,7 @@ use Rattle.lock_rules.specs.Waits.{doom}
 use Rattle.lock_desk.specs.declared.desk.Desk.{Desk}
 use Rattle.lock_desk.specs.declared.cells.Part.{Part}
 use Rattle.lock_desk.specs.declared.cells.Part.TheVariants as part
-use Rattle.lock_desk.specs.Cells.{View, has_session, mode_of, cell_view, has_path, can_grant, view_after_asking, view_after_freeing, AreKeptCells, IsPlace}
+use Rattle.lock_desk.specs.Cells.{View, has_session, mode_of, cell_view, has_path, can_grant, view_after_asking, view_after_freeing, AreKeptCells}
 use Rattle.lock_desk.specs.ChildCounts.{has_child, IsUnder}
 use Rattle.lock_desk.specs.Lockers.{Standing, standings_of, standing_at, IsKeptLocker, DoAgree}
 use Rattle.lock_desk.specs.Ready.{IsReadyDesk}

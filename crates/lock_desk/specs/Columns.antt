@@ -3,7 +3,7 @@
 use Rattle.std.specs.Prelude.{◌≡◌, ℕ, ◌<◌, ◌≤◌, List, [], ◌∷◌, length, map, min, slice_index_or, vec_capacity}
 use Rattle.lock_modes.specs.Codes.{code_of, mode_of_code}
 use Rattle.lock_desk.specs.declared.cells.SessionMode.{SessionMode}
-use Rattle.lock_desk.specs.declared.holders.Holders.TheInside.{Inside}
+use Rattle.lock_desk.specs.declared.holder_columns.Columns.TheInside.{Inside}
 use Rattle.lock_desk.specs.Cells.{Ascends}
 use Rattle.lock_desk.specs.Holders.{HolderList}
 

@@ -2,8 +2,8 @@
 -- holders of a resource, and where a session stands among them.
 use Rattle.std.specs.Prelude.{◌≡◌, ℕ, ◌<◌, ◌≤◌, List, length, slice_index_or}
 use Rattle.lock_desk.specs.declared.cells.SessionMode.{SessionMode}
-use Rattle.lock_desk.specs.declared.holders.Place.{Place}
-use Rattle.lock_desk.specs.declared.holders.Place.TheVariants.{Own, Between}
+use Rattle.lock_desk.specs.declared.holder_columns.Place.{Place}
+use Rattle.lock_desk.specs.declared.holder_columns.Place.TheVariants.{Own, Between}
 
 -- what contracts see of the holders: the sessions with their modes, and how many there is room for
 pub record HolderList : Type 0 where

@@ -5,6 +5,7 @@ pub mod Batches
 pub mod Holders
 pub mod Cells
 pub mod Columns
+pub mod Alone
 pub mod Tables
 pub mod ChildCounts
 pub mod LockLists

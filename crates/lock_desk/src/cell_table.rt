@@ -225,7 +225,7 @@ impl CellTable {
         let place = self.resources.len() - 1;
         lengthen(&mut self.cells, place)?;
         let cell = &mut self.cells[place];
-        cell.occupy(holder)?;
+        cell.occupy(holder);
         self.newcomer = false;
         Ok(())
     }

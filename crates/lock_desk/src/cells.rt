@@ -1,15 +1,15 @@
 //! Cells: one for each resource that is held or waited for, with its holders and its queue.
 
-ghost use Rattle.std.specs.Prelude.{◌≡◌, ℕ, ◌+◌, ◌<◌, ◌≤◌, insert, drop, Bool, true, false, not, List, [], ◌∷◌, ◌++◌, map, ◌&&◌, ◌||◌, ◌==◌, Some, IfOk, IfSome, OnOk, OnErr, length, vec_len, vec_capacity};
-ghost use Rattle.std.specs.Option.{option_copied};
+ghost use Rattle.std.specs.Prelude.{◌≡◌, ℕ, ◌+◌, ◌<◌, ◌≤◌, insert, drop, true, false, not, [], ◌∷◌, map, ◌&&◌, ◌||◌, ◌==◌, Some, IfOk, IfSome, OnOk, OnErr, length, vec_len, vec_capacity};
 ghost use Rattle.waits_for.specs.Pairs.{pairs_of};
 ghost use Rattle.lock_tree.specs.Paths.{same_path};
 ghost use Rattle.lock_desk.specs.declared.cells.SessionMode.{SessionMode as SessionModeValue};
-ghost use Rattle.lock_desk.specs.Cells.{View, no_view, view_of, has_session, mode_of, pair_of, with_holder, view_after_giving_up, without, fits_among, go_with, Ascends, next_grant, can_grant, is_granted, behind_conversions, queue_with, view_after_asking, view_with_holder, codes_unless_waited, is_nobody, HasRoom, HasRoomFor, IsKeptCell, AreKeptCells, is_busy};
+ghost use Rattle.lock_desk.specs.Cells.{no_view, view_of, has_session, mode_of, pair_of, with_holder, view_after_giving_up, fits_among, go_with, Ascends, next_grant, can_grant, is_granted, behind_conversions, queue_with, view_after_asking, view_with_holder, codes_unless_waited, is_nobody, HasRoom, HasRoomFor, IsKeptCell, is_busy};
 ghost use Rattle.lock_desk.specs.Holders.{IsPlaceOf};
 ghost use Rattle.lock_desk.specs.Finding.{stands_first, cell_blocks, AreOfSessions};
 
-use crate::holders::{Holders, Place};
+use crate::holder_columns::Place;
+use crate::holders::Holders;
 use crate::positions::position_of;
 use lock_modes::Mode;
 use lock_tree::{Resource, same_path_is_equality};
@@ -131,14 +131,13 @@ impl Cell {
     }
 
     /// The first holder of an idle cell's resource.
-    pub(crate) fn occupy(&mut self, holder: SessionMode) -> Result<(), AllocError>
+    pub(crate) fn occupy(&mut self, holder: SessionMode)
         requires some { 1 ≤ holder.session }
         requires idle { view_of self.old ≡ no_view }
-        ensures view { OnOk result (view_of self.new ≡ record { holders = holder ∷ []; waiting = [] }) }
-        ensures kept { OnOk result (IsKeptCell self.new) }
-        ensures err { OnErr result (view_of self.new ≡ no_view) }
+        ensures view { view_of self.new ≡ record { holders = holder ∷ []; waiting = [] } }
+        ensures kept { IsKeptCell self.new }
     {
-        self.holders.open(holder)
+        self.holders.open(holder);
     }
 
     /// The mode that the session holds.

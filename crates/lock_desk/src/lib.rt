@@ -18,6 +18,7 @@ mod book;
 mod cell_table;
 mod cells;
 mod desk;
+mod holder_columns;
 mod holders;
 mod lockers;
 mod locks;

@@ -1,13 +1,11 @@
-use Rattle.std.proofs.Common.{◌≡◌, ◌-◌, ◌+◌, ◌∙◌, ℕ, List, [], Bool, false, sym, ap, refl, length, arith, Option, Some}
-use Rattle.std.proofs.lemmas.List.{length-append}
+use Rattle.std.proofs.Common.{◌∙◌, ℕ, List, Bool, false, ap, refl, Some}
 use Rattle.std.specs.List.{list_any}
 use Rattle.lock_tree.specs.Paths.{same_path}
-use Rattle.lock_desk.specs.declared.cells.Cell.{Cell}
 use Rattle.lock_desk.specs.Tables.{in_use}
 use Rattle.lock_desk.specs.Cells.{Table, Cells, cell_at, view_of}
 use Rattle.lock_desk.proofs.Results.{on-err-from}
 use Rattle.lock_desk.proofs.CellTable.{became, became-view}
-use Rattle.lock_desk.proofs.Places.{same_path-equivalence, unused, newcomer-apart, newcomer-still-apart, cell-come, long-come, idle-come, count-place}
+use Rattle.lock_desk.proofs.Places.{same_path-equivalence, unused, newcomer-apart, cell-come, long-come, idle-come, count-place}
 use Rattle.lock_desk.proofs.cell_table.CellTable.open.Goals as goal
 
 pub announce-requires : goal.announce-requires
@@ -25,15 +23,6 @@ returns-in_err-lengthen-clause-err c =
     let is = count-place rs c.args.resource c.announce.new.resources.keys c.len-place.result come c.len-place.ensures.len in
     on-err-from c.from_residual-in_err-lengthen.result (ap (λ (es : Cells). record { entries = es })
     (newcomer-apart rs c.self.inside.cells.items c.lengthen.new.cells.items c.args.self.now.entries e c.args.resource _ is c.in_err-lengthen.ensures.front c.announce.new.resources.keys c.announce.new.newcomer come c.in_ok-announce.ensures.ok))
-
-pub returns-in_err-occupy-clause-err : goal.returns-in_err-occupy-clause-err
-returns-in_err-occupy-clause-err c =
-    let rs = in_use c.self.inside.resources.keys c.self.inside.newcomer in
-    let e = ap (λ (t : Table). t.entries) c.self.view_is in
-    let come = c.in_ok-announce.ensures.keys in
-    let is = count-place rs c.args.resource c.announce.new.resources.keys c.len-place.result come c.len-place.ensures.len in
-    on-err-from c.from_residual-in_err-occupy.result (ap (λ (es : Cells). record { entries = es })
-    (newcomer-still-apart rs c.self.inside.cells.items c.lengthen.new.cells.items c.args.self.now.entries e c.args.resource _ is c.in_ok-lengthen.ensures.front c.announce.new.resources.keys c.announce.new.newcomer come c.in_ok-announce.ensures.ok c.occupy.new.self))
 
 pub invariant_of-self-2 : goal.invariant_of-self-2
 invariant_of-self-2 c =
@@ -53,6 +42,6 @@ returns-clause-ok c =
     let come = c.in_ok-announce.ensures.keys in
     let is = count-place rs c.args.resource c.announce.new.resources.keys c.len-place.result come c.len-place.ensures.len in
     let cell = c.occupy.new.self in
-    became-view c.args.resource (view_of cell) _ c.args.self.now.entries _ c.in_ok-occupy.ensures.view
-    (became same_path (λ a b. refl) c.args.resource (Some cell) c.args.self.now.entries _ c.requires.kept c.in_ok-occupy.ensures.kept
+    became-view c.args.resource (view_of cell) _ c.args.self.now.entries _ c.occupy.ensures.view
+    (became same_path (λ a b. refl) c.args.resource (Some cell) c.args.self.now.entries _ c.requires.kept c.occupy.ensures.kept
     (cell-come rs c.self.inside.cells.items c.lengthen.new.cells.items c.args.self.now.entries e c.args.resource _ is c.in_ok-lengthen.ensures.front c.announce.new.resources.keys false come cell c.in_ok-lengthen.ensures.ok c.requires.none))

@@ -1,40 +1,22 @@
-use Rattle.std.proofs.Common.{slice_set, subst}
+use Rattle.std.proofs.Common.{◌≡◌, ℕ, zero, suc, List, [], ◌∷◌, Option, arith, sym, ◌∙◌, ap, subst}
+use Rattle.lock_desk.specs.declared.cells.SessionMode.{SessionMode}
+use Rattle.lock_desk.specs.Alone.{alone_or}
 use Rattle.lock_desk.specs.Cells.{with_holder}
-use Rattle.lock_desk.specs.Holders.{IsOwn, IsBetween, IsPlaceOf}
-use Rattle.lock_desk.proofs.Rising.{length-with}
-use Rattle.lock_desk.proofs.Columns.{AreOf, beside-as, are-columns, columns-of, set-in, insert-in}
+use Rattle.lock_desk.specs.Holders.{HolderList, IsOwn, IsPlaceOf}
+use Rattle.lock_desk.proofs.Rising.{with-own}
 use Rattle.lock_desk.proofs.holders.Holders.put.Goals as goal
 
-own : (c : goal.After-self-1) → AreOf c.self.inside.sessions.items (slice_set c.self.inside.codes.items c.in-Own.index c.code-code.result) (with_holder c.args.holder c.args.self.now.items)
-own c =
-    let a = c.self.inside in
-    let h = c.args.holder in
-    let hs = c.args.self.now.items in
-    let place : IsOwn h.session hs c.in-Own.index = subst (IsPlaceOf h.session hs) c.in-Own.is c.requires.place in
-    set-in a.sessions.items a.codes.items hs c.in-Own.index h c.code-code.result (columns-of a c.args.self.now c.self.view_is c.self.invariant) place c.code-code.ensures
-
-between : (c : goal.After-insert_at-in-Between) → AreOf c.insert_at.new.list.items c.insert_at-in-Between.new.list.items (with_holder c.args.holder c.args.self.now.items)
-between c =
-    let a = c.self.inside in
-    let h = c.args.holder in
-    let hs = c.args.self.now.items in
-    let place : IsBetween h.session hs c.in-Between.index = subst (IsPlaceOf h.session hs) c.in-Between.is c.requires.place in
-    insert-in a.sessions.items a.codes.items _ _ hs c.in-Between.index h c.code-code.result (columns-of a c.args.self.now c.self.view_is c.self.invariant) place c.code-code.ensures c.insert_at.ensures.items c.insert_at-in-Between.ensures.items
-
-pub invariant_of-self : goal.invariant_of-self
-invariant_of-self c = are-columns _ _ (own c)
-
-pub invariant_of-self-in-Between : goal.invariant_of-self-in-Between
-invariant_of-self-in-Between c = are-columns _ _ (between c)
+-- the lock of a holder that is alone is replaced by its new one
+alone-with : (c h : SessionMode) (n : ℕ) → IsOwn c.session (h ∷ []) n → with_holder c (h ∷ []) ≡ c ∷ []
+alone-with c h zero own = sym (with-own c (h ∷ []) zero own)
+alone-with c h (suc n) own = absurd (let w = own.within in omega (arith, w))
 
 pub returns-in-Own-clause-items : goal.returns-in-Own-clause-items
-returns-in-Own-clause-items c = beside-as _ _ _ (own c)
-
-pub returns-in-Own-clause-len : goal.returns-in-Own-clause-len
-returns-in-Own-clause-len c = rw (beside-as _ _ _ (own c)) (length-with c.args.holder c.args.self.now.items)
-
-pub returns-in-Between-clause-items : goal.returns-in-Between-clause-items
-returns-in-Between-clause-items c = beside-as _ _ _ (between c)
-
-pub returns-in-Between-clause-len : goal.returns-in-Between-clause-len
-returns-in-Between-clause-len c = rw (beside-as _ _ _ (between c)) (length-with c.args.holder c.args.self.now.items)
+returns-in-Own-clause-items c =
+    let s = c.args.holder.session in
+    let hs = c.args.self.now.items in
+    let first = c.in-Some.first in
+    let n = c.in-Own.field-0 in
+    let is : hs ≡ first ∷ [] = sym (ap (λ (v : HolderList). v.items) c.self.view_is) ∙ ap (λ (o : Option SessionMode). alone_or o c.self.inside.columns.items) c.in-Some.is in
+    let own : IsOwn s (first ∷ []) n = subst (λ (xs : List SessionMode). IsOwn s xs n) is (subst (IsPlaceOf s hs) c.in-Own.is c.requires.place) in
+    sym (ap (with_holder c.args.holder) is ∙ alone-with c.args.holder first n own)

@@ -6,7 +6,7 @@ use Rattle.lock_desk.specs.Cells.{go_with}
 use Rattle.lock_desk.specs.Holders.{IsOwn, IsBetween, IsPlaceOf}
 use Rattle.lock_desk.proofs.Columns.{columns-of, meets-goes, goes-before, goes-behind}
 use Rattle.lock_desk.proofs.Rising.{fits-own, fits-between}
-use Rattle.lock_desk.proofs.holders.Holders.fits.Goals as goal
+use Rattle.lock_desk.proofs.holder_columns.Columns.fits.Goals as goal
 
 pub returns-then-not-conflicts : goal.returns-then-not-conflicts
 returns-then-not-conflicts c =

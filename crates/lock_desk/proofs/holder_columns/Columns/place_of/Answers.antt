@@ -2,7 +2,7 @@ use Rattle.std.proofs.Common.{◌≡◌, length, ap, sym, ◌∙◌, subst, arit
 use Rattle.std.proofs.lemmas.List.{get_or_default}
 use Rattle.lock_desk.specs.Columns.{DoRise, AreBelow, AreNotBelow}
 use Rattle.lock_desk.proofs.Columns.{columns-of, do-rise, is-own, is-between}
-use Rattle.lock_desk.proofs.holders.Holders.place_of.Goals as goal
+use Rattle.lock_desk.proofs.holder_columns.Columns.place_of.Goals as goal
 
 pub rank-index-requires : goal.rank-index-requires
 rank-index-requires c =

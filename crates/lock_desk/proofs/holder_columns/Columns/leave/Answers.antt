@@ -2,7 +2,7 @@ use Rattle.std.proofs.Common.{sym}
 use Rattle.lock_desk.specs.Cells.{without}
 use Rattle.lock_desk.proofs.Rising.{length-without, left-between}
 use Rattle.lock_desk.proofs.Columns.{AreOf, beside-as, are-columns, columns-of, remove-in}
-use Rattle.lock_desk.proofs.holders.Holders.leave.Goals as goal
+use Rattle.lock_desk.proofs.holder_columns.Columns.leave.Goals as goal
 
 left : (c : goal.After-remove_at-in-Own) → AreOf c.remove_at.new.list.items c.remove_at-in-Own.new.list.items (without c.args.session c.args.self.now.items)
 left c =

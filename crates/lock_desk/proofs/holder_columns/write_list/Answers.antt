@@ -6,7 +6,7 @@ use Rattle.lock_desk.specs.declared.cells.SessionMode.{SessionMode}
 use Rattle.lock_desk.specs.Cells.{pair_of}
 use Rattle.lock_desk.specs.Columns.{side_by_side}
 use Rattle.lock_desk.proofs.Columns.{side-next, side-long}
-use Rattle.lock_desk.proofs.holders.write_list.Goals as goal
+use Rattle.lock_desk.proofs.holder_columns.write_list.Goals as goal
 
 pub loop-index-preserved : goal.loop-index-preserved
 loop-index-preserved c =

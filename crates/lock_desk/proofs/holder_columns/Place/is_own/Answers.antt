@@ -1,7 +1,7 @@
 use Rattle.std.proofs.Common.{sym, subst}
 use Rattle.lock_desk.specs.Holders.{IsPlaceOf}
 use Rattle.lock_desk.proofs.Rising.{has-own, has-between}
-use Rattle.lock_desk.proofs.holders.Place.is_own.Goals as goal
+use Rattle.lock_desk.proofs.holder_columns.Place.is_own.Goals as goal
 
 pub returns-in-Own : goal.returns-in-Own
 returns-in-Own c = λ s hs h. sym (has-own s hs _ (subst (IsPlaceOf s hs) c.in-Own.is h))

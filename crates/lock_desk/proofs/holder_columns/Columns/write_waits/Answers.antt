@@ -1,7 +1,7 @@
-use Rattle.std.proofs.Common.{◌≡◌, ◌+◌, ◌&&◌, ◌||◌, not, eqb, Bool, ◌∙◌, ap, sym, arith}
+use Rattle.std.proofs.Common.{◌≡◌, ◌&&◌, ◌||◌, not, eqb, Bool, ◌∙◌, ap, arith}
 use Rattle.waits_for.specs.Pairs.{is_met, pairs_of}
 use Rattle.lock_desk.proofs.Columns.{columns-of, numbered-of, blocks-met}
-use Rattle.lock_desk.proofs.holders.Holders.write_waits.Goals as goal
+use Rattle.lock_desk.proofs.holder_columns.Columns.write_waits.Goals as goal
 
 pub set_met-requires-clause-within : goal.set_met-requires-clause-within
 set_met-requires-clause-within c = λ k lt.

@@ -8,7 +8,7 @@ use Rattle.lock_desk.specs.Columns.{code_at}
 use Rattle.lock_desk.specs.Holders.{IsOwn}
 use Rattle.lock_desk.proofs.Rising.{mode-own, mode-between}
 use Rattle.lock_desk.proofs.Columns.{columns-of, reads}
-use Rattle.lock_desk.proofs.holders.Holders.mode_of.Goals as goal
+use Rattle.lock_desk.proofs.holder_columns.Columns.mode_of.Goals as goal
 
 pub returns-in-Own : goal.returns-in-Own
 returns-in-Own c =

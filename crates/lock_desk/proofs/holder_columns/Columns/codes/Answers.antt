@@ -1,8 +1,8 @@
-use Rattle.std.proofs.Common.{List, ℕ, ◌∙◌, ap}
+use Rattle.std.proofs.Common.{◌∙◌, ap}
 use Rattle.mode_lanes.specs.Masks.{union_of}
 use Rattle.lock_desk.proofs.Codes.{codes-column}
 use Rattle.lock_desk.proofs.Columns.{columns-of}
-use Rattle.lock_desk.proofs.holders.Holders.codes.Goals as goal
+use Rattle.lock_desk.proofs.holder_columns.Columns.codes.Goals as goal
 
 pub returns : goal.returns
 returns c =
