@@ -3,7 +3,8 @@
 //!
 //! Three layers, each of which knows only the contracts of the one below:
 //!
-//! 1. the cells, by resource (`cells.rt`, in a table, `cell_table.rt`), each with its holders as two columns (`holders.rt`), and
+//! 1. the cells, by resource (`cells.rt`, in a table, `cell_table.rt`), each with its holders (`holders.rt`: one alone, or
+//!    `holder_columns.rt`: several as two columns), and
 //!    the lockers, by session (`lockers.rt`), each with methods that alone read its fields; a session's locks, with how many
 //!    children it holds of each that is indexed (`locks.rt`); what is promoted in both (`releases.rt`); who waits for whom
 //!    (`waits.rt`, `positions.rt`);
