@@ -190,8 +190,11 @@ impl Cell {
         if granted == 0 {
             return;
         }
-        self.waiting.rotate_left(granted);
-        self.waiting.truncate(self.waiting.len() - granted);
+        let len = self.waiting.len();
+        if granted < len {
+            self.waiting.as_mut_slice().copy_within(granted..len, 0);
+        }
+        self.waiting.truncate(len - granted);
     }
 
     /// Takes away what the session holds, or its request.
