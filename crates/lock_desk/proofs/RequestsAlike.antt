@@ -52,6 +52,15 @@ ahead (w ∷ ws) (suc j) (suc i) d lt k = or-true (eqb w.session (get_or ws j d)
     or-true true e = refl
     or-true false e = e
 
+-- three tests as one
+assoc : (a b c : Bool) → ((a || b) || c) ≡ (a || (b || c))
+assoc true b c = refl
+assoc false b c = refl
+
+or-none : (o : Bool) → ((o || false) || false) ≡ (o || false)
+or-none true = refl
+or-none false = refl
+
 -- those ahead of one, and those between it and the next
 pub between : (u : ℕ) (ws : List SessionMode) (j i : ℕ) → j ≤ i → (has_session u (take j ws) || has_session u (take (i - j) (drop j ws))) ≡ has_session u (take i ws)
 between u ws zero i le = let e : i - 0 ≡ i = omega arith in ap (λ (k : ℕ). has_session u (take k ws)) e
@@ -66,10 +75,6 @@ between u (w ∷ ws) (suc j) (suc i) le =
     let e : suc i - suc j ≡ i - j = omega arith in
     ap (λ (k : ℕ). (eqb w.session u || has_session u (take j ws)) || has_session u (take k (drop j ws))) e
     ∙ (assoc (eqb w.session u) (has_session u (take j ws)) (has_session u (take (i - j) (drop j ws))) ∙ ap (λ (b : Bool). eqb w.session u || b) (between u ws j i (omega arith)))
-  where
-    assoc : (a b c : Bool) → ((a || b) || c) ≡ (a || (b || c))
-    assoc true b c = refl
-    assoc false b c = refl
 
 -- who is among the first ones is there
 pub has-take : (s : ℕ) (ws : List SessionMode) (i : ℕ) → has_session s (take i ws) ≡ true → has_session s ws ≡ true
@@ -92,11 +97,7 @@ has-next s (w ∷ ws) zero d lt = first (eqb w.session s) (eqb s w.session) (tur
     first : (a b : Bool) → a ≡ b → (a || false) ≡ (false || b)
     first true b e = e
     first false b e = e
-has-next s (w ∷ ws) (suc i) d lt = ap (λ (b : Bool). eqb w.session s || b) (has-next s ws i d (omega arith)) ∙ assoc (eqb w.session s) (has_session s (take i ws)) (eqb s (get_or ws i d).session)
-  where
-    assoc : (a b c : Bool) → (a || (b || c)) ≡ ((a || b) || c)
-    assoc true b c = refl
-    assoc false b c = refl
+has-next s (w ∷ ws) (suc i) d lt = ap (λ (b : Bool). eqb w.session s || b) (has-next s ws i d (omega arith)) ∙ sym (assoc (eqb w.session s) (has_session s (take i ws)) (eqb s (get_or ws i d).session))
 
 -- one row more is written
 pub written-next : (s : ℕ) (ws : List SessionMode) (i : ℕ) (d : SessionMode) → i < length ws → (old here : Bool) → ((old || (has_session s (take i ws) && here)) || (eqb s (get_or ws i d).session && here)) ≡ (old || (has_session s (take (i + 1) ws) && here))
@@ -156,14 +157,6 @@ module _ (v : View) (once : (s : ℕ) → times s v.waiting ≤ 1) (i : ℕ) (d 
       added a b ∙ (ap (λ (o : Bool). o || (eqb (a + 1) here.session && has_session (b + 1) (take i v.waiting))) (held a b)
       ∙ (go (eqb (a + 1) here.session) refl ∙ ap (λ (c : SessionMode). old a b || (eqb (a + 1) c.session && view_blocks (a + 1) (b + 1) v)) (get_or_default v.waiting i d e lt)))
     where
-      assoc : (a b c : Bool) → ((a || b) || c) ≡ (a || (b || c))
-      assoc true b c = refl
-      assoc false b c = refl
-
-      or-none : (o : Bool) → ((o || false) || false) ≡ (o || false)
-      or-none true = refl
-      or-none false = refl
-
       go : (t : Bool) → eqb (a + 1) here.session ≡ t → ((old a b || (t && holder_blocks here.session here.mode (b + 1) v.holders)) || (t && has_session (b + 1) (take i v.waiting))) ≡ (old a b || (t && view_blocks (a + 1) (b + 1) v))
       go true f =
           assoc (old a b) (holder_blocks here.session here.mode (b + 1) v.holders) (has_session (b + 1) (take i v.waiting))
@@ -182,10 +175,6 @@ module _ (v : View) (once : (s : ℕ) → times s v.waiting ≤ 1) (i j : ℕ) (
       ∙ (ap (λ (m : Mode). holder_blocks p.session m u v.holders || has_session u (take i v.waiting)) mode
       ∙ (same (eqb u q.session) (eqb u p.session) refl refl ∙ sym (blocks-at_place v once i q lt at u)))))
     where
-      assoc : (a b c : Bool) → ((a || b) || c) ≡ (a || (b || c))
-      assoc true b c = refl
-      assoc false b c = refl
-
       or-yes : (a b : Bool) → (a || true) ≡ (b || true)
       or-yes true true = refl
       or-yes true false = refl
@@ -228,16 +217,8 @@ module _ (v : View) (once : (s : ℕ) → times s v.waiting ≤ 1) (i j : ℕ) (
       added a b ∙ (ap (λ (o : Bool). o || (eqb (a + 1) q.session && has_session (b + 1) (take (i - j) (drop j v.waiting)))) (joined a b)
       ∙ (go (eqb (a + 1) q.session) refl ∙ ap (λ (c : SessionMode). old a b || (eqb (a + 1) c.session && view_blocks (a + 1) (b + 1) v)) (get_or_default v.waiting i d e lt)))
     where
-      assoc : (a b c : Bool) → ((a || b) || c) ≡ (a || (b || c))
-      assoc true b c = refl
-      assoc false b c = refl
-
       apart : (a s : ℕ) → x + 1 ≡ s → eqb (a + 1) s ≡ false → eqb a x ≡ false
       apart a s e n = grind (arith, nat_tests)
-
-      or-none : (o : Bool) → ((o || false) || false) ≡ (o || false)
-      or-none true = refl
-      or-none false = refl
 
       go : (t : Bool) → eqb (a + 1) q.session ≡ t → ((old a b || (eqb a x && old y b)) || (t && has_session (b + 1) (take (i - j) (drop j v.waiting)))) ≡ (old a b || (t && view_blocks (a + 1) (b + 1) v))
       go true f =
