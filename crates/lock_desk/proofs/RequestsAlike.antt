@@ -52,6 +52,15 @@ ahead (w ∷ ws) (suc j) (suc i) d lt k = or-true (eqb w.session (get_or ws j d)
     or-true true e = refl
     or-true false e = e
 
+-- three tests as one
+assoc : (a b c : Bool) → ((a || b) || c) ≡ (a || (b || c))
+assoc true b c = refl
+assoc false b c = refl
+
+or-none : (o : Bool) → ((o || false) || false) ≡ (o || false)
+or-none true = refl
+or-none false = refl
+
 -- those ahead of one, and those between it and the next
 pub between : (u : ℕ) (ws : List SessionMode) (j i : ℕ) → j ≤ i → (has_session u (take j ws) || has_session u (take (i - j) (drop j ws))) ≡ has_session u (take i ws)
 between u ws zero i le = let e : i - 0 ≡ i = omega arith in ap (λ (k : ℕ). has_session u (take k ws)) e
@@ -66,10 +75,6 @@ between u (w ∷ ws) (suc j) (suc i) le =
     let e : suc i - suc j ≡ i - j = omega arith in
     ap (λ (k : ℕ). (eqb w.session u || has_session u (take j ws)) || has_session u (take k (drop j ws))) e
     ∙ (assoc (eqb w.session u) (has_session u (take j ws)) (has_session u (take (i - j) (drop j ws))) ∙ ap (λ (b : Bool). eqb w.session u || b) (between u ws j i (omega arith)))
-  where
-    assoc : (a b c : Bool) → ((a || b) || c) ≡ (a || (b || c))
-    assoc true b c = refl
-    assoc false b c = refl
 
 -- who is among the first ones is there
 pub has-take : (s : ℕ) (ws : List SessionMode) (i : ℕ) → has_session s (take i ws) ≡ true → has_session s ws ≡ true
@@ -92,11 +97,7 @@ has-next s (w ∷ ws) zero d lt = first (eqb w.session s) (eqb s w.session) (tur
     first : (a b : Bool) → a ≡ b → (a || false) ≡ (false || b)
     first true b e = e
     first false b e = e
-has-next s (w ∷ ws) (suc i) d lt = ap (λ (b : Bool). eqb w.session s || b) (has-next s ws i d (omega arith)) ∙ assoc (eqb w.session s) (has_session s (take i ws)) (eqb s (get_or ws i d).session)
-  where
-    assoc : (a b c : Bool) → (a || (b || c)) ≡ ((a || b) || c)
-    assoc true b c = refl
-    assoc false b c = refl
+has-next s (w ∷ ws) (suc i) d lt = ap (λ (b : Bool). eqb w.session s || b) (has-next s ws i d (omega arith)) ∙ sym (assoc (eqb w.session s) (has_session s (take i ws)) (eqb s (get_or ws i d).session))
 
 -- one row more is written
 pub written-next : (s : ℕ) (ws : List SessionMode) (i : ℕ) (d : SessionMode) → i < length ws → (old here : Bool) → ((old || (has_session s (take i ws) && here)) || (eqb s (get_or ws i d).session && here)) ≡ (old || (has_session s (take (i + 1) ws) && here))
@@ -137,30 +138,43 @@ blocks-others s t u m (h ∷ hs) a b = go (eqb h.session u) refl (blocks-others 
         ap (λ (k : Bool). (not k && not (are_compatible m h.mode)) || holder_blocks s m u hs) (x ∙ sym y) ∙ ap (λ (k : Bool). (not (eqb h.session t) && not (are_compatible m h.mode)) || k) next
     go false e next = next
 
+-- what a request at a place waits for
+blocks-at_place : (v : View) → ((s : ℕ) → times s v.waiting ≤ 1) → (k : ℕ) (c : SessionMode) → k < length v.waiting → c ≡ get_or v.waiting k c → (u : ℕ) → view_blocks c.session u v ≡ (holder_blocks c.session c.mode u v.holders || has_session u (take k v.waiting))
+blocks-at_place v once k c within e u =
+    let few : times (get_or v.waiting k c).session v.waiting ≤ 1 = once (get_or v.waiting k c).session in
+    let none : has_session c.session (take k v.waiting) ≡ false = ap (λ (x : SessionMode). has_session x.session (take k v.waiting)) e ∙ not-ahead v.waiting k c within few in
+    let mine : mode_of c.session v.waiting ≡ Some c.mode = ap (λ (x : SessionMode). mode_of x.session v.waiting) e ∙ (mode-at v.waiting k c within few ∙ ap (λ (x : SessionMode). Some x.mode) (sym e)) in
+    ap (target_blocks c.session u v) mine ∙ ap (λ (b : Bool). holder_blocks c.session c.mode u v.holders || b) (stands-until c.session u v.waiting k c within (ap (λ (x : SessionMode). x.session) (sym e)) none)
+
+-- what is written down of a request: holders, and those ahead of it
+module _ (v : View) (once : (s : ℕ) → times s v.waiting ≤ 1) (i : ℕ) (d e : SessionMode) (lt : i < length v.waiting) (old mid new : ℕ → ℕ → Bool) where
+  abbrev here : SessionMode
+  here = get_or v.waiting i d
+
+  pub seen-written : ((a b : ℕ) → mid a b ≡ (old a b || (eqb (a + 1) here.session && holder_blocks here.session here.mode (b + 1) v.holders))) → ((a b : ℕ) → new a b ≡ (mid a b || (eqb (a + 1) here.session && has_session (b + 1) (take i v.waiting))))
+      → (a b : ℕ) → new a b ≡ (old a b || (eqb (a + 1) (get_or v.waiting i e).session && view_blocks (a + 1) (b + 1) v))
+  seen-written held added a b =
+      added a b ∙ (ap (λ (o : Bool). o || (eqb (a + 1) here.session && has_session (b + 1) (take i v.waiting))) (held a b)
+      ∙ (go (eqb (a + 1) here.session) refl ∙ ap (λ (c : SessionMode). old a b || (eqb (a + 1) c.session && view_blocks (a + 1) (b + 1) v)) (get_or_default v.waiting i d e lt)))
+    where
+      go : (t : Bool) → eqb (a + 1) here.session ≡ t → ((old a b || (t && holder_blocks here.session here.mode (b + 1) v.holders)) || (t && has_session (b + 1) (take i v.waiting))) ≡ (old a b || (t && view_blocks (a + 1) (b + 1) v))
+      go true f =
+          assoc (old a b) (holder_blocks here.session here.mode (b + 1) v.holders) (has_session (b + 1) (take i v.waiting))
+          ∙ ap (λ (o : Bool). old a b || o) (sym (blocks-at_place v once i here lt (get_or_default v.waiting i d here lt) (b + 1)) ∙ ap (λ (k : ℕ). view_blocks k (b + 1) v) (sym ((Decides-eqb (a + 1) here.session).0 f)))
+      go false f = or-none (old a b)
+
 -- two requests
 
 module _ (v : View) (once : (s : ℕ) → times s v.waiting ≤ 1) (i j : ℕ) (q p : SessionMode) (lt : i < length v.waiting) (less : j < i) (at : q ≡ get_or v.waiting i q) (there : p ≡ get_or v.waiting j p) (mode : p.mode ≡ q.mode) where
-  -- what a request at a place waits for
-  blocks-at_place : (k : ℕ) (c : SessionMode) → k < length v.waiting → c ≡ get_or v.waiting k c → (u : ℕ) → view_blocks c.session u v ≡ (holder_blocks c.session c.mode u v.holders || has_session u (take k v.waiting))
-  blocks-at_place k c within e u =
-      let few : times (get_or v.waiting k c).session v.waiting ≤ 1 = once (get_or v.waiting k c).session in
-      let none : has_session c.session (take k v.waiting) ≡ false = ap (λ (x : SessionMode). has_session x.session (take k v.waiting)) e ∙ not-ahead v.waiting k c within few in
-      let mine : mode_of c.session v.waiting ≡ Some c.mode = ap (λ (x : SessionMode). mode_of x.session v.waiting) e ∙ (mode-at v.waiting k c within few ∙ ap (λ (x : SessionMode). Some x.mode) (sym e)) in
-      ap (target_blocks c.session u v) mine ∙ ap (λ (b : Bool). holder_blocks c.session c.mode u v.holders || b) (stands-until c.session u v.waiting k c within (ap (λ (x : SessionMode). x.session) (sym e)) none)
-
   -- where the one ahead doesn't wait for the other's session, that one waits for the same, and for those between
   pub blocks-alike : view_blocks p.session q.session v ≡ false → (u : ℕ) → (view_blocks p.session u v || has_session u (take (i - j) (drop j v.waiting))) ≡ view_blocks q.session u v
   blocks-alike free u =
-      ap (λ (b : Bool). b || has_session u (take (i - j) (drop j v.waiting))) (blocks-at_place j p (omega (arith, less, lt)) there u)
+      ap (λ (b : Bool). b || has_session u (take (i - j) (drop j v.waiting))) (blocks-at_place v once j p (omega (arith, less, lt)) there u)
       ∙ (assoc (holder_blocks p.session p.mode u v.holders) (has_session u (take j v.waiting)) (has_session u (take (i - j) (drop j v.waiting)))
       ∙ (ap (λ (b : Bool). holder_blocks p.session p.mode u v.holders || b) (between u v.waiting j i (omega (arith, less)))
       ∙ (ap (λ (m : Mode). holder_blocks p.session m u v.holders || has_session u (take i v.waiting)) mode
-      ∙ (same (eqb u q.session) (eqb u p.session) refl refl ∙ sym (blocks-at_place i q lt at u)))))
+      ∙ (same (eqb u q.session) (eqb u p.session) refl refl ∙ sym (blocks-at_place v once i q lt at u)))))
     where
-      assoc : (a b c : Bool) → ((a || b) || c) ≡ (a || (b || c))
-      assoc true b c = refl
-      assoc false b c = refl
-
       or-yes : (a b : Bool) → (a || true) ≡ (b || true)
       or-yes true true = refl
       or-yes true false = refl
@@ -168,7 +182,7 @@ module _ (v : View) (once : (s : ℕ) → times s v.waiting ≤ 1) (i j : ℕ) (
       or-yes false false = refl
 
       own : holder_blocks p.session q.mode q.session v.holders ≡ false
-      own = (or_parts (holder_blocks p.session q.mode q.session v.holders) (has_session q.session (take j v.waiting)) (ap (λ (m : Mode). holder_blocks p.session m q.session v.holders || has_session q.session (take j v.waiting)) (sym mode) ∙ (sym (blocks-at_place j p (omega (arith, less, lt)) there q.session) ∙ free))).0
+      own = (or_parts (holder_blocks p.session q.mode q.session v.holders) (has_session q.session (take j v.waiting)) (ap (λ (m : Mode). holder_blocks p.session m q.session v.holders || has_session q.session (take j v.waiting)) (sym mode) ∙ (sym (blocks-at_place v once j p (omega (arith, less, lt)) there q.session) ∙ free))).0
 
       same : (a b : Bool) → eqb u q.session ≡ a → eqb u p.session ≡ b → (holder_blocks p.session q.mode u v.holders || has_session u (take i v.waiting)) ≡ (holder_blocks q.session q.mode u v.holders || has_session u (take i v.waiting))
       same true b e f =
@@ -203,16 +217,8 @@ module _ (v : View) (once : (s : ℕ) → times s v.waiting ≤ 1) (i j : ℕ) (
       added a b ∙ (ap (λ (o : Bool). o || (eqb (a + 1) q.session && has_session (b + 1) (take (i - j) (drop j v.waiting)))) (joined a b)
       ∙ (go (eqb (a + 1) q.session) refl ∙ ap (λ (c : SessionMode). old a b || (eqb (a + 1) c.session && view_blocks (a + 1) (b + 1) v)) (get_or_default v.waiting i d e lt)))
     where
-      assoc : (a b c : Bool) → ((a || b) || c) ≡ (a || (b || c))
-      assoc true b c = refl
-      assoc false b c = refl
-
       apart : (a s : ℕ) → x + 1 ≡ s → eqb (a + 1) s ≡ false → eqb a x ≡ false
       apart a s e n = grind (arith, nat_tests)
-
-      or-none : (o : Bool) → ((o || false) || false) ≡ (o || false)
-      or-none true = refl
-      or-none false = refl
 
       go : (t : Bool) → eqb (a + 1) q.session ≡ t → ((old a b || (eqb a x && old y b)) || (t && has_session (b + 1) (take (i - j) (drop j v.waiting)))) ≡ (old a b || (t && view_blocks (a + 1) (b + 1) v))
       go true f =

@@ -1,5 +1,6 @@
 -- What is written down of those who wait at one resource, and what it says after a request there.
-use Rattle.std.proofs.Common.{◌≡◌, ℕ, zero, suc, ◌+◌, ◌<◌, Bool, true, false, cond, not, eqb, ◌&&◌, ◌||◌, List, [], ◌∷◌, ◌++◌, length, length-append, get_or, take, Option, Some, None, is_some, refl, sym, ◌∙◌, ap, arith}
+use Rattle.std.proofs.Common.{◌≡◌, ℕ, zero, suc, ◌+◌, ◌<◌, ◌≤◌, Bool, true, false, cond, not, eqb, ◌&&◌, ◌||◌, List, [], ◌∷◌, ◌++◌, length, length-append, get_or, take, Option, Some, None, is_some, refl, sym, ◌∙◌, ap, arith}
+use Rattle.std.proofs.lemmas.Bool.{or_parts, false≢true}
 use Rattle.std.proofs.lemmas.Bool.Decides.{nat_tests, Decides-eqb}
 use Rattle.waits_for.specs.Pairs.{pairs_of}
 use Rattle.lock_modes.specs.declared.Mode.{Mode}
@@ -19,15 +20,6 @@ stands-until s u (q ∷ ws) zero d lt e n = ap (λ (b : Bool). cond b false (eqb
 stands-until s u (q ∷ ws) (suc i) d lt e n = go (eqb q.session s) n (stands-until s u ws i d (omega arith) e)
   where
     go : (b : Bool) → (b || has_session s (take i ws)) ≡ false → (has_session s (take i ws) ≡ false → stands_first u s ws ≡ has_session u (take i ws)) → cond b false (eqb q.session u || stands_first u s ws) ≡ (eqb q.session u || has_session u (take i ws))
-    go true h next = absurd (cc)
-    go false h next = ap (λ (b : Bool). eqb q.session u || b) (next h)
-
--- where it has none, all
-pub stands-all : (s u : ℕ) (ws : List SessionMode) → has_session s ws ≡ false → stands_first u s ws ≡ has_session u ws
-stands-all s u [] h = refl
-stands-all s u (q ∷ ws) h = go (eqb q.session s) h (stands-all s u ws)
-  where
-    go : (b : Bool) → (b || has_session s ws) ≡ false → (has_session s ws ≡ false → stands_first u s ws ≡ has_session u ws) → cond b false (eqb q.session u || stands_first u s ws) ≡ (eqb q.session u || has_session u ws)
     go true h next = absurd (cc)
     go false h next = ap (λ (b : Bool). eqb q.session u || b) (next h)
 
@@ -62,6 +54,36 @@ stands-push s u c (q ∷ ws) h = go (eqb q.session s) h (stands-push s u c ws)
     go : (b : Bool) → (b || has_session s ws) ≡ true → (has_session s ws ≡ true → stands_first u s (ws ++ c ∷ []) ≡ stands_first u s ws) → cond b false (eqb q.session u || stands_first u s (ws ++ c ∷ [])) ≡ cond b false (eqb q.session u || stands_first u s ws)
     go true h next = refl
     go false h next = ap (λ (b : Bool). eqb q.session u || b) (next h)
+
+-- a session that isn't there stands at no place
+absent-at : (s : ℕ) (ws : List SessionMode) (i : ℕ) (d : SessionMode) → i < length ws → has_session s ws ≡ false → (get_or ws i d).session ≡ s → ⊥
+absent-at s [] i d lt n e = omega (arith, lt)
+absent-at s (q ∷ ws) zero d lt n e = false≢true (sym (or_parts (eqb q.session s) (has_session s ws) n).0 ∙ (Decides-eqb q.session s).1 e)
+absent-at s (q ∷ ws) (suc i) d lt n e = absent-at s ws i d (omega (arith, lt)) (or_parts (eqb q.session s) (has_session s ws) n).1 e
+
+-- a request that comes behind the conversions and stands last has all others ahead of it
+behind-all : (c : SessionMode) (hs ws : List SessionMode) (i : ℕ) (d : SessionMode) → has_session c.session ws ≡ false → suc i ≡ length (behind_conversions c hs ws) → (get_or (behind_conversions c hs ws) i d).session ≡ c.session → behind_conversions c hs ws ≡ ws ++ c ∷ []
+behind-all c hs [] i d n e at = refl
+behind-all c hs (q ∷ ws) i d n e at = go (has_session q.session hs) i e at (λ k. behind-all c hs ws k d rest)
+  where
+    rest : has_session c.session ws ≡ false
+    rest = (or_parts (eqb q.session c.session) (has_session c.session ws) n).1
+
+    some : (xs : List SessionMode) → 1 ≤ length (behind_conversions c hs xs)
+    some [] = omega arith
+    some (x ∷ xs) = either (has_session x.session hs)
+      where
+        either : (b : Bool) → 1 ≤ length (cond b (x ∷ behind_conversions c hs xs) (c ∷ x ∷ xs))
+        either true = omega arith
+        either false = omega arith
+
+    go : (b : Bool) (k : ℕ) → suc k ≡ length (cond b (q ∷ behind_conversions c hs ws) (c ∷ q ∷ ws)) → (get_or (cond b (q ∷ behind_conversions c hs ws) (c ∷ q ∷ ws)) k d).session ≡ c.session
+        → ((m : ℕ) → suc m ≡ length (behind_conversions c hs ws) → (get_or (behind_conversions c hs ws) m d).session ≡ c.session → behind_conversions c hs ws ≡ ws ++ c ∷ [])
+        → cond b (q ∷ behind_conversions c hs ws) (c ∷ q ∷ ws) ≡ q ∷ (ws ++ c ∷ [])
+    go true zero e at next = absurd (let m = some ws in omega (arith, e, m))
+    go true (suc k) e at next = ap (λ (xs : List SessionMode). q ∷ xs) (next k (omega (arith, e)) at)
+    go false zero e at next = absurd (omega (arith, e))
+    go false (suc k) e at next = absurd (absent-at c.session (q ∷ ws) k d (omega (arith, e)) n at)
 
 -- it keeps nobody waiting who was there before it
 blocks-push : (s u : ℕ) (c : SessionMode) (hs ws : List SessionMode) → eqb c.session s ≡ false → has_session s ws ≡ true → view_blocks s u (both hs (ws ++ c ∷ [])) ≡ view_blocks s u (both hs ws)
@@ -157,31 +179,33 @@ module _ (c : SessionMode) (v : View) (w : Waits) (k : IsWritten c.session v w) 
           ap (λ (o : Bool). o && not (has_session (a + 1) x.waiting)) none ∙ sym (ap (λ (o : Bool). o && not (has_session (a + 1) v.waiting)) none)
       emptied a b false e = ap (λ (o : Bool). pairs_of w.rows a b && not o) (waits (a + 1) ∙ (ap (λ (o : Bool). has_session (a + 1) v.waiting || (not (can_grant c v) && o)) e ∙ drop-false (has_session (a + 1) v.waiting) (not (can_grant c v))))
 
-  -- a fresh request that waits
+  -- a request that waits and stands last
 
-  module _ (x : View) (is : x ≡ view_after_asking c v) (waits : can_grant c v ≡ false) (fresh : is_some (mode_of c.session x.holders) ≡ false) where
+  module _ (x : View) (is : x ≡ view_after_asking c v) (waits : can_grant c v ≡ false) (i : ℕ) (d : SessionMode) (end : suc i ≡ length x.waiting) (mine : (get_or x.waiting i d).session ≡ c.session) where
     queued : x ≡ both v.holders (queue_with c v.holders v.waiting)
     queued = is ∙ ap (λ (g : Bool). cond g (both (with_holder c v.holders) v.waiting) (both v.holders (queue_with c v.holders v.waiting))) waits
 
-    new_here : has_session c.session v.holders ≡ false
-    new_here = ap (λ (y : View). has_session c.session y.holders) (sym queued) ∙ (sym (mode-has c.session x.holders) ∙ fresh)
-
-    -- it stands last
+    -- so it came to the end
     last : x ≡ both v.holders (v.waiting ++ c ∷ [])
-    last = queued ∙ ap (λ (g : Bool). both v.holders (cond g (behind_conversions c v.holders v.waiting) (v.waiting ++ c ∷ []))) new_here
+    last = queued ∙ ap (both v.holders) (go (has_session c.session v.holders) (end ∙ ap (λ (y : View). length y.waiting) queued) (ap (λ (y : View). (get_or y.waiting i d).session) (sym queued) ∙ mine))
+      where
+        go : (g : Bool) → suc i ≡ length (cond g (behind_conversions c v.holders v.waiting) (v.waiting ++ c ∷ [])) → (get_or (cond g (behind_conversions c v.holders v.waiting) (v.waiting ++ c ∷ [])) i d).session ≡ c.session
+            → cond g (behind_conversions c v.holders v.waiting) (v.waiting ++ c ∷ []) ≡ v.waiting ++ c ∷ []
+        go true e at = behind-all c v.holders v.waiting i d idle e at
+        go false e at = refl
 
-    pub last-within : length x.waiting ≡ suc (length v.waiting)
-    last-within = let n = length-append v.waiting (c ∷ []) in ap (λ (y : View). length y.waiting) last ∙ omega (arith, n)
+    within : i ≡ length v.waiting
+    within = let n = length-append v.waiting (c ∷ []) in let long = ap (λ (y : View). length y.waiting) last in omega (arith, n, long, end)
 
-    here : (i : ℕ) (d : SessionMode) → suc i ≡ length x.waiting → get_or x.waiting i d ≡ c
-    here i d e = ap (λ (y : View). get_or y.waiting i d) last ∙ (ap (λ (k : ℕ). get_or (v.waiting ++ c ∷ []) k d) (let n = last-within in omega (arith, n, e)) ∙ at-end v.waiting)
+    here : get_or x.waiting i d ≡ c
+    here = ap (λ (y : View). get_or y.waiting i d) last ∙ (ap (λ (k : ℕ). get_or (v.waiting ++ c ∷ []) k d) within ∙ at-end v.waiting)
       where
         at-end : (ws : List SessionMode) → get_or (ws ++ c ∷ []) (length ws) d ≡ c
         at-end [] = refl
         at-end (w ∷ ws) = at-end ws
 
-    ahead : (i : ℕ) → suc i ≡ length x.waiting → take i x.waiting ≡ v.waiting
-    ahead i e = ap (λ (y : View). take i y.waiting) last ∙ (ap (λ (k : ℕ). take k (v.waiting ++ c ∷ [])) (let n = last-within in omega (arith, n, e)) ∙ up-to v.waiting)
+    ahead : take i x.waiting ≡ v.waiting
+    ahead = ap (λ (y : View). take i y.waiting) last ∙ (ap (λ (k : ℕ). take k (v.waiting ++ c ∷ [])) within ∙ up-to v.waiting)
       where
         up-to : (ws : List SessionMode) → take (length ws) (ws ++ c ∷ []) ≡ ws
         up-to [] = refl
@@ -195,18 +219,18 @@ module _ (c : SessionMode) (v : View) (w : Waits) (k : IsWritten c.session v w) 
         go true e = absurd (let f : has_session s v.waiting ≡ false = ap (λ (k : ℕ). has_session k v.waiting) (sym ((Decides-eqb c.session s).0 e)) ∙ idle in cc)
 
     -- the rows of those ahead of it are right
-    pub written-ahead : (i : ℕ) → suc i ≡ length x.waiting → (a b : ℕ) → has_session (a + 1) (take i x.waiting) ≡ true → pairs_of w.rows a b ≡ view_blocks (a + 1) (b + 1) x
-    written-ahead i e a b h =
-        let f : has_session (a + 1) v.waiting ≡ true = ap (has_session (a + 1)) (sym (ahead i e)) ∙ h in
+    pub written-ahead : (a b : ℕ) → has_session (a + 1) (take i x.waiting) ≡ true → pairs_of w.rows a b ≡ view_blocks (a + 1) (b + 1) x
+    written-ahead a b h =
+        let f : has_session (a + 1) v.waiting ≡ true = ap (has_session (a + 1)) (sym ahead) ∙ h in
         k.waiting a b f ∙ sym (ap (view_blocks (a + 1) (b + 1)) last ∙ blocks-push (a + 1) (b + 1) c v.holders v.waiting (other (a + 1) f) f)
 
     -- so only its own is written
-    pub follows-fresh : (new : Waits) (i : ℕ) (d : SessionMode) → suc i ≡ length x.waiting → new.rows.sessions ≡ w.rows.sessions → new.numbers ≡ w.numbers
+    pub follows-last : (new : Waits) → new.rows.sessions ≡ w.rows.sessions → new.numbers ≡ w.numbers
         → ((a b : ℕ) → pairs_of new.rows a b ≡ (pairs_of w.rows a b || (eqb (a + 1) (get_or x.waiting i d).session && view_blocks (a + 1) (b + 1) x))) → DoFollow v x w new
-    follows-fresh new i d e sessions numbers pairs = record {
+    follows-last new sessions numbers pairs = record {
       sessions = sessions;
       numbers = numbers;
-      pairs = λ a b. pairs a b ∙ (ap (λ (q : SessionMode). pairs_of w.rows a b || (eqb (a + 1) q.session && view_blocks (a + 1) (b + 1) x)) (here i d e) ∙ go a b (eqb (a + 1) c.session) (has_session (a + 1) v.waiting) refl refl);
+      pairs = λ a b. pairs a b ∙ (ap (λ (q : SessionMode). pairs_of w.rows a b || (eqb (a + 1) q.session && view_blocks (a + 1) (b + 1) x)) here ∙ go a b (eqb (a + 1) c.session) (has_session (a + 1) v.waiting) refl refl);
     }
       where
         turned : (a : ℕ) → eqb (a + 1) c.session ≡ false → eqb c.session (a + 1) ≡ false

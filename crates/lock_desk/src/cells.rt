@@ -6,11 +6,10 @@ ghost use Rattle.lock_tree.specs.Paths.{same_path};
 ghost use Rattle.lock_desk.specs.declared.cells.SessionMode.{SessionMode as SessionModeValue};
 ghost use Rattle.lock_desk.specs.Cells.{no_view, view_of, has_session, mode_of, pair_of, with_holder, view_after_giving_up, fits_among, go_with, Ascends, next_grant, can_grant, is_granted, behind_conversions, queue_with, view_after_asking, view_with_holder, codes_unless_waited, is_nobody, HasRoom, HasRoomFor, IsKeptCell, is_busy};
 ghost use Rattle.lock_desk.specs.Holders.{IsPlaceOf};
-ghost use Rattle.lock_desk.specs.Finding.{stands_first, cell_blocks, AreOfSessions};
+ghost use Rattle.lock_desk.specs.Finding.{holder_blocks, AreOfSessions};
 
 use crate::holder_columns::Place;
 use crate::holders::Holders;
-use crate::positions::position_of;
 use lock_modes::Mode;
 use lock_tree::{Resource, same_path_is_equality};
 use std::alloc::{AllocError, Global};
@@ -57,18 +56,6 @@ pub(crate) fn is_same(a: Resource, b: Resource) -> bool
     a == b
 }
 
-/// The mode of the session among them.
-pub(crate) fn mode_among(list: &[SessionMode], session: u16) -> Option<Mode>
-    ensures { result ≡ mode_of session list.now }
-{
-    for one in list {
-        if one.session == session {
-            return Some(one.mode);
-        }
-    }
-    None
-}
-
 fn is_mode(shared: Option<Mode>, mode: Mode) -> bool
     ensures { result ≡ true → shared ≡ Some mode }
 {
@@ -100,23 +87,6 @@ fn conversions(holders: &Holders, waiting: &[SessionMode]) -> usize
         }
     }
     waiting.len()
-}
-
-/// Writes down the sessions whose requests stand before that of the session.
-fn write_queue(rows: &mut Rows, waiting: &[SessionMode], session: u16)
-    requires some { 1 ≤ session }
-    requires within { session ≤ rows.old.sessions }
-    requires numbered { AreOfSessions rows.old.sessions waiting.now }
-    ensures sessions { rows.new.sessions ≡ rows.old.sessions }
-    ensures pairs { (a b : ℕ) → pairs_of rows.new a b
-        ≡ (pairs_of rows.old a b || ((a + 1 == session) && stands_first (b + 1) session waiting.now)) }
-{
-    for request in waiting {
-        if request.session == session {
-            return;
-        }
-        rows.set(position_of(session), position_of(request.session));
-    }
 }
 
 impl Cell {
@@ -219,8 +189,11 @@ impl Cell {
         if granted == 0 {
             return;
         }
-        self.waiting.rotate_left(granted);
-        self.waiting.truncate(self.waiting.len() - granted);
+        let len = self.waiting.len();
+        if granted < len {
+            self.waiting.as_mut_slice().copy_within(granted..len, 0);
+        }
+        self.waiting.truncate(len - granted);
     }
 
     /// Takes away what the session holds, or its request.
@@ -290,20 +263,18 @@ impl Cell {
         }
     }
 
-    /// Writes down for whom the session waits here.
-    pub(crate) fn write_waits(&self, rows: &mut Rows, session: u16)
-        requires some { 1 ≤ session }
-        requires within { session ≤ rows.old.sessions }
-        requires holders { AreOfSessions rows.old.sessions self.now.holders.items }
-        requires waiting { AreOfSessions rows.old.sessions self.now.waiting.items }
+    /// Writes down which holders the request waits for.
+    pub(crate) fn write_holders(&self, rows: &mut Rows, request: SessionMode)
+        requires some { 1 ≤ request.session }
+        requires within { request.session ≤ rows.old.sessions }
+        requires holders { AreOfSessions rows.old.sessions (view_of self.now).holders }
         ensures sessions { rows.new.sessions ≡ rows.old.sessions }
         ensures pairs { (a b : ℕ) → pairs_of rows.new a b
-            ≡ (pairs_of rows.old a b || ((a + 1 == session) && cell_blocks session (b + 1) self.now)) }
+            ≡ (pairs_of rows.old a b || ((a + 1 == request.session)
+            && holder_blocks request.session request.mode (b + 1) (view_of self.now).holders)) }
     {
-        if let Some(target) = mode_among(&self.waiting, session) {
-            self.holders.write_waits(rows, session, target);
-            write_queue(rows, &self.waiting, session);
-        }
+        self.holders
+            .write_waits(rows, request.session, request.mode);
     }
 
     /// The bits of the codes of the holders' modes, where nobody waits for the resource.

@@ -1,5 +1,5 @@
-//! Who waits for whom: written down as the cells and the lockers say it, and kept with each change of a cell. A fresh
-//! request writes its own row, and any other change those of the queue.
+//! Who waits for whom: written down as the cells and the lockers say it, and kept with each change of a cell. A request
+//! that stands last writes its own row, and any other change those of the queue.
 
 ghost use Rattle.std.specs.Prelude.{◌≡◌, ℕ, ◌+◌, ◌-◌, ◌<◌, ◌≤◌, ◌&&◌, ◌||◌, ◌==◌, if◌then◌else◌, List, not, true, false, length, take, IfOk, IfNone, IfSome, nat_le, slice_index_or, vec_len};
 ghost use Rattle.waits_for.specs.Pairs.{pairs_of};
@@ -94,10 +94,27 @@ fn alike(queue: &[SessionMode], index: usize) -> Option<usize>
     None
 }
 
-/// For whom the request at this place of the queue waits is written down, those ahead of it being written. It waits for
-/// whomever one ahead of it for the same mode waits, for that one, and for those between; where it is a holder that the other
-/// one waits for, all holders are looked at.
-fn write_request(rows: &mut Rows, cell: &Cell, index: usize)
+/// For whom the request at this place of the queue waits is written down, as holders and queue say it.
+#[inline(always)]
+fn write_as_seen(rows: &mut Rows, cell: &Cell, index: usize)
+    requires index { index < length (view_of cell.now).waiting }
+    requires within { IsOfSessions rows.old.sessions (view_of cell.now) }
+    requires once { (s : ℕ) → times s (view_of cell.now).waiting ≤ 1 }
+    ensures sessions { rows.new.sessions ≡ rows.old.sessions }
+    ensures pairs { (a b : ℕ) (d : SessionModeValue) → pairs_of rows.new a b
+        ≡ (pairs_of rows.old a b || ((a + 1 == (slice_index_or (view_of cell.now).waiting index d).session) && cell_blocks (a + 1) (b + 1) cell.now)) }
+{
+    let queue = cell.queue();
+    let request = queue[index];
+    cell.write_holders(rows, request);
+    write_ahead(rows, &queue[..index], request.session);
+}
+
+/// The same for one that others stand ahead of, for whom it is written down. It waits for whomever one ahead of it for the
+/// same mode waits, for that one, and for those between; where it is a holder that the other one waits for, all holders are
+/// looked at.
+#[inline(never)]
+fn write_behind(rows: &mut Rows, cell: &Cell, index: usize)
     requires index { index < length (view_of cell.now).waiting }
     requires within { IsOfSessions rows.old.sessions (view_of cell.now) }
     requires once { (s : ℕ) → times s (view_of cell.now).waiting ≤ 1 }
@@ -118,7 +135,26 @@ fn write_request(rows: &mut Rows, cell: &Cell, index: usize)
             return;
         }
     }
-    cell.write_waits(rows, session);
+    write_as_seen(rows, cell, index);
+}
+
+/// For whom the request at this place of the queue waits is written down, those ahead of it being written. The first one
+/// waits for holders alone.
+fn write_request(rows: &mut Rows, cell: &Cell, index: usize)
+    requires index { index < length (view_of cell.now).waiting }
+    requires within { IsOfSessions rows.old.sessions (view_of cell.now) }
+    requires once { (s : ℕ) → times s (view_of cell.now).waiting ≤ 1 }
+    requires written { (a b : ℕ) → has_session (a + 1) (take index (view_of cell.now).waiting) ≡ true
+        → pairs_of rows.old a b ≡ cell_blocks (a + 1) (b + 1) cell.now }
+    ensures sessions { rows.new.sessions ≡ rows.old.sessions }
+    ensures pairs { (a b : ℕ) (d : SessionModeValue) → pairs_of rows.new a b
+        ≡ (pairs_of rows.old a b || ((a + 1 == (slice_index_or (view_of cell.now).waiting index d).session) && cell_blocks (a + 1) (b + 1) cell.now)) }
+{
+    if index == 0 {
+        write_as_seen(rows, cell, 0);
+    } else {
+        write_behind(rows, cell, index);
+    }
 }
 
 /// For whom each of those waits who wait at the cell is written down, where nothing is.
@@ -153,7 +189,7 @@ pub(crate) fn write_queue(waits: &mut Waits, cell: &Cell)
     write_requests(waits, cell);
 }
 
-/// A session has asked at the cell. A fresh request that waits stands last, and changes no row but its own.
+/// A session has asked at the cell. A request that stands last, as every fresh one does, changes no row but its own.
 pub(crate) fn follow_request(
     waits: &mut Waits,
     cell: &Cell,
@@ -166,13 +202,17 @@ pub(crate) fn follow_request(
     ensures { (h : HasAskedThere asker (is_granted status) (view_of cell.now) waits.old)
         → DoFollow h.before (view_of cell.now) waits.old waits.new }
 {
-    if status == RequestStatus::Waiting && cell.mode_held(asker.session).is_none() {
-        let last = cell.queue().len() - 1;
+    let queue = cell.queue();
+    if queue.is_empty() {
+        return;
+    }
+    let last = queue.len() - 1;
+    if status == RequestStatus::Waiting && queue[last].session == asker.session {
         write_request(&mut waits.rows, cell, last);
         return;
     }
     clear_queue(waits, cell);
-    write_queue(waits, cell);
+    write_requests(waits, cell);
 }
 
 /// Whether it is written down that the session waits for the other one at once. Of sessions that aren't there nothing is.

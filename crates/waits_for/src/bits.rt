@@ -8,6 +8,9 @@ ghost use Rattle.waits_for.specs.Bits.{has_bit, words_for};
 
 use mode_lanes::any_common;
 
+/// A row of no more words than this is written word by word.
+const FEW: usize = 4;
+
 /// How many words a row has, with a bit for each session.
 pub(crate) fn words_for(sessions: u16) -> usize
     ensures { result ≡ words_for sessions }
@@ -91,6 +94,44 @@ pub(crate) fn have_common(row: &[u64], other: &[u64]) -> bool
 
 /// Takes away all bits of so many words, from one word on.
 pub(crate) fn clear(words: &mut [u64], from: usize, count: usize)
+    requires { from + count ≤ length words.old }
+    ensures { (j : ℕ) → has_bit words.new j
+        ≡ (has_bit words.old j && not (nat_le (64 * from) j && nat_lt j (64 * (from + count)))) }
+{
+    if count <= FEW {
+        clear_few(words, from, count);
+    } else {
+        clear_many(words, from, count);
+    }
+}
+
+/// The same, one word after another: LLVM makes a call of `memset` of a loop, which takes longer than so few words do.
+#[inline(always)]
+fn clear_few(words: &mut [u64], from: usize, count: usize)
+    requires room { from + count ≤ length words.old }
+    requires few { count ≤ FEW }
+    ensures { (j : ℕ) → has_bit words.new j
+        ≡ (has_bit words.old j && not (nat_le (64 * from) j && nat_lt j (64 * (from + count)))) }
+{
+    if count == 0 {
+        return;
+    }
+    words[from] = 0;
+    if count == 1 {
+        return;
+    }
+    words[from + 1] = 0;
+    if count == 2 {
+        return;
+    }
+    words[from + 2] = 0;
+    if count == 3 {
+        return;
+    }
+    words[from + 3] = 0;
+}
+
+fn clear_many(words: &mut [u64], from: usize, count: usize)
     requires { from + count ≤ length words.old }
     ensures { (j : ℕ) → has_bit words.new j
         ≡ (has_bit words.old j && not (nat_le (64 * from) j && nat_lt j (64 * (from + count)))) }

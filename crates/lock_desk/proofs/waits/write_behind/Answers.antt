@@ -4,7 +4,7 @@ use Rattle.lock_modes.specs.declared.Mode.TheVariants.{NL}
 use Rattle.lock_desk.specs.declared.cells.SessionMode.{SessionMode}
 use Rattle.lock_desk.specs.Cells.{view_of, has_session}
 use Rattle.lock_desk.proofs.RequestsAlike.{alike-written}
-use Rattle.lock_desk.proofs.waits.write_request.Goals as goal
+use Rattle.lock_desk.proofs.waits.write_behind.Goals as goal
 
 pub returns-then-not-waits-clause-pairs : goal.returns-then-not-waits-clause-pairs
 returns-then-not-waits-clause-pairs c = λ a b d.
