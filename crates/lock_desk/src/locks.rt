@@ -1,7 +1,7 @@
 //! The locks of a session. Where it gives locks back before its transaction ends, they stand in an index with how many
 //! children of each it holds, so that a lock goes without a look at the others, in whatever order they go.
 
-ghost use Rattle.std.specs.Prelude.{◌≡◌, ℕ, ◌+◌, ◌<◌, ◌≤◌, true, false, List, [], ◌∷◌, ◌++◌, ◌==◌, if◌then◌else◌, length, swap_remove, slice_index_or, IfSome, IfNone, OnOk, vec_len};
+ghost use Rattle.std.specs.Prelude.{◌≡◌, ℕ, ◌+◌, ◌-◌, ◌<◌, ◌≤◌, true, false, List, [], ◌∷◌, ◌++◌, ◌==◌, if◌then◌else◌, length, swap_remove, slice_index_or, IfSome, IfNone, OnOk, vec_len, vec_capacity};
 ghost use Rattle.indexmap.specs.IndexMap.{keys, values, index_map_len, spare};
 ghost use Rattle.lock_tree.specs.Paths.{same_path};
 ghost use Rattle.lock_desk.specs.Cells.{has_path, AreApart};
@@ -19,14 +19,16 @@ const SHORT: usize = 16;
 
 /// The resources that a session holds, in the order in which they were granted until the first of them is given back
 /// early: those that were indexed, each with the number of its children among them, and those that came since.
-/// There is room to index all of them, so that a release takes no memory. The counts stand until the transaction's
-/// locks are all given back, one after another, and again once none is left.
-/// Beside those that came since it is noted where the cell of each stood when it was granted; nothing rests on that.
+/// The counts stand until the transaction's locks are all given back, one after another, and again once none is left.
+/// Beside each of those that came since it is noted where its cell stood when it was granted; nothing rests on what
+/// is noted. As many as are ready may stand among those that came since: both lists have memory for so many, and the
+/// index has room for them all, so that a release takes no memory, and a lock takes some only where all of these came.
 #[derive(Drop)]
 pub struct Locks {
     indexed: IndexMap<Resource, u32>,
     recent: Vec<Resource>,
     places: Vec<usize>,
+    ready: usize,
     stand: bool,
 }
 
@@ -49,25 +51,14 @@ impl Model for Locks {
     ghost invariant = { AreIndexed };
 }
 
-/// Notes where the cell of one lock more stands, where there is room.
-fn note(places: &mut Vec<usize>, place: usize) {
-    if places.len() < places.capacity() {
-        places.push_reserved(place);
-    }
-}
-
-/// What was noted last.
-fn recall(places: &mut Vec<usize>) -> usize {
+/// What was noted last, and is no more.
+fn recall(places: &mut Vec<usize>) -> usize
+    ensures len { vec_len places.new ≡ vec_len places.old - 1 }
+    ensures capacity { vec_capacity places.new ≡ vec_capacity places.old }
+{
     match places.pop() {
         Some(place) => place,
         None => 0,
-    }
-}
-
-/// The note at this index goes.
-fn strike(places: &mut Vec<usize>, index: usize) {
-    if index < places.len() {
-        let _struck = places.remove(index);
     }
 }
 
@@ -242,6 +233,7 @@ impl Locks {
             indexed: IndexMap::new(alloc),
             recent: Vec::new(alloc),
             places: Vec::new(alloc),
+            ready: 0,
             stand: true,
         }
     }
@@ -268,13 +260,30 @@ impl Locks {
     }
 
     /// Makes room for one more.
+    #[inline]
     pub(crate) fn make_room(&mut self) -> Result<(), AllocError>
+        ensures room { OnOk result (0 < self.new.room) }
+        ensures items { self.new.items ≡ self.old.items }
+    {
+        if self.recent.len() < self.ready {
+            return Ok(());
+        }
+        self.grow()
+    }
+
+    /// Makes room for one more where none is ready, and counts how many are then. What is full doubles, or nearly.
+    #[inline(never)]
+    fn grow(&mut self) -> Result<(), AllocError>
         ensures room { OnOk result (0 < self.new.room) }
         ensures items { self.new.items ≡ self.old.items }
     {
         self.recent.reserve(1)?;
         self.places.reserve(1)?;
-        self.indexed.reserve(self.recent.len() + 1)
+        self.indexed.reserve(self.recent.len() + 1)?;
+        let listed = self.recent.capacity().min(self.places.capacity());
+        let indexable = self.indexed.capacity() - self.indexed.len();
+        self.ready = listed.min(indexable);
+        Ok(())
     }
 
     /// One more comes, whose cell stands at this place.
@@ -284,7 +293,7 @@ impl Locks {
         ensures { self.new.items ≡ self.old.items ++ resource ∷ [] }
     {
         self.recent.push_reserved(resource);
-        note(&mut self.places, place);
+        self.places.push_reserved(place);
     }
 
     /// The last one goes.
@@ -310,6 +319,7 @@ impl Locks {
     {
         if self.stand && self.recent.len() > SHORT {
             index_all(&mut self.indexed, &self.recent);
+            self.ready -= self.recent.len();
             self.recent.clear();
             self.places.clear();
         }
@@ -326,7 +336,7 @@ impl Locks {
     {
         if let Some(place) = search(&self.recent, resource) {
             let _removed = self.recent.remove(place);
-            strike(&mut self.places, place);
+            let _struck = self.places.remove(place);
             return;
         }
         same_path_is_equality();

@@ -9,6 +9,10 @@ invariant_of-self c =
     let a = c.self.inside in
     record {
       room = omega (arith, c.in-Some.ensures.len, c.self.invariant.room);
+      listed = omega (arith, c.in-Some.ensures.capacity, c.self.invariant.listed);
+      noted = omega (arith, c.recall-likely.ensures.capacity, c.self.invariant.noted);
+      indexable = c.self.invariant.indexable;
+      beside = omega (arith, c.in-Some.ensures.len, c.recall-likely.ensures.len, c.self.invariant.beside);
       counted = c.self.invariant.counted;
       under = λ st. under-pop (keys a.indexed) c.pop.new.self.items c.in-Some.resource (subst (AreUnder (keys a.indexed)) c.in-Some.ensures.items (c.self.invariant.under st));
     }

@@ -18,6 +18,10 @@ invariant_of-self c =
     let at : get_or qs i [] ≡ r = ap (λ (xs : List (List ℕ)). get_or xs i []) (sym c.deref.ensures.value) ∙ c.in-Some.ensures.at in
     record {
       room = omega (arith, c.remove-removed.ensures.len, c.self.invariant.room);
+      listed = omega (arith, c.remove-removed.ensures.capacity, c.self.invariant.listed);
+      noted = omega (arith, c.remove-struck.ensures.capacity, c.self.invariant.noted);
+      indexable = c.self.invariant.indexable;
+      beside = omega (arith, c.remove-removed.ensures.len, c.remove-struck.ensures.len, c.self.invariant.beside);
       counted = c.self.invariant.counted;
       under = λ st. rw c.remove-removed.ensures.items (recent-under ks qs i lt r at (ap (has_child r) e ∙ c.requires.childless) (c.self.invariant.under st));
     }
@@ -89,7 +93,11 @@ invariant_of-self-in-Some-get_full c =
     let none = ap (has_path r) (sym c.deref.ensures.value) ∙ c.in_default.ensures.none in
     let apart = subst AreApart (sym e) c.requires.apart in
     record {
-      room = omega (arith, c.remove_indexed.ensures.spare, c.self.invariant.room);
+      room = c.self.invariant.room;
+      listed = c.self.invariant.listed;
+      noted = c.self.invariant.noted;
+      indexable = omega (arith, c.remove_indexed.ensures.spare, c.self.invariant.indexable);
+      beside = c.self.invariant.beside;
       counted = c.remove_indexed.ensures.counted;
       under = λ st. rw c.remove_indexed.ensures.keys (indexed-under ks qs p lt r at none apart (ap (has_child r) e ∙ c.requires.childless) (c.self.invariant.under st));
     }
