@@ -202,6 +202,7 @@ impl CellTable {
     }
 
     /// The mode that the session holds on the resource whose place this is.
+    #[inline(always)]
     pub(crate) fn mode_at(&self, place: Option<usize>, session: u16) -> Option<Mode>
         ensures { (r : List ℕ) → IsPlace r self.now.entries place → result ≡ mode_of session (cell_view r self.now.entries).holders }
     {

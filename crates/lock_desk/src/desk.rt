@@ -88,6 +88,7 @@ impl Desk {
     }
 
     /// The mode that the session holds on the resource whose place this is.
+    #[inline(always)]
     pub(crate) fn mode_at(&self, session: u16, place: Option<usize>) -> Option<Mode>
         ensures { (r : List ℕ) → IsPlace r self.now.cells.entries place → result ≡ mode_held self.now session r }
     {
