@@ -1,6 +1,6 @@
 #!/usr/bin/env python3
-"""Refuses each allocation in turn: of a small replay, check and run by ./glm, and of the tests of the
-lock table and of the office.
+"""Refuses each allocation in turn: of a small replay, check and run by ./glm, of the tests of the lock
+table and of the office, and of one of traces.
 
 Usage: checks/refused_memory.py
 
@@ -9,8 +9,9 @@ to meet the refusal and write all that it would; a run may also end with status 
 kept a thread from starting, and what it writes has to be a legal history of as many rows. A test has
 to pass: it makes a call that found no
 memory once more, and wants the answer that ample memory gives. One test of the office has to say
-that a pass of it was starved. Builds the program and the tests first, where that is needed. The last
-line is 'N passed, M failed', one for each allocation.
+that a pass of it was starved, and the test of traces wants the fault in the row that was being read,
+and has to say so of each row in which memory is asked for. Builds the program and the tests first,
+where that is needed. The last line is 'N passed, M failed', one for each allocation.
 """
 import os
 import subprocess
@@ -34,6 +35,9 @@ LONG_TESTS = [
     "all_256_sessions_close_in_any_order",
 ]
 STARVED_TEST = "a_call_that_found_no_memory_is_served_by_the_next_pass"
+# reads rows, and says in which of them memory was refused
+ROW_TEST = "traces::tells_the_row_in_which_memory_was_refused"
+ROWS_TOLD = {b"refused in row 1", b"refused in row 3", b"refused in row 5"}
 
 
 def build(folder):
@@ -100,17 +104,19 @@ def main():
                     failed.append(f"{command}, allocation {number}: status {ran.returncode}")
         listed = subprocess.run([TESTS, "--list"], capture_output=True, text=True, check=True).stdout
         for test in (line.split(": ")[0] for line in listed.splitlines() if line.endswith(": test")):
-            if not test.startswith(TESTED) or test.split("::")[-1] in LONG_TESTS:
+            if not (test.startswith(TESTED) or test == ROW_TEST) or test.split("::")[-1] in LONG_TESTS:
                 continue
-            starved = False
+            told = b""
             for number, ran in refusals([TESTS, test], library, folder):
-                starved = starved or b"starved" in ran.stdout
+                told += ran.stdout
                 if ran.returncode == 0:
                     passed += 1
                 else:
                     failed.append(f"{test}, allocation {number}: status {ran.returncode}")
-            if test.endswith(STARVED_TEST) and not starved:
+            if test.endswith(STARVED_TEST) and b"starved" not in told:
                 failed.append(f"{test}: no pass was starved")
+            if test == ROW_TEST and not all(row in told for row in ROWS_TOLD):
+                failed.append(f"{test}: memory was refused in too few of the rows")
     for line in failed:
         print(line)
     print(f"{passed} passed, {len(failed)} failed")

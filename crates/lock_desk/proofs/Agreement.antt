@@ -6,6 +6,7 @@ use Rattle.std.specs.List.{All}
 use Rattle.std.proofs.lemmas.Bool.Decides.{nat_tests, Decides-eqb}
 use Rattle.std.proofs.lemmas.List.{get_or_default, get_or-set_same, get_or-set_other}
 use Rattle.std.proofs.lemmas.List.Elements.{All-head, All-tail}
+use Rattle.std.proofs.Math.Seq.{map-set_same}
 use Rattle.lock_tree.specs.Paths.{same_path}
 use Rattle.lock_rules.proofs.Lists.{same_path-refl, same_path-true, same_path_tells}
 use Rattle.lock_desk.specs.declared.cells.SessionMode.{SessionMode}
@@ -18,7 +19,6 @@ use Rattle.lock_desk.specs.Lockers.{Standing, no_standing, standing_of, standing
 use Rattle.lock_desk.specs.Changes.{view_at, standings, DoesKeep}
 use Rattle.lock_desk.proofs.SessionModes.{has_session-with_holder, has_session-queued, has_session-without}
 use Rattle.lock_desk.proofs.LockerStandings.{IsPositionOf, has_path-with, has_path-with_other}
-use Rattle.lock_desk.proofs.CellTable.{map-set_same}
 
 -- an act after another keeps what both keep
 pub keeps-on : {d e f : Desk} → DoesKeep d e → DoesKeep e f → DoesKeep d f
@@ -36,7 +36,7 @@ own-standing ss s x lt = get_or-set_same ss s x no_standing lt
 
 -- a locker that says the same changes nothing
 pub standings-same : (ws : List Locker) (s : ℕ) {i : ℕ} (w new : Locker) → IsPositionOf s i ws → w ≡ get_or ws i w → standing_of new ≡ standing_of w → standings_of (set ws i new) ≡ standings_of ws
-standings-same ws s {i} w new p at e = ap (λ (ss : List Standing). no_standing ∷ ss) (map-set_same standing_of ws i new (e ∙ ap standing_of (at ∙ get_or_default ws i w new p.within)))
+standings-same ws s {i} w new p at e = ap (λ (ss : List Standing). no_standing ∷ ss) (map-set_same standing_of ws i new new (e ∙ ap standing_of (at ∙ get_or_default ws i w new p.within)))
 
 -- no session holds a resource twice
 pub apart-at : (ws : List Locker) (s : ℕ) → All IsKeptLocker ws → AreApart (standing_at s (standings_of ws)).held

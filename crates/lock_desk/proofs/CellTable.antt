@@ -1,20 +1,11 @@
 -- What the cells say after a change of one of them.
-use Rattle.std.proofs.Common.{◌≡◌, ℕ, zero, suc, Bool, true, false, cond, not, ◌&&◌, inl, inr, List, [], ◌∷◌, map, get_or, set, Option, Some, IfSome, IsSome, refl, sym, ◌∙◌, ap, subst}
+use Rattle.std.proofs.Common.{◌≡◌, ℕ, Bool, true, false, cond, not, ◌&&◌, inl, inr, List, [], ◌∷◌, Option, Some, IfSome, refl, sym, ◌∙◌, ap, subst}
 use Rattle.std.specs.Map.{lookup}
-use Rattle.std.specs.HashMap.{HashMap, get, WritesThrough}
 use Rattle.lock_tree.specs.Paths.{same_path}
 use Rattle.lock_rules.proofs.Lists.{same_path_tells}
 use Rattle.lock_desk.specs.declared.cells.SessionMode.{SessionMode}
 use Rattle.lock_desk.specs.declared.cells.Cell.{Cell}
-use Rattle.lock_desk.specs.Cells.{View, no_view, view_of, Cells, cell_at, view_in, cell_view, IsKeptCell, AreKeptCells, CellsBecame, is_nobody, is_busy}
-
--- lists
-
--- writing what maps to the same leaves the map
-pub map-set_same : {A B : Type 0} (f : A → B) (xs : List A) (i : ℕ) (y : A) → f y ≡ f (get_or xs i y) → map f (set xs i y) ≡ map f xs
-map-set_same f [] i y h = refl
-map-set_same f (x ∷ xs) zero y h = ap (λ z. z ∷ map f xs) h
-map-set_same f (x ∷ xs) (suc i) y h = ap (λ zs. f x ∷ zs) (map-set_same f xs i y h)
+use Rattle.lock_desk.specs.Cells.{View, no_view, Cells, cell_at, view_in, cell_view, IsKeptCell, AreKeptCells, CellsBecame, is_nobody, is_busy}
 
 -- no cell has changed
 

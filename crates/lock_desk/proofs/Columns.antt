@@ -3,6 +3,7 @@ use Rattle.std.proofs.Common.{◌≡◌, ℕ, zero, suc, ◌+◌, ◌<◌, ◌�
 use Rattle.std.specs.List.{list_any}
 use Rattle.std.proofs.lemmas.Bool.{cases_order}
 use Rattle.std.proofs.lemmas.Nat.{and_comm}
+use Rattle.std.proofs.Math.Bool.{and-false}
 use Rattle.std.proofs.lemmas.Bool.Decides.{nat_tests}
 use Rattle.std.proofs.lemmas.List.Elements.{All-get_or}
 use Rattle.std.proofs.lemmas.List.{get_or_default, take_more, length-map, get_or-map, map-append, map-set, take-map, drop-map}
@@ -215,11 +216,7 @@ remove-in ss cs new-ss new-cs hs n s o own a b =
 -- whoever has a code that the mask meets, and is another session, is waited for
 module _ (s t b : ℕ) (m : Mode) (own : s ≡ t + 1) where
   met-blocks : (hs : List SessionMode) → (not (eqb b t) && is_met (mask_of m) b (map number_at hs) (map code_at hs)) ≡ holder_blocks s m (b + 1) hs
-  met-blocks [] = none (not (eqb b t))
-    where
-      none : (x : Bool) → (x && false) ≡ false
-      none true = refl
-      none false = refl
+  met-blocks [] = and-false (not (eqb b t))
   met-blocks (h ∷ hs) =
       ap (λ (k : Bool). not (eqb b t) && ((eqb h.session (b + 1) && not k) || is_met (mask_of m) b (map number_at hs) (map code_at hs))) (code-goes m h)
       ∙ (split (eqb h.session (b + 1)) (eqb h.session s) (eqb b t) (not (are_compatible m h.mode)) (is_met (mask_of m) b (map number_at hs) (map code_at hs)) same

@@ -66,14 +66,11 @@ module _ (d e : Desk) (s : ℕ) (r : List ℕ) (m : Mode) (asked : HasAsked s r 
     | inr h ↦ ap (λ (v : View). mode_of u v.holders) (asked.views q ∙ ap (λ (b : Bool). cond b (view_after_asking (in_mode s m) (view_at r d)) (view_at q d)) h)
   ]
 
-  stands-still : (u : ℕ) → eqb s u ≡ false → standing u e ≡ standing u d
-  stands-still u n = ap (standing_at u) own ∙ other-standing (standings d) s u (standing_after_grant r (standing s d)) n
-
   pub grant-still : (i j : Item) → i.session ≡ s → mode_asked i.call ≡ m → 1 ≤ j.session → KeepsLockRooms s d e → GoesBeside i j → CanGrant d r j → CanGrant e r j
   grant-still i j is asks some rooms beside can =
       let n : eqb s j.session ≡ false = ap (λ (u : ℕ). eqb u j.session) (sym is) ∙ beside.apart in
       record {
-        join = join-same d e r j (stands-still j.session n) (held-still j.session n) can.join;
+        join = join-same d e r j (ap (standing_at j.session) own ∙ other-standing (standings d) s j.session (standing_after_grant r (standing s d)) n) (held-still j.session n) can.join;
         fits = ap (λ (v : View). fits_among (asker_of j) v.holders) now
             ∙ fits-still (in_mode s m) (asker_of j) (view_at r d).holders (ap (are_compatible (mode_asked j.call)) (sym asks) ∙ beside.goes) can.fits;
         room = rooms j.session some n can.room;

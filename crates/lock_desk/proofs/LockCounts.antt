@@ -1,16 +1,16 @@
 -- The lockers tell how many locks a session holds, and whether it waits.
 use Rattle.std.proofs.Common.{◌≡◌, ℕ, ◌+◌, ◌≤◌, Bool, true, false, cond, not, eqb, ◌&&◌, ◌||◌, inl, inr, List, [], ◌∷◌, ◌++◌, length, map, Option, Some, None, is_some, refl, sym, ◌∙◌, ap, arith, subst}
 use Rattle.std.proofs.Math.Bool.{or_assoc}
-use Rattle.lock_rules.proofs.Once.{none-behind}
+use Rattle.lock_rules.proofs.Once.{ordered-rest, none-behind}
 use Rattle.std.specs.List.{list_any}
 use Rattle.std.specs.Prelude.{filter}
 use Rattle.std.proofs.lemmas.Bool.Decides.{nat_tests, Decides-eqb}
-use Rattle.std.proofs.lemmas.Bool.{and_parts, cases_Bool}
+use Rattle.std.proofs.lemmas.Bool.{cases_Bool}
 use Rattle.lock_tree.specs.Paths.{same_path}
 use Rattle.lock_rules.specs.State as rules
 use Rattle.lock_rules.specs.Queue.{queue, conversions, fresh_requests}
 use Rattle.lock_rules.specs.Waits.{resource_of_request}
-use Rattle.lock_rules.specs.Sound.{IsOrdered, IsSound, after, ascend, times}
+use Rattle.lock_rules.specs.Sound.{IsOrdered, IsSound, times}
 use Rattle.lock_rules.proofs.Lists.{same_path-refl, same_path_tells}
 use Rattle.lock_desk.specs.Cells.{has_session, has_path, AreApart}
 use Rattle.lock_desk.specs.Lockers.{is_wanted, paths_but}
@@ -43,10 +43,6 @@ waits_on-request : (u : ℕ) (ws : List rules.Claim) (q : rules.Claim) → rules
 waits_on-request u [] q h = absurd (cc)
 waits_on-request u (p ∷ ws) q h = go (eqb p.session u) h (waits_on-request u ws q)
   where
-    or-true : (b : Bool) → (b || true) ≡ true
-    or-true true = refl
-    or-true false = refl
-
     go : (b : Bool) → cond b (Some p) (rules.request_of u ws) ≡ Some q → (rules.request_of u ws ≡ Some q → waits_on u q.resource ws ≡ true) → ((b && same_path p.resource q.resource) || waits_on u q.resource ws) ≡ true
     go true e next = let same : p ≡ q = cc in ap (λ (c : rules.Claim). same_path c.resource q.resource || waits_on u q.resource ws) same ∙ ap (λ (b : Bool). b || waits_on u q.resource ws) (same_path-refl q.resource)
     go false e next = next e
@@ -116,17 +112,10 @@ pub listed : (s : ℕ) (x : List ℕ) (cs : List rules.Claim) → has_path x (lo
 listed s x [] = refl
 listed s x (c ∷ cs) = grind (arith, cases_Bool (eqb c.session s), cases_Bool (same_path c.resource x), listed s x cs)
 
-rest-ordered : (c : rules.Claim) (cs : List rules.Claim) → IsOrdered (c ∷ cs) → IsOrdered cs
-rest-ordered c cs o r = go (same_path c.resource r) (o r)
-  where
-    go : (b : Bool) → ascend (cond b ((c.session, c.mode) ∷ rules.holders r cs) (rules.holders r cs)) ≡ true → ascend (rules.holders r cs) ≡ true
-    go true h = (and_parts (after c.session (rules.holders r cs)) (ascend (rules.holders r cs)) h).1
-    go false h = h
-
 -- none stands twice
 locks-apart : (s : ℕ) (cs : List rules.Claim) → IsOrdered cs → AreApart (locks_in s cs)
 locks-apart s [] o = tt
-locks-apart s (c ∷ cs) o = go (eqb c.session s) refl (locks-apart s cs (rest-ordered c cs o))
+locks-apart s (c ∷ cs) o = go (eqb c.session s) refl (locks-apart s cs (ordered-rest c cs o))
   where
     none : c.session ≡ s → has_path c.resource (locks_in s cs) ≡ false
     none e = listed s c.resource cs ∙ (sym (held-seen s c.resource cs) ∙ ap is_some (subst (λ (i : ℕ). rules.mode_in i c.resource cs ≡ None) e (none-behind c cs o)))

@@ -2,7 +2,7 @@
 use Rattle.std.proofs.Common.{◌||◌, ◌≡◌, ℕ, zero, suc, ◌+◌, ◌-◌, ◌<◌, ◌≤◌, Bool, true, false, cond, List, [], ◌∷◌, ◌++◌, length, take, set, swap, slice_get, get_or, zip, Option, None, Some, is_some, IfSome, unwrap_or, position, refl, sym, ◌∙◌, ap, subst, inl, inr, arith}
 use Rattle.std.proofs.lemmas.List.{get_or-set_other, length-take, length-set, length-append, take-set, take-append-le, take_all}
 use Rattle.std.proofs.lemmas.Option.{slice_get_within, get_or_from_slice_get, slice_get-get_or}
-use Rattle.std.proofs.lemmas.Bool.{cases_lt}
+use Rattle.std.proofs.lemmas.Bool.{or_parts, cases_lt}
 use Rattle.std.proofs.lemmas.Grind.{get_or-set_at}
 use Rattle.std.proofs.lemmas.List.Edits.{length-swap}
 use Rattle.std.proofs.lemmas.List.Quantifiers.{position-Some}
@@ -255,11 +255,7 @@ list_any-take test (suc n) (r ∷ rs) h = rw (h 0 [] (omega arith)) (list_any-ta
 list_any-front : (test : List ℕ → Bool) (n : ℕ) (rs : List (List ℕ)) → list_any test rs ≡ false → list_any test (take n rs) ≡ false
 list_any-front test zero rs h = refl
 list_any-front test (suc n) [] h = refl
-list_any-front test (suc n) (r ∷ rs) h = let e = or-false (test r) (list_any test rs) h in rw e.0 (list_any-front test n rs e.1)
-  where
-    or-false : (a b : Bool) → (a || b) ≡ false → (a ≡ false) × (b ≡ false)
-    or-false true b h = absurd (cc)
-    or-false false b h = (refl, h)
+list_any-front test (suc n) (r ∷ rs) h = let e = or_parts (test r) (list_any test rs) h in rw e.0 (list_any-front test n rs e.1)
 
 module _ (eq : List ℕ → List ℕ → Bool) (same : (a b : List ℕ) → eq a b ≡ same_path a b) (r : List ℕ) (rs : List (List ℕ)) where
   -- none found, none in use

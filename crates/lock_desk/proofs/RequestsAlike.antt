@@ -1,6 +1,7 @@
 -- A request waits for whomever one ahead of it for the same mode waits, for that one, and for those between.
 use Rattle.std.proofs.Common.{◌≡◌, ℕ, zero, suc, ◌+◌, ◌-◌, ◌<◌, ◌≤◌, Bool, true, false, cond, not, eqb, ◌&&◌, ◌||◌, List, [], ◌∷◌, length, get_or, take, drop, Some, refl, sym, ◌∙◌, ap, arith}
-use Rattle.std.proofs.lemmas.Bool.{or_parts}
+use Rattle.std.proofs.lemmas.Bool.{or_parts, or_right}
+use Rattle.std.proofs.Math.Bool.{or_assoc}
 use Rattle.std.proofs.lemmas.Bool.Decides.{nat_tests, Decides-eqb}
 use Rattle.std.proofs.lemmas.List.{get_or_default}
 use Rattle.lock_modes.specs.declared.Mode.{Mode}
@@ -46,17 +47,9 @@ ahead : (ws : List SessionMode) (j i : ℕ) (d : SessionMode) → j < i → i < 
 ahead [] j i d lt k = absurd (omega arith)
 ahead (w ∷ ws) j zero d lt k = absurd (omega arith)
 ahead (w ∷ ws) zero (suc i) d lt k = ap (λ (b : Bool). b || has_session w.session (take i ws)) ((Decides-eqb w.session w.session).1 refl)
-ahead (w ∷ ws) (suc j) (suc i) d lt k = or-true (eqb w.session (get_or ws j d).session) (ahead ws j i d (omega arith) (omega arith))
-  where
-    or-true : (a : Bool) {b : Bool} → b ≡ true → (a || b) ≡ true
-    or-true true e = refl
-    or-true false e = e
+ahead (w ∷ ws) (suc j) (suc i) d lt k = or_right (eqb w.session (get_or ws j d).session) (has_session (get_or ws j d).session (take i ws)) (ahead ws j i d (omega arith) (omega arith))
 
--- three tests as one
-assoc : (a b c : Bool) → ((a || b) || c) ≡ (a || (b || c))
-assoc true b c = refl
-assoc false b c = refl
-
+-- tests that say nothing
 or-none : (o : Bool) → ((o || false) || false) ≡ (o || false)
 or-none true = refl
 or-none false = refl
@@ -74,7 +67,7 @@ between u (w ∷ ws) (suc j) zero le = absurd (omega arith)
 between u (w ∷ ws) (suc j) (suc i) le =
     let e : suc i - suc j ≡ i - j = omega arith in
     ap (λ (k : ℕ). (eqb w.session u || has_session u (take j ws)) || has_session u (take k (drop j ws))) e
-    ∙ (assoc (eqb w.session u) (has_session u (take j ws)) (has_session u (take (i - j) (drop j ws))) ∙ ap (λ (b : Bool). eqb w.session u || b) (between u ws j i (omega arith)))
+    ∙ (or_assoc (eqb w.session u) (has_session u (take j ws)) (has_session u (take (i - j) (drop j ws))) ∙ ap (λ (b : Bool). eqb w.session u || b) (between u ws j i (omega arith)))
 
 -- who is among the first ones is there
 pub has-take : (s : ℕ) (ws : List SessionMode) (i : ℕ) → has_session s (take i ws) ≡ true → has_session s ws ≡ true
@@ -97,7 +90,7 @@ has-next s (w ∷ ws) zero d lt = first (eqb w.session s) (eqb s w.session) (tur
     first : (a b : Bool) → a ≡ b → (a || false) ≡ (false || b)
     first true b e = e
     first false b e = e
-has-next s (w ∷ ws) (suc i) d lt = ap (λ (b : Bool). eqb w.session s || b) (has-next s ws i d (omega arith)) ∙ sym (assoc (eqb w.session s) (has_session s (take i ws)) (eqb s (get_or ws i d).session))
+has-next s (w ∷ ws) (suc i) d lt = ap (λ (b : Bool). eqb w.session s || b) (has-next s ws i d (omega arith)) ∙ sym (or_assoc (eqb w.session s) (has_session s (take i ws)) (eqb s (get_or ws i d).session))
 
 -- one row more is written
 pub written-next : (s : ℕ) (ws : List SessionMode) (i : ℕ) (d : SessionMode) → i < length ws → (old here : Bool) → ((old || (has_session s (take i ws) && here)) || (eqb s (get_or ws i d).session && here)) ≡ (old || (has_session s (take (i + 1) ws) && here))
@@ -159,7 +152,7 @@ module _ (v : View) (once : (s : ℕ) → times s v.waiting ≤ 1) (i : ℕ) (d 
     where
       go : (t : Bool) → eqb (a + 1) here.session ≡ t → ((old a b || (t && holder_blocks here.session here.mode (b + 1) v.holders)) || (t && has_session (b + 1) (take i v.waiting))) ≡ (old a b || (t && view_blocks (a + 1) (b + 1) v))
       go true f =
-          assoc (old a b) (holder_blocks here.session here.mode (b + 1) v.holders) (has_session (b + 1) (take i v.waiting))
+          or_assoc (old a b) (holder_blocks here.session here.mode (b + 1) v.holders) (has_session (b + 1) (take i v.waiting))
           ∙ ap (λ (o : Bool). old a b || o) (sym (blocks-at_place v once i here lt (get_or_default v.waiting i d here lt) (b + 1)) ∙ ap (λ (k : ℕ). view_blocks k (b + 1) v) (sym ((Decides-eqb (a + 1) here.session).0 f)))
       go false f = or-none (old a b)
 
@@ -170,7 +163,7 @@ module _ (v : View) (once : (s : ℕ) → times s v.waiting ≤ 1) (i j : ℕ) (
   pub blocks-alike : view_blocks p.session q.session v ≡ false → (u : ℕ) → (view_blocks p.session u v || has_session u (take (i - j) (drop j v.waiting))) ≡ view_blocks q.session u v
   blocks-alike free u =
       ap (λ (b : Bool). b || has_session u (take (i - j) (drop j v.waiting))) (blocks-at_place v once j p (omega (arith, less, lt)) there u)
-      ∙ (assoc (holder_blocks p.session p.mode u v.holders) (has_session u (take j v.waiting)) (has_session u (take (i - j) (drop j v.waiting)))
+      ∙ (or_assoc (holder_blocks p.session p.mode u v.holders) (has_session u (take j v.waiting)) (has_session u (take (i - j) (drop j v.waiting)))
       ∙ (ap (λ (b : Bool). holder_blocks p.session p.mode u v.holders || b) (between u v.waiting j i (omega (arith, less)))
       ∙ (ap (λ (m : Mode). holder_blocks p.session m u v.holders || has_session u (take i v.waiting)) mode
       ∙ (same (eqb u q.session) (eqb u p.session) refl refl ∙ sym (blocks-at_place v once i q lt at u)))))
@@ -225,7 +218,7 @@ module _ (v : View) (once : (s : ℕ) → times s v.waiting ≤ 1) (i j : ℕ) (
           let is : a + 1 ≡ q.session = (Decides-eqb (a + 1) q.session).0 f in
           let here : eqb a x ≡ true = (Decides-eqb a x).1 (omega (arith, is, mine)) in
           ap (λ (o : Bool). (old a b || (o && old y b)) || has_session (b + 1) (take (i - j) (drop j v.waiting))) here
-          ∙ (assoc (old a b) (old y b) (has_session (b + 1) (take (i - j) (drop j v.waiting)))
+          ∙ (or_assoc (old a b) (old y b) (has_session (b + 1) (take (i - j) (drop j v.waiting)))
           ∙ (ap (λ (o : Bool). old a b || (o || has_session (b + 1) (take (i - j) (drop j v.waiting)))) (written y b there ∙ ap (λ (k : ℕ). view_blocks k (b + 1) v) theirs)
           ∙ ap (λ (o : Bool). old a b || o) (waits-as (b + 1) ∙ ap (λ (k : ℕ). view_blocks k (b + 1) v) (sym is))))
       go false f =

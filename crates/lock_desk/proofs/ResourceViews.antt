@@ -1,6 +1,7 @@
 -- What a grant, a request and a release do to the holders and the queue of one resource.
 use Rattle.std.proofs.Common.{◌≡◌, ℕ, zero, suc, ◌+◌, ◌<◌, ◌≤◌, Bool, true, false, cond, not, eqb, ◌&&◌, ◌||◌, inl, inr, List, [], ◌∷◌, length, drop, Some, None, refl, sym, ◌∙◌, ap, arith, subst}
 use Rattle.std.proofs.lemmas.Bool.{and_right, or_from, or_parts}
+use Rattle.std.proofs.Math.Bool.{and-false}
 use Rattle.std.proofs.lemmas.Bool.Decides.{nat_tests, Decides-eqb}
 use Rattle.std.proofs.lemmas.List.{drop-drop}
 use Rattle.lock_desk.specs.declared.cells.SessionMode.{SessionMode}
@@ -115,11 +116,7 @@ busy-put c v = ap (λ (b : Bool). not (b && is_nobody v.waiting)) (nobody-with_h
 
 -- a request is there
 pub busy-queued : (c : SessionMode) (v : View) → is_busy (record { holders = v.holders; waiting = queue_with c v.holders v.waiting }) ≡ true
-busy-queued c v = ap (λ (b : Bool). not (is_nobody v.holders && b)) (nobody-queued c v.holders v.waiting) ∙ not-and (is_nobody v.holders)
-  where
-    not-and : (b : Bool) → not (b && false) ≡ true
-    not-and true = refl
-    not-and false = refl
+busy-queued c v = ap (λ (b : Bool). not (is_nobody v.holders && b)) (nobody-queued c v.holders v.waiting) ∙ ap not (and-false (is_nobody v.holders))
 
 -- a promotion that was made leaves nothing to promote
 

@@ -1,5 +1,6 @@
 -- Holders whose session numbers rise: where one stands is found by a search, and a mode that goes with itself fits again.
 use Rattle.std.proofs.Common.{◌≡◌, ℕ, zero, suc, ◌+◌, ◌<◌, ◌≤◌, Bool, true, false, cond, not, eqb, ◌&&◌, ◌||◌, inl, inr, List, [], ◌∷◌, ◌++◌, length, get_or, take, drop, insert, remove, set, map, Some, None, is_some, nat_lt, refl, sym, ◌∙◌, ap, arith}
+use Rattle.std.proofs.Math.Bool.{and_assoc}
 use Rattle.std.proofs.lemmas.Bool.Decides.{nat_tests, Decides-eqb}
 use Rattle.std.proofs.lemmas.Bool.{and_parts, and_from, cases_Bool, cases_lt}
 use Rattle.std.proofs.lemmas.List.{get_or_default}
@@ -192,11 +193,7 @@ fits-own c (k ∷ hs) (suc n) o =
       greater = λ i d l w. o.greater (suc i) d (omega (arith, l)) (omega (arith, w));
     }) in
     ap (λ (x : Bool). (x || are_compatible c.mode k.mode) && fits_among c hs) other
-    ∙ (ap (λ (x : Bool). are_compatible c.mode k.mode && x) rest ∙ sym (and-assoc (are_compatible c.mode k.mode) (go_with c.mode (take n hs)) (go_with c.mode (drop (suc n) hs))))
-  where
-    and-assoc : (x y z : Bool) → ((x && y) && z) ≡ (x && (y && z))
-    and-assoc true y z = refl
-    and-assoc false y z = refl
+    ∙ (ap (λ (x : Bool). are_compatible c.mode k.mode && x) rest ∙ sym (and_assoc (are_compatible c.mode k.mode) (go_with c.mode (take n hs)) (go_with c.mode (drop (suc n) hs))))
 
 -- a mode that goes with all holders fits
 pub go-fits : (c : SessionMode) (hs : List SessionMode) → go_with c.mode hs ≡ true → fits_among c hs ≡ true

@@ -3,7 +3,7 @@
 use Rattle.std.proofs.Common.{◌≡◌, ℕ, ◌+◌, ◌-◌, leb, Bool, true, false, cond, not, eqb, ◌&&◌, ◌||◌, inl, inr, List, [], ◌∷◌, length, Option, Some, None, refl, sym, ◌∙◌, ap, arith, subst}
 use Rattle.std.proofs.lemmas.Bool.{cases_lt, le-leb}
 use Rattle.std.proofs.lemmas.Bool.Decides.{Decides-eqb}
-use Rattle.std.proofs.Math.Bool.{and-false}
+use Rattle.std.proofs.Math.Bool.{and-true, and-false, or-false}
 use Rattle.std.specs.Prelude.{vec_len, slice_index_or}
 use Rattle.waits_for.specs.Pairs.{pairs_of}
 use Rattle.lock_modes.specs.declared.Mode.{Mode}
@@ -90,10 +90,6 @@ module _ (r : List ℕ) (v : View) (d e : Desk) (w : IsWhole d) (x : IsWhole e) 
       old : Bool
       old = blocks d.cells.entries (standings d) s u
 
-      keep : (a : Bool) → ((a && true) || false) ≡ a
-      keep true = refl
-      keep false = refl
-
       drop-it : (a c : Bool) → ((a && false) || c) ≡ c
       drop-it true c = refl
       drop-it false c = refl
@@ -107,7 +103,7 @@ module _ (r : List ℕ) (v : View) (d e : Desk) (w : IsWhole d) (x : IsWhole e) 
       go : (b c : Bool) → has_session s (view_at r d).waiting ≡ b → has_session s v.waiting ≡ c → blocks e.cells.entries (standings e) s u ≡ ((old && not b) || view_blocks s u v)
       go true true f g = blocks-there e x s u r (ap (λ (y : View). has_session s y.waiting) here ∙ g) ∙ (ap (view_blocks s u) here ∙ sym (drop-it old (view_blocks s u v)))
       go true false f g = blocks-left s u f g ∙ sym (drop-it old (view_blocks s u v) ∙ blocks-none s u v g)
-      go false false f g = blocks-elsewhere s u f g ∙ sym (ap (λ (o : Bool). (old && true) || o) (blocks-none s u v g) ∙ keep old)
+      go false false f g = blocks-elsewhere s u f g ∙ sym (ap (λ (o : Bool). (old && true) || o) (blocks-none s u v g) ∙ (or-false (old && true) ∙ and-true old))
       go false true f g =
           let there = ap (λ (y : View). has_session s y.waiting) here ∙ g in
           blocks-there e x s u r there ∙ (ap (view_blocks s u) here
@@ -146,13 +142,9 @@ pub quiet-follow : (before after : View) (old new : Waits) → new ≡ old → i
 quiet-follow before after old new same f g = subst (λ (w : Waits). DoFollow before after old w) (sym same) (record {
   sessions = refl;
   pairs = λ a b. let p = pairs_of old.rows a b in sym (ap (λ (o : Bool). (p && not o) || view_blocks (a + 1) (b + 1) after) (nobody-waits (a + 1) before.waiting f)
-      ∙ (ap (λ (o : Bool). (p && true) || o) (blocks-none (a + 1) (b + 1) after (nobody-waits (a + 1) after.waiting g)) ∙ as-before p));
+      ∙ (ap (λ (o : Bool). (p && true) || o) (blocks-none (a + 1) (b + 1) after (nobody-waits (a + 1) after.waiting g)) ∙ (or-false (p && true) ∙ and-true p)));
   numbers = refl;
 })
-  where
-    as-before : (a : Bool) → ((a && true) || false) ≡ a
-    as-before true = refl
-    as-before false = refl
 
 -- nothing has changed of who waits where
 

@@ -1,7 +1,8 @@
 -- What is written down of those who wait at one resource, and what it says after a request there.
 use Rattle.std.proofs.Common.{◌≡◌, ℕ, zero, suc, ◌+◌, ◌<◌, ◌≤◌, Bool, true, false, cond, not, eqb, ◌&&◌, ◌||◌, List, [], ◌∷◌, ◌++◌, length, length-append, get_or, take, Option, Some, None, is_some, refl, sym, ◌∙◌, ap, arith}
-use Rattle.std.proofs.lemmas.Bool.{or_parts, false≢true}
+use Rattle.std.proofs.lemmas.Bool.{or_parts, false≢true, and_parts, or_right}
 use Rattle.std.proofs.lemmas.Bool.Decides.{nat_tests, Decides-eqb}
+use Rattle.std.proofs.Math.Bool.{and-true, and-false, or-false, or_comm}
 use Rattle.waits_for.specs.Pairs.{pairs_of}
 use Rattle.lock_modes.specs.declared.Mode.{Mode}
 use Rattle.lock_desk.specs.declared.cells.SessionMode.{SessionMode}
@@ -99,31 +100,19 @@ left-waiting : (s : ℕ) (hs ws : List SessionMode) → has_session s (view_afte
 left-waiting s hs [] h = h
 left-waiting s hs (q ∷ ws) h = go (fits_among q hs) h (left-waiting s (with_holder q hs) ws)
   where
-    or-true : (a : Bool) {b : Bool} → b ≡ true → (a || b) ≡ true
-    or-true true e = refl
-    or-true false e = e
-
     go : (b : Bool) → has_session s (cond b (view_after_grants (with_holder q hs) ws) (both hs (q ∷ ws))).waiting ≡ true → (has_session s (view_after_grants (with_holder q hs) ws).waiting ≡ true → has_session s ws ≡ true) → (eqb q.session s || has_session s ws) ≡ true
-    go true h next = or-true (eqb q.session s) (next h)
+    go true h next = or_right (eqb q.session s) (has_session s ws) (next h)
     go false h next = h
 
 -- who waits still has waited
 pub waits-still : (p : Part) (g s : ℕ) (v : View) → has_session s (view_after_freeing p g v).waiting ≡ true → has_session s v.waiting ≡ true
 waits-still part.Lock g s v h = left-waiting s (without g v.holders) v.waiting h
-waits-still part.Request g s v h = and-right (not (eqb s g)) (sym (has_session-without g s v.waiting) ∙ left-waiting s v.holders (without g v.waiting) h)
-  where
-    and-right : (a : Bool) {b : Bool} → (a && b) ≡ true → b ≡ true
-    and-right true h = h
-    and-right false h = absurd (cc)
+waits-still part.Request g s v h = (and_parts (not (eqb s g)) (has_session s v.waiting) (sym (has_session-without g s v.waiting) ∙ left-waiting s v.holders (without g v.waiting) h)).1
 
 -- so its row was emptied
 pub emptied-still : (p : Part) (g s : ℕ) (v seen now : View) → seen ≡ v → now ≡ view_after_freeing p g v → has_session s now.waiting ≡ true → (old : Bool) {new : Bool} → new ≡ (old && not (has_session s seen.waiting)) → new ≡ false
 emptied-still p g s v seen now e f h old is =
-    is ∙ (ap (λ (b : Bool). old && not b) (ap (λ (y : View). has_session s y.waiting) e ∙ waits-still p g s v (ap (λ (y : View). has_session s y.waiting) (sym f) ∙ h)) ∙ none old)
-  where
-    none : (b : Bool) → (b && false) ≡ false
-    none true = refl
-    none false = refl
+    is ∙ (ap (λ (b : Bool). old && not b) (ap (λ (y : View). has_session s y.waiting) e ∙ waits-still p g s v (ap (λ (y : View). has_session s y.waiting) (sym f) ∙ h)) ∙ and-false old)
 
 -- the rows of those who waited were emptied, and those of them who wait still were written anew
 pub follows-freed : (v seen x now : View) (old mid new : Waits) → seen ≡ v → now ≡ x → mid.rows.sessions ≡ old.rows.sessions → new.rows.sessions ≡ mid.rows.sessions → mid.numbers ≡ old.numbers → new.numbers ≡ mid.numbers
@@ -139,18 +128,8 @@ follows-freed v seen x now old mid new e f s t m n cleared wrote = record {
 module _ (c : SessionMode) (v : View) (w : Waits) (k : IsWritten c.session v w) (idle : has_session c.session v.waiting ≡ false) where
   -- who waits then
   waits-asked : (s : ℕ) (g : Bool) → has_session s (cond g (both v.holders v.waiting) (both v.holders (queue_with c v.holders v.waiting))).waiting ≡ (has_session s v.waiting || (not g && eqb c.session s))
-  waits-asked s true = sym (or-no (has_session s v.waiting))
-    where
-      or-no : (b : Bool) → (b || false) ≡ b
-      or-no true = refl
-      or-no false = refl
-  waits-asked s false = has_session-queued s c v.holders v.waiting ∙ swap (eqb c.session s) (has_session s v.waiting)
-    where
-      swap : (a b : Bool) → (a || b) ≡ (b || a)
-      swap true true = refl
-      swap true false = refl
-      swap false true = refl
-      swap false false = refl
+  waits-asked s true = sym (or-false (has_session s v.waiting))
+  waits-asked s false = has_session-queued s c v.holders v.waiting ∙ or_comm (eqb c.session s) (has_session s v.waiting)
 
   -- all rows there were written anew
   pub follows-all : (x : View) → (new : Waits) → x ≡ view_after_asking c v → new.rows.sessions ≡ w.rows.sessions → new.numbers ≡ w.numbers
@@ -236,30 +215,14 @@ module _ (c : SessionMode) (v : View) (w : Waits) (k : IsWritten c.session v w) 
         turned : (a : ℕ) → eqb (a + 1) c.session ≡ false → eqb c.session (a + 1) ≡ false
         turned a e = grind (arith, nat_tests, e)
 
-        and-yes : (o : Bool) → (o && true) ≡ o
-        and-yes true = refl
-        and-yes false = refl
-
-        and-no : (o : Bool) → (o && false) ≡ false
-        and-no true = refl
-        and-no false = refl
-
-        or-no : (o : Bool) → (o || false) ≡ o
-        or-no true = refl
-        or-no false = refl
-
-        both-no : (o : Bool) → (o || false) ≡ ((o && true) || false)
-        both-no true = refl
-        both-no false = refl
-
         go : (a b : ℕ) (t h : Bool) → eqb (a + 1) c.session ≡ t → has_session (a + 1) v.waiting ≡ h
             → (pairs_of w.rows a b || (t && view_blocks (a + 1) (b + 1) x)) ≡ ((pairs_of w.rows a b && not h) || view_blocks (a + 1) (b + 1) x)
         go a b true true e f = absurd (let g : has_session (a + 1) v.waiting ≡ false = ap (λ (s : ℕ). has_session s v.waiting) ((Decides-eqb (a + 1) c.session).0 e) ∙ idle in cc)
-        go a b true false e f = ap (λ (o : Bool). o || view_blocks (a + 1) (b + 1) x) (sym (and-yes (pairs_of w.rows a b)))
+        go a b true false e f = ap (λ (o : Bool). o || view_blocks (a + 1) (b + 1) x) (sym (and-true (pairs_of w.rows a b)))
         go a b false true e f =
-            or-no (pairs_of w.rows a b) ∙ (k.waiting a b f
+            or-false (pairs_of w.rows a b) ∙ (k.waiting a b f
             ∙ (sym (ap (view_blocks (a + 1) (b + 1)) last ∙ blocks-push (a + 1) (b + 1) c v.holders v.waiting (turned a e) f)
-            ∙ ap (λ (o : Bool). o || view_blocks (a + 1) (b + 1) x) (sym (and-no (pairs_of w.rows a b)))))
+            ∙ ap (λ (o : Bool). o || view_blocks (a + 1) (b + 1) x) (sym (and-false (pairs_of w.rows a b)))))
         go a b false false e f =
             let none : has_session (a + 1) x.waiting ≡ false = ap (λ (y : View). has_session (a + 1) y.waiting) last ∙ (has_session-push (a + 1) v.waiting c ∙ (λ i. turned a e i || f i)) in
-            both-no (pairs_of w.rows a b) ∙ ap (λ (o : Bool). (pairs_of w.rows a b && true) || o) (sym (blocks-none (a + 1) (b + 1) x none))
+            ap (λ (o : Bool). o || false) (sym (and-true (pairs_of w.rows a b))) ∙ ap (λ (o : Bool). (pairs_of w.rows a b && true) || o) (sym (blocks-none (a + 1) (b + 1) x none))

@@ -289,6 +289,47 @@ fn tells_of_a_reader_that_fails(rt: HostRuntime) {
     assert_eq!(rt; result.err(), Some(TraceFault { row: 2, kind }));
 }
 
+/// How many rows the text has, read byte by byte, or its fault; and how many bytes were read.
+fn counted(alloc: Global, text: &[u8]) -> (Result<usize, TraceFault>, u64) {
+    let is_cut = false;
+    let mut input = Dribble { left: text, is_cut };
+    let result = read_trace(alloc, &mut input, 1);
+    let unread = input.left.len();
+    let read = text.len().saturating_sub(unread) as u64;
+    (result.map(|rows| rows.len()), read)
+}
+
+#[test]
+fn tells_the_row_in_which_memory_was_refused(rt: HostRuntime) -> Result<(), Fail> {
+    // each row but the last one has nine bytes, and the last one of the second text more fields than a record has room for
+    let shape = TraceKind::Shape;
+    for (text, last, want) in [
+        (
+            b"1,poll,,\n1,poll,,\n1,poll,,\n1,poll,,\n1,poll,,\n".as_slice(),
+            5,
+            Ok(5),
+        ),
+        (
+            b"1,poll,,\n1,poll,,\n1,,,,,,,,,,,,,,,,\n".as_slice(),
+            3,
+            Err(TraceFault {
+                row: 3,
+                kind: shape,
+            }),
+        ),
+    ] {
+        let (told, read) = counted(rt.alloc(), text);
+        let row = read.div_ceil(9).clamp(1, last);
+        let kind = TraceKind::NoMemory;
+        if told == Err(TraceFault { row, kind }) {
+            println!(&rt; "refused in row {row}")?;
+        } else {
+            assert_eq!(rt; told, want, "at {text:?}");
+        }
+    }
+    Ok(())
+}
+
 fn entry(session: u16, call: Call, reply: Reply) -> Entry {
     Entry {
         session,
