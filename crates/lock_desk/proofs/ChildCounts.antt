@@ -4,6 +4,7 @@ use Rattle.std.specs.List.{swap_remove}
 use Rattle.std.proofs.lemmas.Bool.{and_parts, and_from, or_parts, or_right, or_cases, cases_lt, cases_eq}
 use Rattle.std.proofs.lemmas.Bool.Decides.{nat_tests, Decides-eqb}
 use Rattle.std.proofs.lemmas.List.{get_or_default, get_or_append_left, get_or_push, get_or-set_same, get_or-set_other, length-set}
+use Rattle.std.proofs.Math.Bool.{or_comm}
 use Rattle.lock_tree.specs.Paths.{same_path, is_ancestor, parent_of, has_parent}
 use Rattle.lock_tree.proofs.Ancestors.{parent-ancestor}
 use Rattle.lock_rules.proofs.Lists.{same_path-refl, same_path-true, same_path_tells}
@@ -222,13 +223,7 @@ children-left x (y ∷ ys) l (suc p) le = omega (arith, children-left x ys l p (
 has-left : (q : List ℕ) (ys : List (List ℕ)) (l : List ℕ) (p : ℕ) → p ≤ length ys → same_path (at-place ys l p) q ≡ false → has_path q (set ys p l) ≡ has_path q (ys ++ l ∷ [])
 has-left q [] l zero le n = sym (ap (λ (b : Bool). b || false) n)
 has-left q [] l (suc p) le n = absurd (omega arith)
-has-left q (y ∷ ys) l zero le n = or-swap (same_path l q) (has_path q ys) ∙ (sym (has_path-push q l ys) ∙ sym (ap (λ (b : Bool). b || has_path q (ys ++ l ∷ [])) n))
-  where
-    or-swap : (a b : Bool) → (a || b) ≡ (b || a)
-    or-swap true true = refl
-    or-swap true false = refl
-    or-swap false true = refl
-    or-swap false false = refl
+has-left q (y ∷ ys) l zero le n = or_comm (same_path l q) (has_path q ys) ∙ (sym (has_path-push q l ys) ∙ sym (ap (λ (b : Bool). b || has_path q (ys ++ l ∷ [])) n))
 has-left q (y ∷ ys) l (suc p) le n = ap (λ (b : Bool). same_path y q || b) (has-left q ys l p (omega arith) n)
 
 apart-first : (y : List ℕ) (rs : List (List ℕ)) (p : ℕ) → p < length rs → has_path y rs ≡ false → same_path y (get_or rs p []) ≡ false

@@ -1,5 +1,5 @@
 -- The locks of a session in two lists: those that are indexed, and those that came since.
-use Rattle.std.proofs.Common.{◌≡◌, ℕ, zero, suc, ◌+◌, ◌-◌, ◌<◌, ◌≤◌, Bool, true, false, cond, ◌&&◌, ◌||◌, List, [], ◌∷◌, ◌++◌, length, length-append, get_or, set, take, drop, slice_get, unwrap_or, Option, None, Some, IfSome, refl, sym, ◌∙◌, ap, arith, subst, inl, inr}
+use Rattle.std.proofs.Common.{◌≡◌, ℕ, zero, suc, ◌+◌, ◌-◌, ◌<◌, ◌≤◌, Bool, true, false, cond, ◌||◌, List, [], ◌∷◌, ◌++◌, length, length-append, get_or, set, take, drop, slice_get, unwrap_or, Option, None, Some, IfSome, refl, sym, ◌∙◌, ap, arith, subst, inl, inr}
 use Rattle.std.specs.Map.{keys_of, values_of, lookup, lookup_key}
 use Rattle.std.proofs.lemmas.Map.Made.{lookup_key_passes}
 use Rattle.std.proofs.lemmas.Option.{slice_get_within, slice_get-get_or}
@@ -9,6 +9,7 @@ use Rattle.std.proofs.lemmas.List.{append_assoc, append-nil, get_or_default}
 use Rattle.std.proofs.lemmas.List.Folds.{list_any-append}
 use Rattle.indexmap.proofs.SetLemmas.{map-swap_remove}
 use Rattle.indexmap.specs.IndexMap.{set_value_at}
+use Rattle.std.proofs.Math.Bool.{or-false}
 use Rattle.lock_tree.specs.Paths.{same_path, parent_of, has_parent}
 use Rattle.lock_rules.proofs.Lists.{same_path-refl, same_path-true, same_path_tells}
 use Rattle.lock_desk.specs.Cells.{has_path, AreApart}
@@ -96,11 +97,7 @@ one-apart : (ys bs : List (List ℕ)) (q : List ℕ) → AreApart (ys ++ q ∷ b
 one-apart ys bs q a = let k = apart-parts ys (q ∷ bs) a in apart-join ys bs k.first k.second.1 (λ p h. (or_parts (same_path q p) (has_path p bs) (k.none p h)).1)
 
 one-under : (q : List ℕ) (rs fs bs : List (List ℕ)) → has_child q bs ≡ false → AreUnder rs (fs ++ q ∷ bs) → AreUnder rs (fs ++ bs)
-one-under q rs [] bs n h = under-less q (rs ++ q ∷ []) rs bs (λ p e. sym (has_path-push p q rs ∙ (ap (λ (b : Bool). has_path p rs || b) e ∙ or-none (has_path p rs)))) n h.1
-  where
-    or-none : (b : Bool) → (b || false) ≡ b
-    or-none true = refl
-    or-none false = refl
+one-under q rs [] bs n h = under-less q (rs ++ q ∷ []) rs bs (λ p e. sym (has_path-push p q rs ∙ (ap (λ (b : Bool). has_path p rs || b) e ∙ or-false (has_path p rs)))) n h.1
 one-under q rs (x ∷ fs) bs n h = (h.0, one-under q (rs ++ x ∷ []) fs bs n h.1)
 
 -- a lock goes from those that came since

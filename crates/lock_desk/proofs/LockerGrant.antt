@@ -1,5 +1,5 @@
 -- The locker of a session whose request is granted.
-use Rattle.std.proofs.Common.{◌≡◌, ◌+◌, ℕ, Bool, true, false, cond, not, List, [], ◌∷◌, ◌++◌, length, length-append, Option, Some, None, sym, ◌∙◌, ap, arith, subst}
+use Rattle.std.proofs.Common.{◌≡◌, ℕ, Bool, true, false, cond, not, List, [], ◌∷◌, ◌++◌, length, length-append, Option, Some, None, sym, ◌∙◌, ap, arith, subst}
 use Rattle.lock_rules.proofs.Lists.{same_path-true}
 use Rattle.lock_desk.specs.declared.lockers.Request.{Request}
 use Rattle.lock_desk.specs.declared.lockers.Request.TheVariants.{Fresh, Conversion}

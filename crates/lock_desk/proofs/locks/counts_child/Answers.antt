@@ -1,4 +1,4 @@
-use Rattle.std.proofs.Common.{◌≡◌, ◌<◌, length, get_or, [], sym, ◌∙◌, ap, arith}
+use Rattle.std.proofs.Common.{◌<◌, length, sym, ◌∙◌, ap, arith}
 use Rattle.std.specs.Map.{keys_of}
 use Rattle.lock_desk.specs.ChildCounts.{children_of}
 use Rattle.lock_desk.proofs.ChildCounts.{counted-tells, none-under}

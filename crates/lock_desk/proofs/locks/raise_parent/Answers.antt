@@ -1,4 +1,4 @@
-use Rattle.std.proofs.Common.{◌≡◌, ◌+◌, Bool, cond, get_or, set, [], sym, ◌∙◌, ap, arith}
+use Rattle.std.proofs.Common.{◌+◌, Bool, cond, get_or, [], sym, ◌∙◌, ap, arith}
 use Rattle.std.specs.Map.{keys_of, values_of}
 use Rattle.std.proofs.lemmas.Option.{get_or_from_slice_get}
 use Rattle.lock_desk.proofs.ChildCounts.{raised-at, few-children}

@@ -1,4 +1,4 @@
-use Rattle.std.proofs.Common.{ap, arith, refl, Some}
+use Rattle.std.proofs.Common.{ap, arith}
 use Rattle.lock_desk.specs.Tables.{in_use}
 use Rattle.lock_desk.specs.Cells.{Table}
 use Rattle.lock_desk.proofs.Places.{cell-within, there}

@@ -1,4 +1,4 @@
-use Rattle.std.proofs.Common.{◌≡◌, ◌∙◌, sym, ap, subst, Bool, true, false, not, cond, List, ℕ, [], ◌∷◌, ◌++◌, slice_get, Some, None}
+use Rattle.std.proofs.Common.{◌≡◌, ◌∙◌, sym, ap, subst, Bool, false, cond, List, ℕ, [], ◌∷◌, ◌++◌, slice_get, Some, None}
 use Rattle.std.proofs.lemmas.Bool.{not-true, not-false}
 use Rattle.std.specs.List.{IsDistinct, list_any}
 use Rattle.lock_tree.specs.Paths.{same_path}

@@ -1,4 +1,4 @@
-use Rattle.std.proofs.Common.{◌≡◌, ◌<◌, ◌∙◌, sym, ap, subst, refl, length, arith, Some}
+use Rattle.std.proofs.Common.{◌<◌, ◌∙◌, sym, ap, subst, length, arith}
 use Rattle.lock_desk.specs.Tables.{in_use}
 use Rattle.lock_desk.specs.Cells.{Table, IsCellAt}
 use Rattle.lock_desk.proofs.Places.{length-beside, apart-in_use, in_use-at, found-place}

@@ -1,13 +1,11 @@
-use Rattle.std.proofs.Common.{◌≡◌, ◌<◌, ◌≤◌, ◌+◌, ◌-◌, ◌∙◌, ℕ, List, Option, false, sym, ap, subst, refl, length, arith, swap, get_or, slice_get, Some}
-use Rattle.std.proofs.lemmas.List.{length-set, length-take}
+use Rattle.std.proofs.Common.{◌≡◌, ◌<◌, ◌-◌, ◌∙◌, ℕ, List, false, sym, ap, subst, length, arith, swap, get_or, slice_get}
 use Rattle.std.proofs.lemmas.List.Edits.{length-swap}
-use Rattle.std.proofs.lemmas.Option.{slice_get-get_or}
 use Rattle.std.specs.List.{IsDistinct, swap_remove}
 use Rattle.std.specs.Option.{IfSome}
 use Rattle.lock_tree.specs.Paths.{same_path}
 use Rattle.lock_desk.specs.declared.cells.Cell.{Cell}
-use Rattle.lock_desk.specs.Tables.{in_use, AreIdleFrom}
-use Rattle.lock_desk.specs.Cells.{Table, Cells, cell_at, no_view, view_of}
+use Rattle.lock_desk.specs.Tables.{in_use}
+use Rattle.lock_desk.specs.Cells.{Table, cell_at, view_of}
 use Rattle.lock_desk.proofs.Places.{length-beside, apart-in_use, gone-there, idle-swapped, fewer, still}
 use Rattle.lock_desk.proofs.cell_table.CellTable.vacate.Goals as goal
 

@@ -1,7 +1,6 @@
-use Rattle.std.proofs.Common.{sym, ◌∙◌, ap, subst}
-use Rattle.std.proofs.lemmas.List.Elements.{All-get_or}
+use Rattle.std.proofs.Common.{sym, ◌∙◌, ap}
 use Rattle.lock_desk.specs.ChildCounts.{has_child}
-use Rattle.lock_desk.specs.Lockers.{Standing, IsKeptLocker}
+use Rattle.lock_desk.specs.Lockers.{Standing}
 use Rattle.lock_desk.proofs.LockerStandings.{standing-here}
 use Rattle.lock_desk.proofs.Asking.{within}
 use Rattle.lock_desk.proofs.desk.Desk.holds_child.Goals as goal

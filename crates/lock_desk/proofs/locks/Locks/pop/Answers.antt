@@ -1,4 +1,4 @@
-use Rattle.std.proofs.Common.{ap, sym, subst, arith}
+use Rattle.std.proofs.Common.{subst, arith}
 use Rattle.indexmap.specs.IndexMap.{keys}
 use Rattle.lock_desk.specs.ChildCounts.{AreUnder}
 use Rattle.lock_desk.proofs.LockLists.{under-pop}

@@ -1,4 +1,4 @@
-use Rattle.std.proofs.Common.{◌≡◌, ap, sym, subst, arith}
+use Rattle.std.proofs.Common.{ap, sym, subst, arith}
 use Rattle.indexmap.specs.IndexMap.{keys}
 use Rattle.lock_desk.specs.ChildCounts.{LockList, IsUnder}
 use Rattle.lock_desk.proofs.LockLists.{under-push}
