@@ -250,6 +250,9 @@ impl Cell {
         ensures err { OnErr result (view_of self.new ≡ view_of self.old) }
         ensures kept { IsKeptCell self.new }
     {
+        if self.holders.convert_alone(asker) {
+            return Ok(RequestStatus::Granted);
+        }
         let waiting = self.waiting.len();
         self.holders.reserve(waiting + 1)?;
         let place = self.holders.place_of(asker.session);

@@ -1,6 +1,6 @@
 //! The holders of a resource: most resources have one at a time, which stands in the cell itself, and more stand in columns.
 
-ghost use Rattle.std.specs.Prelude.{◌≡◌, ℕ, ◌+◌, ◌<◌, ◌≤◌, ◌&&◌, ◌||◌, ◌==◌, [], ◌∷◌, length, map, OnOk, OnErr};
+ghost use Rattle.std.specs.Prelude.{◌≡◌, ℕ, ◌+◌, ◌<◌, ◌≤◌, ◌&&◌, ◌||◌, ◌==◌, true, false, [], ◌∷◌, length, map, OnOk, OnErr};
 ghost use Rattle.waits_for.specs.Pairs.{pairs_of};
 ghost use Rattle.lock_desk.specs.Cells.{has_session, mode_of, pair_of, with_holder, without, codes_among, fits_among};
 ghost use Rattle.lock_desk.specs.Finding.{holder_blocks, AreOfSessions};
@@ -206,6 +206,25 @@ impl Holders {
             Some(holder) if holder.session == session => self.alone = None,
             Some(_) => {}
             None => self.columns.leave(session),
+        }
+    }
+
+    /// The session's lock is replaced by this one where it is alone, which fits: whether it is.
+    #[inline]
+    pub(crate) fn convert_alone(&mut self, holder: SessionMode) -> bool
+        ensures fits { result ≡ true → fits_among holder self.old.items ≡ true }
+        ensures own { result ≡ true → has_session holder.session self.old.items ≡ true }
+        ensures items { result ≡ true → self.new.items ≡ with_holder holder self.old.items }
+        ensures len { result ≡ true → length self.new.items ≡ length self.old.items }
+        ensures capacity { result ≡ true → self.new.capacity ≡ self.old.capacity }
+        ensures same { result ≡ false → self.new ≡ self.old }
+    {
+        match self.alone {
+            Some(own) if own.session == holder.session => {
+                self.alone = Some(holder);
+                true
+            }
+            _ => false,
         }
     }
 
