@@ -58,7 +58,12 @@ impl Desk {
     }
 
     /// The session asks for a lock, if no test fails.
-    fn serve_lock(&mut self, session: u16, resource: Resource, mode: Mode) -> Result<Reply, AllocError>
+    fn serve_lock(
+        &mut self,
+        session: u16,
+        resource: Resource,
+        mode: Mode,
+    ) -> Result<Reply, AllocError>
         requires some { 1 ≤ session }
         requires within { session ≤ vec_len self.old.lockers }
         requires whole { IsWhole self.old }
@@ -81,7 +86,12 @@ impl Desk {
     }
 
     /// The session asks for more of a resource that it holds, if no test fails.
-    fn serve_convert(&mut self, session: u16, resource: Resource, mode: Mode) -> Result<Reply, AllocError>
+    fn serve_convert(
+        &mut self,
+        session: u16,
+        resource: Resource,
+        mode: Mode,
+    ) -> Result<Reply, AllocError>
         requires some { 1 ≤ session }
         requires within { session ≤ vec_len self.old.lockers }
         requires whole { IsWhole self.old }
