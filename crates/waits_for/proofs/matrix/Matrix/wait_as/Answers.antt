@@ -5,7 +5,7 @@ use Rattle.std.proofs.lemmas.Nat.{row_fits}
 use Rattle.std.proofs.lemmas.List.{take_at}
 use Rattle.waits_for.specs.Pairs.{Pairs, pairs_of, seen_by}
 use Rattle.waits_for.specs.Bits.{words_for, has_bit, marked_in, IsClearPast}
-use Rattle.waits_for.proofs.Places.{pairs_of-unite, pairs_of-row, pairs_of-within, past-unite, seen-sessions}
+use Rattle.waits_for.proofs.Places.{pairs_of-unite, pairs_of-row, pairs_of-within, bit-more, past-more, seen-sessions}
 use Rattle.waits_for.proofs.matrix.Matrix.wait_as.Goals as goal
 
 pub unite_within-requires-clause-apart : goal.unite_within-requires-clause-apart
@@ -33,7 +33,7 @@ module _ (n : ℕ) (words new : List ℕ) (p : Pairs) (seen : seen_by n (marked_
   taken-pairs a b = pairs_of-unite n words p seen new (chunk (u * words_for n) (words_for n) words) t h within more a b ∙ ap (λ (x : Bool). pairs_of p a b || (eqb a t && x)) (bits b)
 
   taken-past : IsClearPast n new
-  taken-past = past-unite n words new (chunk (u * words_for n) (words_for n) words) t (subst (λ (m : ℕ). (b : ℕ) → has_bit (chunk (u * words_for n) (words_for n) words) b ≡ true → b < m) (sym (seen-sessions n words p seen)) within) more past
+  taken-past = past-more n words new t (has_bit (chunk (u * words_for n) (words_for n) words)) (subst (λ (m : ℕ). (b : ℕ) → has_bit (chunk (u * words_for n) (words_for n) words) b ≡ true → b < m) (sym (seen-sessions n words p seen)) within) (bit-more n words new (chunk (u * words_for n) (words_for n) words) t more) past
 
 pub invariant_of-self : goal.invariant_of-self
 invariant_of-self c =
