@@ -114,15 +114,20 @@ impl Service for Office {
     }
 }
 
-/// So many tries for one answer come close on each other. Before each further one the processor goes to other threads.
-const CLOSE_TRIES: u64 = 64;
+/// How many tries for one answer have pauses between them. Before each further one the processor goes to other threads.
+const TRIES_WITH_PAUSES: u64 = 64;
 
-/// Waits a little before the next try, and gives way to the other threads.
+/// How many pauses lie between two of these tries: a session that waits disturbs the combiner with each look at its words.
+const PAUSES: u32 = 256;
+
+/// Waits a little before the next try, or gives way to the other threads.
 fn give_way(tries: u64) {
-    if tries < CLOSE_TRIES {
-        hint::spin_loop();
-    } else {
+    if tries >= TRIES_WITH_PAUSES {
         thread::yield_now();
+        return;
+    }
+    for _pause in 0..PAUSES {
+        hint::spin_loop();
     }
 }
 
