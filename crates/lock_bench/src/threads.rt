@@ -38,7 +38,7 @@ struct Job {
 const LOOKS_A_TRY: u64 = 8;
 
 /// How many pauses lie between two looks.
-const PAUSES: u32 = 64;
+const PAUSES: u32 = 256;
 
 /// How many looks a session makes before it gives way to other threads.
 const LOOKS_A_YIELD: u64 = 64;
