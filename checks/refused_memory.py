@@ -21,9 +21,13 @@ from pathlib import Path
 
 TOP = Path(__file__).resolve().parent.parent
 PROGRAM = TOP / "crates/glm_main/out/glm_main"
-TESTS = TOP / "crates/unit_tests/out/unit_tests_tests"
-# those whose calls are made once more where memory was refused
-TESTED = ("books::", "batches::", "offices::", "closing::", "hearing::")
+# of each crate, the tests whose calls are made once more where memory was refused
+TESTED = {
+    "desk_tests": ("books::", "batches::"),
+    "office_tests": ("offices::", "closing::", "hearing::"),
+    # reads rows, and says in which of them memory was refused
+    "ground_tests": ("traces::tells_the_row_in_which_memory_was_refused",),
+}
 # what allocates too often to go through: a transaction of 4096 locks, and threads, which don't ask again either
 LONG_TESTS = [
     "a_transaction_holds_4096_locks_and_no_more",
@@ -35,7 +39,6 @@ LONG_TESTS = [
     "all_256_sessions_close_in_any_order",
 ]
 STARVED_TEST = "a_call_that_found_no_memory_is_served_by_the_next_pass"
-# reads rows, and says in which of them memory was refused
 ROW_TEST = "traces::tells_the_row_in_which_memory_was_refused"
 ROWS_TOLD = {b"refused in row 1", b"refused in row 3", b"refused in row 5"}
 
@@ -43,7 +46,8 @@ ROWS_TOLD = {b"refused in row 1", b"refused in row 3", b"refused in row 5"}
 def build(folder):
     """Builds the program, the tests, and the library that refuses."""
     subprocess.run([TOP / "glm", "--help"], stdout=subprocess.DEVNULL, check=True)
-    subprocess.run(["rt", "test"], cwd=TOP / "crates/unit_tests", stdout=subprocess.DEVNULL, check=True)
+    for crate in TESTED:
+        subprocess.run(["rt", "test"], cwd=TOP / "crates" / crate, stdout=subprocess.DEVNULL, check=True)
     library = folder / "refuse.so"
     source = TOP / "checks/refuse_allocation.c"
     subprocess.run(["cc", "-shared", "-fPIC", "-O1", "-o", library, source, "-ldl"], check=True)
@@ -84,6 +88,16 @@ def runs(rows):
     return is_right
 
 
+def tests():
+    """Yields the tests that refusals go through, each with the program that runs it."""
+    for crate, tested in TESTED.items():
+        program = TOP / "crates" / crate / "out" / f"{crate}_tests"
+        listed = subprocess.run([program, "--list"], capture_output=True, text=True, check=True).stdout
+        for test in (line.split(": ")[0] for line in listed.splitlines() if line.endswith(": test")):
+            if test.startswith(tested) and test.split("::")[-1] not in LONG_TESTS:
+                yield program, test
+
+
 def main():
     trace = (TOP / "examples/queue.csv").read_bytes()
     history = (TOP / "examples/queue.history.csv").read_bytes()
@@ -102,12 +116,9 @@ def main():
                     passed += 1
                 else:
                     failed.append(f"{command}, allocation {number}: status {ran.returncode}")
-        listed = subprocess.run([TESTS, "--list"], capture_output=True, text=True, check=True).stdout
-        for test in (line.split(": ")[0] for line in listed.splitlines() if line.endswith(": test")):
-            if not (test.startswith(TESTED) or test == ROW_TEST) or test.split("::")[-1] in LONG_TESTS:
-                continue
+        for program, test in tests():
             told = b""
-            for number, ran in refusals([TESTS, test], library, folder):
+            for number, ran in refusals([program, test], library, folder):
                 told += ran.stdout
                 if ran.returncode == 0:
                     passed += 1

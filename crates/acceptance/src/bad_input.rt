@@ -1,6 +1,6 @@
 //! Input that is no trace: each fault names its row, and nothing is written.
 
-use crate::running::{run_words, want_errors, want_output};
+use crate::running::{run_words, want_bytes, want_errors, want_output, want_status};
 use std::process::Abort;
 use std::sync::Wait;
 use std::test::Fail;
@@ -81,9 +81,9 @@ fn bytes_that_are_no_text_are_no_number(rt: HostRuntime) -> Result<(), Fail> {
     let words = ["replay"];
     let trace = b"1,begin,,\n1,lock,\xff,S\n".as_slice();
     let ran = run_words(&rt, &words, trace)?;
-    assert_eq!(rt; ran.status, 1);
+    want_status(&rt, &words, "", &ran, 1);
     let told = b"glm: row 2: Path NotANumber\n".as_slice();
-    assert_eq!(rt; ran.errors.as_slice(), told);
+    want_bytes(&rt, &words, "", &ran.errors, told);
     Ok(())
 }
 

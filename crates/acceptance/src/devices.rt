@@ -1,7 +1,8 @@
 //! Readers and writers that fail.
 
 use crate::gates::Counting;
-use glm::{OpenGate, ToolFault, program, replay, run};
+use crate::running::status_of;
+use glm::{OpenGate, ToolFault, replay, run};
 use lock_trace::{TraceFault, TraceKind};
 use std::io;
 use std::io::{ErrorKind, Read, Write};
@@ -69,6 +70,12 @@ const GIVEN: &[u8] = b"1,begin,,\n1,l";
 
 const WORDS: [&str; 2] = ["glm", "replay"];
 
+/// Wants a run to have ended with status 5, and to have said so.
+fn want_device(abort: &impl Abort, status: u8, errors: &[u8]) {
+    assert_eq!(abort; status, 5);
+    assert_eq!(abort; errors, b"glm: device\n".as_slice());
+}
+
 /// Runs the program on these words with an output that takes nothing: it ends with status 5, and says so.
 fn want_no_room(
     rt: &(impl AllocGlobal + Threads + Wait),
@@ -77,10 +84,8 @@ fn want_no_room(
     input: &[u8],
 ) {
     let mut errors = Vec::new(rt.alloc());
-    let alloc = rt.alloc();
-    let status = program(rt, alloc, words, input, &mut Full, &mut errors, &OpenGate);
-    assert_eq!(abort; status, 5);
-    assert_eq!(abort; errors.as_slice(), b"glm: device\n".as_slice());
+    let status = status_of(rt, words, input, &mut Full, &mut errors, &OpenGate);
+    want_device(abort, status, &errors);
 }
 
 #[test]
@@ -109,15 +114,19 @@ fn help_that_cannot_be_shown_ends_with_five(rt: HostRuntime) {
 
 #[test]
 fn tool_faults_have_their_numbers(rt: HostRuntime) {
-    let fault = TraceFault {
+    let bad_row = TraceFault {
         row: 1,
         kind: TraceKind::Op,
     };
-    assert_eq!(rt; ToolFault::Trace(fault).number(), 1);
-    assert_eq!(rt; ToolFault::NoMemory.number(), 2);
-    assert_eq!(rt; ToolFault::Device.number(), 3);
-    assert_eq!(rt; ToolFault::GateShut.number(), 4);
-    assert_eq!(rt; ToolFault::TurnLimit.number(), 5);
+    for (fault, number) in [
+        (ToolFault::Trace(bad_row), 1),
+        (ToolFault::NoMemory, 2),
+        (ToolFault::Device, 3),
+        (ToolFault::GateShut, 4),
+        (ToolFault::TurnLimit, 5),
+    ] {
+        assert_eq!(rt; fault.number(), number);
+    }
 }
 
 /// Whether the reader is said to have failed in the second row.
@@ -135,18 +144,16 @@ fn is_cut(told: Result<u64, ToolFault>) -> bool {
 fn want_cut(rt: &(impl AllocGlobal + Threads + Wait), abort: &impl Abort) {
     let mut output = Vec::new(rt.alloc());
     let mut errors = Vec::new(rt.alloc());
-    let status = program(
+    let status = status_of(
         rt,
-        rt.alloc(),
         WORDS.as_slice(),
         Cut { left: GIVEN },
         &mut output,
         &mut errors,
         &OpenGate,
     );
-    assert_eq!(abort; status, 5);
     assert!(abort; output.is_empty());
-    assert_eq!(abort; errors.as_slice(), b"glm: device\n".as_slice());
+    want_device(abort, status, &errors);
 }
 
 #[test]
@@ -168,8 +175,7 @@ fn want_untold(
 ) {
     let mut output = Vec::new(rt.alloc());
     let bad = b"x,begin,,\n".as_slice();
-    let alloc = rt.alloc();
-    let status = program(rt, alloc, words, bad, &mut output, &mut Full, &OpenGate);
+    let status = status_of(rt, words, bad, &mut output, &mut Full, &OpenGate);
     assert_eq!(abort; status, wanted);
     assert!(abort; output.is_empty());
 }

@@ -38,13 +38,38 @@ fn lock_page(book: &mut Book, session: u16) -> Result<Reply, Fail>
     Ok(told)
 }
 
+// The session was told how its request stands, as is wanted here, and settles it with this reply.
+fn want_settled(
+    rt: &impl Abort,
+    book: &mut Book,
+    session: u16,
+    told: Reply,
+    stands: Reply,
+    ended: Reply,
+) -> Result<(), Fail>
+    requires some { 1 ≤ session }
+    requires within { session ≤ book.old.sessions }
+    ensures { book.new.sessions ≡ book.old.sessions }
+{
+    assert_eq!(rt; told, stands);
+    assert_eq!(rt; settle(book, session, told)?, ended);
+    Ok(())
+}
+
+// The session locks the page, and commits.
+fn write_page(rt: &impl Abort, book: &mut Book, session: u16) -> Result<(), Fail>
+    requires some { 1 ≤ session }
+    requires within { session ≤ book.old.sessions }
+{
+    let told = lock_page(book, session)?;
+    let granted = Reply::Granted(Mode::X);
+    want_settled(rt, book, session, told, granted, Reply::Committed(3))
+}
+
 #[test]
 fn an_engine_writes_a_page(rt: HostRuntime) -> Result<(), Fail> {
     let mut book = Book::new(rt.alloc(), 2)?;
-    let told = lock_page(&mut book, 1)?;
-    assert_eq!(rt; told, Reply::Granted(Mode::X));
-    assert_eq!(rt; settle(&mut book, 1, told)?, Reply::Committed(3));
-    Ok(())
+    write_page(&rt, &mut book, 1)
 }
 
 // A transaction begins, and holds this database.
@@ -65,9 +90,7 @@ fn wait_for(rt: &impl Abort, book: &mut Book, session: u16, database: Resource) 
     ensures { book.new.sessions ≡ book.old.sessions }
 {
     let told = book.serve(session, Call::Lock(database, Mode::S))?;
-    assert_eq!(rt; told, Reply::Waiting);
-    assert_eq!(rt; settle(book, session, told)?, Reply::Waiting);
-    Ok(())
+    want_settled(rt, book, session, told, Reply::Waiting, Reply::Waiting)
 }
 
 // The session polls, is told this, and ends its transaction with this reply.
@@ -83,9 +106,7 @@ fn poll(
     ensures { book.new.sessions ≡ book.old.sessions }
 {
     let told = book.serve(session, Call::Poll)?;
-    assert_eq!(rt; told, stands);
-    assert_eq!(rt; settle(book, session, told)?, ended);
-    Ok(())
+    want_settled(rt, book, session, told, stands, ended)
 }
 
 // Session 2 began first. It holds one database and asks for that of session 1, which is the younger one of the circle.

@@ -1,6 +1,6 @@
 //! What the program says of itself, and of words that it doesn't take.
 
-use crate::running::{run_words, want_errors, want_output};
+use crate::running::{run_words, want_bytes, want_errors, want_output, want_status};
 use glm::{VERSION, VERSION_TEXT};
 use std::process::Abort;
 use std::str;
@@ -33,7 +33,21 @@ fn numbers_have_no_sign_and_no_zero_before_them(rt: HostRuntime) -> Result<(), F
     Ok(())
 }
 
+/// Wants the help on these words to have this in it.
+fn want_part(abort: &impl Abort, words: &[&str], text: &str, part: &str) {
+    assert!(abort; text.contains(part), "{words:?} {part}");
+}
+
 /// Wants the help on these words to tell of this row, of the standard input, and of a status.
+fn want_parts(abort: &impl Abort, words: &[&str], written: &[u8], row: &str) -> Result<(), Fail> {
+    let text = str::from_utf8(written).map_err(|_| "no text")?;
+    for part in ["standard input", row, "\n  4  memory was refused\n"] {
+        want_part(abort, words, text, part);
+    }
+    Ok(())
+}
+
+/// Wants the words to end with status 0 and with help that tells of this row, and no errors.
 fn want_help(
     rt: &(impl AllocGlobal + Threads + Wait),
     abort: &impl Abort,
@@ -41,13 +55,9 @@ fn want_help(
     row: &str,
 ) -> Result<(), Fail> {
     let ran = run_words(rt, words, b"".as_slice())?;
-    let text = str::from_utf8(ran.output.as_slice()).map_err(|_| "no text")?;
-    assert_eq!(abort; ran.status, 0, "{words:?}");
-    assert!(abort; text.contains("standard input"), "{words:?}");
-    assert!(abort; text.contains(row), "{words:?}");
-    assert!(abort; text.contains("\n  4  memory was refused\n"), "{words:?}");
-    assert!(abort; ran.errors.is_empty(), "{words:?}");
-    Ok(())
+    want_status(abort, words, "", &ran, 0);
+    want_bytes(abort, words, "", &ran.errors, b"".as_slice());
+    want_parts(abort, words, &ran.output, row)
 }
 
 #[test]

@@ -1,6 +1,6 @@
 //! Traces of many sessions and many locks.
 
-use crate::running::run_words;
+use crate::running::{run_words, want_bytes, want_status};
 use std::fmt::Display;
 use std::io::Write;
 use std::process::Abort;
@@ -24,6 +24,22 @@ fn empty(rt: &(impl AllocGlobal + Threads + Wait)) -> Worked {
     }
 }
 
+fn write_call(trace: &mut Vec<u8>, session: u32, call: &impl Display) -> Result<(), Fail> {
+    writeln!(trace, "{session},{call}")?;
+    Ok(())
+}
+
+fn write_reply(
+    history: &mut Vec<u8>,
+    place: u32,
+    session: u32,
+    call: &impl Display,
+    reply: &impl Display,
+) -> Result<(), Fail> {
+    writeln!(history, "{place},{session},{call},{reply}")?;
+    Ok(())
+}
+
 /// One row more: what is called, and what is told.
 fn row(
     worked: &mut Worked,
@@ -31,8 +47,8 @@ fn row(
     call: impl Display + Drop,
     reply: impl Display + Drop,
 ) -> Result<(), Fail> {
-    writeln!(worked.trace, "{session},{call}")?;
-    writeln!(worked.history, "{},{session},{call},{reply}", worked.rows)?;
+    write_call(&mut worked.trace, session, &call)?;
+    write_reply(&mut worked.history, worked.rows, session, &call, &reply)?;
     worked.rows = worked.rows.saturating_add(1);
     Ok(())
 }
@@ -52,9 +68,10 @@ fn want_replayed(
     abort: &impl Abort,
     worked: &Worked,
 ) -> Result<(), Fail> {
-    let ran = run_words(rt, ["replay"].as_slice(), &worked.trace)?;
-    assert_eq!(abort; ran.status, 0);
-    assert_eq!(abort; ran.output.as_slice(), worked.history.as_slice());
+    let words = ["replay"];
+    let ran = run_words(rt, &words, &worked.trace)?;
+    want_status(abort, &words, "", &ran, 0);
+    want_bytes(abort, &words, "", &ran.output, &worked.history);
     Ok(())
 }
 

@@ -1,6 +1,7 @@
 //! One run of the program, in memory.
 
 use glm::{Gate, OpenGate, program};
+use std::io::{Read, Write};
 use std::process::Abort;
 use std::sync::Wait;
 use std::test::Fail;
@@ -12,6 +13,30 @@ pub(crate) struct Ran {
     pub status: u8,
     pub output: Vec<u8>,
     pub errors: Vec<u8>,
+}
+
+/// Runs the program on all these words, of which the first is its name.
+pub(crate) fn status_of<R: Read + Drop, W: Write, E: Write, G: Gate>(
+    rt: &(impl AllocGlobal + Threads + Wait),
+    words: &[&str],
+    input: R,
+    output: &mut W,
+    errors: &mut E,
+    gate: &G,
+) -> u8 {
+    program(rt, rt.alloc(), words, input, output, errors, gate)
+}
+
+/// The program's name, and these words after it.
+fn named<'a>(
+    rt: &(impl AllocGlobal + Threads + Wait),
+    words: &[&'a str],
+) -> Result<Vec<&'a str>, Fail> {
+    let mut all = vec![in rt.alloc(); "glm"]?;
+    for word in words {
+        all.push(*word)?;
+    }
+    Ok(all)
 }
 
 /// Runs the program on these words, which come after its name.
@@ -30,19 +55,31 @@ pub(crate) fn run_words_at<G: Gate>(
     input: &[u8],
     gate: &G,
 ) -> Result<Ran, Fail> {
-    let mut all = vec![in rt.alloc(); "glm"]?;
-    for word in words {
-        all.push(*word)?;
-    }
+    let all = named(rt, words)?;
     let mut output = Vec::new(rt.alloc());
     let mut errors = Vec::new(rt.alloc());
-    let alloc = rt.alloc();
-    let status = program(rt, alloc, &all, input, &mut output, &mut errors, gate);
+    let status = status_of(rt, &all, input, &mut output, &mut errors, gate);
     Ok(Ran {
         status,
         output,
         errors,
     })
+}
+
+/// Wants the run of these words to have ended with this status.
+pub(crate) fn want_status(abort: &impl Abort, words: &[&str], input: &str, ran: &Ran, status: u8) {
+    assert_eq!(abort; ran.status, status, "{words:?} {input}");
+}
+
+/// Wants the run of these words to have written this.
+pub(crate) fn want_bytes(
+    abort: &impl Abort,
+    words: &[&str],
+    input: &str,
+    written: &[u8],
+    wanted: &[u8],
+) {
+    assert_eq!(abort; written, wanted, "{words:?} {input}");
 }
 
 /// Wants the run of these words to have ended with this status, and to have written this.
@@ -55,17 +92,9 @@ pub(crate) fn want_ran(
     output: &str,
     errors: &str,
 ) {
-    assert_eq!(abort; ran.status, status, "{words:?} {input}");
-    assert_eq!(abort;
-        ran.output.as_slice(),
-        output.as_bytes(),
-        "{words:?} {input}"
-    );
-    assert_eq!(abort;
-        ran.errors.as_slice(),
-        errors.as_bytes(),
-        "{words:?} {input}"
-    );
+    want_status(abort, words, input, ran, status);
+    want_bytes(abort, words, input, &ran.output, output.as_bytes());
+    want_bytes(abort, words, input, &ran.errors, errors.as_bytes());
 }
 
 /// Runs the program on these words, and wants this status, this output and these errors.

@@ -188,13 +188,18 @@ fn a_shut_gate_is_told_before_tries_that_ran_out(rt: HostRuntime) -> Result<(), 
     Ok(())
 }
 
+/// Wants the gate to have been entered and left so many times.
+fn want_passed(abort: &impl Abort, gate: &Counting, times: u64) {
+    assert_eq!(abort; gate.entered(), times);
+    assert_eq!(abort; gate.left(), times);
+}
+
 #[test]
 fn the_gate_is_entered_and_left_for_each_call(rt: HostRuntime) -> Result<(), Fail> {
     let gate = Counting::new();
     let ran = run_words_at(&rt, ["run"].as_slice(), TREE.as_bytes(), &gate)?;
     assert_eq!(rt; ran.status, 0);
-    assert_eq!(rt; gate.entered(), 5);
-    assert_eq!(rt; gate.left(), 5);
+    want_passed(&rt, &gate, 5);
     Ok(())
 }
 
@@ -213,7 +218,7 @@ fn a_bad_row_starts_no_thread(rt: HostRuntime) -> Result<(), Fail> {
         "",
         "glm: row 2: Path LeadingZero\n",
     );
-    assert_eq!(rt; gate.entered(), 0);
+    want_passed(&rt, &gate, 0);
     Ok(())
 }
 

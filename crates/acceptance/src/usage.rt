@@ -1,10 +1,15 @@
 //! The words of the command line.
 
-use crate::running::{run_words, want_output};
+use crate::running::{run_words, want_bytes, want_output, want_status};
 use std::process::Abort;
 use std::sync::Wait;
 use std::test::Fail;
 use std::thread::Threads;
+
+/// Wants the run of these words to have written something.
+fn want_some(abort: &impl Abort, words: &[&str], written: &[u8]) {
+    assert!(abort; !written.is_empty(), "{words:?}");
+}
 
 /// Wants the words to end with status 2, to be told why, and nothing written.
 fn want_misused(
@@ -12,10 +17,11 @@ fn want_misused(
     abort: &impl Abort,
     words: &[&str],
 ) -> Result<(), Fail> {
-    let ran = run_words(rt, words, b"1,begin,,\n".as_slice())?;
-    assert_eq!(abort; ran.status, 2, "{words:?}");
-    assert!(abort; ran.output.is_empty(), "{words:?}");
-    assert!(abort; !ran.errors.is_empty(), "{words:?}");
+    let input = "1,begin,,\n";
+    let ran = run_words(rt, words, input.as_bytes())?;
+    want_status(abort, words, input, &ran, 2);
+    want_bytes(abort, words, input, &ran.output, b"".as_slice());
+    want_some(abort, words, &ran.errors);
     Ok(())
 }
 
@@ -49,9 +55,9 @@ fn want_written(
     words: &[&str],
 ) -> Result<(), Fail> {
     let ran = run_words(rt, words, b"".as_slice())?;
-    assert_eq!(abort; ran.status, 0, "{words:?}");
-    assert!(abort; !ran.output.is_empty(), "{words:?}");
-    assert!(abort; ran.errors.is_empty(), "{words:?}");
+    want_status(abort, words, "", &ran, 0);
+    want_some(abort, words, &ran.output);
+    want_bytes(abort, words, "", &ran.errors, b"".as_slice());
     Ok(())
 }
 

@@ -1,0 +1,253 @@
+//! What a book answers to a batch: calls in their order, and runs of locks that are granted at once.
+
+ghost use Rattle.std.specs.Prelude.{◌≡◌, true};
+ghost use Rattle.std.specs.List.{All};
+ghost use Rattle.lock_desk.specs.Batches.{IsItemWithin};
+
+use crate::books::{new_book, resource, serve, wanted};
+use lock_desk::{Book, Call, Entry, Item, Mode, NoMemory, Reply};
+use std::alloc::Global;
+use std::process::Abort;
+use std::test::Fail;
+
+fn item(session: u16, call: Call) -> Item {
+    Item {
+        session,
+        call,
+        reply: None,
+    }
+}
+
+/// Room for so many items, asked for once more where memory was refused.
+fn room_for(alloc: Global, count: usize) -> Result<Vec<Item>, NoMemory> {
+    match Vec::with_capacity(alloc, count) {
+        Ok(items) => Ok(items),
+        Err(_) => Vec::with_capacity(alloc, count),
+    }
+}
+
+fn is_within(items: &[Item], sessions: u16) -> bool
+    ensures { result ≡ true → All (IsItemWithin sessions) items.now }
+{
+    for item in items {
+        if item.session < 1 || sessions < item.session {
+            return false;
+        }
+    }
+    true
+}
+
+/// Serves the items, and what is left of them once more where memory was refused.
+fn serve_batch(rt: &impl Abort, book: &mut Book, items: &mut [Item]) -> usize {
+    assert!(rt; is_within(items, book.sessions()));
+    let served = book.serve_batch(items);
+    let rest = &mut items[served..];
+    assert!(rt; is_within(rest, book.sessions()));
+    served + book.serve_batch(rest)
+}
+
+const BATCH: &str = "0,1,begin,,,began,1
+1,2,begin,,,began,2
+2,1,lock,1,X,granted,X
+3,2,lock,1,X,waiting,
+4,1,commit,,,committed,1
+5,2,poll,,,clear,
+";
+
+/// Serves calls as a batch: they have these replies, and stand in the history with them.
+fn want_batch(rt: &impl Abort, book: &mut Book, items: &mut [Item], entries: &[Entry]) {
+    assert_eq!(rt; serve_batch(rt, book, items), entries.len());
+    for (item, entry) in items.iter().zip(entries) {
+        assert_eq!(rt; item.reply, Some(entry.reply));
+    }
+    assert_eq!(rt; book.history(), entries);
+}
+
+#[test]
+fn a_batch_is_served_in_its_order(rt: HostRuntime) -> Result<(), Fail> {
+    let entries = wanted(rt.alloc(), BATCH)?;
+    let one = resource(1)?;
+    let mut items = [
+        item(1, Call::Begin),
+        item(2, Call::Begin),
+        item(1, Call::Lock(one, Mode::X)),
+        item(2, Call::Lock(one, Mode::X)),
+        item(1, Call::Commit),
+        item(2, Call::Poll),
+    ];
+    let mut book = new_book(&rt, rt.alloc(), 2)?;
+    want_batch(&rt, &mut book, &mut items, &entries);
+    Ok(())
+}
+
+/// A transaction of each session begins.
+fn begin_all(rt: &impl Abort, book: &mut Book) -> Result<(), NoMemory> {
+    let sessions = book.sessions();
+    for session in 1..sessions + 1 {
+        serve(rt, book, session, Call::Begin)?;
+    }
+    Ok(())
+}
+
+/// 32 sessions lock database 1 in IS, and the next one in S.
+fn shared_locks(alloc: Global) -> Result<Vec<Item>, Fail> {
+    let one = resource(1)?;
+    let mut items = room_for(alloc, 33)?;
+    for session in 1..33 {
+        items.push(item(session, Call::Lock(one, Mode::IS)))?;
+    }
+    items.push(item(33, Call::Lock(one, Mode::S)))?;
+    Ok(items)
+}
+
+/// Serves locks as a batch: each is granted the mode that it asks for.
+fn want_granted(rt: &impl Abort, book: &mut Book, items: &mut [Item]) {
+    assert_eq!(rt; serve_batch(rt, book, items), items.len());
+    for item in items {
+        let granted = match item.call {
+            Call::Lock(_, mode) => Some(Reply::Granted(mode)),
+            _ => None,
+        };
+        assert_eq!(rt; item.reply, granted);
+    }
+}
+
+/// Serves calls as a batch: they have these replies.
+fn want_replies(rt: &impl Abort, book: &mut Book, items: &mut [Item], replies: &[Reply]) {
+    assert_eq!(rt; serve_batch(rt, book, items), replies.len());
+    for (item, reply) in items.iter().zip(replies) {
+        assert_eq!(rt; item.reply, Some(*reply));
+    }
+}
+
+/// Behind a request that waits no run is granted.
+fn late_locks_wait(rt: &impl Abort, book: &mut Book) -> Result<(), Fail> {
+    let one = resource(1)?;
+    let mut items = [
+        item(34, Call::Lock(one, Mode::IX)),
+        item(35, Call::Lock(one, Mode::IS)),
+    ];
+    want_replies(rt, book, &mut items, &[Reply::Waiting, Reply::Waiting]);
+    Ok(())
+}
+
+/// Nor is a run whose modes conflict with one another.
+fn conflicting_locks_wait(rt: &impl Abort, book: &mut Book) -> Result<(), Fail> {
+    let two = resource(2)?;
+    let mut items = [
+        item(1, Call::Lock(two, Mode::IX)),
+        item(2, Call::Lock(two, Mode::S)),
+        item(3, Call::Lock(two, Mode::IX)),
+    ];
+    let replies = [Reply::Granted(Mode::IX), Reply::Waiting, Reply::Waiting];
+    want_replies(rt, book, &mut items, &replies);
+    Ok(())
+}
+
+/// Locks of distinct sessions are granted in one go where their modes go together, and wait where they don't.
+fn want_runs(rt: &impl Abort, alloc: Global, book: &mut Book) -> Result<(), Fail> {
+    begin_all(rt, book)?;
+    let mut items = shared_locks(alloc)?;
+    want_granted(rt, book, &mut items);
+    late_locks_wait(rt, book)?;
+    conflicting_locks_wait(rt, book)
+}
+
+#[test]
+fn a_run_of_locks_is_granted_where_its_modes_go_together(rt: HostRuntime) -> Result<(), Fail> {
+    let mut book = new_book(&rt, rt.alloc(), 40)?;
+    want_runs(&rt, rt.alloc(), &mut book)
+}
+
+/// The next number of a fixed sequence, in which the high bits look like chance.
+fn next(seed: &mut u64) -> u64 {
+    *seed = seed
+        .wrapping_mul(6_364_136_223_846_793_005)
+        .wrapping_add(1_442_695_040_888_963_407);
+    *seed >> 33
+}
+
+fn mode_by_chance(seed: &mut u64) -> Mode {
+    match next(seed) % 8 {
+        0 => Mode::X,
+        1 => Mode::S,
+        2 => Mode::IX,
+        _ => Mode::IS,
+    }
+}
+
+/// Most of them are locks on one of two databases, so that runs come of themselves.
+fn call_by_chance(seed: &mut u64) -> Result<Call, Fail> {
+    let number = 1 + (next(seed) % 2) as u32;
+    let database = resource(number)?;
+    Ok(match next(seed) % 16 {
+        0 | 1 => Call::Begin,
+        2 => Call::Poll,
+        3 => Call::Commit,
+        4 => Call::Abort,
+        5 => Call::Release(database),
+        _ => Call::Lock(database, mode_by_chance(seed)),
+    })
+}
+
+/// 64 calls, of 40 sessions.
+fn calls_by_chance(alloc: Global, seed: &mut u64) -> Result<Vec<Item>, Fail> {
+    let mut items = room_for(alloc, 64)?;
+    for _call in 0..64 {
+        let session = 1 + (next(seed) % 40) as u16;
+        let call = call_by_chance(seed)?;
+        items.push(item(session, call))?;
+    }
+    Ok(items)
+}
+
+/// Serves the calls of the items one by one: they have the replies that stand there.
+fn want_one_by_one(rt: &impl Abort, book: &mut Book, items: &[Item]) -> Result<(), NoMemory> {
+    for item in items {
+        let reply = serve(rt, book, item.session, item.call)?;
+        assert_eq!(rt; item.reply, Some(reply));
+    }
+    Ok(())
+}
+
+/// One book serves calls as a batch, the other one by one.
+fn want_alike(
+    rt: &impl Abort,
+    batches: &mut Book,
+    singles: &mut Book,
+    items: &mut [Item],
+) -> Result<(), NoMemory> {
+    assert_eq!(rt; serve_batch(rt, batches, items), items.len());
+    want_one_by_one(rt, singles, items)?;
+    assert_eq!(rt; batches.history(), singles.history());
+    Ok(())
+}
+
+/// Both books are asked the same calls by chance, some at a time.
+fn want_alike_by_chance(
+    rt: &impl Abort,
+    alloc: Global,
+    batches: &mut Book,
+    singles: &mut Book,
+) -> Result<(), Fail> {
+    let mut seed = 20_261_123;
+    for _batch in 0..16 {
+        let mut items = calls_by_chance(alloc, &mut seed)?;
+        want_alike(rt, batches, singles, &mut items)?;
+    }
+    Ok(())
+}
+
+/// The book is asked beside another one of as many sessions.
+fn want_alike_beside(rt: &impl Abort, alloc: Global, batches: &mut Book) -> Result<(), Fail> {
+    let mut singles = new_book(rt, alloc, 40)?;
+    want_alike_by_chance(rt, alloc, batches, &mut singles)
+}
+
+#[test]
+fn calls_by_chance_are_served_as_a_batch_as_they_are_one_by_one(
+    rt: HostRuntime,
+) -> Result<(), Fail> {
+    let mut batches = new_book(&rt, rt.alloc(), 40)?;
+    want_alike_beside(&rt, rt.alloc(), &mut batches)
+}

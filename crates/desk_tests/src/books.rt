@@ -1,0 +1,415 @@
+//! What a book answers, call by call. A call that finds no memory is made again, so that each test may also be run with
+//! each of its allocations refused in turn.
+
+use lock_desk::{Book, Call, Entry, Mode, NoMemory, Reply, Resource, Why};
+use lock_trace::{TraceFault, read_history};
+use std::alloc::Global;
+use std::process::Abort;
+use std::test::Fail;
+
+pub(crate) fn resource(number: u32) -> Result<Resource, Fail> {
+    let resource = Resource::from_numbers(&[number]).ok_or("no resource")?;
+    Ok(resource)
+}
+
+fn below(numbers: &[u32]) -> Result<Resource, Fail> {
+    let resource = Resource::from_numbers(numbers).ok_or("no resource")?;
+    Ok(resource)
+}
+
+pub(crate) fn new_book(rt: &impl Abort, alloc: Global, sessions: u16) -> Result<Book, NoMemory> {
+    assert!(rt; sessions >= 1);
+    assert!(rt; sessions <= 256);
+    match Book::new(alloc, sessions) {
+        Ok(book) => Ok(book),
+        Err(_) => Book::new(alloc, sessions),
+    }
+}
+
+fn serve_once(
+    rt: &impl Abort,
+    book: &mut Book,
+    session: u16,
+    call: Call,
+) -> Result<Reply, NoMemory> {
+    assert!(rt; session >= 1);
+    assert!(rt; session <= book.sessions());
+    book.serve(session, call)
+}
+
+/// Serves the call, and once more where memory was refused: the history is then as before.
+pub(crate) fn serve(
+    rt: &impl Abort,
+    book: &mut Book,
+    session: u16,
+    call: Call,
+) -> Result<Reply, NoMemory> {
+    let before = book.history().len();
+    let again = call;
+    match serve_once(rt, book, session, call) {
+        Ok(reply) => Ok(reply),
+        Err(_) => {
+            assert_eq!(rt; book.history().len(), before);
+            serve_once(rt, book, session, again)
+        }
+    }
+}
+
+fn serve_all(rt: &impl Abort, book: &mut Book, entries: &[Entry]) -> Result<(), NoMemory> {
+    for entry in entries {
+        let reply = serve(rt, book, entry.session, entry.call)?;
+        assert_eq!(rt; reply, entry.reply);
+    }
+    Ok(())
+}
+
+/// Asks for the holders, and once more where memory was refused.
+fn holders(book: &Book, resource: Resource, list: &mut Vec<(u16, Mode)>) -> Result<(), NoMemory> {
+    match book.holders(resource, list) {
+        Ok(()) => Ok(()),
+        Err(_) => book.holders(resource, list),
+    }
+}
+
+/// The calls with the replies that are wanted, and once more where memory was refused.
+pub(crate) fn wanted(alloc: Global, text: &str) -> Result<Vec<Entry>, TraceFault> {
+    match read_history(alloc, text.as_bytes(), 256) {
+        Ok(entries) => Ok(entries),
+        Err(_) => read_history(alloc, text.as_bytes(), 256),
+    }
+}
+
+/// Serves the calls of a text on a new book of so many sessions: each has the reply that stands beside it.
+fn serve_text(rt: &impl Abort, alloc: Global, sessions: u16, text: &str) -> Result<Book, Fail> {
+    let entries = wanted(alloc, text)?;
+    let mut book = new_book(rt, alloc, sessions)?;
+    serve_all(rt, &mut book, &entries)?;
+    assert_eq!(rt; book.history(), entries.as_slice());
+    Ok(book)
+}
+
+/// Serves the calls of a text: each has the reply that stands beside it.
+fn serve_more(rt: &impl Abort, alloc: Global, book: &mut Book, text: &str) -> Result<(), Fail> {
+    let entries = wanted(alloc, text)?;
+    serve_all(rt, book, &entries)?;
+    Ok(())
+}
+
+/// Wants the session to hold database 1 in this mode.
+fn want_held(rt: &impl Abort, book: &Book, session: u16, mode: Option<Mode>) -> Result<(), Fail> {
+    assert_eq!(rt; book.held(session, resource(1)?), mode);
+    Ok(())
+}
+
+/// Wants these sessions to hold the database.
+fn want_holders(
+    rt: &impl Abort,
+    alloc: Global,
+    book: &Book,
+    number: u32,
+    wanted: &[(u16, Mode)],
+) -> Result<(), Fail> {
+    let mut list = Vec::new(alloc);
+    holders(book, resource(number)?, &mut list)?;
+    assert_eq!(rt; list.as_slice(), wanted);
+    Ok(())
+}
+
+const ARRIVALS: &str = "0,1,begin,,,began,1
+1,2,begin,,,began,2
+2,3,begin,,,began,3
+3,1,lock,1,S,granted,S
+4,2,lock,1,X,waiting,
+5,3,lock,1,S,waiting,
+6,2,lock,2,S,refused,IsWaiting
+7,1,commit,,,committed,1
+8,2,commit,,,committed,1
+9,3,commit,,,committed,1
+";
+
+#[test]
+fn requests_are_granted_in_order_of_arrival(rt: HostRuntime) -> Result<(), Fail> {
+    let book = serve_text(&rt, rt.alloc(), 3, ARRIVALS)?;
+    assert_eq!(rt; book.sessions(), 3);
+    Ok(())
+}
+
+const REFUSALS: &str = "0,1,lock,1,NL,refused,NoTransaction
+1,1,convert,1,NL,refused,NoTransaction
+2,1,commit,,,refused,NoTransaction
+3,1,poll,,,refused,NoTransaction
+4,1,abort,,,refused,NoTransaction
+5,1,begin,,,began,1
+6,1,begin,,,refused,AlreadyOpen
+7,1,lock,1,NL,refused,NothingAsked
+8,1,convert,1,NL,refused,NothingAsked
+9,1,convert,1,S,refused,NotHeld
+10,1,lock,1,X,granted,X
+11,1,lock,1,NL,refused,NothingAsked
+12,2,begin,,,began,2
+13,2,lock,1,IS,waiting,
+14,2,lock,1,NL,refused,IsWaiting
+15,2,convert,1,S,refused,IsWaiting
+16,2,commit,,,refused,IsWaiting
+17,1,commit,,,committed,1
+18,2,commit,,,committed,1
+";
+
+#[test]
+fn each_refusal_comes_in_its_place(rt: HostRuntime) -> Result<(), Fail> {
+    let _book = serve_text(&rt, rt.alloc(), 2, REFUSALS)?;
+    Ok(())
+}
+
+const PROMOTION: &str = "0,1,begin,,,began,1
+1,2,begin,,,began,2
+2,3,begin,,,began,3
+3,4,begin,,,began,4
+4,1,lock,1,X,granted,X
+5,4,lock,1,IX,waiting,
+6,2,lock,1,IS,waiting,
+7,3,lock,1,S,waiting,
+8,1,commit,,,committed,1
+9,2,commit,,,committed,1
+10,3,commit,,,refused,IsWaiting
+11,4,commit,,,committed,1
+12,3,commit,,,committed,1
+";
+
+#[test]
+fn a_promotion_grants_all_that_fit_together(rt: HostRuntime) -> Result<(), Fail> {
+    let _book = serve_text(&rt, rt.alloc(), 4, PROMOTION)?;
+    Ok(())
+}
+
+/// Asks for so many databases in IS, from 0 on.
+fn lock_databases(rt: &impl Abort, book: &mut Book, count: u32) -> Result<(), Fail> {
+    for number in 0..count {
+        let call = Call::Lock(resource(number)?, Mode::IS);
+        assert_eq!(rt; serve(rt, book, 1, call)?, Reply::Granted(Mode::IS));
+    }
+    Ok(())
+}
+
+const ONE_SHARED: &str = "0,1,begin,,,began,1
+1,2,begin,,,began,2
+2,2,lock,7,IS,granted,IS
+";
+
+const FULL: &str = "0,1,lock,4096,X,refused,TooManyLocks
+1,1,lock,7,X,waiting,
+2,2,commit,,,committed,1
+3,1,poll,,,clear,
+4,1,lock,7,S,granted,X
+5,1,lock,4096,X,refused,TooManyLocks
+6,1,commit,,,committed,4096
+";
+
+fn fill(rt: &impl Abort, alloc: Global, book: &mut Book) -> Result<(), Fail> {
+    lock_databases(rt, book, 4096)?;
+    serve_more(rt, alloc, book, FULL)?;
+    assert_eq!(rt; book.history().len(), 4106);
+    Ok(())
+}
+
+#[test]
+fn a_transaction_holds_4096_locks_and_no_more(rt: HostRuntime) -> Result<(), Fail> {
+    let mut book = serve_text(&rt, rt.alloc(), 2, ONE_SHARED)?;
+    fill(&rt, rt.alloc(), &mut book)
+}
+
+/// Asks for database 1 and its records.
+fn lock_records(rt: &impl Abort, book: &mut Book) -> Result<(), Fail> {
+    let first = serve(rt, book, 1, Call::Lock(resource(1)?, Mode::IX))?;
+    assert_eq!(rt; first, Reply::Granted(Mode::IX));
+    for number in 0..4095 {
+        let call = Call::Lock(below(&[1, number])?, Mode::X);
+        assert_eq!(rt; serve(rt, book, 1, call)?, Reply::Granted(Mode::X));
+    }
+    Ok(())
+}
+
+/// Gives back the records of database 1, in the order of their numbers or backwards, and then the database, which is
+/// refused as long as one of them is left.
+fn release_records(rt: &impl Abort, book: &mut Book, backwards: bool) -> Result<(), Fail> {
+    let top = resource(1)?;
+    for number in 0..4095 {
+        let refused = serve(rt, book, 1, Call::Release(top))?;
+        assert_eq!(rt; refused, Reply::Refused(Why::ChildHeld));
+        let next = if backwards { 4094 - number } else { number };
+        let call = Call::Release(below(&[1, next])?);
+        assert_eq!(rt; serve(rt, book, 1, call)?, Reply::Released);
+    }
+    assert_eq!(rt; serve(rt, book, 1, Call::Release(top))?, Reply::Released);
+    Ok(())
+}
+
+fn release_both_ways(rt: &impl Abort, book: &mut Book) -> Result<(), Fail> {
+    lock_records(rt, book)?;
+    release_records(rt, book, false)?;
+    lock_records(rt, book)?;
+    release_records(rt, book, true)
+}
+
+const BEGUN: &str = "0,1,begin,,,began,1\n";
+
+#[test]
+fn locks_are_released_in_either_order(rt: HostRuntime) -> Result<(), Fail> {
+    let mut book = serve_text(&rt, rt.alloc(), 1, BEGUN)?;
+    release_both_ways(&rt, &mut book)
+}
+
+const CONVERSION_WAITS: &str = "0,1,begin,,,began,1
+1,2,begin,,,began,2
+2,3,begin,,,began,3
+3,1,lock,1,IS,granted,IS
+4,2,lock,1,S,granted,S
+5,3,lock,1,X,waiting,
+6,1,lock,1,S,granted,S
+7,1,convert,1,IS,granted,S
+8,1,convert,1,IX,waiting,
+9,1,poll,,,waiting,
+";
+
+const CONVERSION_IS_GRANTED: &str = "0,2,commit,,,committed,1
+1,1,poll,,,clear,
+2,3,poll,,,waiting,
+";
+
+const TWO_READERS: &str = "0,1,begin,,,began,1
+1,2,begin,,,began,2
+2,3,begin,,,began,3
+3,1,lock,1,S,granted,S
+4,2,lock,1,S,granted,S
+5,3,lock,1,X,waiting,
+6,1,lock,1,IX,waiting,
+";
+
+fn the_conversion_is_granted(rt: &impl Abort, alloc: Global, book: &mut Book) -> Result<(), Fail> {
+    want_held(rt, book, 1, Some(Mode::S))?;
+    serve_more(rt, alloc, book, CONVERSION_IS_GRANTED)?;
+    want_held(rt, book, 1, Some(Mode::SIX))?;
+    want_held(rt, book, 2, None)?;
+    want_held(rt, book, 3, None)
+}
+
+#[test]
+fn conversions_wait_ahead_of_fresh_requests(rt: HostRuntime) -> Result<(), Fail> {
+    let mut book = serve_text(&rt, rt.alloc(), 3, CONVERSION_WAITS)?;
+    the_conversion_is_granted(&rt, rt.alloc(), &mut book)
+}
+
+#[test]
+fn a_conversion_is_held_once_it_is_granted(rt: HostRuntime) -> Result<(), Fail> {
+    let mut book = serve_text(&rt, rt.alloc(), 3, TWO_READERS)?;
+    the_conversion_is_granted(&rt, rt.alloc(), &mut book)
+}
+
+const ABORTS: &str = "0,1,begin,,,began,1
+1,2,begin,,,began,2
+2,3,begin,,,began,3
+3,1,lock,1,S,granted,S
+4,2,lock,1,S,granted,S
+5,2,lock,2,X,granted,X
+6,3,lock,2,X,waiting,
+7,2,lock,1,X,waiting,
+8,2,abort,,,aborted,2
+9,3,poll,,,clear,
+10,1,lock,1,X,granted,X
+11,2,begin,,,began,4
+12,2,lock,1,IS,waiting,
+13,2,abort,,,aborted,0
+";
+
+#[test]
+fn an_abort_takes_the_request_and_the_locks(rt: HostRuntime) -> Result<(), Fail> {
+    let book = serve_text(&rt, rt.alloc(), 3, ABORTS)?;
+    want_holders(&rt, rt.alloc(), &book, 1, &[(1, Mode::X)])?;
+    want_holders(&rt, rt.alloc(), &book, 2, &[(3, Mode::X)])
+}
+
+const PARENTS: &str = "0,1,release,1,,refused,NoTransaction
+1,1,begin,,,began,1
+2,1,release,1,,refused,NotHeld
+3,1,lock,1/7,X,refused,ParentNotHeld
+4,1,lock,1,IS,granted,IS
+5,1,lock,1/7,X,refused,ParentNotHeld
+6,1,lock,1/7,S,granted,S
+7,1,release,1,,refused,ChildHeld
+8,1,release,1/7,,released,
+9,1,release,1,,released,
+10,1,lock,1,IX,granted,IX
+11,1,lock,1/7/0,X,refused,ParentNotHeld
+12,1,lock,1/7,IX,granted,IX
+13,1,lock,1/7/0,X,granted,X
+14,1,release,1,,refused,ChildHeld
+15,1,release,1/7,,refused,ChildHeld
+16,1,release,1/7/0,,released,
+17,1,release,1/7/0,,refused,NotHeld
+18,1,release,1/7,,released,
+19,1,commit,,,committed,1
+";
+
+#[test]
+fn locks_stand_under_their_parents_and_go_from_leaf_to_root(rt: HostRuntime) -> Result<(), Fail> {
+    let _book = serve_text(&rt, rt.alloc(), 1, PARENTS)?;
+    Ok(())
+}
+
+const WRITER: &str = "0,1,begin,,,began,1
+1,2,begin,,,began,2
+2,3,begin,,,began,3
+3,1,lock,1,X,granted,X
+4,3,lock,1,S,waiting,
+5,2,lock,1,S,waiting,
+6,2,release,1,,refused,IsWaiting
+";
+
+const WRITER_GIVES_BACK: &str = "0,1,release,1,,released,
+1,1,release,1,,refused,NotHeld
+";
+
+fn the_writer_gives_back(rt: &impl Abort, alloc: Global, book: &mut Book) -> Result<(), Fail> {
+    want_holders(rt, alloc, book, 2, &[])?;
+    want_holders(rt, alloc, book, 1, &[(1, Mode::X)])?;
+    serve_more(rt, alloc, book, WRITER_GIVES_BACK)?;
+    want_holders(rt, alloc, book, 1, &[(2, Mode::S), (3, Mode::S)])
+}
+
+#[test]
+fn a_release_promotes_and_holders_are_told(rt: HostRuntime) -> Result<(), Fail> {
+    let mut book = serve_text(&rt, rt.alloc(), 3, WRITER)?;
+    the_writer_gives_back(&rt, rt.alloc(), &mut book)
+}
+
+const VICTIM: &str = "0,1,begin,,,began,1
+1,2,begin,,,began,2
+2,1,lock,1,S,granted,S
+3,2,lock,1,S,granted,S
+4,2,lock,1,X,waiting,
+5,1,lock,1,X,waiting,
+6,2,poll,,,deadlock,
+7,2,lock,1,NL,refused,IsDoomed
+8,2,convert,1,S,refused,IsDoomed
+9,2,release,1,,refused,IsDoomed
+10,2,commit,,,refused,IsDoomed
+";
+
+const VICTIM_ABORTS: &str = "0,2,abort,,,aborted,1
+1,1,poll,,,clear,
+2,2,begin,,,began,3
+3,2,lock,1,S,waiting,
+4,1,commit,,,committed,1
+";
+
+fn the_victim_aborts(rt: &impl Abort, alloc: Global, book: &mut Book) -> Result<(), Fail> {
+    want_held(rt, book, 2, Some(Mode::S))?;
+    serve_more(rt, alloc, book, VICTIM_ABORTS)?;
+    want_held(rt, book, 2, Some(Mode::S))
+}
+
+#[test]
+fn a_victim_keeps_its_locks_until_it_aborts(rt: HostRuntime) -> Result<(), Fail> {
+    let mut book = serve_text(&rt, rt.alloc(), 2, VICTIM)?;
+    the_victim_aborts(&rt, rt.alloc(), &mut book)
+}

@@ -1,0 +1,6 @@
+use Rattle.std.specs.Prelude.{All}
+use Rattle.combining.specs.Sessions.{IsSessionOf, IsIdle}
+use Rattle.office_tests.proofs.listing.round.Given as goal
+
+abbrev pub invariant-loop-session : goal.invariant-loop-session
+invariant-loop-session g l = All (λ session. IsSessionOf l.office session × IsIdle session) l.back.items

@@ -1,7 +1,0 @@
-use Rattle.std.proofs.Common.{take}
-use Rattle.std.specs.List.{All}
-use Rattle.lock_desk.specs.Batches.{IsItemWithin}
-use Rattle.unit_tests.proofs.batches.is_within.Given as goal
-
-abbrev pub invariant-loop-item : goal.invariant-loop-item
-invariant-loop-item l = All (IsItemWithin l.sessions) (take l.item-index l.items)

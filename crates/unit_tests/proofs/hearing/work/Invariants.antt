@@ -1,5 +1,0 @@
-use Rattle.combining.specs.Sessions.{IsSessionOf, IsIdle}
-use Rattle.unit_tests.proofs.hearing.work.Given as goal
-
-abbrev pub invariant-loop-call : goal.invariant-loop-call
-invariant-loop-call l = (IsSessionOf l.office l.first × IsIdle l.first) × IsSessionOf l.office l.second × IsIdle l.second

@@ -1,6 +1,0 @@
-use Rattle.std.specs.Prelude.{All}
-use Rattle.combining.specs.Sessions.{IsSessionOf, IsIdle}
-use Rattle.unit_tests.proofs.listing.rounds.Given as goal
-
-abbrev pub invariant-loop-done : goal.invariant-loop-done
-invariant-loop-done g l = All (λ session. IsSessionOf l.office session × IsIdle session) l.back.items

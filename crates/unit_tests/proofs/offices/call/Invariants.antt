@@ -1,5 +1,0 @@
-use Rattle.combining.specs.Sessions.{IsSessionOf}
-use Rattle.unit_tests.proofs.offices.call.Given as goal
-
-abbrev pub invariant-loop-turn : goal.invariant-loop-turn
-invariant-loop-turn l = IsSessionOf l.office l.session

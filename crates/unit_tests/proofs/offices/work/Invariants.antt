@@ -1,5 +1,0 @@
-use Rattle.combining.specs.Sessions.{IsSessionOf, IsIdle}
-use Rattle.unit_tests.proofs.offices.work.Given as goal
-
-abbrev pub invariant-loop-call : goal.invariant-loop-call
-invariant-loop-call l = IsSessionOf l.office l.session × IsIdle l.session
