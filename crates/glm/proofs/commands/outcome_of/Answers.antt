@@ -1,0 +1,39 @@
+use Rattle.std.proofs.Common.{rules}
+use Rattle.glm.proofs.commands.outcome_of.Goals as goal
+
+-- Each is what the words ask for, and what the call that they ask for ensures.
+pub returns-in-Ok-Some-Replay : goal.returns-in-Ok-Some-Replay
+returns-in-Ok-Some-Replay c c' =
+    let done = c'.replay.ensures in
+    record {
+      sessions = c'.in-Ok-Some-Replay.sessions;
+      asked = search rules;
+      kept = done.kept;
+      served = done.served;
+      faults = done.faults;
+      replays = done.replays;
+    }
+
+pub returns-in-Ok-Some-Run : goal.returns-in-Ok-Some-Run
+returns-in-Ok-Some-Run c c' =
+    let done = c'.run.ensures in
+    record {
+      sessions = c'.in-Ok-Some-Run.sessions;
+      turns = c'.in-Ok-Some-Run.turns;
+      asked = search rules;
+      kept = done.kept;
+      performed = done.performed;
+      runs = done.runs;
+    }
+
+pub returns-in-Ok-Some-Check : goal.returns-in-Ok-Some-Check
+returns-in-Ok-Some-Check c c' =
+    let done = c'.tell_verdict.ensures in
+    record {
+      sessions = c'.in-Ok-Some-Check.sessions;
+      asked = search rules;
+      kept = done.kept;
+      told = done.told;
+      faults = done.faults;
+      checks = done.checks;
+    }
