@@ -1,4 +1,5 @@
-use Rattle.std.proofs.Common.{◌<◌, ◌∙◌, ap, Bool, false, List, ◌+◌, ◌&&◌, ◌||◌, eqb, get_or, length, take}
+use Rattle.std.proofs.Common.{◌<◌, ◌∙◌, ap, Bool, false, List, ◌+◌, ◌&&◌, ◌||◌, eqb, get_or, length, take, refl, sym}
+use Rattle.std.proofs.Math.Bool.{or-false}
 use Rattle.std.proofs.lemmas.List.{take_all}
 use Rattle.waits_for.specs.Pairs.{pairs_of}
 use Rattle.lock_modes.specs.declared.Mode.TheVariants.{NL}
@@ -38,3 +39,6 @@ returns-clause-pairs c = λ a b.
     c.loop-index.invariant.pairs a b
     ∙ ap (λ (o : Bool). pairs_of c.args.waits.now.rows a b || o)
     (ap (λ (ws : List SessionMode). has_session (a + 1) ws && cell_blocks (a + 1) (b + 1) cell) (take_all c.loop-index.index (view_of cell).waiting (rw c.queue-queue.ensures at c.loop-index-test.false)) ∙ blocks-waiting (a + 1) (b + 1) (view_of cell))
+
+pub loop-index-init : goal.loop-index-init
+loop-index-init c = record { sessions = refl; pairs = λ a b. sym (or-false (pairs_of c.args.waits.now.rows a b)); numbers = refl }

@@ -1,4 +1,4 @@
-use Rattle.std.proofs.Common.{◌≡◌, rules, true, []}
+use Rattle.std.proofs.Common.{◌≡◌, rules, true, [], length, arith}
 use Rattle.std.specs.Result.{is_ok}
 use Rattle.std.proofs.lemmas.List.Elements.{All-push}
 use Rattle.lock_trace.specs.Records.{records_on, records_of}
@@ -17,6 +17,21 @@ returns-in-Err-clause-answer g c bytes known =
     let next = c.in-Err.ensures.next left at_left in
     tells c.requires.format g.R.Read.remaining (records_of bytes) (records_on c.loop.reader.state [] [] left) c.loop.rows.items c.len-place.result c.next_row.new.reader c.in-Err.kind
     c.loop.invariant.rows so_far (search rules) next
+
+pub returns-in-Err-clause-from_one : goal.returns-in-Err-clause-from_one
+returns-in-Err-clause-from_one g c = omega arith
+
+pub returns-then-is_err-clause-from_one : goal.returns-then-is_err-clause-from_one
+returns-then-is_err-clause-from_one g c = omega arith
+
+pub returns-then-is_err-clause-answer : goal.returns-then-is_err-clause-answer
+returns-then-is_err-clause-answer g c bytes known =
+    let (left, at_left, so_far) = c.loop.invariant.so_far bytes known in
+    let len : c.len-place.result ≡ length c.loop.rows.items = search rules in
+    record {
+      text = λ not. absurd cc;
+      machine = λ is. (records_on c.loop.reader.state [] [] left, record { front = c.loop.rows.items; are_rows = c.loop.invariant.rows; records_are = so_far; number = omega (arith, len) });
+    }
 
 pub loop-preserved : goal.loop-preserved
 loop-preserved g c =

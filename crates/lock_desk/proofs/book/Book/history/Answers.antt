@@ -1,3 +1,5 @@
+use Rattle.std.proofs.Common.{◌∙◌, ap}
+use Rattle.lock_desk.specs.Kept.{Told}
 use Rattle.lock_desk.proofs.book.Book.history.Goals as goal
 
 pub returns-clause-lawful : goal.returns-clause-lawful
@@ -5,3 +7,6 @@ returns-clause-lawful c = λ front rest e. c.states_are_lawful.ensures front
 
 pub returns-clause-grants : goal.returns-clause-grants
 returns-clause-grants c = λ front later rest e. c.grants_stand.ensures front later
+
+pub returns-clause-history : goal.returns-clause-history
+returns-clause-history c = c.deref.ensures.value ∙ ap (λ (t : Told). t.history) c.self.view_is

@@ -19,3 +19,6 @@ returns-clause-served c = λ batch start s.
     let n = served-next k batch start history items asked reply s c.requires.some at c.in-Ok.ensures.reply in
     subst (λ (es : List Entry). AreServed (k + 1) batch start es (set items k (with_reply (get_or items k c.index-items-at-2.result) reply))) (sym (ap (λ (t : Told). t.history) c.in-Ok.ensures.entry))
     (subst (λ (is : List Item). AreServed (k + 1) batch start (history ++ entry_of asked reply ∷ []) is) (ap (λ (i : Item). set items k (with_reply i reply)) same) n)
+
+pub returns-in_default-clause-served : goal.returns-in_default-clause-served
+returns-in_default-clause-served c = λ batch start s. subst (λ (t : Told). AreServed c.args.at batch start t.history c.args.items.now) (sym c.in_default.ensures.err) s

@@ -1,4 +1,4 @@
-use Rattle.std.proofs.Common.{◌≡◌, ◌∙◌, sym, ap, subst, Bool, false, cond, List, ℕ, [], ◌∷◌, ◌++◌, slice_get, Some, None}
+use Rattle.std.proofs.Common.{rules, ◌≡◌, ◌∙◌, sym, ap, subst, Bool, false, cond, List, ℕ, [], ◌∷◌, ◌++◌, slice_get, Some, None}
 use Rattle.std.proofs.lemmas.Bool.{not-true, not-false}
 use Rattle.std.specs.List.{IsDistinct, list_any}
 use Rattle.lock_tree.specs.Paths.{same_path}
@@ -29,3 +29,6 @@ returns-clause-place c =
     let at = ap (λ (qs : List (List ℕ)). slice_get qs c.in-Ok.place) (sym same) ∙ stored.1 ∙ ap Some (sym (same_path-true r stored.0 (sym (eq-is r stored.0) ∙ stored.2))) in
     subst (λ (t : Table). IsCellAt r t.entries c.in-Ok.place) c.self.view_is
     (found-place rs c.self.inside.cells.items r c.in-Ok.place (subst (IsDistinct same_path) c.forget.ensures.keys (apart-in_use _ eq-is ks false c.len.ensures.unique)) c.self.invariant.long at)
+
+pub invariant_of-self-then-added : goal.invariant_of-self-then-added
+invariant_of-self-then-added c = record { long = search rules; idle = search rules }

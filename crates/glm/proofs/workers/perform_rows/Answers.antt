@@ -1,0 +1,63 @@
+use Rattle.std.proofs.Common.{arith, ap, sym, ◌≡◌, ◌≢◌, ◌∙◌, ◌<◌, ◌+◌, ◌++◌, ◌∷◌, [], ℕ, Bool, List, length, map, take, get_or, cond, eqb, append-nil, None}
+use Rattle.std.specs.List.{filter}
+use Rattle.std.proofs.lemmas.Bool.{eq-eqb, ne_eqb}
+use Rattle.std.proofs.lemmas.List.{map-append}
+use Rattle.std.proofs.lemmas.List.Elements.{filter_more}
+use Rattle.lock_rules.specs.declared.calls.Call.{Call}
+use Rattle.lock_trace.specs.declared.rows.TraceRow.{TraceRow}
+use Rattle.glm.specs.Calls.{calls_of_rows}
+use Rattle.glm.specs.Workers.{Calls}
+use Rattle.glm.proofs.workers.perform_rows.Goals as goal
+use Rattle.glm.proofs.workers.perform_rows.Goals.{then-row-number+in_ok-perform, else-row-number}
+
+abbrev calls_in : List TraceRow → List Call
+calls_in rows = map (λ (row : TraceRow). row.call) rows
+
+-- the calls of a session among one row more, which is its own or another's
+one_more : (i k : ℕ) (row : TraceRow) (rows : List TraceRow) → k < length rows → row ≡ get_or rows k row → row.session ≡ i
+    → calls_of_rows i (take (k + 1) rows) ≡ calls_of_rows i (take k rows) ++ row.call ∷ []
+one_more i k row rows below is own =
+    let at = get_or rows k row in
+    let before = filter (λ (r : TraceRow). eqb r.session i) (take k rows) in
+    let ours : at.session ≡ i = sym (ap (λ (r : TraceRow). r.session) is) ∙ own in
+    ap calls_in (filter_more (λ (r : TraceRow). eqb r.session i) rows k row below)
+    ∙ ap (λ (b : Bool). calls_in (before ++ cond b (at ∷ []) [])) (eq-eqb at.session i ours)
+    ∙ map-append (λ (r : TraceRow). r.call) before (at ∷ [])
+    ∙ ap (λ (r : TraceRow). calls_in before ++ r.call ∷ []) (sym is)
+
+no_more : (i k : ℕ) (row : TraceRow) (rows : List TraceRow) → k < length rows → row ≡ get_or rows k row → row.session ≢ i
+    → calls_of_rows i (take (k + 1) rows) ≡ calls_of_rows i (take k rows)
+no_more i k row rows below is other =
+    let at = get_or rows k row in
+    let before = filter (λ (r : TraceRow). eqb r.session i) (take k rows) in
+    let others : at.session ≢ i = λ same. other (ap (λ (r : TraceRow). r.session) is ∙ same) in
+    ap calls_in (filter_more (λ (r : TraceRow). eqb r.session i) rows k row below)
+    ∙ ap (λ (b : Bool). calls_in (before ++ cond b (at ∷ []) [])) (ne_eqb at.session i others)
+    ∙ ap calls_in (append-nil before)
+
+abbrev collected_by : ℕ → List Call → Calls
+collected_by number calls = record { number = number; pending = None; collected = calls }
+
+abbrev with_call : Call → Calls → Calls
+with_call call known = record known { collected = known.collected ++ call ∷ [] }
+
+pub loop-row-preserved : goal.loop-row-preserved
+loop-row-preserved g c =
+    let number = c.args.number in
+    let at = c.loop-row.row-index in
+    let row = c.row-item.result in
+    let before = c.loop-row.invariant in
+    elim c.if-row-number.branch [
+      | then-row-number+in_ok-perform w ↦ record {
+        ours = rw w.session-is w.in_ok-perform.ensures.ours;
+        performed = ap g.S.Service.calls w.session-is ∙ w.in_ok-perform.ensures.performed ∙ ap (with_call row.call) before.performed
+            ∙ ap (collected_by number) (sym (one_more number at row c.args.rows.now c.loop-row-test.true c.row-item.is w.if-row-number.true));
+        few = omega (arith, w.place-is, before.few);
+      }
+      | else-row-number w ↦ record {
+        ours = rw w.session-is before.ours;
+        performed = ap g.S.Service.calls w.session-is ∙ before.performed
+            ∙ ap (collected_by number) (sym (no_more number at row c.args.rows.now c.loop-row-test.true c.row-item.is w.if-row-number.false));
+        few = omega (arith, w.place-is, before.few);
+      }
+    ]
