@@ -1,6 +1,6 @@
-/* Each allocation is refused in turn: the call tells NO_MEMORY, or a pass that it was starved, nothing has changed, and the same
-   call then succeeds. And at an allocation of one session's pass another session tries to serve, which is told ELSEWHERE. Link
-   with -Wl,--wrap=malloc,--wrap=realloc. */
+/* Refuses each allocation in turn: the call returns NO_MEMORY, or its pass is starved, nothing has changed, and the same call then
+   succeeds. Also, at an allocation in one session's pass another session tries to serve, which returns ELSEWHERE. Link with
+   -Wl,--wrap=malloc,--wrap=realloc. */
 #include "pelgaisti.h"
 #include <stdio.h>
 #include <stdlib.h>
@@ -13,12 +13,12 @@ void *__wrap_realloc(void *at, size_t size);
 
 static long left = -1, refusals, failed;
 
-/* The session that tries to serve at the next allocation, and what it is told. */
+/* The session that tries to serve at the next allocation, and the status of that call. */
 static pelgaisti_session *meanwhile;
 static uint32_t told;
 static pelgaisti_pass unwritten;
 
-/* Counts down to the allocation that is refused, of which there is one in each round. */
+/* Counts down to the allocation to refuse. Each round refuses at most one. */
 static int is_refused(void) {
     if (meanwhile) {
         pelgaisti_session *session = meanwhile;
@@ -136,8 +136,8 @@ static void offices(void) {
     CHECK(pelgaisti_book_close(&book) == PELGAISTI_OK);
 }
 
-/* While a session makes a pass, which allocates, another one's try to serve is told ELSEWHERE, and changes nothing: the calls of
-   both are answered after it. */
+/* While one session makes a pass, which allocates, a serve of another session returns ELSEWHERE and writes nothing. The calls of
+   both sessions are answered afterwards. */
 static void elsewhere(void) {
     pelgaisti_session sessions[2] = {PELGAISTI_EMPTY, PELGAISTI_EMPTY};
     pelgaisti_book book = PELGAISTI_EMPTY;
@@ -155,7 +155,7 @@ static void elsewhere(void) {
     CHECK(pelgaisti_book_close(&book) == PELGAISTI_OK);
 }
 
-/* Plays a round for each allocation that it makes, and one more in which none is refused. */
+/* Plays one round for each allocation, which is refused, and a last round without a refusal. */
 static void each_in_turn(const char *name, void (*play)(void)) {
     long before;
     refusals = 0;

@@ -1,4 +1,4 @@
-/* Serves the rows of a trace on a book through pelgaisti.h, and writes the history that it then has, as `glm replay` does. */
+/* Serves the rows of a trace on a book through pelgaisti.h, and writes the book's history as `glm replay` does. */
 #include "pelgaisti.h"
 #include <inttypes.h>
 #include <stdio.h>
@@ -76,7 +76,7 @@ int main(void) {
     uint64_t length = 0;
     if (pelgaisti_book_length(&book, &length) != PELGAISTI_OK) return 4;
     for (uint64_t place = 0; place < length; place++) {
-        /* three at a time, so that the slices of a history meet */
+        /* three entries at a time, which also tests that slices of the history fit together */
         pelgaisti_entry entries[3];
         size_t count = 0;
         if (pelgaisti_book_history(&book, place, entries, 3, &count) != PELGAISTI_OK || count == 0) return 5;

@@ -1,4 +1,4 @@
-/* Every call of pelgaisti.h with every status that it has, and threads that share an office. Valid C99 and C++.
+/* Tests every call of pelgaisti.h with each of its statuses, and threads that share an office. Valid C99 and C++.
    Prints the line of each check that fails, and last 'N passed, M failed'. */
 #define _XOPEN_SOURCE 600
 #include "pelgaisti.h"
@@ -35,7 +35,7 @@ static const uint32_t off_modes[] = {2, 4, 6, 8, 14, 16, 255, 256, 257, UINT32_M
 static const uint32_t off_levels[] = {0, 5, 256, 257, UINT32_MAX};
 #define COUNT(list) (sizeof(list) / sizeof((list)[0]))
 
-/* What every off argument of a book is told, and that nothing is written then. */
+/* Every bad argument of a book's calls gives its status, and then nothing is written. */
 static void books_refuse(void) {
     pelgaisti_book book = PELGAISTI_EMPTY;
     pelgaisti_call begin = call_of(PELGAISTI_BEGIN, 0, 0, 0, 0), lock = call_of(PELGAISTI_LOCK, PELGAISTI_S, 1, 1, 0);
@@ -117,7 +117,7 @@ static void books_refuse(void) {
     CHECK(pelgaisti_book_close(&book) == PELGAISTI_OK);
 }
 
-/* The replies are those of the rules, worked by hand: what is held, who holds, and the slices of a history. */
+/* Replies, modes held, holders and slices of the history, against values worked out by hand from the locking rules. */
 static void books_serve(void) {
     pelgaisti_book book = PELGAISTI_EMPTY;
     pelgaisti_reply reply;
@@ -172,7 +172,7 @@ static void books_serve(void) {
     CHECK(pelgaisti_book_close(&book) == PELGAISTI_OK);
 }
 
-/* What every off argument of a session is told, and what a session goes through from its start to its end. */
+/* Every bad argument of a session's calls gives its status, and a session goes through all its states. */
 static void sessions_refuse(void) {
     static pelgaisti_session many[PELGAISTI_MAX_SESSIONS + 1];
     pelgaisti_session two[2] = {PELGAISTI_EMPTY, PELGAISTI_EMPTY}, one[1] = {PELGAISTI_EMPTY}, closed = PELGAISTI_EMPTY;
@@ -284,8 +284,8 @@ static void sessions_refuse(void) {
     CHECK(pelgaisti_book_close(&book) == PELGAISTI_OK);
 }
 
-/* Handles that were moved, against the rules, so that two offices have one mark, and a session of the one is handed in to the
-   other. Nothing can close what is left of them: it stays reachable by the handles. */
+/* Handles are moved, against the rules, so that two offices have the same mark and a session of one is handed in to the other.
+   No call can close these offices any more. Their memory stays reachable by the handles, so it is no leak. */
 static void copies_are_told(void) {
     static pelgaisti_session moved[2], array[2];
     pelgaisti_book book = PELGAISTI_EMPTY;
@@ -313,7 +313,7 @@ typedef struct job {
     uint64_t elsewhere, bad;
 } job;
 
-/* begin, lock, poll, commit, over and over; the locks are in mode IX, which never waits. */
+/* A thread's calls: begin, lock, poll, commit, repeated. The locks are in mode IX, so no request waits. */
 static void *work(void *argument) {
     job *j = (job *)argument;
     static const uint32_t ops[] = {PELGAISTI_BEGIN, PELGAISTI_LOCK, PELGAISTI_POLL, PELGAISTI_COMMIT};
@@ -336,7 +336,7 @@ static void *work(void *argument) {
     return NULL;
 }
 
-/* Each place is collected once, each session's in their order, and the history has those calls. */
+/* Each place of the history is collected once, those of a session in increasing order, and the history has these calls. */
 static void threads_share(void) {
     static pelgaisti_session sessions[THREADS];
     static uint64_t places[THREADS][CALLS];

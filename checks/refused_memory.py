@@ -26,7 +26,7 @@ TESTED = {
     "desk_tests": ("books::", "batches::"),
     "office_tests": ("offices::", "closing::", "hearing::"),
     # reads rows, and says in which of them memory was refused
-    "ground_tests": ("traces::tells_the_row_in_which_memory_was_refused",),
+    "base_tests": ("traces::reports_the_row_in_which_memory_was_refused",),
 }
 # what allocates too often to go through: a transaction of 4096 locks, and threads, which don't ask again either
 LONG_TESTS = [
@@ -34,12 +34,12 @@ LONG_TESTS = [
     "locks_are_released_in_either_order",
     "eight_threads_poll",
     "sixty_four_threads_poll",
-    "eight_threads_are_told_what_one_book_tells",
+    "eight_threads_get_the_replies_of_one_book",
     "eight_threads_hear",
     "all_256_sessions_close_in_any_order",
 ]
 STARVED_TEST = "a_call_that_found_no_memory_is_served_by_the_next_pass"
-ROW_TEST = "traces::tells_the_row_in_which_memory_was_refused"
+ROW_TEST = "traces::reports_the_row_in_which_memory_was_refused"
 ROWS_TOLD = {b"refused in row 1", b"refused in row 3", b"refused in row 5"}
 
 

@@ -1,34 +1,35 @@
 /*
- * A small engine: two tables of accounts, and four threads that move money from one to the other. Each move locks the two
- * records that it changes, waits by polls where it has to, and undoes what it did where it became a deadlock's victim.
+ * A small engine: two tables of accounts, and four threads that move money between them. Each move locks the two records that it
+ * changes, polls while it waits for a lock, and undoes its change if it is chosen as a deadlock's victim.
  *
  *     ./embed && cc examples/engine.c -Iout -Lout -lpelgaisti -lpthread -o engine && ./engine
  */
-#define _XOPEN_SOURCE 600 /* barriers, also under -std=c99 */
+#define _XOPEN_SOURCE 600 /* for barriers under -std=c99 */
 #include "pelgaisti.h"
 #include <pthread.h>
 #include <sched.h>
 #include <stdio.h>
 #include <stdlib.h>
 
-/* The last record of each table is for the deadlock that is to come about: no other move names it. */
+/* The last record of each table is used only by the two moves that make a deadlock. */
 enum { TABLES = 2, RECORDS = 5, MEETING = 4, THREADS = 4, MOVES = 500, BALANCE = 100 };
 
 static long accounts[TABLES][RECORDS];
 static pthread_barrier_t both_hold_one;
 
-/* What a worker has: its session of the lock manager, and what it counts. */
+/* A worker: its session, its number, and how many moves it made and how often it was a victim. */
 typedef struct worker {
     pelgaisti_session *session;
     unsigned number, moved, victims;
 } worker;
 
+/* Prints what failed and ends the program. */
 static void stop(const char *why, uint32_t status) {
     fprintf(stderr, "engine: %s: status %u\n", why, (unsigned)status);
     exit(1);
 }
 
-/* Publishes a call, and serves and collects until its answer is there. */
+/* Publishes a call, then serves and collects until the answer is there. */
 static pelgaisti_reply ask(worker *w, pelgaisti_call call) {
     pelgaisti_answer answer;
     uint32_t status = pelgaisti_session_publish(w->session, &call, NULL);
@@ -42,13 +43,14 @@ static pelgaisti_reply ask(worker *w, pelgaisti_call call) {
     }
 }
 
+/* A call without a resource and a mode. */
 static pelgaisti_call plain(uint32_t op) {
     pelgaisti_call call = {0, 0, {0, {0, 0, 0, 0}}};
     call.op = op;
     return call;
 }
 
-/* Locks a resource and waits until it is granted: 0 where the transaction became a victim. */
+/* Locks a resource and polls until the lock is granted. Returns 0 if the transaction became a victim. */
 static int lock(worker *w, uint32_t mode, uint32_t level, uint32_t table, uint32_t record) {
     pelgaisti_call call = plain(PELGAISTI_LOCK);
     call.mode = mode;
@@ -66,27 +68,28 @@ static int lock(worker *w, uint32_t mode, uint32_t level, uint32_t table, uint32
     return 1;
 }
 
-/* An exclusive lock of a record, under intention locks of the database and the table. */
+/* Locks a record exclusively, under intention locks on the database and the table. */
 static int lock_record(worker *w, uint32_t table, uint32_t record) {
     return lock(w, PELGAISTI_IX, 1, 0, 0) && lock(w, PELGAISTI_IX, 2, table, 0) && lock(w, PELGAISTI_X, 3, table, record);
 }
 
-/* Moves 1 from a record of one table to one of the other: 0 where it was undone. */
+/* Moves 1 from a record of one table to a record of the other. Returns 0 if the move was undone. */
 static int move(worker *w, uint32_t from, uint32_t record, uint32_t to, uint32_t other, int meet) {
     ask(w, plain(PELGAISTI_BEGIN));
     int taken = lock_record(w, from, record);
     if (taken) accounts[from][record] -= 1;
-    if (meet) pthread_barrier_wait(&both_hold_one); /* so that the first moves of two workers do make a deadlock */
+    if (meet) pthread_barrier_wait(&both_hold_one); /* makes sure that the first moves of two workers deadlock */
     if (taken && lock_record(w, to, other)) {
         accounts[to][other] += 1;
         if (ask(w, plain(PELGAISTI_COMMIT)).kind != PELGAISTI_COMMITTED) stop("commit", 0);
         return 1;
     }
-    if (taken) accounts[from][record] += 1; /* the victim still holds its locks while it undoes */
+    if (taken) accounts[from][record] += 1; /* a victim keeps its locks until it aborts */
     if (ask(w, plain(PELGAISTI_ABORT)).kind != PELGAISTI_ABORTED) stop("abort", 0);
     return 0;
 }
 
+/* A thread's work: its moves, each repeated until it commits. */
 static void *work(void *argument) {
     worker *w = (worker *)argument;
     uint32_t from = w->number % 2, random = w->number + 1;
@@ -129,7 +132,7 @@ int main(void) {
         victims += workers[t].victims;
     }
 
-    /* the sessions are handed in, and leave one history of all calls */
+    /* hand in the sessions and close the office, which leaves one history of all calls */
     for (int t = 1; t < THREADS && status == PELGAISTI_OK; t++) status = pelgaisti_session_hand_in(&sessions[t], &sessions[0]);
     if (status == PELGAISTI_OK) status = pelgaisti_office_close(&sessions[0], &book);
     if (status != PELGAISTI_OK) stop("close", status);

@@ -1,6 +1,5 @@
 //! The engine of `engine.c` in Rust, by `extern "C"`: two tables of accounts, and four threads that move money between them.
-//! The types keep what a caller has to keep: a handle is reached by `&mut` alone, is never moved, and its array lives as long
-//! as the threads.
+//! The types enforce the header's rules for handles: a handle is used only by `&mut`, is never moved, and its array outlives the threads.
 //!
 //!     ./embed && rustc --edition 2024 -O examples/engine.rs -L out -o engine && ./engine
 
@@ -62,14 +61,14 @@ struct Pass {
     starved: u32,
 }
 
-/// A book's or a session's handle, empty until it is opened.
+/// The handle of a book or of a session.
 #[repr(C)]
 struct Handle {
     is_open: u32,
     at: *mut c_void,
 }
 
-// A session's handle may go to another thread: the library proves it of what stands behind it.
+// A session's handle may go to another thread: the library proves that what it holds may.
 unsafe impl Send for Handle {}
 
 const EMPTY: Handle = Handle {
@@ -81,9 +80,9 @@ const EMPTY: Handle = Handle {
 unsafe extern "C" {
     safe fn pelgaisti_book_length(book: &mut Handle, length: &mut u64) -> u32;
     safe fn pelgaisti_book_close(book: &mut Handle) -> u32;
-    // The mark is a number that no other open office has.
+    // `mark` must be a number that no other open office has.
     fn pelgaisti_office_open(sessions: *mut Handle, count: usize, mark: u64) -> u32;
-    // Of handles that have the same mark, which are those of one office.
+    // Needs that open handles with the same mark belong to the same office.
     safe fn pelgaisti_session_hand_in(session: &mut Handle, to: &mut Handle) -> u32;
     safe fn pelgaisti_office_close(session: &mut Handle, book: &mut Handle) -> u32;
     safe fn pelgaisti_session_publish(session: &mut Handle, call: &Call, posted: &mut u32) -> u32;
@@ -95,11 +94,12 @@ const THREADS: usize = 4;
 const MOVES: u32 = 500;
 const BALANCE: i64 = 100;
 
-/// The last record of each table is for the deadlock that is to come about: no other move names it.
+/// The last record of each table, which only the two moves that make a deadlock use.
 const MEETING: usize = 4;
 
 type Tables = [[AtomicI64; MEETING + 1]; 2];
 
+/// A thread of the engine, with its session.
 struct Worker<'a> {
     session: &'a mut Handle,
     accounts: &'a Tables,
@@ -109,7 +109,7 @@ struct Worker<'a> {
 }
 
 impl Worker<'_> {
-    /// Publishes a call, and serves and collects until its answer is there.
+    /// Publishes a call, then serves and collects until the answer is there.
     fn ask(&mut self, call: Call) -> Reply {
         let mut posted = 0;
         assert_eq!(pelgaisti_session_publish(self.session, &call, &mut posted), OK);
@@ -124,11 +124,12 @@ impl Worker<'_> {
         }
     }
 
+    /// Makes a call without a resource and a mode.
     fn plain(&mut self, op: u32) -> Reply {
         self.ask(Call { op, ..Call::default() })
     }
 
-    /// Locks a resource and waits until it is granted: false where the transaction became a victim.
+    /// Locks a resource and polls until the lock is granted. Returns false if the transaction became a victim.
     fn lock(&mut self, mode: u32, numbers: &[u32]) -> bool {
         let mut resource = Resource {
             level: numbers.len() as u32,
@@ -144,13 +145,14 @@ impl Worker<'_> {
         reply.kind != DEADLOCK
     }
 
+    /// Locks a record exclusively, under intention locks on the database and the table.
     fn lock_record(&mut self, table: usize, record: usize) -> bool {
         self.lock(IX, &[1])
             && self.lock(IX, &[1, table as u32])
             && self.lock(X, &[1, table as u32, record as u32])
     }
 
-    /// Moves 1 from a record of one table to one of the other: false where it was undone.
+    /// Moves 1 from a record of one table to a record of the other. Returns false if the move was undone.
     fn make_move(&mut self, from: usize, record: usize, other: usize, meet: bool) -> bool {
         self.plain(BEGIN);
         let taken = self.lock_record(from, record);
@@ -166,13 +168,14 @@ impl Worker<'_> {
             return true;
         }
         if taken {
-            // the victim still holds its locks while it undoes
+            // a victim keeps its locks until it aborts
             self.accounts[from][record].fetch_add(1, Relaxed);
         }
         assert_eq!(self.plain(ABORT).kind, ABORTED);
         false
     }
 
+    /// Makes all moves of the thread, each repeated until it commits.
     fn work(&mut self) {
         let mut from = self.number as usize % 2;
         let mut random = self.number + 1;

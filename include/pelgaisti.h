@@ -21,26 +21,39 @@
  *         return pelgaisti_book_close(&book);
  *     }
  *
- * There are two ways to have a lock table. A BOOK is for one thread, or for an engine that puts a lock of its own round it: a
- * call is answered at once. An OFFICE is for threads: each has a session of its own, publishes a call, and then tries to serve
- * and to collect until the answer is there. No call of this library blocks.
+ * A lock table comes in two forms. A BOOK is a lock table for one thread, or for an engine that guards it by a mutex of its own:
+ * each call is answered at once. An OFFICE is a lock table that threads share. Each thread has a session. It publishes a call,
+ * then serves and collects in turn until it has the answer. No call of this library blocks.
  *
- * WHAT THE CALLER KEEPS, since no proof covers C. What a single call asks besides stands with it, after "Asks".
- * - A handle (pelgaisti_book, pelgaisti_session) is a struct of yours. Set it to PELGAISTI_EMPTY, or all its bytes to zero,
- *   before its first use. Never copy or move it, never look or write into it after that, and keep its memory until it is closed.
- * - Every pointer is aligned, and points to memory of its type that no other argument of the call overlaps.
- * - No pointer is NULL but where a call allows it. What tells NULL, and takes it where it is allowed, are the functions at the end
- *   of this header, which a call by its name in C or C++ goes through. Through a pointer to a function, or from another language,
- *   nothing tests for it, and no pointer at all is NULL.
- * - One call at a time on a handle. A handle goes to another thread only over a lock, the start or the join of a thread, or a
- *   sequentially consistent atomic. Different sessions of one office may be called at once.
- * - No call comes from a signal handler, or from the forked child of a process with threads.
- * - malloc, realloc and free are of one allocator, and align as those of the C library do.
+ * RULES FOR THE CALLER. The library is proved, but no proof covers the C code that calls it. Some calls have further rules, in
+ * their comments after "Requires".
+ * - A handle (pelgaisti_book, pelgaisti_session) is a struct in the caller's memory. Set it to PELGAISTI_EMPTY, or all its bytes
+ *   to zero, before its first use. From then on never copy, move, read or write it, and keep its memory until it is closed.
+ * - Every pointer is aligned and points to memory of its type. No two arguments of a call overlap.
+ * - NULL. In C and C++ a call by name, as in pelgaisti_book_close(&book), is a macro for one of the inline functions at the end
+ *   of this header. These test every pointer: they return PELGAISTI_NULL for a NULL pointer, and accept NULL only if the comment
+ *   of the call allows it. The exported functions test no pointer. A call through a function pointer, as in
+ *   (pelgaisti_book_close)(&book), or from another language must pass no NULL at all, not even if the comment allows it.
+ * - At most one call at a time uses a handle. To pass a handle to another thread, synchronize: by a mutex, by the start or the
+ *   join of a thread, or by a sequentially consistent atomic. Different sessions of one office may be used at the same time.
+ * - No call is made in a signal handler, nor in the forked child of a process with threads.
+ * - malloc, realloc and free belong to one allocator, and align blocks as those of the C library do.
  *
- * STATUSES. Every call tells by a pelgaisti_status what it came to. Where that isn't PELGAISTI_OK, nothing has changed and
- * nothing was written: no handle, no history, none of the places that the arguments point to; but after ELSEWHERE a call that
- * passes didn't visit may be one that they do, and COPIED closes a handle. The arguments are tested before anything is done, in
- * the order in which a call lists its statuses, and the first test that fails gives the status.
+ * STATUSES. Every call returns a pelgaisti_status. A call tests its arguments first, in the order in which its comment lists the
+ * statuses; the first test that fails gives the status. A status other than PELGAISTI_OK means that nothing has changed and
+ * nothing was written: no handle, no history, no memory that an argument points to. There are two exceptions: a call that
+ * returns ELSEWHERE may put the session's record on the publication list, and COPIED closes the session's handle.
+ *
+ * WHAT IS PROVED. Each export has a contract, which crates/pelgaisti_c states and proves: what PELGAISTI_OK means, which other
+ * statuses the call can return, and what each of these implies. Three parts of this header are tested and not proved:
+ * - NOT_SERVED. Proved: the session has a pending call, and that call is not in the part of the history that the session knows
+ *   (pelgaisti_session_seen counts its entries). So a collect directly after a serve of the same session that returned OK with
+ *   `starved` 0 never returns NOT_SERVED. Tested: a collect finds the answer that another session's pass has written.
+ * - ELSEWHERE. Proved: the office has two sessions or more, and nothing has changed for this session except that its record may
+ *   have been listed. Tested: another session had the lock table at that moment.
+ * - LISTED. Proved: after a pass with `starved` 0 of a session that has heard from this one since (pelgaisti_session_hear), the
+ *   call is in the history. Tested: passes of sessions that have not heard from this one serve the call too.
+ * Nor do contracts say that NO_MEMORY comes only when memory was refused, or COPIED only when a handle was copied or moved.
  */
 #ifndef PELGAISTI_H
 #define PELGAISTI_H
@@ -52,130 +65,131 @@
 extern "C" {
 #endif
 
+/* The result of a call. */
 typedef enum pelgaisti_status {
     PELGAISTI_OK = 0,
     PELGAISTI_NO_MEMORY = 1,       /* memory was refused; the same call may be made again */
     PELGAISTI_CLOSED = 2,          /* the handle is closed */
-    PELGAISTI_NO_SUCH_SESSION = 3, /* the book has no session of this number */
-    PELGAISTI_NO_SUCH_OP = 4,      /* the op is no pelgaisti_op */
-    PELGAISTI_NO_SUCH_LEVEL = 5,   /* the level isn't 1 to PELGAISTI_LEVELS */
-    PELGAISTI_NO_SUCH_MODE = 6,    /* the mode is no pelgaisti_mode */
-    PELGAISTI_OPEN = 7,            /* the handle is open already */
-    PELGAISTI_NO_SUCH_COUNT = 8,   /* a book or an office has 1 to PELGAISTI_MAX_SESSIONS sessions */
-    PELGAISTI_PENDING = 9,         /* the session has a call pending */
-    PELGAISTI_NOTHING_PENDING = 10, /* the session has no call pending */
-    PELGAISTI_NOT_SERVED = 11,     /* the pending call has no answer yet: serve, and collect again */
-    PELGAISTI_RETIRED = 12,        /* the session publishes no more */
-    PELGAISTI_ELSEWHERE = 13,      /* another session is serving: collect, or serve again */
-    PELGAISTI_OTHER_OFFICE = 14,   /* the sessions are of different offices */
-    PELGAISTI_MISSING = 15,        /* not all sessions of the office were handed in */
+    PELGAISTI_NO_SUCH_SESSION = 3, /* the book has no session with this number */
+    PELGAISTI_NO_SUCH_OP = 4,      /* the op is not a pelgaisti_op */
+    PELGAISTI_NO_SUCH_LEVEL = 5,   /* the level is not in 1 to PELGAISTI_LEVELS */
+    PELGAISTI_NO_SUCH_MODE = 6,    /* the mode is not a pelgaisti_mode */
+    PELGAISTI_OPEN = 7,            /* the handle is already open */
+    PELGAISTI_NO_SUCH_COUNT = 8,   /* the number of sessions is not in 1 to PELGAISTI_MAX_SESSIONS */
+    PELGAISTI_PENDING = 9,         /* the session has a pending call */
+    PELGAISTI_NOTHING_PENDING = 10, /* the session has no pending call */
+    PELGAISTI_NOT_SERVED = 11,     /* the session knows no answer to its pending call: serve, and collect again */
+    PELGAISTI_RETIRED = 12,        /* the session has retired and publishes no more calls */
+    PELGAISTI_ELSEWHERE = 13,      /* another session has the lock table: collect, or serve again */
+    PELGAISTI_OTHER_OFFICE = 14,   /* the two sessions belong to different offices */
+    PELGAISTI_MISSING = 15,        /* a session of the office was not handed in */
     PELGAISTI_COPIED = 16,         /* a handle was copied or moved, against the rules above; see pelgaisti_office_close */
-    PELGAISTI_NULL = 17,           /* a pointer is NULL that may not be */
-    PELGAISTI_SAME = 18            /* two handles are one */
+    PELGAISTI_NULL = 17,           /* a pointer is NULL and must not be */
+    PELGAISTI_SAME = 18            /* both arguments are the same handle */
 } pelgaisti_status;
 
-/* The lock modes of Gray, Lorie, Putzolu and Traiger (1976). The bitwise or of two is their least upper bound. */
+/* The lock modes of Gray, Lorie, Putzolu and Traiger (1976). The bitwise or of two codes is their least upper bound's code. */
 typedef enum pelgaisti_mode {
-    PELGAISTI_NL = 0, /* none */
-    PELGAISTI_IS = 1, /* intends to read below */
-    PELGAISTI_IX = 3, /* intends to write below */
-    PELGAISTI_S = 5,  /* reads */
-    PELGAISTI_SIX = 7, /* reads, and intends to write below */
-    PELGAISTI_X = 15  /* writes */
+    PELGAISTI_NL = 0, /* no lock */
+    PELGAISTI_IS = 1, /* intention to read below */
+    PELGAISTI_IX = 3, /* intention to write below */
+    PELGAISTI_S = 5,  /* read */
+    PELGAISTI_SIX = 7, /* read, and intention to write below */
+    PELGAISTI_X = 15  /* write */
 } pelgaisti_mode;
 
-/* What a session asks. LOCK and CONVERT name a resource and a mode, RELEASE a resource; what a call doesn't name isn't read. */
+/* The kinds of calls. LOCK and CONVERT use the call's resource and mode, RELEASE its resource. Other fields are not read. */
 typedef enum pelgaisti_op {
-    PELGAISTI_BEGIN = 1,   /* begin a transaction */
-    PELGAISTI_LOCK = 2,    /* lock a resource in a mode, or raise the mode that is held to cover it */
-    PELGAISTI_CONVERT = 3, /* the same, of a resource that is held */
-    PELGAISTI_POLL = 4,    /* ask how the session stands: clear, waiting, or a deadlock's victim */
-    PELGAISTI_RELEASE = 5, /* give one lock back */
-    PELGAISTI_COMMIT = 6,  /* end the transaction, and give all locks back */
-    PELGAISTI_ABORT = 7    /* the same, also of a transaction that waits or is a victim */
+    PELGAISTI_BEGIN = 1,   /* begins a transaction */
+    PELGAISTI_LOCK = 2,    /* locks a resource in a mode, or raises the mode held there to the least upper bound of both */
+    PELGAISTI_CONVERT = 3, /* like LOCK, for a resource that the transaction holds already */
+    PELGAISTI_POLL = 4,    /* asks for the session's state: clear, waiting, or chosen as a deadlock's victim */
+    PELGAISTI_RELEASE = 5, /* releases one lock */
+    PELGAISTI_COMMIT = 6,  /* ends the transaction and releases all its locks */
+    PELGAISTI_ABORT = 7    /* like COMMIT, also for a transaction that waits or is a victim */
 } pelgaisti_op;
 
-/* What a session is told, and what the value then is. */
+/* The kinds of replies, with the meaning of the reply's value. */
 typedef enum pelgaisti_kind {
-    PELGAISTI_BEGAN = 1,     /* the transaction's number, from 1 on */
-    PELGAISTI_GRANTED = 2,   /* the pelgaisti_mode that is held now */
-    PELGAISTI_WAITING = 3,   /* 0: poll until it is CLEAR, which means granted, or DEADLOCK */
-    PELGAISTI_DEADLOCK = 4,  /* 0: the transaction was chosen as a victim. It keeps its locks: undo, and then abort */
-    PELGAISTI_CLEAR = 5,     /* 0 */
+    PELGAISTI_BEGAN = 1,     /* the transaction's number; the first is 1 */
+    PELGAISTI_GRANTED = 2,   /* the pelgaisti_mode that the session holds now */
+    PELGAISTI_WAITING = 3,   /* 0: poll until the reply is CLEAR, which means granted, or DEADLOCK */
+    PELGAISTI_DEADLOCK = 4,  /* 0: the transaction was chosen as a victim. It keeps its locks: undo, then abort */
+    PELGAISTI_CLEAR = 5,     /* 0: the session waits for nothing */
     PELGAISTI_RELEASED = 6,  /* 0 */
-    PELGAISTI_COMMITTED = 7, /* how many locks were given back */
-    PELGAISTI_ABORTED = 8,   /* how many locks were given back */
+    PELGAISTI_COMMITTED = 7, /* the number of locks that were released */
+    PELGAISTI_ABORTED = 8,   /* the number of locks that were released */
     PELGAISTI_REFUSED = 9    /* a pelgaisti_why */
 } pelgaisti_kind;
 
-/* Why a call was refused: the first test that failed. A refused call stands in the history, and has done nothing else. */
+/* The reason for a refusal: the first test that failed. A refused call is entered into the history and has no other effect. */
 typedef enum pelgaisti_why {
-    PELGAISTI_ALREADY_OPEN = 1,    /* the session has a transaction already */
-    PELGAISTI_NO_TRANSACTION = 2,  /* it has none */
-    PELGAISTI_IS_WAITING = 3,      /* it has a request that waits */
-    PELGAISTI_IS_DOOMED = 4,       /* its transaction is a victim, and can only abort */
+    PELGAISTI_ALREADY_OPEN = 1,    /* the session already has a transaction */
+    PELGAISTI_NO_TRANSACTION = 2,  /* the session has no transaction */
+    PELGAISTI_IS_WAITING = 3,      /* a request of the session waits */
+    PELGAISTI_IS_DOOMED = 4,       /* the transaction is a victim and can only abort */
     PELGAISTI_NOTHING_ASKED = 5,   /* the mode is NL */
-    PELGAISTI_NOT_HELD = 6,        /* the resource isn't held */
-    PELGAISTI_PARENT_NOT_HELD = 7, /* the parent isn't held in a mode that covers what the lock needs of it */
-    PELGAISTI_CHILD_HELD = 8,      /* a resource below is held: locks are given back from leaf to root */
-    PELGAISTI_TOO_MANY_LOCKS = 9   /* the transaction holds PELGAISTI_MAX_LOCKS */
+    PELGAISTI_NOT_HELD = 6,        /* the session does not hold the resource */
+    PELGAISTI_PARENT_NOT_HELD = 7, /* the session does not hold the parent in a mode that the lock needs there */
+    PELGAISTI_CHILD_HELD = 8,      /* the session holds a resource below: locks are released from leaf to root */
+    PELGAISTI_TOO_MANY_LOCKS = 9   /* the transaction holds PELGAISTI_MAX_LOCKS locks */
 } pelgaisti_why;
 
-/* How a call stands that was published. */
+/* Where a published call is. A publication record on the publication list is visited by the passes that walk the list. */
 typedef enum pelgaisti_posted {
-    PELGAISTI_LISTED = 1,  /* each pass visits it */
-    PELGAISTI_UNLISTED = 2 /* passes of its own session alone do, until a try to serve has listed it */
+    PELGAISTI_LISTED = 1,  /* the session's record is on the publication list */
+    PELGAISTI_UNLISTED = 2 /* not yet: only passes of the session itself visit it. Each serve of the session tries to list it */
 } pelgaisti_posted;
 
 #define PELGAISTI_LEVELS 4
 #define PELGAISTI_MAX_SESSIONS 256
 #define PELGAISTI_MAX_LOCKS 4096
 
-/* A node of the lock tree: the first `level` numbers, that of the database first, then of the file, the page, the record. */
+/* A node of the lock tree, by its path from the root: database, file, page, record. The first `level` numbers are the path. */
 typedef struct pelgaisti_resource {
-    uint32_t level; /* 1 to PELGAISTI_LEVELS; 0 where a call names none */
+    uint32_t level; /* 1 to PELGAISTI_LEVELS; 0 in a history entry whose call has no resource */
     uint32_t numbers[PELGAISTI_LEVELS];
 } pelgaisti_resource;
 
-/* What a session asks. */
+/* A call of a session. */
 typedef struct pelgaisti_call {
     uint32_t op;   /* a pelgaisti_op */
-    uint32_t mode; /* a pelgaisti_mode; 0 where a call names none */
+    uint32_t mode; /* a pelgaisti_mode; 0 in a history entry whose call has no mode */
     pelgaisti_resource resource;
 } pelgaisti_call;
 
-/* What a session is told. */
+/* The reply to a call. */
 typedef struct pelgaisti_reply {
     uint32_t kind; /* a pelgaisti_kind */
     uint64_t value;
 } pelgaisti_reply;
 
-/* A session that holds a resource. */
+/* A holder of a resource. */
 typedef struct pelgaisti_holder {
     uint32_t session;
     uint32_t mode; /* a pelgaisti_mode */
 } pelgaisti_holder;
 
-/* A call of a session with its reply. Numbers past the level are 0. */
+/* An entry of the history: a call of a session and its reply. The resource's numbers past its level are 0. */
 typedef struct pelgaisti_entry {
     uint32_t session;
     pelgaisti_call call;
     pelgaisti_reply reply;
 } pelgaisti_entry;
 
-/* The answer to a call that was published. */
+/* The answer to a published call. */
 typedef struct pelgaisti_answer {
-    uint64_t place; /* where the call stands in the history, from 0 on */
+    uint64_t place; /* the index of the call's entry in the history, from 0 */
     pelgaisti_reply reply;
 } pelgaisti_answer;
 
-/* What a pass did. */
+/* The result of a pass. */
 typedef struct pelgaisti_pass {
-    uint32_t served;  /* how many calls it served */
-    uint32_t starved; /* 1 where memory was refused for a call: it and those behind it stay published; else 0 */
+    uint32_t served;  /* the number of calls that the pass served */
+    uint32_t starved; /* 1 if memory was refused for a call: that call and those after it stay published. Otherwise 0 */
 } pelgaisti_pass;
 
-/* The handle of a lock table with its history. */
+/* The handle of a lock table and its history. */
 typedef struct pelgaisti_book {
     uint32_t is_open_;
     void *at_;
@@ -187,10 +201,10 @@ typedef struct pelgaisti_session {
     void *at_;
 } pelgaisti_session;
 
-/* What a handle is before it is opened. */
+/* The initial value of a handle. */
 #define PELGAISTI_EMPTY {0, NULL}
 
-/* ---- A book: the lock table for one thread. ---- */
+/* ---- A book: the lock table for one thread. The line in capitals lists the statuses other than OK. ---- */
 
 /* Opens the handle with an empty lock table for sessions 1 to `sessions`.
    NULL, OPEN, NO_SUCH_COUNT, NO_MEMORY. */
@@ -200,79 +214,82 @@ uint32_t pelgaisti_book_open(pelgaisti_book *book, uint32_t sessions);
    NULL, CLOSED. */
 uint32_t pelgaisti_book_close(pelgaisti_book *book);
 
-/* Serves one call of a session, and writes the reply. The call stands in the history then, also one that is refused.
+/* Serves one call of a session and writes the reply. The call is entered into the history, also if it is refused.
    NULL, CLOSED, NO_SUCH_SESSION, NO_SUCH_OP, NO_SUCH_LEVEL, NO_SUCH_MODE, NO_MEMORY. */
 uint32_t pelgaisti_book_serve(pelgaisti_book *book, uint32_t session, const pelgaisti_call *call, pelgaisti_reply *reply);
 
-/* Writes the mode that the session holds on the resource outright, PELGAISTI_NL where it holds none. What a request waits for
-   is not held.
+/* Writes the mode that the session holds on the resource, or PELGAISTI_NL if it holds none. The mode of a waiting request does
+   not count, nor do locks on ancestors.
    NULL, CLOSED, NO_SUCH_SESSION, NO_SUCH_LEVEL. */
 uint32_t pelgaisti_book_held(pelgaisti_book *book, uint32_t session, const pelgaisti_resource *resource, uint32_t *mode);
 
-/* Writes the holders of the resource to the list, by session number, as many as `room` says, and to `count` how many there are.
-   The list may be NULL where `room` is 0. Asks for `room` places at `list`.
+/* Writes the first `room` holders of the resource to `list`, in the order of session numbers, and the number of all holders to
+   `count`. `list` may be NULL if `room` is 0. Requires `room` elements at `list`.
    NULL, CLOSED, NO_SUCH_LEVEL, NO_MEMORY. */
 uint32_t pelgaisti_book_holders(pelgaisti_book *book, const pelgaisti_resource *resource, pelgaisti_holder *list, size_t room,
                                 size_t *count);
 
-/* Writes how many calls stand in the history.
+/* Writes the number of entries of the history.
    NULL, CLOSED. */
 uint32_t pelgaisti_book_length(pelgaisti_book *book, uint64_t *length);
 
-/* Writes the entries of the history from the place `first` on, oldest first, as many as `room` says and as there are, and to
-   `count` how many it wrote. The entries may be NULL where `room` is 0. Asks for `room` places at `entries`.
+/* Writes up to `room` entries of the history from index `first` on, oldest first, to `entries`, and the number of entries that it
+   wrote to `count`. `entries` may be NULL if `room` is 0. Requires `room` elements at `entries`.
    NULL, CLOSED. */
 uint32_t pelgaisti_book_history(pelgaisti_book *book, uint64_t first, pelgaisti_entry *entries, size_t room, size_t *count);
 
-/* ---- An office: a lock table that threads share, each by sessions of its own. ---- */
+/* ---- An office: a lock table that threads share, each by a session of its own. ---- */
 
-/* Opens `count` handles, which stand side by side, as the sessions of one new office: sessions[0] is session 1, and so on. Asks
-   for `count` handles at `sessions`, and for a mark that no office has that is open. A call by its name has two arguments, and
-   passes the address of the array: so let no other office begin at this handle until this one is closed, also where the session
-   that it held was handed in.
-   NULL, NO_SUCH_COUNT, OPEN (one of them), NO_MEMORY. */
+/* pelgaisti_office_open(sessions, count) opens `count` handles, an array at `sessions`, as the sessions of a new office:
+   sessions[0] is session 1, and so on.
+   The exported function has a third parameter, `mark`, by which pelgaisti_session_hear and pelgaisti_session_hand_in tell offices
+   apart. The call by name passes two arguments, and the macro adds the array's address as the mark. Other callers pass a mark.
+   Requires `count` handles at `sessions`, and a mark that no other open office has. For the call by name this means: while the
+   office is open, open no other office with an array at the same address, not even after sessions[0] was handed in.
+   NULL, NO_SUCH_COUNT, OPEN (one of the handles), NO_MEMORY. */
 uint32_t pelgaisti_office_open(pelgaisti_session *sessions, size_t count, uint64_t mark);
 
-/* Publishes a call of the session, which is pending from then on, until it collects the answer. `posted`, which may be NULL, is
-   a pelgaisti_posted.
+/* Publishes a call. The call is pending until the session collects its answer. Writes a pelgaisti_posted to `posted`, which may
+   be NULL.
    NULL, CLOSED, NO_SUCH_OP, NO_SUCH_LEVEL, NO_SUCH_MODE, RETIRED, PENDING. */
 uint32_t pelgaisti_session_publish(pelgaisti_session *session, const pelgaisti_call *call, uint32_t *posted);
 
-/* One try to serve the calls that are listed, of all sessions, and the session's own. Whether the session has one pending is of
-   no matter. `pass` may be NULL.
+/* Tries once to take the lock table, without blocking, and if that succeeds, makes a pass: serves the calls on the publication
+   list, of all sessions, and the session's own pending call if there is one. `pass` may be NULL.
    NULL, CLOSED, ELSEWHERE. */
 uint32_t pelgaisti_session_serve(pelgaisti_session *session, pelgaisti_pass *pass);
 
-/* Takes the answer to the call that is pending: once, where it was served.
+/* Takes the answer to the session's pending call, which is then no longer pending.
    NULL, CLOSED, NOTHING_PENDING, NOT_SERVED. */
 uint32_t pelgaisti_session_collect(pelgaisti_session *session, pelgaisti_answer *answer);
 
-/* Writes how many entries of the history the session knows, from the first on. The number never falls.
+/* Writes the number of history entries that the session knows. These are the first ones. The number never decreases.
    NULL, CLOSED. */
 uint32_t pelgaisti_session_seen(pelgaisti_session *session, uint64_t *seen);
 
-/* The session learns what the other knows: what it publishes from then on stands in the history behind all that the other had
-   seen. The other learns nothing. It is a call on both handles. Asks that sessions with one mark are of one office, as they are
-   where each open office has a mark of its own and no handle was copied or moved.
-   NULL, SAME, CLOSED (one of them), OTHER_OFFICE. */
+/* Makes all that `other` knows of the history known to `session`: what `session` publishes from then on is entered into the
+   history after every entry that `other` has seen. `other` learns nothing. The call uses both handles.
+   Requires that sessions with the same mark belong to the same office. This holds if each open office has a mark of its own and
+   no handle was copied or moved.
+   NULL, SAME, CLOSED (one of the handles), OTHER_OFFICE. */
 uint32_t pelgaisti_session_hear(pelgaisti_session *session, pelgaisti_session *other);
 
-/* The session publishes no more. Its transaction and its locks stay as they are.
+/* Retires the session: it publishes no more calls. Its transaction and its locks stay as they are.
    NULL, CLOSED, RETIRED, PENDING. */
 uint32_t pelgaisti_session_retire(pelgaisti_session *session);
 
-/* Hands the session in to another one of its office, with all that were handed in to it, and closes its handle. It is a call on
-   both handles. Asks what pelgaisti_session_hear asks.
-   NULL, SAME, CLOSED (one of them), OTHER_OFFICE, PENDING (the one that is handed in), NO_MEMORY. */
+/* Hands the session, with all sessions that were handed in to it, in to another session of its office, and closes its handle.
+   The call uses both handles. Requires what pelgaisti_session_hear requires.
+   NULL, SAME, CLOSED (one of the handles), OTHER_OFFICE, PENDING (`session`), NO_MEMORY. */
 uint32_t pelgaisti_session_hand_in(pelgaisti_session *session, pelgaisti_session *to);
 
-/* Closes the office of the session, to which all others were handed in: its handle is closed, and the book is opened with the
-   lock table and the whole history. COPIED comes only where a handle was copied or moved, and alone of all statuses closes the
-   session.
+/* Closes the office of `session`, to which all other sessions of the office were handed in. Closes the handle of `session`, and
+   opens `book` with the lock table and the whole history. COPIED means that a handle was copied or moved. It is the only status
+   other than OK that closes `session`.
    NULL, OPEN (the book), CLOSED (the session), MISSING, PENDING, NO_MEMORY, COPIED. */
 uint32_t pelgaisti_office_close(pelgaisti_session *session, pelgaisti_book *book);
 
-/* ---- The tests for NULL, and for SAME: each name above, as a call, is one of the functions below. ---- */
+/* ---- The tests for NULL and for SAME: a call by name is a macro for one of these functions. ---- */
 
 static inline uint32_t pelgaisti_tested_book_open(pelgaisti_book *book, uint32_t sessions) {
     return book ? pelgaisti_book_open(book, sessions) : (uint32_t)PELGAISTI_NULL;

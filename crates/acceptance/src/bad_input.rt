@@ -1,25 +1,26 @@
-//! Input that is no trace: each fault names its row, and nothing is written.
+//! Malformed traces: `replay` reports the first faulty row with its fault, and writes no history.
 
-use crate::running::{run_words, want_bytes, want_errors, want_output, want_status};
+use crate::harness::{run_words, want_bytes, want_errors, want_output, want_status};
 use std::process::Abort;
 use std::sync::Wait;
 use std::test::Fail;
 use std::thread::Threads;
 
-/// Replays each trace, and wants the line beside it, and nothing written.
+/// Replays each trace, and expects status 1, the error line beside it, and no output.
 fn want_faults(
     rt: &(impl AllocGlobal + Threads + Wait),
     abort: &impl Abort,
     traces: &[(&str, &str)],
 ) -> Result<(), Fail> {
-    for (trace, told) in traces {
-        want_errors(rt, abort, ["replay"].as_slice(), trace, 1, told)?;
+    for (trace, line) in traces {
+        want_errors(rt, abort, ["replay"].as_slice(), trace, 1, line)?;
     }
     Ok(())
 }
 
+/// Faults of shape, session, op, mode and extra fields: the first test that a row fails is reported.
 #[test]
-fn bad_rows_are_named(rt: HostRuntime) -> Result<(), Fail> {
+fn a_faulty_row_is_reported_with_its_number(rt: HostRuntime) -> Result<(), Fail> {
     want_faults(
         &rt,
         &rt,
@@ -53,8 +54,9 @@ fn bad_rows_are_named(rt: HostRuntime) -> Result<(), Fail> {
     )
 }
 
+/// Faults of the resource, each reported by its name.
 #[test]
-fn bad_resources_are_named(rt: HostRuntime) -> Result<(), Fail> {
+fn a_faulty_resource_is_reported_with_its_fault(rt: HostRuntime) -> Result<(), Fail> {
     want_faults(
         &rt,
         &rt,
@@ -76,19 +78,21 @@ fn bad_resources_are_named(rt: HostRuntime) -> Result<(), Fail> {
     )
 }
 
+/// A byte that isn't UTF-8 is reported like any other character that is no digit.
 #[test]
-fn bytes_that_are_no_text_are_no_number(rt: HostRuntime) -> Result<(), Fail> {
+fn invalid_utf8_in_a_resource_is_not_a_number(rt: HostRuntime) -> Result<(), Fail> {
     let words = ["replay"];
     let trace = b"1,begin,,\n1,lock,\xff,S\n".as_slice();
     let ran = run_words(&rt, &words, trace)?;
     want_status(&rt, &words, "", &ran, 1);
-    let told = b"glm: row 2: Path NotANumber\n".as_slice();
-    want_bytes(&rt, &words, "", &ran.errors, told);
+    let line = b"glm: row 2: Path NotANumber\n".as_slice();
+    want_bytes(&rt, &words, "", &ran.errors, line);
     Ok(())
 }
 
+/// LF, CRLF, blank lines, a missing last line end and quoted fields give the same history.
 #[test]
-fn line_ends_and_quotes_are_those_of_csv(rt: HostRuntime) -> Result<(), Fail> {
+fn csv_line_ends_and_quotes_are_read(rt: HostRuntime) -> Result<(), Fail> {
     let history = "0,1,begin,,,began,1\n1,1,commit,,,committed,0\n";
     for trace in [
         "1,begin,,\n1,commit,,\n",

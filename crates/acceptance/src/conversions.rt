@@ -1,10 +1,10 @@
-//! Conversions, polls and aborts: traces with the histories that were worked out for them by hand.
+//! Conversions, polls and aborts: traces with their histories, worked out by hand.
 
-use crate::running::want_histories;
+use crate::harness::want_histories;
 use std::test::Fail;
 
-// The target of a conversion is the least mode at or above what is held and what is asked. One that is held already
-// changes nothing.
+/// A conversion asks for the least upper bound of the held and the requested mode. If this mode is held already, nothing
+/// changes.
 const LEAST_UPPER_BOUNDS: (&str, &str) = (
     "1,begin,,
 1,lock,1,IX
@@ -24,6 +24,7 @@ const LEAST_UPPER_BOUNDS: (&str, &str) = (
 ",
 );
 
+/// A conversion to a stronger mode needs the parent in the matching intention mode.
 const PARENTS_OF_CONVERSIONS: (&str, &str) = (
     "1,begin,,
 1,lock,1,IS
@@ -45,7 +46,7 @@ const PARENTS_OF_CONVERSIONS: (&str, &str) = (
 ",
 );
 
-// A conversion is granted wherever it fits, whatever waits.
+/// A conversion that is compatible with the other holders is granted past a waiting request.
 const CONVERSION_PAST_A_WRITER: (&str, &str) = (
     "1,begin,,
 2,begin,,
@@ -67,7 +68,8 @@ const CONVERSION_PAST_A_WRITER: (&str, &str) = (
 ",
 );
 
-// Session 4 waits first, and then 2 and 1 for conversions. SIX of 2 fits beside IS of 1, and S of 1 not beside SIX.
+/// Session 4 waits first, then sessions 2 and 1 wait for conversions. Conversions are granted first, in order of arrival:
+/// SIX of session 2 is compatible with IS of session 1, but S of session 1 isn't compatible with SIX.
 const CONVERSIONS_BY_ARRIVAL: (&str, &str) = (
     "1,begin,,
 2,begin,,
@@ -107,6 +109,7 @@ const CONVERSIONS_BY_ARRIVAL: (&str, &str) = (
 ",
 );
 
+/// A writer waits for a reader, and is granted when the reader commits.
 const WRITER_AFTER_A_READER: (&str, &str) = (
     "1,begin,,
 2,begin,,
@@ -124,7 +127,7 @@ const WRITER_AFTER_A_READER: (&str, &str) = (
 ",
 );
 
-// A reader that came after a writer waits behind it, and is granted once the writer is gone.
+/// A reader that arrives after a waiting writer queues behind it, and is granted when the writer commits.
 const READER_BEHIND_A_WRITER: (&str, &str) = (
     "4,begin,,
 5,begin,,
@@ -154,7 +157,7 @@ const READER_BEHIND_A_WRITER: (&str, &str) = (
 ",
 );
 
-// A session that waits can't commit, but it can abort. What waited behind it is promoted.
+/// A waiting session can't commit, but can abort. The request queued behind it is then promoted.
 const ABORT_OF_A_WAITING_WRITER: (&str, &str) = (
     "9,begin,,
 9,lock,4,S
@@ -178,7 +181,7 @@ const ABORT_OF_A_WAITING_WRITER: (&str, &str) = (
 ",
 );
 
-// The first test that a call fails is told.
+/// A refusal names the first test that the call fails.
 const REFUSED_IN_ORDER: (&str, &str) = (
     "1,convert,1,NL
 1,poll,,
@@ -212,8 +215,8 @@ const REFUSED_IN_ORDER: (&str, &str) = (
 ",
 );
 
-// A conversion that doesn't fit waits ahead of a writer that came before it; `books.rt` asks what is held then. This
-// pair is also the example `conversions.csv`.
+/// A conversion that conflicts with a holder queues ahead of a writer that arrived earlier. This pair is also the example
+/// `conversions.csv`. The crate `desk_tests` tests which modes are held meanwhile.
 const EXAMPLE: (&str, &str) = (
     "1,begin,,
 2,begin,,
@@ -247,8 +250,9 @@ const EXAMPLE: (&str, &str) = (
 ",
 );
 
+/// Conversions: their targets, their parents, and their place in the queue.
 #[test]
-fn conversions_give_their_histories(rt: HostRuntime) -> Result<(), Fail> {
+fn conversions_replay_to_their_histories(rt: HostRuntime) -> Result<(), Fail> {
     want_histories(
         &rt,
         &rt,
@@ -262,8 +266,9 @@ fn conversions_give_their_histories(rt: HostRuntime) -> Result<(), Fail> {
     )
 }
 
+/// Waiting, polling, aborting while waiting, and the order of refusals.
 #[test]
-fn polls_and_aborts_give_their_histories(rt: HostRuntime) -> Result<(), Fail> {
+fn polls_and_aborts_replay_to_their_histories(rt: HostRuntime) -> Result<(), Fail> {
     want_histories(
         &rt,
         &rt,

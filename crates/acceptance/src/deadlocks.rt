@@ -1,9 +1,9 @@
-//! Deadlocks: traces with the histories that were worked out for them by hand.
+//! Deadlocks: traces with their histories, worked out by hand.
 
-use crate::running::want_histories;
+use crate::harness::want_histories;
 use std::test::Fail;
 
-// Two readers want to write: the younger one is told at once, and the older one goes on once it has aborted.
+/// Two readers convert to X: the younger one is the victim at once, and the older one is granted when the victim aborts.
 const CONVERSIONS_AGAINST_EACH_OTHER: (&str, &str) = (
     "1,begin,,
 2,begin,,
@@ -27,7 +27,8 @@ const CONVERSIONS_AGAINST_EACH_OTHER: (&str, &str) = (
 ",
 );
 
-// The victim is the youngest, not the asker. It keeps its locks, and can only poll and abort.
+/// The victim is the youngest on the cycle, not the session whose request closed the cycle. It keeps its locks, and can only
+/// poll and abort.
 const VICTIM_IS_NOT_THE_ASKER: (&str, &str) = (
     "1,begin,,
 2,begin,,
@@ -63,7 +64,7 @@ const VICTIM_IS_NOT_THE_ASKER: (&str, &str) = (
 ",
 );
 
-// Two circles go through the asker: both others become victims, the younger one first.
+/// A request closes two cycles: both other sessions become victims.
 const TWO_VICTIMS: (&str, &str) = (
     "1,begin,,
 2,begin,,
@@ -107,7 +108,7 @@ const TWO_VICTIMS: (&str, &str) = (
 ",
 );
 
-// The end of the victim's request grants that of the asker.
+/// The victim's request leaves the queue, so that the request that closed the cycle is granted at once.
 const VICTIM_MAKES_ROOM: (&str, &str) = (
     "1,begin,,
 2,begin,,
@@ -133,7 +134,7 @@ const VICTIM_MAKES_ROOM: (&str, &str) = (
 ",
 );
 
-// Two that hold a database to read below it want to write all of it.
+/// Two holders of IS on a database both convert to X.
 const PARENTS_IN_A_CIRCLE: (&str, &str) = (
     "1,begin,,
 2,begin,,
@@ -157,7 +158,7 @@ const PARENTS_IN_A_CIRCLE: (&str, &str) = (
 ",
 );
 
-// A circle goes through a place in a queue.
+/// A cycle through a wait for an earlier request in the same queue.
 const CIRCLE_THROUGH_A_PLACE: (&str, &str) = (
     "1,begin,,
 2,begin,,
@@ -191,8 +192,9 @@ const CIRCLE_THROUGH_A_PLACE: (&str, &str) = (
 ",
 );
 
+/// Victims are chosen, keep their locks until they abort, and let the others go on.
 #[test]
-fn deadlocks_give_their_histories(rt: HostRuntime) -> Result<(), Fail> {
+fn deadlocks_replay_to_their_histories(rt: HostRuntime) -> Result<(), Fail> {
     want_histories(
         &rt,
         &rt,

@@ -1,4 +1,4 @@
-//! What README begins with: a storage engine that keeps its files and pages behind a book.
+//! A storage engine that locks its files and pages in a book; README begins with this code.
 
 ghost use Rattle.std.specs.Prelude.{◌≡◌, ◌≤◌};
 
@@ -6,23 +6,23 @@ use lock_desk::{Book, Call, Mode, NoMemory, Reply, Resource};
 use std::process::Abort;
 use std::test::Fail;
 
-// What a session does once it is told how its request stands.
-fn settle(book: &mut Book, session: u16, told: Reply) -> Result<Reply, NoMemory>
+/// Reacts to the reply to a session's request: waits, aborts as a victim, or commits.
+fn settle(book: &mut Book, session: u16, reply: Reply) -> Result<Reply, NoMemory>
     requires some { 1 ≤ session }
     requires within { session ≤ book.old.sessions }
     ensures { book.new.sessions ≡ book.old.sessions }
 {
-    match told {
-        // others go on, and the session polls again later
-        Reply::Waiting => Ok(told),
-        // here the engine undoes what the transaction wrote: its locks are held until it aborts
+    match reply {
+        // other sessions go on, and this session polls again later
+        Reply::Waiting => Ok(reply),
+        // here the engine undoes what the transaction wrote; the locks are held until the abort
         Reply::Deadlock => book.serve(session, Call::Abort),
-        // Granted, or Clear after a wait: the page can be written
+        // Granted, or Clear after a wait: the engine can write the page
         _ => book.serve(session, Call::Commit),
     }
 }
 
-// The page of a file of database 1 is locked to be written.
+/// Begins a transaction and locks a page of database 1 for writing. Returns the reply to the page's lock.
 fn lock_page(book: &mut Book, session: u16) -> Result<Reply, Fail>
     requires some { 1 ≤ session }
     requires within { session ≤ book.old.sessions }
@@ -34,45 +34,46 @@ fn lock_page(book: &mut Book, session: u16) -> Result<Reply, Fail>
     book.serve(session, Call::Begin)?;
     book.serve(session, Call::Lock(database, Mode::IX))?;
     book.serve(session, Call::Lock(file, Mode::IX))?;
-    let told = book.serve(session, Call::Lock(page, Mode::X))?;
-    Ok(told)
+    let reply = book.serve(session, Call::Lock(page, Mode::X))?;
+    Ok(reply)
 }
 
-// The session was told how its request stands, as is wanted here, and settles it with this reply.
+/// Expects `reply` to be `expected`, and the reply to the call that `settle` makes to be `ended`.
 fn want_settled(
     rt: &impl Abort,
     book: &mut Book,
     session: u16,
-    told: Reply,
-    stands: Reply,
+    reply: Reply,
+    expected: Reply,
     ended: Reply,
 ) -> Result<(), Fail>
     requires some { 1 ≤ session }
     requires within { session ≤ book.old.sessions }
     ensures { book.new.sessions ≡ book.old.sessions }
 {
-    assert_eq!(rt; told, stands);
-    assert_eq!(rt; settle(book, session, told)?, ended);
+    assert_eq!(rt; reply, expected);
+    assert_eq!(rt; settle(book, session, reply)?, ended);
     Ok(())
 }
 
-// The session locks the page, and commits.
+/// Locks the page and commits.
 fn write_page(rt: &impl Abort, book: &mut Book, session: u16) -> Result<(), Fail>
     requires some { 1 ≤ session }
     requires within { session ≤ book.old.sessions }
 {
-    let told = lock_page(book, session)?;
+    let reply = lock_page(book, session)?;
     let granted = Reply::Granted(Mode::X);
-    want_settled(rt, book, session, told, granted, Reply::Committed(3))
+    want_settled(rt, book, session, reply, granted, Reply::Committed(3))
 }
 
+/// A session locks database, file and page, and its commit releases the three locks.
 #[test]
 fn an_engine_writes_a_page(rt: HostRuntime) -> Result<(), Fail> {
     let mut book = Book::new(rt.alloc(), 2)?;
     write_page(&rt, &mut book, 1)
 }
 
-// A transaction begins, and holds this database.
+/// Begins a transaction and locks the database in X.
 fn begin_with(book: &mut Book, session: u16, database: Resource) -> Result<(), Fail>
     requires some { 1 ≤ session }
     requires within { session ≤ book.old.sessions }
@@ -83,33 +84,34 @@ fn begin_with(book: &mut Book, session: u16, database: Resource) -> Result<(), F
     Ok(())
 }
 
-// The session asks for the database, and waits.
+/// Requests the database in S, and expects to wait.
 fn wait_for(rt: &impl Abort, book: &mut Book, session: u16, database: Resource) -> Result<(), Fail>
     requires some { 1 ≤ session }
     requires within { session ≤ book.old.sessions }
     ensures { book.new.sessions ≡ book.old.sessions }
 {
-    let told = book.serve(session, Call::Lock(database, Mode::S))?;
-    want_settled(rt, book, session, told, Reply::Waiting, Reply::Waiting)
+    let reply = book.serve(session, Call::Lock(database, Mode::S))?;
+    want_settled(rt, book, session, reply, Reply::Waiting, Reply::Waiting)
 }
 
-// The session polls, is told this, and ends its transaction with this reply.
+/// Polls, and expects the reply `expected`, and `ended` from the call that ends the transaction.
 fn poll(
     rt: &impl Abort,
     book: &mut Book,
     session: u16,
-    stands: Reply,
+    expected: Reply,
     ended: Reply,
 ) -> Result<(), Fail>
     requires some { 1 ≤ session }
     requires within { session ≤ book.old.sessions }
     ensures { book.new.sessions ≡ book.old.sessions }
 {
-    let told = book.serve(session, Call::Poll)?;
-    want_settled(rt, book, session, told, stands, ended)
+    let reply = book.serve(session, Call::Poll)?;
+    want_settled(rt, book, session, reply, expected, ended)
 }
 
-// Session 2 began first. It holds one database and asks for that of session 1, which is the younger one of the circle.
+/// Sessions 1 and 2 each hold one database and request the other's. Session 2 began first, so session 1 is the younger one
+/// on the cycle and the victim.
 fn meet(rt: &impl Abort, book: &mut Book) -> Result<(), Fail>
     requires { 2 ≤ book.old.sessions }
 {
@@ -123,6 +125,7 @@ fn meet(rt: &impl Abort, book: &mut Book) -> Result<(), Fail>
     poll(rt, book, 2, Reply::Clear, Reply::Committed(2))
 }
 
+/// The victim aborts, and the other session is granted its lock and commits.
 #[test]
 fn an_engine_waits_and_is_a_victim(rt: HostRuntime) -> Result<(), Fail> {
     let mut book = Book::new(rt.alloc(), 2)?;

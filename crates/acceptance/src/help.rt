@@ -1,6 +1,6 @@
-//! What the program says of itself, and of words that it doesn't take.
+//! The version, the help texts, and the message for a badly written number.
 
-use crate::running::{run_words, want_bytes, want_errors, want_output, want_status};
+use crate::harness::{run_words, want_bytes, want_errors, want_output, want_status};
 use glm::{VERSION, VERSION_TEXT};
 use std::process::Abort;
 use std::str;
@@ -8,8 +8,9 @@ use std::sync::Wait;
 use std::test::Fail;
 use std::thread::Threads;
 
+/// Both version options write the version text with status 0.
 #[test]
-fn the_version_goes_to_the_output(rt: HostRuntime) -> Result<(), Fail> {
+fn the_version_is_written_to_the_output(rt: HostRuntime) -> Result<(), Fail> {
     let version = "glm 0.7.0\nproved with rattle-kit-13b, logic dac8208d650f15bf\n";
     for words in [["--version"].as_slice(), ["-V"].as_slice()] {
         want_output(&rt, &rt, words, "", version)?;
@@ -19,26 +20,27 @@ fn the_version_goes_to_the_output(rt: HostRuntime) -> Result<(), Fail> {
     Ok(())
 }
 
+/// A number with a leading zero or a plus sign is a usage error, for each option and command that is tried.
 #[test]
-fn numbers_have_no_sign_and_no_zero_before_them(rt: HostRuntime) -> Result<(), Fail> {
-    let told =
+fn option_numbers_have_no_sign_and_no_leading_zero(rt: HostRuntime) -> Result<(), Fail> {
+    let message =
         "error: a number is written with digits alone, with no sign and no zero before it\n\nFor more information, try '--help'.\n";
     for words in [
         ["replay", "--sessions", "01"].as_slice(),
         ["check", "--sessions=+1"].as_slice(),
         ["run", "--turns", "010"].as_slice(),
     ] {
-        want_errors(&rt, &rt, words, "", 2, told)?;
+        want_errors(&rt, &rt, words, "", 2, message)?;
     }
     Ok(())
 }
 
-/// Wants the help on these words to have this in it.
+/// Expects the help text for these words to contain `part`.
 fn want_part(abort: &impl Abort, words: &[&str], text: &str, part: &str) {
     assert!(abort; text.contains(part), "{words:?} {part}");
 }
 
-/// Wants the help on these words to tell of this row, of the standard input, and of a status.
+/// Expects the help text for these words to mention this row, the standard input and a status. Fails if it isn't UTF-8.
 fn want_parts(abort: &impl Abort, words: &[&str], written: &[u8], row: &str) -> Result<(), Fail> {
     let text = str::from_utf8(written).map_err(|_| "no text")?;
     for part in ["standard input", row, "\n  4  memory was refused\n"] {
@@ -47,7 +49,7 @@ fn want_parts(abort: &impl Abort, words: &[&str], written: &[u8], row: &str) -> 
     Ok(())
 }
 
-/// Wants the words to end with status 0 and with help that tells of this row, and no errors.
+/// Expects the words to end with status 0, no errors, and help that mentions this row.
 fn want_help(
     rt: &(impl AllocGlobal + Threads + Wait),
     abort: &impl Abort,
@@ -60,8 +62,9 @@ fn want_help(
     want_parts(abort, words, &ran.output, row)
 }
 
+/// Every command's help shows a row of its format, and the exit statuses.
 #[test]
-fn help_tells_of_rows_and_statuses(rt: HostRuntime) -> Result<(), Fail> {
+fn help_shows_rows_and_statuses(rt: HostRuntime) -> Result<(), Fail> {
     for (words, row) in [
         (["replay", "--help"].as_slice(), "1,convert,1/2,X"),
         (["run", "--help"].as_slice(), "1,lock,1/2,S"),

@@ -4,30 +4,30 @@
 #[cfg(test)]
 mod bad_input;
 #[cfg(test)]
-mod checks;
+mod call_gates;
+#[cfg(test)]
+mod check_command;
+#[cfg(test)]
+mod command_line;
 #[cfg(test)]
 mod conversions;
 #[cfg(test)]
 mod deadlocks;
 #[cfg(test)]
-mod devices;
-#[cfg(test)]
 mod engine;
 #[cfg(test)]
-mod examples;
-#[cfg(test)]
-mod gates;
+mod harness;
 #[cfg(test)]
 mod help;
 #[cfg(test)]
-mod numbers;
+mod history_checks;
 #[cfg(test)]
-mod running;
+mod io_faults;
 #[cfg(test)]
-mod runs;
+mod limits;
 #[cfg(test)]
-mod sessions;
+mod other_sessions;
 #[cfg(test)]
-mod usage;
+mod replays;
 #[cfg(test)]
-mod verdicts;
+mod threaded_runs;

@@ -3,19 +3,20 @@ use Rattle.std.proofs.Common.{◌≡◌, ℕ, zero, suc, ◌+◌, Option, None, 
 use Rattle.std.specs.List.{All}
 use Rattle.std.proofs.lemmas.List.Elements.{All-push}
 use Rattle.lock_rules.specs.declared.calls.Call.{Call}
-use Rattle.publication.specs.Views.{Placed, Known}
+use Rattle.publication.specs.Views.{BoardView, TicketView}
 use Rattle.publication.specs.Boards.{new_ticket, new_tickets}
 use Rattle.combining.specs.Sessions.{IsSessionOf, IsIdle}
 
--- where nothing was opened, nothing stands at any number
+-- A list of `None` has `None` at every index, and beyond its end.
 none_opened : (n j : ℕ) → get_or {A = Option Call} (replicate n None) j None ≡ None
 none_opened zero j = refl
 none_opened (suc n) zero = refl
 none_opened (suc n) (suc j) = none_opened n j
 
-pub new_sessions_idle : (office : Placed) (sessions k : ℕ) → All (λ session. IsSessionOf office session × IsIdle session) (new_tickets office.id sessions k)
+-- New sessions are their office's, and idle.
+pub new_sessions_idle : (office : BoardView) (sessions k : ℕ) → All (λ session. IsSessionOf office session × IsIdle session) (new_tickets office.id sessions k)
 new_sessions_idle office sessions zero = λ k d h. absurd (omega arith)
 new_sessions_idle office sessions (suc k) =
-    All-push (λ (session : Known). IsSessionOf office session × IsIdle session) (new_tickets office.id sessions k) (new_ticket office.id sessions (suc k))
+    All-push (λ (session : TicketView). IsSessionOf office session × IsIdle session) (new_tickets office.id sessions k) (new_ticket office.id sessions (suc k))
     (new_sessions_idle office sessions k)
     (record { ours = refl; no_book = refl; none = none_opened (sessions + 1); no_walk = refl; live = λ pending. refl }, (refl, refl))

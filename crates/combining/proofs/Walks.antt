@@ -1,13 +1,13 @@
--- A walk along its route: what is ahead, and what was visited.
+-- A walk along its route: the records ahead, and those visited.
 use Rattle.std.proofs.Common.{◌≡◌, ◌≢◌, inl, inr, ⊎_elim, ℕ, ◌<◌, Bool, cond, Option, Some, List, [], ◌∷◌, length, refl, sym, ap, ◌∙◌, subst, arith, eq-eqb, ne_eqb}
 use mathlib.Core.Logic.{dite}
 use native.Mathlib.Decide.{ℕ_discrete}
-use Rattle.publication.specs.Views.{Known}
+use Rattle.publication.specs.Views.{TicketView}
 use Rattle.publication.specs.List.{IsOn, AreApart, first_of, behind}
 use Rattle.publication.proofs.Routes.{on_behind}
-use Rattle.combining.specs.Passes.{IsVisited, ahead, IsNext, HasMet}
+use Rattle.combining.specs.inner.Passes.{IsVisited, ahead, IsNext, HasMet}
 
--- what follows the first record, and any other
+-- The records behind the first record, and behind any other.
 behind-first : (x : ℕ) (xs : List ℕ) → behind x (x ∷ xs) ≡ xs
 behind-first x xs = ap (λ (b : Bool). cond b xs (behind x xs)) (eq-eqb x x refl)
 
@@ -25,7 +25,7 @@ behind-next q b (x ∷ xs) ys apart is = dite (ℕ_discrete q x)
     let ne : b ≢ x = λ z. apart.0 (subst (λ (n : ℕ). IsOn n xs) z on) in
     behind-other b x xs ne ∙ behind-next q b xs ys apart.1 later)
 
--- behind a record that was visited the rest is ahead
+-- After a record was visited, the records behind it are ahead.
 pub ahead-next : (q : ℕ) (route : List ℕ) → AreApart route → ahead (first_of (behind q route)) route ≡ behind q route
 ahead-next q route apart = by_rest (behind q route) refl
   where
@@ -33,6 +33,7 @@ ahead-next q route apart = by_rest (behind q route) refl
     by_rest [] e = refl
     by_rest (b ∷ ys) e = ap (λ (r : List ℕ). b ∷ r) (behind-next q b route ys apart e)
 
+-- The record behind q on a route is on the route.
 pub next-on : (q : ℕ) (route : List ℕ) → IsNext (first_of (behind q route)) route
 next-on q route = by_rest (behind q route) (λ p on. on_behind p q route on)
   where
@@ -40,13 +41,15 @@ next-on q route = by_rest (behind q route) (λ p on. on_behind p q route on)
     by_rest [] all = tt
     by_rest (b ∷ ys) all = all b (inl refl)
 
-pub met-next : (q : ℕ) (t u : Known) → AreApart t.route → u.route ≡ t.route → ((j : ℕ) → IsVisited j t → IsVisited j u) → IsVisited q u → HasMet (Some q) t → HasMet (first_of (behind q t.route)) u
+-- Visiting record q takes the walk on to the record behind it.
+pub met-next : (q : ℕ) (t u : TicketView) → AreApart t.route → u.route ≡ t.route → ((j : ℕ) → IsVisited j t → IsVisited j u) → IsVisited q u → HasMet (Some q) t → HasMet (first_of (behind q t.route)) u
 met-next q t u apart same later here met j on =
     let rest : ahead (first_of (behind q t.route)) u.route ≡ behind q t.route = ap (λ (r : List ℕ). ahead (first_of (behind q t.route)) r) same ∙ ahead-next q t.route apart in
     ⊎_elim (λ front. ⊎_elim (λ (e : j ≡ q). inr (subst (λ (n : ℕ). IsVisited n u) (sym e) here))
     (λ more. inl (subst (λ (l : List ℕ). IsOn j l) (sym rest) more)) front)
     (λ v. inr (later j v)) (met j (subst (λ (r : List ℕ). IsOn j r) same on))
 
+-- With each record visited, fewer records are ahead.
 pub ahead-smaller : (next later : Option ℕ) (route after : List ℕ) (q : ℕ) → AreApart route → next ≡ Some q → later ≡ first_of (behind q route) → after ≡ route
     → length (ahead later after) < length (ahead next route)
 ahead-smaller next later route after q apart is next_is same =

@@ -1,3 +1,5 @@
+-- What public contracts cite.
 pub mod Sessions
 pub mod Closed
-pub mod Passes
+-- What only private contracts cite.
+pub mod inner

@@ -7,38 +7,40 @@ use Rattle.lock_rules.specs.declared.calls.Call.{Call}
 use Rattle.lock_rules.specs.declared.calls.Reply.{Reply}
 use Rattle.lock_rules.specs.declared.calls.Entry.{Entry}
 use Rattle.lock_rules.specs.Legal.{IsLegal, calls_of}
-use Rattle.publication.specs.Views.{Placed, Known, entry, answer, asks}
+use Rattle.publication.specs.Views.{BoardView, TicketView, entry, answer, asks}
 use Rattle.publication.specs.Boards.{IsOf, OpensNone, enlisted}
 
--- the session is of this office, and isn't in the middle of a pass
-pub record IsSessionOf (office : Placed) (session : Known) : Type 0 where
+-- The session is of this office and isn't the combiner: it has no record opened, and no walk begun.
+pub record IsSessionOf (office : BoardView) (session : TicketView) : Type 0 where
   pub ours : IsOf office session
   pub no_book : session.has_book ≡ false
   pub none : OpensNone session
   pub no_walk : session.route ≡ []
-  -- a session that has a call pending still publishes
+  -- a session with a call pending hasn't retired
   pub live : session.pending ≢ None → session.retired ≡ false
 
--- nothing is published that isn't collected, and the session may publish
-abbrev pub IsIdle : Known → Type 0
+-- The session has no call pending and may publish one.
+abbrev pub IsIdle : TicketView → Type 0
 IsIdle session = (session.pending ≡ None) × (session.retired ≡ false)
 
--- all that the session published is collected
-abbrev pub HasNothingPending : Known → Type 0
+-- The session has collected all the calls that it published.
+abbrev pub HasNothingPending : TicketView → Type 0
 HasNothingPending session = session.pending ≡ None
 
--- the pending call stands in the history that the session knows: there it has one call more than it collected
-abbrev pub IsPendingServed : Known → Type 0
+-- The pending call is in the history that the session knows, which has one call of the session more than it
+-- collected.
+abbrev pub IsPendingServed : TicketView → Type 0
 IsPendingServed session = length session.collected < length (calls_of session.number session.front)
 
--- the session has tried to have its pending call listed: nothing has changed, or the call wasn't listed and is now
-abbrev pub HasTried : Known → Known → Type 0
-HasTried before after = (after ≡ before) ⊎ ((before.pending ≢ None) × (before.listed ≡ false) × (after ≡ enlisted before))
+-- Nothing changed, or the session's unlisted pending call became listed.
+abbrev pub MayHaveListed : TicketView → TicketView → Type 0
+MayHaveListed before after = (after ≡ before) ⊎ ((before.pending ≢ None) × (before.listed ≡ false) × (after ≡ enlisted before))
 
--- a pass of the session, which has tried to have its pending call listed first: it knows what other passes entered into the history since, and then what this one did
-pub record IsPassed (before after : Known) (served : ℕ) : Type 0 where
-  pub tried : Known
-  pub is_tried : HasTried before tried
+-- A pass by the session. Its pending call may have become listed first. It then knows the entries added before this
+-- pass, followed by those that this pass added, `served` of them.
+pub record IsPassed (before after : TicketView) (served : ℕ) : Type 0 where
+  pub tried : TicketView
+  pub is_tried : MayHaveListed before tried
   pub session : after ≡ record tried { front = after.front }
   pub others : List Entry
   pub own : List Entry
@@ -46,8 +48,8 @@ pub record IsPassed (before after : Known) (served : ℕ) : Type 0 where
   pub count : length own ≡ served
   pub legal : IsLegal after.front
 
--- the session collects the answer to its pending call, which is the entry at this place of the history
-pub record IsCollected (before after : Known) (place : ℕ) (reply : Reply) : Type 0 where
+-- The session collects the answer to its pending call, which is the history's entry at this place.
+pub record IsCollected (before after : TicketView) (place : ℕ) (reply : Reply) : Type 0 where
   pub call : Call
   pub floor : ℕ
   pub pending : before.pending ≡ Some (asks call floor)
@@ -60,7 +62,7 @@ pub record IsCollected (before after : Known) (place : ℕ) (reply : Reply) : Ty
   pub longer : IsPrefix before.front after.front
   pub known : length after.front ≡ max (length before.front) (place + 1)
   pub stands : get_elem? after.front place ≡ opt.some (entry before.number call reply)
-  -- the call was entered after it was published
+  -- the entry's place is not below the number of entries that the session knew when it published the call
   pub late : floor ≤ place
-  -- and of its calls the history has those that it collected, no others
+  -- the session's calls in the known history are those that it collected
   pub calls : calls_of before.number after.front ≡ after.collected

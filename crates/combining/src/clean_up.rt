@@ -1,4 +1,5 @@
-//! Ages of publication records, and the clean-up: a record that no pass has served for a while is taken off the publication list.
+//! The ages of publication records, and the clean-up: a record that no pass has served for a while is taken off the
+//! publication list.
 
 ghost use Rattle.std.specs.Prelude.{◌≡◌, ◌≤◌, ◌<◌, ◌+◌, true, Some, length, vec_len, All};
 ghost use Rattle.lock_desk.specs.Batches.{IsItemWithin};
@@ -9,10 +10,11 @@ ghost use Rattle.publication.specs.Kinds.{IsRoute};
 use lock_desk::Item;
 use publication::{Board, Ticket};
 
-/// The list is cleaned up every so many passes. A record that was last served more passes ago is taken off.
+/// The clean-up runs every `PASSES_KEPT` passes, and takes off the records that were last served more than
+/// `PASSES_KEPT` passes ago.
 const PASSES_KEPT: u64 = 64;
 
-/// Notes at each session that a pass served the count of that pass.
+/// Sets the age of each session that a pass served to the number of that pass.
 pub(crate) fn note_served(ages: &mut Vec<u64>, served: &[Item], passes: u64)
     requires within { All (IsItemWithin (vec_len ages.old)) served.now }
     ensures ages { vec_len ages.new ≡ vec_len ages.old }
@@ -22,16 +24,22 @@ pub(crate) fn note_served(ages: &mut Vec<u64>, served: &[Item], passes: u64)
     }
 }
 
-/// Whether the record was last served more than `PASSES_KEPT` passes ago.
+/// Whether record `whose` was last served more than `PASSES_KEPT` passes ago.
 fn is_unused(ages: &[u64], whose: u16, passes: u64) -> bool
     requires whose { (0 < whose) × (whose ≤ length ages.now) }
 {
     ages[usize::from(whose) - 1].saturating_add(PASSES_KEPT) < passes
 }
 
-/// Takes the record behind this one off the list, where it is unused and nothing is published there: the record behind which the walk
-/// goes on.
-fn pass_by(board: &Board, session: &mut Ticket, before: u16, whose: u16, unused: bool) -> u16
+/// Takes the record `whose`, behind `before`, off the publication list if it is `unused` and no call is pending in
+/// it. Returns the record behind which the walk goes on.
+fn unlink_if_unused(
+    board: &Board,
+    session: &mut Ticket,
+    before: u16,
+    whose: u16,
+    unused: bool,
+) -> u16
     requires ours { IsOf board.now session.old × (session.old.has_book ≡ true) }
     requires before { IsNumber board.now before × IsOn before session.old.route }
     requires whose { IsNumber board.now whose × (first_of (behind before session.old.route) ≡ Some whose) }
@@ -46,7 +54,8 @@ fn pass_by(board: &Board, session: &mut Ticket, before: u16, whose: u16, unused:
     whose
 }
 
-/// Walks the list once, where it is time, and takes each record off it that is unused, but for the first one.
+/// Every `PASSES_KEPT` passes, walks the publication list once and takes off each unused record except the first,
+/// which can't be taken off.
 pub(crate) fn clean_up(board: &Board, session: &mut Ticket, ages: &[u64], passes: u64)
     requires ours { IsOf board.now session.old × (session.old.has_book ≡ true) }
     requires ages { length ages.now ≡ board.now.sessions }
@@ -62,7 +71,7 @@ pub(crate) fn clean_up(board: &Board, session: &mut Ticket, ages: &[u64], passes
     let mut next = board.walk(session, Some(before));
     while let Some(whose) = next {
         let unused = is_unused(ages, whose, passes);
-        before = pass_by(board, session, before, whose, unused);
+        before = unlink_if_unused(board, session, before, whose, unused);
         next = board.walk(session, Some(before));
     }
 }

@@ -1,6 +1,8 @@
-//! The office: a lock table that threads share. A session publishes a call in a record of its own; whichever session wins
-//! the lock table is the combiner, and serves the calls of all (flat combining, after Hendler, Incze, Shavit and Tzafrir
-//! 2010). No call blocks or waits for another thread, and nothing is claimed of progress, fairness or speed.
+//! The office: a lock table that threads share. Each session publishes a call in a record of its own. The session
+//! that wins the lock table is the combiner and serves the published calls of all sessions (flat combining: Hendler,
+//! Incze, Shavit and Tzafrir 2010).
+//!
+//! Every call returns without waiting for another thread. Nothing is claimed of progress, fairness or speed.
 #![tactic(auto)]
 
 mod clean_up;

@@ -6,7 +6,7 @@ ghost use mathlib.Core.List.{IsPrefix};
 ghost use Rattle.lock_rules.specs.Legal.{IsLegal, calls_of};
 ghost use Rattle.publication.specs.Kinds.{longer, maxes};
 ghost use Rattle.publication.specs.Boards.{heard_from, published_by, publishing, enlisted, new_tickets, IsEachOnce};
-ghost use Rattle.combining.specs.Sessions.{IsSessionOf, IsIdle, HasNothingPending, IsPendingServed, HasTried, IsPassed, IsCollected};
+ghost use Rattle.combining.specs.Sessions.{IsSessionOf, IsIdle, HasNothingPending, IsPendingServed, MayHaveListed, IsPassed, IsCollected};
 ghost use Rattle.combining.specs.Closed.{IsClosed};
 
 use crate::pass::serve_published;
@@ -20,10 +20,10 @@ use thiserror::Error;
 /// Why an office was not opened.
 #[derive(Clone, Copy, Debug, PartialEq, Eq, Error, Drop)]
 pub enum OpenFault {
-    /// No session was asked for.
+    /// `sessions` was 0.
     #[error("no sessions")]
     NoSessions = 1,
-    /// More than `MAX_SESSIONS` were asked for.
+    /// `sessions` was above `MAX_SESSIONS`.
     #[error("too many sessions")]
     TooManySessions = 2,
     /// Memory was refused.
@@ -31,42 +31,46 @@ pub enum OpenFault {
     NoMemory = 3,
 }
 
-/// What one try to serve came to.
+/// The outcome of one call of `serve`.
 #[derive(Clone, Copy, Debug, PartialEq, Eq)]
 pub enum Turn {
-    /// The lock table was with another session.
+    /// The session did not become the combiner, because another session had the lock table. Proved is that the office
+    /// has more than one session; that another one had the lock table is tested, not proved.
     Elsewhere,
-    /// This session was the combiner.
+    /// The session was the combiner and made a pass.
     Pass {
         /// How many calls it served.
         served: u32,
-        /// Whether memory was refused for a call. That call and those behind it in the pass stay published.
+        /// Whether calls stay published because memory was refused for one: that call, and those behind it in the
+        /// pass. What `false` implies is proved (clauses `own` and `heard` of `serve`). That `true` means refused
+        /// memory is tested, not proved.
         starved: bool,
     },
 }
 
-/// The answer to a call that was published.
+/// The answer to a published call.
 #[derive(Clone, Copy, Debug, PartialEq, Eq)]
 pub struct Answer {
-    /// Where the call stands in the history, from 0 on.
+    /// The place of the call's entry in the history, from 0 on.
     pub place: u64,
-    /// What the session is told.
+    /// The reply to the call.
     pub reply: Reply,
 }
 
 /// A lock table that threads share by reference, each with sessions of its own.
 ///
-/// A session publishes a call, then tries to serve and to collect until the answer is there. All answers stand in one
-/// history, in which each reply is the one that the sequential lock manager of `lock_rules` gives at its place.
+/// A session publishes a call, then alternates `serve` and `collect` until it gets the answer. All answers belong to
+/// one history, in which each reply is the one that the sequential lock manager of `lock_rules` gives at its place.
 #[derive(Drop)]
 pub struct Office {
+    /// The board of publication records, which has the lock table.
     board: Board,
 }
 
 impl Model for Office {
-    ghost use Rattle.publication.specs.Views.{Placed};
+    ghost use Rattle.publication.specs.Views.{BoardView};
 
-    ghost Value = { Placed };
+    ghost Value = { BoardView };
 
     ghost use Rattle.combining.specs.declared.office.Office.TheInside.{Inside};
 
@@ -74,8 +78,8 @@ impl Model for Office {
 }
 
 impl Office {
-    /// An office with an empty lock table, and its sessions 1 to `sessions` in order, all idle. No call takes memory but
-    /// this one and `serve`.
+    /// Opens an office with an empty lock table, and returns it with its sessions 1 to `sessions` in order, all idle.
+    /// Only this call and `serve` take memory.
     pub fn open(alloc: Global, sessions: u16) -> Result<(Office, Vec<Session>), OpenFault>
         ensures none { (result ≡ Err OpenFault.NoSessions) ↔ (sessions ≡ 0) }
         ensures many { (result ≡ Err OpenFault.TooManySessions) ↔ (MAX_SESSIONS < sessions) }
@@ -98,9 +102,9 @@ impl Office {
         }
     }
 
-    /// The session publishes a call, and is pending until it collects the answer. `Listed`: passes visit its record. `Unlisted`: an exchange of
-    /// the publication list's head was lost to another session; each `serve` of the session tries once more, and a pass of its own visits its
-    /// record in any case.
+    /// Publishes a call. The session is pending until it collects the answer. `Listed`: passes of every session visit
+    /// its record. `Unlisted`: another session won the exchange of the publication list's head. Each `serve` of the
+    /// session then tries the exchange once more, and a pass of its own visits its record in any case.
     pub fn publish(&self, session: &mut Session, call: Call) -> Posted
         requires ours { IsSessionOf self.now session.old }
         requires idle { IsIdle session.old }
@@ -112,11 +116,11 @@ impl Office {
         self.board.post(session, call)
     }
 
-    // One more try to have a pending call listed that isn't.
+    /// Tries once to have the session's pending call listed, if it has one that isn't.
     fn enlist(&self, session: &mut Session)
         requires ours { IsSessionOf self.now session.old }
         ensures ours { IsSessionOf self.now session.new }
-        ensures tried { HasTried session.old session.new }
+        ensures tried { MayHaveListed session.old session.new }
         ensures heard { (j : _) → heard_from session.old j ≤ heard_from session.new j }
     {
         if session.is_unlisted() {
@@ -124,16 +128,17 @@ impl Office {
         }
     }
 
-    /// One try to become the combiner, and a pass where it is won: all that is listed is served, and the session's own call, until memory
-    /// is refused for a call. Whether the session is pending is of no matter; where its call isn't listed, one more try is made to have it
-    /// listed first.
+    /// Tries once to become the combiner, and if it does, makes a pass: serves every listed call and the session's
+    /// own, until memory is refused for a call. The session need not be pending. If its call isn't listed, it first
+    /// tries once to have it listed.
     ///
-    /// Commits, aborts and releases are served before the other calls, each part in the order of the publication list, and its own
-    /// call last where it isn't on it: what gives locks back makes room for what asks for them (this project's choice).
+    /// Commits, aborts and releases are served before the other calls, because locks given back make room for
+    /// requests (this project's choice). Both groups are served in the order of the publication list, with the
+    /// session's own call last in its group if its record isn't on the list.
     pub fn serve(&self, session: &mut Session) -> Turn
         requires ours { IsSessionOf self.now session.old }
         ensures ours { IsSessionOf self.now session.new }
-        ensures elsewhere { result ≡ Turn.Elsewhere → HasTried session.old session.new × (1 < self.now.sessions) }
+        ensures elsewhere { result ≡ Turn.Elsewhere → MayHaveListed session.old session.new × (1 < self.now.sessions) }
         ensures pass { (served : _) (starved : _) → result ≡ Turn.Pass served starved → IsPassed session.old session.new served }
         ensures own { (served : _) → result ≡ Turn.Pass served false → session.old.pending ≢ None → IsPendingServed session.new }
         ensures heard { (served j : _) → result ≡ Turn.Pass served false → 0 < j → j ≤ self.now.sessions
@@ -151,7 +156,8 @@ impl Office {
         }
     }
 
-    /// Takes the answer to the call that the session published, once it is served: each answer once.
+    /// Takes the answer to the session's published call; each answer is taken once. `None`, with nothing changed,
+    /// means that the session isn't pending, or that its call isn't in what the session knows of the history.
     pub fn collect(&self, session: &mut Session) -> Option<Answer>
         requires ours { IsSessionOf self.now session.old }
         ensures ours { IsSessionOf self.now session.new }
@@ -164,9 +170,9 @@ impl Office {
         Some(Answer { place, reply })
     }
 
-    /// The first session learns what the other knows: the longer of their fronts of the history, of which the other is a front,
-    /// and of each session the larger number of calls that it heard of. The other learns nothing. What the session publishes
-    /// from then on stands in the history behind all that the other knew.
+    /// Lets `session` learn what `other` knows: the longer of their fronts of the history, one of which begins the
+    /// other, and for each session the larger number of calls that either has heard of. `other` learns nothing. What
+    /// `session` publishes from then on gets a place behind all that `other` knew.
     pub fn hear(&self, session: &mut Session, other: &mut Session)
         requires ours { IsSessionOf self.now session.old × IsSessionOf self.now other.old }
         ensures ours { IsSessionOf self.now session.new × IsSessionOf self.now other.new }
@@ -182,7 +188,7 @@ impl Office {
         self.board.hear(session, other);
     }
 
-    /// The session publishes no more, from now on. Its transaction and its locks stay as they are.
+    /// Retires the session: it publishes no more calls. Its transaction and its locks stay as they are.
     pub fn retire(&self, session: &mut Session)
         requires ours { IsSessionOf self.now session.old }
         requires idle { IsIdle session.old }
@@ -192,9 +198,10 @@ impl Office {
         self.board.retire(session);
     }
 
-    /// Closes the office: the lock table with the whole history, where the vector holds each session of the office once, in any
-    /// order, and none is pending. Otherwise everything comes back, the sessions in their order: `Missing` where the vector isn't
-    /// that, else `Unsettled`. It takes no memory. What the history then is, `laws::closed_offices_have_one_history` says.
+    /// Closes the office and returns the lock table with the whole history. Needs each session of the office exactly
+    /// once, in any order, and none pending. Otherwise it returns the office and the sessions, in their order: with
+    /// `Missing` if the vector doesn't hold each session once, else with `Unsettled`. It takes no memory.
+    /// `laws::closed_offices_have_one_history` says what the history then is.
     pub fn close(self, sessions: Vec<Session>) -> Result<Book, (CloseFault, Office, Vec<Session>)>
         requires ours { All (IsSessionOf self) sessions.items }
         ensures ok { IfOk result (λ book. IsClosed self sessions.items book) }
@@ -205,7 +212,7 @@ impl Office {
         let Office { board } = self;
         match board.gather(sessions) {
             Ok(book) => {
-                // what the book tells of its history: whose calls are in it
+                // reading the history shows that every entry is of a session of the book
                 let _length = book.history().len();
                 Ok(book)
             }

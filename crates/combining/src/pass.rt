@@ -1,4 +1,5 @@
-//! A pass: the combiner walks the publication list, opens the records where a call is posted, performs the calls and answers them.
+//! A pass of the combiner: it walks the publication list, opens the records in which calls are posted, performs the
+//! calls and answers them.
 
 ghost use Rattle.std.specs.Prelude.{◌≡◌, ◌≢◌, ◌+◌, ◌<◌, ◌≤◌, [], true, false, Some, None, length, take, drop, vec_len, vec_capacity, All};
 ghost use mathlib.Core.List.{IsPrefix};
@@ -6,28 +7,28 @@ ghost use Rattle.lock_rules.specs.Legal.{IsLegal, calls_of};
 ghost use Rattle.lock_desk.specs.Batches.{IsItemWithin};
 ghost use Rattle.publication.specs.Boards.{IsOf, IsNumber, OpensNone, heard_from, published_by};
 ghost use Rattle.publication.specs.Rule.{IsHome};
-ghost use Rattle.combining.specs.Passes.{AreOpened, HasCalls, KeepsCalls, IsVisited, HasVisitedOpened, IsSameSession, IsBookInHand};
+ghost use Rattle.combining.specs.inner.Passes.{AreOpened, HasCalls, KeepsCalls, IsVisited, HasVisitedOpened, IsSameSession, IsBookInHand};
 
 use crate::clean_up::{clean_up, note_served};
 use lock_desk::{Book, Call, Item};
 use publication::{Board, Load, Ticket};
 
-/// What a pass came to.
+/// The outcome of a pass.
 #[derive(Drop)]
 pub(crate) struct Pass {
     /// How many calls it served.
     pub served: u32,
-    /// Whether memory was refused for one.
+    /// Whether it put calls back, because memory was refused for one.
     pub starved: bool,
 }
 
-/// Whether the call gives locks back. Such calls are served before the others, since they make room.
+/// Whether the call releases locks. Such calls are served before the others, because they make room for requests.
 fn gives_locks_back(call: &Call) -> bool {
     matches!(call, Call::Release(_) | Call::Commit | Call::Abort)
 }
 
-/// Opens one record, where a call is posted, and gives it an item in the row: behind the items before it that give locks
-/// back, where it does too, and otherwise at the end.
+/// Opens record `whose` if a call is posted there, and inserts an item for it into the row: after the first `givers`
+/// items, which release locks, if this call does too; else at the end.
 fn open_record(
     board: &Board,
     session: &mut Ticket,
@@ -65,7 +66,7 @@ fn open_record(
     }
 }
 
-/// Walks the publication list from its head to the end mark, and opens the records where a call is posted.
+/// Walks the publication list from the head word to the end mark, and opens each record in which a call is posted.
 fn open_listed(board: &Board, session: &mut Ticket, row: &mut Vec<Item>, givers: &mut usize)
     requires ours { IsOf board.now session.old × (session.old.has_book ≡ true) }
     requires none { OpensNone session.old }
@@ -85,7 +86,7 @@ fn open_listed(board: &Board, session: &mut Ticket, row: &mut Vec<Item>, givers:
     }
 }
 
-/// Visits the records on the publication list and its own in any case, and opens those where a call is posted.
+/// Visits the records on the publication list and then the combiner's own, and opens each in which a call is posted.
 fn open_records(board: &Board, session: &mut Ticket, row: &mut Vec<Item>)
     requires ours { IsOf board.now session.old × (session.old.has_book ≡ true) }
     requires number { IsNumber board.now session.old.number }
@@ -98,14 +99,14 @@ fn open_records(board: &Board, session: &mut Ticket, row: &mut Vec<Item>)
     ensures heard { (j : _) → 0 < j → j ≤ board.now.sessions → HasCalls (heard_from session.old j) j session.new }
     ensures own { session.old.pending ≢ None → HasCalls (published_by session.old) session.old.number session.new }
 {
-    // the number of sessions fits into 16 bits, so the row has fewer calls than a u32 counts
+    // the number of sessions fits into 16 bits, so a u32 counts the calls of the row
     let _sessions = board.sessions();
     let mut givers = 0;
     open_listed(board, session, row, &mut givers);
     open_record(board, session, row, &mut givers, session.number());
 }
 
-/// Answers the first calls of the row, in their order, each with the reply in its item: those that are performed.
+/// Answers the first `served` calls of the row, in order, each with the reply in its item.
 fn answer_row(board: &Board, session: &mut Ticket, book: &Book, row: &[Item], served: usize)
     requires ours { IsOf board.now session.old × (session.old.has_book ≡ true) }
     requires served { served ≤ length row.now }
@@ -129,8 +130,8 @@ fn answer_row(board: &Board, session: &mut Ticket, book: &Book, row: &[Item], se
     }
 }
 
-/// Performs the calls of the row as one batch, until memory is refused for one, and then answers those that it performed, in
-/// their order: how many they are. Until then the book is ahead of the history.
+/// Performs the calls of the row as one batch, until memory is refused for one, and then answers those that were
+/// performed, in order. Returns how many there were. In between, the book is ahead of the history.
 fn serve_row(board: &Board, session: &mut Ticket, book: &mut Book, row: &mut Vec<Item>) -> usize
     requires ours { IsOf board.now session.old × (session.old.has_book ≡ true) }
     requires book { IsBookInHand board.now.sessions book.old session.old [] }
@@ -150,7 +151,7 @@ fn serve_row(board: &Board, session: &mut Ticket, book: &mut Book, row: &mut Vec
     served
 }
 
-/// Puts the calls of the row back into their records, none of which was performed.
+/// Puts the calls of these items, which were not performed, back into their records.
 fn put_back_row(board: &Board, session: &mut Ticket, row: &[Item])
     requires ours { IsOf board.now session.old × (session.old.has_book ≡ true) }
     requires row { AreOpened board.now.sessions session.old.opened row.now }
@@ -162,7 +163,7 @@ fn put_back_row(board: &Board, session: &mut Ticket, row: &[Item])
     }
 }
 
-/// A whole pass of a combiner that has the load, and leaves it as it should go home.
+/// Runs a whole pass for a combiner that has the load, and leaves the load fit to be given back.
 pub(crate) fn serve_published(board: &Board, session: &mut Ticket, load: &mut Load) -> Pass
     requires ours { IsOf board.now session.old × (session.old.has_book ≡ true) × OpensNone session.old }
     requires number { IsNumber board.now session.old.number }

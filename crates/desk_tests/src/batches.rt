@@ -1,4 +1,4 @@
-//! What a book answers to a batch: calls in their order, and runs of locks that are granted at once.
+//! The call `Book::serve_batch`: calls are served in order, and runs of compatible locks are granted together.
 
 ghost use Rattle.std.specs.Prelude.{◌≡◌, true};
 ghost use Rattle.std.specs.List.{All};
@@ -10,6 +10,7 @@ use std::alloc::Global;
 use std::process::Abort;
 use std::test::Fail;
 
+/// Returns an item of a batch, without a reply.
 fn item(session: u16, call: Call) -> Item {
     Item {
         session,
@@ -18,7 +19,7 @@ fn item(session: u16, call: Call) -> Item {
     }
 }
 
-/// Room for so many items, asked for once more where memory was refused.
+/// Returns an empty vector with room for `count` items. Tries a second time if memory is refused.
 fn room_for(alloc: Global, count: usize) -> Result<Vec<Item>, NoMemory> {
     match Vec::with_capacity(alloc, count) {
         Ok(items) => Ok(items),
@@ -26,6 +27,7 @@ fn room_for(alloc: Global, count: usize) -> Result<Vec<Item>, NoMemory> {
     }
 }
 
+/// Whether the session of each item is from 1 to `sessions`.
 fn is_within(items: &[Item], sessions: u16) -> bool
     ensures { result ≡ true → All (IsItemWithin sessions) items.now }
 {
@@ -37,7 +39,7 @@ fn is_within(items: &[Item], sessions: u16) -> bool
     true
 }
 
-/// Serves the items, and what is left of them once more where memory was refused.
+/// Serves the items, and tries the rest a second time if memory is refused. Returns the number of served items.
 fn serve_batch(rt: &impl Abort, book: &mut Book, items: &mut [Item]) -> usize {
     assert!(rt; is_within(items, book.sessions()));
     let served = book.serve_batch(items);
@@ -46,6 +48,7 @@ fn serve_batch(rt: &impl Abort, book: &mut Book, items: &mut [Item]) -> usize {
     served + book.serve_batch(rest)
 }
 
+/// The history that the batch must give.
 const BATCH: &str = "0,1,begin,,,began,1
 1,2,begin,,,began,2
 2,1,lock,1,X,granted,X
@@ -54,7 +57,7 @@ const BATCH: &str = "0,1,begin,,,began,1
 5,2,poll,,,clear,
 ";
 
-/// Serves calls as a batch: they have these replies, and stand in the history with them.
+/// Serves the items as a batch, and expects their replies and the history to be those of the entries.
 fn want_batch(rt: &impl Abort, book: &mut Book, items: &mut [Item], entries: &[Entry]) {
     assert_eq!(rt; serve_batch(rt, book, items), entries.len());
     for (item, entry) in items.iter().zip(entries) {
@@ -63,8 +66,9 @@ fn want_batch(rt: &impl Abort, book: &mut Book, items: &mut [Item], entries: &[E
     assert_eq!(rt; book.history(), entries);
 }
 
+/// A batch with a wait and a promotion gives the replies and the history of its calls in order.
 #[test]
-fn a_batch_is_served_in_its_order(rt: HostRuntime) -> Result<(), Fail> {
+fn a_batch_is_served_in_order(rt: HostRuntime) -> Result<(), Fail> {
     let entries = wanted(rt.alloc(), BATCH)?;
     let one = resource(1)?;
     let mut items = [
@@ -80,7 +84,7 @@ fn a_batch_is_served_in_its_order(rt: HostRuntime) -> Result<(), Fail> {
     Ok(())
 }
 
-/// A transaction of each session begins.
+/// Begins a transaction in each session.
 fn begin_all(rt: &impl Abort, book: &mut Book) -> Result<(), NoMemory> {
     let sessions = book.sessions();
     for session in 1..sessions + 1 {
@@ -89,7 +93,7 @@ fn begin_all(rt: &impl Abort, book: &mut Book) -> Result<(), NoMemory> {
     Ok(())
 }
 
-/// 32 sessions lock database 1 in IS, and the next one in S.
+/// Returns locks of database 1: 32 sessions in IS, and the next one in S.
 fn shared_locks(alloc: Global) -> Result<Vec<Item>, Fail> {
     let one = resource(1)?;
     let mut items = room_for(alloc, 33)?;
@@ -100,7 +104,7 @@ fn shared_locks(alloc: Global) -> Result<Vec<Item>, Fail> {
     Ok(items)
 }
 
-/// Serves locks as a batch: each is granted the mode that it asks for.
+/// Serves locks as a batch, and expects each to be granted its mode.
 fn want_granted(rt: &impl Abort, book: &mut Book, items: &mut [Item]) {
     assert_eq!(rt; serve_batch(rt, book, items), items.len());
     for item in items {
@@ -112,7 +116,7 @@ fn want_granted(rt: &impl Abort, book: &mut Book, items: &mut [Item]) {
     }
 }
 
-/// Serves calls as a batch: they have these replies.
+/// Serves calls as a batch, and expects these replies.
 fn want_replies(rt: &impl Abort, book: &mut Book, items: &mut [Item], replies: &[Reply]) {
     assert_eq!(rt; serve_batch(rt, book, items), replies.len());
     for (item, reply) in items.iter().zip(replies) {
@@ -120,7 +124,7 @@ fn want_replies(rt: &impl Abort, book: &mut Book, items: &mut [Item], replies: &
     }
 }
 
-/// Behind a request that waits no run is granted.
+/// Expects a compatible lock to wait behind a waiting request in the same batch.
 fn late_locks_wait(rt: &impl Abort, book: &mut Book) -> Result<(), Fail> {
     let one = resource(1)?;
     let mut items = [
@@ -131,7 +135,7 @@ fn late_locks_wait(rt: &impl Abort, book: &mut Book) -> Result<(), Fail> {
     Ok(())
 }
 
-/// Nor is a run whose modes conflict with one another.
+/// Expects only the first lock to be granted if the modes of a batch conflict.
 fn conflicting_locks_wait(rt: &impl Abort, book: &mut Book) -> Result<(), Fail> {
     let two = resource(2)?;
     let mut items = [
@@ -144,7 +148,7 @@ fn conflicting_locks_wait(rt: &impl Abort, book: &mut Book) -> Result<(), Fail> 
     Ok(())
 }
 
-/// Locks of distinct sessions are granted in one go where their modes go together, and wait where they don't.
+/// Begins all transactions and checks batches of compatible locks, of locks behind a waiting one, and of conflicting locks.
 fn want_runs(rt: &impl Abort, alloc: Global, book: &mut Book) -> Result<(), Fail> {
     begin_all(rt, book)?;
     let mut items = shared_locks(alloc)?;
@@ -153,13 +157,14 @@ fn want_runs(rt: &impl Abort, alloc: Global, book: &mut Book) -> Result<(), Fail
     conflicting_locks_wait(rt, book)
 }
 
+/// 33 compatible locks of distinct sessions are granted; locks that conflict or come behind a waiting one wait.
 #[test]
-fn a_run_of_locks_is_granted_where_its_modes_go_together(rt: HostRuntime) -> Result<(), Fail> {
+fn a_run_of_compatible_locks_is_granted(rt: HostRuntime) -> Result<(), Fail> {
     let mut book = new_book(&rt, rt.alloc(), 40)?;
     want_runs(&rt, rt.alloc(), &mut book)
 }
 
-/// The next number of a fixed sequence, in which the high bits look like chance.
+/// Returns the next number of a linear congruential generator, below 2^31.
 fn next(seed: &mut u64) -> u64 {
     *seed = seed
         .wrapping_mul(6_364_136_223_846_793_005)
@@ -167,7 +172,8 @@ fn next(seed: &mut u64) -> u64 {
     *seed >> 33
 }
 
-fn mode_by_chance(seed: &mut u64) -> Mode {
+/// Returns a random mode, IS in five of eight cases.
+fn random_mode(seed: &mut u64) -> Mode {
     match next(seed) % 8 {
         0 => Mode::X,
         1 => Mode::S,
@@ -176,8 +182,8 @@ fn mode_by_chance(seed: &mut u64) -> Mode {
     }
 }
 
-/// Most of them are locks on one of two databases, so that runs come of themselves.
-fn call_by_chance(seed: &mut u64) -> Result<Call, Fail> {
+/// Returns a random call. Most calls are locks of one of two databases, so that there are runs of locks.
+fn random_call(seed: &mut u64) -> Result<Call, Fail> {
     let number = 1 + (next(seed) % 2) as u32;
     let database = resource(number)?;
     Ok(match next(seed) % 16 {
@@ -186,22 +192,22 @@ fn call_by_chance(seed: &mut u64) -> Result<Call, Fail> {
         3 => Call::Commit,
         4 => Call::Abort,
         5 => Call::Release(database),
-        _ => Call::Lock(database, mode_by_chance(seed)),
+        _ => Call::Lock(database, random_mode(seed)),
     })
 }
 
-/// 64 calls, of 40 sessions.
-fn calls_by_chance(alloc: Global, seed: &mut u64) -> Result<Vec<Item>, Fail> {
+/// Returns 64 random calls of 40 sessions.
+fn random_calls(alloc: Global, seed: &mut u64) -> Result<Vec<Item>, Fail> {
     let mut items = room_for(alloc, 64)?;
     for _call in 0..64 {
         let session = 1 + (next(seed) % 40) as u16;
-        let call = call_by_chance(seed)?;
+        let call = random_call(seed)?;
         items.push(item(session, call))?;
     }
     Ok(items)
 }
 
-/// Serves the calls of the items one by one: they have the replies that stand there.
+/// Serves the calls of the items one by one, and expects the replies that the items have.
 fn want_one_by_one(rt: &impl Abort, book: &mut Book, items: &[Item]) -> Result<(), NoMemory> {
     for item in items {
         let reply = serve(rt, book, item.session, item.call)?;
@@ -210,8 +216,8 @@ fn want_one_by_one(rt: &impl Abort, book: &mut Book, items: &[Item]) -> Result<(
     Ok(())
 }
 
-/// One book serves calls as a batch, the other one by one.
-fn want_alike(
+/// Serves the items as a batch in one book and one by one in the other, and expects equal replies and histories.
+fn want_same_replies(
     rt: &impl Abort,
     batches: &mut Book,
     singles: &mut Book,
@@ -223,8 +229,8 @@ fn want_alike(
     Ok(())
 }
 
-/// Both books are asked the same calls by chance, some at a time.
-fn want_alike_by_chance(
+/// Serves 16 batches of the same random calls in both books.
+fn want_same_replies_at_random(
     rt: &impl Abort,
     alloc: Global,
     batches: &mut Book,
@@ -232,22 +238,27 @@ fn want_alike_by_chance(
 ) -> Result<(), Fail> {
     let mut seed = 20_261_123;
     for _batch in 0..16 {
-        let mut items = calls_by_chance(alloc, &mut seed)?;
-        want_alike(rt, batches, singles, &mut items)?;
+        let mut items = random_calls(alloc, &mut seed)?;
+        want_same_replies(rt, batches, singles, &mut items)?;
     }
     Ok(())
 }
 
-/// The book is asked beside another one of as many sessions.
-fn want_alike_beside(rt: &impl Abort, alloc: Global, batches: &mut Book) -> Result<(), Fail> {
+/// Compares the book with a fresh one of 40 sessions.
+fn want_same_replies_beside(
+    rt: &impl Abort,
+    alloc: Global,
+    batches: &mut Book,
+) -> Result<(), Fail> {
     let mut singles = new_book(rt, alloc, 40)?;
-    want_alike_by_chance(rt, alloc, batches, &mut singles)
+    want_same_replies_at_random(rt, alloc, batches, &mut singles)
 }
 
+/// A batch is its calls in order: replies and history are those of a book that serves the calls one by one.
 #[test]
-fn calls_by_chance_are_served_as_a_batch_as_they_are_one_by_one(
+fn random_calls_get_the_same_replies_in_batches_and_one_by_one(
     rt: HostRuntime,
 ) -> Result<(), Fail> {
     let mut batches = new_book(&rt, rt.alloc(), 40)?;
-    want_alike_beside(&rt, rt.alloc(), &mut batches)
+    want_same_replies_beside(&rt, rt.alloc(), &mut batches)
 }

@@ -1,5 +1,5 @@
-//! What a book answers, call by call. A call that finds no memory is made again, so that each test may also be run with
-//! each of its allocations refused in turn.
+//! The replies of a book, call by call. A call that is refused memory is made a second time, so that each test also passes if
+//! any one of its allocations is refused.
 
 use lock_desk::{Book, Call, Entry, Mode, NoMemory, Reply, Resource, Why};
 use lock_trace::{TraceFault, read_history};
@@ -7,16 +7,19 @@ use std::alloc::Global;
 use std::process::Abort;
 use std::test::Fail;
 
+/// Returns the database with this number.
 pub(crate) fn resource(number: u32) -> Result<Resource, Fail> {
     let resource = Resource::from_numbers(&[number]).ok_or("no resource")?;
     Ok(resource)
 }
 
-fn below(numbers: &[u32]) -> Result<Resource, Fail> {
+/// Returns the resource with these numbers.
+fn resource_at(numbers: &[u32]) -> Result<Resource, Fail> {
     let resource = Resource::from_numbers(numbers).ok_or("no resource")?;
     Ok(resource)
 }
 
+/// Returns a new book. Tries a second time if memory is refused.
 pub(crate) fn new_book(rt: &impl Abort, alloc: Global, sessions: u16) -> Result<Book, NoMemory> {
     assert!(rt; sessions >= 1);
     assert!(rt; sessions <= 256);
@@ -26,6 +29,7 @@ pub(crate) fn new_book(rt: &impl Abort, alloc: Global, sessions: u16) -> Result<
     }
 }
 
+/// Serves a call of one of the book's sessions.
 fn serve_once(
     rt: &impl Abort,
     book: &mut Book,
@@ -37,7 +41,7 @@ fn serve_once(
     book.serve(session, call)
 }
 
-/// Serves the call, and once more where memory was refused: the history is then as before.
+/// Serves a call, and tries a second time if memory is refused; the history must then be unchanged.
 pub(crate) fn serve(
     rt: &impl Abort,
     book: &mut Book,
@@ -55,6 +59,7 @@ pub(crate) fn serve(
     }
 }
 
+/// Serves the calls of the entries, and expects their replies.
 fn serve_all(rt: &impl Abort, book: &mut Book, entries: &[Entry]) -> Result<(), NoMemory> {
     for entry in entries {
         let reply = serve(rt, book, entry.session, entry.call)?;
@@ -63,7 +68,7 @@ fn serve_all(rt: &impl Abort, book: &mut Book, entries: &[Entry]) -> Result<(), 
     Ok(())
 }
 
-/// Asks for the holders, and once more where memory was refused.
+/// Lists the holders of a resource. Tries a second time if memory is refused.
 fn holders(book: &Book, resource: Resource, list: &mut Vec<(u16, Mode)>) -> Result<(), NoMemory> {
     match book.holders(resource, list) {
         Ok(()) => Ok(()),
@@ -71,7 +76,7 @@ fn holders(book: &Book, resource: Resource, list: &mut Vec<(u16, Mode)>) -> Resu
     }
 }
 
-/// The calls with the replies that are wanted, and once more where memory was refused.
+/// Reads the expected history from a text. Tries a second time if memory is refused.
 pub(crate) fn wanted(alloc: Global, text: &str) -> Result<Vec<Entry>, TraceFault> {
     match read_history(alloc, text.as_bytes(), 256) {
         Ok(entries) => Ok(entries),
@@ -79,7 +84,7 @@ pub(crate) fn wanted(alloc: Global, text: &str) -> Result<Vec<Entry>, TraceFault
     }
 }
 
-/// Serves the calls of a text on a new book of so many sessions: each has the reply that stands beside it.
+/// Serves the calls of a history on a new book of `sessions` sessions, and expects its replies and this history.
 fn serve_text(rt: &impl Abort, alloc: Global, sessions: u16, text: &str) -> Result<Book, Fail> {
     let entries = wanted(alloc, text)?;
     let mut book = new_book(rt, alloc, sessions)?;
@@ -88,20 +93,20 @@ fn serve_text(rt: &impl Abort, alloc: Global, sessions: u16, text: &str) -> Resu
     Ok(book)
 }
 
-/// Serves the calls of a text: each has the reply that stands beside it.
+/// Serves the calls of a text on the book, and expects the replies of the text.
 fn serve_more(rt: &impl Abort, alloc: Global, book: &mut Book, text: &str) -> Result<(), Fail> {
     let entries = wanted(alloc, text)?;
     serve_all(rt, book, &entries)?;
     Ok(())
 }
 
-/// Wants the session to hold database 1 in this mode.
+/// Expects the session to hold database 1 in this mode.
 fn want_held(rt: &impl Abort, book: &Book, session: u16, mode: Option<Mode>) -> Result<(), Fail> {
     assert_eq!(rt; book.held(session, resource(1)?), mode);
     Ok(())
 }
 
-/// Wants these sessions to hold the database.
+/// Expects these holders of a database.
 fn want_holders(
     rt: &impl Abort,
     alloc: Global,
@@ -115,6 +120,7 @@ fn want_holders(
     Ok(())
 }
 
+/// A writer waits for a reader, and a later reader waits for the writer.
 const ARRIVALS: &str = "0,1,begin,,,began,1
 1,2,begin,,,began,2
 2,3,begin,,,began,3
@@ -127,6 +133,7 @@ const ARRIVALS: &str = "0,1,begin,,,began,1
 9,3,commit,,,committed,1
 ";
 
+/// A compatible request doesn't overtake a waiting one.
 #[test]
 fn requests_are_granted_in_order_of_arrival(rt: HostRuntime) -> Result<(), Fail> {
     let book = serve_text(&rt, rt.alloc(), 3, ARRIVALS)?;
@@ -134,6 +141,7 @@ fn requests_are_granted_in_order_of_arrival(rt: HostRuntime) -> Result<(), Fail>
     Ok(())
 }
 
+/// Calls that fail one test or several.
 const REFUSALS: &str = "0,1,lock,1,NL,refused,NoTransaction
 1,1,convert,1,NL,refused,NoTransaction
 2,1,commit,,,refused,NoTransaction
@@ -155,12 +163,14 @@ const REFUSALS: &str = "0,1,lock,1,NL,refused,NoTransaction
 18,2,commit,,,committed,1
 ";
 
+/// A refusal names the first test that the call fails.
 #[test]
-fn each_refusal_comes_in_its_place(rt: HostRuntime) -> Result<(), Fail> {
+fn refusals_are_tested_in_order(rt: HostRuntime) -> Result<(), Fail> {
     let _book = serve_text(&rt, rt.alloc(), 2, REFUSALS)?;
     Ok(())
 }
 
+/// A commit frees a resource on which IX, IS and S wait, in this order.
 const PROMOTION: &str = "0,1,begin,,,began,1
 1,2,begin,,,began,2
 2,3,begin,,,began,3
@@ -176,13 +186,14 @@ const PROMOTION: &str = "0,1,begin,,,began,1
 12,3,commit,,,committed,1
 ";
 
+/// A promotion grants the longest front of the queue that is compatible: IX and IS, and not S.
 #[test]
 fn a_promotion_grants_all_that_fit_together(rt: HostRuntime) -> Result<(), Fail> {
     let _book = serve_text(&rt, rt.alloc(), 4, PROMOTION)?;
     Ok(())
 }
 
-/// Asks for so many databases in IS, from 0 on.
+/// Locks the databases 0 to `count - 1` in IS, in session 1.
 fn lock_databases(rt: &impl Abort, book: &mut Book, count: u32) -> Result<(), Fail> {
     for number in 0..count {
         let call = Call::Lock(resource(number)?, Mode::IS);
@@ -191,11 +202,13 @@ fn lock_databases(rt: &impl Abort, book: &mut Book, count: u32) -> Result<(), Fa
     Ok(())
 }
 
+/// Session 1 begins, and session 2 holds database 7.
 const ONE_SHARED: &str = "0,1,begin,,,began,1
 1,2,begin,,,began,2
 2,2,lock,7,IS,granted,IS
 ";
 
+/// Session 1 holds 4096 locks: a further lock is refused, and conversions still work.
 const FULL: &str = "0,1,lock,4096,X,refused,TooManyLocks
 1,1,lock,7,X,waiting,
 2,2,commit,,,committed,1
@@ -205,45 +218,48 @@ const FULL: &str = "0,1,lock,4096,X,refused,TooManyLocks
 6,1,commit,,,committed,4096
 ";
 
-fn fill(rt: &impl Abort, alloc: Global, book: &mut Book) -> Result<(), Fail> {
+/// Takes 4096 locks and serves `FULL`.
+fn fill_transaction(rt: &impl Abort, alloc: Global, book: &mut Book) -> Result<(), Fail> {
     lock_databases(rt, book, 4096)?;
     serve_more(rt, alloc, book, FULL)?;
     assert_eq!(rt; book.history().len(), 4106);
     Ok(())
 }
 
+/// Lock 4097 is refused with `TooManyLocks`, and a conversion of a held lock isn't.
 #[test]
 fn a_transaction_holds_4096_locks_and_no_more(rt: HostRuntime) -> Result<(), Fail> {
     let mut book = serve_text(&rt, rt.alloc(), 2, ONE_SHARED)?;
-    fill(&rt, rt.alloc(), &mut book)
+    fill_transaction(&rt, rt.alloc(), &mut book)
 }
 
-/// Asks for database 1 and its records.
+/// Locks database 1 and 4095 of its files in session 1.
 fn lock_records(rt: &impl Abort, book: &mut Book) -> Result<(), Fail> {
     let first = serve(rt, book, 1, Call::Lock(resource(1)?, Mode::IX))?;
     assert_eq!(rt; first, Reply::Granted(Mode::IX));
     for number in 0..4095 {
-        let call = Call::Lock(below(&[1, number])?, Mode::X);
+        let call = Call::Lock(resource_at(&[1, number])?, Mode::X);
         assert_eq!(rt; serve(rt, book, 1, call)?, Reply::Granted(Mode::X));
     }
     Ok(())
 }
 
-/// Gives back the records of database 1, in the order of their numbers or backwards, and then the database, which is
-/// refused as long as one of them is left.
+/// Releases the files of database 1 in rising or falling order, then the database. The release of the database is refused
+/// while a file is still held.
 fn release_records(rt: &impl Abort, book: &mut Book, backwards: bool) -> Result<(), Fail> {
     let top = resource(1)?;
     for number in 0..4095 {
         let refused = serve(rt, book, 1, Call::Release(top))?;
         assert_eq!(rt; refused, Reply::Refused(Why::ChildHeld));
         let next = if backwards { 4094 - number } else { number };
-        let call = Call::Release(below(&[1, next])?);
+        let call = Call::Release(resource_at(&[1, next])?);
         assert_eq!(rt; serve(rt, book, 1, call)?, Reply::Released);
     }
     assert_eq!(rt; serve(rt, book, 1, Call::Release(top))?, Reply::Released);
     Ok(())
 }
 
+/// Locks and releases everything twice, once in each order.
 fn release_both_ways(rt: &impl Abort, book: &mut Book) -> Result<(), Fail> {
     lock_records(rt, book)?;
     release_records(rt, book, false)?;
@@ -251,14 +267,17 @@ fn release_both_ways(rt: &impl Abort, book: &mut Book) -> Result<(), Fail> {
     release_records(rt, book, true)
 }
 
+/// Session 1 begins.
 const BEGUN: &str = "0,1,begin,,,began,1\n";
 
+/// 4095 children are released in rising and in falling order, each while the parent's release is still refused.
 #[test]
 fn locks_are_released_in_either_order(rt: HostRuntime) -> Result<(), Fail> {
     let mut book = serve_text(&rt, rt.alloc(), 1, BEGUN)?;
     release_both_ways(&rt, &mut book)
 }
 
+/// Session 1 converts to SIX while session 2 holds S and session 3 waits for X.
 const CONVERSION_WAITS: &str = "0,1,begin,,,began,1
 1,2,begin,,,began,2
 2,3,begin,,,began,3
@@ -271,11 +290,13 @@ const CONVERSION_WAITS: &str = "0,1,begin,,,began,1
 9,1,poll,,,waiting,
 ";
 
+/// Session 2 commits: session 1 is granted its conversion, and session 3 still waits.
 const CONVERSION_IS_GRANTED: &str = "0,2,commit,,,committed,1
 1,1,poll,,,clear,
 2,3,poll,,,waiting,
 ";
 
+/// Two readers and a waiting writer; session 1 converts by a second lock.
 const TWO_READERS: &str = "0,1,begin,,,began,1
 1,2,begin,,,began,2
 2,3,begin,,,began,3
@@ -285,6 +306,7 @@ const TWO_READERS: &str = "0,1,begin,,,began,1
 6,1,lock,1,IX,waiting,
 ";
 
+/// Expects the mode held before and after the conversion is granted.
 fn the_conversion_is_granted(rt: &impl Abort, alloc: Global, book: &mut Book) -> Result<(), Fail> {
     want_held(rt, book, 1, Some(Mode::S))?;
     serve_more(rt, alloc, book, CONVERSION_IS_GRANTED)?;
@@ -293,18 +315,21 @@ fn the_conversion_is_granted(rt: &impl Abort, alloc: Global, book: &mut Book) ->
     want_held(rt, book, 3, None)
 }
 
+/// A conversion that waits is granted before a new request that arrived earlier.
 #[test]
 fn conversions_wait_ahead_of_fresh_requests(rt: HostRuntime) -> Result<(), Fail> {
     let mut book = serve_text(&rt, rt.alloc(), 3, CONVERSION_WAITS)?;
     the_conversion_is_granted(&rt, rt.alloc(), &mut book)
 }
 
+/// A waiting conversion leaves the held mode unchanged until it is granted.
 #[test]
 fn a_conversion_is_held_once_it_is_granted(rt: HostRuntime) -> Result<(), Fail> {
     let mut book = serve_text(&rt, rt.alloc(), 3, TWO_READERS)?;
     the_conversion_is_granted(&rt, rt.alloc(), &mut book)
 }
 
+/// Aborts of sessions that wait.
 const ABORTS: &str = "0,1,begin,,,began,1
 1,2,begin,,,began,2
 2,3,begin,,,began,3
@@ -321,13 +346,15 @@ const ABORTS: &str = "0,1,begin,,,began,1
 13,2,abort,,,aborted,0
 ";
 
+/// An abort of a waiting session removes its request and releases its locks, and others are promoted.
 #[test]
-fn an_abort_takes_the_request_and_the_locks(rt: HostRuntime) -> Result<(), Fail> {
+fn an_abort_drops_the_request_and_the_locks(rt: HostRuntime) -> Result<(), Fail> {
     let book = serve_text(&rt, rt.alloc(), 3, ABORTS)?;
     want_holders(&rt, rt.alloc(), &book, 1, &[(1, Mode::X)])?;
     want_holders(&rt, rt.alloc(), &book, 2, &[(3, Mode::X)])
 }
 
+/// Locks and releases of a database, a file and a page, some without their parents or before their children.
 const PARENTS: &str = "0,1,release,1,,refused,NoTransaction
 1,1,begin,,,began,1
 2,1,release,1,,refused,NotHeld
@@ -350,12 +377,14 @@ const PARENTS: &str = "0,1,release,1,,refused,NoTransaction
 19,1,commit,,,committed,1
 ";
 
+/// A lock without its parent's lock and a release before a child's release are refused.
 #[test]
-fn locks_stand_under_their_parents_and_go_from_leaf_to_root(rt: HostRuntime) -> Result<(), Fail> {
+fn locks_need_their_parents_and_are_released_from_the_leaves(rt: HostRuntime) -> Result<(), Fail> {
     let _book = serve_text(&rt, rt.alloc(), 1, PARENTS)?;
     Ok(())
 }
 
+/// Two readers wait for a writer.
 const WRITER: &str = "0,1,begin,,,began,1
 1,2,begin,,,began,2
 2,3,begin,,,began,3
@@ -365,23 +394,27 @@ const WRITER: &str = "0,1,begin,,,began,1
 6,2,release,1,,refused,IsWaiting
 ";
 
-const WRITER_GIVES_BACK: &str = "0,1,release,1,,released,
+/// The writer releases its lock.
+const WRITER_RELEASES: &str = "0,1,release,1,,released,
 1,1,release,1,,refused,NotHeld
 ";
 
-fn the_writer_gives_back(rt: &impl Abort, alloc: Global, book: &mut Book) -> Result<(), Fail> {
+/// Expects the writer to be the holder before its release, and the readers after it.
+fn the_writer_releases(rt: &impl Abort, alloc: Global, book: &mut Book) -> Result<(), Fail> {
     want_holders(rt, alloc, book, 2, &[])?;
     want_holders(rt, alloc, book, 1, &[(1, Mode::X)])?;
-    serve_more(rt, alloc, book, WRITER_GIVES_BACK)?;
+    serve_more(rt, alloc, book, WRITER_RELEASES)?;
     want_holders(rt, alloc, book, 1, &[(2, Mode::S), (3, Mode::S)])
 }
 
+/// A release grants the waiting readers, and `holders` lists them by session number.
 #[test]
-fn a_release_promotes_and_holders_are_told(rt: HostRuntime) -> Result<(), Fail> {
+fn a_release_promotes_and_holders_are_listed(rt: HostRuntime) -> Result<(), Fail> {
     let mut book = serve_text(&rt, rt.alloc(), 3, WRITER)?;
-    the_writer_gives_back(&rt, rt.alloc(), &mut book)
+    the_writer_releases(&rt, rt.alloc(), &mut book)
 }
 
+/// Two readers convert to X, and the younger one becomes the victim.
 const VICTIM: &str = "0,1,begin,,,began,1
 1,2,begin,,,began,2
 2,1,lock,1,S,granted,S
@@ -395,6 +428,7 @@ const VICTIM: &str = "0,1,begin,,,began,1
 10,2,commit,,,refused,IsDoomed
 ";
 
+/// The victim aborts and begins again.
 const VICTIM_ABORTS: &str = "0,2,abort,,,aborted,1
 1,1,poll,,,clear,
 2,2,begin,,,began,3
@@ -402,12 +436,14 @@ const VICTIM_ABORTS: &str = "0,2,abort,,,aborted,1
 4,1,commit,,,committed,1
 ";
 
+/// Expects the victim to hold its lock until its abort.
 fn the_victim_aborts(rt: &impl Abort, alloc: Global, book: &mut Book) -> Result<(), Fail> {
     want_held(rt, book, 2, Some(Mode::S))?;
     serve_more(rt, alloc, book, VICTIM_ABORTS)?;
     want_held(rt, book, 2, Some(Mode::S))
 }
 
+/// A victim's calls except poll and abort are refused, and it keeps its locks until it aborts.
 #[test]
 fn a_victim_keeps_its_locks_until_it_aborts(rt: HostRuntime) -> Result<(), Fail> {
     let mut book = serve_text(&rt, rt.alloc(), 2, VICTIM)?;

@@ -1,5 +1,5 @@
-//! What a lock table answers, where no clause says it: examples by hand, each call once with success, long queues, and calls by
-//! chance beside a model.
+//! Tests of the lock table, for what no contract says: examples worked out by hand, each call once with success, long queues,
+//! and random calls compared with a model.
 #![tactic(auto)]
 
 #[cfg(test)]
@@ -9,4 +9,4 @@ mod books;
 #[cfg(test)]
 mod queues;
 #[cfg(test)]
-mod waits_beside_a_walk;
+mod waits_for_model;

@@ -1,11 +1,11 @@
-//! Long queues and many victims: 254 sessions that wait at once.
+//! Long queues and many victims: 254 sessions wait at once.
 
 use crate::books::{new_book, resource, serve};
 use lock_desk::{Book, Call, Mode, NoMemory, Reply, Resource};
 use std::process::Abort;
 use std::test::Fail;
 
-/// Sessions from the first to before the last make the call, in their order, and each is told this.
+/// Makes the call in each session from `first` to `last - 1`, in order, and expects this reply.
 fn want_each(
     rt: &impl Abort,
     book: &mut Book,
@@ -16,32 +16,34 @@ fn want_each(
 ) -> Result<(), NoMemory> {
     for session in first..last {
         let asked = call;
-        let told = serve(rt, book, session, asked)?;
-        assert_eq!(rt; told, reply);
+        let answer = serve(rt, book, session, asked)?;
+        assert_eq!(rt; answer, reply);
     }
     Ok(())
 }
 
+/// Begins a transaction in each of 256 sessions.
 fn begin_all(rt: &impl Abort, book: &mut Book) -> Result<(), NoMemory> {
     for session in 1..257 {
-        let told = serve(rt, book, session, Call::Begin)?;
-        assert_eq!(rt; told, Reply::Began(session as u64));
+        let began = serve(rt, book, session, Call::Begin)?;
+        assert_eq!(rt; began, Reply::Began(session as u64));
     }
     Ok(())
 }
 
-/// Each of these sessions has its lock once it is its turn, and gives it back to the next one.
+/// Expects each session from `first` to `last - 1` in turn to have been granted its lock, and to release it to the next one
+/// by its commit.
 fn want_turns(rt: &impl Abort, book: &mut Book, first: u16, last: u16) -> Result<(), NoMemory> {
     for session in first..last {
-        let told = serve(rt, book, session, Call::Poll)?;
-        assert_eq!(rt; told, Reply::Clear);
+        let polled = serve(rt, book, session, Call::Poll)?;
+        assert_eq!(rt; polled, Reply::Clear);
         let ended = serve(rt, book, session, Call::Commit)?;
         assert_eq!(rt; ended, Reply::Committed(1));
     }
     Ok(())
 }
 
-/// Session 1 holds the database, and 254 others wait for it.
+/// Locks the database in X in session 1, and lets sessions 2 to 255 wait for it.
 fn queue_up(rt: &impl Abort, book: &mut Book, one: Resource) -> Result<(), NoMemory> {
     begin_all(rt, book)?;
     let granted = Reply::Granted(Mode::X);
@@ -49,8 +51,8 @@ fn queue_up(rt: &impl Abort, book: &mut Book, one: Resource) -> Result<(), NoMem
     want_each(rt, book, 2, 256, Call::Lock(one, Mode::X), Reply::Waiting)
 }
 
-/// Of 254 sessions that wait one in their midst leaves, and the others have their turns.
-fn leave_the_midst(rt: &impl Abort, book: &mut Book) -> Result<(), Fail> {
+/// Aborts one session in the middle of 254 that wait, and expects the others to be granted the lock in turn.
+fn abort_in_the_middle(rt: &impl Abort, book: &mut Book) -> Result<(), Fail> {
     let one = resource(1)?;
     queue_up(rt, book, one)?;
     want_each(rt, book, 128, 129, Call::Abort, Reply::Aborted(0))?;
@@ -62,14 +64,15 @@ fn leave_the_midst(rt: &impl Abort, book: &mut Book) -> Result<(), Fail> {
     Ok(())
 }
 
+/// Requests before and behind an aborted one keep their order.
 #[test]
-fn a_queue_of_254_goes_on_where_one_in_its_midst_leaves(rt: HostRuntime) -> Result<(), Fail> {
+fn a_queue_of_254_goes_on_after_an_abort_in_its_middle(rt: HostRuntime) -> Result<(), Fail> {
     let mut book = new_book(&rt, rt.alloc(), 256)?;
-    leave_the_midst(&rt, &mut book)
+    abort_in_the_middle(&rt, &mut book)
 }
 
-/// Session 1 holds database 1, for which 254 others wait, who share database 2.
-fn close_in(
+/// Locks database 1 in session 1, and database 2 shared by sessions 2 to 255, who then wait for database 1.
+fn build_cycles(
     rt: &impl Abort,
     book: &mut Book,
     one: Resource,
@@ -83,12 +86,12 @@ fn close_in(
     want_each(rt, book, 2, 256, Call::Lock(one, Mode::S), Reply::Waiting)
 }
 
-/// A session asks for what 254 others hold who wait for it: all of them are victims.
+/// Requests database 2 in X in session 1, which closes 254 cycles, and expects sessions 2 to 255 to be victims.
 fn ask_for_what_all_hold(rt: &impl Abort, book: &mut Book) -> Result<(), Fail> {
     let one = resource(1)?;
     let two = resource(2)?;
-    close_in(rt, book, one, two)?;
-    // each of the others is younger than the asker, who waits for what they hold until they abort
+    build_cycles(rt, book, one, two)?;
+    // session 1 is the oldest; it waits until the victims abort
     let asked = Call::Lock(two, Mode::X);
     want_each(rt, book, 1, 2, asked, Reply::Waiting)?;
     want_each(rt, book, 2, 256, Call::Poll, Reply::Deadlock)?;
@@ -98,6 +101,7 @@ fn ask_for_what_all_hold(rt: &impl Abort, book: &mut Book) -> Result<(), Fail> {
     Ok(())
 }
 
+/// One request closes a cycle with each of 254 sessions, and all of these are victims.
 #[test]
 fn one_call_has_254_victims(rt: HostRuntime) -> Result<(), Fail> {
     let mut book = new_book(&rt, rt.alloc(), 256)?;

@@ -1,8 +1,8 @@
-pub mod Asked
-pub mod Closed
-pub mod Counts
-pub mod Greatest
-pub mod Judging
-pub mod Options
-pub mod Passes
-pub mod Performed
+pub mod AreRows
+pub mod Ask
+pub mod CallsOfRows
+pub mod Gives
+pub mod IsPassed
+pub mod IsPerformed
+pub mod IsRunOf
+pub mod IsVerdict

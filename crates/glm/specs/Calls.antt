@@ -1,14 +1,14 @@
--- The calls of a session: among the rows of a trace, and among those that were answered.
+-- The calls of one session, from the rows of a trace or from its answers.
 use Rattle.std.specs.Prelude.{◌==◌, ℕ, List, map}
 use Rattle.std.specs.List.{filter}
 use Rattle.lock_rules.specs.declared.calls.Call.{Call}
 use Rattle.lock_rules.specs.Legal.{Answered}
 use Rattle.lock_trace.specs.declared.rows.TraceRow.{TraceRow}
 
--- the calls of a session among the rows of a trace, in their order
+-- the calls of session `i` in the rows of a trace, in order
 abbrev pub calls_of_rows : ℕ → List TraceRow → List Call
 calls_of_rows i rows = map (λ (row : TraceRow). row.call) (filter (λ (row : TraceRow). row.session == i) rows)
 
--- the calls that were answered
+-- the calls of a list of answers, in order
 abbrev pub calls_answered : List Answered → List Call
 calls_answered answers = map (λ (a : Answered). a.call) answers

@@ -1,11 +1,11 @@
--- What a run of the program comes to, and the status that it ends with.
+-- The outcome of one execution of the program, and its exit status.
 use Rattle.std.specs.Prelude.{◌≡◌, ◌≢◌, ℕ, List, [], ◌∷◌, ◌++◌, Option, Some, Result, Ok, Err, IfOk, IfErr, codes, decimal}
 use Rattle.std.specs.Io.KnownBytes.{Keeps, Appends}
 use Rattle.clap.specs.Walk.{Text}
 use Rattle.glm.specs.declared.checking.Verdict.{Verdict}
 use Rattle.glm.specs.declared.checking.Verdict.TheVariants as verdict
-use Rattle.glm.specs.declared.replaying.ToolFault.{ToolFault}
-use Rattle.glm.specs.declared.replaying.ToolFault.TheVariants as tool
+use Rattle.glm.specs.declared.tool_fault.ToolFault.{ToolFault}
+use Rattle.glm.specs.declared.tool_fault.ToolFault.TheVariants as tool
 use Rattle.glm.specs.declared.outcomes.Outcome.{Outcome}
 use Rattle.glm.specs.declared.outcomes.Outcome.TheVariants as outcome
 use Rattle.glm.specs.declared.outcomes.TheConstants.{DONE, USAGE, ILLEGAL, NO_MEMORY, DEVICE}
@@ -15,7 +15,7 @@ use Rattle.glm.specs.Runs.{HasPerformed, Runs}
 use Rattle.glm.specs.Statuses.{status_for}
 use Rattle.glm.specs.Verdicts.{Checks, IsHistory}
 
--- the status of an outcome
+-- the exit status of an outcome
 abbrev pub status_of_outcome : Outcome → ℕ
 status_of_outcome (outcome.Replay (Ok count)) = DONE
 status_of_outcome (outcome.Replay (Err fault)) = status_for fault
@@ -31,8 +31,7 @@ status_of_outcome outcome.VersionFailed = DEVICE
 status_of_outcome outcome.Misused = USAGE
 status_of_outcome outcome.OutOfMemory = NO_MEMORY
 
--- the words ask for a replay, and this is what it answers of the input's bytes, where the writer held the old bytes
--- before and the new ones after
+-- the words ask for a replay, and `answer` is its result; the output holds `old` before and `new` after
 pub record HasAnswered (words : List Text) (input old new : Option (List ℕ)) (answer : Result ℕ ToolFault) : Type 0 where
   pub sessions : ℕ
   pub asked : AskReplay words sessions
@@ -41,7 +40,7 @@ pub record HasAnswered (words : List Text) (input old new : Option (List ℕ)) (
   pub faults : IfErr answer (λ fault. IsFaultOfOneThread fault)
   pub replays : (bytes : List ℕ) → input ≡ Some bytes → Replays sessions bytes old new answer
 
--- the words ask for a run, and this is what it answers of the input's bytes
+-- the words ask for a run on threads, and `answer` is its result; the output holds `old` before and `new` after
 pub record HasAnsweredRun (words : List Text) (input old new : Option (List ℕ)) (answer : Result ℕ ToolFault) : Type 0 where
   pub sessions : ℕ
   pub turns : ℕ
@@ -50,34 +49,34 @@ pub record HasAnsweredRun (words : List Text) (input old new : Option (List ℕ)
   pub performed : IfOk answer (λ count. HasPerformed sessions count old new)
   pub runs : (bytes : List ℕ) → input ≡ Some bytes → Runs sessions bytes old new answer
 
--- the line that tells a verdict
+-- the line that is printed for a verdict
 abbrev pub text_of_verdict : Verdict → List ℕ
 text_of_verdict (verdict.Legal count) = codes "legal " ++ decimal count ++ 10 ∷ []
 text_of_verdict (verdict.Illegal place) = codes "illegal " ++ decimal place ++ 10 ∷ []
 
--- what a check of these bytes answers where its verdict is to be written, which may fail
-abbrev pub TellsVerdict : ℕ → List ℕ → Result Verdict ToolFault → Type 0
-TellsVerdict n bytes (Ok found) = Checks n bytes (Ok found)
-TellsVerdict n bytes (Err (tool.Trace fault)) = Checks n bytes (Err (tool.Trace fault))
-TellsVerdict n bytes (Err tool.NoMemory) = IsHistory n bytes
-TellsVerdict n bytes (Err tool.Device) = IsHistory n bytes
-TellsVerdict n bytes (Err tool.GateShut) = ⊥
-TellsVerdict n bytes (Err tool.TurnLimit) = ⊥
+-- the result of a check of these bytes whose verdict is also printed; memory or the writer may fail for the line
+abbrev pub PrintsVerdict : ℕ → List ℕ → Result Verdict ToolFault → Type 0
+PrintsVerdict n bytes (Ok found) = Checks n bytes (Ok found)
+PrintsVerdict n bytes (Err (tool.Trace fault)) = Checks n bytes (Err (tool.Trace fault))
+PrintsVerdict n bytes (Err tool.NoMemory) = IsHistory n bytes
+PrintsVerdict n bytes (Err tool.Device) = IsHistory n bytes
+PrintsVerdict n bytes (Err tool.GateShut) = ⊥
+PrintsVerdict n bytes (Err tool.TurnLimit) = ⊥
 
--- the words ask for a check, and this is its verdict on the input's bytes, which was written, or why there is none
+-- the words ask for a check, and `answer` is its verdict, which was printed, or its fault
 pub record HasAnsweredCheck (words : List Text) (input old new : Option (List ℕ)) (answer : Result Verdict ToolFault) : Type 0 where
   pub sessions : ℕ
   pub asked : AskCheck words sessions
   pub kept : IfErr answer (λ fault. fault ≢ tool.Device → Keeps old new)
-  pub told : IfOk answer (λ found. Appends old new (text_of_verdict found))
+  pub written : IfOk answer (λ found. Appends old new (text_of_verdict found))
   pub faults : IfErr answer (λ fault. IsFaultOfOneThread fault)
-  pub checks : (bytes : List ℕ) → input ≡ Some bytes → TellsVerdict sessions bytes answer
+  pub checks : (bytes : List ℕ) → input ≡ Some bytes → PrintsVerdict sessions bytes answer
 
--- what is printed of the version: the project's, and the kit and the logic that it was proved with
+-- the text of `--version`: the project's version, and the kit and the logic that it was proved with
 abbrev pub text_of_version : List ℕ
 text_of_version = codes "glm 0.7.0\nproved with rattle-kit-13b, logic dac8208d650f15bf\n"
 
--- what was done where a run of the program comes to this
+-- what an outcome says of the words, the input's bytes and the output, which holds `old` before and `new` after
 abbrev pub HasDone : List Text → Option (List ℕ) → Option (List ℕ) → Option (List ℕ) → Outcome → Type 0
 HasDone words input old new (outcome.Replay answer) = HasAnswered words input old new answer
 HasDone words input old new (outcome.Run answer) = HasAnsweredRun words input old new answer

@@ -1,4 +1,4 @@
--- What an error of the parser comes to; only private parts of the command line speak of it to one another.
+-- The outcome of an error of the parser; cited by private contracts only.
 use Rattle.std.specs.Prelude.{◌≡◌, ◌≢◌, ℕ, List, Option}
 use Rattle.std.specs.Io.KnownBytes.{Keeps, Appends}
 use Rattle.clap.specs.declared.error.kind.ErrorKind.{ErrorKind}
@@ -7,7 +7,7 @@ use Rattle.glm.specs.declared.outcomes.Outcome.{Outcome}
 use Rattle.glm.specs.declared.outcomes.Outcome.TheVariants as outcome
 use Rattle.glm.specs.Outcomes.{text_of_version}
 
--- what an error of this kind comes to, where the writer held the old bytes before and the new ones after
+-- the outcome of a parser error of this kind; the output holds `old` before and `new` after
 abbrev pub IsOutcomeOfError : ErrorKind → Option (List ℕ) → Option (List ℕ) → Outcome → Type 0
 IsOutcomeOfError kind old new (outcome.Replay answer) = ⊥
 IsOutcomeOfError kind old new (outcome.Run answer) = ⊥

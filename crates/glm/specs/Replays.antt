@@ -1,4 +1,4 @@
--- What a replay answers and writes.
+-- The result of a replay, and what the replay writes.
 use Rattle.std.specs.Prelude.{◌≡◌, ℕ, List, length, map, All, Option, Result, Ok, Err}
 use Rattle.std.specs.Io.KnownBytes.{Keeps, Appends}
 use Rattle.lock_rules.specs.declared.calls.Entry.{Entry}
@@ -7,33 +7,33 @@ use Rattle.lock_trace.specs.declared.rows.TraceRow.{TraceRow}
 use Rattle.lock_trace.specs.Rows.{IsRow}
 use Rattle.lock_trace.specs.Traces.{trace_of, Tells}
 use Rattle.lock_trace.specs.Histories.{row_of_entry, text_of_history}
-use Rattle.glm.specs.declared.replaying.ToolFault.{ToolFault}
-use Rattle.glm.specs.declared.replaying.ToolFault.TheVariants as tool
+use Rattle.glm.specs.declared.tool_fault.ToolFault.{ToolFault}
+use Rattle.glm.specs.declared.tool_fault.ToolFault.TheVariants as tool
 
--- each row is one for so many sessions
+-- every row is valid for `n` sessions
 abbrev pub AreRows : ℕ → List TraceRow → Type 0
 AreRows n rows = All (IsRow n) rows
 
--- the legal history of these rows' calls in their order
+-- the history is legal and has the calls of the rows, in order
 pub record IsHistoryOf (rows : List TraceRow) (history : List Entry) : Type 0 where
   pub calls : map row_of_entry history ≡ rows
   pub legal : IsLegal history
 
--- the text of that history
+-- the text of the history of the rows
 abbrev pub IsTextFor : List TraceRow → List ℕ → Type 0
 IsTextFor rows text = (history : List Entry) × (IsHistoryOf rows history × (text ≡ text_of_history history))
 
--- all rows were read and served, and the text of their history was written, and nothing else
+-- the output grew by the text of the rows' history, and by nothing else
 pub record HasReplayed (rows : List TraceRow) (old new : Option (List ℕ)) : Type 0 where
   pub text : List ℕ
   pub is_history : IsTextFor rows text
   pub written : Appends old new text
 
--- so many rows were served in their order, which are for so many sessions, and the text of their history was written, and nothing else
+-- for some `count` rows, valid for `n` sessions, the output grew by the text of their history, and by nothing else
 abbrev pub HasServed : ℕ → ℕ → Option (List ℕ) → Option (List ℕ) → Type 0
 HasServed n count old new = (rows : List TraceRow) × (AreRows n rows × (count ≡ length rows) × HasReplayed rows old new)
 
--- a fault that needs no threads: of a row, of memory or of a device, and not of a gate or of tries
+-- a fault that is possible without threads: `Trace`, `NoMemory` or `Device`
 abbrev pub IsFaultOfOneThread : ToolFault → Type 0
 IsFaultOfOneThread (tool.Trace fault) = Unit {0}
 IsFaultOfOneThread tool.NoMemory = Unit {0}
@@ -41,11 +41,11 @@ IsFaultOfOneThread tool.Device = Unit {0}
 IsFaultOfOneThread tool.GateShut = ⊥
 IsFaultOfOneThread tool.TurnLimit = ⊥
 
--- the bytes are a trace
+-- the bytes are a trace for `n` sessions
 abbrev pub IsTrace : ℕ → List ℕ → Type 0
 IsTrace n bytes = (rows : List TraceRow) × (trace_of n bytes ≡ Ok rows)
 
--- what a replay of these bytes for so many sessions answers, where the writer held the old bytes before and the new ones after
+-- the result of a replay of these bytes for `n` sessions; the output holds `old` before and `new` after
 abbrev pub Replays : ℕ → List ℕ → Option (List ℕ) → Option (List ℕ) → Result ℕ ToolFault → Type 0
 Replays n bytes old new (Ok count) = (rows : List TraceRow) × ((trace_of n bytes ≡ Ok rows) × (count ≡ length rows) × HasReplayed rows old new)
 Replays n bytes old new (Err (tool.Trace fault)) = Tells n bytes fault × Keeps old new

@@ -1,4 +1,4 @@
--- What a run on threads answers and writes.
+-- The result of a run on threads, and what the run writes.
 use Rattle.std.specs.Prelude.{◌≡◌, ℕ, List, length, Option, Result, Ok, Err}
 use Rattle.std.specs.Io.KnownBytes.{Keeps, Appends}
 use Rattle.lock_rules.specs.declared.calls.Entry.{Entry}
@@ -6,32 +6,32 @@ use Rattle.lock_rules.specs.Legal.{IsLegal, calls_of}
 use Rattle.lock_trace.specs.declared.rows.TraceRow.{TraceRow}
 use Rattle.lock_trace.specs.Traces.{trace_of, Tells}
 use Rattle.lock_trace.specs.Histories.{text_of_history}
-use Rattle.glm.specs.declared.replaying.ToolFault.{ToolFault}
-use Rattle.glm.specs.declared.replaying.ToolFault.TheVariants as tool
+use Rattle.glm.specs.declared.tool_fault.ToolFault.{ToolFault}
+use Rattle.glm.specs.declared.tool_fault.ToolFault.TheVariants as tool
 use Rattle.glm.specs.Calls.{calls_answered, calls_of_rows}
 use Rattle.glm.specs.Replays.{AreRows, IsTrace}
 
--- a legal history of these rows, in some order: the calls of each session in it are those of its rows, in their order
+-- the history is legal, and the calls of each session in it are the calls of that session's rows, in order
 pub record IsRunOf (rows : List TraceRow) (history : List Entry) : Type 0 where
   pub legal : IsLegal history
   pub calls : (session : ℕ) → calls_answered (calls_of session history) ≡ calls_of_rows session rows
   pub count : length history ≡ length rows
 
--- the text of such a history
+-- the text of some such history
 abbrev pub IsTextOfRun : List TraceRow → List ℕ → Type 0
 IsTextOfRun rows text = (history : List Entry) × (IsRunOf rows history × (text ≡ text_of_history history))
 
--- all rows were read and performed, and the text of the history was written, and nothing else
+-- the output grew by the text of some such history, and by nothing else
 pub record HasRun (rows : List TraceRow) (old new : Option (List ℕ)) : Type 0 where
   pub text : List ℕ
   pub is_history : IsTextOfRun rows text
   pub written : Appends old new text
 
--- so many rows were performed, which are for so many sessions, and the text of the history was written, and nothing else
+-- for some `count` rows, valid for `n` sessions, the output grew by the text of such a history, and by nothing else
 abbrev pub HasPerformed : ℕ → ℕ → Option (List ℕ) → Option (List ℕ) → Type 0
 HasPerformed n count old new = (rows : List TraceRow) × (AreRows n rows × (count ≡ length rows) × HasRun rows old new)
 
--- what a run of these bytes for so many sessions answers, where the writer held the old bytes before and the new ones after
+-- the result of a run of these bytes for `n` sessions; the output holds `old` before and `new` after
 abbrev pub Runs : ℕ → List ℕ → Option (List ℕ) → Option (List ℕ) → Result ℕ ToolFault → Type 0
 Runs n bytes old new (Ok count) = (rows : List TraceRow) × ((trace_of n bytes ≡ Ok rows) × (count ≡ length rows) × HasRun rows old new)
 Runs n bytes old new (Err (tool.Trace fault)) = Tells n bytes fault × Keeps old new

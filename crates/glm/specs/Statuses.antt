@@ -1,16 +1,16 @@
--- The numbers of faults, and the statuses that the program ends with.
+-- The numbers of faults, and the exit statuses of the program.
 use Rattle.std.specs.Prelude.{◌≡◌, ◌⊎◌, ℕ}
 use Rattle.lock_trace.specs.declared.faults.TraceKind.{TraceKind}
 use Rattle.lock_trace.specs.declared.faults.TraceKind.TheVariants as kind
-use Rattle.glm.specs.declared.replaying.ToolFault.{ToolFault}
-use Rattle.glm.specs.declared.replaying.ToolFault.TheVariants as tool
+use Rattle.glm.specs.declared.tool_fault.ToolFault.{ToolFault}
+use Rattle.glm.specs.declared.tool_fault.ToolFault.TheVariants as tool
 use Rattle.glm.specs.declared.outcomes.TheConstants.{DONE, REFUSED, USAGE, NO_MEMORY, DEVICE, STOPPED, ILLEGAL}
 
--- one of the seven
+-- one of the seven exit statuses
 abbrev pub IsStatus : ℕ → Type 0
 IsStatus status = (status ≡ DONE) ⊎ ((status ≡ REFUSED) ⊎ ((status ≡ USAGE) ⊎ ((status ≡ NO_MEMORY) ⊎ ((status ≡ DEVICE) ⊎ ((status ≡ STOPPED) ⊎ (status ≡ ILLEGAL))))))
 
--- the status of a fault of a row
+-- the exit status of a row's fault
 abbrev pub status_of_kind : TraceKind → ℕ
 status_of_kind kind.Device = DEVICE
 status_of_kind kind.NoMemory = NO_MEMORY
@@ -24,7 +24,7 @@ status_of_kind kind.Place = REFUSED
 status_of_kind kind.Reply = REFUSED
 status_of_kind kind.Value = REFUSED
 
--- the status of a fault
+-- the exit status of a fault
 abbrev pub status_for : ToolFault → ℕ
 status_for (tool.Trace fault) = status_of_kind fault.kind
 status_for tool.NoMemory = NO_MEMORY

@@ -1,33 +1,34 @@
-//! A history, judged by what the lock table answers.
+//! The command `check`: compares each reply of a history with the reply of a fresh lock table.
 
 ghost use Rattle.std.specs.Prelude.{◌≡◌, ℕ, ◌<◌, ◌≤◌, ◌↔◌, true, List, [], Some, length, All, IfOk, IfErr};
 ghost use Rattle.lock_rules.specs.declared.calls.TheConstants.{MAX_SESSIONS};
 ghost use Rattle.lock_trace.specs.Entries.{IsEntry};
 ghost use Rattle.glm.specs.Verdicts.{Checks, IsFaultOfCheck, IsVerdict, served_for};
 
-use crate::replaying::ToolFault;
+use crate::tool_fault::ToolFault;
 use lock_desk::{Book, Entry, NoMemory, Reply};
 use lock_trace::read_history;
 use std::alloc::Global;
 use std::io::Read;
 
-/// What a check of a history finds.
+/// The result of a check of a history.
 #[derive(Clone, Copy, Debug, Drop, PartialEq, Eq)]
 pub enum Verdict {
-    /// Each reply is the one that the lock table gives there. It tells the number of entries.
+    /// Every reply equals the lock table's. Holds the number of entries.
     Legal(u64),
-    /// The first place whose reply is another than the lock table's. Places are counted from 0.
+    /// Some reply differs from the lock table's. Holds the first such place, counted from 0.
     Illegal(u64),
 }
 
-// Whether two replies are the same, with their values.
-fn is_same(given: Reply, told: Reply) -> bool
-    ensures { (result ≡ true) ↔ (given ≡ told) }
+/// Whether the two replies are equal, with their values.
+fn is_same(served: Reply, recorded: Reply) -> bool
+    ensures { (result ≡ true) ↔ (served ≡ recorded) }
 {
-    given == told
+    served == recorded
 }
 
-// Serves the calls of the entries up to the first one whose reply is another than the entry's.
+/// Serves the calls of the entries in order and stops at the first entry whose recorded reply differs from the book's.
+/// Fails if the book finds no memory for a call.
 fn judge(book: &mut Book, entries: &[Entry]) -> Result<Verdict, NoMemory>
     requires empty { book.old.history ≡ [] }
     requires within { All (IsEntry book.old.sessions) entries.now }
@@ -43,7 +44,7 @@ fn judge(book: &mut Book, entries: &[Entry]) -> Result<Verdict, NoMemory>
     Ok(Verdict::Legal(entries.len() as u64))
 }
 
-// The verdict on these entries by a lock table of its own.
+/// Returns the verdict of a fresh lock table on the entries. Fails if the lock table finds no memory.
 fn verdict_on(alloc: Global, entries: &[Entry], sessions: u16) -> Result<Verdict, NoMemory>
     requires some { 0 < sessions }
     requires few { sessions ≤ MAX_SESSIONS }
@@ -54,19 +55,19 @@ fn verdict_on(alloc: Global, entries: &[Entry], sessions: u16) -> Result<Verdict
     judge(&mut book, entries)
 }
 
-/// Reads the whole text of a history, of sessions 1 to `sessions`, which are 1 to `MAX_SESSIONS`, and
-/// serves its calls in their order on one lock table: the history is legal where each reply is the one
-/// that is given there, with its value. The first that isn't ends the check.
+/// Reads the whole text of a history of sessions 1 to `sessions`, at most `MAX_SESSIONS`, and serves its calls in order
+/// on one lock table. The history is legal if every reply equals the lock table's, with its value. The check stops at
+/// the first reply that differs.
 ///
-/// All rows are read before any is judged. `Trace` is the first faulty row, with the first test that it
-/// fails; `NoMemory` comes where memory was refused to the lock table. No other fault is answered.
+/// All rows are read before any reply is compared. The fault `Trace` names the first faulty row and the first test that
+/// the row fails. The fault `NoMemory` means that the lock table found no memory. No other fault is returned.
 pub fn check<R: Read + Drop>(alloc: Global, input: R, sessions: u16) -> Result<Verdict, ToolFault>
     requires some { 0 < sessions }
     requires few { sessions ≤ MAX_SESSIONS }
-    // This holds whatever the reader gives.
+    // holds for every reader
     ensures faults { IfErr result (λ fault. IsFaultOfCheck fault) }
 
-    // This holds where the reader tells what it gives.
+    // holds for a reader whose bytes are known
     ensures checks { (bytes : List ℕ) → R.remaining input ≡ Some bytes → Checks sessions bytes result }
 {
     let entries = match read_history(alloc, input, sessions) {

@@ -1,4 +1,4 @@
-//! The program: the words of its command line, and what they ask for.
+//! The whole program except its streams: parses the command line and runs the command.
 
 ghost use Rattle.std.specs.Prelude.{◌≡◌, ◌≢◌, ◌<◌, ◌≤◌, ℕ, List, Some, IfOk, IfErr, string_bytes};
 ghost use Rattle.std.specs.Io.KnownBytes.{Keeps, Appends};
@@ -7,18 +7,19 @@ ghost use Rattle.clap.specs.Walk.{texts};
 ghost use Rattle.lock_rules.specs.declared.calls.TheConstants.{MAX_SESSIONS};
 ghost use Rattle.glm.specs.declared.outcomes.Outcome.{Outcome};
 ghost use Rattle.glm.specs.declared.outcomes.TheConstants.{DONE, ILLEGAL, DEVICE};
-ghost use Rattle.glm.specs.Outcomes.{HasDone, TellsVerdict, status_of_outcome, text_of_verdict};
+ghost use Rattle.glm.specs.Outcomes.{HasDone, PrintsVerdict, status_of_outcome, text_of_verdict};
 ghost use Rattle.glm.specs.ParserErrors.{IsOutcomeOfError};
 ghost use Rattle.glm.specs.Replays.{IsFaultOfOneThread};
 ghost use Rattle.glm.specs.Statuses.{IsStatus};
 
+use crate::args::{Request, request_of};
+use crate::call_gate::Gate;
 use crate::checking::{Verdict, check};
-use crate::gates::Gate;
 use crate::outcomes::Outcome;
-use crate::replaying::{ToolFault, replay};
-use crate::requests::{Request, request_of};
+use crate::replaying::replay;
 use crate::running::run;
 use crate::texts::{NOT_A_NUMERAL, VERSION_TEXT};
+use crate::tool_fault::ToolFault;
 use clap::Error;
 use clap::error::ErrorKind;
 use std::alloc::{AllocError, Global};
@@ -26,7 +27,7 @@ use std::io::{Read, Write};
 use std::sync::Wait;
 use std::thread::Threads;
 
-// What the parser's error comes to: help or the version on the output, or a fault of the words told on `errors`.
+/// Handles an error of the parser: writes help or the version to `output`, or a usage error to `errors`. Returns the outcome.
 fn outcome_of_error<W: Write, E: Write>(error: &Error, output: &mut W, errors: &mut E) -> Outcome
     ensures { IsOutcomeOfError (kind_of error.now) (W.contents output.old) (W.contents output.new) result }
 {
@@ -41,13 +42,13 @@ fn outcome_of_error<W: Write, E: Write>(error: &Error, output: &mut W, errors: &
         },
         ErrorKind::OutOfMemory => Outcome::OutOfMemory,
         _ => {
-            let _told = write!(errors, "{error}");
+            let _reported = write!(errors, "{error}");
             Outcome::Misused
         }
     }
 }
 
-// The line that tells a verdict.
+/// Returns the line that the program prints for a verdict. Fails if memory is refused.
 fn verdict_line(alloc: Global, verdict: Verdict) -> Result<String, AllocError>
     ensures { IfOk result (λ line. string_bytes line ≡ text_of_verdict verdict) }
 {
@@ -57,8 +58,9 @@ fn verdict_line(alloc: Global, verdict: Verdict) -> Result<String, AllocError>
     }
 }
 
-// Checks a history, and writes the verdict.
-fn tell_verdict<R: Read + Drop, W: Write>(
+/// Checks a history and writes the verdict to `output`. The fault is that of the check, or `NoMemory` if there is no memory
+/// for the line, or `Device` if the writer fails.
+fn write_verdict<R: Read + Drop, W: Write>(
     alloc: Global,
     input: R,
     output: &mut W,
@@ -68,8 +70,8 @@ fn tell_verdict<R: Read + Drop, W: Write>(
     requires few { sessions ≤ MAX_SESSIONS }
     ensures kept { IfErr result (λ fault. fault ≢ ToolFault.Device → Keeps (W.contents output.old) (W.contents output.new)) }
     ensures faults { IfErr result (λ fault. IsFaultOfOneThread fault) }
-    ensures told { IfOk result (λ verdict. Appends (W.contents output.old) (W.contents output.new) (text_of_verdict verdict)) }
-    ensures checks { (bytes : List ℕ) → R.remaining input ≡ Some bytes → TellsVerdict sessions bytes result }
+    ensures written { IfOk result (λ verdict. Appends (W.contents output.old) (W.contents output.new) (text_of_verdict verdict)) }
+    ensures checks { (bytes : List ℕ) → R.remaining input ≡ Some bytes → PrintsVerdict sessions bytes result }
 {
     let verdict = check(alloc, input, sessions)?;
     let Ok(line) = verdict_line(alloc, verdict) else {
@@ -81,7 +83,7 @@ fn tell_verdict<R: Read + Drop, W: Write>(
     Ok(verdict)
 }
 
-// Does what the words ask for.
+/// Parses the words and runs the command that they ask for. Usage errors are written to `errors`.
 fn outcome_of<'a, T: Threads + Wait, R: Read + Drop, W: Write, E: Write, G: Gate>(
     words: &'a [&'a str],
     rt: &T,
@@ -102,22 +104,30 @@ fn outcome_of<'a, T: Threads + Wait, R: Read + Drop, W: Write, E: Write, G: Gate
             Outcome::Run(run(rt, alloc, input, output, sessions, turns, gate))
         }
         Ok(Some(Request::Check(sessions))) => {
-            Outcome::Check(tell_verdict(alloc, input, output, sessions))
+            Outcome::Check(write_verdict(alloc, input, output, sessions))
         }
         Ok(None) => {
-            let _told = errors.write_all(NOT_A_NUMERAL.as_bytes());
+            let _reported = errors.write_all(NOT_A_NUMERAL.as_bytes());
             Outcome::Misused
         }
         Err(error) => outcome_of_error(&error, output, errors),
     }
 }
 
-/// The whole program but for its streams: the words are those of the command line, the program's own
-/// name first, and the gate is the one that the threads of a `run` enter. Answers the exit status: 0 done, or
-/// help or the version asked for, 1 a row refused, 2 usage, 3 a history that isn't legal, 4 no memory, 5 a device failed, 6 a
-/// gate stayed shut or tries ran out. A fault is told in one line on `errors`; a failure of `errors` changes
-/// no status. Nothing is written to `output` unless the status is 0, or 3 for the verdict, or 5 by a writer
-/// that failed.
+/// Runs the whole program except its streams. `words` are the command line with the program's own name first, and `gate`
+/// is the gate that the threads of a `run` enter. Returns the exit status:
+///
+/// - 0: done, or help or the version was asked for
+/// - 1: a row was refused
+/// - 2: usage error
+/// - 3: the history isn't legal
+/// - 4: no memory
+/// - 5: a reader or writer failed, or a thread couldn't be started
+/// - 6: a gate stayed shut, or a call ran out of tries
+///
+/// A fault is reported in one line on `errors`, and a usage error in several lines. A failure of `errors` changes no
+/// status. `output` is written only with status 0, with status 3 (the verdict), or with status 5 if the writer failed on
+/// the way.
 pub fn program<'a, T: Threads + Wait, R: Read + Drop, W: Write, E: Write, G: Gate>(
     rt: &T,
     alloc: Global,
@@ -127,13 +137,13 @@ pub fn program<'a, T: Threads + Wait, R: Read + Drop, W: Write, E: Write, G: Gat
     errors: &mut E,
     gate: &G,
 ) -> u8
-    // The status is that of an outcome, which tells what the words ask for and what was done.
+    // the status of an outcome that says what the words ask for and what was done
     ensures outcome { (outcome : Outcome) × (result ≡ status_of_outcome outcome)
         × HasDone (texts words.entry.now) (R.remaining input) (W.contents output.old) (W.contents output.new) outcome }
     ensures status { IsStatus result }
     ensures silent { result ≢ DONE → result ≢ ILLEGAL → result ≢ DEVICE → Keeps (W.contents output.old) (W.contents output.new) }
 {
     let outcome = outcome_of(words, rt, alloc, gate, input, output, errors);
-    outcome.tell(errors);
+    outcome.report(errors);
     outcome.status()
 }

@@ -1,14 +1,14 @@
-//! What holds of the words of the command line. A caller's proof cites a law by calling it, which costs nothing
-//! at run time.
+//! Laws of the command line. A caller's proof cites a law by calling it; the call does nothing at run time.
 
 ghost use Rattle.std.specs.Prelude.{◌≡◌, ℕ, List, [], ◌∷◌, codes};
 ghost use Rattle.clap.specs.Walk.{Text};
 ghost use Rattle.lock_rules.specs.declared.calls.TheConstants.{MAX_SESSIONS};
-ghost use Rattle.glm.specs.declared.requests.Request.{Request as RequestValue};
-ghost use Rattle.glm.specs.declared.requests.TheConstants.{MAX_TURNS};
+ghost use Rattle.glm.specs.declared.args.Request.{Request as RequestValue};
+ghost use Rattle.glm.specs.declared.args.TheConstants.{MAX_TURNS};
 ghost use Rattle.glm.specs.CommandLine.{Ask, AskCheck, AskHelp, AskNothing, AskReplay, AskRun, AskVersion};
 
-/// Words ask for one command at most, with its numbers, and those that ask for one don't ask for help or the version.
+/// A command line asks for at most one command with its numbers. A command line that asks for a command asks neither for
+/// help nor for the version.
 pub fn words_ask_for_one_thing()
     ensures one { (words : List Text) (r q : RequestValue) → Ask words r → Ask words q → r ≡ q }
     ensures sessions { (words : List Text) (m n : ℕ) → AskReplay words m → AskReplay words n → m ≡ n }
@@ -17,8 +17,8 @@ pub fn words_ask_for_one_thing()
     ensures replay_or_help { (words : List Text) (n : ℕ) → AskReplay words n → ¬ AskHelp words }
 {}
 
-/// Words, with what they ask for: a number is the greatest that there can be where it is left out, and it is refused
-/// below 1 and above that, and where a plus or a zero stands before it.
+/// Command lines with what they ask for. A number that is left out is the greatest that the option takes. A number below 1
+/// or above the greatest is refused, and so is one with a plus sign or a leading zero.
 pub fn words_ask_as_documented()
     ensures left_out { AskReplay (codes "glm" ∷ codes "replay" ∷ []) MAX_SESSIONS }
     ensures apart { AskReplay (codes "glm" ∷ codes "replay" ∷ codes "--sessions" ∷ codes "7" ∷ []) 7 }

@@ -1,23 +1,25 @@
-//! The tool `glm`: from the bytes of a trace to the bytes of a history, and the command line round it.
+//! The tool `glm`: replays, runs and checks traces of lock calls, with its command line.
 #![tactic(auto)]
 
+mod args;
+mod call_gate;
 mod checking;
 mod commands;
-mod gates;
 pub mod laws;
 mod outcomes;
 mod replaying;
-mod requests;
 mod running;
 mod texts;
 mod threads;
+mod tool_fault;
 mod workers;
 
+pub use args::MAX_TURNS;
+pub use call_gate::{Gate, OpenGate};
 pub use checking::{Verdict, check};
 pub use commands::program;
-pub use gates::{Gate, OpenGate};
 pub use outcomes::{DEVICE, DONE, ILLEGAL, NO_MEMORY, REFUSED, STOPPED, USAGE};
-pub use replaying::{ToolFault, replay};
-pub use requests::MAX_TURNS;
+pub use replaying::replay;
 pub use running::run;
 pub use texts::{VERSION, VERSION_TEXT};
+pub use tool_fault::ToolFault;

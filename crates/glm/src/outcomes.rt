@@ -1,45 +1,45 @@
-//! What a run of the program comes to, the status that it ends with and the line that tells of it.
+//! The outcome of one execution of the program, with its exit status and its line on standard error.
 
 ghost use Rattle.std.specs.Prelude.{◌≡◌};
 ghost use Rattle.glm.specs.Outcomes.{status_of_outcome};
 ghost use Rattle.glm.specs.Statuses.{status_for};
 
 use crate::checking::Verdict;
-use crate::replaying::ToolFault;
+use crate::tool_fault::ToolFault;
 use lock_trace::TraceKind;
 use std::io::Write;
 
-/// The status where all was done, or help or the version was asked for.
+/// Exit status: the command was done, or help or the version was shown.
 pub const DONE: u8 = 0;
 
-/// The status where a row of the input was refused.
+/// Exit status: a row of the input was refused.
 pub const REFUSED: u8 = 1;
 
-/// The status where the words of the command line are off.
+/// Exit status: usage error.
 pub const USAGE: u8 = 2;
 
-/// The status where a history isn't legal.
+/// Exit status: the checked history isn't legal.
 pub const ILLEGAL: u8 = 3;
 
-/// The status where memory was refused.
+/// Exit status: memory was refused.
 pub const NO_MEMORY: u8 = 4;
 
-/// The status where a reader or a writer failed, or a thread couldn't be started.
+/// Exit status: a reader or a writer failed, or a thread couldn't be started.
 pub const DEVICE: u8 = 5;
 
-/// The status where a gate stayed shut, or tries ran out.
+/// Exit status: a gate stayed shut, or a call ran out of tries.
 pub const STOPPED: u8 = 6;
 
-/// What a run of the program came to.
+/// The outcome of one execution of the program.
 #[derive(Clone, Copy, Debug, Drop, PartialEq, Eq)]
 pub(crate) enum Outcome {
-    /// A replay was asked for, and this is its answer.
+    /// The result of the replay that was asked for.
     Replay(Result<u64, ToolFault>),
-    /// A run was asked for, and this is its answer.
+    /// The result of the run on threads that was asked for.
     Run(Result<u64, ToolFault>),
-    /// A check was asked for, and this is its verdict, which was written.
+    /// The result of the check that was asked for. A verdict was also written to the output.
     Check(Result<Verdict, ToolFault>),
-    /// Help was asked for, and the writer took it.
+    /// Help was asked for, and written.
     HelpShown,
     /// Help was asked for, and the writer failed.
     HelpFailed,
@@ -47,13 +47,13 @@ pub(crate) enum Outcome {
     VersionShown,
     /// The version was asked for, and the writer failed.
     VersionFailed,
-    /// The words of the command line are off, which has been told.
+    /// The command line is wrong; the usage error was already written.
     Misused,
-    /// Memory was refused before the words were read.
+    /// Memory was refused to the parser of the command line.
     OutOfMemory,
 }
 
-// The status of a fault.
+/// The exit status of a fault.
 fn status_of_fault(fault: &ToolFault) -> u8
     ensures { result ≡ status_for fault.now }
 {
@@ -69,9 +69,9 @@ fn status_of_fault(fault: &ToolFault) -> u8
     }
 }
 
-// Tells of a fault in one line. Where standard error fails too, the status still tells.
-fn tell_fault<E: Write>(fault: &ToolFault, errors: &mut E) {
-    let _told = match status_of_fault(fault) {
+/// Writes the line of a fault. A failure of `errors` is ignored; the exit status still reports the fault.
+fn report_fault<E: Write>(fault: &ToolFault, errors: &mut E) {
+    let _reported = match status_of_fault(fault) {
         NO_MEMORY => writeln!(errors, "glm: out of memory"),
         DEVICE => writeln!(errors, "glm: device"),
         _ => writeln!(errors, "glm: {fault}"),
@@ -79,7 +79,7 @@ fn tell_fault<E: Write>(fault: &ToolFault, errors: &mut E) {
 }
 
 impl Outcome {
-    // The exit status.
+    /// The exit status of the outcome.
     pub(crate) fn status(&self) -> u8
         ensures { result ≡ status_of_outcome self.now }
     {
@@ -97,14 +97,17 @@ impl Outcome {
         }
     }
 
-    // Tells what failed, in one line. What is wrong with the words was told where they were read.
-    pub(crate) fn tell<E: Write>(&self, errors: &mut E) {
+    /// Writes one line if the command failed. A usage error was written when the words were parsed.
+    pub(crate) fn report<E: Write>(&self, errors: &mut E) {
         match self {
             Outcome::Replay(Err(fault)) | Outcome::Run(Err(fault)) | Outcome::Check(Err(fault)) => {
-                tell_fault(fault, errors)
+                report_fault(fault, errors)
             }
-            Outcome::HelpFailed | Outcome::VersionFailed => tell_fault(&ToolFault::Device, errors),
-            Outcome::OutOfMemory => tell_fault(&ToolFault::NoMemory, errors),
+            Outcome::HelpFailed | Outcome::VersionFailed => report_fault(
+                &ToolFault::Device,
+                errors,
+            ),
+            Outcome::OutOfMemory => report_fault(&ToolFault::NoMemory, errors),
             Outcome::Replay(Ok(_)) | Outcome::Run(Ok(_)) | Outcome::Check(Ok(_)) => {}
             Outcome::HelpShown | Outcome::VersionShown | Outcome::Misused => {}
         }

@@ -1,55 +1,18 @@
-//! A trace, served in its order on one lock table.
+//! The command `replay`: serves a trace in order on one lock table, on one thread.
 
 ghost use Rattle.std.specs.Io.KnownBytes.{Keeps};
 ghost use Rattle.std.specs.Prelude.{◌≡◌, ◌≢◌, ℕ, ◌<◌, ◌≤◌, List, Some, map, IfOk, IfErr};
 ghost use Rattle.lock_rules.specs.declared.calls.TheConstants.{MAX_SESSIONS};
 ghost use Rattle.lock_trace.specs.Histories.{row_of_entry};
 ghost use Rattle.glm.specs.Replays.{AreRows, HasServed, IsFaultOfOneThread, IsTextFor, Replays};
-ghost use Rattle.glm.specs.Statuses.{number_of_fault};
 
+use crate::tool_fault::ToolFault;
 use lock_desk::{Book, NoMemory};
-use lock_trace::{TraceFault, TraceKind, TraceRow, history_text, read_trace};
+use lock_trace::{TraceRow, history_text, read_trace};
 use std::alloc::Global;
 use std::io::{Read, Write};
-use thiserror::Error;
 
-/// Why the tool gave up. What it prints is what stands after `glm: ` on standard error.
-#[derive(Clone, Copy, Debug, Drop, PartialEq, Eq, Error)]
-pub enum ToolFault {
-    /// A row of the input was refused, or couldn't be read.
-    #[error("{0}")]
-    Trace(TraceFault),
-    /// Memory was refused.
-    #[error("out of memory")]
-    NoMemory,
-    /// The writer failed, or a thread couldn't be started.
-    #[error("device")]
-    Device,
-    /// The gate of a run stayed shut.
-    #[error("gate shut")]
-    GateShut,
-    /// A call of a run wasn't answered in as many tries as there may be.
-    #[error("turn limit")]
-    TurnLimit,
-}
-
-impl ToolFault {
-    /// The number of the kind of fault: 1 for a row or what kept it from being read, 2 for memory, 3 for the writer or a
-    /// thread, 4 for a gate, 5 for tries that ran out.
-    pub fn number(&self) -> u8
-        ensures { result ≡ number_of_fault self.now }
-    {
-        match self {
-            ToolFault::Trace(_) => 1,
-            ToolFault::NoMemory => 2,
-            ToolFault::Device => 3,
-            ToolFault::GateShut => 4,
-            ToolFault::TurnLimit => 5,
-        }
-    }
-}
-
-// The lock table after these rows.
+/// Serves the rows in order on a fresh lock table, and returns the table. Fails if it finds no memory.
 fn serve_all(alloc: Global, rows: &[TraceRow], sessions: u16) -> Result<Book, NoMemory>
     requires some { 0 < sessions }
     requires few { sessions ≤ MAX_SESSIONS }
@@ -63,7 +26,8 @@ fn serve_all(alloc: Global, rows: &[TraceRow], sessions: u16) -> Result<Book, No
     Ok(book)
 }
 
-// The text of the history of these rows, which are let go before it is made, as the lock table is after it.
+/// Serves the rows and returns the text of their history. Frees the rows before it makes the text, and the lock table
+/// afterwards, so that the three are never in memory together. Fails if memory is refused.
 fn served_text(alloc: Global, rows: Vec<TraceRow>, sessions: u16) -> Result<Vec<u8>, NoMemory>
     requires some { 0 < sessions }
     requires few { sessions ≤ MAX_SESSIONS }
@@ -75,12 +39,12 @@ fn served_text(alloc: Global, rows: Vec<TraceRow>, sessions: u16) -> Result<Vec<
     history_text(alloc, book.history())
 }
 
-/// Serves the rows of a trace in their order on one lock table for so many sessions, 1 to
-/// `MAX_SESSIONS`, and writes the text of its history. Answers how many rows there were.
+/// Serves the rows of a trace in order on one lock table of `sessions` sessions, 1 to `MAX_SESSIONS`, and writes the text
+/// of its history. Returns the number of rows.
 ///
-/// All is read, served and made into text before the first byte is written: after every fault but
-/// `Device` nothing was written, and after that one an unknown part of the text may have gone out.
-/// `Trace` is the first faulty row, with the first test that it fails.
+/// The whole text is made before the first byte is written. After every fault except `Device` nothing was written; after
+/// `Device` an unknown part of the text may have been written. The fault `Trace` names the first faulty row and the first
+/// test that the row fails.
 pub fn replay<R: Read + Drop, W: Write>(
     alloc: Global,
     input: R,
@@ -89,12 +53,12 @@ pub fn replay<R: Read + Drop, W: Write>(
 ) -> Result<u64, ToolFault>
     requires some { 0 < sessions }
     requires few { sessions ≤ MAX_SESSIONS }
-    // These hold whatever the reader gives.
+    // hold for every reader
     ensures kept { IfErr result (λ fault. fault ≢ ToolFault.Device → Keeps (W.contents output.old) (W.contents output.new)) }
     ensures served { IfOk result (λ count. HasServed sessions count (W.contents output.old) (W.contents output.new)) }
     ensures faults { IfErr result (λ fault. IsFaultOfOneThread fault) }
 
-    // This holds where the reader tells what it gives.
+    // holds for a reader whose bytes are known
     ensures replays { (bytes : List ℕ) → R.remaining input ≡ Some bytes → Replays sessions bytes (W.contents output.old) (W.contents output.new) result }
 {
     let rows = match read_trace(alloc, input, sessions) {

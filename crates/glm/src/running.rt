@@ -1,4 +1,4 @@
-//! A trace, performed by threads through one office.
+//! The command `run`: performs a trace by threads through one office.
 
 ghost use Rattle.std.specs.Io.KnownBytes.{Keeps};
 ghost use Rattle.std.specs.Prelude.{◌≡◌, ◌≢◌, ℕ, ◌<◌, ◌≤◌, List, Some, All, IfOk, IfErr};
@@ -8,9 +8,9 @@ ghost use Rattle.glm.specs.Replays.{AreRows};
 ghost use Rattle.glm.specs.Runs.{HasPerformed, IsRunOf, IsTextOfRun, Runs};
 ghost use Rattle.glm.specs.Workers.{fault_of_stop};
 
-use crate::gates::Gate;
-use crate::replaying::ToolFault;
+use crate::call_gate::Gate;
 use crate::threads::perform_all;
+use crate::tool_fault::ToolFault;
 use crate::workers::Stop;
 use combining::Office;
 use lock_desk::Book;
@@ -20,7 +20,7 @@ use std::io::{Read, Write};
 use std::sync::Wait;
 use std::thread::Threads;
 
-/// The greatest session of these rows, or 1 where there are none.
+/// Returns the greatest session number in the rows, or 1 if there are no rows.
 fn greatest_session(rows: &[TraceRow], sessions: u16) -> u16
     requires some { 0 < sessions }
     requires within { AreRows sessions rows.now }
@@ -35,7 +35,8 @@ fn greatest_session(rows: &[TraceRow], sessions: u16) -> u16
     greatest
 }
 
-/// The lock table after these rows, which threads performed, each those of one session.
+/// Performs the rows by threads, one thread for each session with a row, and returns the closed office's lock table. Fails
+/// with the reason why some thread stopped.
 fn performed<R: Threads + Wait, G: Gate>(
     rt: &R,
     alloc: Global,
@@ -59,7 +60,8 @@ fn performed<R: Threads + Wait, G: Gate>(
     }
 }
 
-/// The text of the history of these rows, which are let go before it is made, as the lock table is after it.
+/// Performs the rows by threads and returns the text of the history. Frees the rows before it makes the text, and the lock
+/// table afterwards.
 fn performed_text<R: Threads + Wait, G: Gate>(
     rt: &R,
     alloc: Global,
@@ -79,15 +81,15 @@ fn performed_text<R: Threads + Wait, G: Gate>(
     history_text(alloc, book.history()).map_err(|_| Stop::NoMemory)
 }
 
-/// Has threads perform the rows of a trace through one office, one thread for each session that has a row, and writes the
-/// text of the history. Sessions are 1 to `MAX_SESSIONS`. Each thread performs its session's rows in their order: it
-/// enters the gate, publishes the call, tries at most `turns` times to serve and to collect until the answer is there, and
-/// leaves the gate. Answers how many rows there were.
+/// Performs the rows of a trace by threads through one office, one thread for each session that has a row, and writes the
+/// text of the history. `sessions` is 1 to `MAX_SESSIONS`. Each thread performs its session's rows in order: it enters the
+/// gate, publishes the call, serves and collects at most `turns` times until the answer is there, and leaves the gate.
+/// Returns the number of rows.
 ///
-/// The whole trace is read before a thread is started, and the whole text is made before its first byte is written: after
-/// every fault but `Device` nothing was written, and after that one, where it is the writer's, an unknown part of the text
-/// may have gone out. `Trace` is the first faulty row, with the first test that it fails. Where threads stopped for several
-/// reasons, the one with the least number is told. Nothing is said of when this returns.
+/// The whole trace is read before a thread is started, and the whole text is made before its first byte is written. After
+/// every fault except `Device` nothing was written; after `Device` an unknown part of the text may have been written. The
+/// fault `Trace` names the first faulty row and the first test that the row fails. If threads stop for several reasons,
+/// the fault with the least number is returned. No contract says that this call returns.
 pub fn run<R: Read + Drop, W: Write, T: Threads + Wait, G: Gate>(
     rt: &T,
     alloc: Global,
@@ -99,11 +101,11 @@ pub fn run<R: Read + Drop, W: Write, T: Threads + Wait, G: Gate>(
 ) -> Result<u64, ToolFault>
     requires some { 0 < sessions }
     requires few { sessions ≤ MAX_SESSIONS }
-    // These hold whatever the reader gives.
+    // hold for every reader
     ensures kept { IfErr result (λ fault. fault ≢ ToolFault.Device → Keeps (W.contents output.old) (W.contents output.new)) }
     ensures performed { IfOk result (λ count. HasPerformed sessions count (W.contents output.old) (W.contents output.new)) }
 
-    // This holds where the reader tells what it gives.
+    // holds for a reader whose bytes are known
     ensures runs { (bytes : List ℕ) → R.remaining input ≡ Some bytes → Runs sessions bytes (W.contents output.old) (W.contents output.new) result }
 {
     let rows = match read_trace(alloc, input, sessions) {

@@ -1,11 +1,12 @@
-//! What the program says of itself: its version, and what its help says beside its commands and their options.
+//! Texts of the program: its version, its help texts, and the message for a badly written number.
 
 /// The version of the project.
 pub const VERSION: &str = "0.7.0";
 
-/// What is printed of the version: the project's, and the kit and the logic that it was proved with.
+/// The text of `--version`: the project's version, and the kit and the logic that it was proved with.
 pub const VERSION_TEXT: &str = "glm 0.7.0\nproved with rattle-kit-13b, logic dac8208d650f15bf\n";
 
+/// The beginning of the help of `replay`.
 pub(crate) const ABOUT_REPLAY: &str =
     "Serves a trace from standard input on one thread, and writes its history to standard output.
 
@@ -25,6 +26,7 @@ The history has a row for each call: place,session,op,resource,mode,reply,value.
 
 An example: glm replay < examples/queue.csv";
 
+/// The beginning of the help of `run`.
 pub(crate) const ABOUT_RUN: &str =
     "Performs a trace from standard input on threads, one for each session that has a row, and writes the history that
 came about to standard output. The rows of a session are performed in their order; how those of two sessions fall
@@ -38,6 +40,7 @@ place,session,op,resource,mode,reply,value; 'glm help replay' shows a row of eac
 
 An example: glm run < examples/queue.csv";
 
+/// The beginning of the help of `check`.
 pub(crate) const ABOUT_CHECK: &str =
     "Reads a history from standard input, and says on standard output whether it is legal: whether each reply is the
 one that the lock table gives there. It writes 'legal', with the number of entries, or 'illegal', with the first place
@@ -54,6 +57,7 @@ A row of a history is place,session,op,resource,mode,reply,value, one for each c
 
 An example: glm check < examples/queue.history.csv";
 
+/// The list of exit statuses at the end of the help texts.
 pub(crate) const STATUSES: &str = "Exit status:
   0  done, or help or the version asked for
   1  a row was refused, which standard error names
@@ -63,7 +67,7 @@ pub(crate) const STATUSES: &str = "Exit status:
   5  reading or writing failed, or a thread couldn't be started
   6  a gate stayed shut, or tries ran out";
 
-/// What is told where the parser takes a number that isn't written as numbers are here.
+/// The message for a number that the parser takes but that has a sign or a leading zero.
 pub(crate) const NOT_A_NUMERAL: &str =
     "error: a number is written with digits alone, with no sign and no zero before it
 

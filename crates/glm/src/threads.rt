@@ -6,7 +6,7 @@ ghost use Rattle.combining.specs.Sessions.{IsSessionOf, IsIdle};
 ghost use Rattle.glm.specs.Calls.{calls_of_rows};
 ghost use Rattle.glm.specs.Workers.{IsNewSession, IsPerformed, IsWorkOf, IsStart, number_of_start, numbers_of, numbers_of_starts, first_of_stops};
 
-use crate::gates::Gate;
+use crate::call_gate::Gate;
 use crate::workers::{Stop, perform_rows};
 use combining::{Office, Session};
 use lock_trace::TraceRow;
@@ -15,61 +15,68 @@ use std::sync::Wait;
 use std::thread;
 use std::thread::{Promise, PromisedHandle, Scope, Threads};
 
-/// A session after its thread's work, and why the thread stopped before the last row, if it did.
+/// The result of a session's thread.
 #[derive(Drop)]
-pub(crate) struct Worked {
+pub(crate) struct ThreadResult {
+    /// The session, which the thread gives back.
     pub session: Session,
+    /// Why the thread stopped before its last row, or `None` if it performed all rows.
     pub stop: Option<Stop>,
 }
 
-/// What a thread promises: that its session, which has this number, performed its rows.
+/// The promise of a thread: its session performed its rows, unless the result has a reason to stop.
 #[derive(Clone, Copy)]
 pub(crate) struct Performs<'a> {
+    /// The office of the session.
     office: &'a Office,
+    /// The session's number.
     number: u16,
+    /// The rows of all sessions.
     rows: &'a [TraceRow],
 }
 
-impl<'a> Promise<Worked> for Performs<'a> {
+impl<'a> Promise<ThreadResult> for Performs<'a> {
     ghost use Rattle.glm.specs.Workers.{IsWorkOf};
 
     ghost kept_by = { λ p worked. IsWorkOf p.office.now p.number p.rows.now worked };
 }
 
-/// A session that was given to a thread, or one that has no row and needs none.
+/// A started session: its thread, or the session itself if it has no row.
 #[derive(Drop)]
 pub(crate) enum Start<'a> {
-    Thread(PromisedHandle<Worked, Performs<'a>>),
+    /// The thread that performs the session's rows.
+    Thread(PromisedHandle<ThreadResult, Performs<'a>>),
+    /// A session without a row, which needs no thread.
     Idle(Session),
 }
 
-/// What the thread of a session does.
-#[tactic(auto, using(crate::proofs::Performed::performed_known))]
+/// The body of a session's thread: performs the session's rows.
+#[tactic(auto, using(crate::proofs::IsPerformed::performed_known))]
 fn work<G: Gate>(
     office: &Office,
     session: Session,
     rows: &[TraceRow],
     turns: u64,
     gate: &G,
-) -> Worked
+) -> ThreadResult
     requires { IsNewSession office.now session }
     ensures { IsWorkOf office.now session.number rows.now result }
 {
     let mut session = session;
     let number = session.number();
     match perform_rows(office, &mut session, number, rows, turns, gate) {
-        Ok(()) => Worked {
+        Ok(()) => ThreadResult {
             session,
             stop: None,
         },
-        Err(stop) => Worked {
+        Err(stop) => ThreadResult {
             session,
             stop: Some(stop),
         },
     }
 }
 
-/// Whether the session has a row.
+/// Whether session `number` has a row.
 fn has_row(rows: &[TraceRow], number: u16) -> bool
     ensures { OnFalse result (calls_of_rows number rows.now ≡ []) }
 {
@@ -81,9 +88,9 @@ fn has_row(rows: &[TraceRow], number: u16) -> bool
     false
 }
 
-/// Starts the thread of a session, where it has a row. `None` where no thread could be made.
-#[tactic(auto, using(crate::proofs::Performed::performed_none))]
-fn begin<'s, E, G: Gate>(
+/// Starts the thread of a session, if the session has a row. Returns `None` if the thread couldn't be started.
+#[tactic(auto, using(crate::proofs::IsPerformed::performed_none))]
+fn start_session<'s, E, G: Gate>(
     scope: &Scope<'s, E>,
     office: &'s Office,
     session: Session,
@@ -104,7 +111,7 @@ fn begin<'s, E, G: Gate>(
         number,
         rows,
     };
-    let worked = move || -> Worked
+    let worked = move || -> ThreadResult
         requires { IsNewSession office.now session }
     { work(office, session, rows, turns, gate) };
     match scope.spawn_with(promise, worked) {
@@ -113,8 +120,9 @@ fn begin<'s, E, G: Gate>(
     }
 }
 
-/// Starts the threads of all sessions, as long as they can be made: why one wasn't. The sessions from that one on are let go.
-fn begin_all<'s, E, G: Gate>(
+/// Starts one thread for each session with a row. If one can't be started, returns the reason and drops that session and the
+/// ones after it.
+fn start_all<'s, E, G: Gate>(
     scope: &Scope<'s, E>,
     office: &'s Office,
     sessions: Vec<Session>,
@@ -129,7 +137,7 @@ fn begin_all<'s, E, G: Gate>(
     ensures all { result ≡ None → numbers_of_starts started.new.items ≡ numbers_of sessions.items }
 {
     for session in sessions {
-        let Some(start) = begin(scope, office, session, rows, turns, gate) else {
+        let Some(start) = start_session(scope, office, session, rows, turns, gate) else {
             return Some(Stop::Device);
         };
         if started.push(start).is_err() {
@@ -139,21 +147,21 @@ fn begin_all<'s, E, G: Gate>(
     None
 }
 
-/// The session after its work, once that is done.
-fn join<R: Threads>(rt: &R, started: Start<'_>) -> Worked
+/// Waits for the thread and returns its result. An idle session is returned at once.
+fn join<R: Threads>(rt: &R, started: Start<'_>) -> ThreadResult
     ensures { (office : _) (rows : _) → IsStart office rows started.entry → IsWorkOf office (number_of_start started.entry) rows result }
 {
     match started {
         Start::Thread(handle) => handle.join(rt),
-        Start::Idle(session) => Worked {
+        Start::Idle(session) => ThreadResult {
             session,
             stop: None,
         },
     }
 }
 
-/// Of two reasons to stop the one that is told, which comes first in the order of `Stop`.
-fn first_told(one: Option<Stop>, other: Option<Stop>) -> Option<Stop>
+/// Returns the reason to report out of two: the one whose fault has the lower number.
+fn first_reason(one: Option<Stop>, other: Option<Stop>) -> Option<Stop>
     ensures { result ≡ first_of_stops one other }
 {
     match (one, other) {
@@ -167,19 +175,24 @@ fn first_told(one: Option<Stop>, other: Option<Stop>) -> Option<Stop>
     }
 }
 
-/// Puts a session behind those that came back before it: the reason to stop that is told so far.
-fn take_back(done: &mut Vec<Session>, told: Option<Stop>, worked: Worked) -> Option<Stop>
-    ensures { result ≡ None → (told ≡ None) × (worked.stop ≡ None) × (done.new.items ≡ done.old.items ++ worked.session ∷ []) }
+/// Appends the session of a finished thread to `done`. Returns the reason to report so far: `NoMemory` if `done` can't grow,
+/// else the first of `reason` and the thread's own.
+fn append_finished(
+    done: &mut Vec<Session>,
+    reason: Option<Stop>,
+    worked: ThreadResult,
+) -> Option<Stop>
+    ensures { result ≡ None → (reason ≡ None) × (worked.stop ≡ None) × (done.new.items ≡ done.old.items ++ worked.session ∷ []) }
 {
-    let Worked { session, stop } = worked;
+    let ThreadResult { session, stop } = worked;
     if done.push(session).is_err() {
         return Some(Stop::NoMemory);
     }
-    first_told(told, stop)
+    first_reason(reason, stop)
 }
 
-/// Has the sessions perform their rows in threads of this scope, and gives them back, in their order, once all is done. Where
-/// one stopped, or couldn't have its thread, the reason that is told.
+/// Performs the sessions' rows in threads of this scope, waits for all of them, and returns the sessions in their order.
+/// Fails with the reason to report if a thread stopped early or couldn't be started.
 fn perform_within<'s, E, R: Threads, G: Gate>(
     scope: &Scope<'s, E>,
     rt: &R,
@@ -195,18 +208,19 @@ fn perform_within<'s, E, R: Threads, G: Gate>(
     ensures performed { IfOk result (λ done. All (IsPerformed office.now rows.now) done.items) }
 {
     let mut started = Vec::new(alloc);
-    let mut told = begin_all(scope, office, sessions, rows, turns, gate, &mut started);
+    let mut reason = start_all(scope, office, sessions, rows, turns, gate, &mut started);
     let mut done = Vec::new(alloc);
     for start in started {
-        told = take_back(&mut done, told, join(rt, start));
+        reason = append_finished(&mut done, reason, join(rt, start));
     }
-    match told {
+    match reason {
         None => Ok(done),
         Some(stop) => Err(stop),
     }
 }
 
-/// Has each session that has a row perform its rows in a thread of its own, and gives all sessions back, in their order.
+/// Performs the rows of each session in a thread of its own and returns all sessions in their order. Fails with the reason to
+/// report if a thread stopped early or couldn't be started.
 pub(crate) fn perform_all<R: Threads + Wait, G: Gate>(
     rt: &R,
     alloc: Global,

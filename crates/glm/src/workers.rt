@@ -1,33 +1,34 @@
-//! What one thread of a run does: it performs the rows of its session, one after another, each once.
+//! The work of one thread of a run: performs the rows of its session one after another, each once.
 
 ghost use Rattle.std.specs.Prelude.{◌≡◌, ◌<◌, ◌++◌, ◌∷◌, [], false, Some, None, OnOk, length};
 ghost use Rattle.std.specs.Bool.{OnTrue};
 ghost use Rattle.glm.specs.Calls.{calls_of_rows};
 ghost use Rattle.glm.specs.Workers.{fault_of_stop, rank_of_stop};
 
-use crate::gates::Gate;
-use crate::replaying::ToolFault;
+use crate::call_gate::Gate;
+use crate::tool_fault::ToolFault;
 use combining::{Office, Session, Turn};
 use lock_desk::{Call, NoMemory};
 use lock_trace::TraceRow;
 use std::alloc::AllocError;
 use std::{hint, thread};
 
-/// Why a thread stopped before its last row. Where threads stop for several of these, the first is told.
+/// Why a thread stopped before its last row, or why a run failed. If there are several reasons, the first in this order is
+/// reported.
 #[derive(Clone, Copy, Debug, Drop, PartialEq, Eq)]
 pub(crate) enum Stop {
-    /// Memory was refused: a pass of its own was starved, whether for this thread's call or for another's that it served.
+    /// Memory was refused: to the thread's own pass, for its call or another session's, or to the run itself.
     NoMemory,
-    /// It couldn't be started.
+    /// The thread couldn't be started.
     Device,
-    /// The gate stayed shut.
+    /// The gate stayed shut to a call.
     GateShut,
-    /// A call wasn't answered in as many tries as there may be.
+    /// A call wasn't answered within the allowed number of tries.
     TurnLimit,
 }
 
 impl Stop {
-    /// The fault that the run ends with.
+    /// The fault that the run fails with.
     pub(crate) fn fault(self) -> ToolFault
         ensures { result ≡ fault_of_stop self }
     {
@@ -39,7 +40,7 @@ impl Stop {
         }
     }
 
-    /// Its place in the order in which reasons are told, the number of its fault.
+    /// The position of the reason in the order of reporting: the number of its fault.
     pub(crate) fn rank(self) -> u8
         ensures { result ≡ rank_of_stop self }
     {
@@ -47,35 +48,37 @@ impl Stop {
     }
 }
 
-/// What a thread asks of the lock table that it shares, for its session.
+/// A shared lock table as a thread of a run uses it: publish a call, serve, collect the answer. Generic, so that the
+/// contracts of the work don't depend on the office.
 pub(crate) trait Service: Sync {
     ghost use Rattle.std.specs.Prelude.{◌≡◌, ◌++◌, ◌∷◌, [], Some, None};
     ghost use Rattle.std.specs.Bool.{OnTrue, OnFalse};
     ghost use Rattle.lock_rules.specs.declared.calls.Call.{Call as CallValue};
     ghost use Rattle.glm.specs.Workers.{Calls};
 
+    /// A session's handle.
     type Session;
 
-    // the session is one of this service, and publishes
+    // the session belongs to this service, and may publish
     ghost is_of: { Self → Self.Session → Type 0 };
 
-    // the session's number, the call that it waits for, and the calls to which it collected the answers
+    // the session's number, its pending call, and the calls whose answers it collected
     ghost calls: { Self.Session → Calls };
 
-    /// Publishes a call.
+    /// Publishes a call of the session, which has none pending.
     fn publish(&self, session: &mut Self::Session, call: Call)
         requires ours { is_of self.now session.old }
         requires idle { (calls session.old).pending ≡ None }
         ensures ours { is_of self.now session.new }
         ensures published { calls session.new ≡ record (calls session.old) { pending = Some call } };
 
-    /// One try to serve what is published. `NoMemory`: this session's own pass was short of memory.
+    /// Tries once to serve the published calls. Fails with `NoMemory` if the session's own pass found no memory for a call.
     fn serve(&self, session: &mut Self::Session) -> Result<(), NoMemory>
         requires { is_of self.now session.old }
         ensures ours { is_of self.now session.new }
         ensures same { calls session.new ≡ calls session.old };
 
-    /// Collects the answer to the call that is published: whether it was there.
+    /// Collects the answer to the pending call. Returns whether the answer was there.
     fn collect(&self, session: &mut Self::Session) -> bool
         requires { is_of self.now session.old }
         ensures ours { is_of self.now session.new }
@@ -92,16 +95,19 @@ impl Service for Office {
     ghost use Rattle.combining.specs.Sessions.{IsSessionOf};
     ghost use Rattle.glm.specs.Workers.{calls_known};
 
+    /// A session of the office.
     type Session = Session;
 
     ghost is_of = { λ office session. IsSessionOf office session × (session.retired ≡ false) };
 
     ghost calls = { calls_known };
 
+    /// Publishes the call by the session's publication record.
     fn publish(&self, session: &mut Session, call: Call) {
         let _posted = Office::publish(self, session, call);
     }
 
+    /// Makes a pass as the combiner, or returns at once if another session is the combiner.
     fn serve(&self, session: &mut Session) -> Result<(), NoMemory> {
         match Office::serve(self, session) {
             Turn::Pass { starved, .. } if starved => Err(AllocError),
@@ -109,19 +115,20 @@ impl Service for Office {
         }
     }
 
+    /// Takes the answer from the session's publication record, if it is there.
     fn collect(&self, session: &mut Session) -> bool {
         Office::collect(self, session).is_some()
     }
 }
 
-/// How many tries for one answer have pauses between them. Before each further one the processor goes to other threads.
+/// The number of tries for one answer that are followed by a spin. Every later try is followed by a yield of the processor.
 const TRIES_WITH_PAUSES: u64 = 64;
 
-/// How many pauses lie between two of these tries: a session that waits disturbs the combiner with each look at its words.
+/// The pause instructions of one spin between two tries. Each look of a waiting session takes cache lines from the combiner.
 const PAUSES: u32 = 256;
 
-/// Waits a little before the next try, or gives way to the other threads.
-fn give_way(tries: u64) {
+/// Backs off after a try: spins, or yields the processor after the first `TRIES_WITH_PAUSES` tries.
+fn back_off(tries: u64) {
     if tries >= TRIES_WITH_PAUSES {
         thread::yield_now();
         return;
@@ -131,7 +138,8 @@ fn give_way(tries: u64) {
     }
 }
 
-/// Serves and collects until the answer to the pending call is there, with so many tries at most.
+/// Serves and collects until the answer to the pending call is there, at most `turns` times. Fails with `NoMemory` if a pass
+/// found none, and with `TurnLimit` if no try collected the answer.
 fn wait_for_answer<S: Service>(
     service: &S,
     session: &mut S::Session,
@@ -152,13 +160,13 @@ fn wait_for_answer<S: Service>(
         if service.collect(session) {
             return Ok(());
         }
-        give_way(tries);
+        back_off(tries);
     }
     Err(Stop::TurnLimit)
 }
 
-/// Performs one call, which is so many calls behind the session's first: between its gate's enter and leave it is
-/// published and answered.
+/// Performs call number `place` of session `number`: enters the gate, publishes the call, waits for its answer and leaves
+/// the gate. Fails with `GateShut` if the gate stayed shut, or as `wait_for_answer` fails.
 fn perform<S: Service, G: Gate>(
     service: &S,
     session: &mut S::Session,
@@ -184,7 +192,8 @@ fn perform<S: Service, G: Gate>(
     Ok(())
 }
 
-/// Performs the rows of a session that has called nothing yet: those of its number, in their order, each once.
+/// Performs the rows of session `number` in their order, each once. The session must have made no call yet. Fails at the
+/// first call that fails.
 pub(crate) fn perform_rows<S: Service, G: Gate>(
     service: &S,
     session: &mut S::Session,

@@ -1,4 +1,4 @@
-//! The program `glm`: the words of the command line, the standard streams and the exit status, and nothing more.
+//! The program `glm`: passes the command line and the standard streams to the library `glm`, and returns its exit status.
 #![tactic(auto)]
 
 mod awaited;
@@ -12,7 +12,8 @@ use std::sync::Wait;
 use std::thread::Threads;
 use std::{env, io};
 
-// The status of the program. An error is one of reading the words: memory was refused, or one isn't text.
+/// Runs the program and returns its exit status. Fails if the command line can't be read: memory is refused, or a word isn't
+/// UTF-8.
 fn status<R: Runtime + AllocGlobal + Threads + Wait, I: Read + Drop, O: Write, E: Write>(
     rt: &R,
     input: I,
@@ -28,6 +29,7 @@ fn status<R: Runtime + AllocGlobal + Threads + Wait, I: Read + Drop, O: Write, E
     Ok(program(rt, alloc, &words, input, output, errors, &OpenGate))
 }
 
+/// Runs the program on the standard streams. A command line that can't be read ends with status `USAGE` or `NO_MEMORY`.
 fn main(rt: HostRuntime) -> ExitCode {
     let mut output = rt.stdout();
     let mut errors = rt.stderr();
@@ -36,13 +38,13 @@ fn main(rt: HostRuntime) -> ExitCode {
     match status(&rt, input, &mut output, &mut errors) {
         Ok(status) => ExitCode::from(status),
         Err(error) if error.kind() == ErrorKind::InvalidData => {
-            let _told = eprintln!(rt;
+            let _written = eprintln!(rt;
                 "error: a word of the command line isn't UTF-8\n\nFor more information, try '--help'."
             );
             ExitCode::from(USAGE)
         }
         Err(_) => {
-            let _told = eprintln!(rt; "glm: out of memory");
+            let _written = eprintln!(rt; "glm: out of memory");
             ExitCode::from(NO_MEMORY)
         }
     }

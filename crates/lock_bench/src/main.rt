@@ -1,4 +1,4 @@
-//! The program that times the lock table and the office on a trace. `lock_bench --help` says how it is called.
+//! The program `lock_bench`: times the lock table, the office, and a mutex around the lock table on a trace.
 #![tactic(auto)]
 
 mod mutexes;
@@ -20,6 +20,7 @@ use std::sync::Wait;
 use std::thread::Threads;
 use std::{env, fs, io};
 
+/// The usage text.
 const USAGE: &str = "Times the lock table and the office on a trace.
 
     lock_bench seq FILE TIMES          serves the rows on a fresh book, TIMES times
@@ -35,10 +36,13 @@ first to the end of the last.
 The status is 0; 1 where the trace couldn't be read or served; 2 where the words are others.
 ";
 
+/// Exit status: the trace couldn't be read or served, or the output failed.
 const FAILED: u8 = 1;
 
+/// Exit status: usage error.
 const MISUSED: u8 = 2;
 
+/// Reads a number from a word of the command line. Fails with `Misused`.
 fn number(word: &str) -> Result<u64, Fault> {
     word.parse::<u64>().map_err(|_| Fault::Misused)
 }
@@ -46,13 +50,14 @@ fn number(word: &str) -> Result<u64, Fault> {
 /// How threads share the lock table.
 #[derive(Clone, Copy)]
 enum Sharing {
-    /// Each publishes its calls, and one serves them.
+    /// Each thread publishes its calls in an office, and one thread at a time serves them.
     Office,
-    /// Each takes a lock for each call.
+    /// Each thread locks a mutex for each call.
     Mutex,
 }
 
-/// The least of as many turns with as many threads.
+/// Makes `times` turns with `threads` threads, and returns the nanoseconds of the fastest. Fails with `Misused` if `threads`
+/// isn't 1 to 65535.
 fn best_turn<R: Runtime + Threads + Wait + Sync>(
     rt: &R,
     alloc: Global,
@@ -78,7 +83,7 @@ fn best_turn<R: Runtime + Threads + Wait + Sync>(
     Ok(best)
 }
 
-/// Does what the words ask, of which the first is the program's own name.
+/// Runs the command that the words ask for and prints its result. The first word is the program's own name.
 fn perform<R: Runtime + Threads + Wait + Sync>(
     rt: &R,
     alloc: Global,
@@ -111,10 +116,12 @@ fn perform<R: Runtime + Threads + Wait + Sync>(
     println!(rt; "ns_per_call={per_call}").map_err(|_| Fault::Device)
 }
 
+/// Returns the words of the command line.
 fn words(rt: &HostRuntime) -> io::Result<Vec<String>> {
     Ok(env::args(rt)?.collect(rt.alloc())?)
 }
 
+/// Prints the usage, or runs the command and prints its fault, if any.
 fn main(rt: HostRuntime) -> ExitCode {
     let Ok(words) = words(&rt) else {
         return ExitCode::from(FAILED);

@@ -1,4 +1,4 @@
-//! The rows of a trace on one book behind a mutex, by many threads: what an engine does that has no office.
+//! Times a trace on one book behind a mutex, by many threads, as an engine without an office would serve it.
 
 ghost use Rattle.std.specs.Prelude.{◌≡◌, ◌<◌, IfOk};
 ghost use Rattle.std.specs.List.{All};
@@ -16,14 +16,16 @@ use std::thread;
 use std::thread::Threads;
 use std::time::{Clock, Instant};
 
-/// A lock table for all sessions that a trace may name.
+/// A lock table for all sessions that a trace may name; the mutex guards it.
 #[derive(Drop)]
 struct Guarded {
+    /// The lock table.
     book: Book,
     ghost sized: { book.sessions ≡ SESSIONS },
 }
 
 impl Guarded {
+    /// Serves a row, and drops the reply.
     fn serve(&mut self, row: &TraceRow) -> Result<(), Fault>
         requires { IsRow SESSIONS row.now }
     {
@@ -36,15 +38,16 @@ impl Guarded {
 
 /// The rows of one thread.
 #[derive(Drop)]
-struct Part {
+struct ThreadRows {
+    /// The rows of the thread's sessions, in the order of the trace.
     rows: Vec<TraceRow>,
 }
 
-/// Performs the rows of a thread, each under the lock.
-fn work<R: Wait + Clock>(rt: &R, table: &Mutex<Guarded>, part: Part) -> Result<Span, Fault>
+/// Serves the rows of a thread, each under the mutex. Returns when the thread began and when it was done.
+fn work<R: Wait + Clock>(rt: &R, table: &Mutex<Guarded>, part: ThreadRows) -> Result<Span, Fault>
     requires rows { All (IsRow SESSIONS) part.rows.items }
 {
-    let Part { rows } = part;
+    let ThreadRows { rows } = part;
     let start = Instant::now(rt).map_err(|_| Fault::Device)?;
     for row in &rows {
         table.lock(rt).serve(row)?;
@@ -53,7 +56,7 @@ fn work<R: Wait + Clock>(rt: &R, table: &Mutex<Guarded>, part: Part) -> Result<S
     Ok(Span { start, end })
 }
 
-/// The rows of the sessions of one thread, in the order of the trace.
+/// Returns the rows of the sessions whose number modulo `threads` is `thread`, in the order of the trace.
 fn rows_of(
     alloc: Global,
     rows: &[TraceRow],
@@ -73,8 +76,8 @@ fn rows_of(
     Ok(own)
 }
 
-/// The rows dealt out to as many threads.
-fn dealt_out(alloc: Global, rows: &[TraceRow], threads: u16) -> Result<Vec<Part>, Fault>
+/// Distributes the rows over `threads` threads, by session.
+fn deal_out(alloc: Global, rows: &[TraceRow], threads: u16) -> Result<Vec<ThreadRows>, Fault>
     requires threads { 0 < threads }
     requires rows { All (IsRow SESSIONS) rows.now }
     ensures rows { IfOk result (λ parts. All (λ part. All (IsRow SESSIONS) part.rows.items) parts.items) }
@@ -82,12 +85,14 @@ fn dealt_out(alloc: Global, rows: &[TraceRow], threads: u16) -> Result<Vec<Part>
     let mut parts = Vec::new(alloc);
     for thread in 0..threads {
         let rows = rows_of(alloc, rows, threads, thread).map_err(|_| Fault::NoMemory)?;
-        parts.push(Part { rows }).map_err(|_| Fault::NoMemory)?;
+        parts
+            .push(ThreadRows { rows })
+            .map_err(|_| Fault::NoMemory)?;
     }
     Ok(parts)
 }
 
-/// One turn on a fresh book: the nanoseconds from the start of the first thread to the end of the last.
+/// Serves the trace once on a fresh book. Returns the nanoseconds from the start of the first thread to the end of the last.
 pub fn turn<R: Threads + Wait + Clock + Sync>(
     rt: &R,
     alloc: Global,
@@ -97,11 +102,11 @@ pub fn turn<R: Threads + Wait + Clock + Sync>(
     requires threads { 0 < threads }
     requires rows { All (IsRow SESSIONS) rows.now }
 {
-    let parts = dealt_out(alloc, rows, threads)?;
+    let parts = deal_out(alloc, rows, threads)?;
     let book = Book::new(alloc, SESSIONS).map_err(|_| Fault::NoMemory)?;
     let table = Mutex::new(Guarded { book });
     let table = &table;
-    let spans = thread::map_vec(rt, parts, &|part: Part| work(rt, table, part)).map_err(
+    let spans = thread::map_vec(rt, parts, &|part: ThreadRows| work(rt, table, part)).map_err(
         |_| Fault::NoMemory,
     )?;
     spans::whole(spans)

@@ -1,4 +1,4 @@
-//! The rows of a trace on one book, by one thread.
+//! Times a trace on one book, by one thread.
 
 ghost use Rattle.std.specs.List.{All};
 ghost use Rattle.lock_trace.specs.Rows.{IsRow};
@@ -9,6 +9,7 @@ use lock_trace::TraceRow;
 use std::alloc::Global;
 use std::time::{Clock, Instant};
 
+/// Serves the rows in order, and drops the replies. Fails if the book finds no memory.
 fn serve_rows(book: &mut Book, rows: &[TraceRow]) -> Result<(), NoMemory>
     requires { All (IsRow book.old.sessions) rows.now }
 {
@@ -18,8 +19,8 @@ fn serve_rows(book: &mut Book, rows: &[TraceRow]) -> Result<(), NoMemory>
     Ok(())
 }
 
-/// The nanoseconds that the rows take on this book.
-fn timed<R: Clock>(rt: &R, book: &mut Book, rows: &[TraceRow]) -> Result<u64, Fault>
+/// Returns the nanoseconds that the book takes for the rows.
+fn time_rows<R: Clock>(rt: &R, book: &mut Book, rows: &[TraceRow]) -> Result<u64, Fault>
     requires { All (IsRow book.old.sessions) rows.now }
 {
     let start = Instant::now(rt).map_err(|_| Fault::Device)?;
@@ -28,15 +29,15 @@ fn timed<R: Clock>(rt: &R, book: &mut Book, rows: &[TraceRow]) -> Result<u64, Fa
     Ok(nanoseconds(span))
 }
 
-/// One turn on a fresh book: the nanoseconds that the rows took.
+/// Serves the trace once on a fresh book, and returns the nanoseconds for its rows.
 fn turn<R: Clock>(rt: &R, alloc: Global, rows: &[TraceRow]) -> Result<u64, Fault>
     requires { All (IsRow SESSIONS) rows.now }
 {
     let mut book = Book::new(alloc, SESSIONS).map_err(|_| Fault::NoMemory)?;
-    timed(rt, &mut book, rows)
+    time_rows(rt, &mut book, rows)
 }
 
-/// The least of as many turns.
+/// Serves the trace `times` times, and returns the nanoseconds of the fastest turn.
 pub fn best_turn<R: Clock>(
     rt: &R,
     alloc: Global,
@@ -52,7 +53,7 @@ pub fn best_turn<R: Clock>(
     Ok(best)
 }
 
-/// One turn on a fresh book, without a look at the clock.
+/// Serves the trace once on a fresh book, without reading the clock.
 fn serve_turn(alloc: Global, rows: &[TraceRow]) -> Result<(), Fault>
     requires { All (IsRow SESSIONS) rows.now }
 {
@@ -60,7 +61,7 @@ fn serve_turn(alloc: Global, rows: &[TraceRow]) -> Result<(), Fault>
     serve_rows(&mut book, rows).map_err(|_| Fault::NoMemory)
 }
 
-/// As many turns, without a look at the clock.
+/// Serves the trace `times` times, without reading the clock.
 pub fn serve_turns(alloc: Global, rows: &[TraceRow], times: u64) -> Result<(), Fault>
     requires { All (IsRow SESSIONS) rows.now }
 {

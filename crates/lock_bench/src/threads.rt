@@ -1,4 +1,4 @@
-//! The rows of a trace through one office, by many threads.
+//! Times a trace through one office, by many threads.
 
 ghost use Rattle.std.specs.Prelude.{◌<◌, IfOk};
 ghost use Rattle.std.specs.Bool.{OnTrue};
@@ -16,36 +16,40 @@ use std::thread::Threads;
 use std::time::{Clock, Instant};
 use std::{hint, thread};
 
-/// How often a thread looks for one answer.
+/// The greatest number of looks for one answer.
 const LOOKS: u64 = 1_000_000_000;
 
-/// One row of a thread: which of its sessions calls, and what.
+/// A row of a thread.
 #[derive(Clone, Copy)]
 struct Row {
+    /// The index of the session among the thread's sessions.
     at: usize,
+    /// The call.
     call: Call,
 }
 
-/// The sessions of a thread, and their rows.
+/// The work of a thread.
 #[derive(Drop)]
 struct Job {
+    /// The thread's sessions.
     sessions: Vec<Session>,
+    /// The rows of these sessions, in the order of the trace.
     rows: Vec<Row>,
 }
 
-/// How many looks for the answer lie between two tries for the lock table. A session that waits disturbs the combiner with
-/// each of them, so most looks are at its own record, and far apart.
-const LOOKS_A_TRY: u64 = 8;
+/// Looks for the answer between two tries to become the combiner. Each look of a waiting session takes cache lines from the
+/// combiner, so most looks are at the session's own record only, and far apart.
+const LOOKS_PER_TRY: u64 = 8;
 
-/// How many pauses lie between two looks.
+/// The pause instructions of one spin between two looks.
 const PAUSES: u32 = 256;
 
-/// How many looks a session makes before it gives way to other threads.
-const LOOKS_A_YIELD: u64 = 64;
+/// The looks between two yields of the processor.
+const LOOKS_PER_YIELD: u64 = 64;
 
-/// Lets the combiner go on before the next look.
-fn give_way(look: u64) {
-    if look % LOOKS_A_YIELD == LOOKS_A_YIELD - 1 {
+/// Backs off after a look: yields the processor after every `LOOKS_PER_YIELD` looks, and spins after the others.
+fn back_off(look: u64) {
+    if look % LOOKS_PER_YIELD == LOOKS_PER_YIELD - 1 {
         thread::yield_now();
         return;
     }
@@ -54,24 +58,25 @@ fn give_way(look: u64) {
     }
 }
 
-/// Publishes a call, and tries to serve and to collect until the answer is there: whether it came.
+/// Publishes a call, and serves and collects until the answer is there. Returns false if no answer came within `LOOKS` looks.
 fn perform(office: &Office, session: &mut Session, call: Call) -> bool
     requires ours { IsSessionOf office.now session.old × IsIdle session.old }
     ensures ours { OnTrue result (IsSessionOf office.now session.new × IsIdle session.new) }
 {
     let _posted = office.publish(session, call);
     for look in 0..LOOKS {
-        if look % LOOKS_A_TRY == 0 {
+        if look % LOOKS_PER_TRY == 0 {
             let _turn = office.serve(session);
         }
         if office.collect(session).is_some() {
             return true;
         }
-        give_way(look);
+        back_off(look);
     }
     false
 }
 
+/// Performs a row by the session that it names. Returns false if there is no such session or no answer came.
 fn perform_row(office: &Office, sessions: &mut Vec<Session>, row: &Row) -> bool
     requires ours { All (λ session. IsSessionOf office.now session × IsIdle session) sessions.old.items }
     ensures ours { OnTrue result (All (λ session. IsSessionOf office.now session × IsIdle session) sessions.new.items) }
@@ -82,7 +87,8 @@ fn perform_row(office: &Office, sessions: &mut Vec<Session>, row: &Row) -> bool
     perform(office, &mut sessions[row.at], row.call)
 }
 
-/// Performs the rows of a thread, each once its predecessor is answered.
+/// Performs the rows of a thread, each after the answer to the one before. Returns when the thread began and when it was
+/// done.
 fn work<R: Clock>(rt: &R, office: &Office, job: Job) -> Result<Span, Fault>
     requires ours { All (λ session. IsSessionOf office.now session × IsIdle session) job.sessions.items }
 {
@@ -97,7 +103,7 @@ fn work<R: Clock>(rt: &R, office: &Office, job: Job) -> Result<Span, Fault>
     Ok(Span { start, end })
 }
 
-/// The rows of these sessions, in the order of the trace.
+/// Returns the rows of these sessions, in the order of the trace.
 fn rows_of(alloc: Global, sessions: &[Session], rows: &[TraceRow]) -> Result<Vec<Row>, NoMemory> {
     let mut own = Vec::new(alloc);
     for row in rows {
@@ -111,8 +117,9 @@ fn rows_of(alloc: Global, sessions: &[Session], rows: &[TraceRow]) -> Result<Vec
     Ok(own)
 }
 
-/// A fresh office for the sessions of the trace, which are dealt out to as many threads.
-fn dealt_out(alloc: Global, rows: &[TraceRow], threads: u16) -> Result<(Office, Vec<Job>), Fault>
+/// Opens an office for the sessions of the trace, and distributes the sessions over `threads` threads by number modulo
+/// `threads`.
+fn deal_out(alloc: Global, rows: &[TraceRow], threads: u16) -> Result<(Office, Vec<Job>), Fault>
     requires { 0 < threads }
     ensures { IfOk result (λ made. All (λ job. All (λ session. IsSessionOf made.0 session × IsIdle session) job.sessions.items) made.1.items) }
 {
@@ -143,7 +150,8 @@ fn dealt_out(alloc: Global, rows: &[TraceRow], threads: u16) -> Result<(Office, 
     Ok((office, jobs))
 }
 
-/// One turn through a fresh office: the nanoseconds from the start of the first thread to the end of the last.
+/// Performs the trace once through a fresh office. Returns the nanoseconds from the start of the first thread to the end of
+/// the last.
 pub fn turn<R: Threads + Clock + Sync>(
     rt: &R,
     alloc: Global,
@@ -152,7 +160,7 @@ pub fn turn<R: Threads + Clock + Sync>(
 ) -> Result<u64, Fault>
     requires { 0 < threads }
 {
-    let (office, jobs) = dealt_out(alloc, rows, threads)?;
+    let (office, jobs) = deal_out(alloc, rows, threads)?;
     let office = &office;
     let spans = thread::map_vec(rt, jobs, &|job: Job| work(rt, office, job)).map_err(
         |_| Fault::NoMemory,

@@ -1,17 +1,17 @@
-//! Spans of time, and why there is none.
+//! Nanoseconds, the faults of the program, and the number of sessions.
 
 use std::fmt;
 use std::fmt::{Display, Formatter, Write};
 use std::time::Duration;
 use thiserror::Error;
 
-/// Each book and each office is made for as many sessions, and a trace may name no others.
+/// The sessions of each book, and the greatest session number that a trace may have.
 pub const SESSIONS: u16 = 256;
 
-/// Why the program gave up.
+/// Why the program failed.
 #[derive(Clone, Copy, Debug, PartialEq, Eq, Error, Drop)]
 pub enum Fault {
-    /// The words are those of no command.
+    /// The words of the command line are no command.
     #[error("usage")]
     Misused,
     /// The file isn't a trace.
@@ -23,28 +23,29 @@ pub enum Fault {
     /// Memory was refused.
     #[error("out of memory")]
     NoMemory,
-    /// A call was not answered, however often a thread tried.
+    /// A call wasn't answered within the greatest number of looks.
     #[error("no answer")]
     NoAnswer,
 }
 
-/// The nanoseconds of a span, at most `u64::MAX`.
+/// Returns the nanoseconds of a duration, or `u64::MAX` if there are more.
 pub fn nanoseconds(span: Duration) -> u64 {
     span.as_secs()
         .saturating_mul(1_000_000_000)
         .saturating_add(u64::from(span.subsec_nanos()))
 }
 
-/// The nanoseconds of one call, printed with two decimals.
+/// The nanoseconds per call, printed with two decimals.
 #[derive(Clone, Copy)]
 pub struct PerCall {
-    /// What all calls took.
+    /// The nanoseconds of all calls.
     pub nanoseconds: u64,
-    /// How many there were.
+    /// The number of calls.
     pub calls: u64,
 }
 
 impl Display for PerCall {
+    /// Prints the quotient, rounded down; no calls count as one.
     fn fmt<W: Write>(&self, f: &mut Formatter<W>) -> fmt::Result {
         let hundredths = self.nanoseconds.saturating_mul(100) / self.calls.max(1);
         write!(f, "{}.{:02}", hundredths / 100, hundredths % 100)

@@ -2,51 +2,49 @@
 use Rattle.std.proofs.Common.{◌≡◌, ℕ, zero, suc, ◌<◌, Bool, true, false, cond, not, eqb, ◌&&◌, ◌||◌, inl, inr, List, [], ◌∷◌, length, get_or, set, Option, Some, None, refl, sym, ◌∙◌, ap, arith, subst}
 use Rattle.std.proofs.lemmas.Bool.{cases_Bool}
 use Rattle.lock_rules.proofs.Sound.{eqb-swap}
-use Rattle.std.specs.List.{All}
 use Rattle.std.proofs.lemmas.Bool.Decides.{nat_tests, Decides-eqb}
 use Rattle.std.proofs.lemmas.List.{get_or_default, get_or-set_same, get_or-set_other}
-use Rattle.std.proofs.lemmas.List.Elements.{All-head, All-tail}
 use Rattle.std.proofs.Math.Seq.{map-set_same}
 use Rattle.lock_tree.specs.Paths.{same_path}
 use Rattle.lock_rules.proofs.Lists.{same_path-refl, same_path-true, same_path_tells}
 use Rattle.lock_desk.specs.declared.cells.SessionMode.{SessionMode}
 use Rattle.lock_desk.specs.declared.lockers.Locker.{Locker}
-use Rattle.lock_desk.specs.declared.desk.Desk.{Desk}
-use Rattle.lock_desk.specs.declared.cells.Part.{Part}
-use Rattle.lock_desk.specs.declared.cells.Part.TheVariants as part
-use Rattle.lock_desk.specs.Cells.{View, with_holder, has_session, view_after_giving_up, queue_with, can_grant, view_after_asking, has_path, AreApart}
-use Rattle.lock_desk.specs.Lockers.{Standing, no_standing, standing_of, standings_of, standing_at, is_wanted, standing_after_asking, IsKeptLocker, IsSameOrGranted, AreSameOrGranted, DoAgree}
-use Rattle.lock_desk.specs.Changes.{view_at, standings, DoesKeep}
+use Rattle.lock_desk.specs.declared.lock_table.LockTable.{LockTable}
+use Rattle.lock_desk.specs.declared.cells.Claim.{Claim}
+use Rattle.lock_desk.specs.declared.cells.Claim.TheVariants as claim
+use Rattle.lock_desk.specs.inner.Cells.{View, with_holder, has_session, view_after_giving_up, queue_with, can_grant, view_after_asking, has_path, AreApart}
+use Rattle.lock_desk.specs.inner.Lockers.{Standing, no_standing, standing_of, standings_of, standing_at, is_wanted, standing_after_asking, IsSameOrGranted, AreSameOrGranted, DoAgree}
+use Rattle.lock_desk.specs.inner.Changes.{view_at, standings, DoesKeep}
 use Rattle.lock_desk.proofs.SessionModes.{has_session-with_holder, has_session-queued, has_session-without}
 use Rattle.lock_desk.proofs.LockerStandings.{IsPositionOf, has_path-with, has_path-with_other}
 
--- an act after another keeps what both keep
-pub keeps-on : {d e f : Desk} → DoesKeep d e → DoesKeep e f → DoesKeep d f
+-- two operations, one after the other, keep what each keeps
+pub keeps-on : {d e f : LockTable} → DoesKeep d e → DoesKeep e f → DoesKeep d f
 keeps-on h k = record { whole = k.whole; lockers = k.lockers ∙ h.lockers; ready = k.ready }
 
 -- the standing of one session is written
 
--- the others stand as before
+-- the other sessions' standings are unchanged
 pub other-standing : (ss : List Standing) (s u : ℕ) (x : Standing) → eqb s u ≡ false → standing_at u (set ss s x) ≡ standing_at u ss
 other-standing ss s u x e = grind (arith, nat_tests, get_or-set_other {A = Standing})
 
--- the session stands as written
+-- the session's standing is the written one
 pub own-standing : (ss : List Standing) (s : ℕ) (x : Standing) → s < length ss → standing_at s (set ss s x) ≡ x
 own-standing ss s x lt = get_or-set_same ss s x no_standing lt
 
--- a locker that says the same changes nothing
+-- writing a locker that says the same changes no standing
 pub standings-same : (ws : List Locker) (s : ℕ) {i : ℕ} (w new : Locker) → IsPositionOf s i ws → w ≡ get_or ws i w → standing_of new ≡ standing_of w → standings_of (set ws i new) ≡ standings_of ws
 standings-same ws s {i} w new p at e = ap (λ (ss : List Standing). no_standing ∷ ss) (map-set_same standing_of ws i new new (e ∙ ap standing_of (at ∙ get_or_default ws i w new p.within)))
 
 -- no session holds a resource twice
-pub apart-at : (ws : List Locker) (s : ℕ) → All IsKeptLocker ws → AreApart (standing_at s (standings_of ws)).held
-apart-at ws zero k = tt
-apart-at [] (suc s) k = tt
-apart-at (w ∷ ws) (suc zero) k = (All-head IsKeptLocker w ws k).apart
-apart-at (w ∷ ws) (suc (suc s)) k = apart-at ws (suc s) (All-tail IsKeptLocker w ws k)
+pub apart-at : (ws : List Locker) (s : ℕ) → AreApart (standing_at s (standings_of ws)).held
+apart-at ws zero = tt
+apart-at [] (suc s) = tt
+apart-at (w ∷ ws) (suc zero) = w.apart
+apart-at (w ∷ ws) (suc (suc s)) = apart-at ws (suc s)
 
--- the lockers and the cells agree about the resource that has changed, and about the others as before
-pub all-agree : (r : List ℕ) (v : View) (d e : Desk) → ((q : List ℕ) → view_at q e ≡ cond (same_path r q) v (view_at q d)) → DoAgree r v (standings e)
+-- lockers and cells agree about the changed resource, and about the others as before
+pub all-agree : (r : List ℕ) (v : View) (d e : LockTable) → ((q : List ℕ) → view_at q e ≡ cond (same_path r q) v (view_at q d)) → DoAgree r v (standings e)
     → ((x : List ℕ) → same_path r x ≡ false → DoAgree x (view_at x d) (standings e)) → (x : List ℕ) → DoAgree x (view_at x e) (standings e)
 all-agree r v d e views here there x = elim (same_path_tells r x) [
   | inl h ↦ subst (λ (w : View). DoAgree x w (standings e)) (sym (views x ∙ ap (λ (b : Bool). cond b v (view_at x d)) h.0)) (subst (λ (p : List ℕ). DoAgree p v (standings e)) h.1 here)
@@ -55,41 +53,41 @@ all-agree r v d e views here there x = elim (same_path_tells r x) [
 
 -- a lock or a request is given up
 
--- whether a session that gives up this part holds the resource still, and waits for it still
-abbrev pub still_held : Part → Bool → Bool
-still_held part.Lock b = false
-still_held part.Request b = b
+-- whether a session that gives up this claim still holds the resource, and still waits for it
+abbrev pub still_held : Claim → Bool → Bool
+still_held claim.Lock b = false
+still_held claim.Request b = b
 
-abbrev pub still_wanted : Part → Bool → Bool
-still_wanted part.Lock b = b
-still_wanted part.Request b = false
+abbrev pub still_wanted : Claim → Bool → Bool
+still_wanted claim.Lock b = b
+still_wanted claim.Request b = false
 
 -- the session has given up its lock on the resource, or its request, and nothing else
-pub record GivesUp (p : Part) (r : List ℕ) (x y : Standing) : Type 0 where
+pub record GivesUp (p : Claim) (r : List ℕ) (x y : Standing) : Type 0 where
   pub transaction : y.transaction ≡ x.transaction
   pub held : has_path r y.held ≡ still_held p (has_path r x.held)
   pub wanted : is_wanted r y.wanted ≡ still_wanted p (is_wanted r x.wanted)
   pub held_elsewhere : (q : List ℕ) → same_path r q ≡ false → has_path q y.held ≡ has_path q x.held
   pub wanted_elsewhere : (q : List ℕ) → same_path r q ≡ false → is_wanted q y.wanted ≡ is_wanted q x.wanted
 
-own-holders : (p : Part) (s : ℕ) (v : View) → has_session s (view_after_giving_up p s v).holders ≡ still_held p (has_session s v.holders)
-own-holders part.Lock s v = has_session-without s s v.holders ∙ ap (λ (b : Bool). not b && has_session s v.holders) ((Decides-eqb s s).1 refl)
-own-holders part.Request s v = refl
+own-holders : (p : Claim) (s : ℕ) (v : View) → has_session s (view_after_giving_up p s v).holders ≡ still_held p (has_session s v.holders)
+own-holders claim.Lock s v = has_session-without s s v.holders ∙ ap (λ (b : Bool). not b && has_session s v.holders) ((Decides-eqb s s).1 refl)
+own-holders claim.Request s v = refl
 
-own-waiting : (p : Part) (s : ℕ) (v : View) → has_session s (view_after_giving_up p s v).waiting ≡ still_wanted p (has_session s v.waiting)
-own-waiting part.Lock s v = refl
-own-waiting part.Request s v = has_session-without s s v.waiting ∙ ap (λ (b : Bool). not b && has_session s v.waiting) ((Decides-eqb s s).1 refl)
+own-waiting : (p : Claim) (s : ℕ) (v : View) → has_session s (view_after_giving_up p s v).waiting ≡ still_wanted p (has_session s v.waiting)
+own-waiting claim.Lock s v = refl
+own-waiting claim.Request s v = has_session-without s s v.waiting ∙ ap (λ (b : Bool). not b && has_session s v.waiting) ((Decides-eqb s s).1 refl)
 
-other-holders : (p : Part) (s u : ℕ) (v : View) → eqb s u ≡ false → has_session u (view_after_giving_up p s v).holders ≡ has_session u v.holders
-other-holders part.Lock s u v n = has_session-without s u v.holders ∙ ap (λ (b : Bool). not b && has_session u v.holders) (eqb-swap s u n)
-other-holders part.Request s u v n = refl
+other-holders : (p : Claim) (s u : ℕ) (v : View) → eqb s u ≡ false → has_session u (view_after_giving_up p s v).holders ≡ has_session u v.holders
+other-holders claim.Lock s u v n = has_session-without s u v.holders ∙ ap (λ (b : Bool). not b && has_session u v.holders) (eqb-swap s u n)
+other-holders claim.Request s u v n = refl
 
-other-waiting : (p : Part) (s u : ℕ) (v : View) → eqb s u ≡ false → has_session u (view_after_giving_up p s v).waiting ≡ has_session u v.waiting
-other-waiting part.Lock s u v n = refl
-other-waiting part.Request s u v n = has_session-without s u v.waiting ∙ ap (λ (b : Bool). not b && has_session u v.waiting) (eqb-swap s u n)
+other-waiting : (p : Claim) (s u : ℕ) (v : View) → eqb s u ≡ false → has_session u (view_after_giving_up p s v).waiting ≡ has_session u v.waiting
+other-waiting claim.Lock s u v n = refl
+other-waiting claim.Request s u v n = has_session-without s u v.waiting ∙ ap (λ (b : Bool). not b && has_session u v.waiting) (eqb-swap s u n)
 
-module _ (ss : List Standing) (p : Part) (s : ℕ) (r : List ℕ) (y : Standing) (lt : s < length ss) (gives : GivesUp p r (standing_at s ss) y) where
-  -- lockers and cell agree where it was given up
+module _ (ss : List Standing) (p : Claim) (s : ℕ) (r : List ℕ) (y : Standing) (lt : s < length ss) (gives : GivesUp p r (standing_at s ss) y) where
+  -- lockers and cell agree about the resource that was given up
   pub given-agree : (v : View) → DoAgree r v ss → DoAgree r (view_after_giving_up p s v) (set ss s y)
   given-agree v a = record {
     held = λ u. elim (cases_Bool (eqb s u)) [
@@ -104,7 +102,7 @@ module _ (ss : List Standing) (p : Part) (s : ℕ) (r : List ℕ) (y : Standing)
     ];
   }
 
-  -- and elsewhere as before
+  -- and about the others as before
   pub given-other : (x : List ℕ) → same_path r x ≡ false → (v : View) → DoAgree x v ss → DoAgree x v (set ss s y)
   given-other x n v a = record {
     held = λ u. elim (cases_Bool (eqb s u)) [
@@ -119,9 +117,9 @@ module _ (ss : List Standing) (p : Part) (s : ℕ) (r : List ℕ) (y : Standing)
     ];
   }
 
--- who is admitted to one resource has the others as before
+-- a grant of one resource leaves a session's other resources as they are
 
--- who waits for one resource doesn't wait for another
+-- a session that waits for one resource doesn't wait for another
 pub wanted-other : (r x : List ℕ) (o : Option (List ℕ)) → is_wanted r o ≡ true → same_path r x ≡ false → is_wanted x o ≡ false
 wanted-other r x None h n = refl
 wanted-other r x (Some p) h n = ap (λ (q : List ℕ). same_path q x) (same_path-true p r h) ∙ n
@@ -141,7 +139,7 @@ granted-other r x v old new n h a = record {
   wanted = λ u. wanted-granted r x (standing_at u old) (standing_at u new) n (h u) ∙ a.wanted u;
 }
 
--- who waits for nothing is not admitted
+-- a session that doesn't wait isn't granted
 pub not-granted : (r : List ℕ) (a b : Standing) → a.wanted ≡ None → IsSameOrGranted r a b → b ≡ a
 not-granted r a b h (inl e) = e
 not-granted r a b h (inr e) = absurd (let f = ap (is_wanted r) h in let g = e.0 in cc)

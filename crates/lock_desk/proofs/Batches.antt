@@ -6,29 +6,32 @@ use Rattle.lock_rules.specs.State.{State, empty}
 use Rattle.lock_rules.specs.Step.{step}
 use Rattle.lock_rules.specs.Legal.{state_of, state_after}
 use Rattle.lock_rules.proofs.Histories.{state_after-append}
-use Rattle.lock_desk.specs.declared.batch.Item.{Item}
+use Rattle.lock_desk.specs.declared.book.Item.{Item}
 use Rattle.lock_desk.specs.Batches.{entries_from, item_of}
-use Rattle.lock_desk.specs.Runs.{AreServed}
+use Rattle.lock_desk.specs.inner.Runs.{AreServed}
 
 -- the entries of the first k items
 abbrev pub entries_of_first : State → ℕ → List Item → List Entry
 entries_of_first st k items = entries_from st (take k items)
 
--- the items once the first k are served
+-- the items after the first k are served
 abbrev pub items_after : State → ℕ → List Item → List Item
 items_after st k items = map item_of (entries_of_first st k items) ++ drop k items
 
+-- the entry of an item with its reply
 abbrev pub entry_of : Item → Reply → Entry
 entry_of i reply = record { session = i.session; call = i.call; reply = reply }
 
+-- the item with its reply
 abbrev pub with_reply : Item → Reply → Item
 with_reply i reply = record { session = i.session; call = i.call; reply = Some reply }
 
--- the next item is served with this reply: one entry more, and its reply written
+-- the next item is served with this reply: its entry is added, and its reply is written
 pub record IsNext (st : State) (k : ℕ) (items : List Item) (i : Item) (reply : Reply) : Type 0 where
   pub entries : entries_of_first st (suc k) items ≡ entries_of_first st k items ++ entry_of i reply ∷ []
   pub written : set (items_after st k items) k (with_reply i reply) ≡ items_after st (suc k) items
 
+-- the reply of the step in the state after the first k items serves the next item
 pub next-item : (st : State) (items : List Item) (k : ℕ) (d : Item) (reply : Reply) → k < length items
     → reply ≡ (step (state_after st (entries_of_first st k items)) (get_or (items_after st k items) k d).session (get_or (items_after st k items) k d).call).reply
     → IsNext st k items (get_or (items_after st k items) k d) reply
@@ -46,13 +49,13 @@ next-item st (x ∷ xs) (suc k) d reply h e =
       written = ap (λ (is : List Item). item_of first ∷ is) n.written;
     }
 
--- the items are as many as before
+-- serving changes no number of items
 pub length-after : (st : State) (k : ℕ) (items : List Item) → length (items_after st k items) ≡ length items
 length-after st zero items = refl
 length-after st (suc k) [] = refl
 length-after st (suc k) (x ∷ xs) = ap suc (length-after (step st x.session x.call).state k xs)
 
--- none is served yet
+-- no item is served yet
 pub served-none : (batch : List Item) (start : List Entry) → AreServed 0 batch start start batch
 served-none batch start = record { few = omega arith; entries = sym (append-nil start); replies = refl }
 

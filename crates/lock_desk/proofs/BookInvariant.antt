@@ -1,4 +1,4 @@
--- What a book keeps follows from its history and its desk.
+-- The invariant of a book, from its history and its lock table.
 use Rattle.std.proofs.Common.{◌≡◌, ℕ, zero, suc, ◌+◌, ◌≤◌, List, [], ◌∷◌, ◌++◌, length, map, refl, length-append, sym, ap, arith, subst}
 use Rattle.std.specs.Prelude.{vec_len}
 use Rattle.std.specs.List.{All}
@@ -12,17 +12,17 @@ use Rattle.lock_rules.specs.Legal.{state_of, IsLegal}
 use Rattle.lock_rules.proofs.Histories.{legal-push, state_of-push}
 use Rattle.lock_desk.specs.declared.book.Book.TheInside.{Inside}
 use Rattle.lock_desk.specs.declared.lockers.Locker.{Locker}
-use Rattle.lock_desk.specs.Lockers.{no_standing, standing_of, standings_of, standing_at}
-use Rattle.lock_desk.specs.Changes.{IsWhole}
-use Rattle.lock_desk.specs.Ready.{IsReadyDesk}
-use Rattle.lock_desk.specs.Shows.{Shows}
-use Rattle.lock_desk.specs.Kept.{IsEntryWithin}
-use Rattle.lock_desk.specs.Invariant.{IsKept}
+use Rattle.lock_desk.specs.inner.Lockers.{no_standing, standing_of, standings_of, standing_at}
+use Rattle.lock_desk.specs.inner.Changes.{IsWhole}
+use Rattle.lock_desk.specs.inner.Ready.{IsReadyTable}
+use Rattle.lock_desk.specs.inner.Shows.{Shows}
+use Rattle.lock_desk.specs.BookView.{IsEntryWithin}
+use Rattle.lock_desk.specs.inner.Invariant.{IsKept}
 
--- one entry more
+-- after one more entry
 pub kept-more : (a : Inside) (es : List Entry) (session : ℕ) (call : Call) (reply : Reply) → a.history.items ≡ es ++ record { session = session; call = call; reply = reply } ∷ []
     → 1 ≤ a.sessions → a.sessions ≤ MAX_SESSIONS → IsLegal es → All (IsEntryWithin a.sessions) es → 1 ≤ session → session ≤ a.sessions
-    → reply ≡ (step (state_of es) session call).reply → Shows a.desk (step (state_of es) session call).state → IsWhole a.desk → IsReadyDesk a.desk → vec_len a.desk.lockers ≡ a.sessions → a.desk.count ≤ length es + 1 → a.marks.sessions ≡ a.sessions → IsKept a
+    → reply ≡ (step (state_of es) session call).reply → Shows a.lock_table (step (state_of es) session call).state → IsWhole a.lock_table → IsReadyTable a.lock_table → vec_len a.lock_table.lockers ≡ a.sessions → a.lock_table.count ≤ length es + 1 → a.marks.sessions ≡ a.sessions → IsKept a
 kept-more a es session call reply h any few legal within some most same shows whole ready lockers counted marked =
     let e : Entry = record { session = session; call = call; reply = reply } in
     record {
@@ -30,7 +30,7 @@ kept-more a es session call reply h any few legal within some most same shows wh
       few = few;
       legal = subst IsLegal (sym h) (legal-push es e legal same);
       within = subst (All (IsEntryWithin a.sessions)) (sym h) (All-push (IsEntryWithin a.sessions) es e within (record { some = some; within = most }));
-      shows = subst (λ (xs : List Entry). Shows a.desk (state_of xs)) (sym h) (subst (Shows a.desk) (sym (state_of-push es e)) shows);
+      shows = subst (λ (xs : List Entry). Shows a.lock_table (state_of xs)) (sym h) (subst (Shows a.lock_table) (sym (state_of-push es e)) shows);
       whole = whole;
       ready = ready;
       lockers = lockers;
@@ -38,14 +38,14 @@ kept-more a es session call reply h any few legal within some most same shows wh
       marked = marked;
     }
 
--- the same history
-pub kept-same : (a : Inside) (es : List Entry) → a.history.items ≡ es → 1 ≤ a.sessions → a.sessions ≤ MAX_SESSIONS → IsLegal es → All (IsEntryWithin a.sessions) es → Shows a.desk (state_of es) → IsWhole a.desk → IsReadyDesk a.desk → vec_len a.desk.lockers ≡ a.sessions → (n : ℕ) → n ≡ (state_of es).count → n ≤ length es → a.marks.sessions ≡ a.sessions → IsKept a
+-- with the same history
+pub kept-same : (a : Inside) (es : List Entry) → a.history.items ≡ es → 1 ≤ a.sessions → a.sessions ≤ MAX_SESSIONS → IsLegal es → All (IsEntryWithin a.sessions) es → Shows a.lock_table (state_of es) → IsWhole a.lock_table → IsReadyTable a.lock_table → vec_len a.lock_table.lockers ≡ a.sessions → (n : ℕ) → n ≡ (state_of es).count → n ≤ length es → a.marks.sessions ≡ a.sessions → IsKept a
 kept-same a es h any few legal within shows whole ready lockers n c least marked = record {
   some = any;
   few = few;
   legal = subst IsLegal (sym h) legal;
   within = subst (All (IsEntryWithin a.sessions)) (sym h) within;
-  shows = subst (λ (xs : List Entry). Shows a.desk (state_of xs)) (sym h) shows;
+  shows = subst (λ (xs : List Entry). Shows a.lock_table (state_of xs)) (sym h) shows;
   whole = whole;
   ready = ready;
   lockers = lockers;
@@ -53,11 +53,11 @@ kept-same a es h any few legal within shows whole ready lockers n c least marked
   marked = marked;
 }
 
--- one entry more allows one transaction more
+-- one more entry is enough for one more transaction
 pub bound : {a b c : ℕ} → a ≤ b + 1 → b ≤ c → a ≤ c + 1
 bound h k = omega arith
 
--- one locker more of no transaction
+-- one more locker without a transaction
 pub none-push : (ws : List Locker) (w : Locker) → ((s : ℕ) → standing_at s (standings_of ws) ≡ no_standing) → standing_of w ≡ no_standing → (s : ℕ) → standing_at s (standings_of (ws ++ w ∷ [])) ≡ no_standing
 none-push ws w h e zero = refl
 none-push ws w h e (suc s) = go ws (λ i. h (suc i)) s

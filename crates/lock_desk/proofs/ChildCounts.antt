@@ -8,19 +8,19 @@ use Rattle.std.proofs.Math.Bool.{or_comm}
 use Rattle.lock_tree.specs.Paths.{same_path, is_ancestor, parent_of, has_parent}
 use Rattle.lock_tree.proofs.Ancestors.{parent-ancestor}
 use Rattle.lock_rules.proofs.Lists.{same_path-refl, same_path-true, same_path_tells}
-use Rattle.lock_desk.specs.Cells.{has_path, AreApart}
-use Rattle.lock_desk.specs.ChildCounts.{is_child, has_child, children_of, IsUnder, DoCount}
+use Rattle.lock_desk.specs.inner.Cells.{has_path, AreApart}
+use Rattle.lock_desk.specs.inner.ChildCounts.{is_child, has_child, children_of, IsUnder, DoCount}
 use Rattle.lock_desk.proofs.LockerStandings.{has_path-push, same_path-swap, apart-pop}
 
 -- resources and their places
 
--- what stands at a place is there
+-- the resource at a place is in the list
 pub has_path-at : (rs : List (List ℕ)) (i : ℕ) → i < length rs → has_path (get_or rs i []) rs ≡ true
 has_path-at [] i lt = absurd (omega arith)
 has_path-at (r ∷ rs) zero lt = ap (λ (b : Bool). b || has_path r rs) (same_path-refl r)
 has_path-at (r ∷ rs) (suc i) lt = or_right (same_path r (get_or rs i [])) (has_path (get_or rs i []) rs) (has_path-at rs i (omega arith))
 
--- each stands at one place only
+-- in a list without repetition a resource has one place
 pub apart-places : (rs : List (List ℕ)) (i j : ℕ) → AreApart rs → i < length rs → j < length rs → get_or rs i [] ≡ get_or rs j [] → i ≡ j
 apart-places [] i j a lt le e = absurd (omega arith)
 apart-places (r ∷ rs) zero zero a lt le e = refl
@@ -45,7 +45,7 @@ own-child r = go (is_child r r) refl
         let p = and_parts (has_parent r) (same_path (parent_of r) r) e in
         absurd (none-own r (subst (λ (x : List ℕ). is_ancestor x r ≡ true) (same_path-true (parent_of r) r p.1) (parent-ancestor r p.0)))
 
--- whose parent isn't there has no place of a parent
+-- a resource whose parent isn't in the list is the child of none there
 pub none-parent : (rs : List (List ℕ)) (q : List ℕ) (i : ℕ) → has_path (parent_of q) rs ≡ false → i < length rs → is_child (get_or rs i []) q ≡ false
 none-parent rs q i h lt = go (is_child (get_or rs i []) q) refl
   where
@@ -57,7 +57,7 @@ none-parent rs q i h lt = go (is_child (get_or rs i []) q) refl
         let there : has_path (parent_of q) rs ≡ true = rw same (has_path-at rs i lt) in
         absurd (cc)
 
--- a resource is the child of the one at its parent's place alone
+-- a resource is the child of its parent alone
 pub child-only : (rs : List (List ℕ)) (q : List ℕ) (p : ℕ) → AreApart rs → p < length rs → get_or rs p [] ≡ parent_of q → has_parent q ≡ true → (i : ℕ) → i < length rs → is_child (get_or rs i []) q ≡ eqb p i
 child-only rs q p a lt at has i le = elim (cases_eq p i) [
   | inl e ↦ (let k : is_child (get_or rs i []) q ≡ true = and_from (has_parent q) (same_path (parent_of q) (get_or rs i [])) has (rw (← at) (rw e (same_path-refl (get_or rs i [])))) in k ∙ sym ((Decides-eqb p i).1 e))
@@ -71,7 +71,7 @@ child-only rs q p a lt at has i le = elim (cases_eq p i) [
         let same = same_path-true (parent_of q) (get_or rs i []) k.1 in
         absurd (n (apart-places rs p i a lt le (at ∙ same)))
 
--- where no child is counted there is none
+-- if the count is 0, there is no child
 pub none-counted : (r : List ℕ) (rs : List (List ℕ)) → has_child r rs ≡ false → children_of r rs ≡ 0
 none-counted r [] h = refl
 none-counted r (q ∷ rs) h = let p = or_parts (is_child r q) (has_child r rs) h in let l = ap {B = ℕ} (λ (b : Bool). cond b 1 0) p.0 in omega (arith, l, none-counted r rs p.1)
@@ -84,7 +84,7 @@ some-counted r (q ∷ rs) h = go (is_child r q) h (some-counted r rs)
     go true h next = omega arith
     go false h next = omega (arith, next h)
 
--- a count tells whether there is one
+-- a count tells whether there is a child
 pub counted-tells : (n : ℕ) (r : List ℕ) (rs : List (List ℕ)) → n ≡ children_of r rs → ltb 0 n ≡ has_child r rs
 counted-tells n r rs e = go (has_child r rs) refl
   where
@@ -105,7 +105,7 @@ lowered-at ns p i x lt at some = elim (cases_eq p i) [
   | inr n ↦ (let f : eqb p i ≡ false = grind (arith, nat_tests) in let none = ap {B = ℕ} (λ (b : Bool). cond b 1 0) f in omega (arith, get_or-set_other ns p i (x - 1) 0 (λ e. n (sym e)), none))
 ]
 
--- they are no more than all
+-- the children are no more than the resources
 pub few-children : (r : List ℕ) (rs : List (List ℕ)) → children_of r rs ≤ length rs
 few-children r [] = omega arith
 few-children r (q ∷ rs) = go (is_child r q) (few-children r rs)
@@ -114,12 +114,12 @@ few-children r (q ∷ rs) = go (is_child r q) (few-children r rs)
     go true h = omega (arith, h)
     go false h = omega (arith, h)
 
--- one lock more may be one child more
+-- one more lock adds at most one child
 pub children-push : (r q : List ℕ) (rs : List (List ℕ)) → children_of r (rs ++ q ∷ []) ≡ children_of r rs + cond (is_child r q) 1 0
 children-push r q [] = omega arith
 children-push r q (x ∷ rs) = omega (arith, children-push r q rs)
 
--- one that is there is counted
+-- a child that is in the list is counted
 pub child-there : (r q : List ℕ) (rs : List (List ℕ)) → has_path q rs ≡ true → is_child r q ≡ true → 0 < children_of r rs
 child-there r q [] h c = absurd (cc)
 child-there r q (x ∷ rs) h c = go (same_path_tells x q) h (λ k. child-there r q rs k c)
@@ -149,7 +149,7 @@ path-child r q rs h c = go (has_child r rs) refl
     go true e = refl
     go false e = absurd (let n = none-counted r rs e in let m = child-there r q rs h c in omega (arith, n, m))
 
--- under a resource that isn't there stands none
+-- under a resource that isn't held there is no child
 pub none-under : (r : List ℕ) (rs : List (List ℕ)) → ((q : List ℕ) → has_path q rs ≡ true → IsUnder rs q) → has_path r rs ≡ false → has_child r rs ≡ false
 none-under r rs u n = go (has_child r rs) refl
   where
@@ -183,7 +183,7 @@ pushed-counts rs q ns raised d new under long up = record {
 
 -- one lock less: the last one takes its place
 
--- the last of a list, and what is before it
+-- a list ends in its last item
 pub record Last {X : Type 0} (xs : List X) : Type 0 where
   pub front : List X
   pub last : X
@@ -203,7 +203,7 @@ take-set [] l p = refl
 take-set {X = X} (y ∷ ys) l zero = ap (λ (xs : List X). l ∷ xs) (take-front ys (l ∷ []))
 take-set {X = X} (y ∷ ys) l (suc p) = ap (λ (xs : List X). y ∷ xs) (take-set ys l p)
 
--- what is left is the front, with the last one at the place
+-- what remains is the front, with the last item at the place
 pub swap-last : {X : Type 0} (ys : List X) (l d : X) (p : ℕ) → swap_remove (ys ++ l ∷ []) p d ≡ set ys p l
 swap-last {X = X} ys l d p =
     let n : length (ys ++ l ∷ []) - 1 ≡ length ys = omega (arith, length-append ys (l ∷ [])) in
@@ -250,7 +250,7 @@ apart-left (y ∷ ys) l (suc p) le a =
     let other = same_path-swap y (at-place ys l p) (apart-first y (ys ++ l ∷ []) p (omega (arith, n, le)) a.0) in
     (has-left y ys l p (omega arith) other ∙ a.0, apart-left ys l p (omega arith) a.1)
 
--- where each of those that are left stood before
+-- the earlier place of each item that remains
 stood : {X : Type 0} (ys : List X) (l d : X) (p j : ℕ) → j < length ys → get_or (set ys p l) j d ≡ get_or (ys ++ l ∷ []) (cond (eqb p j) (length ys) j) d
 stood ys l d p j lt = elim (cases_eq p j) [
   | inl e ↦ rw (← e) (get_or-set_same ys p l d (rw e lt) ∙ sym (ap (λ (b : Bool). get_or (ys ++ l ∷ []) (cond b (length ys) p) d) ((Decides-eqb p p).1 refl) ∙ get_or_push ys l d (length ys) refl))
@@ -258,7 +258,7 @@ stood ys l d p j lt = elim (cases_eq p j) [
       get_or-set_other ys p j l d (λ e. n (sym e)) ∙ sym (ap (λ (b : Bool). get_or (ys ++ l ∷ []) (cond b (length ys) j) d) f ∙ get_or_append_left ys (l ∷ []) d j lt))
 ]
 
--- what is left once one lock went that has no children
+-- the counts after a lock without children was removed
 
 module _ (rs : List (List ℕ)) (ns lowered : List ℕ) (p : ℕ) (lt : p < length rs) (apart : AreApart rs) where
   abbrev gone : List ℕ

@@ -1,4 +1,4 @@
--- Whether a session holds a resource below another: then it holds a child of that, which its own list tells.
+-- A session that holds anything below a resource holds a child of it, so its own list of locks says whether it does.
 use Rattle.std.proofs.Common.{◌≡◌, ℕ, Bool, true, false, cond, eqb, ◌&&◌, ◌||◌, List, [], ◌∷◌, Option, Some, None, is_some, refl, sym, ap, arith, subst}
 use Rattle.std.specs.List.{list_any}
 use Rattle.std.proofs.lemmas.Bool.{and_parts, and_from}
@@ -10,25 +10,25 @@ use Rattle.lock_rules.specs.State as rules
 use Rattle.lock_rules.specs.Sound.{IsSound}
 use Rattle.lock_rules.proofs.Lists.{same_path-refl, same_path-true, same_path_tells}
 use Rattle.lock_rules.proofs.Children.{children-held}
-use Rattle.lock_desk.specs.ChildCounts.{is_child}
+use Rattle.lock_desk.specs.inner.ChildCounts.{is_child}
 
--- a resource below, of those that are told
+-- a resource below `r` for which `has` is true
 pub record Below (r : List ℕ) (has : List ℕ → Bool) : Type 0 where
   pub path : List ℕ
   pub below : is_ancestor r path ≡ true
   pub there : has path ≡ true
 
--- a child stands below
+-- a child is below its parent
 pub child-below : (r q : List ℕ) → is_child r q ≡ true → is_ancestor r q ≡ true
 child-below r q h =
     let p = and_parts (has_parent q) (same_path (parent_of q) r) h in
     subst (λ (x : List ℕ). is_ancestor x q ≡ true) (same_path-true (parent_of q) r p.1) (parent-ancestor q p.0)
 
--- the session has a claim on a resource below
+-- session `s` has a claim on a resource below `r`
 abbrev pub has_child : ℕ → List ℕ → List rules.Claim → Bool
 has_child s r cs = list_any (λ c. eqb c.session s && is_ancestor r c.resource) cs
 
--- a table with a lock below has one that is found
+-- a session with a claim below has a lock that is found by its resource
 pub child-there : (s : ℕ) (r : List ℕ) (cs : List rules.Claim) → has_child s r cs ≡ true → Below r (λ q. is_some (rules.mode_in s q cs))
 child-there s r [] h = absurd (cc)
 child-there s r (c ∷ cs) h = go (eqb c.session s && is_ancestor r c.resource) refl h (child-there s r cs)
@@ -47,24 +47,24 @@ child-there s r (c ∷ cs) h = go (eqb c.session s && is_ancestor r c.resource) 
         }
     go false e h next = let w = next h in record { path = w.path; below = w.below; there = some-more (eqb c.session s && same_path c.resource w.path) (rules.mode_in s w.path cs) w.there }
 
--- and the other way round
+-- a lock that is found below is a claim below
 pub there-child : (s : ℕ) (r q : List ℕ) (cs : List rules.Claim) → is_some (rules.mode_in s q cs) ≡ true → is_ancestor r q ≡ true → has_child s r cs ≡ true
 there-child s r q [] h a = absurd (cc)
 there-child s r q (c ∷ cs) h a = grind (arith, nat_tests, same_path_tells, there-child s r q cs)
 
--- two tests that follow from each other
+-- two tests of which each implies the other are equal
 pub both-ways : (b c : Bool) → (b ≡ true → c ≡ true) → (c ≡ true → b ≡ true) → b ≡ c
 both-ways true c f g = sym (f refl)
 both-ways false true f g = g refl
 both-ways false false f g = refl
 
--- a child that the session holds
+-- a child of `r` that session `s` holds
 pub record HeldChild (s : ℕ) (r : List ℕ) (t : rules.Table) : Type 0 where
   pub path : List ℕ
   pub child : is_child r path ≡ true
   pub there : is_some (rules.held_mode t s path) ≡ true
 
--- whoever holds anything below a resource holds a child of it
+-- a session that holds anything below a resource holds a child of it
 pub held-child : (st : rules.State) → IsSound st.table → (s : ℕ) (r q : List ℕ) → is_ancestor r q ≡ true → is_some (rules.held_mode st.table s q) ≡ true → HeldChild s r st.table
 held-child st i s r q a h = go (rules.held_mode st.table s q) refl h
   where

@@ -1,4 +1,4 @@
--- Two columns side by side: what is read there, what comes and goes in both, and what a mask says of the codes.
+-- Holders as two columns: what is read there, what is inserted and removed in both, and what a mask says of the codes.
 use Rattle.std.proofs.Common.{◌≡◌, ℕ, zero, suc, ◌+◌, ◌<◌, ◌≤◌, Bool, true, false, not, eqb, ◌&&◌, ◌||◌, inl, inr, List, [], ◌∷◌, ◌++◌, length, get_or, take, drop, insert, remove, set, map, refl, sym, ◌∙◌, ap, subst, arith, bit_and}
 use Rattle.std.specs.List.{list_any}
 use Rattle.std.proofs.lemmas.Bool.{cases_order}
@@ -17,26 +17,28 @@ use Rattle.lock_modes.specs.Compatibility.{are_compatible}
 use Rattle.lock_modes.proofs.Codes.{mode_of_code-code, mask-same}
 use Rattle.lock_desk.specs.declared.cells.SessionMode.{SessionMode}
 use Rattle.lock_desk.specs.declared.holder_columns.Columns.TheInside.{Inside}
-use Rattle.lock_desk.specs.Cells.{Ascends, with_holder, without, go_with}
-use Rattle.lock_desk.specs.Columns.{number_at, code_at, side_by_side, holders_of, AreColumns, DoRise, AreBelow, AreNotBelow}
-use Rattle.lock_desk.specs.Finding.{holder_blocks, AreOfSessions}
-use Rattle.lock_desk.specs.Holders.{HolderList, AreLesser, IsOwn, IsBetween}
+use Rattle.lock_desk.specs.inner.Cells.{Ascends, with_holder, without, go_with}
+use Rattle.lock_desk.specs.inner.Columns.{number_at, code_at, side_by_side, holders_of, AreColumns, DoRise, AreBelow, AreNotBelow}
+use Rattle.lock_desk.specs.inner.Blocking.{holder_blocks, AreOfSessions}
+use Rattle.lock_desk.specs.inner.Holders.{HolderList, AreLesser, IsOwn, IsBetween}
 use Rattle.lock_desk.proofs.Rising.{rising-at, ascends-with, ascends-without, with-own, with-between, left-own}
 
--- holders as two columns, and side by side again
+-- the columns of a list of holders, side by side, are the list again
 beside : (hs : List SessionMode) → side_by_side (map number_at hs) (map code_at hs) ≡ hs
 beside [] = refl
 beside (h ∷ hs) = λ i. record { session = h.session; mode = mode_of_code-code h.mode i } ∷ beside hs i
 
--- the two columns are those of these holders, who rise
+-- the two columns are those of these holders, which are in order of session number
 pub record AreOf (ss cs : List ℕ) (hs : List SessionMode) : Type 0 where
   pub sessions : ss ≡ map number_at hs
   pub codes : cs ≡ map code_at hs
   pub rising : Ascends hs
 
+-- columns of these holders are these holders, side by side
 pub beside-as : (ss cs : List ℕ) (hs : List SessionMode) → AreOf ss cs hs → side_by_side ss cs ≡ hs
 beside-as ss cs hs o = (λ i. side_by_side (o.sessions i) (o.codes i)) ∙ beside hs
 
+-- columns of these holders keep the invariant
 pub are-columns : (a : Inside) (hs : List SessionMode) → AreOf a.sessions.items a.codes.items hs → AreColumns a
 are-columns a hs o =
     let e = beside-as a.sessions.items a.codes.items hs o in
@@ -46,7 +48,7 @@ are-columns a hs o =
       rising = subst Ascends (sym e) o.rising;
     }
 
--- as contracts see them
+-- the columns of a value are those of the holders that contracts see
 pub columns-of : (a : Inside) (v : HolderList) → holders_of a ≡ v → AreColumns a → AreOf a.sessions.items a.codes.items v.items
 columns-of a v e k =
     let same = ap (λ (w : HolderList). w.items) e in
@@ -56,34 +58,37 @@ columns-of a v e k =
       rising = subst Ascends same k.rising;
     }
 
--- both columns are as long as the holders
+-- each column is as long as the list of holders
 pub as-long : (f : SessionMode → ℕ) (xs : List ℕ) (hs : List SessionMode) → xs ≡ map f hs → length xs ≡ length hs
 as-long f xs hs e = ap length e ∙ length-map hs f
 
--- what stands at a place of a column
+-- at an index, a column has the value of the holder at that index
 pub reads : (f : SessionMode → ℕ) (xs : List ℕ) (hs : List SessionMode) → xs ≡ map f hs → (i d : ℕ) (h : SessionMode) → i < length hs → get_or xs i d ≡ f (get_or hs i h)
 reads f xs hs e i d h lt = ap (λ (ys : List ℕ). get_or ys i d) e ∙ get_or-map f hs i h d lt
 
--- one comes into a column, or goes
+-- inserting into a column, and removing from it, is inserting and removing holders
 pub map-insert : (f : SessionMode → ℕ) (hs : List SessionMode) (i : ℕ) (h : SessionMode) → insert (map f hs) i (f h) ≡ map f (insert hs i h)
 map-insert f hs i h = (λ j. take-map f i hs j ++ f h ∷ drop-map f i hs j) ∙ sym (map-append f (take i hs) (h ∷ drop i hs))
 
+-- removing from a column is removing a holder
 pub map-remove : (f : SessionMode → ℕ) (hs : List SessionMode) (i : ℕ) → remove (map f hs) i ≡ map f (remove hs i)
 map-remove f hs i = (λ j. take-map f i hs j ++ drop-map f (suc i) hs j) ∙ sym (map-append f (take i hs) (drop (suc i) hs))
 
+-- a holder to read with, where there is none
 nobody : SessionMode
 nobody = record { session = 0; mode = NL }
 
--- the numbers of holders that rise
+-- the session numbers of holders in order increase
 pub do-rise : (ss : List ℕ) (hs : List SessionMode) → ss ≡ map number_at hs → Ascends hs → DoRise ss
 do-rise ss hs e a i j d lt le =
     let within : j < length hs = omega (arith, le, as-long number_at ss hs e) in
     omega (arith, rising-at hs i j nobody a lt within, reads number_at ss hs e i d nobody (omega (arith, lt, within)), reads number_at ss hs e j d nobody within)
 
+-- if the first n numbers are less than s, so are those of the first n holders
 lesser-of : (s n : ℕ) (ss : List ℕ) (hs : List SessionMode) → ss ≡ map number_at hs → n ≤ length hs → AreBelow s n ss → AreLesser s n hs
 lesser-of s n ss hs e le below i d lt = omega (arith, below i 0 lt, reads number_at ss hs e i 0 d (omega (arith, lt, le)))
 
--- the session stands where its number does
+-- a session whose number is at an index is the holder at that index
 pub is-own : (s n x : ℕ) (ss : List ℕ) (hs : List SessionMode) → ss ≡ map number_at hs → Ascends hs → n < length ss → AreBelow s n ss → x ≡ get_or ss n x → x ≡ s → IsOwn s hs n
 is-own s n x ss hs e a lt below at own =
     let within : n < length hs = omega (arith, lt, as-long number_at ss hs e) in
@@ -95,7 +100,7 @@ is-own s n x ss hs e a lt below at own =
       greater = λ i d l le. omega (arith, rising-at hs n i d a l le, here d);
     }
 
--- where it does not, the session would come before the first that is greater
+-- a session whose number is not there would be inserted before the first greater one
 pub is-between : (s n : ℕ) (ss : List ℕ) (hs : List SessionMode) → ss ≡ map number_at hs → Ascends hs → n ≤ length ss → AreBelow s n ss → AreNotBelow s n ss → ((d : ℕ) → n < length ss → get_or ss n d ≡ s → ⊥) → IsBetween s hs n
 is-between s n ss hs e a le below others other =
     let long = as-long number_at ss hs e in
@@ -122,11 +127,11 @@ is-between s n ss hs e a le below others other =
       ]
     ]
 
--- a mask meets no code of a mode that goes with its own
+-- a mask has no bit of a code exactly if the modes are compatible
 code-goes : (m : Mode) (h : SessionMode) → eqb (bit_and (code_of h.mode) (mask_of m)) 0 ≡ are_compatible m h.mode
 code-goes m h = ap (λ x. eqb x 0) (and_comm (code_of h.mode) (mask_of m)) ∙ mask-same m h.mode
 
--- a mask meets no code where the mode goes with each holder
+-- a mask has no bit of any code exactly if its mode is compatible with that of each holder
 pub meets-goes : (m : Mode) (hs : List SessionMode) → not (list_any (meets (mask_of m)) (map code_at hs)) ≡ go_with m hs
 meets-goes m [] = refl
 meets-goes m (h ∷ hs) = step (eqb (bit_and (code_of h.mode) (mask_of m)) 0) (list_any (meets (mask_of m)) (map code_at hs)) ∙ (λ i. code-goes m h i && meets-goes m hs i)
@@ -135,14 +140,15 @@ meets-goes m (h ∷ hs) = step (eqb (bit_and (code_of h.mode) (mask_of m)) 0) (l
     step true y = refl
     step false y = refl
 
--- the same of the codes before a place, and of those behind it
+-- the same for the codes before an index, and for those behind it
 pub goes-before : (m : Mode) (cs : List ℕ) (hs : List SessionMode) (n : ℕ) → cs ≡ map code_at hs → not (list_any (meets (mask_of m)) (take n cs)) ≡ go_with m (take n hs)
 goes-before m cs hs n e = ap (λ (xs : List ℕ). not (list_any (meets (mask_of m)) xs)) (ap (take n) e ∙ take-map code_at n hs) ∙ meets-goes m (take n hs)
 
+-- the same for the codes behind an index
 pub goes-behind : (m : Mode) (cs : List ℕ) (hs : List SessionMode) (n : ℕ) → cs ≡ map code_at hs → not (list_any (meets (mask_of m)) (drop n cs)) ≡ go_with m (drop n hs)
 goes-behind m cs hs n e = ap (λ (xs : List ℕ). not (list_any (meets (mask_of m)) xs)) (ap (drop n) e ∙ drop-map code_at n hs) ∙ meets-goes m (drop n hs)
 
--- a number that is lesser, and those before it
+-- if the number at an index is less, so are those before it
 pub below-more : (s : ℕ) (ns : List ℕ) (m : ℕ) → DoRise ns → m < length ns → get_or ns m 0 < s → AreBelow s (m + 1) ns
 below-more s ns m r lt less i d le =
     let k = get_or_default ns m d 0 lt in
@@ -154,7 +160,7 @@ below-more s ns m r lt less i d le =
       ]
     ]
 
--- a number that is not, and those behind it
+-- if the number at an index is not less, neither are those behind it
 pub others-more : (s : ℕ) (ns : List ℕ) (m : ℕ) → DoRise ns → m < length ns → s ≤ get_or ns m 0 → AreNotBelow s m ns
 others-more s ns m r lt less i d le within =
     let k = get_or_default ns m d 0 lt in
@@ -166,24 +172,25 @@ others-more s ns m r lt less i d le within =
       ]
     ]
 
+-- there are as many holders as numbers
 pub side-long : (ss cs : List ℕ) → length cs ≡ length ss → length (side_by_side ss cs) ≡ length ss
 side-long [] cs e = refl
 side-long (s ∷ ss) [] e = absurd (omega (arith, e))
 side-long (s ∷ ss) (c ∷ cs) e = ap (λ n. suc n) (side-long ss cs (omega (arith, e)))
 
--- what stands at a place of both columns
+-- the holder at an index has the number and the mode at that index
 pub side-at : (ss cs : List ℕ) (i : ℕ) (d : SessionMode) → length cs ≡ length ss → i < length ss → get_or (side_by_side ss cs) i d ≡ record { session = get_or ss i 0; mode = mode_of_code (get_or cs i 0) }
 side-at [] cs i d e lt = absurd (omega (arith, lt))
 side-at (s ∷ ss) [] i d e lt = absurd (omega (arith, e))
 side-at (s ∷ ss) (c ∷ cs) zero d e lt = refl
 side-at (s ∷ ss) (c ∷ cs) (suc i) d e lt = side-at ss cs i d (omega (arith, e)) (omega (arith, lt))
 
--- the next holder
+-- the first holders, and the next one behind them
 pub side-next : (ss cs : List ℕ) (i : ℕ) → length cs ≡ length ss → i < length ss → take (i + 1) (side_by_side ss cs) ≡ take i (side_by_side ss cs) ++ record { session = get_or ss i 0; mode = mode_of_code (get_or cs i 0) } ∷ []
 side-next ss cs i e lt =
     take_more (side_by_side ss cs) i nobody (omega (arith, lt, side-long ss cs e)) ∙ ap (λ (h : SessionMode). take i (side_by_side ss cs) ++ h ∷ []) (side-at ss cs i nobody e lt)
 
--- a holder's mode is written over its own
+-- writing a code changes the mode of that holder
 pub set-in : (ss cs : List ℕ) (hs : List SessionMode) (n : ℕ) (c : SessionMode) (x : ℕ) → AreOf ss cs hs → IsOwn c.session hs n → x ≡ code_of c.mode → AreOf ss (set cs n x) (with_holder c hs)
 set-in ss cs hs n c x o own e =
     let new = with-own c hs n own in
@@ -193,7 +200,7 @@ set-in ss cs hs n c x o own e =
       rising = ascends-with c hs o.rising;
     }
 
--- a holder comes between others
+-- inserting into both columns inserts a holder
 pub insert-in : (ss cs new-ss new-cs : List ℕ) (hs : List SessionMode) (n : ℕ) (c : SessionMode) (x : ℕ) → AreOf ss cs hs → IsBetween c.session hs n → x ≡ code_of c.mode → new-ss ≡ insert ss n c.session → new-cs ≡ insert cs n x → AreOf new-ss new-cs (with_holder c hs)
 insert-in ss cs new-ss new-cs hs n c x o between e s k =
     let new = with-between c hs n between in
@@ -203,7 +210,7 @@ insert-in ss cs new-ss new-cs hs n c x o between e s k =
       rising = ascends-with c hs o.rising;
     }
 
--- a holder goes
+-- removing from both columns removes a holder
 pub remove-in : (ss cs new-ss new-cs : List ℕ) (hs : List SessionMode) (n s : ℕ) → AreOf ss cs hs → IsOwn s hs n → new-ss ≡ remove ss n → new-cs ≡ remove cs n → AreOf new-ss new-cs (without s hs)
 remove-in ss cs new-ss new-cs hs n s o own a b =
     let new = left-own s hs n own in
@@ -213,8 +220,9 @@ remove-in ss cs new-ss new-cs hs n s o own a b =
       rising = ascends-without s hs o.rising;
     }
 
--- whoever has a code that the mask meets, and is another session, is waited for
+-- the sessions whose codes meet the mask, without the session itself, are the holders that block it
 module _ (s t b : ℕ) (m : Mode) (own : s ≡ t + 1) where
+  -- the sessions whose codes meet the mask, without the session's own, are the holders that block it
   met-blocks : (hs : List SessionMode) → (not (eqb b t) && is_met (mask_of m) b (map number_at hs) (map code_at hs)) ≡ holder_blocks s m (b + 1) hs
   met-blocks [] = and-false (not (eqb b t))
   met-blocks (h ∷ hs) =
@@ -233,13 +241,14 @@ module _ (s t b : ℕ) (m : Mode) (own : s ≡ t + 1) where
           both true k met = refl
           both false k met = refl
 
+  -- the same for the row of one session
   pub blocks-met : (a : ℕ) → (hs : List SessionMode) → (eqb a t && (not (eqb b t) && is_met (mask_of m) b (map number_at hs) (map code_at hs))) ≡ (eqb (a + 1) s && holder_blocks s m (b + 1) hs)
   blocks-met a hs = λ i. tests i && met-blocks hs i
     where
       tests : eqb a t ≡ eqb (a + 1) s
       tests = grind (arith, nat_tests, own)
 
--- a holder's number is one of so many
+-- the numbers in the column are those of sessions 1 to n
 pub numbered-of : (n : ℕ) (ss : List ℕ) (hs : List SessionMode) → ss ≡ map number_at hs → AreOfSessions n hs → (k : ℕ) → k < length ss → (1 ≤ get_or ss k 0) × (get_or ss k 0 ≤ n)
 numbered-of n ss hs e all k lt =
     let within : k < length hs = omega (arith, lt, as-long number_at ss hs e) in

@@ -1,111 +1,91 @@
 -- A session gives back all its locks, the last one first.
-use Rattle.std.proofs.Common.{◌≡◌, ℕ, Bool, true, false, cond, inl, inr, List, [], ◌∷◌, ◌++◌, length, length-append, get_or, set, Option, Some, None, refl, sym, ◌∙◌, ap, arith, subst, vec_len}
+use Rattle.std.proofs.Common.{◌≡◌, ℕ, Bool, true, false, cond, inl, inr, List, [], ◌∷◌, ◌++◌, get_or, set, Option, Some, None, refl, sym, ◌∙◌, ap, subst, vec_len}
 use Rattle.std.proofs.lemmas.Bool.{or_right}
-use Rattle.std.specs.List.{All}
-use Rattle.std.proofs.lemmas.List.Elements.{All-set, All-get_or}
 use Rattle.lock_tree.specs.Paths.{same_path}
 use Rattle.lock_rules.proofs.Lists.{same_path-refl, same_path_tells}
-use Rattle.lock_desk.specs.declared.cells.Part.TheVariants as part
+use Rattle.lock_desk.specs.declared.cells.Claim.TheVariants as claim
 use Rattle.lock_desk.specs.declared.lockers.Request.{Request}
 use Rattle.lock_desk.specs.declared.lockers.Locker.{Locker}
-use Rattle.lock_desk.specs.declared.desk.Desk.{Desk}
-use Rattle.lock_desk.specs.Cells.{View, has_session, view_after_giving_up, view_after_freeing, has_path, AreApart, CellsBecame}
-use Rattle.lock_desk.specs.Lockers.{Standing, wanted_in, standing_of, standings_of, locks_to_come, IsKeptLocker, AreSameOrGranted, DoAgree}
-use Rattle.lock_desk.specs.Changes.{view_at, standings, standing, view_after_unlock, IsWhole, DoesKeep, HasGivenBack, HasGivenBackAll}
-use Rattle.lock_desk.specs.Finding.{DoFollow}
-use Rattle.lock_desk.specs.Ready.{IsReadyDesk}
+use Rattle.lock_desk.specs.declared.lock_table.LockTable.{LockTable}
+use Rattle.lock_desk.specs.inner.Cells.{View, has_session, view_after_giving_up, view_after_freeing, has_path, AreApart, CellsBecame}
+use Rattle.lock_desk.specs.inner.Requests.{wanted_in}
+use Rattle.lock_desk.specs.inner.Lockers.{Standing, standing_of, standings_of, AreSameOrGranted, DoAgree}
+use Rattle.lock_desk.specs.inner.Changes.{view_at, standings, standing, view_after_unlock, IsWhole, DoesKeep, HasGivenBack, HasGivenBackAll}
+use Rattle.lock_desk.specs.inner.Blocking.{DoFollow}
+use Rattle.lock_desk.specs.inner.Ready.{IsReadyTable}
 use Rattle.lock_desk.proofs.LockerStandings.{IsPositionOf, standing-here, apart-pop, has_path-push, has_path-push_other}
 use Rattle.lock_desk.proofs.Agreement.{apart-at, GivesUp}
 use Rattle.lock_desk.proofs.GivingUp.{gives-last, freed-agree, freed-own, has-freed, freed-whole, freed-keeps}
 
--- no request is none
+-- if no resource is waited for, there is no request
 pub none-in : (o : Option Request) → wanted_in o ≡ None → o ≡ None
 none-in None h = refl
 none-in (Some q) h = absurd (cc)
 
--- the last lock goes
+-- the last lock is given back
 
-module _ (d : Desk) (s : ℕ) (r : List ℕ) (locker new : Locker) (w : IsWhole d) {i : ℕ} (lt : IsPositionOf s i d.lockers.items) (at : locker ≡ get_or d.lockers.items i locker)
+module _ (d : LockTable) (s : ℕ) (r : List ℕ) (locker new : Locker) (w : IsWhole d) {i : ℕ} (lt : IsPositionOf s i d.lockers.items) (at : locker ≡ get_or d.lockers.items i locker)
     (pops : locker.held.items ≡ new.held.items ++ r ∷ []) (transaction : new.transaction ≡ locker.transaction) (wanted : new.wanted ≡ locker.wanted) (idle : (standing s d).wanted ≡ None) where
-  kept : IsKeptLocker locker
-  kept = subst IsKeptLocker (sym at) (All-get_or IsKeptLocker d.lockers.items i locker lt.within w.lockers)
-
   waits-not : (standing_of locker).wanted ≡ None
   waits-not = ap (λ (x : Standing). x.wanted) (sym (standing-here d.lockers.items s locker lt at)) ∙ idle
 
-  gives : GivesUp part.Lock r (standing_of locker) (standing_of new)
-  gives = gives-last r (standing_of locker) (standing_of new) kept.apart transaction (ap wanted_in wanted) pops
+  gives : GivesUp claim.Lock r (standing_of locker) (standing_of new)
+  gives = gives-last r (standing_of locker) (standing_of new) locker.apart transaction (ap wanted_in wanted) pops
 
   -- the locker without the lock agrees with the cell that its holder has left
-  pub back-agree : DoAgree r (view_after_giving_up part.Lock s (view_at r d)) (standings_of (set d.lockers.items i new))
-  back-agree = freed-agree d part.Lock s r locker new lt at gives w
+  pub back-agree : DoAgree r (view_after_giving_up claim.Lock s (view_at r d)) (standings_of (set d.lockers.items i new))
+  back-agree = freed-agree d claim.Lock s r locker new lt at gives w
 
-  -- the lockers are kept
-  pub back-lockers : All IsKeptLocker (set d.lockers.items i new)
-  back-lockers =
-      let same = ap locks_to_come wanted in
-      let none : new.wanted ≡ None = wanted ∙ none-in locker.wanted waits-not in
-      let zero = ap locks_to_come none in
-      let long = ap length pops in
-      let more = length-append new.held.items (r ∷ []) in
-      All-set IsKeptLocker d.lockers.items i new (record {
-        under = rw none tt;
-        apart = (apart-pop new.held.items r (subst AreApart pops kept.apart)).0;
-        kind = rw none tt;
-        room = omega (arith, zero);
-        few = omega (arith, long, more, kept.few, same);
-      }) w.lockers
-
-  module _ (e : Desk) (count : e.count ≡ d.count)
-      (b : CellsBecame r (view_after_freeing part.Lock s (view_at r d)) d.cells.entries e.cells.entries) (agree : DoAgree r (view_after_freeing part.Lock s (view_at r d)) (standings e)) (lockers : All IsKeptLocker e.lockers.items) (granted : AreSameOrGranted r (standings_of (set d.lockers.items i new)) (standings e)) where
+  module _ (e : LockTable) (count : e.count ≡ d.count)
+      (b : CellsBecame r (view_after_freeing claim.Lock s (view_at r d)) d.cells.entries e.cells.entries) (agree : DoAgree r (view_after_freeing claim.Lock s (view_at r d)) (standings e)) (granted : AreSameOrGranted r (standings_of (set d.lockers.items i new)) (standings e)) where
     none-left : (standing_of new).wanted ≡ None
     none-left = ap wanted_in wanted ∙ waits-not
 
     own : standing s e ≡ standing_of new
-    own = freed-own d part.Lock s r locker new lt at gives w e none-left b agree lockers granted
+    own = freed-own d claim.Lock s r locker new lt at gives w e none-left b agree granted
 
-    -- what is seen is what a release brings
+    -- the change is that of a lock given back
     pub back-gives : HasGivenBack s d e
     back-gives = record {
       resource = r;
       held = ap (λ (x : Standing). x.held) (standing-here d.lockers.items s locker lt at) ∙ (pops ∙ sym (ap (λ (x : Standing). x.held ++ r ∷ []) own));
       idle = ap (λ (x : Standing). x.wanted) own ∙ none-left;
-      freed = has-freed d part.Lock s r locker new lt at gives w e none-left b agree lockers granted count;
+      freed = has-freed d claim.Lock s r locker new lt at gives w e none-left b agree granted count;
     }
 
-    -- and the desk is whole
+    -- and the lock table is whole
     pub back-whole : IsWhole e
-    back-whole = freed-whole d part.Lock s r locker new lt at gives w e none-left b agree lockers granted
+    back-whole = freed-whole d claim.Lock s r locker new lt at gives w e none-left b agree granted
 
-    -- and who waits for whom is written down
-    pub back-keeps : vec_len e.lockers ≡ vec_len d.lockers → DoFollow (view_at r d) (view_after_freeing part.Lock s (view_at r d)) d.waits e.waits → IsReadyDesk d → DoesKeep d e
-    back-keeps len rows k = freed-keeps d part.Lock s r locker new lt at gives w e none-left b agree lockers granted len count rows k
+    -- and the waits-for rows are right
+    pub back-keeps : vec_len e.lockers ≡ vec_len d.lockers → DoFollow (view_at r d) (view_after_freeing claim.Lock s (view_at r d)) d.waits e.waits → IsReadyTable d → DoesKeep d e
+    back-keeps len rows k = freed-keeps d claim.Lock s r locker new lt at gives w e none-left b agree granted len count rows k
 
 -- lock after lock
 
--- nothing was given back yet
-pub back-none : (s : ℕ) (d : Desk) → IsWhole d → (standing s d).wanted ≡ None → HasGivenBackAll s d d
+-- nothing is given back yet
+pub back-none : (s : ℕ) (d : LockTable) → IsWhole d → (standing s d).wanted ≡ None → HasGivenBackAll s d d
 back-none s d w idle = record { count = refl; idle = idle; transactions = λ u. refl; views = λ q. go q (has_path q (standing s d).held) refl }
   where
     go : (q : List ℕ) (b : Bool) → has_path q (standing s d).held ≡ b → view_at q d ≡ cond b (view_at q d) (view_after_unlock s (view_at q d))
     go q true e = refl
-    go q false e = sym (ap (λ (c : Bool). cond c (view_after_freeing part.Lock s (view_at q d)) (view_at q d)) (sym ((w.agree q).held s) ∙ e))
+    go q false e = sym (ap (λ (c : Bool). cond c (view_after_freeing claim.Lock s (view_at q d)) (view_at q d)) (sym ((w.agree q).held s) ∙ e))
 
--- one lock more was given back
-pub back-more : (s : ℕ) (d e f : Desk) → IsWhole e → HasGivenBackAll s d e → HasGivenBack s e f → HasGivenBackAll s d f
+-- one more lock is given back
+pub back-more : (s : ℕ) (d e f : LockTable) → IsWhole e → HasGivenBackAll s d e → HasGivenBack s e f → HasGivenBackAll s d f
 back-more s d e f w h g = record {
   count = g.freed.count ∙ h.count;
   idle = g.idle;
   transactions = λ u. g.freed.transactions u ∙ h.transactions u;
   views = λ q. elim (same_path_tells g.resource q) [
     | inl k ↦ here q k.0 k.1
-    | inr k ↦ g.freed.views q ∙ (ap (λ (b : Bool). cond b (view_after_freeing part.Lock s (view_at g.resource e)) (view_at q e)) k
+    | inr k ↦ g.freed.views q ∙ (ap (λ (b : Bool). cond b (view_after_freeing claim.Lock s (view_at g.resource e)) (view_at q e)) k
         ∙ (h.views q ∙ ap (λ (b : Bool). cond b (view_at q d) (view_after_unlock s (view_at q d))) (ap (has_path q) g.held ∙ has_path-push_other q g.resource (standing s f).held k)))
   ];
 }
   where
     gone : has_path g.resource (standing s f).held ≡ false
-    gone = (apart-pop (standing s f).held g.resource (subst AreApart g.held (apart-at e.lockers.items s w.lockers))).1
+    gone = (apart-pop (standing s f).held g.resource (subst AreApart g.held (apart-at e.lockers.items s))).1
 
     had : has_path g.resource (standing s e).held ≡ true
     had = ap (has_path g.resource) g.held ∙ (has_path-push g.resource g.resource (standing s f).held ∙ or_right (has_path g.resource (standing s f).held) (same_path g.resource g.resource) (same_path-refl g.resource))
@@ -118,10 +98,10 @@ back-more s d e f w h g = record {
 
     at-it : view_at g.resource f ≡ cond (has_path g.resource (standing s f).held) (view_at g.resource d) (view_after_unlock s (view_at g.resource d))
     at-it =
-        g.freed.views g.resource ∙ (ap (λ (b : Bool). cond b (view_after_freeing part.Lock s (view_at g.resource e)) (view_at g.resource e)) (same_path-refl g.resource)
-        ∙ (ap (λ (v : View). view_after_freeing part.Lock s v) before
+        g.freed.views g.resource ∙ (ap (λ (b : Bool). cond b (view_after_freeing claim.Lock s (view_at g.resource e)) (view_at g.resource e)) (same_path-refl g.resource)
+        ∙ (ap (λ (v : View). view_after_freeing claim.Lock s v) before
         ∙ sym (ap (λ (b : Bool). cond b (view_at g.resource d) (view_after_unlock s (view_at g.resource d))) gone
-        ∙ ap (λ (b : Bool). cond b (view_after_freeing part.Lock s (view_at g.resource d)) (view_at g.resource d)) holds)))
+        ∙ ap (λ (b : Bool). cond b (view_after_freeing claim.Lock s (view_at g.resource d)) (view_at g.resource d)) holds)))
 
     here : (q : List ℕ) → same_path g.resource q ≡ true → g.resource ≡ q → view_at q f ≡ cond (has_path q (standing s f).held) (view_at q d) (view_after_unlock s (view_at q d))
     here q t e = subst (λ (p : List ℕ). view_at p f ≡ cond (has_path p (standing s f).held) (view_at p d) (view_after_unlock s (view_at p d))) e at-it

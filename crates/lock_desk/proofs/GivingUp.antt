@@ -1,24 +1,23 @@
--- A session gives up one lock, wherever it stands in its list, or its request.
+-- A session gives up one lock, wherever it is in its list, or its request.
 use Rattle.std.proofs.Common.{◌≡◌, ℕ, ◌+◌, ◌<◌, ◌≤◌, Bool, true, false, cond, not, eqb, ◌⊎◌, inl, inr, List, [], ◌∷◌, ◌++◌, length, get_or, set, Some, None, refl, sym, ◌∙◌, ap, arith, subst, vec_len}
 use Rattle.std.proofs.lemmas.Bool.{or_parts, cases_Bool}
-use Rattle.std.specs.List.{All}
 use Rattle.std.proofs.lemmas.Bool.Decides.{Decides-eqb}
 use Rattle.lock_tree.specs.Paths.{same_path}
 use Rattle.lock_rules.proofs.Lists.{same_path_tells}
-use Rattle.lock_desk.specs.declared.cells.Part.{Part}
-use Rattle.lock_desk.specs.declared.cells.Part.TheVariants as part
+use Rattle.lock_desk.specs.declared.cells.Claim.{Claim}
+use Rattle.lock_desk.specs.declared.cells.Claim.TheVariants as claim
 use Rattle.lock_desk.specs.declared.lockers.Locker.{Locker}
-use Rattle.lock_desk.specs.declared.desk.Desk.{Desk}
-use Rattle.lock_desk.specs.Cells.{view_after_giving_up, view_after_freeing, has_path, AreApart, CellsBecame}
-use Rattle.lock_desk.specs.Lockers.{Standing, standing_of, standings_of, standing_at, is_wanted, paths_but, IsKeptLocker, IsSameOrGranted, AreSameOrGranted, DoAgree}
-use Rattle.lock_desk.specs.Changes.{view_at, standings, standing, IsWhole, DoesKeep, HasFreed}
-use Rattle.lock_desk.specs.Finding.{DoFollow}
-use Rattle.lock_desk.specs.Ready.{IsReadyDesk}
-use Rattle.lock_desk.proofs.RowsOfTheDesk.{ready-follow}
+use Rattle.lock_desk.specs.declared.lock_table.LockTable.{LockTable}
+use Rattle.lock_desk.specs.inner.Cells.{view_after_giving_up, view_after_freeing, has_path, AreApart, CellsBecame}
+use Rattle.lock_desk.specs.inner.Lockers.{Standing, standing_of, standings_of, standing_at, is_wanted, paths_but, IsSameOrGranted, AreSameOrGranted, DoAgree}
+use Rattle.lock_desk.specs.inner.Changes.{view_at, standings, standing, IsWhole, DoesKeep, HasFreed}
+use Rattle.lock_desk.specs.inner.Blocking.{DoFollow}
+use Rattle.lock_desk.specs.inner.Ready.{IsReadyTable}
+use Rattle.lock_desk.proofs.RowsOfTheTable.{ready-follow}
 use Rattle.lock_desk.proofs.LockerStandings.{IsPositionOf, standings-set, standing-here, length-standings, apart-pop, has_path-push_other}
 use Rattle.lock_desk.proofs.Agreement.{own-standing, other-standing, all-agree, GivesUp, given-agree, given-other, granted-other, not-granted}
 
--- a session that is admitted has its transaction
+-- a grant leaves the transaction as it is
 transaction-granted : (r : List ℕ) (a b : Standing) → IsSameOrGranted r a b → b.transaction ≡ a.transaction
 transaction-granted r a b (inl e) = ap (λ (x : Standing). x.transaction) e
 transaction-granted r a b (inr e) = ap (λ (x : Standing). x.transaction) e.1
@@ -30,7 +29,7 @@ pub gone-but : (r : List ℕ) (rs : List (List ℕ)) → has_path r (paths_but r
 gone-but r [] = refl
 gone-but r (p ∷ rs) = grind (arith, cases_Bool (same_path p r), gone-but r rs)
 
--- each other one is there as before
+-- every other resource is there as before
 pub other-but : (r x : List ℕ) (rs : List (List ℕ)) → same_path r x ≡ false → has_path x (paths_but r rs) ≡ has_path x rs
 other-but r x [] h = refl
 other-but r x (p ∷ rs) h = grind (arith, same_path_tells p r, cases_Bool (same_path p x), other-but r x rs h)
@@ -39,7 +38,7 @@ none-but : (x r : List ℕ) (rs : List (List ℕ)) → has_path x rs ≡ false �
 none-but x r [] h = refl
 none-but x r (p ∷ rs) h = let k = or_parts (same_path p x) (has_path x rs) h in grind (arith, cases_Bool (same_path p r), none-but x r rs k.1)
 
--- they stand only once
+-- no resource is there twice
 pub apart-but : (r : List ℕ) (rs : List (List ℕ)) → AreApart rs → AreApart (paths_but r rs)
 apart-but r [] a = tt
 apart-but r (p ∷ rs) a = go (same_path p r) (apart-but r rs a.1)
@@ -48,7 +47,7 @@ apart-but r (p ∷ rs) a = go (same_path p r) (apart-but r rs a.1)
     go true rest = rest
     go false rest = (none-but p r rs a.0, rest)
 
--- they are no more
+-- they are no more than before
 pub few-but : (r : List ℕ) (rs : List (List ℕ)) → length (paths_but r rs) ≤ length rs
 few-but r [] = omega arith
 few-but r (p ∷ rs) = grind (arith, cases_Bool (same_path p r), few-but r rs)
@@ -57,7 +56,7 @@ same-but : (r : List ℕ) (rs : List (List ℕ)) → has_path r rs ≡ false →
 same-but r [] h = refl
 same-but r (p ∷ rs) h = let k = or_parts (same_path p r) (has_path r rs) h in grind (arith, same-but r rs k.1)
 
--- where it was there, it is one less
+-- if it was there, they are one less
 pub less-but : (r : List ℕ) (rs : List (List ℕ)) → AreApart rs → has_path r rs ≡ true → length (paths_but r rs) + 1 ≡ length rs
 less-but r [] a h = absurd (cc)
 less-but r (p ∷ rs) a h = go (same_path_tells p r) (less-but r rs a.1)
@@ -66,9 +65,9 @@ less-but r (p ∷ rs) a h = go (same_path_tells p r) (less-but r rs a.1)
     go (inl e) next = let n = same-but r rs (subst (λ (q : List ℕ). has_path q rs ≡ false) e.1 a.0) in let l = ap length n in let t = e.0 in grind (arith)
     go (inr e) next = grind (arith)
 
--- one session gives something up
+-- one session gives up a claim
 
-module _ (d : Desk) (p : Part) (s : ℕ) (r : List ℕ) (locker new : Locker) {i : ℕ} (lt : IsPositionOf s i d.lockers.items) (at : locker ≡ get_or d.lockers.items i locker) (gives : GivesUp p r (standing_of locker) (standing_of new)) (w : IsWhole d) where
+module _ (d : LockTable) (p : Claim) (s : ℕ) (r : List ℕ) (locker new : Locker) {i : ℕ} (lt : IsPositionOf s i d.lockers.items) (at : locker ≡ get_or d.lockers.items i locker) (gives : GivesUp p r (standing_of locker) (standing_of new)) (w : IsWhole d) where
   long : s < length (standings d)
   long = omega (arith, lt.session, lt.within, length-standings d.lockers.items)
 
@@ -78,23 +77,23 @@ module _ (d : Desk) (p : Part) (s : ℕ) (r : List ℕ) (locker new : Locker) {i
   here : GivesUp p r (standing s d) (standing_of new)
   here = subst (λ (x : Standing). GivesUp p r x (standing_of new)) (sym (standing-here d.lockers.items s locker lt at)) gives
 
-  -- the locker agrees then with the cell where it was given up
+  -- its locker agrees with the cell it has left
   pub freed-agree : DoAgree r (view_after_giving_up p s (view_at r d)) (standings_of (set d.lockers.items i new))
   freed-agree = subst (DoAgree r (view_after_giving_up p s (view_at r d))) (sym mid) (given-agree (standings d) p s r (standing_of new) long here (view_at r d) (w.agree r))
 
-  module _ (e : Desk) (idle : (standing_of new).wanted ≡ None) (b : CellsBecame r (view_after_freeing p s (view_at r d)) d.cells.entries e.cells.entries)
-      (agree : DoAgree r (view_after_freeing p s (view_at r d)) (standings e)) (lockers : All IsKeptLocker e.lockers.items) (granted : AreSameOrGranted r (standings_of (set d.lockers.items i new)) (standings e)) where
+  module _ (e : LockTable) (idle : (standing_of new).wanted ≡ None) (b : CellsBecame r (view_after_freeing p s (view_at r d)) d.cells.entries e.cells.entries)
+      (agree : DoAgree r (view_after_freeing p s (view_at r d)) (standings e)) (granted : AreSameOrGranted r (standings_of (set d.lockers.items i new)) (standings e)) where
     granted-mid : AreSameOrGranted r (set (standings d) s (standing_of new)) (standings e)
     granted-mid = subst (λ (ss : List Standing). AreSameOrGranted r ss (standings e)) mid granted
 
     own-mid : standing_at s (set (standings d) s (standing_of new)) ≡ standing_of new
     own-mid = own-standing (standings d) s (standing_of new) long
 
-    -- the session stands as its locker says
+    -- the standing of the session is what its locker says
     pub freed-own : standing s e ≡ standing_of new
     freed-own = not-granted r _ (standing s e) (ap (λ (x : Standing). x.wanted) own-mid ∙ idle) (granted-mid s) ∙ own-mid
 
-    -- what is seen is what this brings
+    -- the change is that of a claim that is freed
     pub has-freed : e.count ≡ d.count → HasFreed p s r d e
     has-freed count = record {
       count = count;
@@ -105,22 +104,21 @@ module _ (d : Desk) (p : Part) (s : ℕ) (r : List ℕ) (locker new : Locker) {i
       views = b.views;
     }
 
-    -- and the desk is whole
+    -- and the lock table is whole
     pub freed-whole : IsWhole e
     freed-whole = record {
       cells = b.kept;
-      lockers = lockers;
       agree = all-agree r (view_after_freeing p s (view_at r d)) d e b.views agree (λ x n. granted-other r x (view_at x d) _ (standings e) n granted-mid (given-other (standings d) p s r (standing_of new) long here x n (view_at x d) (w.agree x)));
     }
 
-    -- and who waits for whom is written down, where the rows follow the cell
-    pub freed-keeps : vec_len e.lockers ≡ vec_len d.lockers → e.count ≡ d.count → DoFollow (view_at r d) (view_after_freeing p s (view_at r d)) d.waits e.waits → IsReadyDesk d → DoesKeep d e
+    -- and the waits-for rows are right, if they follow the cell
+    pub freed-keeps : vec_len e.lockers ≡ vec_len d.lockers → e.count ≡ d.count → DoFollow (view_at r d) (view_after_freeing p s (view_at r d)) d.waits e.waits → IsReadyTable d → DoesKeep d e
     freed-keeps len count rows k = record { whole = freed-whole; lockers = len; ready = ready-follow r (view_after_freeing p s (view_at r d)) d e w freed-whole b.views len (has-freed count).transactions rows k }
 
 -- what is given up
 
--- a lock is taken out of the locker
-pub gives-lock : (r : List ℕ) (x y : Standing) → y.transaction ≡ x.transaction → y.wanted ≡ x.wanted → has_path r y.held ≡ false → ((q : List ℕ) → same_path r q ≡ false → has_path q y.held ≡ has_path q x.held) → GivesUp part.Lock r x y
+-- a lock that is removed from the locker
+pub gives-lock : (r : List ℕ) (x y : Standing) → y.transaction ≡ x.transaction → y.wanted ≡ x.wanted → has_path r y.held ≡ false → ((q : List ℕ) → same_path r q ≡ false → has_path q y.held ≡ has_path q x.held) → GivesUp claim.Lock r x y
 gives-lock r x y t w gone others = record {
   transaction = t;
   held = gone;
@@ -129,8 +127,8 @@ gives-lock r x y t w gone others = record {
   wanted_elsewhere = λ q n. ap (is_wanted q) w;
 }
 
--- the last lock goes
-pub gives-last : (r : List ℕ) (x y : Standing) → AreApart x.held → y.transaction ≡ x.transaction → y.wanted ≡ x.wanted → x.held ≡ y.held ++ r ∷ [] → GivesUp part.Lock r x y
+-- the last lock
+pub gives-last : (r : List ℕ) (x y : Standing) → AreApart x.held → y.transaction ≡ x.transaction → y.wanted ≡ x.wanted → x.held ≡ y.held ++ r ∷ [] → GivesUp claim.Lock r x y
 gives-last r x y apart t w h = record {
   transaction = t;
   held = (apart-pop y.held r (subst AreApart h apart)).1;
@@ -139,8 +137,8 @@ gives-last r x y apart t w h = record {
   wanted_elsewhere = λ q n. ap (is_wanted q) w;
 }
 
--- the request goes
-pub gives-request : (r : List ℕ) (x y : Standing) → y.transaction ≡ x.transaction → y.held ≡ x.held → x.wanted ≡ Some r → y.wanted ≡ None → GivesUp part.Request r x y
+-- the request
+pub gives-request : (r : List ℕ) (x y : Standing) → y.transaction ≡ x.transaction → y.held ≡ x.held → x.wanted ≡ Some r → y.wanted ≡ None → GivesUp claim.Request r x y
 gives-request r x y t h w n = record {
   transaction = t;
   held = ap (has_path r) h;

@@ -1,4 +1,4 @@
--- One lock of a run is granted: the others can be granted still, and the desk shows the next state.
+-- One lock of a run is granted: the others can still be granted, and the lock table represents the next state.
 use Rattle.std.proofs.Common.{◌≡◌, ℕ, ◌≤◌, Bool, true, false, cond, eqb, ◌&&◌, ◌||◌, inl, inr, List, [], ◌∷◌, ◌++◌, length-append, set, Option, Some, None, sym, ◌∙◌, ap, arith, subst}
 use Rattle.std.specs.Prelude.{vec_len}
 use Rattle.std.specs.List.{All}
@@ -19,15 +19,15 @@ use Rattle.lock_rules.specs.Sound.{IsSound}
 use Rattle.lock_rules.proofs.Lists.{same_path_tells, same_path-refl}
 use Rattle.lock_rules.proofs.Steps.{state-lawful}
 use Rattle.lock_rules.proofs.Histories.{legal-push, state_of-push}
-use Rattle.lock_desk.specs.declared.batch.Item.{Item}
+use Rattle.lock_desk.specs.declared.book.Item.{Item}
 use Rattle.lock_desk.specs.declared.cells.SessionMode.{SessionMode}
-use Rattle.lock_desk.specs.declared.desk.Desk.{Desk}
-use Rattle.lock_desk.specs.Kept.{IsEntryWithin}
-use Rattle.lock_desk.specs.Cells.{View, is_nobody, has_session, mode_of, with_holder, fits_among, queue_with, can_grant, view_with_holder, view_after_asking}
-use Rattle.lock_desk.specs.Lockers.{standing_at, standing_after_grant}
-use Rattle.lock_desk.specs.Changes.{view_at, standing, standings, mode_held, desk_tests, IsWhole, IsSameSeen, DoesKeep, HasAsked}
-use Rattle.lock_desk.specs.Shows.{Shows, DoesAnswer}
-use Rattle.lock_desk.specs.Runs.{KeepsLockRooms, mode_asked, asker_of, CanJoin, CanGrant, GoesBeside, AreKept}
+use Rattle.lock_desk.specs.declared.lock_table.LockTable.{LockTable}
+use Rattle.lock_desk.specs.BookView.{IsEntryWithin}
+use Rattle.lock_desk.specs.inner.Cells.{View, is_nobody, has_session, mode_of, with_holder, fits_among, queue_with, can_grant, view_with_holder, view_after_asking}
+use Rattle.lock_desk.specs.inner.Lockers.{standing_at, standing_after_grant}
+use Rattle.lock_desk.specs.inner.Changes.{view_at, standing, standings, mode_held, call_tests, IsWhole, IsSameSeen, DoesKeep, HasAsked}
+use Rattle.lock_desk.specs.inner.Shows.{Shows, DoesAnswer}
+use Rattle.lock_desk.specs.inner.Runs.{KeepsLockRooms, mode_asked, asker_of, CanJoin, CanGrant, GoesBeside, AreKept}
 use Rattle.lock_desk.proofs.Agreement.{other-standing}
 use Rattle.lock_desk.proofs.TableViews.{in_mode}
 use Rattle.lock_desk.proofs.Simulation.{tests-shown, lock-may, granted-answer, same-shown}
@@ -35,37 +35,42 @@ use Rattle.lock_desk.proofs.RunItems.{join-same}
 
 -- holders
 
--- another session holds what it held
+-- the other sessions hold the modes that they held
 mode-still : (u : ℕ) (c : SessionMode) (hs : List SessionMode) → eqb c.session u ≡ false → mode_of u (with_holder c hs) ≡ mode_of u hs
 mode-still u c [] n = ap (λ (b : Bool). cond b (Some c.mode) None) n
 mode-still u c (h ∷ hs) n = grind (arith, nat_tests, mode-still u c hs n)
 
--- what fits, and goes with a mode that comes, fits still
+-- a mode that fits, and is compatible with a new holder's mode, still fits
 fits-still : (c x : SessionMode) (hs : List SessionMode) → are_compatible x.mode c.mode ≡ true → fits_among x hs ≡ true → fits_among x (with_holder c hs) ≡ true
 fits-still c x [] g f = grind (arith, nat_tests)
 fits-still c x (h ∷ hs) g f = grind (arith, nat_tests, fits-still c x hs g)
 
--- what fits where nobody waits is granted
+-- a mode that fits, if nobody waits, is granted at once
 pub can-grant : (c : SessionMode) (v : View) → is_nobody v.waiting ≡ true → fits_among c v.holders ≡ true → true ≡ can_grant c v
 can-grant c v quiet fits = sym (ap (λ (b : Bool). b && (has_session c.session v.holders || is_nobody v.waiting)) fits ∙ (ap (λ (b : Bool). has_session c.session v.holders || b) quiet ∙ or-true (has_session c.session v.holders)))
 
+-- the view after a request that is granted at once is the one with its holder
 pub granted-view : (c : SessionMode) (v : View) → true ≡ can_grant c v → view_with_holder c v ≡ view_after_asking c v
 granted-view c v is = ap (λ (b : Bool). cond b (view_with_holder c v) (record { holders = v.holders; waiting = queue_with c v.holders v.waiting })) is
 
--- what a grant leaves to the others
-module _ (d e : Desk) (s : ℕ) (r : List ℕ) (m : Mode) (asked : HasAsked s r m true d e) (own : standings e ≡ set (standings d) s (standing_after_grant r (standing s d))) where
+-- what a grant leaves for the other items of the run
+module _ (d e : LockTable) (s : ℕ) (r : List ℕ) (m : Mode) (asked : HasAsked s r m true d e) (own : standings e ≡ set (standings d) s (standing_after_grant r (standing s d))) where
+  -- the view of the resource has the new holder
   now : view_at r e ≡ view_with_holder (in_mode s m) (view_at r d)
   now = asked.views r ∙ (ap (λ (b : Bool). cond b (view_after_asking (in_mode s m) (view_at r d)) (view_at r d)) (same_path-refl r) ∙ sym (granted-view (in_mode s m) (view_at r d) asked.granted_is))
 
+  -- still nobody waits for it
   pub quiet-still : is_nobody (view_at r d).waiting ≡ true → is_nobody (view_at r e).waiting ≡ true
   quiet-still q = ap (λ (v : View). is_nobody v.waiting) now ∙ q
 
+  -- the modes that other sessions hold are unchanged
   held-still : (u : ℕ) → eqb s u ≡ false → (q : List ℕ) → mode_held e u q ≡ mode_held d u q
   held-still u n q = elim (same_path_tells r q) [
     | inl h ↦ subst (λ (p : List ℕ). mode_held e u p ≡ mode_held d u p) h.1 (ap (λ (v : View). mode_of u v.holders) now ∙ mode-still u (in_mode s m) (view_at r d).holders n)
     | inr h ↦ ap (λ (v : View). mode_of u v.holders) (asked.views q ∙ ap (λ (b : Bool). cond b (view_after_asking (in_mode s m) (view_at r d)) (view_at q d)) h)
   ]
 
+  -- an item that could be granted beside this one still can
   pub grant-still : (i j : Item) → i.session ≡ s → mode_asked i.call ≡ m → 1 ≤ j.session → KeepsLockRooms s d e → GoesBeside i j → CanGrant d r j → CanGrant e r j
   grant-still i j is asks some rooms beside can =
       let n : eqb s j.session ≡ false = ap (λ (u : ℕ). eqb u j.session) (sym is) ∙ beside.apart in
@@ -76,27 +81,31 @@ module _ (d e : Desk) (s : ℕ) (r : List ℕ) (m : Mode) (asked : HasAsked s r 
         room = rooms j.session some n can.room;
       }
 
--- the answer is that of the rules
-granted-step : (d e : Desk) (st : rules.State) (s : ℕ) (r : List ℕ) (m : Mode) → IsWhole d → IsSound st.table → Shows d st → first_failing (desk_tests d s (Lock r m)) ≡ None → mode_held d s r ≡ None
+-- the reply of the grant is that of the step
+granted-step : (d e : LockTable) (st : rules.State) (s : ℕ) (r : List ℕ) (m : Mode) → IsWhole d → IsSound st.table → Shows d st → first_failing (call_tests d s (Lock r m)) ≡ None → mode_held d s r ≡ None
     → HasAsked s r m true d e → DoesAnswer (step st s (Lock r m)) e (Granted m)
 granted-step d e st s r m w i h passed fresh asked =
     let may = lock-may d s r m w passed in
     let answer = granted-answer d e st s r m m w i h may (sym (ap (λ (o : Option Mode). target_of o m) fresh)) (λ y. absurd (let f = ap (λ (o : Option Mode). is_held o m) fresh in cc)) (λ n. asked) in
     subst (λ (o : Option Why). DoesAnswer (outcome_of o st s (Lock r m)) e (Granted m)) (sym passed ∙ ap first_failing (tests-shown d st s w i h (Lock r m))) answer
 
+-- the entry of an item that is granted
 abbrev pub entry_of_grant : Item → Mode → Entry
 entry_of_grant i m = record { session = i.session; call = i.call; reply = Granted m }
 
--- the entry of a lock that is granted is that of the rules, and the desk shows the state behind it
-module _ (d e : Desk) (h : List Entry) (i : Item) (r : List ℕ) (m : Mode) (kept : AreKept d h) (can : CanJoin d r i) (call : i.call ≡ Lock r m) (asked : HasAsked i.session r m true d e) where
-  passed : first_failing (desk_tests d i.session (Lock r m)) ≡ None
-  passed = sym (ap (λ (c : Call). first_failing (desk_tests d i.session c)) call) ∙ can.passed
+-- the entry of the grant is that of the step, and the lock table represents the next state
+module _ (d e : LockTable) (h : List Entry) (i : Item) (r : List ℕ) (m : Mode) (kept : AreKept d h) (can : CanJoin d r i) (call : i.call ≡ Lock r m) (asked : HasAsked i.session r m true d e) where
+  -- the tests of the lock are passed
+  passed : first_failing (call_tests d i.session (Lock r m)) ≡ None
+  passed = sym (ap (λ (c : Call). first_failing (call_tests d i.session c)) call) ∙ can.passed
 
+  -- the reply is that of the step, and the lock table represents its state
   pub grant-answer : DoesAnswer (step (state_of h) i.session i.call) e (Granted m)
   grant-answer =
       let a = granted-step d e (state_of h) i.session r m kept.whole (state-lawful h).sound kept.shows passed can.fresh asked in
       subst (λ (c : Call). DoesAnswer (step (state_of h) i.session c) e (Granted m)) (sym call) a
 
+  -- the lock table represents the state of the history with the new entry
   pub grant-kept : DoesKeep d e → 1 ≤ i.session → i.session ≤ vec_len d.lockers → AreKept e (h ++ entry_of_grant i m ∷ [])
   grant-kept k some within =
       let a = grant-answer in
@@ -110,8 +119,8 @@ module _ (d e : Desk) (h : List Entry) (i : Item) (r : List ℕ) (m : Mode) (kep
         counted = let n = asked.count in let c = kept.counted in omega (arith, n, c, length-append h (x ∷ []));
       }
 
--- a desk that looks the same is kept with the same history
-pub same-kept : (d e : Desk) (h : List Entry) → IsSameSeen d e → DoesKeep d e → AreKept d h → AreKept e h
+-- a lock table with the same count, standings and views still represents the state of the history
+pub same-kept : (d e : LockTable) (h : List Entry) → IsSameSeen d e → DoesKeep d e → AreKept d h → AreKept e h
 same-kept d e h same k kept = record {
   legal = kept.legal;
   within = subst (λ (n : ℕ). All (IsEntryWithin n) h) (sym k.lockers) kept.within;

@@ -1,82 +1,80 @@
--- the cells
--- lists of sessions, each with its mode: the holders and the queue of one resource
+-- cells
+-- lists of sessions with modes: the holders or the queue of one resource
 pub mod SessionModes
--- holders whose session numbers rise
+-- holders in order of session number: places, and modes that fit
 pub mod Rising
--- two columns side by side
+-- holders as two columns
 pub mod Columns
 -- one resource: a grant, a request, a release
 pub mod ResourceViews
--- the table of cells after a change of one of them
+-- the cells after a change of one of them
 pub mod CellTable
--- where the cell of a resource stands among the cells
+-- places: the index of the cell of a resource
 pub mod Places
--- codes of several modes in one byte, and masks that meet none of them
+-- mode codes and masks of several modes in one byte
 pub mod Codes
 -- a lock or a request is given up in its cell
 pub mod CellGivesUp
--- the lockers
+-- lockers
 -- a grant in the lockers; lists of resources
 pub mod LockerStandings
--- a locker whose locks are as before
-pub mod LockerKept
 -- how many children of each lock are held
 pub mod ChildCounts
--- locks that are indexed, and locks that came since
+-- indexed locks and recent locks
 pub mod LockLists
 -- the locker of a session whose request is granted
 pub mod LockerGrant
--- one grant of a promotion, in cell and locker
+-- one grant of a promotion, in the cell and in the locker
 pub mod Promotions
--- the desk: cells and lockers agree after each act
--- how lockers and cells agree after a change
+-- the lock table: each operation keeps cells and lockers in agreement
+-- agreement of lockers and cells after a change
 pub mod Agreement
--- a session asks
+-- a session requests a resource
 pub mod Asking
 -- a session gives up a lock or its request
 pub mod GivingUp
--- a session gives back all its locks
+-- a session releases all its locks
 pub mod GivingAllBack
 -- a transaction begins, is cancelled, is doomed, ends
 pub mod BeginAndEnd
 -- from one clause of a result to another
 pub mod Results
--- the desk shows the state of the rules
--- a table seen resource by resource: grants and promotions
+-- refinement: the lock table represents a state of the sequential lock manager
+-- the view of each resource of a table of the rules: grants and promotions
 pub mod TableViews
--- whoever holds a resource below another holds a child of that
+-- a session that holds a resource below another holds a child of the upper one
 pub mod Children
 -- how many locks a session holds, and whether it waits
 pub mod LockCounts
 -- a session leaves one resource
 pub mod LeavingAResource
--- what is seen after a release
+-- the views after a release
 pub mod AfterRelease
--- what is seen after a request, and after an end
+-- the views after a request, and after the end of a transaction
 pub mod AfterStep
--- tests and acts of the desk are those of the state
+-- tests and effects of the lock table are those of the state
 pub mod Simulation
 -- deadlocks
--- what is written down of those who wait at one resource
+-- the waits-for rows of the sessions that wait for one resource
 pub mod WritingWaits
--- a request waits as one ahead of it does
+-- the row of a request, from that of an earlier request for the same mode
 pub mod RequestsAlike
--- whoever holds or waits has a locker
+-- each session that holds or waits has a locker
 pub mod SessionsInRange
--- what is written down stays right after each act
-pub mod RowsOfTheDesk
--- the pairs that are written down are the waits of the state
+-- each operation keeps the waits-for graph current
+pub mod RowsOfTheTable
+-- the edges of the waits-for graph are the waits of the state
 pub mod WaitsOfTheState
 -- the victim that is found is the victim of the state
 pub mod VictimRounds
 -- no more requests wait than there are sessions
 pub mod FewRequests
 -- the book
--- what a book keeps
+-- the invariant of a book
 pub mod BookInvariant
--- runs of locks on one resource: what their items may be granted by
+-- runs of locks on one resource: when their items can be granted
 pub mod RunItems
--- one lock of a run is granted: the others can be granted still, and the desk shows the next state
+-- one lock of a run is granted: the others can still be granted, and the lock table represents the next state
 pub mod Granting
 -- a batch, one item further
 pub mod Batches

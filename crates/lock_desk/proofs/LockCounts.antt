@@ -1,4 +1,4 @@
--- The lockers tell how many locks a session holds, and whether it waits.
+-- A locker tells how many locks its session holds, and whether the session waits.
 use Rattle.std.proofs.Common.{◌≡◌, ℕ, ◌+◌, ◌≤◌, Bool, true, false, cond, not, eqb, ◌&&◌, ◌||◌, inl, inr, List, [], ◌∷◌, ◌++◌, length, map, Option, Some, None, is_some, refl, sym, ◌∙◌, ap, arith, subst}
 use Rattle.std.proofs.Math.Bool.{or_assoc}
 use Rattle.lock_rules.proofs.Once.{ordered-rest, none-behind}
@@ -12,14 +12,14 @@ use Rattle.lock_rules.specs.Queue.{queue, conversions, fresh_requests}
 use Rattle.lock_rules.specs.Waits.{resource_of_request}
 use Rattle.lock_rules.specs.Sound.{IsOrdered, IsSound, times}
 use Rattle.lock_rules.proofs.Lists.{same_path-refl, same_path_tells}
-use Rattle.lock_desk.specs.Cells.{has_session, has_path, AreApart}
-use Rattle.lock_desk.specs.Lockers.{is_wanted, paths_but}
-use Rattle.lock_desk.specs.Shows.{short, claims_on}
+use Rattle.lock_desk.specs.inner.Cells.{has_session, has_path, AreApart}
+use Rattle.lock_desk.specs.inner.Lockers.{is_wanted, paths_but}
+use Rattle.lock_desk.specs.inner.Shows.{short, claims_on}
 use Rattle.lock_desk.proofs.TableViews.{held-seen}
 use Rattle.lock_desk.proofs.Children.{both-ways}
 use Rattle.lock_desk.proofs.GivingUp.{apart-but, other-but, gone-but, less-but}
 
--- where a session waits
+-- the waiting request of a session
 
 -- the session waits for the resource
 abbrev pub waits_on : ℕ → List ℕ → List rules.Claim → Bool
@@ -33,7 +33,7 @@ two-kinds : (u : ℕ) (x : List ℕ) (p : rules.Claim → Bool) (ws : List rules
 two-kinds u x p [] = refl
 two-kinds u x p (q ∷ ws) = grind (arith, cases_Bool (eqb q.session u), cases_Bool (same_path q.resource x), cases_Bool (p q), two-kinds u x p ws)
 
--- who waits for a resource stands in its queue
+-- a session that waits for a resource is in its queue
 pub queue-has : (u : ℕ) (x : List ℕ) (t : rules.Table) → has_session u (map short (queue t x)) ≡ waits_on u x t.requests
 queue-has u x t =
     has-append u (conversions t x) (fresh_requests t x)
@@ -59,7 +59,7 @@ waits_on-none : (u : ℕ) (x : List ℕ) (ws : List rules.Claim) → times u ws 
 waits_on-none u x [] h = refl
 waits_on-none u x (q ∷ ws) h = grind (arith, nat_tests, cases_Bool (same_path q.resource x), waits_on-none u x ws)
 
--- a session that waits once waits where its request is
+-- a session with one request waits where that request is
 pub waits_on-once : (u : ℕ) (x : List ℕ) (ws : List rules.Claim) → times u ws ≤ 1 → waits_on u x ws ≡ has_path x (resource_of_request (rules.request_of u ws))
 waits_on-once u x [] h = refl
 waits_on-once u x (q ∷ ws) h = go (eqb q.session u) refl h (waits_on-once u x ws) (waits_on-none u x ws)
@@ -85,9 +85,9 @@ waits-told u t o h = both-ways (is_some o) (is_some (rules.request_of u t.reques
     back None e k = absurd (cc)
     back (Some q) e k = some-wanted q.resource o (h q.resource ∙ (queue-has u q.resource t ∙ waits_on-request u t.requests q e))
 
--- how many locks a session holds
+-- the number of locks of a session
 
--- two lists without repetition that have the same resources are as long
+-- two lists without repetition that have the same resources have the same length
 pub as-long : (xs ys : List (List ℕ)) → AreApart xs → AreApart ys → ((x : List ℕ) → has_path x xs ≡ has_path x ys) → length xs ≡ length ys
 as-long [] [] a b h = refl
 as-long [] (y ∷ ys) a b h = absurd (let e = h y in let f = same_path-refl y in grind (arith))
@@ -103,16 +103,16 @@ as-long (x ∷ xs) ys a b h =
       | inr k ↦ ap (λ (c : Bool). c || has_path z xs) (sym k) ∙ (h z ∙ sym (other-but x z ys k))
     ]
 
--- a session's locks in a table, by their resources
+-- the resources that a session holds in a table
 abbrev pub locks_in : ℕ → List rules.Claim → List (List ℕ)
 locks_in s cs = map (λ (c : rules.Claim). c.resource) (rules.claims_of s cs)
 
--- they are those that are seen
+-- they are the resources where it is a holder
 pub listed : (s : ℕ) (x : List ℕ) (cs : List rules.Claim) → has_path x (locks_in s cs) ≡ has_session s (claims_on x cs)
 listed s x [] = refl
 listed s x (c ∷ cs) = grind (arith, cases_Bool (eqb c.session s), cases_Bool (same_path c.resource x), listed s x cs)
 
--- none stands twice
+-- none of them is there twice
 locks-apart : (s : ℕ) (cs : List rules.Claim) → IsOrdered cs → AreApart (locks_in s cs)
 locks-apart s [] o = tt
 locks-apart s (c ∷ cs) o = go (eqb c.session s) refl (locks-apart s cs (ordered-rest c cs o))

@@ -1,4 +1,4 @@
--- The locks of a session in two lists: those that are indexed, and those that came since.
+-- The locks of a session as two lists: the indexed locks and the recent ones.
 use Rattle.std.proofs.Common.{◌≡◌, ℕ, zero, suc, ◌+◌, ◌-◌, ◌<◌, ◌≤◌, Bool, true, false, cond, ◌||◌, List, [], ◌∷◌, ◌++◌, length, length-append, get_or, set, take, drop, slice_get, unwrap_or, Option, None, Some, IfSome, refl, sym, ◌∙◌, ap, arith, subst, inl, inr}
 use Rattle.std.specs.Map.{keys_of, values_of, lookup, lookup_key}
 use Rattle.std.proofs.lemmas.Map.Made.{lookup_key_passes}
@@ -12,12 +12,12 @@ use Rattle.indexmap.specs.IndexMap.{set_value_at}
 use Rattle.std.proofs.Math.Bool.{or-false}
 use Rattle.lock_tree.specs.Paths.{same_path, parent_of, has_parent}
 use Rattle.lock_rules.proofs.Lists.{same_path-refl, same_path-true, same_path_tells}
-use Rattle.lock_desk.specs.Cells.{has_path, AreApart}
-use Rattle.lock_desk.specs.ChildCounts.{is_child, has_child, IsUnder, AreUnder}
+use Rattle.lock_desk.specs.inner.Cells.{has_path, AreApart}
+use Rattle.lock_desk.specs.inner.ChildCounts.{is_child, has_child, IsUnder, AreUnder}
 use Rattle.lock_desk.proofs.LockerStandings.{has_path-push, same_path-swap}
 use Rattle.lock_desk.proofs.ChildCounts as counts
 
--- two lists, one behind the other
+-- two lists, one after the other
 
 pub has_path-append : (q : List ℕ) (xs ys : List (List ℕ)) → has_path q (xs ++ ys) ≡ (has_path q xs || has_path q ys)
 has_path-append q xs ys = list_any-append (λ x. same_path x q) xs ys
@@ -25,7 +25,7 @@ has_path-append q xs ys = list_any-append (λ x. same_path x q) xs ys
 pub has_child-append : (q : List ℕ) (xs ys : List (List ℕ)) → has_child q (xs ++ ys) ≡ (has_child q xs || has_child q ys)
 has_child-append q xs ys = list_any-append (λ x. is_child q x) xs ys
 
--- each is apart from the others where both lists are, and have none in common
+-- if no list has a resource twice and no resource is in both, their concatenation has none twice
 pub record ArePartsApart (xs ys : List (List ℕ)) : Type 0 where
   pub first : AreApart xs
   pub second : AreApart ys
@@ -51,7 +51,7 @@ apart-join (x ∷ xs) ys a b n =
     let own : has_path x ys ≡ false = n x (ap (λ (c : Bool). c || has_path x xs) (same_path-refl x)) in
     (has_path-append x xs ys ∙ ((λ i. a.0 i || own i)), apart-join xs ys a.1 b (λ q h. n q (or_right (same_path x q) (has_path q xs) h)))
 
--- each came under its parent: one comes, one goes
+-- the parent of each recent lock comes before it: after a push, after a pop
 
 pub under-push : (rs qs : List (List ℕ)) (q : List ℕ) → AreUnder rs qs → IsUnder (rs ++ qs) q → AreUnder rs (qs ++ q ∷ [])
 under-push rs [] q h u = (subst (λ (xs : List (List ℕ)). IsUnder xs q) (append-nil rs) u, tt)
@@ -61,7 +61,7 @@ pub under-pop : (rs qs : List (List ℕ)) (q : List ℕ) → AreUnder rs (qs ++ 
 under-pop rs [] q h = tt
 under-pop rs (x ∷ qs) q h = (h.0, under-pop (rs ++ x ∷ []) qs q h.1)
 
--- one that has no children among those that came isn't missed
+-- a resource without children among the recent locks can leave the index
 pub under-less : (q : List ℕ) (rs less qs : List (List ℕ)) → ((p : List ℕ) → same_path q p ≡ false → has_path p less ≡ has_path p rs) → has_child q qs ≡ false → AreUnder rs qs → AreUnder less qs
 under-less q rs less [] same n h = tt
 under-less q rs less (x ∷ qs) same n h =
@@ -74,7 +74,7 @@ under-less q rs less (x ∷ qs) same n h =
     go has true e c = absurd (let child : is_child q x ≡ true = and_from (has_parent x) (same_path (parent_of x) q) has (subst (λ (y : List ℕ). same_path (parent_of x) y ≡ true) (sym (same_path-true q (parent_of x) e)) (same_path-refl (parent_of x))) in cc)
     go has false e c = same (parent_of x) e ∙ h.0 has
 
--- one goes from the midst
+-- a resource is removed from the middle of a list
 
 pub split-at : (xs : List (List ℕ)) (i : ℕ) → i < length xs → xs ≡ take i xs ++ get_or xs i [] ∷ drop (suc i) xs
 split-at [] i lt = absurd (omega arith)
@@ -100,7 +100,7 @@ one-under : (q : List ℕ) (rs fs bs : List (List ℕ)) → has_child q bs ≡ f
 one-under q rs [] bs n h = under-less q (rs ++ q ∷ []) rs bs (λ p e. sym (has_path-push p q rs ∙ (ap (λ (b : Bool). has_path p rs || b) e ∙ or-false (has_path p rs)))) n h.1
 one-under q rs (x ∷ fs) bs n h = (h.0, one-under q (rs ++ x ∷ []) fs bs n h.1)
 
--- a lock goes from those that came since
+-- a lock is removed from the recent ones
 
 module _ (rs qs : List (List ℕ)) (i : ℕ) (lt : i < length qs) (q : List ℕ) (at : get_or qs i [] ≡ q) where
   abbrev f : List (List ℕ)
@@ -158,14 +158,14 @@ pub values-long : (es : List (List ℕ × ℕ)) → length (values_of es) ≡ le
 values-long [] = refl
 values-long (e ∷ es) = ap suc (values-long es)
 
--- what isn't among them isn't found
+-- a resource that isn't found isn't among the keys
 pub none-found : (q : List ℕ) (es : List (List ℕ × ℕ)) → has_path q (keys_of es) ≡ false → lookup (same_path q) es ≡ None
 none-found q [] h = refl
 none-found q (e ∷ es) h =
     let p = or_parts (same_path e.0 q) (has_path q (keys_of es)) h in
     ap (λ (b : Bool). cond b (Some e.1) (lookup (same_path q) es)) (same_path-swap e.0 q p.0) ∙ none-found q es p.1
 
--- and what is not found isn't among them
+-- a resource that isn't among the keys isn't found
 pub not-among : (q : List ℕ) (es : List (List ℕ × ℕ)) → lookup (same_path q) es ≡ None → has_path q (keys_of es) ≡ false
 not-among q [] h = refl
 not-among q (e ∷ es) h = go (same_path q e.0) refl h (not-among q es)
@@ -194,7 +194,7 @@ entry-drop [] i k n e = absurd (cc)
 entry-drop (x ∷ es) zero k n e = ap (λ (o : Option (List ℕ × ℕ)). (unwrap_or o (k, n)).0 ∷ keys_of es) e
 entry-drop (x ∷ es) (suc i) k n e = entry-drop es i k n e
 
--- the walk over the keys, one further
+-- the walk over the keys, after one more key
 pub child-further : (r : List ℕ) (es : List (List ℕ × ℕ)) (i : ℕ) (k : List ℕ) (n : ℕ) → slice_get es i ≡ Some (k, n) → has_child r (drop i (keys_of es)) ≡ (is_child r k || has_child r (drop (i + 1) (keys_of es)))
 child-further r es i k n e = let s : suc i ≡ i + 1 = omega arith in ap (has_child r) (entry-drop es i k n e) ∙ ap (λ (j : ℕ). is_child r k || has_child r (drop j (keys_of es))) s
 
@@ -202,7 +202,7 @@ module _ (eq : List ℕ → List ℕ → Bool) (same : (a b : List ℕ) → eq a
   pub tests : eq ≡ same_path
   tests i a b = same a b i
 
-  -- what is found is the key that was looked for
+  -- the key found is the key looked for
   pub key-is : (r : List ℕ) (es : List (List ℕ × ℕ)) (k : List ℕ) → Some k ≡ lookup_key (eq r) es → r ≡ k
   key-is r es k h = same_path-true r k (sym (same r k) ∙ lookup_key_passes (eq r) es k (sym h))
 
@@ -212,7 +212,7 @@ module _ (eq : List ℕ → List ℕ → Bool) (same : (a b : List ℕ) → eq a
   pub new-found : (r : List ℕ) (es : List (List ℕ × ℕ)) → has_path r (keys_of es) ≡ false → lookup (eq r) es ≡ None
   new-found r es h = ap (λ (t : List ℕ → List ℕ → Bool). lookup (t r) es) tests ∙ none-found r es h
 
--- what stands after it in a list of which each is apart isn't before it
+-- in a list without repetition, what comes after a resource isn't the resource
 pub before-none : (ks qs rest : List (List ℕ)) (x : List ℕ) → qs ≡ x ∷ rest → AreApart (ks ++ qs) → has_path x ks ≡ false
 before-none ks qs rest x e a = go (has_path x ks) refl
   where
@@ -228,7 +228,7 @@ pub values-push : (es : List (List ℕ × ℕ)) (k : List ℕ) (n : ℕ) → val
 values-push [] k n = refl
 values-push (e ∷ es) k n = ap (λ (ns : List ℕ). e.1 ∷ ns) (values-push es k n)
 
--- the last takes the place of one that goes, whatever stands for an item that is missing
+-- swap_remove puts the last item at the place of the removed one, whatever stands for a missing item
 pub swap-any : {X : Type 0} (xs : List X) (i : ℕ) (c d : X) → 0 < length xs → swap_remove xs i c ≡ swap_remove xs i d
 swap-any {X = X} xs i c d some = ap (λ (x : X). take (length xs - 1) (set xs i x)) (get_or_default xs (length xs - 1) c d (omega arith))
 
@@ -243,7 +243,7 @@ swapped (Some p) old new i lt e h = record {
   values = ap values_of h ∙ (map-swap_remove (λ x. x.1) old i p (omega (arith, lt)) ∙ swap-any (values_of old) i p.1 0 (omega (arith, lt, values-long old)));
 }
 
--- a lock goes from those that are indexed
+-- a lock is removed from the index
 
 module _ (ks qs : List (List ℕ)) (p : ℕ) (lt : p < length ks) (q : List ℕ) (at : get_or ks p [] ≡ q) (none : has_path q qs ≡ false) (a : AreApart (ks ++ qs)) where
   same-left : swap_remove ks p [] ≡ swap_remove ks p (get_or ks p [])

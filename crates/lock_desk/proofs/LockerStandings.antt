@@ -9,37 +9,37 @@ use Rattle.lock_rules.proofs.Lists.{same_path-refl, same_path_tells}
 use Rattle.lock_rules.proofs.Alters.{true≢false}
 use Rattle.lock_desk.specs.declared.cells.SessionMode.{SessionMode}
 use Rattle.lock_desk.specs.declared.lockers.Locker.{Locker}
-use Rattle.lock_desk.specs.Cells.{View, has_session, times, has_path, AreApart, IsOnce}
-use Rattle.lock_desk.specs.Lockers.{Standing, no_standing, standing_of, standings_of, standing_at, is_wanted, with_path, standing_after_grant, IsSameOrGranted, AreSameOrGranted, DoAgree}
+use Rattle.lock_desk.specs.inner.Cells.{View, has_session, times, has_path, AreApart, IsOnce}
+use Rattle.lock_desk.specs.inner.Lockers.{Standing, no_standing, standing_of, standings_of, standing_at, is_wanted, with_path, standing_after_grant, IsSameOrGranted, AreSameOrGranted, DoAgree}
 use Rattle.lock_desk.proofs.SessionModes.{has_tells, has_session-with_holder}
 use Rattle.lock_desk.proofs.ResourceViews.{IsNext}
 
 -- lists of resources
 
--- which resources there are with one more at the end
+-- the resources with one more at the end
 pub has_path-push : (r q : List ℕ) (rs : List (List ℕ)) → has_path r (rs ++ q ∷ []) ≡ (has_path r rs || same_path q r)
 has_path-push r q [] = or-false (same_path q r)
 has_path-push r q (p ∷ rs) = ap (λ (b : Bool). same_path p r || b) (has_path-push r q rs) ∙ sym (or_assoc (same_path p r) (has_path r rs) (same_path q r))
 
--- another one at the end makes no difference
+-- a different resource at the end makes no difference
 pub has_path-push_other : (r q : List ℕ) (rs : List (List ℕ)) → same_path q r ≡ false → has_path r (rs ++ q ∷ []) ≡ has_path r rs
 has_path-push_other r q rs n = has_path-push r q rs ∙ (ap (λ (b : Bool). has_path r rs || b) n ∙ or-false (has_path r rs))
 
--- two resources are apart both ways
+-- whether two resources differ doesn't depend on their order
 pub same_path-swap : (a b : List ℕ) → same_path a b ≡ false → same_path b a ≡ false
 same_path-swap a b h = elim (same_path_tells b a) [ inl k ↦ absurd (contra k.1) | inr k ↦ k ]
   where
     contra : b ≡ a → ⊥
     contra e = let k : same_path a b ≡ true = rw e (same_path-refl a) in cc
 
--- a new resource stands only once
+-- a list without repetition, with a new resource at the end
 pub apart-push : (rs : List (List ℕ)) (q : List ℕ) → AreApart rs → has_path q rs ≡ false → AreApart (rs ++ q ∷ [])
 apart-push [] q a h = (refl, tt)
 apart-push (r ∷ rs) q a h =
     let p = or_parts (same_path r q) (has_path q rs) h in
     (has_path-push r q rs ∙ (ap (λ (b : Bool). b || same_path q r) a.0 ∙ same_path-swap r q p.0), apart-push rs q a.1 p.1)
 
--- the last resource stands only there
+-- the last resource of a list without repetition isn't in the rest
 pub apart-pop : (rs : List (List ℕ)) (q : List ℕ) → AreApart (rs ++ q ∷ []) → AreApart rs × (has_path q rs ≡ false)
 apart-pop [] q a = (tt, refl)
 apart-pop (r ∷ rs) q a =
@@ -49,12 +49,12 @@ apart-pop (r ∷ rs) q a =
 
 -- lockers
 
--- the session has a locker, at its position
+-- session `s` has a locker, at index `i`
 pub record IsPositionOf (s i : ℕ) (ws : List Locker) : Type 0 where
   pub session : suc i ≡ s
   pub within : i < length ws
 
--- writing a locker writes its standing
+-- a locker that is written changes the standing of its session alone
 pub standings-set : (ws : List Locker) (s : ℕ) {i : ℕ} (w : Locker) → suc i ≡ s → standings_of (set ws i w) ≡ set (standings_of ws) s (standing_of w)
 standings-set ws s {i} w e = rw (← e) (ap (λ (ss : List Standing). no_standing ∷ ss) (go ws i))
   where
@@ -63,7 +63,7 @@ standings-set ws s {i} w e = rw (← e) (ap (λ (ss : List Standing). no_standin
     go (x ∷ xs) zero = refl
     go (x ∷ xs) (suc j) = ap (λ (ss : List Standing). standing_of x ∷ ss) (go xs j)
 
--- what the locker at its position says
+-- the standing of a session is what the locker at its index says
 pub standing-here : (ws : List Locker) (s : ℕ) {i : ℕ} (w : Locker) → IsPositionOf s i ws → w ≡ get_or ws i w → standing_at s (standings_of ws) ≡ standing_of w
 standing-here ws s {i} w p at = rw (← p.session) (go ws i p.within at)
   where
@@ -72,14 +72,14 @@ standing-here ws s {i} w p at = rw (← p.session) (go ws i p.within at)
     go (x ∷ xs) zero lt h = ap standing_of (sym h)
     go (x ∷ xs) (suc j) lt h = go xs j (omega arith) h
 
--- one standing more than lockers
+-- there is one standing more than there are lockers
 pub length-standings : (ws : List Locker) → length (standings_of ws) ≡ length ws + 1
 length-standings [] = refl
 length-standings (w ∷ ws) = omega (arith, length-standings ws)
 
--- a resource that comes to those held
+-- a resource is added to those held
 
--- it is there then
+-- then it is among them
 pub has_path-with : (r : List ℕ) (rs : List (List ℕ)) → has_path r (with_path r rs) ≡ true
 has_path-with r rs = go (has_path r rs) refl
   where
@@ -87,7 +87,7 @@ has_path-with r rs = go (has_path r rs) refl
     go true e = e
     go false e = has_path-push r r rs ∙ or_right (has_path r rs) (same_path r r) (same_path-refl r)
 
--- and each other one as before
+-- the others are as before
 pub has_path-with_other : (x r : List ℕ) (rs : List (List ℕ)) → same_path r x ≡ false → has_path x (with_path r rs) ≡ has_path x rs
 has_path-with_other x r rs n = go (has_path r rs)
   where
@@ -99,13 +99,11 @@ has_path-with_other x r rs n = go (has_path r rs)
     go true = refl
     go false = has_path-push x r rs ∙ or-same (has_path x rs) (same_path r x) n
 
--- who waits has a locker
+-- a session that waits has a locker
 pub waits-within : (ss : List Standing) (r : List ℕ) (s : ℕ) → is_wanted r (standing_at s ss).wanted ≡ true → s < length ss
 waits-within [] r s h = absurd (cc)
 waits-within (x ∷ ss) r zero h = omega arith
 waits-within (x ∷ ss) r (suc s) h = omega (arith, waits-within ss r s h)
-
--- the session that is granted was the only one to change
 
 -- lockers and cell agree after a grant
 pub agree-next : (r : List ℕ) (v : View) (c : SessionMode) (w : View) (ss : List Standing) → IsNext v c w → IsOnce v → DoAgree r v ss → c.session < length ss
@@ -136,7 +134,7 @@ agree-next r v c w ss n o a lt = record {
       | inr h ↦ h.0
     ]
 
--- nobody is granted the resource twice
+-- no resource is there twice after a grant
 pub same-next : (r : List ℕ) (old ss : List Standing) (s : ℕ) → s < length ss → is_wanted r (standing_at s ss).wanted ≡ true → AreSameOrGranted r old ss → AreSameOrGranted r old (set ss s (standing_after_grant r (standing_at s ss)))
 same-next r old ss s lt w h u = elim (cases_Bool (eqb s u)) [
   | inl e ↦ let f = (Decides-eqb s u).0 e in rw (← f) (own (h s))

@@ -1,4 +1,4 @@
--- Where the cell of a resource stands among the cells, each of which stands beside its resource.
+-- Places: the index of the cell of a resource, in the list of cells beside the list of resources.
 use Rattle.std.proofs.Common.{◌≡◌, ℕ, zero, suc, ◌+◌, ◌-◌, ◌<◌, ◌≤◌, Bool, true, false, cond, List, [], ◌∷◌, ◌++◌, length, take, set, swap, slice_get, get_or, zip, Option, None, Some, is_some, IfSome, unwrap_or, position, refl, sym, ◌∙◌, ap, subst, inl, inr, arith}
 use Rattle.std.proofs.lemmas.List.{get_or-set_other, length-take, length-set, length-append, take-set, take-append-le, take_all}
 use Rattle.std.proofs.lemmas.Option.{slice_get_within, get_or_from_slice_get, slice_get-get_or}
@@ -18,11 +18,11 @@ use Rattle.indexmap.proofs.ReorderLemmas.{slice_get-zip_some, zip-take}
 use Rattle.lock_tree.specs.Paths.{same_path}
 use Rattle.lock_rules.proofs.Lists.{same_path-refl, same_path-true, same_path_tells}
 use Rattle.lock_desk.specs.declared.cells.Cell.{Cell}
-use Rattle.lock_desk.specs.Cells.{View, no_view, view_of, Cells, cell_at, CellsBecame, AreKeptCells, IsKeptCell, IsCellAt, IsPlace, HasRoomFor, HasRoomAt}
-use Rattle.lock_desk.specs.Tables.{in_use, AreIdleFrom}
+use Rattle.lock_desk.specs.inner.Cells.{View, no_view, view_of, Cells, cell_at, CellsBecame, AreKeptCells, IsKeptCell, IsCellAt, IsPlace, HasRoomFor, HasRoomAt}
+use Rattle.lock_desk.specs.inner.Tables.{in_use, AreIdleFrom}
 use Rattle.lock_desk.proofs.CellTable.{became, became-view}
 
--- to be the same is an equivalence
+-- being the same path is an equivalence relation
 pub same_path-equivalence : IsEquivalence same_path
 same_path-equivalence = record { refl = same_path-refl; symm = symm; congr = λ x y z h. ap (λ (w : List ℕ). same_path w z) (same_path-true x y h) }
   where
@@ -37,58 +37,61 @@ same_path-equivalence = record { refl = same_path-refl; symm = symm; congr = λ 
 
 -- lists
 
+-- the item at an index that was written
 set-there : (xs : List Cell) (i : ℕ) (c : Cell) → i < length xs → slice_get (set xs i c) i ≡ Some c
 set-there [] i c h = absurd (omega arith)
 set-there (x ∷ xs) zero c h = refl
 set-there (x ∷ xs) (suc i) c h = set-there xs i c (omega arith)
 
--- the second of two entries that are the same
+-- equal entries have equal cells
 same-cell : (k r : List ℕ) (c x : Cell) → ◌≡◌ {A = Option (List ℕ × Cell)} (Some (k, c)) (Some (r, x)) → c ≡ x
 same-cell k r c x e = ap (λ (o : Option (List ℕ × Cell)). (unwrap_or o (k, c)).1) e
 
--- resources that are apart
+-- lists of distinct resources
 
 module _ (eq : List ℕ → List ℕ → Bool) (same : (a b : List ℕ) → eq a b ≡ same_path a b) where
-  -- those in use are apart where all are
+  -- if all keys are distinct, those in use are
   pub apart-in_use : (rs : List (List ℕ)) (b : Bool) → IsDistinct eq rs → IsDistinct same_path (in_use rs b)
   apart-in_use rs true h = distinct-take same_path-equivalence _ rs (subst (λ (t : List ℕ → List ℕ → Bool). IsDistinct t rs) (λ j x y. same x y j) h)
   apart-in_use rs false h = subst (λ (t : List ℕ → List ℕ → Bool). IsDistinct t rs) (λ j x y. same x y j) h
 
--- cells beside resources
+-- resources zipped with cells
 
+-- the resources of the entries are the resources
 pub keys-beside : (rs : List (List ℕ)) (xs : List Cell) → length rs ≤ length xs → keys_of (zip rs xs) ≡ rs
 keys-beside [] xs h = refl
 keys-beside (r ∷ rs) [] h = absurd (omega arith)
 keys-beside (r ∷ rs) (x ∷ xs) h = ap (λ (ks : List (List ℕ)). r ∷ ks) (keys-beside rs xs (omega arith))
 
--- what stands at a place is the resource there with the cell there
+-- an entry at an index is the resource at that index with the cell at that index
 pub resource-at : (rs : List (List ℕ)) (xs : List Cell) (i : ℕ) (r : List ℕ) (x : Cell) → slice_get (zip rs xs) i ≡ Some (r, x) → slice_get rs i ≡ Some r
 resource-at [] xs i r x h = absurd (cc)
 resource-at (q ∷ rs) [] i r x h = absurd (cc)
 resource-at (q ∷ rs) (y ∷ xs) zero r x h = ap (λ (o : Option (List ℕ × Cell)). Some (unwrap_or o (r, x)).0) h
 resource-at (q ∷ rs) (y ∷ xs) (suc i) r x h = resource-at rs xs i r x h
 
+-- an entry at an index is the cell at that index
 pub cell-at : (rs : List (List ℕ)) (xs : List Cell) (i : ℕ) (r : List ℕ) (x : Cell) → slice_get (zip rs xs) i ≡ Some (r, x) → slice_get xs i ≡ Some x
 cell-at [] xs i r x h = absurd (cc)
 cell-at (q ∷ rs) [] i r x h = absurd (cc)
 cell-at (q ∷ rs) (y ∷ xs) zero r x h = ap (λ (o : Option (List ℕ × Cell)). Some (unwrap_or o (r, x)).1) h
 cell-at (q ∷ rs) (y ∷ xs) (suc i) r x h = cell-at rs xs i r x h
 
--- a cell that is written is written in the entry
+-- writing a cell writes its entry
 pub beside-written : (rs : List (List ℕ)) (xs : List Cell) (i : ℕ) (c : Cell) → zip rs (set xs i c) ≡ set_value_at (zip rs xs) i c
 beside-written [] xs i c = refl
 beside-written (r ∷ rs) [] i c = refl
 beside-written (r ∷ rs) (x ∷ xs) zero c = refl
 beside-written (r ∷ rs) (x ∷ xs) (suc i) c = ap (λ (es : Cells). (r, x) ∷ es) (beside-written rs xs i c)
 
--- one that comes is the last entry
+-- a resource and a cell that are added at the end give one entry more, the last one
 pub beside-pushed : (rs : List (List ℕ)) (xs : List Cell) (r : List ℕ) (c : Cell) → length rs < length xs → zip (rs ++ r ∷ []) (set xs (length rs) c) ≡ zip rs xs ++ (r, c) ∷ []
 beside-pushed [] [] r c h = absurd (omega arith)
 beside-pushed [] (x ∷ xs) r c h = refl
 beside-pushed (q ∷ rs) [] r c h = absurd (omega arith)
 beside-pushed (q ∷ rs) (x ∷ xs) r c h = ap (λ (es : Cells). (q, x) ∷ es) (beside-pushed rs xs r c (omega arith))
 
--- an entry that is written is a resource and a cell that are written
+-- writing a resource and a cell at an index writes the entry at that index
 beside-set : (rs : List (List ℕ)) (xs : List Cell) (i : ℕ) (r : List ℕ) (c : Cell) → zip (set rs i r) (set xs i c) ≡ set (zip rs xs) i (r, c)
 beside-set [] xs i r c = refl
 beside-set (q ∷ rs) [] zero r c = refl
@@ -96,18 +99,20 @@ beside-set (q ∷ rs) [] (suc i) r c = refl
 beside-set (q ∷ rs) (x ∷ xs) zero r c = refl
 beside-set (q ∷ rs) (x ∷ xs) (suc i) r c = ap (λ (es : Cells). (q, x) ∷ es) (beside-set rs xs i r c)
 
+-- the entry at an index is the resource and the cell at that index
 entry-last : (rs : List (List ℕ)) (xs : List Cell) (i : ℕ) (r : List ℕ) (d x : Cell) → i < length rs → i < length xs → get_or (zip rs xs) i (r, x) ≡ (get_or rs i r, get_or xs i d)
 entry-last [] xs i r d x h g = absurd (omega arith)
 entry-last (q ∷ rs) [] i r d x h g = absurd (omega arith)
 entry-last (q ∷ rs) (y ∷ xs) zero r d x h g = refl
 entry-last (q ∷ rs) (y ∷ xs) (suc i) r d x h g = entry-last rs xs i r d x (omega arith) (omega arith)
 
+-- there are as many entries as resources
 pub length-beside : (rs : List (List ℕ)) (xs : List Cell) → length rs ≤ length xs → length (zip rs xs) ≡ length rs
 length-beside [] xs h = refl
 length-beside (r ∷ rs) [] h = absurd (omega arith)
 length-beside (r ∷ rs) (x ∷ xs) h = ap suc (length-beside rs xs (omega arith))
 
--- cells that stand behind are no entries
+-- cells behind the resources give no entries
 pub beside-cut : (rs : List (List ℕ)) (xs : List Cell) (n : ℕ) → length rs ≤ n → zip rs (take n xs) ≡ zip rs xs
 beside-cut [] xs n h = refl
 beside-cut (r ∷ rs) [] zero h = refl
@@ -115,19 +120,20 @@ beside-cut (r ∷ rs) [] (suc n) h = refl
 beside-cut (r ∷ rs) (x ∷ xs) zero h = absurd (omega arith)
 beside-cut (r ∷ rs) (x ∷ xs) (suc n) h = ap (λ (es : Cells). (r, x) ∷ es) (beside-cut rs xs n (omega arith))
 
--- a cell further behind changes nothing, either
+-- a cell added behind the resources changes no entry
 pub beside-more : (rs : List (List ℕ)) (xs : List Cell) (c : Cell) → length rs ≤ length xs → zip rs (xs ++ c ∷ []) ≡ zip rs xs
 beside-more [] xs c h = refl
 beside-more (r ∷ rs) [] c h = absurd (omega arith)
 beside-more (r ∷ rs) (x ∷ xs) c h = ap (λ (es : Cells). (r, x) ∷ es) (beside-more rs xs c (omega arith))
 
--- what the entries say of a resource
+-- the cell of a resource after a change of the entries
 
+-- a choice that gives `None` has not taken its first option, and the second one is `None`
 head-off : (b : Bool) (x : Cell) (o : Option Cell) → cond b (Some x) o ≡ None → (b ≡ false) × (o ≡ None)
 head-off true x o h = absurd (cc)
 head-off false x o h = (refl, h)
 
--- once its entry has come
+-- after an entry is added: its resource has its cell, all others have theirs
 pub cell-pushed : (es : Cells) (r : List ℕ) (c : Cell) → cell_at r es ≡ None → (q : List ℕ) → cell_at q (es ++ (r, c) ∷ []) ≡ cond (same_path r q) (Some c) (cell_at q es)
 cell-pushed [] r c h q = ap (λ (b : Bool). cond b (Some c) None) (same_path-equivalence.symm q r)
 cell-pushed ((k, x) ∷ es) r c h q = elim (same_path_tells q k) [
@@ -138,16 +144,16 @@ cell-pushed ((k, x) ∷ es) r c h q = elim (same_path_tells q k) [
     parts : (same_path r k ≡ false) × (cell_at r es ≡ None)
     parts = head-off (same_path r k) x (cell_at r es) h
 
--- the resource is the first that passes for it
+-- the test for a resource passes for that key alone
 one : (r : List ℕ) → IsKeyTest same_path (same_path r)
 one r = λ x y h. ap (λ (z : List ℕ). same_path z y) (same_path-true r x h)
 
--- once its entry has gone
+-- after an entry is removed: its resource has no cell, all others have theirs
 pub cell-gone : (es : Cells) (r : List ℕ) (c : Cell) (i : ℕ) → IsDistinct same_path (keys_of es) → slice_get es i ≡ Some (r, c) → (q : List ℕ) → cell_at q (swap_remove es i (r, c)) ≡ cond (same_path r q) None (cell_at q es)
 cell-gone es r c i apart at q =
     (swap_out same_path same_path-equivalence (same_path r) (one r) es i (r, c) (index-first (same_path r) es i (own_first same_path same_path-equivalence es i r c apart at)) at apart (swap_remove es i (r, c)) refl).updated.0 q
 
--- once its cell is written
+-- after a cell is written: its resource has the new cell, all others have theirs
 cell-inserted : (es : Cells) (r : List ℕ) (c : Cell) (q : List ℕ) → cell_at q (insert_entry same_path es r c) ≡ cond (same_path r q) (Some c) (cell_at q es)
 cell-inserted [] r c q = ap (λ (b : Bool). cond b (Some c) None) (same_path-equivalence.symm q r)
 cell-inserted ((k, x) ∷ es) r c q = elim (same_path_tells r k) [
@@ -162,25 +168,28 @@ cell-inserted ((k, x) ∷ es) r c q = elim (same_path_tells r k) [
     twice true o = refl
     twice false o = refl
 
+-- after the cell of an entry is written: its resource has it, all others have theirs
 pub cell-set : (es : Cells) (r : List ℕ) (x c : Cell) (i : ℕ) → IsDistinct same_path (keys_of es) → slice_get es i ≡ Some (r, x) → (q : List ℕ) → cell_at q (set_value_at es i c) ≡ cond (same_path r q) (Some c) (cell_at q es)
 cell-set es r x c i apart at q =
     ap (cell_at q) (sym (insert_entry-first same_path r c es i (own_first same_path same_path-equivalence es i r x apart at))) ∙ cell-inserted es r c q
 
--- the cells that stand behind those in use
+-- the cells behind those in use
 
+-- writing a cell keeps the number of cells
 pub long-still : (xs : List Cell) (n i : ℕ) (c : Cell) → n ≤ length xs → n ≤ length (set xs i c)
 long-still xs n i c h = omega (arith, h, length-set xs i c)
 
+-- writing a cell in use leaves those behind idle
 pub idle-still : (xs : List Cell) (n i : ℕ) (c : Cell) → i < n → ((j : ℕ) (d : Cell) → n ≤ j → j < length xs → view_of (get_or xs j d) ≡ no_view)
     → (j : ℕ) (d : Cell) → n ≤ j → j < length (set xs i c) → view_of (get_or (set xs i c) j d) ≡ no_view
 idle-still xs n i c lt idle j d h g =
     ap view_of (get_or-set_other xs i j c d (λ e. absurd (omega (arith, lt, h, e)))) ∙ idle j d h (omega (arith, g, length-set xs i c))
 
--- none of them where the resource isn't in use
+-- a resource without a cell is not in use
 pub unused : (r : List ℕ) (rs : List (List ℕ)) (xs : List Cell) → length rs ≤ length xs → cell_at r (zip rs xs) ≡ None → list_any (same_path r) rs ≡ false
 unused r rs xs long h = ap (list_any (same_path r)) (sym (keys-beside rs xs long)) ∙ (sym (is_some-lookup (same_path r) (zip rs xs)) ∙ ap is_some h)
 
--- two cells change places, of which the one goes with its resource
+-- removing a resource and swapping its cell with the last one in use removes their entry
 pub beside-swapped : (rs : List (List ℕ)) (xs : List Cell) (i : ℕ) (r : List ℕ) (x : Cell) → length rs ≤ length xs → i < length rs
     → zip (swap_remove rs i r) (swap xs i (length rs - 1)) ≡ swap_remove (zip rs xs) i (r, x)
 beside-swapped rs [] i r x long lt = absurd (omega arith)
@@ -207,25 +216,30 @@ beside-swapped rs (d ∷ ys) i r x long lt =
     long-beside : length (zip rs xs) ≡ length rs
     long-beside = length-beside rs xs long
 
+-- an option that is not `Some` is `None`
 none-there : (o : Option Cell) → is_some o ≡ false → o ≡ None
 none-there None h = refl
 none-there (Some x) h = absurd (cc)
 
+-- a resource that is not in use has no cell
 pub absent : (r : List ℕ) (rs : List (List ℕ)) (xs : List Cell) → length rs ≤ length xs → list_any (same_path r) rs ≡ false → cell_at r (zip rs xs) ≡ None
 absent r rs xs long h = none-there _ (is_some-lookup (same_path r) (zip rs xs) ∙ (ap (list_any (same_path r)) (keys-beside rs xs long) ∙ h))
 
--- how many are in use
+-- the number of resources in use
 
+-- with a provisional key, one less than there are keys
 pub count-but_one : (rs : List (List ℕ)) (b : Bool) → b ≡ true → length (in_use rs b) ≡ length rs - 1
 count-but_one rs true h = omega (arith, length-take (length rs - 1) rs)
 count-but_one rs false h = absurd (cc)
 
+-- without one, as many as there are keys
 pub count-all : (rs : List (List ℕ)) (b : Bool) → b ≡ false → length (in_use rs b) ≡ length rs
 count-all rs true h = absurd (cc)
 count-all rs false h = refl
 
--- what a search says
+-- what a look-up says
 
+-- a list whose last item is known is those before it and that item
 split-at : (rs : List (List ℕ)) (n : ℕ) (r : List ℕ) → length rs ≡ n + 1 → slice_get rs n ≡ Some r → rs ≡ take n rs ++ r ∷ []
 split-at [] n r e h = absurd (cc)
 split-at (q ∷ []) zero r e h = ap (λ (o : Option (List ℕ)). unwrap_or o q ∷ []) h
@@ -233,56 +247,60 @@ split-at (q ∷ []) (suc n) r e h = absurd (cc)
 split-at (q ∷ k ∷ rs) zero r e h = absurd (omega (arith, e))
 split-at (q ∷ k ∷ rs) (suc n) r e h = ap (λ (ks : List (List ℕ)). q ∷ ks) (split-at (k ∷ rs) n r (omega (arith, e)) h)
 
+-- the same by the length of the list
 pub split-at-last : (rs : List (List ℕ)) (r : List ℕ) → slice_get rs (length rs - 1) ≡ Some r → rs ≡ take (length rs - 1) rs ++ r ∷ []
 split-at-last rs r h = split-at rs (length rs - 1) r (omega (arith, slice_get_within rs (length rs - 1) r h)) h
 
+-- the items at the indices of a front are those of the list
 slice_get-take : (n : ℕ) (rs : List (List ℕ)) (i : ℕ) → i < n → slice_get (take n rs) i ≡ slice_get rs i
 slice_get-take zero rs i h = absurd (omega (arith, h))
 slice_get-take (suc n) [] i h = refl
 slice_get-take (suc n) (r ∷ rs) zero h = refl
 slice_get-take (suc n) (r ∷ rs) (suc i) h = slice_get-take n rs i (omega (arith, h))
 
--- what stands at a place in use stands there among all
+-- at an index in use, the resource in use is the key
 pub in_use-at : (rs : List (List ℕ)) (b : Bool) (i : ℕ) → i < length (in_use rs b) → slice_get (in_use rs b) i ≡ slice_get rs i
 in_use-at rs true i h = slice_get-take (length rs - 1) rs i (omega (arith, h, length-take (length rs - 1) rs))
 in_use-at rs false i h = refl
 
+-- if a test fails for each of the first n items, it passes for none of them
 list_any-take : (test : List ℕ → Bool) (n : ℕ) (rs : List (List ℕ)) → ((k : ℕ) (d : List ℕ) → k < n → test (get_or rs k d) ≡ false) → list_any test (take n rs) ≡ false
 list_any-take test zero rs h = refl
 list_any-take test (suc n) [] h = refl
 list_any-take test (suc n) (r ∷ rs) h = rw (h 0 [] (omega arith)) (list_any-take test n rs (λ k d lt. h (suc k) d (omega (arith, lt))))
 
+-- if a test passes for no item of a list, it passes for none of the first n
 list_any-front : (test : List ℕ → Bool) (n : ℕ) (rs : List (List ℕ)) → list_any test rs ≡ false → list_any test (take n rs) ≡ false
 list_any-front test zero rs h = refl
 list_any-front test (suc n) [] h = refl
 list_any-front test (suc n) (r ∷ rs) h = let e = or_parts (test r) (list_any test rs) h in rw e.0 (list_any-front test n rs e.1)
 
 module _ (eq : List ℕ → List ℕ → Bool) (same : (a b : List ℕ) → eq a b ≡ same_path a b) (r : List ℕ) (rs : List (List ℕ)) where
-  -- none found, none in use
+  -- if no key is the resource, it is not in use
   pub unnamed : (b : Bool) → false ≡ list_any (eq r) rs → list_any (same_path r) (in_use rs b) ≡ false
   unnamed true h = list_any-front (same_path r) (length rs - 1) rs (ap (λ (test : List ℕ → Bool). list_any test rs) (λ j q. sym (same r q) j) ∙ sym h)
   unnamed false h = ap (λ (test : List ℕ → Bool). list_any test rs) (λ j q. sym (same r q) j) ∙ sym h
 
   module _ (i : ℕ) (found : Some i ≡ position (eq r) rs) where
-    -- the resource stands where it is found
+    -- the resource is the key at the index at which it is found
     pub named-at : slice_get rs i ≡ Some r
     named-at =
         let p = position-Some (eq r) rs i r (sym found) in
         slice_get-get_or rs i r p.0 ∙ ap Some (sym (same_path-true r (get_or rs i r) (sym (same r (get_or rs i r)) ∙ p.1)))
 
-    -- and, where that is no place in use, it isn't in use
+    -- if that index is not in use, the resource is not in use
     pub unused-there : (b : Bool) → length (in_use rs b) ≤ i → list_any (same_path r) (in_use rs b) ≡ false
     unused-there true h =
         let p = position-Some (eq r) rs i r (sym found) in
         list_any-take (same_path r) (length rs - 1) rs (λ k d lt. sym (same r (get_or rs k d)) ∙ (position-Some (eq r) rs i d (sym found)).2 k (omega (arith, lt, h, p.0, length-take (length rs - 1) rs)))
     unused-there false h = absurd (let p = position-Some (eq r) rs i r (sym found) in omega (arith, h, p.0))
 
--- with no newcomer all are in use
+-- without a provisional key, all resources are in use
 pub still : (ns : List (List ℕ)) (b : Bool) (ys : List Cell) → b ≡ false → zip (in_use ns b) ys ≡ zip ns ys
 still ns true ys h = absurd (cc)
 still ns false ys h = refl
 
--- one is fewer once one has gone
+-- after a removal, one resource fewer is in use
 pub fewer : (rs : List (List ℕ)) (i : ℕ) → i < length rs → (ks ns : List (List ℕ)) (b : Bool) → ks ≡ rs → b ≡ false → (out : Option (List ℕ)) → out ≡ slice_get ks i → IfSome out (λ k. ns ≡ swap_remove ks i k) → length (in_use ns b) + 1 ≡ length rs
 fewer rs i lt ks ns true e h out is after = absurd (cc)
 fewer rs i lt ks ns false e h out is after =
@@ -291,9 +309,10 @@ fewer rs i lt ks ns false e h out is after =
     let m = length ks - 1 in
     omega (arith, ap length named, length-take m (set ks i (get_or ks m (get_or rs i []))), length-set ks i (get_or ks m (get_or rs i [])), ap length e, lt)
 
--- a resource goes, and its cell changes places with the last one in use
+-- removal: the resource goes, and its cell is swapped with the last one in use
 
 module _ (rs : List (List ℕ)) (xs : List Cell) (es : Cells) (e : zip rs xs ≡ es) (long : length rs ≤ length xs) (i : ℕ) (lt : i < length rs) where
+  -- after the removal, the resource has no cell, and all others have theirs
   pub gone-there : IsDistinct same_path rs → (ns : List (List ℕ)) (ys : List Cell) (out : Option (List ℕ)) → out ≡ slice_get rs i → IfSome out (λ k. ns ≡ swap_remove rs i k) → ys ≡ swap xs i (length rs - 1)
       → (r : List ℕ) (c : Cell) → slice_get es i ≡ Some (r, c) → (q : List ℕ) → cell_at q (zip ns ys) ≡ cond (same_path r q) None (cell_at q es)
   gone-there apart ns ys out is after swapped r c at q =
@@ -308,7 +327,7 @@ module _ (rs : List (List ℕ)) (xs : List Cell) (es : Cells) (e : zip rs xs ≡
       named : ns ≡ swap_remove rs i r
       named = subst (λ (o : Option (List ℕ)). IfSome o (λ k. ns ≡ swap_remove rs i k)) (is ∙ resource-at rs xs i r c there) after
 
-  -- the cells behind those in use are idle then
+  -- then the cells behind those in use are idle
   pub idle-swapped : ((r : List ℕ) (c : Cell) → slice_get es i ≡ Some (r, c) → view_of c ≡ no_view) → ((j : ℕ) (d : Cell) → length rs ≤ j → j < length xs → view_of (get_or xs j d) ≡ no_view)
       → (j : ℕ) (d : Cell) → length rs ≤ j + 1 → j < length (swap xs i (length rs - 1)) → view_of (get_or (swap xs i (length rs - 1)) j d) ≡ no_view
   idle-swapped left idle = go xs refl
@@ -330,50 +349,52 @@ module _ (rs : List (List ℕ)) (xs : List Cell) (es : Cells) (e : zip rs xs ≡
           written : length (set (x ∷ zs) i (get_or (x ∷ zs) (length rs - 1) x)) ≡ length (x ∷ zs)
           written = length-set (x ∷ zs) i (get_or (x ∷ zs) (length rs - 1) x)
 
--- all but the last of them
+-- without the provisional key that was added, the resources in use are those of before
 pub last-off : (rs : List (List ℕ)) (r : List ℕ) (ks : List (List ℕ)) (b : Bool) → ks ≡ rs ++ r ∷ [] → b ≡ true → in_use ks b ≡ rs
 last-off rs r ks true e h = ap (λ (qs : List (List ℕ)). take (length qs - 1) qs) e ∙ ap (λ n. take n (rs ++ r ∷ [])) (omega (arith, length-append rs (r ∷ []))) ∙ take-append-le (length rs) rs (r ∷ []) (omega arith) ∙ take_all (length rs) rs (omega arith)
 last-off rs r ks false e h = absurd (cc)
 
--- its place is behind those in use
+-- the index of the added key is the number of resources in use before
 pub count-place : (rs : List (List ℕ)) (r : List ℕ) (ks : List (List ℕ)) (n : ℕ) → ks ≡ rs ++ r ∷ [] → n ≡ length ks → n - 1 ≡ length rs
 count-place rs r ks n come is = omega (arith, is, ap length come, length-append rs (r ∷ []))
 
--- cells that are the same up to the last resource stand beside the resources alike
+-- cells that agree up to the last resource give the same entries
 pub beside-front : (rs : List (List ℕ)) (xs ys : List Cell) → take (length rs) ys ≡ take (length rs) xs → zip rs ys ≡ zip rs xs
 beside-front rs xs ys h = sym (beside-cut rs ys (length rs) (omega arith)) ∙ ap (zip rs) h ∙ beside-cut rs xs (length rs) (omega arith)
 
--- a resource comes, with a cell that nobody used
+-- a resource is added, with a cell that was idle
 
 module _ (rs : List (List ℕ)) (xs ys : List Cell) (cs : Cells) (e : zip rs xs ≡ cs) (r : List ℕ) (n : ℕ) (is : n ≡ length rs) (front : take n ys ≡ take n xs) where
-  front-alike : zip rs ys ≡ cs
-  front-alike = beside-front rs xs ys (subst (λ m. take m ys ≡ take m xs) is front) ∙ e
+  -- the entries of the cells in use are unchanged
+  front-unchanged : zip rs ys ≡ cs
+  front-unchanged = beside-front rs xs ys (subst (λ m. take m ys ≡ take m xs) is front) ∙ e
 
   module _ (ks : List (List ℕ)) (b : Bool) (come : ks ≡ rs ++ r ∷ []) where
-    -- as a newcomer it changes nothing
-    pub newcomer-apart : b ≡ true → zip (in_use ks b) ys ≡ cs
-    newcomer-apart h = ap (λ (qs : List (List ℕ)). zip qs ys) (last-off rs r ks b come h) ∙ front-alike
+    -- while its key is provisional, no entry changes
+    pub provisional-unchanged : b ≡ true → zip (in_use ks b) ys ≡ cs
+    provisional-unchanged h = ap (λ (qs : List (List ℕ)). zip qs ys) (last-off rs r ks b come h) ∙ front-unchanged
 
-    -- in use it has the cell
+    -- once its cell is in use, it has this cell, and all others have theirs
     pub cell-come : (c : Cell) → n < length ys → cell_at r cs ≡ None → (q : List ℕ) → cell_at q (zip ks (set ys n c)) ≡ cond (same_path r q) (Some c) (cell_at q cs)
     cell-come c lt none q =
         (λ j. cell_at q (zip (come j) (set ys (is j) c)))
         ∙ ap (cell_at q) (beside-pushed rs ys r c (omega (arith, lt, is)))
-        ∙ cell-pushed (zip rs ys) r c (ap (cell_at r) front-alike ∙ none) q
-        ∙ ap (λ (os : Cells). cond (same_path r q) (Some c) (cell_at q os)) front-alike
+        ∙ cell-pushed (zip rs ys) r c (ap (cell_at r) front-unchanged ∙ none) q
+        ∙ ap (λ (os : Cells). cond (same_path r q) (Some c) (cell_at q os)) front-unchanged
 
-    -- and the cells behind are idle as they were
+    -- the cells behind it are still there and idle
     pub long-come : n < length ys → (c : Cell) → length ks ≤ length (set ys n c)
     long-come lt c = omega (arith, lt, is, ap length come, length-append rs (r ∷ []), length-set ys n c)
 
+    -- the cells behind it are idle
     pub idle-come : AreIdleFrom n ys → (c : Cell) → AreIdleFrom (length ks) (set ys n c)
     idle-come idle c = λ j d h g.
         ap view_of (get_or-set_other ys n j c d (λ f. absurd (omega (arith, f, h, is, ap length come, length-append rs (r ∷ [])))))
         ∙ idle j d (omega (arith, h, is, ap length come, length-append rs (r ∷ []))) (omega (arith, g, length-set ys n c))
 
--- where a resource stands
+-- the place of a resource
 
--- what a search finds stands at its place
+-- the index at which a resource is found is its place
 pub found-place : (rs : List (List ℕ)) (xs : List Cell) (r : List ℕ) (i : ℕ) → IsDistinct same_path rs → length rs ≤ length xs → slice_get rs i ≡ Some r → IsCellAt r (zip rs xs) i
 found-place rs [] r i apart long at = absurd (let lt = slice_get_within rs i r at in omega (arith, lt, long))
 found-place rs (d ∷ ys) r i apart long at = record {
@@ -388,18 +409,21 @@ found-place rs (d ∷ ys) r i apart long at = record {
     entry : slice_get (zip rs (d ∷ ys)) i ≡ Some (r, get_or (d ∷ ys) i d)
     entry = slice_get-zip_some rs (d ∷ ys) i r _ at (slice_get-get_or (d ∷ ys) i d (omega (arith, lt, long)))
 
--- the cell at a place is read and written
+-- the cell at the place of a resource is read and written
 module _ (rs : List (List ℕ)) (xs : List Cell) (cs : Cells) (e : zip rs xs ≡ cs) (r : List ℕ) (o : Option ℕ) (i : ℕ) (is : o ≡ Some i) (place : IsPlace r cs o) where
+  -- the cell at the place
   at : IsCellAt r cs i
   at = subst (IsPlace r cs) is place
 
+  -- the entry at the place
   here : slice_get (zip rs xs) i ≡ Some (r, at.cell)
   here = ap (λ (es : Cells). slice_get es i) e ∙ at.entry
 
-  -- it is one of the cells in use
+  -- the place is an index of the list of cells
   pub cell-within : i < length xs
   cell-within = slice_get_within xs i at.cell (cell-at rs xs i r at.cell here)
 
+  -- the place is an index of the resources
   pub resource-within : i < length rs
   resource-within = slice_get_within rs i r (resource-at rs xs i r at.cell here)
 
@@ -407,34 +431,36 @@ module _ (rs : List (List ℕ)) (xs : List Cell) (cs : Cells) (e : zip rs xs ≡
     same-read : at.cell ≡ x
     same-read = sym (read ∙ get_or_from_slice_get xs i at.cell x (cell-at rs xs i r at.cell here))
 
-    -- it is the cell of the resource
+    -- the cell there is that of the resource
     pub there : Some x ≡ cell_at r cs
     there = ap Some (sym same-read) ∙ sym at.found
 
-    -- it has the room that there is at the place
+    -- the cell there has the room that is stated for the place
     pub room-there : (n : ℕ) → HasRoomAt cs i n → HasRoomFor n x
     room-there n h = subst (HasRoomFor n) same-read (h r at.cell at.entry)
 
     module _ (c : Cell) where
+      -- the entry at the place has the cell that is written
       pub written-entry : slice_get (zip rs (set xs i c)) i ≡ Some (r, c)
       written-entry = slice_get-zip_some rs (set xs i c) i r c (resource-at rs xs i r at.cell here) (set-there xs i c cell-within)
 
-      -- what is written there is the cell of the entry
+      -- the cell that is written there is that of the entry
       pub written-cell : (q : List ℕ) (y : Cell) → slice_get (zip rs (set xs i c)) i ≡ Some (q, y) → c ≡ y
       written-cell q y h = same-cell r q c y (sym written-entry ∙ h)
 
       module _ (apart : IsDistinct same_path rs) (long : length rs ≤ length xs) where
-        -- and of the resource
+        -- it is then the cell of the resource, and all others have theirs
         pub wrote : (q : List ℕ) → cell_at q (zip rs (set xs i c)) ≡ cond (same_path r q) (Some c) (cell_at q cs)
         wrote q =
             ap (cell_at q) (beside-written rs xs i c)
             ∙ (cell-set (zip rs xs) r at.cell c i (subst (IsDistinct same_path) (sym (keys-beside rs xs long)) apart) here q
             ∙ ap (λ (es : Cells). cond (same_path r q) (Some c) (cell_at q es)) e)
 
+        -- so the view of the resource is that of the cell written there, and the others are unchanged
         pub wrote-kept : (v : View) → AreKeptCells cs → IsKeptCell c → view_of c ≡ v → CellsBecame r v cs (zip rs (set xs i c))
         wrote-kept v k kept h = became-view r (view_of c) v cs _ h (became same_path (λ a b. refl) r (Some c) cs _ k kept wrote)
 
-        -- the resource's cell stands where it stood
+        -- the place of the resource is unchanged
         pub still-at : IsCellAt r (zip rs (set xs i c)) i
         still-at = record {
           cell = c;
@@ -442,6 +468,6 @@ module _ (rs : List (List ℕ)) (xs : List Cell) (cs : Cells) (e : zip rs xs ≡
           found = wrote r ∙ ap (λ (b : Bool). cond b (Some c) (cell_at r cs)) (same_path-refl r);
         }
 
-      -- with the room of what is written
+      -- the place has the room of the cell that is written
       pub room-written : (n : ℕ) → HasRoomFor n c → HasRoomAt (zip rs (set xs i c)) i n
       room-written n h = λ q y f. subst (HasRoomFor n) (written-cell q y f) h

@@ -1,11 +1,12 @@
--- One grant of a promotion: the session that is granted has a locker, and only that locker changes.
+-- One grant of a promotion: the granted session has a locker, and only that locker changes.
 use Rattle.std.proofs.Common.{◌≡◌, ℕ, suc, ◌<◌, ◌≤◌, true, eqb, List, length, get_or, set, sym, ◌∙◌, ap, arith, subst}
 use Rattle.std.proofs.lemmas.Bool.{or_parts}
 use Rattle.std.proofs.lemmas.Bool.Decides.{nat_tests}
 use Rattle.lock_desk.specs.declared.cells.SessionMode.{SessionMode}
 use Rattle.lock_desk.specs.declared.lockers.Locker.{Locker}
-use Rattle.lock_desk.specs.Cells.{View, has_session, IsOnce}
-use Rattle.lock_desk.specs.Lockers.{Standing, wanted_in, standing_of, standings_of, standing_at, is_wanted, standing_after_grant, AreSameOrGranted, DoAgree}
+use Rattle.lock_desk.specs.inner.Cells.{View, has_session, IsOnce}
+use Rattle.lock_desk.specs.inner.Requests.{wanted_in}
+use Rattle.lock_desk.specs.inner.Lockers.{Standing, standing_of, standings_of, standing_at, is_wanted, standing_after_grant, AreSameOrGranted, DoAgree}
 use Rattle.lock_desk.proofs.ResourceViews.{IsNext, next-waits}
 use Rattle.lock_desk.proofs.LockerStandings.{IsPositionOf, standing-here, standings-set, length-standings, waits-within, agree-next, same-next}
 
@@ -14,7 +15,7 @@ module _ (r : List ℕ) (v w : View) (c : SessionMode) (lockers : List Locker) (
   pub grant-waits : is_wanted r (standing_at c.session (standings_of lockers)).wanted ≡ true
   grant-waits = agree.wanted c.session ∙ next-waits v c w n
 
-  -- it is a session
+  -- its number is at least 1
   pub grant-some : IsOnce v → 1 ≤ c.session
   grant-some o = let k = or_parts (eqb c.session 0) (has_session 0 w.waiting) (sym (ap (has_session 0) n.first) ∙ o.waiting) in let e = k.0 in grind (arith, nat_tests)
 
@@ -26,7 +27,7 @@ module _ (r : List ℕ) (v w : View) (c : SessionMode) (lockers : List Locker) (
     here : standing_at c.session (standings_of lockers) ≡ standing_of locker
     here = standing-here lockers c.session locker (grant-within next) at
 
-    -- the locker says so
+    -- its locker says that it waits for the resource
     pub grant-waits_locker : is_wanted r (wanted_in locker.wanted) ≡ true
     grant-waits_locker = ap (λ (x : Standing). is_wanted r x.wanted) (sym here) ∙ grant-waits
 
@@ -42,6 +43,6 @@ module _ (r : List ℕ) (v w : View) (c : SessionMode) (lockers : List Locker) (
       pub grant-agree : IsOnce v → DoAgree r w (standings_of (set lockers i new))
       grant-agree o = rw grant-lockers (agree-next r v c w (standings_of lockers) n o agree long)
 
-      -- each session was granted the resource once, or nothing has changed for it
+      -- compared with the start, each session was granted the resource or is unchanged
       pub grant-same : (old : List Standing) → AreSameOrGranted r old (standings_of lockers) → AreSameOrGranted r old (standings_of (set lockers i new))
       grant-same old h = subst (AreSameOrGranted r old) (sym grant-lockers) (same-next r old (standings_of lockers) c.session long grant-waits h)

@@ -1,82 +1,84 @@
--- Lists of sessions, each with its mode, at one resource.
+-- Lists of sessions with modes: the holders or the queue of one resource.
 use Rattle.std.proofs.Common.{◌≡◌, ℕ, ◌+◌, ◌<◌, ◌≤◌, Bool, true, false, is_some, cond, not, eqb, ◌&&◌, ◌||◌, ◌⊎◌, inr, List, [], ◌∷◌, ◌++◌, length, get_or, take, drop, set, refl, sym, ◌∙◌, ap, arith, add-one}
 use Rattle.std.proofs.lemmas.List.{set_split, drop_more}
 use Rattle.std.proofs.lemmas.Bool.Decides.{nat_tests}
 use Rattle.std.proofs.lemmas.Bool.{cases_Bool}
 use Rattle.lock_desk.specs.declared.cells.SessionMode.{SessionMode}
-use Rattle.lock_desk.specs.Cells.{with_holder, has_session, mode_of, times, without, is_nobody, behind_conversions, queue_with}
+use Rattle.lock_desk.specs.inner.Cells.{with_holder, has_session, mode_of, times, without, is_nobody, behind_conversions, queue_with}
 
--- a holder that is put between its neighbours
+-- a holder that changes its mode
 
+-- the first holder is replaced if it is that of the session
 with_holder-same : (c h : SessionMode) (hs : List SessionMode) → h.session ≡ c.session → with_holder c (h ∷ hs) ≡ c ∷ hs
 with_holder-same c h hs e = grind (arith, nat_tests)
 
--- writing over the same session replaces its holder
+-- overwriting the holder of a session at its index makes it a holder with the new mode
 pub with_holder-set : (xs : List SessionMode) (i : ℕ) (c h : SessionMode) → i < length xs → h ≡ get_or xs i h → h.session ≡ c.session → with_holder c xs ≡ take i xs ++ with_holder c (drop i xs) → set xs i c ≡ with_holder c xs
 with_holder-set xs i c h lt at e passed =
     set_split xs i c lt
     ∙ sym (passed ∙ ap (λ ys. take i xs ++ with_holder c ys) (drop_more xs i h lt ∙ ap (λ y. y ∷ drop (i + 1) xs) (sym at))
     ∙ ap (λ ys. take i xs ++ ys) (with_holder-same c h (drop (i + 1) xs) e) ∙ rw add-one refl)
 
--- each of the requests is of a holder, or none is
+-- each of the requests is of a holder, or, for `false`, none is
 abbrev pub AreAll : List SessionMode → Bool → List SessionMode → Type 0
 AreAll hs b [] = Unit {0}
 AreAll hs b (q ∷ qs) = (has_session q.session hs ≡ b) × AreAll hs b qs
 
--- how many times a session stands there
+-- how often a session is in a list
 
--- a session stands there, or it stands there 0 times
+-- a session is in the list and occurs at least once, or is not and occurs 0 times
 pub has_tells : (s : ℕ) (cs : List SessionMode) → ((has_session s cs ≡ true) × (1 ≤ times s cs)) ⊎ ((has_session s cs ≡ false) × (times s cs ≡ 0))
 has_tells s [] = inr (refl, refl)
 has_tells s (c ∷ cs) = grind (arith, nat_tests, has_tells s cs)
 
--- who holds once one is put
+-- the sessions that hold after one is inserted: the new one and those before
 pub has_session-with_holder : (s : ℕ) (c : SessionMode) (hs : List SessionMode) → has_session s (with_holder c hs) ≡ (eqb c.session s || has_session s hs)
 has_session-with_holder s c [] = refl
 has_session-with_holder s c (h ∷ hs) = grind (arith, nat_tests, has_session-with_holder s c hs)
 
--- one at the end adds one
+-- adding a request at the end counts one more for its session
 pub times-push : (s : ℕ) (cs : List SessionMode) (c : SessionMode) → times s (cs ++ c ∷ []) ≡ times s cs + cond (eqb c.session s) 1 0
 times-push s [] c = grind (arith, nat_tests)
 times-push s (d ∷ cs) c = grind (arith, nat_tests, times-push s cs c)
 
--- who stands there once one is added at the end
+-- the sessions in a list after one is added at the end: the new one and those before
 pub has_session-push : (s : ℕ) (cs : List SessionMode) (c : SessionMode) → has_session s (cs ++ c ∷ []) ≡ (eqb c.session s || has_session s cs)
 has_session-push s [] c = refl
 has_session-push s (d ∷ cs) c = grind (arith, nat_tests, has_session-push s cs c)
 
--- without a session nobody stands there more often
+-- removing a session adds no occurrence of any
 pub times-without : (s u : ℕ) (cs : List SessionMode) → times u (without s cs) ≤ times u cs
 times-without s u [] = omega arith
 times-without s u (c ∷ cs) = grind (arith, nat_tests, times-without s u cs)
 
--- who stands there once a session is gone
+-- the sessions in a list after one is removed: all others
 pub has_session-without : (s u : ℕ) (cs : List SessionMode) → has_session u (without s cs) ≡ (not (eqb u s) && has_session u cs)
 has_session-without s u [] = grind (arith, nat_tests)
 has_session-without s u (c ∷ cs) = grind (arith, nat_tests, has_session-without s u cs)
 
--- a session that isn't there leaves nothing behind
+-- removing a session that is not in the list changes nothing
 pub without-none : (s : ℕ) (cs : List SessionMode) → has_session s cs ≡ false → without s cs ≡ cs
 without-none s [] h = refl
 without-none s (c ∷ cs) h = grind (arith, nat_tests, without-none s cs)
 
--- somebody is there once a holder is put
+-- a list with a holder inserted is not empty
 pub nobody-with_holder : (c : SessionMode) (hs : List SessionMode) → is_nobody (with_holder c hs) ≡ false
 nobody-with_holder c [] = refl
 nobody-with_holder c (h ∷ hs) = grind (arith, nat_tests)
 
--- who stands there has a mode
+-- a session has a mode in the list exactly if it is in the list
 pub mode-has : (s : ℕ) (cs : List SessionMode) → is_some (mode_of s cs) ≡ has_session s cs
 mode-has s [] = refl
 mode-has s (c ∷ cs) = grind (arith, nat_tests, mode-has s cs)
 
--- a request in the queue
+-- requests in the queue
 
+-- inserting a request behind the conversions counts one more for its session
 times-behind : (s : ℕ) (c : SessionMode) (hs qs : List SessionMode) → times s (behind_conversions c hs qs) ≡ times s qs + cond (eqb c.session s) 1 0
 times-behind s c hs [] = grind (arith, nat_tests)
 times-behind s c hs (q ∷ qs) = grind (arith, nat_tests, cases_Bool (has_session q.session hs), times-behind s c hs qs)
 
--- a request that comes into the queue adds one
+-- adding a request to the queue counts one more for its session
 pub times-queued : (s : ℕ) (c : SessionMode) (hs qs : List SessionMode) → times s (queue_with c hs qs) ≡ times s qs + cond (eqb c.session s) 1 0
 times-queued s c hs qs = go (has_session c.session hs)
   where
@@ -84,11 +86,12 @@ times-queued s c hs qs = go (has_session c.session hs)
     go true = times-behind s c hs qs
     go false = times-push s qs c
 
+-- the sessions that wait after a conversion is inserted: the new one and those before
 has_session-behind : (s : ℕ) (c : SessionMode) (hs qs : List SessionMode) → has_session s (behind_conversions c hs qs) ≡ (eqb c.session s || has_session s qs)
 has_session-behind s c hs [] = refl
 has_session-behind s c hs (q ∷ qs) = grind (arith, nat_tests, cases_Bool (has_session q.session hs), has_session-behind s c hs qs)
 
--- who waits once a request has come into the queue
+-- the sessions that wait after a request is added: the new one and those before
 pub has_session-queued : (s : ℕ) (c : SessionMode) (hs qs : List SessionMode) → has_session s (queue_with c hs qs) ≡ (eqb c.session s || has_session s qs)
 has_session-queued s c hs qs = go (has_session c.session hs)
   where
@@ -96,7 +99,7 @@ has_session-queued s c hs qs = go (has_session c.session hs)
     go true = has_session-behind s c hs qs
     go false = has_session-push s qs c
 
--- somebody waits then
+-- a queue with a request added is not empty
 pub nobody-queued : (c : SessionMode) (hs qs : List SessionMode) → is_nobody (queue_with c hs qs) ≡ false
 nobody-queued c hs qs = go (has_session c.session hs) qs
   where
@@ -110,7 +113,7 @@ nobody-queued c hs qs = go (has_session c.session hs) qs
     go false [] = refl
     go false (q ∷ qs) = refl
 
--- where the front is of holders and the rest is not, a conversion comes between
+-- behind conversions at the front, and ahead of fresh requests, is where a conversion is inserted
 pub behind-between : (c : SessionMode) (hs front rest : List SessionMode) → AreAll hs true front → AreAll hs false rest → behind_conversions c hs (front ++ rest) ≡ front ++ c ∷ rest
 behind-between c hs [] [] a b = refl
 behind-between c hs [] (q ∷ rest) a b = ap (λ (x : Bool). cond x (q ∷ behind_conversions c hs rest) (c ∷ q ∷ rest)) b.0

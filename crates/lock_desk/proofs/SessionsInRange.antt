@@ -1,20 +1,20 @@
--- Whoever holds or waits in a whole desk is one of its sessions.
+-- Each session that holds or waits in the lock table has a locker.
 use Rattle.std.proofs.Common.{◌≡◌, ℕ, zero, suc, ◌<◌, ◌≤◌, Bool, true, false, eqb, ◌||◌, List, [], ◌∷◌, length, Option, Some, None, IfSome, cond, refl, sym, ◌∙◌, ap, arith, subst}
 use Rattle.std.proofs.lemmas.Bool.Decides.{nat_tests, Decides-eqb}
 use Rattle.std.proofs.lemmas.List.Elements.{All-nil, All-cons, All-head, All-tail}
 use Rattle.lock_desk.specs.declared.cells.SessionMode.{SessionMode}
 use Rattle.lock_desk.specs.declared.cells.Cell.{Cell}
-use Rattle.lock_desk.specs.declared.desk.Desk.{Desk}
+use Rattle.lock_desk.specs.declared.lock_table.LockTable.{LockTable}
 use Rattle.lock_desk.specs.declared.lockers.Locker.{Locker}
-use Rattle.lock_desk.specs.Cells.{View, Cells, cell_at, view_in, cell_view, has_session, has_path, with_holder, can_grant, queue_with, view_after_asking, IsOnce, IsKeptCell, AreKeptCells}
-use Rattle.lock_desk.specs.Lockers.{Standing, standings_of, standing_at, DoAgree}
-use Rattle.lock_desk.specs.Changes.{view_at, IsWhole}
-use Rattle.lock_desk.specs.Finding.{AreOfSessions, IsOfSessions}
+use Rattle.lock_desk.specs.inner.Cells.{View, Cells, cell_at, view_in, cell_view, has_session, has_path, with_holder, can_grant, queue_with, view_after_asking, IsOnce, IsKeptCell, AreKeptCells}
+use Rattle.lock_desk.specs.inner.Lockers.{Standing, standings_of, standing_at, DoAgree}
+use Rattle.lock_desk.specs.inner.Changes.{view_at, IsWhole}
+use Rattle.lock_desk.specs.inner.Blocking.{AreOfSessions, IsOfSessions}
 use Rattle.lock_desk.proofs.ResourceViews.{both, once-nobody}
 use Rattle.lock_desk.proofs.SessionModes.{has_session-with_holder, has_session-queued}
 use Rattle.lock_desk.proofs.LockerStandings.{waits-within, length-standings}
 
--- what is kept of a cell is kept of what is seen of its resource
+-- the invariant of the cells gives that of each view
 pub once-at : (r : List ℕ) (cs : Cells) → AreKeptCells cs → IsOnce (cell_view r cs)
 once-at r cs k = go (cell_at r cs) (k r)
   where
@@ -22,12 +22,13 @@ once-at r cs k = go (cell_at r cs) (k r)
     go None h = once-nobody
     go (Some c) h = h.once
 
--- who holds something has a locker
+-- a session that holds something has a locker
 holds-within : (ss : List Standing) (r : List ℕ) (s : ℕ) → has_path r (standing_at s ss).held ≡ true → s < length ss
 holds-within [] r s h = absurd (cc)
 holds-within (x ∷ ss) r zero h = omega arith
 holds-within (x ∷ ss) r (suc s) h = omega (arith, holds-within ss r s h)
 
+-- if 0 is not in a list, and no number is above `n`, all are sessions 1 to `n`
 all-numbered : (n : ℕ) (cs : List SessionMode) → has_session 0 cs ≡ false → ((u : ℕ) → has_session u cs ≡ true → u ≤ n) → AreOfSessions n cs
 all-numbered n [] h k = All-nil (λ c. (1 ≤ c.session) × (c.session ≤ n))
 all-numbered n (c ∷ cs) h k =
@@ -46,20 +47,20 @@ all-numbered n (c ∷ cs) h k =
     more u true e = refl
     more u false e = e
 
--- lockers and cell agree, so each session of the cell has a locker
+-- if lockers and a view agree, each session of the view has a locker
 pub numbered-agree : (n : ℕ) (ws : List Locker) → n ≡ length ws → (r : List ℕ) (v : View) → DoAgree r v (standings_of ws) → IsOnce v → IsOfSessions n v
 numbered-agree n ws long r v a o = record {
   holders = all-numbered n v.holders o.holders (λ u e. omega (arith, holds-within (standings_of ws) r u (a.held u ∙ e), length-standings ws, long));
   waiting = all-numbered n v.waiting o.waiting (λ u e. omega (arith, waits-within (standings_of ws) r u (a.wanted u ∙ e), length-standings ws, long));
 }
 
--- each session that holds or waits has a locker
-pub numbered-whole : (d : Desk) (n : ℕ) → n ≡ length d.lockers.items → IsWhole d → (r : List ℕ) → IsOfSessions n (view_at r d)
+-- each session that holds a resource or waits for it has a locker
+pub numbered-whole : (d : LockTable) (n : ℕ) → n ≡ length d.lockers.items → IsWhole d → (r : List ℕ) → IsOfSessions n (view_at r d)
 numbered-whole d n long w r = numbered-agree n d.lockers.items long r (view_at r d) (w.agree r) (once-at r d.cells.entries w.cells)
 
--- one session more asks
+-- after a request
 
--- which numbers those have that are among them
+-- the numbers of the sessions in a list are from 1 to `n`, if all are
 among : (n : ℕ) (cs : List SessionMode) → AreOfSessions n cs → (u : ℕ) → has_session u cs ≡ true → (1 ≤ u) × (u ≤ n)
 among n [] k u h = absurd (cc)
 among n (c ∷ cs) k u h = go (eqb c.session u) refl h (among n cs (All-tail (λ c. (1 ≤ c.session) × (c.session ≤ n)) c cs k) u)
@@ -68,6 +69,7 @@ among n (c ∷ cs) k u h = go (eqb c.session u) refl h (among n cs (All-tail (λ
     go true e f next = subst (λ (i : ℕ). (1 ≤ i) × (i ≤ n)) ((Decides-eqb c.session u).0 e) (All-head (λ c. (1 ≤ c.session) × (c.session ≤ n)) c cs k)
     go false e f next = next f
 
+-- sessions 1 to `n` stay such if one of them is added
 more-numbered : (n : ℕ) (c : SessionMode) (cs more : List SessionMode) → 1 ≤ c.session → c.session ≤ n → AreOfSessions n cs → ((u : ℕ) → has_session u more ≡ (eqb c.session u || has_session u cs)) → AreOfSessions n more
 more-numbered n c cs more some few k is = all-numbered n more none (λ u e. (each u (sym (is u) ∙ e)).1)
   where
@@ -85,7 +87,7 @@ more-numbered n c cs more some few k is = all-numbered n more none (λ u e. (eac
         go false e = e
         go true e = absurd (let z = (each 0 (sym (is 0) ∙ e)).0 in omega (arith, z))
 
--- where the asker has a locker, each session that holds or waits then has one
+-- after a request of a session with a locker, each session that holds or waits has a locker
 pub numbered-asked : (n : ℕ) (c : SessionMode) (v : View) → 1 ≤ c.session → c.session ≤ n → IsOfSessions n v → IsOfSessions n (view_after_asking c v)
 numbered-asked n c v some few k = go (can_grant c v)
   where

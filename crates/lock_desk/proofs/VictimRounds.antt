@@ -1,4 +1,4 @@
--- A victim of what is written down is a victim of the state that the desk shows.
+-- The victim that is found in the waits-for graph is that of the state which the lock table represents.
 use Rattle.std.proofs.Common.{◌≡◌, ℕ, zero, suc, ◌+◌, ◌-◌, ◌<◌, ◌≤◌, Bool, true, false, cond, eqb, ◌||◌, List, [], ◌∷◌, map, Option, Some, None, refl, sym, ◌∙◌, ap, arith, subst}
 use Rattle.std.proofs.lemmas.Bool.Decides.{Decides-eqb}
 use Rattle.std.specs.Prelude.{slice_index}
@@ -14,43 +14,49 @@ use Rattle.lock_rules.proofs.Settle.{reached-walk, reaches-walk}
 use Rattle.lock_rules.proofs.Victims.{victim-most, one-victim}
 use Rattle.lock_rules.proofs.Owners.{victim-numbered}
 use Rattle.lock_desk.specs.declared.cells.SessionMode.{SessionMode}
-use Rattle.lock_desk.specs.declared.desk.Desk.{Desk}
+use Rattle.lock_desk.specs.declared.lock_table.LockTable.{LockTable}
 use Rattle.lock_desk.specs.declared.waits.Waits.{Waits}
-use Rattle.lock_desk.specs.Cells.{mode_of, has_session}
-use Rattle.lock_desk.specs.Changes.{view_at, standings, standing, view_after_cancel, IsWhole, HasDoomed}
-use Rattle.lock_desk.specs.Finding.{blocks, blocks_at, target_blocks, IsFilled}
-use Rattle.lock_desk.specs.Shows.{Shows}
+use Rattle.lock_desk.specs.inner.Cells.{mode_of, has_session}
+use Rattle.lock_desk.specs.inner.Changes.{view_at, standings, standing, view_after_cancel, IsWhole, HasDoomed}
+use Rattle.lock_desk.specs.inner.Blocking.{blocks, blocks_at, target_blocks, IsCurrent}
+use Rattle.lock_desk.specs.inner.Shows.{Shows}
 use Rattle.lock_desk.proofs.SessionsInRange.{once-at}
 use Rattle.lock_desk.proofs.WaitsOfTheState.{pairs-shown}
 use Rattle.lock_desk.proofs.AfterStep.{cancelled-seen}
 
--- positions and sessions: position a is session a + 1
+-- positions and sessions: position a is that of session a + 1
 
 module _ (P Q : ℕ → ℕ → Bool) (same : (a b : ℕ) → P a b ≡ Q (a + 1) (b + 1)) (some : (s u : ℕ) → Q s u ≡ true → 1 ≤ s) where
+  -- a walk by positions is one by sessions
   up-walk : (a : ℕ) (vs : List ℕ) (b : ℕ) → IsWalk P a vs b → IsWalk Q (a + 1) (map (λ v. v + 1) vs) (b + 1)
   up-walk a [] b w = sym (same a b) ∙ w
   up-walk a (v ∷ vs) b w = (sym (same a v) ∙ w.0, up-walk v vs b w.1)
 
+  -- a walk by sessions begins at a number of at least 1
   first-some : (v : ℕ) (vs : List ℕ) (u : ℕ) → IsWalk Q v vs u → 1 ≤ v
   first-some v [] u w = some v u w
   first-some v (x ∷ vs) u w = some v x w.0
 
+  -- the session at position v - 1 is v
   back-one : (v : ℕ) → 1 ≤ v → v - 1 + 1 ≡ v
   back-one v h = omega (arith, h)
 
+  -- a walk by sessions is one by positions
   down-walk : (a : ℕ) (vs : List ℕ) (b : ℕ) → IsWalk Q (a + 1) vs (b + 1) → IsWalk P a (map (λ v. v - 1) vs) b
   down-walk a [] b w = same a b ∙ w
   down-walk a (v ∷ vs) b w =
       let e = back-one v (first-some v vs (b + 1) w.1) in
       (same a (v - 1) ∙ (ap (Q (a + 1)) e ∙ w.0), down-walk (v - 1) vs b (subst (λ (x : ℕ). IsWalk Q x vs (b + 1)) (sym e) w.1))
 
+  -- a session reached by positions is reached by sessions
   pub up : (a b : ℕ) → Reaches P a b → Reaches Q (a + 1) (b + 1)
   up a b r = record { others = map (λ v. v + 1) r.others; walk = up-walk a r.others b r.walk }
 
+  -- a session reached by sessions is reached by positions
   pub down : (a b : ℕ) → Reaches Q (a + 1) (b + 1) → Reaches P a b
   down a b r = record { others = map (λ v. v - 1) r.others; walk = down-walk a r.others b r.walk }
 
-  -- the youngest by position is the youngest by session
+  -- the youngest on a cycle by position is the youngest by session
   pub youngest-up : (a v : ℕ) (ages : List ℕ) (age : ℕ → ℕ) → ((i : ℕ) → slice_index ages i ≡ age (i + 1)) → IsYoungestOnCircle P ages a v
       → AreOnCircle Q (a + 1) (v + 1) × ((u : ℕ) → AreOnCircle Q (a + 1) u → age u ≤ age (v + 1))
   youngest-up a v ages age told y = (
@@ -63,8 +69,9 @@ module _ (P Q : ℕ → ℕ → Bool) (same : (a b : ℕ) → P a b ≡ Q (a + 1
         omega (arith, g, told (u - 1), told v, ap age e),
   )
 
--- nobody of number 0 waits
+-- number 0, which no session has
 
+-- so it has no mode in a list without it
 no-mode : (cs : List SessionMode) → has_session 0 cs ≡ false → mode_of 0 cs ≡ None
 no-mode [] h = refl
 no-mode (c ∷ cs) h = go (eqb c.session 0) h (no-mode cs)
@@ -73,7 +80,8 @@ no-mode (c ∷ cs) h = go (eqb c.session 0) h (no-mode cs)
     go true h next = absurd (cc)
     go false h next = next h
 
-blocks-zero : (d : Desk) → IsWhole d → (u : ℕ) → blocks d.cells.entries (standings d) 0 u ≡ false
+-- and waits for nobody
+blocks-zero : (d : LockTable) → IsWhole d → (u : ℕ) → blocks d.cells.entries (standings d) 0 u ≡ false
 blocks-zero d w u = go (standing 0 d).wanted
   where
     go : (o : Option (List ℕ)) → blocks_at 0 u d.cells.entries o ≡ false
@@ -82,16 +90,16 @@ blocks-zero d w u = go (standing 0 d).wanted
 
 -- one round after another
 
--- the state after so many rounds, of which the desk shows one
-pub record IsRound (n k s : ℕ) (st : rules.State) (d : Desk) : Type 0 where
+-- the lock table represents the state after k of n rounds
+pub record IsRound (n k s : ℕ) (st : rules.State) (d : LockTable) : Type 0 where
   pub state : rules.State
   pub shows : Shows d state
   pub sound : IsSound state.table
   pub numbered : IsNumbered state
   pub same : after_victims n s st ≡ after_victims (n - k) s state
 
--- the same under other notes of who waits for whom
-abbrev pub rewaited : (n k s : ℕ) (st : rules.State) (d : Desk) (waits : Waits) → IsRound n k s st d → IsRound n k s st (record { count = d.count; lockers = d.lockers; cells = d.cells; waits = waits })
+-- the same with another waits-for graph
+abbrev pub rewaited : (n k s : ℕ) (st : rules.State) (d : LockTable) (waits : Waits) → IsRound n k s st d → IsRound n k s st (record { count = d.count; lockers = d.lockers; cells = d.cells; waits = waits })
 rewaited n k s st d waits r = record {
   state = r.state;
   shows = record { count = r.shows.count; transactions = r.shows.transactions; views = r.shows.views };
@@ -100,18 +108,21 @@ rewaited n k s st d waits r = record {
   same = r.same;
 }
 
-module _ (d : Desk) (w : IsWhole d) (waits : Waits) (filled : IsFilled d.cells.entries (standings d) waits) (st : rules.State) (h : Shows d st) (i : IsSound st.table) (j : IsNumbered st) where
+module _ (d : LockTable) (w : IsWhole d) (waits : Waits) (filled : IsCurrent d.cells.entries (standings d) waits) (st : rules.State) (h : Shows d st) (i : IsSound st.table) (j : IsNumbered st) where
+  -- the edges are the waits of the state
   same-pairs : (a b : ℕ) → pairs_of waits.rows a b ≡ waits_for st.table (a + 1) (b + 1)
   same-pairs a b = filled.pairs a b ∙ pairs-shown d st w i h (a + 1) (b + 1)
 
+  -- a session that waits has a number of at least 1
   some-wait : (s u : ℕ) → waits_for st.table s u ≡ true → 1 ≤ s
   some-wait zero u e = let f = sym (blocks-zero d w u) ∙ (pairs-shown d st w i h 0 u ∙ e) in absurd (cc)
   some-wait (suc s) u e = omega arith
 
+  -- the transaction numbers are those of the state
   same-numbers : (a : ℕ) → slice_index waits.numbers.items a ≡ rules.number_of st (a + 1)
   same-numbers a = filled.numbers a ∙ ap rules.number_in (h.transactions (a + 1))
 
-  -- where no victim is found, no circle goes through the session
+  -- if no victim is found, the session is on no cycle of the state
   pub none-found : (s : ℕ) → 1 ≤ s → (Reaches (pairs_of waits.rows) (s - 1) (s - 1) → ⊥) → reaches st.table s s ≡ false
   none-found s some none = go (reaches st.table s s) refl
     where
@@ -122,7 +133,7 @@ module _ (d : Desk) (w : IsWhole d) (waits : Waits) (filled : IsFilled d.cells.e
       go false f = refl
       go true f = absurd (none (down (pairs_of waits.rows) (waits_for st.table) same-pairs some-wait (s - 1) (s - 1) (subst (λ (x : ℕ). Reaches (waits_for st.table) x x) (sym e) (reached-walk st.table s s f))))
 
-  -- where one is found, it is the state's
+  -- a victim that is found is that of the state
   pub found : (s v : ℕ) → 1 ≤ s → 1 ≤ v → IsYoungestOnCircle (pairs_of waits.rows) waits.numbers.items (s - 1) (v - 1) → (reaches st.table s s ≡ true) × (victim_of st s ≡ v)
   found s v some one y =
       let e : s - 1 + 1 ≡ s = omega (arith, some) in
@@ -135,8 +146,8 @@ module _ (d : Desk) (w : IsWhole d) (waits : Waits) (filled : IsFilled d.cells.e
       circle : Reaches (waits_for st.table) s v → Reaches (waits_for st.table) v s → Reaches (waits_for st.table) s s
       circle a b = reaches-trans (waits_for st.table) s v s a b
 
--- a victim was doomed
-pub doomed-shown : (d e : Desk) (st : rules.State) (v : ℕ) → IsSound st.table → HasDoomed v d e → Shows d st → Shows e (after_victim v st)
+-- after a session is doomed, the lock table represents the state after it has become the victim
+pub doomed-shown : (d e : LockTable) (st : rules.State) (v : ℕ) → IsSound st.table → HasDoomed v d e → Shows d st → Shows e (after_victim v st)
 doomed-shown d e st v i k h = record {
   count = k.count ∙ h.count;
   transactions = λ u. k.transactions u ∙ go u (eqb u v) refl;
@@ -147,8 +158,8 @@ doomed-shown d e st v i k h = record {
     go u true e = ap doom (h.transactions u ∙ ap st.begun ((Decides-eqb u v).0 e))
     go u false e = h.transactions u
 
--- one round more
-pub next-round : (n k s v : ℕ) (st : rules.State) (d e : Desk) (r : IsRound n k s st d) → k < n → reaches r.state.table s s ≡ true → victim_of r.state s ≡ v → HasDoomed v d e → IsRound n (k + 1) s st e
+-- one more round
+pub next-round : (n k s v : ℕ) (st : rules.State) (d e : LockTable) (r : IsRound n k s st d) → k < n → reaches r.state.table s s ≡ true → victim_of r.state s ≡ v → HasDoomed v d e → IsRound n (k + 1) s st e
 next-round n k s v st d e r lt on is k2 = record {
   state = after_victim v r.state;
   shows = doomed-shown d e r.state v r.sound k2 r.shows;
@@ -161,8 +172,8 @@ next-round n k s v st d e r lt on is k2 = record {
       ∙ ap (λ (x : ℕ). after_victims (n - (k + 1)) s (after_victim x r.state)) is));
 }
 
--- the last round
-pub last-round : (n k s : ℕ) (st : rules.State) (d : Desk) (r : IsRound n k s st d) → reaches r.state.table s s ≡ false → Shows d (after_victims n s st)
+-- if the session is on no cycle, no more rounds change the state
+pub last-round : (n k s : ℕ) (st : rules.State) (d : LockTable) (r : IsRound n k s st d) → reaches r.state.table s s ≡ false → Shows d (after_victims n s st)
 last-round n k s st d r off = subst (Shows d) (sym (r.same ∙ go (n - k))) r.shows
   where
     go : (m : ℕ) → after_victims m s r.state ≡ r.state

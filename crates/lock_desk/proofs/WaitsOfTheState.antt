@@ -1,4 +1,4 @@
--- The pairs that are written down are the waits of the state that the desk shows.
+-- The edges of the waits-for graph are the waits of the state that the lock table represents.
 use Rattle.std.proofs.Common.{◌≡◌, ℕ, ◌+◌, ◌≤◌, Bool, true, false, cond, not, eqb, ◌&&◌, ◌||◌, ◌⊎◌, inl, inr, List, [], ◌∷◌, ◌++◌, map, Option, Some, None, is_some, refl, sym, ◌∙◌, ap, arith, subst}
 use Rattle.std.proofs.Math.Bool.{and-false, or-false}
 use Rattle.std.specs.Prelude.{filter}
@@ -15,23 +15,24 @@ use Rattle.lock_rules.proofs.Lists.{same_path-refl, same_path-true, request_of-s
 use Rattle.lock_rules.proofs.Steps.{is-none}
 use Rattle.lock_rules.proofs.Waiting.{request_of-filter, request_of-front, request_of-rest}
 use Rattle.lock_desk.specs.declared.cells.SessionMode.{SessionMode}
-use Rattle.lock_desk.specs.declared.desk.Desk.{Desk}
-use Rattle.lock_desk.specs.Cells.{View, has_session, mode_of, pair_of, Ascends, has_path}
-use Rattle.lock_desk.specs.Lockers.{is_wanted}
-use Rattle.lock_desk.specs.Changes.{standings, standing, IsWhole}
-use Rattle.lock_desk.specs.Finding.{holder_blocks, stands_first, target_blocks, view_blocks, blocks_at, blocks}
-use Rattle.lock_desk.specs.Shows.{short, claims_on, view, Shows}
+use Rattle.lock_desk.specs.declared.lock_table.LockTable.{LockTable}
+use Rattle.lock_desk.specs.inner.Cells.{View, has_session, mode_of, pair_of, Ascends, has_path}
+use Rattle.lock_desk.specs.inner.Lockers.{is_wanted}
+use Rattle.lock_desk.specs.inner.Changes.{standings, standing, IsWhole}
+use Rattle.lock_desk.specs.inner.Blocking.{holder_blocks, is_ahead, target_blocks, view_blocks, blocks_at, blocks}
+use Rattle.lock_desk.specs.inner.Shows.{short, claims_on, view, Shows}
 use Rattle.lock_desk.proofs.TableViews.{mode-seen}
 use Rattle.lock_desk.proofs.LockCounts.{queue-has, waits_on-once, waits-told}
 use Rattle.lock_desk.proofs.AfterStep.{ascends-seen}
 
 -- the queue
 
-stands-seen : (u s : ℕ) (qs : List rules.Claim) → stands_first u s (map short qs) ≡ stands_before u s qs
+-- the sessions ahead of a request are those ahead of it in the table
+stands-seen : (u s : ℕ) (qs : List rules.Claim) → is_ahead u s (map short qs) ≡ stands_before u s qs
 stands-seen u s [] = refl
 stands-seen u s (q ∷ qs) = ap (λ (b : Bool). cond (eqb q.session s) false (eqb q.session u || b)) (stands-seen u s qs)
 
--- nobody stands before itself
+-- no session is ahead of itself
 stands-self : (s : ℕ) (qs : List rules.Claim) → stands_before s s qs ≡ false
 stands-self s [] = refl
 stands-self s (q ∷ qs) = go (eqb q.session s) (stands-self s qs)
@@ -40,6 +41,7 @@ stands-self s (q ∷ qs) = go (eqb q.session s) (stands-self s qs)
     go true n = refl
     go false n = n
 
+-- the mode of a request in the view is that of its claim
 mode-short : (s : ℕ) (qs : List rules.Claim) (q : rules.Claim) → rules.request_of s qs ≡ Some q → mode_of s (map short qs) ≡ Some q.mode
 mode-short s [] q h = absurd (cc)
 mode-short s (p ∷ qs) q h = go (eqb p.session s) h (mode-short s qs q)
@@ -48,10 +50,12 @@ mode-short s (p ∷ qs) q h = go (eqb p.session s) h (mode-short s qs q)
     go true h next = let same : p ≡ q = cc in ap (λ (c : rules.Claim). Some c.mode) same
     go false h next = next h
 
+-- a session without a request has none among some of the requests
 none-kept : (s : ℕ) (p : rules.Claim → Bool) (qs : List rules.Claim) → times s qs ≡ 0 → rules.request_of s (filter p qs) ≡ None
 none-kept s p [] h = refl
 none-kept s p (c ∷ qs) h = grind (arith, nat_tests, cases_Bool (p c), none-kept s p qs)
 
+-- a session whose only request is left out has none among the others
 lost-request : (s : ℕ) (p : rules.Claim → Bool) (qs : List rules.Claim) (q : rules.Claim) → times s qs ≤ 1 → rules.request_of s qs ≡ Some q → p q ≡ false → rules.request_of s (filter p qs) ≡ None
 lost-request s p [] q o h e = refl
 lost-request s p (c ∷ qs) q o h e = go (eqb c.session s) (p c) refl refl o h (lost-request s p qs q) (none-kept s p qs)
@@ -64,7 +68,7 @@ lost-request s p (c ∷ qs) q o h e = go (eqb c.session s) (p c) refl refl o h (
     go false true f g o h next none = ap (λ (b : Bool). cond b (Some c) (rules.request_of s (filter p qs))) f ∙ next (omega (arith, o)) h e
     go false false f g o h next none = next (omega (arith, o)) h e
 
--- a session's request stands in the queue of its resource
+-- the request of a session is in the queue of its resource
 request-queued : (s : ℕ) (t : rules.Table) (q : rules.Claim) → times s t.requests ≤ 1 → rules.request_of s t.requests ≡ Some q → rules.request_of s (queue t q.resource) ≡ Some q
 request-queued s t q o h = go (is_some (rules.held_mode t q.session q.resource)) refl
   where
@@ -85,11 +89,12 @@ request-queued s t q o h = go (is_some (rules.held_mode t q.session q.resource))
 
 -- the holders
 
+-- a session below all holders of a list is none of them, and blocks nobody there
 none-after : (s u : ℕ) (m : Mode) (hs : List SessionMode) → after u (map pair_of hs) ≡ true → holder_blocks s m u hs ≡ false
 none-after s u m [] h = refl
 none-after s u m (k ∷ hs) h = grind (arith, nat_tests, none-after s u m hs)
 
--- of holders in order the one of the session decides
+-- among holders in order, the one of a session decides whether the session blocks
 holder-seen : (s u : ℕ) (m : Mode) (hs : List SessionMode) → Ascends hs → holder_blocks s m u hs ≡ (not (eqb u s) && conflicts m (mode_of u hs))
 holder-seen s u m [] h = sym (and-false (not (eqb u s)))
 holder-seen s u m (k ∷ hs) h =
@@ -107,10 +112,10 @@ holder-seen s u m (k ∷ hs) h =
         ap (λ (b : Bool). (b && (not (eqb k.session s) && not (are_compatible m k.mode))) || holder_blocks s m u hs) e
         ∙ (next ∙ sym (ap (λ (b : Bool). not (eqb u s) && conflicts m (cond b (Some k.mode) (mode_of u hs))) e))
 
--- together
+-- the whole graph
 
-module _ (d : Desk) (st : rules.State) (w : IsWhole d) (i : IsSound st.table) (h : Shows d st) where
-  -- who keeps a request waiting
+module _ (d : LockTable) (st : rules.State) (w : IsWhole d) (i : IsSound st.table) (h : Shows d st) where
+  -- who blocks a request in the view keeps it waiting in the state
   blocks-request : (s u : ℕ) (q : rules.Claim) → rules.request_of s st.table.requests ≡ Some q → view_blocks s u (view q.resource st.table) ≡ (not (eqb u s) && keeps_waiting st.table u (Some q))
   blocks-request s u q e =
       let m = mode-short s (queue st.table q.resource) q (request-queued s st.table q (i.once s) e) in
@@ -126,6 +131,7 @@ module _ (d : Desk) (st : rules.State) (w : IsWhole d) (i : IsSound st.table) (h
       both true f c = let g = (Decides-eqb u s).0 f in ap (λ (j : ℕ). stands_before j s (queue st.table q.resource)) g ∙ stands-self s (queue st.table q.resource)
       both false f c = refl
 
+  -- the resource that a locker waits for is that of the request in the state
   waits-where : (s : ℕ) (r : List ℕ) → (standing s d).wanted ≡ Some r → (q : rules.Claim) × (rules.request_of s st.table.requests ≡ Some q) × (q.resource ≡ r)
   waits-where s r e = go (rules.request_of s st.table.requests) refl there
     where
@@ -138,7 +144,7 @@ module _ (d : Desk) (st : rules.State) (w : IsWhole d) (i : IsSound st.table) (h
       go None f k = absurd (cc)
       go (Some q) f k = (q, f, same_path-true q.resource r (sym (or-false (same_path q.resource r)) ∙ k))
 
-  -- who waits for whom in the desk does so in the state
+  -- an edge that cells and lockers determine is a wait of the state
   pub pairs-shown : (s u : ℕ) → blocks d.cells.entries (standings d) s u ≡ waits_for st.table s u
   pairs-shown s u = go (standing s d).wanted refl
     where

@@ -1,4 +1,4 @@
--- What is written down of those who wait at one resource, and what it says after a request there.
+-- The waits-for rows of the sessions that wait for one resource, after a release and after a request.
 use Rattle.std.proofs.Common.{◌≡◌, ℕ, zero, suc, ◌+◌, ◌<◌, ◌≤◌, Bool, true, false, cond, not, eqb, ◌&&◌, ◌||◌, List, [], ◌∷◌, ◌++◌, length, length-append, get_or, take, Option, Some, None, is_some, refl, sym, ◌∙◌, ap, arith}
 use Rattle.std.proofs.lemmas.Bool.{or_parts, false≢true, and_parts, or_right}
 use Rattle.std.proofs.lemmas.Bool.Decides.{nat_tests, Decides-eqb}
@@ -7,26 +7,26 @@ use Rattle.waits_for.specs.Pairs.{pairs_of}
 use Rattle.lock_modes.specs.declared.Mode.{Mode}
 use Rattle.lock_desk.specs.declared.cells.SessionMode.{SessionMode}
 use Rattle.lock_desk.specs.declared.waits.Waits.{Waits}
-use Rattle.lock_desk.specs.declared.cells.Part.{Part}
-use Rattle.lock_desk.specs.declared.cells.Part.TheVariants as part
-use Rattle.lock_desk.specs.Cells.{View, has_session, mode_of, with_holder, without, fits_among, behind_conversions, can_grant, queue_with, view_after_asking, view_after_grants, view_after_freeing}
-use Rattle.lock_desk.specs.Finding.{holder_blocks, stands_first, target_blocks, view_blocks, IsWritten, DoFollow}
+use Rattle.lock_desk.specs.declared.cells.Claim.{Claim}
+use Rattle.lock_desk.specs.declared.cells.Claim.TheVariants as claim
+use Rattle.lock_desk.specs.inner.Cells.{View, has_session, mode_of, with_holder, without, fits_among, behind_conversions, can_grant, queue_with, view_after_asking, view_after_grants, view_after_freeing}
+use Rattle.lock_desk.specs.inner.Blocking.{holder_blocks, is_ahead, target_blocks, view_blocks, IsWritten, DoFollow}
 use Rattle.lock_desk.proofs.ResourceViews.{both}
 use Rattle.lock_desk.proofs.SessionModes.{mode-has, has_session-push, has_session-queued, has_session-without}
 
--- all that stand before the session's request
-pub stands-until : (s u : ℕ) (ws : List SessionMode) (i : ℕ) (d : SessionMode) → i < length ws → (get_or ws i d).session ≡ s → has_session s (take i ws) ≡ false → stands_first u s ws ≡ has_session u (take i ws)
+-- the requests ahead of that of a session are those before its index
+pub stands-until : (s u : ℕ) (ws : List SessionMode) (i : ℕ) (d : SessionMode) → i < length ws → (get_or ws i d).session ≡ s → has_session s (take i ws) ≡ false → is_ahead u s ws ≡ has_session u (take i ws)
 stands-until s u [] i d lt e n = absurd (omega arith)
-stands-until s u (q ∷ ws) zero d lt e n = ap (λ (b : Bool). cond b false (eqb q.session u || stands_first u s ws)) ((Decides-eqb q.session s).1 e)
+stands-until s u (q ∷ ws) zero d lt e n = ap (λ (b : Bool). cond b false (eqb q.session u || is_ahead u s ws)) ((Decides-eqb q.session s).1 e)
 stands-until s u (q ∷ ws) (suc i) d lt e n = go (eqb q.session s) n (stands-until s u ws i d (omega arith) e)
   where
-    go : (b : Bool) → (b || has_session s (take i ws)) ≡ false → (has_session s (take i ws) ≡ false → stands_first u s ws ≡ has_session u (take i ws)) → cond b false (eqb q.session u || stands_first u s ws) ≡ (eqb q.session u || has_session u (take i ws))
+    go : (b : Bool) → (b || has_session s (take i ws)) ≡ false → (has_session s (take i ws) ≡ false → is_ahead u s ws ≡ has_session u (take i ws)) → cond b false (eqb q.session u || is_ahead u s ws) ≡ (eqb q.session u || has_session u (take i ws))
     go true h next = absurd (cc)
     go false h next = ap (λ (b : Bool). eqb q.session u || b) (next h)
 
--- who waits there, and who doesn't
+-- sessions that wait, and sessions that do not
 
--- nobody keeps a session waiting where it doesn't wait
+-- a session that does not wait here is blocked by nobody
 pub blocks-none : (s u : ℕ) (v : View) → has_session s v.waiting ≡ false → view_blocks s u v ≡ false
 blocks-none s u v h = go (mode_of s v.waiting) (mode-has s v.waiting ∙ h)
   where
@@ -34,7 +34,7 @@ blocks-none s u v h = go (mode_of s v.waiting) (mode-has s v.waiting ∙ h)
     go None e = refl
     go (Some m) e = absurd (cc)
 
--- so all that are kept waiting there are those who wait there
+-- so who is blocked here waits here
 pub blocks-waiting : (s u : ℕ) (v : View) → (has_session s v.waiting && view_blocks s u v) ≡ view_blocks s u v
 blocks-waiting s u v = go (has_session s v.waiting) refl
   where
@@ -42,27 +42,29 @@ blocks-waiting s u v = go (has_session s v.waiting) refl
     go true e = refl
     go false e = sym (blocks-none s u v e)
 
--- a fresh request comes to the end of the queue
+-- a request at the end of the queue
 
+-- it changes the mode of no other request
 mode-push : (s : ℕ) (c : SessionMode) (ws : List SessionMode) → eqb c.session s ≡ false → mode_of s (ws ++ c ∷ []) ≡ mode_of s ws
 mode-push s c [] n = ap (λ (b : Bool). cond b (Some c.mode) None) n
 mode-push s c (q ∷ ws) n = ap (λ (o : Option Mode). cond (eqb q.session s) (Some q.mode) o) (mode-push s c ws n)
 
-stands-push : (s u : ℕ) (c : SessionMode) (ws : List SessionMode) → has_session s ws ≡ true → stands_first u s (ws ++ c ∷ []) ≡ stands_first u s ws
+-- a request added at the end is ahead of none that was there
+stands-push : (s u : ℕ) (c : SessionMode) (ws : List SessionMode) → has_session s ws ≡ true → is_ahead u s (ws ++ c ∷ []) ≡ is_ahead u s ws
 stands-push s u c [] h = absurd (cc)
 stands-push s u c (q ∷ ws) h = go (eqb q.session s) h (stands-push s u c ws)
   where
-    go : (b : Bool) → (b || has_session s ws) ≡ true → (has_session s ws ≡ true → stands_first u s (ws ++ c ∷ []) ≡ stands_first u s ws) → cond b false (eqb q.session u || stands_first u s (ws ++ c ∷ [])) ≡ cond b false (eqb q.session u || stands_first u s ws)
+    go : (b : Bool) → (b || has_session s ws) ≡ true → (has_session s ws ≡ true → is_ahead u s (ws ++ c ∷ []) ≡ is_ahead u s ws) → cond b false (eqb q.session u || is_ahead u s (ws ++ c ∷ [])) ≡ cond b false (eqb q.session u || is_ahead u s ws)
     go true h next = refl
     go false h next = ap (λ (b : Bool). eqb q.session u || b) (next h)
 
--- a session that isn't there stands at no place
+-- a session that is not in the queue is at no index of it
 absent-at : (s : ℕ) (ws : List SessionMode) (i : ℕ) (d : SessionMode) → i < length ws → has_session s ws ≡ false → (get_or ws i d).session ≡ s → ⊥
 absent-at s [] i d lt n e = omega (arith, lt)
 absent-at s (q ∷ ws) zero d lt n e = false≢true (sym (or_parts (eqb q.session s) (has_session s ws) n).0 ∙ (Decides-eqb q.session s).1 e)
 absent-at s (q ∷ ws) (suc i) d lt n e = absent-at s ws i d (omega (arith, lt)) (or_parts (eqb q.session s) (has_session s ws) n).1 e
 
--- a request that comes behind the conversions and stands last has all others ahead of it
+-- a request that was inserted behind the conversions and is the last one is behind all others
 behind-all : (c : SessionMode) (hs ws : List SessionMode) (i : ℕ) (d : SessionMode) → has_session c.session ws ≡ false → suc i ≡ length (behind_conversions c hs ws) → (get_or (behind_conversions c hs ws) i d).session ≡ c.session → behind_conversions c hs ws ≡ ws ++ c ∷ []
 behind-all c hs [] i d n e at = refl
 behind-all c hs (q ∷ ws) i d n e at = go (has_session q.session hs) i e at (λ k. behind-all c hs ws k d rest)
@@ -86,7 +88,7 @@ behind-all c hs (q ∷ ws) i d n e at = go (has_session q.session hs) i e at (λ
     go false zero e at next = absurd (omega (arith, e))
     go false (suc k) e at next = absurd (absent-at c.session (q ∷ ws) k d (omega (arith, e)) n at)
 
--- it keeps nobody waiting who was there before it
+-- a request at the end blocks nobody that waited before
 blocks-push : (s u : ℕ) (c : SessionMode) (hs ws : List SessionMode) → eqb c.session s ≡ false → has_session s ws ≡ true → view_blocks s u (both hs (ws ++ c ∷ [])) ≡ view_blocks s u (both hs ws)
 blocks-push s u c hs ws n h = ap (target_blocks s u (both hs (ws ++ c ∷ []))) (mode-push s c ws n) ∙ go (mode_of s ws)
   where
@@ -94,8 +96,9 @@ blocks-push s u c hs ws n h = ap (target_blocks s u (both hs (ws ++ c ∷ []))) 
     go None = refl
     go (Some m) = ap (λ (b : Bool). holder_blocks s m u hs || b) (stands-push s u c ws h)
 
--- what is written down after a release
+-- the rows after a release
 
+-- a session that waits after a promotion waited before it
 left-waiting : (s : ℕ) (hs ws : List SessionMode) → has_session s (view_after_grants hs ws).waiting ≡ true → has_session s ws ≡ true
 left-waiting s hs [] h = h
 left-waiting s hs (q ∷ ws) h = go (fits_among q hs) h (left-waiting s (with_holder q hs) ws)
@@ -104,17 +107,17 @@ left-waiting s hs (q ∷ ws) h = go (fits_among q hs) h (left-waiting s (with_ho
     go true h next = or_right (eqb q.session s) (has_session s ws) (next h)
     go false h next = h
 
--- who waits still has waited
-pub waits-still : (p : Part) (g s : ℕ) (v : View) → has_session s (view_after_freeing p g v).waiting ≡ true → has_session s v.waiting ≡ true
-waits-still part.Lock g s v h = left-waiting s (without g v.holders) v.waiting h
-waits-still part.Request g s v h = (and_parts (not (eqb s g)) (has_session s v.waiting) (sym (has_session-without g s v.waiting) ∙ left-waiting s v.holders (without g v.waiting) h)).1
+-- a session that waits after a lock or a request is given up waited before
+pub waits-still : (p : Claim) (g s : ℕ) (v : View) → has_session s (view_after_freeing p g v).waiting ≡ true → has_session s v.waiting ≡ true
+waits-still claim.Lock g s v h = left-waiting s (without g v.holders) v.waiting h
+waits-still claim.Request g s v h = (and_parts (not (eqb s g)) (has_session s v.waiting) (sym (has_session-without g s v.waiting) ∙ left-waiting s v.holders (without g v.waiting) h)).1
 
--- so its row was emptied
-pub emptied-still : (p : Part) (g s : ℕ) (v seen now : View) → seen ≡ v → now ≡ view_after_freeing p g v → has_session s now.waiting ≡ true → (old : Bool) {new : Bool} → new ≡ (old && not (has_session s seen.waiting)) → new ≡ false
+-- so its row was cleared
+pub emptied-still : (p : Claim) (g s : ℕ) (v seen now : View) → seen ≡ v → now ≡ view_after_freeing p g v → has_session s now.waiting ≡ true → (old : Bool) {new : Bool} → new ≡ (old && not (has_session s seen.waiting)) → new ≡ false
 emptied-still p g s v seen now e f h old is =
     is ∙ (ap (λ (b : Bool). old && not b) (ap (λ (y : View). has_session s y.waiting) e ∙ waits-still p g s v (ap (λ (y : View). has_session s y.waiting) (sym f) ∙ h)) ∙ and-false old)
 
--- the rows of those who waited were emptied, and those of them who wait still were written anew
+-- the rows follow if those of all that waited were cleared, and those of all that still wait are written
 pub follows-freed : (v seen x now : View) (old mid new : Waits) → seen ≡ v → now ≡ x → mid.rows.sessions ≡ old.rows.sessions → new.rows.sessions ≡ mid.rows.sessions → mid.numbers ≡ old.numbers → new.numbers ≡ mid.numbers
     → ((a b : ℕ) → pairs_of mid.rows a b ≡ (pairs_of old.rows a b && not (has_session (a + 1) seen.waiting))) → ((a b : ℕ) → pairs_of new.rows a b ≡ (pairs_of mid.rows a b || view_blocks (a + 1) (b + 1) now)) → DoFollow v x old new
 follows-freed v seen x now old mid new e f s t m n cleared wrote = record {
@@ -123,15 +126,15 @@ follows-freed v seen x now old mid new e f s t m n cleared wrote = record {
   numbers = n ∙ m;
 }
 
--- what is written down after a request
+-- the rows after a request
 
 module _ (c : SessionMode) (v : View) (w : Waits) (k : IsWritten c.session v w) (idle : has_session c.session v.waiting ≡ false) where
-  -- who waits then
+  -- the sessions that wait after the request: those that waited before, and the asker if it was not granted
   waits-asked : (s : ℕ) (g : Bool) → has_session s (cond g (both v.holders v.waiting) (both v.holders (queue_with c v.holders v.waiting))).waiting ≡ (has_session s v.waiting || (not g && eqb c.session s))
   waits-asked s true = sym (or-false (has_session s v.waiting))
   waits-asked s false = has_session-queued s c v.holders v.waiting ∙ or_comm (eqb c.session s) (has_session s v.waiting)
 
-  -- all rows there were written anew
+  -- the rows follow if those of all that wait now were cleared and written
   pub follows-all : (x : View) → (new : Waits) → x ≡ view_after_asking c v → new.rows.sessions ≡ w.rows.sessions → new.numbers ≡ w.numbers
       → ((a b : ℕ) → pairs_of new.rows a b ≡ ((pairs_of w.rows a b && not (has_session (a + 1) x.waiting)) || view_blocks (a + 1) (b + 1) x)) → DoFollow v x w new
   follows-all x new is sessions numbers pairs = record {
@@ -158,13 +161,13 @@ module _ (c : SessionMode) (v : View) (w : Waits) (k : IsWritten c.session v w) 
           ap (λ (o : Bool). o && not (has_session (a + 1) x.waiting)) none ∙ sym (ap (λ (o : Bool). o && not (has_session (a + 1) v.waiting)) none)
       emptied a b false e = ap (λ (o : Bool). pairs_of w.rows a b && not o) (waits (a + 1) ∙ (ap (λ (o : Bool). has_session (a + 1) v.waiting || (not (can_grant c v) && o)) e ∙ drop-false (has_session (a + 1) v.waiting) (not (can_grant c v))))
 
-  -- a request that waits and stands last
+  -- the request waits, and is the last one
 
   module _ (x : View) (is : x ≡ view_after_asking c v) (waits : can_grant c v ≡ false) (i : ℕ) (d : SessionMode) (end : suc i ≡ length x.waiting) (mine : (get_or x.waiting i d).session ≡ c.session) where
     queued : x ≡ both v.holders (queue_with c v.holders v.waiting)
     queued = is ∙ ap (λ (g : Bool). cond g (both (with_holder c v.holders) v.waiting) (both v.holders (queue_with c v.holders v.waiting))) waits
 
-    -- so it came to the end
+    -- so it was added at the end
     last : x ≡ both v.holders (v.waiting ++ c ∷ [])
     last = queued ∙ ap (both v.holders) (go (has_session c.session v.holders) (end ∙ ap (λ (y : View). length y.waiting) queued) (ap (λ (y : View). (get_or y.waiting i d).session) (sym queued) ∙ mine))
       where
@@ -197,13 +200,13 @@ module _ (c : SessionMode) (v : View) (w : Waits) (k : IsWritten c.session v w) 
         go false e = e
         go true e = absurd (let f : has_session s v.waiting ≡ false = ap (λ (k : ℕ). has_session k v.waiting) (sym ((Decides-eqb c.session s).0 e)) ∙ idle in cc)
 
-    -- the rows of those ahead of it are right
+    -- the rows of the requests ahead of it are current
     pub written-ahead : (a b : ℕ) → has_session (a + 1) (take i x.waiting) ≡ true → pairs_of w.rows a b ≡ view_blocks (a + 1) (b + 1) x
     written-ahead a b h =
         let f : has_session (a + 1) v.waiting ≡ true = ap (has_session (a + 1)) (sym ahead) ∙ h in
         k.waiting a b f ∙ sym (ap (view_blocks (a + 1) (b + 1)) last ∙ blocks-push (a + 1) (b + 1) c v.holders v.waiting (other (a + 1) f) f)
 
-    -- so only its own is written
+    -- so the rows follow if its own row is written
     pub follows-last : (new : Waits) → new.rows.sessions ≡ w.rows.sessions → new.numbers ≡ w.numbers
         → ((a b : ℕ) → pairs_of new.rows a b ≡ (pairs_of w.rows a b || (eqb (a + 1) (get_or x.waiting i d).session && view_blocks (a + 1) (b + 1) x))) → DoFollow v x w new
     follows-last new sessions numbers pairs = record {

@@ -1,21 +1,22 @@
--- A batch is its calls, served one after another.
+-- A batch leaves the replies and the entries that its calls leave when they are served one after another.
 use Rattle.std.specs.Prelude.{ℕ, ◌≤◌, List, [], ◌∷◌, Some}
 use Rattle.lock_rules.specs.declared.calls.Entry.{Entry}
 use Rattle.lock_rules.specs.State.{State}
 use Rattle.lock_rules.specs.Step.{step}
-use Rattle.lock_desk.specs.declared.batch.Item.{Item}
+use Rattle.lock_desk.specs.declared.book.Item.{Item}
 
--- the item is of one of these sessions
+-- the item is of one of the sessions 1 to `sessions`
 pub record IsItemWithin (sessions : ℕ) (i : Item) : Type 0 where
   pub some : 1 ≤ i.session
   pub within : i.session ≤ sessions
 
--- the entries that these calls leave, each with the reply of its step in the state that those before it led to
+-- the entries of these calls, served in order from this state: each reply is that of the step in the state that the
+-- calls before it lead to
 abbrev pub entries_from : State → List Item → List Entry
 entries_from st [] = []
 entries_from st (i ∷ is) =
     record { session = i.session; call = i.call; reply = (step st i.session i.call).reply } ∷ entries_from (step st i.session i.call).state is
 
--- the item of an entry, with its reply
+-- the item of a served call: the entry with its reply
 abbrev pub item_of : Entry → Item
 item_of e = record { session = e.session; call = e.call; reply = Some e.reply }

@@ -1,18 +1,5 @@
--- what public contracts speak of
-pub mod Kept
+-- what public contracts cite
+pub mod BookView
 pub mod Batches
--- what private parts say to one another
-pub mod Holders
-pub mod Cells
-pub mod Columns
-pub mod Alone
-pub mod Tables
-pub mod ChildCounts
-pub mod LockLists
-pub mod Lockers
-pub mod Finding
-pub mod Ready
-pub mod Changes
-pub mod Shows
-pub mod Runs
-pub mod Invariant
+-- what only private contracts cite
+pub mod inner

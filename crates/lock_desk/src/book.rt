@@ -1,4 +1,4 @@
-//! The book: the desk with its history.
+//! The book: the lock table with the history of its calls.
 
 ghost use Rattle.std.specs.Prelude.{◌≡◌, false, ◌+◌, ◌<◌, ◌≤◌, List, [], ◌∷◌, ◌++◌, if◌then◌else◌, length, map, take, drop, IfOk, OnOk, OnErr};
 ghost use Rattle.std.specs.List.{All};
@@ -10,13 +10,12 @@ ghost use Rattle.lock_rules.specs.Legal.{state_of, IsLegal};
 ghost use Rattle.lock_rules.specs.Laws.{DoesGrantStand, DoesDoomStand, DoesRequestStand};
 ghost use Rattle.lock_rules.specs.Lawful.{IsLawfulState};
 ghost use Rattle.lock_desk.specs.Batches.{IsItemWithin, entries_from, item_of};
-ghost use Rattle.lock_desk.specs.Kept.{IsEntryWithin};
-ghost use Rattle.lock_desk.specs.Runs.{AreServed};
-ghost use Rattle.lock_desk.specs.declared.batch.Item.{Item as ItemValue};
+ghost use Rattle.lock_desk.specs.BookView.{IsEntryWithin};
+ghost use Rattle.lock_desk.specs.inner.Runs.{AreServed};
+ghost use Rattle.lock_desk.specs.declared.book.Item.{Item as ItemValue};
 
-use crate::batch::Item;
-use crate::desk::Desk;
-use crate::runs::{grant_run, resource_shared};
+use crate::lock_table::LockTable;
+use crate::lock_table::runs::{grant_run, resource_shared};
 use lock_modes::Mode;
 use lock_rules::{Call, Entry, MAX_SESSIONS, Reply, laws};
 use lock_tree::Resource;
@@ -24,56 +23,75 @@ use std::alloc::{AllocError as NoMemory, Global};
 use std::marker::Model;
 use waits_for::Marks;
 
-/// A lock table with the history of the calls that it has served, oldest first.
+/// A lock table with the history of the calls that it has served.
 ///
-/// Contracts see it as its number of sessions and its history. The history is always legal: each reply is the one that
-/// the sequential lock manager of `lock_rules` gives there.
+/// Contracts see a book as its number of sessions and its history. The history is always legal: each reply is the
+/// one that the sequential lock manager of `lock_rules` gives in the state that the earlier entries lead to.
 #[derive(Drop)]
 pub struct Book {
+    /// Sessions are numbered from 1 to this number, which is from 1 to `MAX_SESSIONS`.
     sessions: u16,
-    desk: Desk,
+    /// Represents the state that the history leads to.
+    lock_table: LockTable,
+    /// Every served call with its reply, oldest first.
     history: Vec<Entry>,
+    /// Scratch space of `serve_batch`: a mark for each session, to find a session that occurs twice.
     marks: Marks,
 }
 
-/// How far a batch is served, and whether memory was refused for the next item.
+/// One call of a batch, with its reply once it is served.
+#[derive(Clone, Copy, Debug, PartialEq, Eq, Hash)]
+pub struct Item {
+    /// The session that calls, from 1 to the number of sessions.
+    pub session: u16,
+    /// The call to serve.
+    pub call: Call,
+    /// Where `serve_batch` writes the reply. What is there before is not read.
+    pub reply: Option<Reply>,
+}
+
+/// How far a batch has been served.
 #[derive(Clone, Copy)]
 struct Progress {
+    /// The index of the first item that is not served yet.
     served: usize,
-    starved: bool,
+    /// Whether memory was refused for that item.
+    out_of_memory: bool,
 }
 
 impl Model for Book {
-    ghost use Rattle.lock_desk.specs.Kept.{Told};
-    ghost use Rattle.lock_desk.specs.Invariant.{told_of, IsKept};
+    ghost use Rattle.lock_desk.specs.BookView.{BookView};
+    ghost use Rattle.lock_desk.specs.inner.Invariant.{book_view_of, IsKept};
 
-    ghost Value = { Told };
+    ghost Value = { BookView };
 
-    ghost view = { told_of };
+    ghost view = { book_view_of };
 
     ghost invariant = { IsKept };
 }
 
 impl Book {
-    /// An empty table for sessions 1 to `sessions`, of which there are 1 to `MAX_SESSIONS`.
-    /// `NoMemory` where the lockers of the sessions or their marks found no room.
+    /// Creates an empty lock table for sessions 1 to `sessions`.
+    ///
+    /// `sessions` is from 1 to `MAX_SESSIONS`, which is this project's own limit. Fails with `NoMemory` if memory is
+    /// refused for the table or for its marks.
     pub fn new(alloc: Global, sessions: u16) -> Result<Book, NoMemory>
         requires some { 1 ≤ sessions }
         requires few { sessions ≤ MAX_SESSIONS }
         ensures sessions { IfOk result (λ book. book.sessions ≡ sessions) }
         ensures empty { IfOk result (λ book. book.history ≡ []) }
     {
-        let desk = Desk::new(alloc, sessions)?;
+        let lock_table = LockTable::new(alloc, sessions)?;
         let marks = Marks::new(alloc, sessions)?;
         Ok(Book {
             sessions,
-            desk,
+            lock_table,
             history: Vec::new(alloc),
             marks,
         })
     }
 
-    /// The number that was given to `new`.
+    /// The number of sessions that was given to `new`, from 1 to `MAX_SESSIONS`.
     pub fn sessions(&self) -> u16
         ensures sessions { result ≡ self.now.sessions }
         ensures some { 1 ≤ result }
@@ -82,11 +100,14 @@ impl Book {
         self.sessions
     }
 
-    /// All calls that were served with their replies, oldest first: a legal history, of these sessions alone.
+    /// All served calls with their replies, oldest first.
     ///
-    /// The state between any two calls is lawful: so no two sessions ever have incompatible access to a resource, outright
-    /// or through an ancestor, and nobody waits needlessly. What was granted stands until it is given back, a doom until its
-    /// session aborts, and a request until it is granted, its session becomes a victim, or it aborts.
+    /// The history is legal. The state between any two calls is lawful: no two sessions ever have incompatible
+    /// access to a resource, neither by a lock on the resource nor by a lock on an ancestor, and no request waits
+    /// that is first in its queue and fits. A session keeps at least the mode that it was granted until it releases
+    /// the lock or its transaction ends. A victim stays doomed until it aborts. A request waits until it is granted,
+    /// its session becomes a victim, or it aborts. Which modes are compatible, and what a lock gives below its
+    /// resource, is from Gray, Lorie, Putzolu and Traiger (1976).
     pub fn history(&self) -> &[Entry]
         ensures history { result.now ≡ self.now.history }
         ensures legal { IsLegal self.now.history }
@@ -103,38 +124,45 @@ impl Book {
         &self.history
     }
 
-    /// The mode that the session holds on the resource outright; what a request waits for is not held. A session that
-    /// the book doesn't have holds nothing.
+    /// The mode of the lock that `session` holds on `resource`, `None` if it holds none.
+    ///
+    /// Only an explicit lock counts, in the sense of Gray, Lorie, Putzolu and Traiger (1976): neither what a lock on
+    /// an ancestor implies, nor the target of a waiting request. A session that the book doesn't have holds nothing.
     pub fn held(&self, session: u16, resource: Resource) -> Option<Mode>
         ensures { result ≡ held_mode (state_of self.now.history).table session resource }
     {
-        self.desk.held(session, resource)
+        self.lock_table.held(session, resource)
     }
 
-    /// Whether the session waits for the other one at once: that one holds the resource of its request in a mode that
-    /// conflicts, or stands before it in the queue. So an engine tells who blocks whom. A session that the book doesn't
-    /// have waits for nobody, and nobody waits for it.
+    /// Whether `session` waits for `other` directly: whether the waits-for graph has this edge.
+    ///
+    /// It has the edge if `session` has a waiting request, and `other` holds the requested resource in a mode that
+    /// conflicts with the request, or has a request ahead of it in the queue. With it, an engine reports who blocks
+    /// whom. Returns false if the book has no such session.
     pub fn waits_for(&self, session: u16, other: u16) -> bool
         ensures { result ≡ waits_for (state_of self.now.history).table session other }
     {
-        self.desk.waits_for(session, other)
+        self.lock_table.waits_for(session, other)
     }
 
-    /// Writes the sessions that hold the resource, each with its mode, to the list, by session number.
-    /// `NoMemory` where the list found no room: it is then as before.
+    /// Replaces the contents of `list` by the sessions that hold `resource`, each with its mode, by session number.
+    ///
+    /// Fails with `NoMemory` if `list` would have to grow and memory is refused; its contents are unchanged then.
     pub fn holders(&self, resource: Resource, list: &mut Vec<(u16, Mode)>) -> Result<(), NoMemory>
         ensures ok { OnOk result (list.new.items ≡ holders resource (state_of self.now.history).table.held) }
         ensures err { OnErr result (list.new.items ≡ list.old.items) }
     {
-        self.desk.holders(resource, list)
+        self.lock_table.holders(resource, list)
     }
 
-    /// Serves one call of a session: the reply is the one of the sequential lock manager in the state that the history
-    /// leads to, and stands in the history with its call.
+    /// Serves one call of `session`, and adds the call with its reply to the history.
     ///
-    /// All growths come before the first change. `NoMemory` only where one of them was refused: the book is as before,
-    /// and the same call may be made again. A Begin, a Poll, a Release, a Commit, an Abort and a refused call grow the
-    /// history alone.
+    /// The reply is the one that the sequential lock manager of `lock_rules` gives in the state that the history
+    /// leads to. docs/RULES.md tells its rules, and which are from Gray, Lorie, Putzolu and Traiger (1976) and which
+    /// are this project's own choice. `session` is from 1 to `sessions()`.
+    ///
+    /// Fails with `NoMemory` only if memory is refused. The book is unchanged then, and the same call may be made
+    /// again. Begin, Poll, Release, Commit, Abort and refused calls need memory for the history alone.
     #[inline(always)]
     pub fn serve(&mut self, session: u16, call: Call) -> Result<Reply, NoMemory>
         requires some { 1 ≤ session }
@@ -146,10 +174,10 @@ impl Book {
         }) }
         ensures err { OnErr result (self.new ≡ self.old) }
     {
-        // Written out where it is called: a batch of one call takes no longer way to the desk than one call does.
+        // Inlined, so that a batch of one call is as quick as the call by itself.
         self.history.reserve(1)?;
         let asked = call;
-        let reply = self.desk.serve(session, call)?;
+        let reply = self.lock_table.serve(session, call)?;
         let entry = Entry {
             session,
             call: asked,
@@ -159,9 +187,11 @@ impl Book {
         Ok(reply)
     }
 
-    /// Serves the calls of the items, one after another from the first on, writes the reply of each into its item, and
-    /// says how many it served: all of them, or those before the first for which memory was refused. That item and
-    /// those after it are as before, and may be served again.
+    /// Serves the calls of `items` in order, and writes each reply into its item. Returns how many items it served.
+    ///
+    /// Replies and history are those of serving the calls one after another; locks on one resource that follow one
+    /// another are granted together where possible. The session of each item is from 1 to `sessions()`. Stops at the
+    /// first item for which memory is refused: this item and the later ones are unchanged, and may be served again.
     pub fn serve_batch(&mut self, items: &mut [Item]) -> usize
         requires within { All (IsItemWithin self.old.sessions) items.old }
         ensures count { result ≤ length items.old }
@@ -176,9 +206,10 @@ impl Book {
         self.serve_several(items)
     }
 
-    /// Serves the items from the first on, run by run, and says how many it served. Where the next item doesn't lock the
-    /// resource that this one locks, no run is looked for; the last item begins none.
-    // apart from the way of a batch of one call, which is to be no longer than that of the call
+    /// Serves the items in order, run by run, and returns how many it served.
+    ///
+    /// A run is looked for only if an item and the next one lock the same resource.
+    // Out of line, so that a batch of one call is as quick as the call by itself.
     #[inline(never)]
     fn serve_several(&mut self, items: &mut [Item]) -> usize
         requires within { All (IsItemWithin self.old.sessions) items.old }
@@ -196,7 +227,7 @@ impl Book {
             };
             let progress = self.serve_run(items, served, resource);
             served = progress.served;
-            if progress.starved {
+            if progress.out_of_memory {
                 return served;
             }
         }
@@ -206,7 +237,7 @@ impl Book {
         served
     }
 
-    /// Serves the item at this place, and writes its reply: whether memory was there.
+    /// Serves `items[at]` and writes its reply. Returns false if memory is refused.
     #[inline(always)]
     fn serve_item(&mut self, items: &mut [Item], at: usize) -> bool
         requires within { All (IsItemWithin self.old.sessions) items.old }
@@ -225,14 +256,14 @@ impl Book {
         true
     }
 
-    /// Serves these items, one after another.
+    /// Serves `items[from..upto]` in order, up to the first item for which memory is refused.
     fn serve_each(&mut self, items: &mut [Item], from: usize, upto: usize) -> Progress
         requires within { All (IsItemWithin self.old.sessions) items.old }
         requires some { from < upto }
         requires few { upto ≤ length items.old }
         ensures sessions { self.new.sessions ≡ self.old.sessions }
         ensures within { All (IsItemWithin self.new.sessions) items.new }
-        ensures further { result.starved ≡ false → from < result.served }
+        ensures further { result.out_of_memory ≡ false → from < result.served }
         ensures served { (batch : List ItemValue) (start : List EntryValue) → AreServed from batch start self.old.history items.old
             → AreServed result.served batch start self.new.history items.new }
     {
@@ -240,36 +271,41 @@ impl Book {
             if !self.serve_item(items, served) {
                 return Progress {
                     served,
-                    starved: true,
+                    out_of_memory: true,
                 };
             }
         }
         Progress {
             served: upto,
-            starved: false,
+            out_of_memory: false,
         }
     }
 
-    /// Serves the run of locks on this resource that begins at this item, all at once where its modes go together and memory
-    /// is there, or else one after another; or this item alone, where it begins no run.
+    /// Serves the run of locks on `resource` that begins at `items[from]`.
+    ///
+    /// Grants the run together if its modes are compatible and memory suffices, and else serves its items one after
+    /// another. Serves `items[from]` alone if no run begins there.
     #[inline(never)]
     fn serve_run(&mut self, items: &mut [Item], from: usize, resource: Resource) -> Progress
         requires within { All (IsItemWithin self.old.sessions) items.old }
         requires some { from < length items.old }
         ensures sessions { self.new.sessions ≡ self.old.sessions }
         ensures within { All (IsItemWithin self.new.sessions) items.new }
-        ensures further { result.starved ≡ false → from < result.served }
+        ensures further { result.out_of_memory ≡ false → from < result.served }
         ensures served { (batch : List ItemValue) (start : List EntryValue) → AreServed from batch start self.old.history items.old
             → AreServed result.served batch start self.new.history items.new }
     {
-        let Some(run) = self.desk.run_at(items, from, resource, &mut self.marks) else {
+        let Some(run) = self
+            .lock_table
+            .run_at(items, from, resource, &mut self.marks)
+        else {
             return self.serve_each(items, from, from + 1);
         };
         let upto = run.upto;
-        if grant_run(&mut self.desk, &mut self.history, items, from, &run) {
+        if grant_run(&mut self.lock_table, &mut self.history, items, from, &run) {
             return Progress {
                 served: upto,
-                starved: false,
+                out_of_memory: false,
             };
         }
         self.serve_each(items, from, upto)

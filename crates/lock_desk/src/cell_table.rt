@@ -1,62 +1,66 @@
-//! The table of cells: where a resource's cell stands is found once a call, and an idle cell stays for the next resource.
+//! The table of cells: finds the cell of a resource, and keeps idle cells with their memory for other resources.
 
 ghost use Rattle.std.specs.Prelude.{◌≡◌, ℕ, ◌+◌, ◌<◌, ◌≤◌, true, false, List, [], ◌∷◌, ◌++◌, None, Some, if◌then◌else◌, length, take, slice_get, IfOk, OnOk, OnErr, vec_len};
-ghost use Rattle.std.specs.List.{All};
 ghost use Rattle.std.specs.Option.{option_copied};
 ghost use Rattle.lock_tree.specs.Paths.{same_path};
 ghost use Rattle.lock_desk.specs.declared.cells.Cell.{Cell as CellValue};
-ghost use Rattle.lock_desk.specs.Cells.{no_view, view_of, has_session, mode_of, can_grant, is_granted, AreKeptCells, cell_at, cell_view, view_after_asking, view_after_giving_up, view_after_freeing, CellsBecame, ViewBecame, IsPlace, has_path, is_nobody, codes_unless_waited, view_with_holder, HasRoomAt};
-ghost use Rattle.lock_desk.specs.Tables.{in_use, AreIdleFrom};
-ghost use Rattle.lock_desk.specs.Lockers.{standings_of, IsKeptLocker, AreSameOrGranted, DoAgree};
-ghost use Rattle.lock_desk.specs.Finding.{IsOfSessions, IsWritten, DoFollow};
+ghost use Rattle.lock_desk.specs.inner.Cells.{no_view, view_of, has_session, mode_of, can_grant, is_granted, AreKeptCells, cell_at, cell_view, view_after_asking, view_after_giving_up, view_after_freeing, CellsBecame, ViewBecame, IsPlace, has_path, is_nobody, codes_unless_waited, view_with_holder, HasRoomAt};
+ghost use Rattle.lock_desk.specs.inner.Tables.{in_use, AreIdleFrom};
+ghost use Rattle.lock_desk.specs.inner.Lockers.{standings_of, AreSameOrGranted, DoAgree};
+ghost use Rattle.lock_desk.specs.inner.Blocking.{IsOfSessions, IsWritten, DoFollow};
 
-use crate::cells::{Cell, Part, RequestStatus, SessionMode, is_same};
+use crate::cells::{Cell, Claim, RequestStatus, SessionMode, is_same};
 use crate::lockers::Locker;
-use crate::releases::promote;
-use crate::waits::{Waits, clear_queue, follow_request, write_queue};
+use crate::promotion::promote;
+use crate::waits::{Waits, clear_queue_rows, update_rows, write_queue_rows};
 use indexmap::IndexSet;
 use lock_modes::Mode;
 use lock_tree::{Resource, same_path_is_equality};
 use std::alloc::{AllocError, Global};
 use std::marker::Model;
 
-/// The resources that are held or waited for, each with its cell at the same place. Cells that nobody uses stand behind
-/// those in use, with the memory of their lists, and serve the next resources, so that a release takes no memory and a cell
-/// moves only where one goes that isn't the last. Contracts see the cells in use.
+/// The cells, each with the resource that it belongs to. Contracts see the cells in use: those of the resources that
+/// are held or waited for.
 ///
-/// A newcomer is the last of the resources, looked for by a lock and so far without a cell: if the lock is granted at once, the
-/// resource needn't be looked for again.
+/// The place of a cell is its index in both lists. It is valid until a cell is added or vacated. Giving up a lock or
+/// a request takes no memory here.
 #[derive(Drop)]
 pub struct CellTable {
+    /// The resources whose cells are in use, and behind them the provisional key, if there is one.
     resources: IndexSet<Resource>,
+    /// The cell of each resource in use, at the same index. The cells behind those in use are idle, and keep the
+    /// memory of their lists.
     cells: Vec<Cell>,
-    newcomer: bool,
+    /// Whether the last key is provisional: a lock has looked for this resource, which has no cell in use so far. If
+    /// the lock is granted at once, the key needn't be looked for again. If not, the next look-up for a lock removes
+    /// the key, or the next removal of a cell.
+    has_provisional: bool,
 }
 
 impl Model for CellTable {
-    ghost use Rattle.lock_desk.specs.Cells.{Table};
+    ghost use Rattle.lock_desk.specs.inner.Cells.{Table};
 
     ghost Value = { Table };
 
-    ghost use Rattle.lock_desk.specs.Tables.{table_of, AreBeside};
+    ghost use Rattle.lock_desk.specs.inner.Tables.{table_of, IsKeptTable};
 
     ghost view = { table_of };
 
-    ghost invariant = { AreBeside };
+    ghost invariant = { IsKeptTable };
 }
 
-/// The newcomer goes, if there is one.
-fn forget(resources: &mut IndexSet<Resource>, newcomer: &mut bool)
-    ensures keys { resources.new.keys ≡ in_use resources.old.keys newcomer.old }
-    ensures none { newcomer.new ≡ false }
+/// Removes the provisional key, if there is one.
+fn drop_provisional(resources: &mut IndexSet<Resource>, has_provisional: &mut bool)
+    ensures keys { resources.new.keys ≡ in_use resources.old.keys has_provisional.old }
+    ensures none { has_provisional.new ≡ false }
 {
-    if *newcomer {
+    if *has_provisional {
         let _gone = resources.pop();
-        *newcomer = false;
+        *has_provisional = false;
     }
 }
 
-/// Whether the resource is the last of them.
+/// Whether `resource` is the last key.
 fn is_last(resources: &IndexSet<Resource>, resource: Resource) -> bool
     ensures { result ≡ true → resources.now.keys ≡ in_use resources.now.keys true ++ resource ∷ [] }
 {
@@ -66,7 +70,7 @@ fn is_last(resources: &IndexSet<Resource>, resource: Resource) -> bool
     }
 }
 
-/// Whether the resource stands at this place.
+/// Whether the key at `place` is `resource`.
 fn is_at(resources: &IndexSet<Resource>, place: usize, resource: Resource) -> bool
     ensures { result ≡ true → slice_get resources.now.keys place ≡ Some resource }
 {
@@ -76,29 +80,32 @@ fn is_at(resources: &IndexSet<Resource>, place: usize, resource: Resource) -> bo
     }
 }
 
-/// A resource that isn't in use becomes the newcomer.
-fn announce(
+/// Makes `resource`, which is not in use, the provisional key.
+///
+/// Keeps the key if it is the provisional one already, and else removes the earlier provisional key. If memory is
+/// refused, the keys in use are unchanged.
+fn insert_key(
     resources: &mut IndexSet<Resource>,
-    newcomer: &mut bool,
+    has_provisional: &mut bool,
     resource: Resource,
 ) -> Result<(), AllocError>
-    requires { has_path resource (in_use resources.old.keys newcomer.old) ≡ false }
-    ensures ok { OnOk result (newcomer.new ≡ true) }
-    ensures keys { OnOk result (resources.new.keys ≡ in_use resources.old.keys newcomer.old ++ resource ∷ []) }
-    ensures err { OnErr result (in_use resources.new.keys newcomer.new ≡ in_use resources.old.keys newcomer.old) }
+    requires { has_path resource (in_use resources.old.keys has_provisional.old) ≡ false }
+    ensures ok { OnOk result (has_provisional.new ≡ true) }
+    ensures keys { OnOk result (resources.new.keys ≡ in_use resources.old.keys has_provisional.old ++ resource ∷ []) }
+    ensures err { OnErr result (in_use resources.new.keys has_provisional.new ≡ in_use resources.old.keys has_provisional.old) }
 {
-    if *newcomer && is_last(resources, resource) {
+    if *has_provisional && is_last(resources, resource) {
         return Ok(());
     }
     same_path_is_equality();
-    forget(resources, newcomer);
+    drop_provisional(resources, has_provisional);
     resources.insert(resource)?;
-    *newcomer = true;
+    *has_provisional = true;
     Ok(())
 }
 
-/// There is a cell at this place, and as before all are idle from there on.
-fn lengthen(cells: &mut Vec<Cell>, place: usize) -> Result<(), AllocError>
+/// Ensures that there is a cell at `place`. The cells from `place` on stay idle, those before it unchanged.
+fn ensure_cell(cells: &mut Vec<Cell>, place: usize) -> Result<(), AllocError>
     requires place { place ≤ length cells.old.items }
     requires idle { AreIdleFrom place cells.old.items }
     ensures ok { OnOk result (place < length cells.new.items) }
@@ -115,29 +122,29 @@ fn lengthen(cells: &mut Vec<Cell>, place: usize) -> Result<(), AllocError>
 }
 
 impl CellTable {
-    /// No cells.
+    /// An empty table.
     pub(crate) fn new(alloc: Global) -> CellTable
         ensures { result.entries ≡ [] }
     {
         CellTable {
             resources: IndexSet::new(alloc),
             cells: Vec::new(alloc),
-            newcomer: false,
+            has_provisional: false,
         }
     }
 
-    /// How many cells are in use.
+    /// The number of cells in use.
     fn len(&self) -> usize
         ensures { result ≡ length self.now.entries }
     {
         let all = self.resources.len();
-        if self.newcomer {
+        if self.has_provisional {
             return all.saturating_sub(1);
         }
         all
     }
 
-    /// The cell of the resource.
+    /// The cell of `resource`, if it has one.
     pub(crate) fn cell_of(&self, resource: Resource) -> Option<&Cell>
         ensures { option_copied result ≡ cell_at resource self.now.entries }
     {
@@ -147,12 +154,12 @@ impl CellTable {
         }
     }
 
-    /// Where the cell of the resource stands, if it has one: until a cell comes or goes.
+    /// The place of the cell of `resource`, if it has one.
     pub(crate) fn place_of(&self, resource: Resource) -> Option<usize>
         ensures { IsPlace resource self.now.entries result }
     {
         same_path_is_equality();
-        // The length is what says that no resource stands twice.
+        // Called for its contract: no key is in the set twice.
         let _len = self.resources.len();
         match self.resources.get_index_of(&resource) {
             Some(place) if place < self.len() => Some(place),
@@ -160,13 +167,13 @@ impl CellTable {
         }
     }
 
-    /// The same for a lock, after which the resource is the newcomer where it has no cell and is no growth away.
-    pub(crate) fn find(&mut self, resource: Resource) -> Option<usize>
+    /// Like `place_of`, for a lock. If `resource` has no cell and the set has room, it becomes the provisional key.
+    pub(crate) fn find_or_insert_key(&mut self, resource: Resource) -> Option<usize>
         ensures place { IsPlace resource self.old.entries result }
         ensures same { self.new ≡ self.old }
     {
         same_path_is_equality();
-        forget(&mut self.resources, &mut self.newcomer);
+        drop_provisional(&mut self.resources, &mut self.has_provisional);
         if self.resources.len() == self.resources.capacity() {
             return self.place_of(resource);
         }
@@ -174,18 +181,18 @@ impl CellTable {
             return None;
         };
         if added {
-            self.newcomer = true;
+            self.has_provisional = true;
             return None;
         }
         Some(place)
     }
 
-    /// The same, where it is likely to stand at this place.
+    /// Like `place_of`, but looks at the place `likely` first.
     pub(crate) fn place_near(&self, likely: usize, resource: Resource) -> Option<usize>
         ensures { IsPlace resource self.now.entries result }
     {
         same_path_is_equality();
-        // The length is what says that no resource stands twice.
+        // Called for its contract: no key is in the set twice.
         let _len = self.resources.len();
         if likely < self.len() && is_at(&self.resources, likely, resource) {
             return Some(likely);
@@ -193,15 +200,16 @@ impl CellTable {
         self.place_of(resource)
     }
 
-    /// This place, or else the place of the cell that came last.
-    pub(crate) fn or_newest(&self, place: Option<usize>) -> usize {
+    /// `place`, or the place of the last key if there is none. After `ask` has added a cell, that is the place of
+    /// the new cell.
+    pub(crate) fn place_or_last(&self, place: Option<usize>) -> usize {
         match place {
             Some(place) => place,
             None => self.resources.len().saturating_sub(1),
         }
     }
 
-    /// The mode that the session holds on the resource whose place this is.
+    /// The mode that `session` holds on the resource whose cell is at `place`, if there is a cell and it holds one.
     #[inline(always)]
     pub(crate) fn mode_at(&self, place: Option<usize>, session: u16) -> Option<Mode>
         ensures { (r : List ℕ) → IsPlace r self.now.entries place → result ≡ mode_of session (cell_view r self.now.entries).holders }
@@ -212,8 +220,9 @@ impl CellTable {
         }
     }
 
-    /// The cell of a resource that has none, with its first holder.
-    fn open(&mut self, resource: Resource, holder: SessionMode) -> Result<(), AllocError>
+    /// Adds a cell for `resource`, which has none, with `holder` as its first holder. If memory is refused, nothing
+    /// that contracts see changes.
+    fn add_cell(&mut self, resource: Resource, holder: SessionMode) -> Result<(), AllocError>
         requires some { 1 ≤ holder.session }
         requires kept { AreKeptCells self.old.entries }
         requires none { cell_at resource self.old.entries ≡ None }
@@ -222,16 +231,16 @@ impl CellTable {
         ensures err { OnErr result (self.new ≡ self.old) }
     {
         same_path_is_equality();
-        announce(&mut self.resources, &mut self.newcomer, resource)?;
+        insert_key(&mut self.resources, &mut self.has_provisional, resource)?;
         let place = self.resources.len() - 1;
-        lengthen(&mut self.cells, place)?;
+        ensure_cell(&mut self.cells, place)?;
         let cell = &mut self.cells[place];
-        cell.occupy(holder);
-        self.newcomer = false;
+        cell.set_first_holder(holder);
+        self.has_provisional = false;
         Ok(())
     }
 
-    /// The idle cell at this place is in use no more, and its resource goes.
+    /// Takes the idle cell at `place` out of use, and removes its key. The last cell in use moves to `place`.
     fn vacate(&mut self, place: usize)
         requires within { place < length self.old.entries }
         requires idle { (r : List ℕ) (c : CellValue) → slice_get self.old.entries place ≡ Some (r, c) → view_of c ≡ no_view }
@@ -239,13 +248,16 @@ impl CellTable {
             → (q : List ℕ) → cell_at q self.new.entries ≡ (if same_path r q then None else cell_at q self.old.entries) }
     {
         same_path_is_equality();
-        forget(&mut self.resources, &mut self.newcomer);
+        drop_provisional(&mut self.resources, &mut self.has_provisional);
         let last = self.resources.len() - 1;
         let _gone = self.resources.swap_remove_index(place);
         self.cells.swap(place, last);
     }
 
-    /// A session that doesn't wait for the resource asks for it.
+    /// Requests `resource` for a session that has no request there, and updates the waits-for rows.
+    ///
+    /// `place` is the place of the cell. Without a cell, adds one, with the session as its first holder. If memory
+    /// is refused, holders, queues and rows are unchanged.
     pub(crate) fn ask(
         &mut self,
         place: Option<usize>,
@@ -270,22 +282,24 @@ impl CellTable {
         same_path_is_equality();
         match place {
             Some(place) => {
-                // The length is what says that no resource stands twice.
+                // Called for its contract: no key is in the set twice.
                 let _len = self.resources.len();
                 let cell = &mut self.cells[place];
                 let status = cell.ask(asker)?;
-                follow_request(waits, cell, asker, status);
+                update_rows(waits, cell, asker, status);
                 Ok(status)
             }
             None => {
-                self.open(resource, asker)?;
+                self.add_cell(resource, asker)?;
                 Ok(RequestStatus::Granted)
             }
         }
     }
 
-    /// The session gives up its lock on the resource, or its request: the queue is promoted, the rows of those who wait
-    /// there are written anew, and the cell goes where nobody is left.
+    /// Gives up the lock or the request of `session` on `resource`, whose cell is at `place`.
+    ///
+    /// Promotes the queue, rewrites the waits-for rows of the sessions that waited there or wait there now, and
+    /// vacates the cell if it is idle then. Does nothing without a cell.
     pub(crate) fn free_at(
         &mut self,
         lockers: &mut Vec<Locker>,
@@ -293,70 +307,39 @@ impl CellTable {
         session: u16,
         place: Option<usize>,
         resource: Resource,
-        part: Part,
+        claim: Claim,
     )
         requires place { IsPlace resource self.old.entries place }
         requires cells { AreKeptCells self.old.entries }
-        requires agree { let left = view_after_giving_up part session (cell_view resource self.old.entries) in
+        requires agree { let left = view_after_giving_up claim session (cell_view resource self.old.entries) in
             DoAgree resource left (standings_of lockers.old.items) }
-        requires lockers { All IsKeptLocker lockers.old.items }
         requires long { waits.old.rows.sessions ≡ vec_len lockers.old }
         requires within { IsOfSessions waits.old.rows.sessions (cell_view resource self.old.entries) }
-        ensures cells { ViewBecame resource (view_after_freeing part session) self.old.entries self.new.entries }
-        ensures agree { let freed = view_after_freeing part session (cell_view resource self.old.entries) in
+        ensures cells { ViewBecame resource (view_after_freeing claim session) self.old.entries self.new.entries }
+        ensures agree { let freed = view_after_freeing claim session (cell_view resource self.old.entries) in
             DoAgree resource freed (standings_of lockers.new.items) }
-        ensures lockers { All IsKeptLocker lockers.new.items }
         ensures granted { AreSameOrGranted resource (standings_of lockers.old.items) (standings_of lockers.new.items) }
         ensures len { vec_len lockers.new ≡ vec_len lockers.old }
         ensures rows { let before = cell_view resource self.old.entries in
-            DoFollow before (view_after_freeing part session before) waits.old waits.new }
+            DoFollow before (view_after_freeing claim session before) waits.old waits.new }
     {
         same_path_is_equality();
         let Some(place) = place else {
             return;
         };
-        // The length is what says that no resource stands twice.
+        // Called for its contract: no key is in the set twice.
         let _len = self.resources.len();
         let cell = &mut self.cells[place];
-        clear_queue(waits, cell);
-        cell.give_up(session, part);
+        clear_queue_rows(waits, cell);
+        cell.give_up(session, claim);
         promote(cell, place, resource, lockers);
-        write_queue(waits, cell);
+        write_queue_rows(waits, cell);
         if cell.is_idle() {
             self.vacate(place);
         }
     }
 
-    /// The same, where the resource is likely to stand at this place.
-    pub(crate) fn free(
-        &mut self,
-        lockers: &mut Vec<Locker>,
-        waits: &mut Waits,
-        session: u16,
-        likely: usize,
-        resource: Resource,
-        part: Part,
-    )
-        requires cells { AreKeptCells self.old.entries }
-        requires agree { let left = view_after_giving_up part session (cell_view resource self.old.entries) in
-            DoAgree resource left (standings_of lockers.old.items) }
-        requires lockers { All IsKeptLocker lockers.old.items }
-        requires long { waits.old.rows.sessions ≡ vec_len lockers.old }
-        requires within { IsOfSessions waits.old.rows.sessions (cell_view resource self.old.entries) }
-        ensures cells { ViewBecame resource (view_after_freeing part session) self.old.entries self.new.entries }
-        ensures agree { let freed = view_after_freeing part session (cell_view resource self.old.entries) in
-            DoAgree resource freed (standings_of lockers.new.items) }
-        ensures lockers { All IsKeptLocker lockers.new.items }
-        ensures granted { AreSameOrGranted resource (standings_of lockers.old.items) (standings_of lockers.new.items) }
-        ensures len { vec_len lockers.new ≡ vec_len lockers.old }
-        ensures rows { let before = cell_view resource self.old.entries in
-            DoFollow before (view_after_freeing part session before) waits.old waits.new }
-    {
-        let place = self.place_near(likely, resource);
-        self.free_at(lockers, waits, session, place, resource, part);
-    }
-
-    /// The bits of the codes of those who hold the resource whose place this is, where nobody waits for it.
+    /// The bitwise or of the mode codes of the holders at `place`, or `None` if a request waits there.
     pub(crate) fn codes_at(&self, place: usize) -> Option<u8>
         ensures { (r : List ℕ) → IsPlace r self.now.entries (Some place) → result ≡ codes_unless_waited (cell_view r self.now.entries) }
     {
@@ -366,7 +349,7 @@ impl CellTable {
         None
     }
 
-    /// Makes room for so many holders more of the resource whose place this is, where nobody waits for it.
+    /// Reserves room for `more` further holders of `resource`, whose cell is at `place`. No request may wait there.
     pub(crate) fn make_room_at(
         &mut self,
         place: usize,
@@ -381,13 +364,13 @@ impl CellTable {
         ensures room { OnOk result (HasRoomAt self.new.entries place more) }
     {
         same_path_is_equality();
-        // The length is what says that no resource stands twice.
+        // Called for its contract: no key is in the set twice.
         let _len = self.resources.len();
         let cell = &mut self.cells[place];
         cell.make_room(more)
     }
 
-    /// One session more holds the resource whose place this is, for which there is room.
+    /// Makes `holder` a holder of `resource`, whose cell is at `place`. Room must be reserved.
     pub(crate) fn grant_at(&mut self, place: usize, resource: Resource, holder: SessionMode)
         requires some { 1 ≤ holder.session }
         requires kept { AreKeptCells self.old.entries }
@@ -398,7 +381,7 @@ impl CellTable {
         ensures room { (n : ℕ) → HasRoomAt self.old.entries place (n + 1) → HasRoomAt self.new.entries place n }
     {
         same_path_is_equality();
-        // The length is what says that no resource stands twice.
+        // Called for its contract: no key is in the set twice.
         let _len = self.resources.len();
         let cell = &mut self.cells[place];
         cell.grant(holder);

@@ -1,54 +1,60 @@
-//! Cells: one for each resource that is held or waited for, with its holders and its queue.
+//! A cell: the holders and the wait queue of one resource.
 
 ghost use Rattle.std.specs.Prelude.{◌≡◌, ℕ, ◌+◌, ◌<◌, ◌≤◌, insert, drop, true, false, not, [], ◌∷◌, map, ◌&&◌, ◌||◌, ◌==◌, Some, IfOk, IfSome, OnOk, OnErr, length, vec_len, vec_capacity};
 ghost use Rattle.waits_for.specs.Pairs.{pairs_of};
 ghost use Rattle.lock_tree.specs.Paths.{same_path};
 ghost use Rattle.lock_desk.specs.declared.cells.SessionMode.{SessionMode as SessionModeValue};
-ghost use Rattle.lock_desk.specs.Cells.{no_view, view_of, has_session, mode_of, pair_of, with_holder, view_after_giving_up, fits_among, go_with, Ascends, next_grant, can_grant, is_granted, behind_conversions, queue_with, view_after_asking, view_with_holder, codes_unless_waited, is_nobody, HasRoom, HasRoomFor, IsKeptCell, is_busy};
-ghost use Rattle.lock_desk.specs.Holders.{IsPlaceOf};
-ghost use Rattle.lock_desk.specs.Finding.{holder_blocks, AreOfSessions};
+ghost use Rattle.lock_desk.specs.inner.Cells.{no_view, view_of, has_session, mode_of, pair_of, with_holder, view_after_giving_up, fits_among, go_with, Ascends, next_grant, can_grant, is_granted, behind_conversions, queue_with, view_after_asking, view_with_holder, codes_unless_waited, is_nobody, HasRoom, HasRoomFor, IsKeptCell, is_busy};
+ghost use Rattle.lock_desk.specs.inner.Holders.{IsPlaceOf};
+ghost use Rattle.lock_desk.specs.inner.Blocking.{holder_blocks, AreOfSessions};
 
-use crate::holder_columns::Place;
+use crate::holder_columns::HolderPlace;
 use crate::holders::Holders;
 use lock_modes::Mode;
 use lock_tree::{Resource, same_path_is_equality};
 use std::alloc::{AllocError, Global};
 use waits_for::Rows;
 
-/// A session with the mode that it holds, or that its request waits for.
+/// A session with a mode: the mode that it holds, or the target of its waiting request.
 #[derive(Clone, Copy, Debug, PartialEq, Eq)]
 pub struct SessionMode {
+    /// The session, numbered from 1.
     pub session: u16,
+    /// The held mode or the target.
     pub mode: Mode,
 }
 
-/// What a session may give up at a resource.
+/// What a session gives up at a resource.
 #[derive(Clone, Copy, Debug, PartialEq, Eq)]
-pub enum Part {
-    /// What it holds there.
+pub enum Claim {
+    /// Its lock.
     Lock,
-    /// Its request that waits.
+    /// Its waiting request.
     Request,
 }
 
-/// Whether a request was granted at once.
+/// What became of a request.
 #[derive(Clone, Copy, Debug, PartialEq, Eq)]
 pub enum RequestStatus {
-    /// The session holds what it asked for.
+    /// Granted at once.
     Granted,
-    /// The session waits.
+    /// Added to the queue.
     Waiting,
 }
 
-/// The holders of a resource, by session number, and its queue: the conversions that wait, then the fresh
-/// requests, each kind in order of arrival. The list of holders has room for all who wait, so that a
-/// promotion takes no memory.
+/// The holders and the wait queue of one resource. An idle cell has neither a holder nor a request.
+///
+/// A session is in the queue at most once. It can be a holder too: then its request is a conversion.
 #[derive(Drop)]
 pub struct Cell {
+    /// The holders, by session number. There is room for all waiting sessions too, so that a promotion takes no
+    /// memory.
     holders: Holders,
+    /// The queue: first the conversions, then the fresh requests, each kind in order of arrival.
     waiting: Vec<SessionMode>,
 }
 
+/// Whether both are the same resource.
 pub(crate) fn is_same(a: Resource, b: Resource) -> bool
     ensures { result ≡ same_path a b }
 {
@@ -56,6 +62,7 @@ pub(crate) fn is_same(a: Resource, b: Resource) -> bool
     a == b
 }
 
+/// Whether `shared` is this mode.
 fn is_mode(shared: Option<Mode>, mode: Mode) -> bool
     ensures { result ≡ true → shared ≡ Some mode }
 {
@@ -65,6 +72,7 @@ fn is_mode(shared: Option<Mode>, mode: Mode) -> bool
     }
 }
 
+/// Inserts `one` at `index`. The list must have room.
 fn insert_at(list: &mut Vec<SessionMode>, index: usize, one: SessionMode)
     requires index { index ≤ vec_len list.old }
     requires room { vec_len list.old < vec_capacity list.old }
@@ -75,7 +83,7 @@ fn insert_at(list: &mut Vec<SessionMode>, index: usize, one: SessionMode)
     let _inserted = list.insert(index, one);
 }
 
-/// How many conversions wait: the index of the next one in the queue.
+/// The number of conversions at the front of the queue, which is the index for the next one.
 fn conversions(holders: &Holders, waiting: &[SessionMode]) -> usize
     ensures within { result ≤ length waiting.now }
     ensures index { (asker : SessionModeValue)
@@ -90,7 +98,7 @@ fn conversions(holders: &Holders, waiting: &[SessionMode]) -> usize
 }
 
 impl Cell {
-    /// Nobody holds its resource, and nobody waits for it.
+    /// An idle cell.
     pub(crate) fn new(alloc: Global) -> Cell
         ensures { view_of result ≡ no_view }
     {
@@ -100,31 +108,32 @@ impl Cell {
         }
     }
 
-    /// The first holder of an idle cell's resource.
-    pub(crate) fn occupy(&mut self, holder: SessionMode)
+    /// Makes `holder` the only holder of an idle cell.
+    pub(crate) fn set_first_holder(&mut self, holder: SessionMode)
         requires some { 1 ≤ holder.session }
         requires idle { view_of self.old ≡ no_view }
         ensures view { view_of self.new ≡ record { holders = holder ∷ []; waiting = [] } }
         ensures kept { IsKeptCell self.new }
     {
-        self.holders.open(holder);
+        self.holders.set_first(holder);
     }
 
-    /// The mode that the session holds.
+    /// The mode that `session` holds, if it is a holder.
     pub(crate) fn mode_held(&self, session: u16) -> Option<Mode>
         ensures { result ≡ mode_of session (view_of self.now).holders }
     {
         self.holders.mode_of(session)
     }
 
-    /// The requests that wait, the next one first.
+    /// The wait queue, the next request first.
     pub(crate) fn queue(&self) -> &[SessionMode]
         ensures { result.now ≡ (view_of self.now).waiting }
     {
         &self.waiting
     }
 
-    /// Writes the holders to the list, by session number.
+    /// Replaces the contents of `list` by the holders, by session number. Leaves `list` unchanged if memory is
+    /// refused.
     pub(crate) fn list_holders(&self, list: &mut Vec<(u16, Mode)>) -> Result<(), AllocError>
         ensures ok { OnOk result (list.new.items ≡ map pair_of self.now.holders.items) }
         ensures err { OnErr result (list.new.items ≡ list.old.items) }
@@ -132,15 +141,17 @@ impl Cell {
         self.holders.list(list)
     }
 
-    /// Whether nobody holds the resource and nobody waits for it.
+    /// Whether there is neither a holder nor a waiting request.
     pub(crate) fn is_idle(&self) -> bool
         ensures { result ≡ not (is_busy (view_of self.now)) }
     {
         self.holders.len() == 0 && self.waiting.is_empty()
     }
 
-    /// The request of the queue behind so many that were granted, where it fits. One in a mode that goes with all
-    /// holders needs no look at them.
+    /// The request at index `granted` of the queue, if it fits beside the holders.
+    ///
+    /// `granted` requests before it are granted by this promotion, and still in the queue. `shared` is a mode that
+    /// is compatible with those of all holders: a request for it fits without a look at them.
     pub(crate) fn next_grant(&self, granted: usize, shared: Option<Mode>) -> Option<SessionMode>
         requires shared { IfSome shared (λ m. go_with m self.now.holders.items ≡ true) }
         ensures { result ≡ next_grant self.now.holders.items (drop granted self.now.waiting.items) }
@@ -159,8 +170,10 @@ impl Cell {
         None
     }
 
-    /// The session holds the resource in this mode, which fits: and the mode, where it goes with itself and so with all
-    /// holders.
+    /// Makes `holder` a holder, in a mode that fits. Leaves the queue unchanged.
+    ///
+    /// Returns the mode if it is compatible with itself, and so with the modes of all holders: `shared` for
+    /// `next_grant`.
     pub(crate) fn admit(&mut self, holder: SessionMode) -> Option<Mode>
         requires rising { Ascends self.old.holders.items }
         requires room { length self.old.holders.items < self.old.holders.capacity }
@@ -179,8 +192,8 @@ impl Cell {
         None
     }
 
-    /// The first requests leave the queue, so many.
-    pub(crate) fn pass(&mut self, granted: usize)
+    /// Removes the first `granted` requests from the queue.
+    pub(crate) fn dequeue(&mut self, granted: usize)
         requires { granted ≤ vec_len self.old.waiting }
         ensures waiting { self.new.waiting.items ≡ drop granted self.old.waiting.items }
         ensures len { vec_len self.new.waiting + granted ≡ vec_len self.old.waiting }
@@ -196,20 +209,21 @@ impl Cell {
         self.waiting.truncate(len - granted);
     }
 
-    /// Takes away what the session holds, or its request.
-    pub(crate) fn give_up(&mut self, session: u16, part: Part)
+    /// Removes the lock or the request of `session`, if there is one. Promotes nothing.
+    pub(crate) fn give_up(&mut self, session: u16, claim: Claim)
         requires rising { Ascends self.old.holders.items }
         requires room { HasRoom self.old }
-        ensures view { view_of self.new ≡ view_after_giving_up part session (view_of self.old) }
+        ensures view { view_of self.new ≡ view_after_giving_up claim session (view_of self.old) }
         ensures room { HasRoom self.new }
     {
-        match part {
-            Part::Lock => self.holders.leave(session),
-            Part::Request => self.waiting.retain(|request| request.session != session),
+        match claim {
+            Claim::Lock => self.holders.remove(session),
+            Claim::Request => self.waiting.retain(|request| request.session != session),
         }
     }
 
-    /// The request comes into the queue: a conversion behind those that wait, a fresh request at the end.
+    /// Adds a request to the queue: a conversion behind the other conversions, a fresh request at the end. There
+    /// must be room.
     fn enqueue(&mut self, asker: SessionMode)
         requires room { HasRoom self.old }
         requires holders { length self.old.holders.items + vec_len self.old.waiting < self.old.holders.capacity }
@@ -227,10 +241,10 @@ impl Cell {
         insert_at(&mut self.waiting, index, asker);
     }
 
-    /// Whether the asker, whose place this is, is granted its mode at once: it fits, and the asker is a holder or
-    /// nobody waits.
+    /// Whether the request of `asker` is granted at once: it fits, and it is a conversion or nobody waits. `place`
+    /// is the place of `asker` among the holders.
     #[inline]
-    fn can_grant(&self, place: Place, asker: SessionMode) -> bool
+    fn can_grant(&self, place: HolderPlace, asker: SessionMode) -> bool
         requires { IsPlaceOf asker.session self.now.holders.items place }
         ensures { result ≡ can_grant asker (view_of self.now) }
     {
@@ -240,7 +254,10 @@ impl Cell {
         false
     }
 
-    /// A session that doesn't wait for the cell's resource asks for it.
+    /// Requests a mode for a session that has no request here: grants it at once, or adds it to the queue.
+    ///
+    /// A session that holds the resource requests a conversion. If memory is refused, holders and queue are
+    /// unchanged.
     pub(crate) fn ask(&mut self, asker: SessionMode) -> Result<RequestStatus, AllocError>
         requires some { 1 ≤ asker.session }
         requires kept { IsKeptCell self.old }
@@ -250,7 +267,7 @@ impl Cell {
         ensures err { OnErr result (view_of self.new ≡ view_of self.old) }
         ensures kept { IsKeptCell self.new }
     {
-        if self.holders.convert_alone(asker) {
+        if self.holders.convert_if_single(asker) {
             return Ok(RequestStatus::Granted);
         }
         let waiting = self.waiting.len();
@@ -266,8 +283,9 @@ impl Cell {
         }
     }
 
-    /// Writes down which holders the request waits for.
-    pub(crate) fn write_holders(&self, rows: &mut Rows, request: SessionMode)
+    /// Adds to `rows` an edge from the session of `request` to each other holder whose mode conflicts with the
+    /// request.
+    pub(crate) fn write_holder_edges(&self, rows: &mut Rows, request: SessionMode)
         requires some { 1 ≤ request.session }
         requires within { request.session ≤ rows.old.sessions }
         requires holders { AreOfSessions rows.old.sessions (view_of self.now).holders }
@@ -277,10 +295,10 @@ impl Cell {
             && holder_blocks request.session request.mode (b + 1) (view_of self.now).holders)) }
     {
         self.holders
-            .write_waits(rows, request.session, request.mode);
+            .write_edges(rows, request.session, request.mode);
     }
 
-    /// The bits of the codes of the holders' modes, where nobody waits for the resource.
+    /// The bitwise or of the mode codes of the holders, or `None` if a request waits.
     pub(crate) fn codes_unless_waited(&self) -> Option<u8>
         ensures { result ≡ codes_unless_waited (view_of self.now) }
     {
@@ -290,7 +308,7 @@ impl Cell {
         Some(self.holders.codes())
     }
 
-    /// Makes room for so many holders more, where nobody waits.
+    /// Reserves room for `more` further holders. No request may wait.
     pub(crate) fn make_room(&mut self, more: usize) -> Result<(), AllocError>
         requires kept { IsKeptCell self.old }
         requires quiet { is_nobody (view_of self.old).waiting ≡ true }
@@ -301,7 +319,7 @@ impl Cell {
         self.holders.reserve(more)
     }
 
-    /// One session more holds the resource, for which there is room.
+    /// Makes `holder` a holder, or changes the mode that it holds. Room must be reserved.
     pub(crate) fn grant(&mut self, holder: SessionMode)
         requires some { 1 ≤ holder.session }
         requires kept { IsKeptCell self.old }

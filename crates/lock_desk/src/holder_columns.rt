@@ -1,14 +1,14 @@
-//! Two columns: the numbers of the sessions that hold a resource, which rise, and beside them the codes of their modes, so that
-//! one mask tells whether a request fits.
+//! Several holders of one resource in two columns: session numbers, and beside them mode codes, so that one mask tests
+//! a request against all holders.
 
 ghost use Rattle.std.specs.Prelude.{◌≡◌, ℕ, ◌+◌, ◌<◌, ◌≤◌, ◌&&◌, ◌||◌, ◌==◌, List, [], ◌++◌, length, insert, remove, map, OnOk, OnErr, vec_len, vec_capacity};
 ghost use Rattle.std.specs.List.{list_any};
 ghost use Rattle.mode_lanes.specs.Masks.{meets};
 ghost use Rattle.waits_for.specs.Pairs.{pairs_of};
-ghost use Rattle.lock_desk.specs.Cells.{has_session, mode_of, pair_of, with_holder, without, codes_among, fits_among};
-ghost use Rattle.lock_desk.specs.Columns.{side_by_side, DoRise, AreBelow, AreNotBelow};
-ghost use Rattle.lock_desk.specs.Finding.{holder_blocks, AreOfSessions};
-ghost use Rattle.lock_desk.specs.Holders.{IsPlaceOf};
+ghost use Rattle.lock_desk.specs.inner.Cells.{has_session, mode_of, pair_of, with_holder, without, codes_among, fits_among};
+ghost use Rattle.lock_desk.specs.inner.Columns.{side_by_side, DoRise, AreBelow, AreNotBelow};
+ghost use Rattle.lock_desk.specs.inner.Blocking.{holder_blocks, AreOfSessions};
+ghost use Rattle.lock_desk.specs.inner.Holders.{IsPlaceOf};
 ghost use Rattle.lock_desk.specs.declared.cells.SessionMode.{SessionMode as SessionModeValue};
 
 use crate::cells::SessionMode;
@@ -19,50 +19,52 @@ use std::alloc::{AllocError, Global};
 use std::marker::Model;
 use waits_for::Rows;
 
-/// Columns that are no longer than this are read one by one.
+/// Columns of up to this length are read one by one; longer ones by binary search and by vector kernels.
 const SHORT: usize = 8;
 
-/// Where a session stands among the holders.
+/// Where a session is among the holders, or would be inserted.
 #[derive(Clone, Copy, Debug, PartialEq, Eq)]
-pub enum Place {
-    /// Here.
+pub enum HolderPlace {
+    /// The session is the holder at this index.
     Own(usize),
-    /// It is none of them, and would come here.
+    /// The session is no holder, and would be inserted at this index.
     Between(usize),
 }
 
-/// The sessions that hold a resource, by session number, and the codes of their modes.
+/// The holders of one resource, by session number. Both columns have the same length.
 #[derive(Drop)]
 pub struct Columns {
+    /// The session numbers, strictly increasing.
     sessions: Vec<u16>,
+    /// At index `i`, the code of the mode that the session `sessions[i]` holds.
     codes: Vec<u8>,
 }
 
 impl Model for Columns {
-    ghost use Rattle.lock_desk.specs.Holders.{HolderList};
+    ghost use Rattle.lock_desk.specs.inner.Holders.{HolderList};
 
     ghost Value = { HolderList };
 
-    ghost use Rattle.lock_desk.specs.Columns.{holders_of, AreColumns};
+    ghost use Rattle.lock_desk.specs.inner.Columns.{holders_of, AreColumns};
 
     ghost view = { holders_of };
 
     ghost invariant = { AreColumns };
 }
 
-impl Place {
-    /// Whether the session is one of them.
+impl HolderPlace {
+    /// Whether the session is a holder.
     pub(crate) fn is_own(self) -> bool
         ensures { (s : ℕ) (hs : List SessionModeValue) → IsPlaceOf s hs self → result ≡ has_session s hs }
     {
         match self {
-            Place::Own(_) => true,
-            Place::Between(_) => false,
+            HolderPlace::Own(_) => true,
+            HolderPlace::Between(_) => false,
         }
     }
 }
 
-/// Whether one of the codes has a bit of the mask.
+/// Whether a code has a bit of `mask`.
 fn conflicts(codes: &[u8], mask: u8) -> bool
     ensures { result ≡ list_any (meets mask) codes.now }
 {
@@ -73,7 +75,7 @@ fn conflicts(codes: &[u8], mask: u8) -> bool
     }
 }
 
-/// How many of a few numbers that rise are lesser.
+/// The number of sessions below `session`, found one by one. `sessions` increases.
 fn rank_among_few(sessions: &[u16], session: u16) -> usize
     requires rising { DoRise sessions.now }
     ensures within { result ≤ length sessions.now }
@@ -89,7 +91,7 @@ fn rank_among_few(sessions: &[u16], session: u16) -> usize
     sessions.len()
 }
 
-/// How many of the numbers, which rise, are lesser.
+/// The number of sessions below `session`, found by binary search. `sessions` increases.
 fn rank_among_many(sessions: &[u16], session: u16) -> usize
     requires rising { DoRise sessions.now }
     ensures within { result ≤ length sessions.now }
@@ -109,7 +111,7 @@ fn rank_among_many(sessions: &[u16], session: u16) -> usize
     low
 }
 
-/// How many of the numbers, which rise, are lesser.
+/// The number of sessions below `session`. `sessions` increases.
 fn rank(sessions: &[u16], session: u16) -> usize
     requires rising { DoRise sessions.now }
     ensures within { result ≤ length sessions.now }
@@ -123,7 +125,7 @@ fn rank(sessions: &[u16], session: u16) -> usize
     }
 }
 
-/// The item comes into the list at this place.
+/// Inserts `one` at `index`. The list must have room.
 fn insert_at<T: Drop>(list: &mut Vec<T>, index: usize, one: T)
     requires index { index ≤ vec_len list.old }
     requires room { vec_len list.old < vec_capacity list.old }
@@ -137,7 +139,7 @@ fn insert_at<T: Drop>(list: &mut Vec<T>, index: usize, one: T)
     }
 }
 
-/// The item at this place leaves the list.
+/// Removes the item at `index`.
 fn remove_at<T: Drop>(list: &mut Vec<T>, index: usize)
     requires index { index < vec_len list.old }
     ensures items { list.new.items ≡ remove list.old.items index }
@@ -150,7 +152,7 @@ fn remove_at<T: Drop>(list: &mut Vec<T>, index: usize)
     }
 }
 
-/// Writes the holders at the end of the list.
+/// Appends the holders to `list`, which must have room for them.
 fn write_list(sessions: &[u16], codes: &[u8], list: &mut Vec<(u16, Mode)>)
     requires long { length codes.now ≡ length sessions.now }
     requires room { vec_len list.old + length sessions.now ≤ vec_capacity list.old }
@@ -164,7 +166,7 @@ fn write_list(sessions: &[u16], codes: &[u8], list: &mut Vec<(u16, Mode)>)
 }
 
 impl Columns {
-    /// Nobody.
+    /// No holders.
     pub(crate) fn new(alloc: Global) -> Columns
         ensures { result.items ≡ [] }
     {
@@ -174,14 +176,14 @@ impl Columns {
         }
     }
 
-    /// How many they are.
+    /// The number of holders.
     pub(crate) fn len(&self) -> usize
         ensures { result ≡ length self.now.items }
     {
         self.sessions.len()
     }
 
-    /// Makes room for so many more.
+    /// Reserves room for `more` further holders. The holders are unchanged, also if memory is refused.
     #[inline]
     pub(crate) fn reserve(&mut self, more: usize) -> Result<(), AllocError>
         ensures items { self.new.items ≡ self.old.items }
@@ -192,56 +194,58 @@ impl Columns {
         self.codes.reserve(more)
     }
 
-    /// The bits of the codes of their modes.
+    /// The bitwise or of the mode codes of the holders.
     pub(crate) fn codes(&self) -> u8
         ensures { result ≡ codes_among self.now.items }
     {
         union(&self.codes)
     }
 
-    /// Where the session stands among them.
-    pub(crate) fn place_of(&self, session: u16) -> Place
+    /// The place of `session` among the holders.
+    pub(crate) fn place_of(&self, session: u16) -> HolderPlace
         ensures { IsPlaceOf session self.now.items result }
     {
         let index = rank(&self.sessions, session);
         if index == self.sessions.len() {
-            return Place::Between(index);
+            return HolderPlace::Between(index);
         }
         let here = self.sessions[index];
         if here == session {
-            Place::Own(index)
+            HolderPlace::Own(index)
         } else {
-            Place::Between(index)
+            HolderPlace::Between(index)
         }
     }
 
-    /// The mode that the session holds.
+    /// The mode that `session` holds, if it is a holder.
     pub(crate) fn mode_of(&self, session: u16) -> Option<Mode>
         ensures { result ≡ mode_of session self.now.items }
     {
         match self.place_of(session) {
-            Place::Own(index) => Some(Mode::from_code_or_nl(self.codes[index])),
-            Place::Between(_) => None,
+            HolderPlace::Own(index) => Some(Mode::from_code_or_nl(self.codes[index])),
+            HolderPlace::Between(_) => None,
         }
     }
 
-    /// Whether the mode of the asker, whose place this is, is compatible with what each other session holds.
-    pub(crate) fn fits(&self, place: Place, asker: SessionMode) -> bool
+    /// Whether the mode of `asker` is compatible with the modes of all other holders. `place` is the place of
+    /// `asker`.
+    pub(crate) fn fits(&self, place: HolderPlace, asker: SessionMode) -> bool
         requires place { IsPlaceOf asker.session self.now.items place }
         ensures { result ≡ fits_among asker self.now.items }
     {
         let mask = asker.mode.conflict_mask();
         match place {
-            Place::Own(index) => {
+            HolderPlace::Own(index) => {
                 !conflicts(&self.codes[..index], mask) && !conflicts(&self.codes[index + 1..], mask)
             }
-            Place::Between(_) => !conflicts(&self.codes, mask),
+            HolderPlace::Between(_) => !conflicts(&self.codes, mask),
         }
     }
 
-    /// The holder, whose place this is, replaces its own lock, or comes between its neighbours.
+    /// Makes `holder` a holder at `place`, which is its place, or changes the mode that it holds. There must be
+    /// room.
     #[inline]
-    pub(crate) fn put(&mut self, place: Place, holder: SessionMode)
+    pub(crate) fn put(&mut self, place: HolderPlace, holder: SessionMode)
         requires place { IsPlaceOf holder.session self.old.items place }
         requires room { length self.old.items < self.old.capacity }
         ensures items { self.new.items ≡ with_holder holder self.old.items }
@@ -250,27 +254,28 @@ impl Columns {
     {
         let code = holder.mode.code();
         match place {
-            Place::Own(index) => self.codes[index] = code,
-            Place::Between(index) => {
+            HolderPlace::Own(index) => self.codes[index] = code,
+            HolderPlace::Between(index) => {
                 insert_at(&mut self.sessions, index, holder.session);
                 insert_at(&mut self.codes, index, code);
             }
         }
     }
 
-    /// The session's lock is taken away, if it is one of them.
-    pub(crate) fn leave(&mut self, session: u16)
+    /// Removes `session` from the holders, if it is one.
+    pub(crate) fn remove(&mut self, session: u16)
         ensures items { self.new.items ≡ without session self.old.items }
         ensures len { length self.new.items ≤ length self.old.items }
         ensures capacity { self.new.capacity ≡ self.old.capacity }
     {
-        if let Place::Own(index) = self.place_of(session) {
+        if let HolderPlace::Own(index) = self.place_of(session) {
             remove_at(&mut self.sessions, index);
             remove_at(&mut self.codes, index);
         }
     }
 
-    /// Writes them to the list, by session number.
+    /// Replaces the contents of `list` by the holders, by session number. Leaves `list` unchanged if memory is
+    /// refused.
     pub(crate) fn list(&self, list: &mut Vec<(u16, Mode)>) -> Result<(), AllocError>
         ensures ok { OnOk result (list.new.items ≡ map pair_of self.now.items) }
         ensures err { OnErr result (list.new.items ≡ list.old.items) }
@@ -282,8 +287,8 @@ impl Columns {
         Ok(())
     }
 
-    /// Writes down those that the session waits for: whose mode conflicts with its target.
-    pub(crate) fn write_waits(&self, rows: &mut Rows, session: u16, target: Mode)
+    /// Adds an edge from `session` to each other holder whose mode conflicts with `target`.
+    pub(crate) fn write_edges(&self, rows: &mut Rows, session: u16, target: Mode)
         requires some { 1 ≤ session }
         requires within { session ≤ rows.old.sessions }
         requires numbered { AreOfSessions rows.old.sessions self.now.items }

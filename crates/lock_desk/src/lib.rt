@@ -1,39 +1,40 @@
-//! The lock table: transactions lock, convert and release resources of the tree, wait, poll, commit and abort,
-//! deadlocks end with their victims, and each call is in the history with its reply.
+//! The lock table for one thread. Sessions begin transactions, lock, convert and release resources of a tree, poll,
+//! commit and abort. A deadlock is resolved by dooming a victim. Every served call is recorded in a history with its
+//! reply.
 //!
-//! Three layers, each of which knows only the contracts of the one below:
+//! Three layers, each of which uses only the contracts of the layers below:
 //!
-//! 1. the cells, by resource (`cells.rt`, in a table, `cell_table.rt`), each with its holders (`holders.rt`: one alone, or
-//!    `holder_columns.rt`: several as two columns), and
-//!    the lockers, by session (`lockers.rt`), each with methods that alone read its fields; a session's locks, with how many
-//!    children it holds of each that is indexed (`locks.rt`); what is promoted in both (`releases.rt`); who waits for whom
-//!    (`waits.rt`, `positions.rt`);
-//! 2. the desk (`desk.rt`), which serves each kind of call by its tests (`refusals.rt`) and by what it does where none fails
-//!    (`desk/steps.rt`), asks for resources (`desk/asking.rt`), and grants locks that go together in one go (`runs.rt`, by what
-//!    `desk/grants.rt` does);
-//! 3. the book, which is the desk with its history, and what callers see (`book.rt`, `batch.rt`).
+//! 1. The structures.
+//!    - By resource: a cell has the holders and the wait queue of one resource (`cells.rt`), and `cell_table.rt` is
+//!      the table of all cells. The holders of a cell are in `holders.rt`: a single holder inline, several in two
+//!      columns (`holder_columns.rt`).
+//!    - By session: a locker has the transaction, the waiting request and the locks of one session (`lockers.rt`). Its
+//!      list of locks counts, for each indexed lock, the children held below it (`locks.rt`).
+//!    - Across both: `promotion.rt` grants queued requests in a cell and in the lockers, `waits.rt` keeps the
+//!      waits-for graph, and `positions.rt` maps session numbers to list indices.
+//! 2. The lock table: all cells, all lockers and the waits-for graph (`lock_table.rt`). `lock_table/calls.rt` serves
+//!    each kind of call: first the tests that can refuse it (`lock_table/refusals.rt`), then its effect.
+//!    `lock_table/requests.rt` has the effect of a lock or a conversion. `lock_table/runs.rt` grants several locks on
+//!    one resource together, by the operations of `lock_table/grants.rt`.
+//! 3. The book: the lock table with its history (`book.rt`). It is all that callers see.
 #![tactic(auto)]
 
-mod batch;
 mod book;
 mod cell_table;
 mod cells;
-mod desk;
 mod holder_columns;
 mod holders;
+mod lock_table;
 mod lockers;
 mod locks;
 mod positions;
-mod refusals;
-mod releases;
-mod runs;
+mod promotion;
 mod waits;
 
-pub use batch::Item;
-pub use book::Book;
+pub use book::{Book, Item};
 pub use lock_modes::Mode;
 pub use lock_rules::{Call, Entry, MAX_LOCKS, MAX_SESSIONS, Reply, Why};
 pub use lock_tree::Resource;
 
-/// The one error of this crate: a growth was refused.
+/// The only error of this crate: memory was refused.
 pub use std::alloc::AllocError as NoMemory;

@@ -1,46 +1,64 @@
-//! Lockers: one for each session, with its transaction and with what the cells say of it.
+//! A locker: what the lock table knows of one session.
 
 ghost use Rattle.std.specs.Prelude.{◌≡◌, ℕ, ◌+◌, ◌<◌, ◌≤◌, false, true, None, Some, length, List, [], ◌∷◌, ◌++◌, is_some, OnOk, IfSome, IfNone};
 ghost use Rattle.lock_rules.specs.State.{number_in, doomed_in};
 ghost use Rattle.lock_rules.specs.Waits.{doom};
+ghost use Rattle.lock_rules.specs.declared.calls.TheConstants.{MAX_LOCKS};
 ghost use Rattle.lock_tree.specs.Paths.{same_path};
-ghost use Rattle.lock_desk.specs.Cells.{has_path};
-ghost use Rattle.lock_desk.specs.ChildCounts.{has_child, IsUnder};
-ghost use Rattle.lock_desk.specs.Lockers.{no_standing, resource_asked, is_fresh, wanted_in, standing_of, standing_after_grant, standing_after_asking, is_wanted, locks_to_come, IsOfKind, IsComingUnder, IsKeptLocker};
+ghost use Rattle.lock_desk.specs.inner.Cells.{has_path, AreApart, AreApart-prop};
+ghost use Rattle.lock_desk.specs.inner.ChildCounts.{has_child, IsUnder};
+ghost use Rattle.lock_desk.specs.inner.Requests.{resource_asked, is_fresh, wanted_in, locks_to_come, IsOfKind, IsOfKind-prop, IsComingUnder, IsComingUnder-prop};
 
 use crate::locks::{LastLock, Locks};
 use lock_rules::{MAX_LOCKS, Transaction};
 use lock_tree::Resource;
 use std::alloc::{AllocError, Global};
 
-/// What a session waits for.
+/// A waiting request.
 #[derive(Clone, Copy, Debug, PartialEq, Eq)]
 pub enum Request {
-    /// A lock on a resource that it doesn't hold.
+    /// For a lock on a resource that the session doesn't hold.
     Fresh(Resource),
-    /// A higher mode on a resource that it holds.
+    /// For a higher mode on a resource that the session holds.
     Conversion(Resource),
 }
 
-/// The transaction of a session, what it holds, and what it waits for.
-/// Among what it holds there is room for a lock that it waits for.
+/// What the lock table knows of one session.
+///
+/// No resource stands twice among the locks. If a fresh request waits, its resource isn't held, its parent is, and there
+/// is room for the lock that its grant adds: so a promotion takes no memory. If a conversion waits, its resource is held.
+/// The locks, with that of a fresh request, are at most `MAX_LOCKS`.
 #[derive(Drop)]
 pub struct Locker {
+    /// The open transaction of the session, if it has one.
     transaction: Option<Transaction>,
+    /// The resources that the session holds outright. The modes are in the cells.
     held: Locks,
+    /// The waiting request of the session, if it has one.
     wanted: Option<Request>,
-    trail: Trail,
+    /// Where the cell of the next lock's parent may be.
+    parent_hint: ParentHint,
+    ghost apart: { AreApart held.items } by { AreApart-prop held.items },
+    ghost few: { length held.items + locks_to_come wanted ≤ MAX_LOCKS },
+    ghost room: { locks_to_come wanted ≤ held.room },
+    ghost kind: { IsOfKind wanted held.items } by { IsOfKind-prop wanted held.items },
+    ghost under: { IsComingUnder wanted held.items } by { IsComingUnder-prop wanted held.items },
 }
 
-/// Where the cell of the lock stood that a session was last granted at once, and that of the lock above it: sessions go
-/// down the tree and along its leaves, so the parent of the next lock is likely one of them. Nothing rests on it.
+/// The places of the cells of the lock last granted at once and of the lock above it. Sessions lock down the tree and
+/// then along its leaves, so one of the two is likely the parent of the next lock. A place is only a guess: the cell
+/// table tests it.
 #[derive(Clone, Copy, Debug, PartialEq, Eq)]
-pub struct Trail {
+pub struct ParentHint {
+    /// The level of the lock last granted at once, 0 if there was none.
     level: u8,
+    /// The place of its cell.
     latest: usize,
+    /// The place of the cell of its likely parent.
     above: usize,
 }
 
+/// The resource of the request.
 fn resource_of(request: Request) -> Resource
     ensures { result ≡ resource_asked request }
 {
@@ -49,7 +67,7 @@ fn resource_of(request: Request) -> Resource
     }
 }
 
-/// The number of a transaction, 0 for none.
+/// The number of the transaction; 0 if there is none.
 fn number_of(transaction: Option<Transaction>) -> u64
     ensures { result ≡ number_in transaction }
 {
@@ -59,6 +77,7 @@ fn number_of(transaction: Option<Transaction>) -> u64
     }
 }
 
+/// Whether the transaction is a deadlock victim.
 fn is_doomed(transaction: Option<Transaction>) -> bool
     ensures { result ≡ doomed_in transaction }
 {
@@ -68,7 +87,7 @@ fn is_doomed(transaction: Option<Transaction>) -> bool
     }
 }
 
-/// The transaction as a deadlock's victim.
+/// The same transaction as a deadlock victim.
 fn doom(transaction: Option<Transaction>) -> Option<Transaction>
     ensures { result ≡ doom transaction }
 {
@@ -81,6 +100,7 @@ fn doom(transaction: Option<Transaction>) -> Option<Transaction>
     }
 }
 
+/// Whether a request waits that is no conversion.
 fn is_fresh(wanted: Option<Request>) -> bool
     ensures { result ≡ is_fresh wanted }
 {
@@ -88,16 +108,17 @@ fn is_fresh(wanted: Option<Request>) -> bool
 }
 
 impl Locker {
-    /// The locker of a session with no transaction.
+    ghost use Rattle.lock_desk.specs.inner.Lockers.{no_standing, standing_of, standing_after_grant, standing_after_asking, is_wanted};
+
+    /// The locker of a session without a transaction.
     pub(crate) fn new(alloc: Global) -> Locker
-        ensures standing { standing_of result ≡ no_standing }
-        ensures kept { IsKeptLocker result }
+        ensures { standing_of result ≡ no_standing }
     {
         Locker {
             transaction: None,
             held: Locks::new(alloc),
             wanted: None,
-            trail: Trail {
+            parent_hint: ParentHint {
                 level: 0,
                 latest: 0,
                 above: 0,
@@ -105,35 +126,35 @@ impl Locker {
         }
     }
 
-    /// The number of its transaction, 0 where it has none.
+    /// The number of the open transaction; 0 if there is none.
     pub(crate) fn number(&self) -> u64
         ensures { result ≡ number_in self.now.transaction }
     {
         number_of(self.transaction)
     }
 
-    /// Whether it has an open transaction.
+    /// Whether the session has an open transaction.
     pub(crate) fn is_open(&self) -> bool
         ensures { result ≡ is_some self.now.transaction }
     {
         self.transaction.is_some()
     }
 
-    /// Whether its transaction was chosen as a deadlock's victim.
+    /// Whether the transaction is a deadlock victim.
     pub(crate) fn is_doomed(&self) -> bool
         ensures { result ≡ doomed_in self.now.transaction }
     {
         is_doomed(self.transaction)
     }
 
-    /// Whether it has a request that waits.
+    /// Whether a request of the session waits.
     pub(crate) fn is_waiting(&self) -> bool
         ensures { result ≡ is_some (wanted_in self.now.wanted) }
     {
         self.wanted.is_some()
     }
 
-    /// The resource that it waits for.
+    /// The resource of the waiting request, if there is one.
     pub(crate) fn resource_wanted(&self) -> Option<Resource>
         ensures { result ≡ wanted_in self.now.wanted }
     {
@@ -143,21 +164,21 @@ impl Locker {
         }
     }
 
-    /// How many locks it holds.
+    /// The number of locks held.
     pub(crate) fn locks(&self) -> usize
         ensures { result ≡ length self.now.held.items }
     {
         self.held.len()
     }
 
-    /// Whether the session holds a child of the resource.
+    /// Whether the session holds a child of `resource`.
     pub(crate) fn holds_child(&self, resource: Resource) -> bool
         ensures { result ≡ has_child resource self.now.held.items }
     {
         self.held.holds_child(resource)
     }
 
-    /// A transaction begins, with this number.
+    /// Opens the transaction with this number.
     pub(crate) fn begin(&mut self, number: u64)
         ensures { self.new ≡ record self.old { transaction = Some (record { number = number; doomed = false }) } }
     {
@@ -167,52 +188,48 @@ impl Locker {
         });
     }
 
-    /// The transaction ends.
+    /// Closes the transaction.
     pub(crate) fn end(&mut self)
         ensures { self.new ≡ record self.old { transaction = None } }
     {
         self.transaction = None;
     }
 
-    /// The transaction becomes a deadlock's victim.
+    /// Marks the transaction as a deadlock victim.
     pub(crate) fn doom(&mut self)
         ensures { self.new ≡ record self.old { transaction = doom self.old.transaction } }
     {
         self.transaction = doom(self.transaction);
     }
 
-    /// Makes room for one lock more.
+    /// Makes room for one more lock. The session must not wait.
     pub(crate) fn make_room(&mut self) -> Result<(), AllocError>
-        requires kept { IsKeptLocker self.old }
         requires idle { self.old.wanted ≡ None }
         ensures room { OnOk result (0 < self.new.held.room) }
         ensures standing { standing_of self.new ≡ standing_of self.old }
-        ensures kept { IsKeptLocker self.new }
     {
         self.held.make_room()
     }
 
-    /// Where the cell of the resource's parent is likely to stand.
+    /// The likely place of the cell of the parent of `resource`: a guess.
     pub(crate) fn likely_parent(&self, resource: Resource) -> usize {
-        if resource.level() > self.trail.level {
-            self.trail.latest
+        if resource.level() > self.parent_hint.level {
+            self.parent_hint.latest
         } else {
-            self.trail.above
+            self.parent_hint.above
         }
     }
 
-    /// The session holds one resource more, whose cell stands at this place.
+    /// Adds `resource`, whose cell is at `place`, to the locks. There must be room, and the session must hold the parent.
     pub(crate) fn hold(&mut self, resource: Resource, place: usize)
-        requires kept { IsKeptLocker self.old }
         requires idle { self.old.wanted ≡ None }
         requires new { has_path resource self.old.held.items ≡ false }
         requires under { IsUnder self.old.held.items resource }
         requires few { length self.old.held.items < MAX_LOCKS }
         requires room { 0 < self.old.held.room }
-        ensures standing { standing_of self.new ≡ standing_after_asking true resource (standing_of self.old) }
-        ensures kept { IsKeptLocker self.new }
+        ensures { standing_of self.new ≡ standing_after_asking true resource (standing_of self.old) }
     {
-        self.trail = Trail {
+        self.parent_hint = ParentHint {
             level: resource.level(),
             latest: place,
             above: self.likely_parent(resource),
@@ -220,25 +237,21 @@ impl Locker {
         self.held.push(resource, place);
     }
 
-    /// The session waits.
+    /// Makes `request` the waiting request. For a fresh one there must be room for the lock.
     pub(crate) fn wait_for(&mut self, request: Request)
-        requires kept { IsKeptLocker self.old }
         requires kind { IsOfKind (Some request) self.old.held.items }
         requires under { IsComingUnder (Some request) self.old.held.items }
         requires few { length self.old.held.items + locks_to_come (Some request) ≤ MAX_LOCKS }
         requires room { locks_to_come (Some request) ≤ self.old.held.room }
-        ensures standing { standing_of self.new ≡ standing_after_asking false (resource_asked request) (standing_of self.old) }
-        ensures kept { IsKeptLocker self.new }
+        ensures { standing_of self.new ≡ standing_after_asking false (resource_asked request) (standing_of self.old) }
     {
         self.wanted = Some(request);
     }
 
-    /// The request that the session waits for is granted: the resource's cell stands at this place.
+    /// Ends the wait with a grant: a fresh request adds `resource`, whose cell is at `place`, to the locks. Takes no memory.
     pub(crate) fn grant(&mut self, resource: Resource, place: usize)
-        requires kept { IsKeptLocker self.old }
-        requires waits { is_wanted resource (wanted_in self.old.wanted) ≡ true }
-        ensures standing { standing_of self.new ≡ standing_after_grant resource (standing_of self.old) }
-        ensures kept { IsKeptLocker self.new }
+        requires { is_wanted resource (wanted_in self.old.wanted) ≡ true }
+        ensures { standing_of self.new ≡ standing_after_grant resource (standing_of self.old) }
     {
         if is_fresh(self.wanted) {
             self.held.push(resource, place);
@@ -246,32 +259,33 @@ impl Locker {
         self.wanted = None;
     }
 
-    /// The session holds the resource no more.
+    /// Removes `resource` from the locks. The session must hold no child of it and must not wait.
     pub(crate) fn release(&mut self, resource: Resource)
-        requires kept { IsKeptLocker self.old }
         requires idle { self.old.wanted ≡ None }
         requires childless { has_child resource self.old.held.items ≡ false }
         ensures transaction { self.new.transaction ≡ self.old.transaction }
         ensures wanted { self.new.wanted ≡ self.old.wanted }
         ensures gone { has_path resource self.new.held.items ≡ false }
         ensures others { (q : List ℕ) → same_path resource q ≡ false → has_path q self.new.held.items ≡ has_path q self.old.held.items }
-        ensures kept { IsKeptLocker self.new }
     {
         self.held.remove(resource);
     }
 
-    /// The session waits no more: for which resource it waited.
+    /// Removes the waiting request, and returns its resource; `None` if there was no request.
     pub(crate) fn cancel(&mut self) -> Option<Resource>
         ensures resource { result ≡ wanted_in self.old.wanted }
-        ensures value { self.new ≡ record self.old { wanted = None } }
+        ensures none { self.new.wanted ≡ None }
+        ensures transaction { self.new.transaction ≡ self.old.transaction }
+        ensures held { self.new.held ≡ self.old.held }
     {
         let resource = self.resource_wanted();
         self.wanted = None;
         resource
     }
 
-    /// The session doesn't hold the last resource of its list any more: which one that was.
+    /// Removes the last lock of the list, and returns it; `None` if there was no lock. The session must not wait.
     pub(crate) fn release_last(&mut self) -> Option<LastLock>
+        requires idle { self.old.wanted ≡ None }
         ensures some { IfSome result (λ last. self.old.held.items ≡ self.new.held.items ++ last.resource ∷ []) }
         ensures none { IfNone result (self.old.held.items ≡ []) }
         ensures transaction { self.new.transaction ≡ self.old.transaction }
@@ -280,11 +294,9 @@ impl Locker {
         self.held.pop()
     }
 
-    /// Makes ready for a release: what the session holds, where it is much, is found by an index from now on.
+    /// Prepares for a release: many locks go into an index, by which each is found.
     pub(crate) fn index(&mut self)
-        requires kept { IsKeptLocker self.old }
-        ensures standing { standing_of self.new ≡ standing_of self.old }
-        ensures kept { IsKeptLocker self.new }
+        ensures { standing_of self.new ≡ standing_of self.old }
     {
         self.held.index();
     }

@@ -1,11 +1,10 @@
-//! The locks of a session. Where it gives locks back before its transaction ends, they stand in an index with how many
-//! children of each it holds, so that a lock goes without a look at the others, in whatever order they go.
+//! The locks of one session: a list, and an index with counts of held children once the session releases locks early.
 
 ghost use Rattle.std.specs.Prelude.{◌≡◌, ℕ, ◌+◌, ◌-◌, ◌<◌, ◌≤◌, true, false, List, [], ◌∷◌, ◌++◌, ◌==◌, if◌then◌else◌, length, swap_remove, slice_index_or, IfSome, IfNone, OnOk, vec_len, vec_capacity};
 ghost use Rattle.indexmap.specs.IndexMap.{keys, values, index_map_len, spare};
 ghost use Rattle.lock_tree.specs.Paths.{same_path};
-ghost use Rattle.lock_desk.specs.Cells.{has_path, AreApart};
-ghost use Rattle.lock_desk.specs.ChildCounts.{is_child, has_child, IsUnder, AreUnder, DoCount};
+ghost use Rattle.lock_desk.specs.inner.Cells.{has_path, AreApart};
+ghost use Rattle.lock_desk.specs.inner.ChildCounts.{is_child, has_child, IsUnder, AreUnder, DoCount};
 
 use crate::cells::is_same;
 use indexmap::IndexMap;
@@ -14,45 +13,54 @@ use lock_tree::{Resource, same_path_is_equality};
 use std::alloc::{AllocError, Global};
 use std::marker::Model;
 
-/// So many locks are looked through; of more, a release first makes an index.
+/// A release searches up to this many locks one by one. If there are more, it first moves them into the index.
 const SHORT: usize = 16;
 
-/// The resources that a session holds, in the order in which they were granted until the first of them is given back
-/// early: those that were indexed, each with the number of its children among them, and those that came since.
-/// The counts stand until the transaction's locks are all given back, one after another, and again once none is left.
-/// Beside each of those that came since it is noted where its cell stood when it was granted; nothing rests on what
-/// is noted. As many as are ready may stand among those that came since: both lists have memory for so many, and the
-/// index has room for them all, so that a release takes no memory, and a lock takes some only where all of these came.
+/// The resources that a session holds: first those in the index, then the recent ones, in the order of their grants
+/// until one of them is released early. Contracts see them as this list, with the room for more.
+///
+/// Most transactions never release a lock early, so a lock goes into a list first, where it costs no hash. A release of
+/// one among many moves the list into the index, once for each lock. The index says by a count whether a child of a
+/// lock is held, so a release costs the same in whatever order locks go.
 #[derive(Drop)]
 pub struct Locks {
+    /// The locks that were indexed, each with the number of its children in the index, while `counts_valid`.
     indexed: IndexMap<Resource, u32>,
+    /// The locks granted since.
     recent: Vec<Resource>,
+    /// For each recent lock, the place of its cell when it was granted: a guess, which the cell table tests.
     places: Vec<usize>,
-    ready: usize,
-    stand: bool,
+    /// `recent` may hold up to this many entries without growing anything: both lists have memory for them, and the
+    /// index has room for all of them. So a release takes no memory.
+    reserved: usize,
+    /// Whether the counts of the index are right. They aren't kept while all locks are given back, from the last to the
+    /// first, and are right again once no lock is left.
+    counts_valid: bool,
 }
 
-/// The lock that came last, and where its cell is likely to stand.
+/// The last lock of a list.
 #[derive(Clone, Copy, Debug, PartialEq, Eq)]
 pub struct LastLock {
+    /// The resource that was held.
     pub(crate) resource: Resource,
+    /// The likely place of its cell: a guess.
     pub(crate) likely: usize,
 }
 
 impl Model for Locks {
-    ghost use Rattle.lock_desk.specs.ChildCounts.{LockList};
+    ghost use Rattle.lock_desk.specs.inner.ChildCounts.{LockList};
 
     ghost Value = { LockList };
 
-    ghost use Rattle.lock_desk.specs.LockLists.{locks_of, AreIndexed};
+    ghost use Rattle.lock_desk.specs.inner.LockLists.{locks_of, AreIndexed};
 
     ghost view = { locks_of };
 
     ghost invariant = { AreIndexed };
 }
 
-/// What was noted last, and is no more.
-fn recall(places: &mut Vec<usize>) -> usize
+/// Pops the newest place hint; 0 if there is none.
+fn pop_hint(places: &mut Vec<usize>) -> usize
     ensures len { vec_len places.new ≡ vec_len places.old - 1 }
     ensures capacity { vec_capacity places.new ≡ vec_capacity places.old }
 {
@@ -62,6 +70,7 @@ fn recall(places: &mut Vec<usize>) -> usize
     }
 }
 
+/// Whether `other` is a child of `resource`.
 fn is_child(resource: Resource, other: Resource) -> bool
     ensures { result ≡ is_child resource other }
 {
@@ -71,13 +80,14 @@ fn is_child(resource: Resource, other: Resource) -> bool
     }
 }
 
+/// Whether the list has a child of `resource`.
 fn has_child(list: &[Resource], resource: Resource) -> bool
     ensures { result ≡ has_child resource list.now }
 {
     list.iter().any(|one| is_child(resource, *one))
 }
 
-/// Where the resource stands in the list.
+/// The index of `resource` in the list, if it is there.
 fn search(list: &[Resource], resource: Resource) -> Option<usize>
     ensures within { IfSome result (λ i. i < length list.now) }
     ensures at { IfSome result (λ i. slice_index_or list.now i [] ≡ resource) }
@@ -91,7 +101,7 @@ fn search(list: &[Resource], resource: Resource) -> Option<usize>
     None
 }
 
-/// Where the parent of the resource stands among those that are indexed.
+/// The index of the parent of `resource`, if the parent is indexed.
 fn parent_place(indexed: &IndexMap<Resource, u32>, resource: Resource) -> Option<usize>
     requires { AreApart (keys indexed.now) }
     ensures within { IfSome result (λ p. p < index_map_len indexed.now) }
@@ -110,7 +120,7 @@ fn parent_place(indexed: &IndexMap<Resource, u32>, resource: Resource) -> Option
     }
 }
 
-/// The parent of a resource has one child more, if it is indexed.
+/// Adds 1 to the count of the parent of `resource`, if the parent is indexed.
 fn raise_parent(indexed: &mut IndexMap<Resource, u32>, resource: Resource)
     requires counted { DoCount (keys indexed.old) (values indexed.old) }
     requires apart { AreApart (keys indexed.old) }
@@ -125,7 +135,7 @@ fn raise_parent(indexed: &mut IndexMap<Resource, u32>, resource: Resource)
     }
 }
 
-/// The parent of a resource that is indexed has one child less.
+/// Subtracts 1 from the count of the parent of `resource`, if the parent is indexed. `resource` must be indexed.
 fn lower_parent(indexed: &mut IndexMap<Resource, u32>, resource: Resource)
     requires counted { DoCount (keys indexed.old) (values indexed.old) }
     requires apart { AreApart (keys indexed.old) }
@@ -140,7 +150,7 @@ fn lower_parent(indexed: &mut IndexMap<Resource, u32>, resource: Resource)
     }
 }
 
-/// One resource more is indexed, under its parent: it has no children there.
+/// Adds `resource` to the index, with the count 0: its children come after it. The index must have room.
 fn index_one(indexed: &mut IndexMap<Resource, u32>, resource: Resource)
     requires counted { DoCount (keys indexed.old) (values indexed.old) }
     requires apart { AreApart (keys indexed.old) }
@@ -157,23 +167,23 @@ fn index_one(indexed: &mut IndexMap<Resource, u32>, resource: Resource)
     let _inserted = indexed.insert(resource, 0);
 }
 
-/// The resource at this place, which has no children, is indexed no more, and the last one takes its place.
+/// Removes `resource`, which has no children, from its place in the index. The last key moves to that place.
 fn remove_indexed(
     indexed: &mut IndexMap<Resource, u32>,
-    stand: bool,
+    counts_valid: bool,
     place: usize,
     resource: Resource,
 )
     requires within { place < index_map_len indexed.old }
     requires at { slice_index_or (keys indexed.old) place [] ≡ resource }
-    requires counted { stand ≡ true → DoCount (keys indexed.old) (values indexed.old) }
+    requires counted { counts_valid ≡ true → DoCount (keys indexed.old) (values indexed.old) }
     requires apart { AreApart (keys indexed.old) }
     requires childless { has_child resource (keys indexed.old) ≡ false }
     ensures keys { keys indexed.new ≡ swap_remove (keys indexed.old) place [] }
-    ensures counted { stand ≡ true → DoCount (keys indexed.new) (values indexed.new) }
+    ensures counted { counts_valid ≡ true → DoCount (keys indexed.new) (values indexed.new) }
     ensures spare { spare indexed.old ≤ spare indexed.new }
 {
-    if !stand {
+    if !counts_valid {
         let _removed = indexed.swap_remove_index(place);
         return;
     }
@@ -181,7 +191,7 @@ fn remove_indexed(
     let _removed = indexed.swap_remove_index(place);
 }
 
-/// Whether a child of the resource is among those that are indexed, by its count.
+/// Whether the index has a child of `resource`, by the count of `resource`.
 fn counts_child(indexed: &IndexMap<Resource, u32>, resource: Resource) -> bool
     requires { DoCount (keys indexed.now) (values indexed.now) }
     ensures { result ≡ has_child resource (keys indexed.now) }
@@ -193,7 +203,7 @@ fn counts_child(indexed: &IndexMap<Resource, u32>, resource: Resource) -> bool
     }
 }
 
-/// Whether a child of the resource is among those that are indexed, by a walk.
+/// Whether the index has a child of `resource`, by a look at each key.
 fn finds_child(indexed: &IndexMap<Resource, u32>, resource: Resource) -> bool
     ensures { result ≡ has_child resource (keys indexed.now) }
 {
@@ -207,7 +217,7 @@ fn finds_child(indexed: &IndexMap<Resource, u32>, resource: Resource) -> bool
     false
 }
 
-/// All these resources are indexed, in their order, in which each comes behind its parent.
+/// Adds these resources to the index, in their order. Each parent comes before its children.
 fn index_all(indexed: &mut IndexMap<Resource, u32>, recent: &[Resource])
     requires counted { DoCount (keys indexed.old) (values indexed.old) }
     requires apart { AreApart (keys indexed.old ++ recent.now) }
@@ -233,45 +243,45 @@ impl Locks {
             indexed: IndexMap::new(alloc),
             recent: Vec::new(alloc),
             places: Vec::new(alloc),
-            ready: 0,
-            stand: true,
+            reserved: 0,
+            counts_valid: true,
         }
     }
 
-    /// How many they are.
+    /// The number of locks.
     pub(crate) fn len(&self) -> usize
         ensures { result ≡ length self.now.items }
     {
         self.indexed.len() + self.recent.len()
     }
 
-    /// Whether a child of the resource is among them.
+    /// Whether a child of `resource` is among the locks.
     pub(crate) fn holds_child(&self, resource: Resource) -> bool
         ensures { result ≡ has_child resource self.now.items }
     {
         if has_child(&self.recent, resource) {
             return true;
         }
-        if self.stand {
+        if self.counts_valid {
             counts_child(&self.indexed, resource)
         } else {
             finds_child(&self.indexed, resource)
         }
     }
 
-    /// Makes room for one more.
+    /// Makes room for one more lock.
     #[inline]
     pub(crate) fn make_room(&mut self) -> Result<(), AllocError>
         ensures room { OnOk result (0 < self.new.room) }
         ensures items { self.new.items ≡ self.old.items }
     {
-        if self.recent.len() < self.ready {
+        if self.recent.len() < self.reserved {
             return Ok(());
         }
         self.grow()
     }
 
-    /// Makes room for one more where none is ready, and counts how many are then. What is full doubles, or nearly.
+    /// Grows the lists and the index, and notes for how many locks they have memory now. A full list about doubles.
     #[inline(never)]
     fn grow(&mut self) -> Result<(), AllocError>
         ensures room { OnOk result (0 < self.new.room) }
@@ -282,11 +292,11 @@ impl Locks {
         self.indexed.reserve(self.recent.len() + 1)?;
         let listed = self.recent.capacity().min(self.places.capacity());
         let indexable = self.indexed.capacity() - self.indexed.len();
-        self.ready = listed.min(indexable);
+        self.reserved = listed.min(indexable);
         Ok(())
     }
 
-    /// One more comes, whose cell stands at this place.
+    /// Adds `resource`, whose cell is at `place`. There must be room, and the parent must be among the locks.
     pub(crate) fn push(&mut self, resource: Resource, place: usize)
         requires under { IsUnder self.old.items resource }
         requires room { 0 < self.old.room }
@@ -296,36 +306,37 @@ impl Locks {
         self.places.push_reserved(place);
     }
 
-    /// The last one goes.
+    /// Removes the last lock, and returns it; `None` if there was none. Stops keeping the counts of the index.
     pub(crate) fn pop(&mut self) -> Option<LastLock>
         ensures some { IfSome result (λ last. self.old.items ≡ self.new.items ++ last.resource ∷ []) }
         ensures none { IfNone result (self.old.items ≡ []) }
+        ensures empty { IfNone result (self.new.items ≡ []) }
     {
-        let likely = recall(&mut self.places);
+        let likely = pop_hint(&mut self.places);
         if let Some(resource) = self.recent.pop() {
             return Some(LastLock { resource, likely });
         }
         let (resource, _) = self.indexed.pop()?;
-        self.stand = self.indexed.is_empty();
+        self.counts_valid = self.indexed.is_empty();
         Some(LastLock { resource, likely })
     }
 
-    /// Makes the index of all, where they are more than can be looked through.
+    /// Moves the recent locks into the index, if they are more than `SHORT` and the counts are valid.
     pub(crate) fn index(&mut self)
         requires apart { AreApart self.old.items }
         requires few { length self.old.items ≤ MAX_LOCKS }
         ensures items { self.new.items ≡ self.old.items }
         ensures room { 0 < self.old.room → 0 < self.new.room }
     {
-        if self.stand && self.recent.len() > SHORT {
+        if self.counts_valid && self.recent.len() > SHORT {
             index_all(&mut self.indexed, &self.recent);
-            self.ready -= self.recent.len();
+            self.reserved -= self.recent.len();
             self.recent.clear();
             self.places.clear();
         }
     }
 
-    /// The resource goes, which has no children.
+    /// Removes `resource`, which has no children among the locks. Does nothing if it isn't among them.
     pub(crate) fn remove(&mut self, resource: Resource)
         requires apart { AreApart self.old.items }
         requires childless { has_child resource self.old.items ≡ false }
@@ -341,7 +352,7 @@ impl Locks {
         }
         same_path_is_equality();
         if let Some((place, _, _)) = self.indexed.get_full(&resource) {
-            remove_indexed(&mut self.indexed, self.stand, place, resource);
+            remove_indexed(&mut self.indexed, self.counts_valid, place, resource);
         }
     }
 }

@@ -1,8 +1,9 @@
-//! Sessions are numbered from 1, their positions in every list that has an item for each from 0.
+//! Session numbers and positions: sessions are numbered from 1, and the position of a session in lists with an item
+//! for each is its number less 1.
 
 ghost use Rattle.std.specs.Prelude.{◌≡◌, ◌+◌, ◌-◌, ◌<◌, ◌≤◌};
 
-/// The position of a session.
+/// The position of `session`.
 pub(crate) fn position_of(session: u16) -> usize
     requires { 1 ≤ session }
     ensures { result ≡ session - 1 }
@@ -10,7 +11,7 @@ pub(crate) fn position_of(session: u16) -> usize
     session as usize - 1
 }
 
-/// The session at a position.
+/// The session at `position`.
 pub(crate) fn session_at(position: usize) -> u16
     requires { position < 65535 }
     ensures { result ≡ position + 1 }

@@ -1,32 +1,35 @@
-//! Who waits for whom: written down as the cells and the lockers say it, and kept with each change of a cell. A request
-//! that stands last writes its own row, and any other change those of the queue.
+//! The waits-for graph, kept current with each change of a cell.
 
 ghost use Rattle.std.specs.Prelude.{◌≡◌, ℕ, ◌+◌, ◌-◌, ◌<◌, ◌≤◌, ◌&&◌, ◌||◌, ◌==◌, if◌then◌else◌, List, not, true, false, length, take, IfOk, IfNone, IfSome, nat_le, slice_index_or, vec_len};
 ghost use Rattle.waits_for.specs.Pairs.{pairs_of};
 ghost use Rattle.waits_for.specs.Walks.{Reaches, IsYoungestOnCircle};
 ghost use Rattle.lock_desk.specs.declared.cells.SessionMode.{SessionMode as SessionModeValue};
-ghost use Rattle.lock_desk.specs.Cells.{View, has_session, times, view_of, is_granted};
-ghost use Rattle.lock_desk.specs.Finding.{cell_blocks, AreOfSessions, IsOfSessions, IsReady, HasAskedThere, DoFollow};
+ghost use Rattle.lock_desk.specs.inner.Cells.{View, has_session, times, view_of, is_granted};
+ghost use Rattle.lock_desk.specs.inner.Blocking.{cell_blocks, AreOfSessions, IsOfSessions, IsSizedFor, HasRequestedAt, DoFollow};
 
 use crate::cells::{Cell, RequestStatus, SessionMode};
 use crate::positions::{position_of, session_at};
 use std::alloc::{AllocError, Global};
 use waits_for::{MAX_SESSIONS, Rows};
 
-/// Which session waits for which, and the number of each session's transaction, by positions: session 1 has
-/// position 0. A session waits for one resource, so a change of a cell changes the rows of those who wait there, and
-/// no others.
+/// The waits-for graph, and the number of each session's transaction. Both go by position: session number less 1.
+///
+/// A session waits for one resource at most, so a change of one cell changes only the rows of the sessions that wait
+/// there. A request at the end of the queue writes its own row; any other change rewrites the rows of the whole
+/// queue.
 #[derive(Drop)]
 pub struct Waits {
+    /// The edges: the row of a session has those for whom it waits directly, holders and requests ahead of its own.
     rows: Rows,
+    /// The number of the open transaction of each session, 0 for none.
     numbers: Vec<u64>,
 }
 
-/// Room for so many sessions, of which none waits and none has a transaction.
+/// A graph for this number of sessions, without edges and transactions.
 pub(crate) fn new_waits(alloc: Global, sessions: u16) -> Result<Waits, AllocError>
     requires some { 1 ≤ sessions }
     requires few { sessions ≤ MAX_SESSIONS }
-    ensures ready { IfOk result (IsReady sessions) }
+    ensures ready { IfOk result (IsSizedFor sessions) }
     ensures pairs { IfOk result (λ waits. (a b : ℕ) → pairs_of waits.rows a b ≡ false) }
     ensures numbers { IfOk result (λ waits. (a : ℕ) → slice_index_or waits.numbers.items a 0 ≡ 0) }
 {
@@ -38,7 +41,7 @@ pub(crate) fn new_waits(alloc: Global, sessions: u16) -> Result<Waits, AllocErro
     Ok(Waits { rows, numbers })
 }
 
-/// The number of the session's transaction, 0 for none.
+/// Sets the number of the session's transaction; 0 for none.
 pub(crate) fn set_number(waits: &mut Waits, session: u16, number: u64)
     requires some { 1 ≤ session }
     requires within { session ≤ vec_len waits.old.numbers }
@@ -51,8 +54,8 @@ pub(crate) fn set_number(waits: &mut Waits, session: u16, number: u64)
     waits.numbers[position] = number;
 }
 
-/// The rows of those who wait at the cell are emptied.
-pub(crate) fn clear_queue(waits: &mut Waits, cell: &Cell)
+/// Clears the rows of the sessions that wait at `cell`.
+pub(crate) fn clear_queue_rows(waits: &mut Waits, cell: &Cell)
     requires within { AreOfSessions waits.old.rows.sessions (view_of cell.now).waiting }
     ensures sessions { waits.new.rows.sessions ≡ waits.old.rows.sessions }
     ensures pairs { (a b : ℕ) → pairs_of waits.new.rows a b
@@ -64,8 +67,8 @@ pub(crate) fn clear_queue(waits: &mut Waits, cell: &Cell)
     }
 }
 
-/// The session waits for those who stand in the queue ahead of it, so many of them, too.
-fn write_ahead(rows: &mut Rows, ahead: &[SessionMode], session: u16)
+/// Adds an edge from `session` to each session of `ahead`, the requests ahead of its own.
+fn write_edges_ahead(rows: &mut Rows, ahead: &[SessionMode], session: u16)
     requires some { 1 ≤ session }
     requires own { session ≤ rows.old.sessions }
     requires within { AreOfSessions rows.old.sessions ahead.now }
@@ -78,8 +81,8 @@ fn write_ahead(rows: &mut Rows, ahead: &[SessionMode], session: u16)
     }
 }
 
-/// The last request ahead of this one that is for the same mode.
-fn alike(queue: &[SessionMode], index: usize) -> Option<usize>
+/// The index of the nearest request ahead of `queue[index]` that is for the same mode, if there is one.
+fn previous_same_mode(queue: &[SessionMode], index: usize) -> Option<usize>
     requires { index < length queue.now }
     ensures { IfSome result (λ j. (j < index) × ((d : SessionModeValue)
         → (slice_index_or queue.now j d).mode ≡ (slice_index_or queue.now index d).mode)) }
@@ -94,9 +97,9 @@ fn alike(queue: &[SessionMode], index: usize) -> Option<usize>
     None
 }
 
-/// For whom the request at this place of the queue waits is written down, as holders and queue say it.
+/// Adds the row of the request `queue[index]`, from the holders and the requests ahead of it.
 #[inline(always)]
-fn write_as_seen(rows: &mut Rows, cell: &Cell, index: usize)
+fn write_full_row(rows: &mut Rows, cell: &Cell, index: usize)
     requires index { index < length (view_of cell.now).waiting }
     requires within { IsOfSessions rows.old.sessions (view_of cell.now) }
     requires once { (s : ℕ) → times s (view_of cell.now).waiting ≤ 1 }
@@ -106,15 +109,17 @@ fn write_as_seen(rows: &mut Rows, cell: &Cell, index: usize)
 {
     let queue = cell.queue();
     let request = queue[index];
-    cell.write_holders(rows, request);
-    write_ahead(rows, &queue[..index], request.session);
+    cell.write_holder_edges(rows, request);
+    write_edges_ahead(rows, &queue[..index], request.session);
 }
 
-/// The same for one that others stand ahead of, for whom it is written down. It waits for whomever one ahead of it for the
-/// same mode waits, for that one, and for those between; where it is a holder that the other one waits for, all holders are
-/// looked at.
+/// Like `write_full_row`, when the rows of the requests ahead are current.
+///
+/// If a request ahead is for the same mode, copies the row of the nearest one, and adds an edge to it and to each
+/// request between the two. Reads all holders if there is none, or if that one waits for this session, which is a
+/// holder then.
 #[inline(never)]
-fn write_behind(rows: &mut Rows, cell: &Cell, index: usize)
+fn write_row_behind(rows: &mut Rows, cell: &Cell, index: usize)
     requires index { index < length (view_of cell.now).waiting }
     requires within { IsOfSessions rows.old.sessions (view_of cell.now) }
     requires once { (s : ℕ) → times s (view_of cell.now).waiting ≤ 1 }
@@ -127,20 +132,19 @@ fn write_behind(rows: &mut Rows, cell: &Cell, index: usize)
     let queue = cell.queue();
     let session = queue[index].session;
     let position = position_of(session);
-    if let Some(before) = alike(queue, index) {
+    if let Some(before) = previous_same_mode(queue, index) {
         let other = position_of(queue[before].session);
         if !rows.waits(other, position) {
             rows.wait_as(position, other);
-            write_ahead(rows, &queue[before..index], session);
+            write_edges_ahead(rows, &queue[before..index], session);
             return;
         }
     }
-    write_as_seen(rows, cell, index);
+    write_full_row(rows, cell, index);
 }
 
-/// For whom the request at this place of the queue waits is written down, those ahead of it being written. The first one
-/// waits for holders alone.
-fn write_request(rows: &mut Rows, cell: &Cell, index: usize)
+/// Adds the row of the request `queue[index]`. The rows of the requests ahead must be current.
+fn write_row(rows: &mut Rows, cell: &Cell, index: usize)
     requires index { index < length (view_of cell.now).waiting }
     requires within { IsOfSessions rows.old.sessions (view_of cell.now) }
     requires once { (s : ℕ) → times s (view_of cell.now).waiting ≤ 1 }
@@ -151,14 +155,14 @@ fn write_request(rows: &mut Rows, cell: &Cell, index: usize)
         ≡ (pairs_of rows.old a b || ((a + 1 == (slice_index_or (view_of cell.now).waiting index d).session) && cell_blocks (a + 1) (b + 1) cell.now)) }
 {
     if index == 0 {
-        write_as_seen(rows, cell, 0);
+        write_full_row(rows, cell, 0);
     } else {
-        write_behind(rows, cell, index);
+        write_row_behind(rows, cell, index);
     }
 }
 
-/// For whom each of those waits who wait at the cell is written down, where nothing is.
-fn write_requests(waits: &mut Waits, cell: &Cell)
+/// Adds the rows of all requests that wait at `cell`. Their rows must be empty.
+fn write_rows(waits: &mut Waits, cell: &Cell)
     requires within { IsOfSessions waits.old.rows.sessions (view_of cell.now) }
     requires once { (s : ℕ) → times s (view_of cell.now).waiting ≤ 1 }
     requires empty { (a b : ℕ) → has_session (a + 1) (view_of cell.now).waiting ≡ true → pairs_of waits.old.rows a b ≡ false }
@@ -169,12 +173,12 @@ fn write_requests(waits: &mut Waits, cell: &Cell)
 {
     let queue = cell.queue();
     for index in 0..queue.len() {
-        write_request(&mut waits.rows, cell, index);
+        write_row(&mut waits.rows, cell, index);
     }
 }
 
-/// The same; where nobody waits, at the cost of a look.
-pub(crate) fn write_queue(waits: &mut Waits, cell: &Cell)
+/// Like `write_rows`, but returns at once if nobody waits.
+pub(crate) fn write_queue_rows(waits: &mut Waits, cell: &Cell)
     requires within { IsOfSessions waits.old.rows.sessions (view_of cell.now) }
     requires once { (s : ℕ) → times s (view_of cell.now).waiting ≤ 1 }
     requires empty { (a b : ℕ) → has_session (a + 1) (view_of cell.now).waiting ≡ true → pairs_of waits.old.rows a b ≡ false }
@@ -186,20 +190,18 @@ pub(crate) fn write_queue(waits: &mut Waits, cell: &Cell)
     if cell.queue().is_empty() {
         return;
     }
-    write_requests(waits, cell);
+    write_rows(waits, cell);
 }
 
-/// A session has asked at the cell. A request that stands last, as every fresh one does, changes no row but its own.
-pub(crate) fn follow_request(
-    waits: &mut Waits,
-    cell: &Cell,
-    asker: SessionMode,
-    status: RequestStatus,
-)
+/// Updates the rows after `asker` has requested the resource of `cell`.
+///
+/// A request at the end of the queue writes its own row alone. Any other change rewrites the rows of the whole
+/// queue.
+pub(crate) fn update_rows(waits: &mut Waits, cell: &Cell, asker: SessionMode, status: RequestStatus)
     requires within { IsOfSessions waits.old.rows.sessions (view_of cell.now) }
     requires once { (s : ℕ) → times s (view_of cell.now).waiting ≤ 1 }
-    requires asked { HasAskedThere asker (is_granted status) (view_of cell.now) waits.old }
-    ensures { (h : HasAskedThere asker (is_granted status) (view_of cell.now) waits.old)
+    requires asked { HasRequestedAt asker (is_granted status) (view_of cell.now) waits.old }
+    ensures { (h : HasRequestedAt asker (is_granted status) (view_of cell.now) waits.old)
         → DoFollow h.before (view_of cell.now) waits.old waits.new }
 {
     let queue = cell.queue();
@@ -208,15 +210,15 @@ pub(crate) fn follow_request(
     }
     let last = queue.len() - 1;
     if status == RequestStatus::Waiting && queue[last].session == asker.session {
-        write_request(&mut waits.rows, cell, last);
+        write_row(&mut waits.rows, cell, last);
         return;
     }
-    clear_queue(waits, cell);
-    write_requests(waits, cell);
+    clear_queue_rows(waits, cell);
+    write_rows(waits, cell);
 }
 
-/// Whether it is written down that the session waits for the other one at once. Of sessions that aren't there nothing is.
-pub(crate) fn is_written(waits: &Waits, session: u16, other: u16) -> bool
+/// Whether the graph has an edge from `session` to `other`. False if there is no such session.
+pub(crate) fn has_edge(waits: &Waits, session: u16, other: u16) -> bool
     ensures { result ≡ (nat_le 1 session && (nat_le 1 other && pairs_of waits.now.rows (session - 1) (other - 1))) }
 {
     if session == 0 || other == 0 {
@@ -229,11 +231,11 @@ pub(crate) fn is_written(waits: &Waits, session: u16, other: u16) -> bool
     waits.rows.waits(position_of(session), position_of(other))
 }
 
-/// The victim that breaks a circle of the session, if there is one.
+/// The victim: the youngest of the transactions on a cycle with `session`. `None` if `session` is on no cycle.
 pub(crate) fn victim(waits: &mut Waits, session: u16) -> Option<u16>
     requires some { 1 ≤ session }
     requires within { session ≤ waits.old.rows.sessions }
-    requires ready { IsReady waits.old.rows.sessions waits.old }
+    requires ready { IsSizedFor waits.old.rows.sessions waits.old }
     ensures none { IfNone result (Reaches (pairs_of waits.old.rows) (session - 1) (session - 1) → ⊥) }
     ensures some { IfSome result (λ v. (1 ≤ v) × (v ≤ waits.old.rows.sessions)
         × IsYoungestOnCircle (pairs_of waits.old.rows) waits.old.numbers.items (session - 1) (v - 1)) }

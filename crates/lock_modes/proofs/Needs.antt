@@ -1,4 +1,4 @@
--- What modes need of the parent, by their tables.
+-- What modes need of the parent.
 use Rattle.std.proofs.Common.{◌||◌, refl, not}
 use Rattle.lock_modes.specs.declared.Mode.{Mode}
 use Rattle.lock_modes.specs.Order.{IsAtOrBelow, at_or_below, need_of}
@@ -7,11 +7,14 @@ use Rattle.lock_modes.proofs.Every.{every-at, every2-at, implied}
 use Rattle.lock_modes.proofs.Order.{order-tests, order-from}
 use Rattle.lock_modes.proofs.Compatibility.{compatible-from}
 
+-- the need of a mode is at or below it
 pub need_below : (m : Mode) → IsAtOrBelow (need_of m) m
 need_below m = order-from (need_of m) m (every-at (λ m. at_or_below (need_of m) m) refl m)
 
+-- a higher mode needs no less
 pub need_rises : (a b : Mode) → IsAtOrBelow a b → IsAtOrBelow (need_of a) (need_of b)
 need_rises a b h = order-from (need_of a) (need_of b) (implied (at_or_below a b) _ (every2-at (λ a b. not (at_or_below a b) || at_or_below (need_of a) (need_of b)) refl a b) (order-tests h))
 
+-- any two needs are compatible
 pub needs_together : (a b : Mode) → IsCompatible (need_of a) (need_of b)
 needs_together a b = compatible-from (need_of a) (need_of b) (every2-at (λ a b. are_compatible (need_of a) (need_of b)) refl a b)

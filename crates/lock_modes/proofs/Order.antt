@@ -1,4 +1,4 @@
--- The order of the modes and their least upper bound say what their tables say.
+-- The order of the modes and their least upper bounds agree with the tables.
 use Rattle.std.proofs.Common.{◌≡◌, ◌≤◌, true, ◌||◌, eqb, leb, refl, not, Decides}
 use Rattle.std.proofs.lemmas.Bool.Decides.{Decides-eqb}
 use borrow.Author.Tests.{leb-true}
@@ -9,6 +9,7 @@ use Rattle.lock_modes.specs.Codes.{code_of}
 use Rattle.lock_modes.proofs.Every.{every-at, every2-at, every3-at, implied}
 use Rattle.lock_modes.proofs.Codes.{same_code}
 
+-- a mode is below the modes directly above it, by the table
 directly-tests : {a b : Mode} → IsDirectlyBelow a b → at_or_below a b ≡ true
 directly-tests nl_is = refl
 directly-tests is_ix = refl
@@ -17,20 +18,24 @@ directly-tests ix_six = refl
 directly-tests s_six = refl
 directly-tests six_x = refl
 
+-- the order is reflexive
 pub at_or_below-refl : (a : Mode) → at_or_below a a ≡ true
 at_or_below-refl = every-at (λ a. at_or_below a a) refl
 
+-- the order is transitive
 pub at_or_below-trans : (a b c : Mode) → at_or_below a b ≡ true → at_or_below b c ≡ true → at_or_below a c ≡ true
 at_or_below-trans a b c h k = implied (at_or_below b c) _ (implied (at_or_below a b) _ (every3-at (λ a b c. not (at_or_below a b) || (not (at_or_below b c) || at_or_below a c)) refl a b c) h) k
 
+-- the order is antisymmetric
 pub at_or_below-antisym : (a b : Mode) → at_or_below a b ≡ true → at_or_below b a ≡ true → a ≡ b
 at_or_below-antisym a b h k = same_code a b ((Decides-eqb (code_of a) (code_of b)).0 (implied (at_or_below b a) _ (implied (at_or_below a b) _ (every2-at (λ a b. not (at_or_below a b) || (not (at_or_below b a) || eqb (code_of a) (code_of b))) refl a b) h) k))
 
+-- modes in order are so by the table
 pub order-tests : {a b : Mode} → IsAtOrBelow a b → at_or_below a b ≡ true
 order-tests {a} same = at_or_below-refl a
 order-tests {a} {b = c} (chain {b = b} s r) = at_or_below-trans a b c (directly-tests s) (order-tests r)
 
--- a chain from each mode up to the next ones
+-- modes in order by the table are so: a chain leads up from one to the other
 pub order-from : (a b : Mode) → at_or_below a b ≡ true → IsAtOrBelow a b
 order-from NL NL h = same
 order-from NL IS h = chain nl_is same
@@ -58,6 +63,7 @@ order-from SIX _ h = absurd (cc)
 order-from X X h = same
 order-from X _ h = absurd (cc)
 
+-- the table decides the order
 pub order_decides : (a b : Mode) → Decides (at_or_below a b) (IsAtOrBelow a b)
 order_decides a b = (order-from a b, order-tests)
 
@@ -69,7 +75,7 @@ sup_least a b m e = rw e (record {
   least = λ n h k. order-from (sup_of a b) n (implied (at_or_below b n) _ (implied (at_or_below a n) _ (every3-at (λ a b n. not (at_or_below a n) || (not (at_or_below b n) || at_or_below (sup_of a b) n)) refl a b n) (order-tests h)) (order-tests k));
 })
 
--- and no other mode is
+-- no other mode is a least upper bound
 pub sup_only : (a b m : Mode) → IsLeastUpperBound a b m → m ≡ sup_of a b
 sup_only a b m h =
     let s = sup_least a b (sup_of a b) refl in

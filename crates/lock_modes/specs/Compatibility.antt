@@ -3,7 +3,7 @@ use Rattle.std.specs.Prelude.{Bool, true, false, ◌⊎◌}
 use Rattle.lock_modes.specs.declared.Mode.{Mode}
 use Rattle.lock_modes.specs.declared.Mode.TheVariants.{NL, IS, IX, S, SIX, X}
 
--- the pairs of modes that go together, each in one order
+-- the compatible pairs, each in one order
 pub data IsListed : Mode → Mode → Type 0 where
   nl_any : {b : Mode} → IsListed NL b
   is_is : IsListed IS IS
@@ -13,11 +13,11 @@ pub data IsListed : Mode → Mode → Type 0 where
   ix_ix : IsListed IX IX
   s_s : IsListed S S
 
--- a mode that is asked may be granted beside one that is granted: the pair is listed in this order or the other
+-- the asked mode may be granted beside the granted one: the pair is listed, in one order or the other
 abbrev pub IsCompatible : Mode → Mode → Type 0
 IsCompatible asked granted = IsListed asked granted ⊎ IsListed granted asked
 
--- the same as a table that computes
+-- IsCompatible as a table that computes
 abbrev pub are_compatible : Mode → Mode → Bool
 are_compatible NL _ = true
 are_compatible _ NL = true

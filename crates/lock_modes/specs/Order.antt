@@ -1,9 +1,9 @@
--- The order of the modes, by Gray, Lorie, Putzolu and Traiger (1976): what is higher gives more.
+-- The order of the modes, by Gray, Lorie, Putzolu and Traiger (1976). A higher mode gives more access.
 use Rattle.std.specs.Prelude.{Bool, true, false}
 use Rattle.lock_modes.specs.declared.Mode.{Mode}
 use Rattle.lock_modes.specs.declared.Mode.TheVariants.{NL, IS, IX, S, SIX, X}
 
--- each mode and the modes that stand directly above it
+-- each mode, and the modes directly above it
 pub data IsDirectlyBelow : Mode → Mode → Type 0 where
   nl_is : IsDirectlyBelow NL IS
   is_ix : IsDirectlyBelow IS IX
@@ -12,12 +12,12 @@ pub data IsDirectlyBelow : Mode → Mode → Type 0 where
   s_six : IsDirectlyBelow S SIX
   six_x : IsDirectlyBelow SIX X
 
--- the two are the same, or a chain of such pairs leads up from the first to the second
+-- the first mode is at or below the second: the two are the same, or a chain of such pairs leads up
 pub data IsAtOrBelow : Mode → Mode → Type 0 where
   same : {a : Mode} → IsAtOrBelow a a
   chain : {a b c : Mode} → IsDirectlyBelow a b → IsAtOrBelow b c → IsAtOrBelow a c
 
--- the same as a table that computes
+-- IsAtOrBelow as a table that computes
 abbrev pub at_or_below : Mode → Mode → Bool
 at_or_below NL _ = true
 at_or_below IS NL = false
@@ -36,7 +36,7 @@ at_or_below SIX _ = false
 at_or_below X X = true
 at_or_below X _ = false
 
--- m is at or above both a and b, and at or below every mode that is
+-- m is at or above a and b, and at or below every other mode that is
 pub record IsLeastUpperBound (a b m : Mode) : Type 0 where
   pub left : IsAtOrBelow a m
   pub right : IsAtOrBelow b m
@@ -63,7 +63,7 @@ sup_of SIX X = X
 sup_of SIX _ = SIX
 sup_of X _ = X
 
--- what a lock in this mode needs on the parent, at least
+-- the weakest mode in which the parent has to be held for a lock in this mode
 abbrev pub need_of : Mode → Mode
 need_of NL = NL
 need_of IS = IS

@@ -1,4 +1,4 @@
-//! What holds of all modes: each law is a function that does nothing, and its contract is the law.
+//! The laws of all modes. Each is the contract of a function with an empty body.
 
 ghost use Rattle.std.specs.Prelude.{◌≡◌, ◌≢◌, ◌≤◌, ◌↔◌, List, true, All, Any, bit_and};
 ghost use Rattle.std.specs.Ordering.{nat_cmp};
@@ -8,33 +8,34 @@ ghost use Rattle.lock_modes.specs.Order.{IsAtOrBelow, at_or_below, IsLeastUpperB
 ghost use Rattle.lock_modes.specs.Compatibility.{IsCompatible, are_compatible};
 ghost use Rattle.lock_modes.specs.Codes.{code_of, mask_of, union_of};
 
-/// Each table that computes says what its relation says, and two modes have one least upper bound.
+/// Each table that computes agrees with its relation. Every two modes have exactly one least upper bound.
 pub fn tables_agree()
     ensures order { (low high : ModeValue) → IsAtOrBelow low high ↔ (at_or_below low high ≡ true) }
     ensures compatible { (asked granted : ModeValue) → IsCompatible asked granted ↔ (are_compatible asked granted ≡ true) }
     ensures sup { (a b bound : ModeValue) → IsLeastUpperBound a b bound ↔ (bound ≡ sup_of a b) }
 {}
 
-/// Modes are sorted by their codes, and so in a line that extends their order.
+/// Modes are sorted by code, and the codes extend the order of the modes.
 pub fn order_extends()
     ensures codes { (a b : ModeValue) → derived.cmp a b ≡ nat_cmp (code_of a) (code_of b) }
     ensures extends { (low high : ModeValue) → IsAtOrBelow low high → code_of low ≤ code_of high }
 {}
 
-/// It makes no difference which of two modes is asked and which is granted. That is a fact of these six
-/// modes alone, which an update mode would end: so what rests on it cites it under this name.
+/// Compatibility is symmetric. This holds for these six modes, and an update mode would end it, so whatever needs it
+/// cites this law.
 pub fn compatible_is_symmetric()
     ensures { (a b : ModeValue) → IsCompatible a b → IsCompatible b a }
 {}
 
-/// One test of a mask tells whether a mode goes with all modes of a column.
+/// One test of a mask against the bitwise or of a column's codes tells whether the mode is compatible with every mode
+/// of the column.
 pub fn columns_meet_masks()
     ensures fits { (target : ModeValue) (column : List ModeValue) → (bit_and (mask_of target) (union_of column) ≡ 0) ↔ All (IsCompatible target) column }
     ensures conflicts { (target : ModeValue) (column : List ModeValue) → (bit_and (mask_of target) (union_of column) ≢ 0) ↔ Any (λ granted. ¬ IsCompatible target granted) column }
 {}
 
-/// What a mode needs of the parent is at most the mode itself and rises with it, and no two needs
-/// conflict: transactions meet at a parent only in modes that go together.
+/// What a mode needs of the parent is at or below the mode, rises with it, and is compatible with every other need. So
+/// two transactions that hold only what they need on a parent never conflict there.
 pub fn needs_go_together()
     ensures below { (m : ModeValue) → IsAtOrBelow (need_of m) m }
     ensures rises { (low high : ModeValue) → IsAtOrBelow low high → IsAtOrBelow (need_of low) (need_of high) }

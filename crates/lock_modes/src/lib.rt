@@ -1,4 +1,4 @@
-//! The lowest layer: the six lock modes, their order, which of them go together, and how they are written.
+//! The six lock modes: their order, which are compatible, what they need of the parent, and their codes and names.
 #![tactic(auto)]
 
 ghost use Rattle.std.specs.Prelude.{◌≡◌, ◌↔◌, IsTrue, bit_and, bit_or};
@@ -9,27 +9,27 @@ ghost use Rattle.lock_modes.specs.Codes.{code_of, mode_of_code, mask_of, name_of
 
 pub mod laws;
 
-/// A lock mode of Gray, Lorie, Putzolu and Traiger (1976). Modes stand in the order of their codes, so
-/// sorts and maps put a mode after those below it.
+/// A lock mode of Gray, Lorie, Putzolu and Traiger (1976). `Ord` compares codes, so a mode comes after every mode below
+/// it.
 #[derive(Clone, Copy, Debug, PartialEq, Eq, PartialOrd, Ord, Hash)]
 pub enum Mode {
     /// No lock.
     NL,
-    /// Intention to share: the holder takes S or IS locks below.
+    /// Intention share: the holder takes IS and S locks below.
     IS,
-    /// Intention to write: the holder takes locks of any mode below.
+    /// Intention exclusive: the holder takes locks of any mode below.
     IX,
-    /// Share: read access here and to all below.
+    /// Share: read access to the resource and everything below.
     S,
-    /// Share, with the intention to write: S and IX at once.
+    /// Share with intention exclusive: S and IX together.
     SIX,
-    /// Exclusive: write access here and to all below.
+    /// Exclusive: write access to the resource and everything below.
     X,
 }
 
 impl Mode {
-    /// The mode as bits, for columns that are scanned as bytes. The or of two codes is the code of the
-    /// modes' least upper bound. This project's own choice.
+    /// The mode as bits, for columns that are scanned as bytes. The bitwise or of two codes is the code of their least
+    /// upper bound. The codes are this project's own choice.
     #[inline]
     pub fn code(self) -> u8
         ensures { result ≡ code_of self }
@@ -44,7 +44,7 @@ impl Mode {
         }
     }
 
-    /// Reads a code back. `None` for each byte that is the code of no mode.
+    /// Returns the mode with this code, `None` if no mode has it.
     #[inline]
     pub fn from_code(code: u8) -> Option<Mode>
         ensures { (m : ModeValue) → (result ≡ Some m) ↔ (code ≡ code_of m) }
@@ -60,8 +60,8 @@ impl Mode {
         }
     }
 
-    /// Reads a code of a column back, where no other bytes stand. NL for a byte that is the code of no
-    /// mode, so that no caller has to say what can't be.
+    /// Returns the mode with this code, NL if no mode has it. For columns that hold codes alone, so that a caller has
+    /// no impossible case to handle.
     #[inline]
     pub fn from_code_or_nl(code: u8) -> Mode
         ensures { result ≡ mode_of_code code }
@@ -72,8 +72,8 @@ impl Mode {
         }
     }
 
-    /// The bits that the mode refuses in the codes of others: a whole column is tested by one mask
-    /// against the or of its codes. This project's own choice.
+    /// The bits that meet the codes of exactly the modes that conflict with this one. One test of the mask against the
+    /// bitwise or of a column's codes tests the whole column. The masks are this project's own choice.
     #[inline]
     pub fn conflict_mask(self) -> u8
         ensures { result ≡ mask_of self }
@@ -88,7 +88,7 @@ impl Mode {
         }
     }
 
-    /// Whether a transaction may get a mode while another one holds a mode on the same resource, by the
+    /// Whether `asked` may be granted while another transaction holds the resource in `granted`, by the compatibility
     /// table of Gray, Lorie, Putzolu and Traiger (1976).
     #[inline]
     pub fn compatible(asked: Mode, granted: Mode) -> bool
@@ -99,8 +99,8 @@ impl Mode {
         asked.conflict_mask() & granted.code() == 0
     }
 
-    /// The weakest mode that gives all that either of two modes gives. A conversion asks for it, by Gray,
-    /// Lorie, Putzolu and Traiger (1976).
+    /// The least upper bound: the weakest mode that covers both. The target of a conversion, by Gray, Lorie, Putzolu
+    /// and Traiger (1976).
     #[inline]
     pub fn sup(self, other: Mode) -> Mode
         ensures value { result ≡ sup_of self other }
@@ -108,13 +108,13 @@ impl Mode {
         ensures code { code_of result ≡ bit_or (code_of self) (code_of other) }
     {
         match (self, other) {
-            // of these two alone neither is below the other
+            // only of IX and S is neither at or below the other
             (Mode::IX, Mode::S) | (Mode::S, Mode::IX) => Mode::SIX,
             _ => self.max(other),
         }
     }
 
-    /// Whether holding this mode gives all that the other one would.
+    /// Whether the other mode is at or below this one, so that a holder of this mode needs no lock in the other.
     #[inline]
     pub fn covers(self, other: Mode) -> bool
         ensures value { result ≡ at_or_below other self }
@@ -124,9 +124,9 @@ impl Mode {
         self.code() | other.code() == self.code()
     }
 
-    /// The weakest mode to hold on the parent before this one is asked. The intention modes are those of
-    /// Gray, Lorie, Putzolu and Traiger (1976); that any mode above them serves too is this project's
-    /// own choice.
+    /// The weakest mode in which the parent has to be held before this mode may be requested. The intention modes are
+    /// those of Gray, Lorie, Putzolu and Traiger (1976). That any mode at or above them will do is this project's own
+    /// choice.
     #[inline]
     pub fn parent_need(self) -> Mode
         ensures { result ≡ need_of self }
@@ -138,7 +138,7 @@ impl Mode {
         }
     }
 
-    /// The name that traces, histories and messages write.
+    /// Returns the name that traces, histories and messages write.
     pub fn name(self) -> &'static str
         ensures { result.now ≡ name_of self }
     {
@@ -152,7 +152,7 @@ impl Mode {
         }
     }
 
-    /// Reads a name back. It has to be exact: upper case, with nothing before or after it.
+    /// Returns the mode of this name. `None` if the text isn't exactly a name, in upper case.
     pub fn parse(text: &str) -> Option<Mode>
         ensures { (m : ModeValue) → (result ≡ Some m) ↔ (text.now ≡ name_of m) }
     {

@@ -14,7 +14,7 @@ use Rattle.lock_rules.proofs.Lists.{same_path-refl, same_path-true, times-none, 
 use Rattle.lock_rules.proofs.Alters.{Alters, queue-alters, request-alters, waits_for-alters, NoCircle, beside, walk-wider}
 use Rattle.lock_rules.proofs.Sound.{UnfitAt, head-request}
 
--- the request of the session
+-- the request of the session for r in mode m
 abbrev pub new : ℕ → List ℕ → Mode → Claim
 new s r m = record { session = s; resource = r; mode = m }
 
@@ -22,10 +22,11 @@ new s r m = record { session = s; resource = r; mode = m }
 pub back : (s : ℕ) (r : List ℕ) (m : Mode) (t : Table) → request_of s t.requests ≡ None → Alters s (with_request s r m t) t
 back s r m t n = record { requests = sym (claims_but-push s t.requests (new s r m) n refl); others = λ u x k. refl; order = λ o. o }
 
--- who had no request has one
+-- a request appended for a session without one leaves each session one at most
 pub once-push : (s : ℕ) (r : List ℕ) (m : Mode) (qs : List Claim) → IsOnce qs → request_of s qs ≡ None → IsOnce (qs ++ new s r m ∷ [])
 once-push s r m qs o n u = grind (arith, nat_tests, times-append u qs (new s r m ∷ []), times-none s qs n, o u)
 
+-- a request that begins to wait keeps the invariant, if its target is at or above the held mode and obeys the parent rule
 pub begins-sound : (s : ℕ) (r : List ℕ) (m : Mode) (t : Table) → IsSound t → request_of s t.requests ≡ None → at_or_below (mode_or_nothing (held_mode t s r)) m ≡ true → Stands t s r m → IsSound (with_request s r m t)
 begins-sound s r m t i n up under = record {
   order = i.order;
@@ -45,7 +46,7 @@ begins-sound s r m t i n up under = record {
     own : (u : ℕ) (q : Claim) → request_of u (t.requests ++ new s r m ∷ []) ≡ Some q → u ≡ s → (u ≡ s) × (new s r m ≡ q)
     own u q e f = let g = request_of-push s t.requests (new s r m) n refl in (f, cc)
 
--- no circle goes beside the session that begins to wait
+-- a request that begins to wait makes no cycle that avoids its session
 pub begins-beside : (s : ℕ) (r : List ℕ) (m : Mode) (t : Table) → request_of s t.requests ≡ None → NoCircle (waits_for t) → NoCircle (beside s (waits_for (with_request s r m t)))
 begins-beside s r m t n none a ws walk = none a ws (walk-wider (beside s (waits_for (with_request s r m t))) (waits_for t) old a ws a walk)
   where
@@ -55,15 +56,17 @@ begins-beside s r m t n none a ws walk = none a ws (walk-wider (beside s (waits_
         let d = and_parts (not (eqb i s)) (not (eqb u s)) p.1 in
         waits_for-alters s (with_request s r m t) t (back s r m t n) i u (not-true (eqb i s) d.0) (not-true (eqb u s) d.1) ∙ p.0
 
+-- a filter keeps an appended claim that passes its test
 filter-in : (p : Claim → Bool) (xs : List Claim) (x : Claim) → p x ≡ true → filter p (xs ++ x ∷ []) ≡ filter p xs ++ x ∷ []
 filter-in p [] x h = ap (λ (b : Bool). cond b (x ∷ []) []) h
 filter-in p (y ∷ xs) x h = grind (arith, filter-in p xs x h, cases_Bool (p y))
 
+-- a filter drops an appended claim that fails its test
 filter-out : (p : Claim → Bool) (xs : List Claim) (x : Claim) → p x ≡ false → filter p (xs ++ x ∷ []) ≡ filter p xs
 filter-out p [] x h = ap (λ (b : Bool). cond b (x ∷ []) []) h
 filter-out p (y ∷ xs) x h = grind (arith, filter-out p xs x h, cases_Bool (p y))
 
--- a fresh request stands last
+-- a fresh request is last in the queue
 pub queue-fresh : (s : ℕ) (r : List ℕ) (m : Mode) (t : Table) → is_some (held_mode t s r) ≡ false → queue (with_request s r m t) r ≡ queue t r ++ new s r m ∷ []
 queue-fresh s r m t h =
     let p : Claim → Bool = λ (q : Claim). same_path q.resource r && is_some (mode_in q.session r t.held) in
@@ -72,7 +75,7 @@ queue-fresh s r m t h =
     let e' : filter p' (t.requests ++ new s r m ∷ []) ≡ filter p' t.requests ++ new s r m ∷ [] = filter-in p' t.requests (new s r m) (and_from (same_path r r) (not (is_some (mode_in s r t.held))) (same_path-refl r) (ap not h)) in
     ap (λ (ws : List Claim). ws ++ filter p' (t.requests ++ new s r m ∷ [])) e ∙ (ap (λ (ws : List Claim). filter p t.requests ++ ws) e' ∙ sym (append_assoc (filter p t.requests) (filter p' t.requests) (new s r m ∷ [])))
 
--- a conversion stands behind the conversions and before the fresh requests
+-- a conversion is queued behind the conversions and before the fresh requests
 pub queue-converted : (s : ℕ) (r : List ℕ) (m : Mode) (t : Table) → is_some (held_mode t s r) ≡ true → queue (with_request s r m t) r ≡ conversions t r ++ new s r m ∷ fresh_requests t r
 queue-converted s r m t h =
     let p : Claim → Bool = λ (q : Claim). same_path q.resource r && is_some (mode_in q.session r t.held) in
@@ -81,7 +84,7 @@ queue-converted s r m t h =
     let e' : filter p' (t.requests ++ new s r m ∷ []) ≡ filter p' t.requests = filter-out p' t.requests (new s r m) (ap (λ (b : Bool). same_path r r && not b) h ∙ and_right (same_path r r) false refl) in
     ap (λ (ws : List Claim). ws ++ filter p' (t.requests ++ new s r m ∷ [])) e ∙ (ap (λ (ws : List Claim). (filter p t.requests ++ new s r m ∷ []) ++ ws) e' ∙ append_assoc (filter p t.requests) (new s r m ∷ []) (filter p' t.requests))
 
--- elsewhere the queues stay
+-- the queues of other resources stay
 pub queue-beside : (s : ℕ) (r x : List ℕ) (m : Mode) (t : Table) → same_path r x ≡ false → queue (with_request s r m t) x ≡ queue t x
 queue-beside s r x m t h =
     let p : Claim → Bool = λ (q : Claim). same_path q.resource x && is_some (mode_in q.session x t.held) in
@@ -90,6 +93,7 @@ queue-beside s r x m t h =
     let e' : filter p' (t.requests ++ new s r m ∷ []) ≡ filter p' t.requests = filter-out p' t.requests (new s r m) (ap (λ (b : Bool). b && not (is_some (mode_in s x t.held))) h) in
     ap (λ (ws : List Claim). ws ++ filter p' (t.requests ++ new s r m ∷ [])) e ∙ ap (λ (ws : List Claim). filter p t.requests ++ ws) e'
 
+-- a request that isn't granted at once leaves no head of a queue that fits
 pub begins-unfit : (s : ℕ) (r : List ℕ) (m : Mode) (t : Table) → IsSound t → IsSound (with_request s r m t) → request_of s t.requests ≡ None → is_granted_at_once t s r m ≡ false → ((x : List ℕ) → UnfitAt t x) → (x : List ℕ) → UnfitAt (with_request s r m t) x
 begins-unfit s r m t i i' n g h x q qs e = elim (cases_Bool (eqb q.session s)) [
   | inr k ↦ h x q (claims_but s qs) (queue-alters s (with_request s r m t) t (back s r m t n) x ∙ (ap (claims_but s) e ∙ ap (λ (b : Bool). cond (not b) (q ∷ claims_but s qs) (claims_but s qs)) k))

@@ -20,10 +20,11 @@ use Rattle.lock_rules.proofs.Steps.{all-pass}
 use Rattle.lock_rules.proofs.Histories.{state_after-append}
 
 module _ (s : ℕ) (x : Transaction) (doomed : x.doomed ≡ true) where
-  -- a doom of what is doomed changes nothing
+  -- a doom of a doomed transaction changes nothing
   doom-again : doom (Some x) ≡ Some x
   doom-again = λ i. Some (record { number = x.number; doomed = (sym doomed) i })
 
+  -- another victim leaves the doomed transaction
   victim-begun : (v : ℕ) (st : State) → st.begun s ≡ Some x → (after_victim v st).begun s ≡ Some x
   victim-begun v st e = go (eqb s v) refl
     where
@@ -31,6 +32,7 @@ module _ (s : ℕ) (x : Transaction) (doomed : x.doomed ≡ true) where
       go true f = ap (λ (u : ℕ). doom (st.begun u)) (sym ((Decides-eqb s v).0 f)) ∙ (ap doom e ∙ doom-again)
       go false f = e
 
+  -- the choice of victims leaves the doomed transaction
   settled-begun : (n u : ℕ) (st : State) → st.begun s ≡ Some x → (after_victims n u st).begun s ≡ Some x
   settled-begun zero u st e = e
   settled-begun (suc n) u st e = go (reaches st.table u u) (settled-begun n u (after_victim (victim_of st u) st) (victim-begun (victim_of st u) st e))
@@ -39,6 +41,7 @@ module _ (s : ℕ) (x : Transaction) (doomed : x.doomed ≡ true) where
       go true k = k
       go false k = e
 
+  -- a request leaves the doomed transaction
   asked-begun : (st : State) (u : ℕ) (r : List ℕ) (m : Mode) → st.begun s ≡ Some x → (after_asking st u r m).begun s ≡ Some x
   asked-begun st u r m e = go (is_held (held_mode st.table u r) m) (is_granted_at_once st.table u r m)
     where
@@ -47,7 +50,7 @@ module _ (s : ℕ) (x : Transaction) (doomed : x.doomed ≡ true) where
       go false true = e
       go false false = settled-begun (length st.table.requests + 2) u (with_table (with_request u r m st.table) st) e
 
-  -- another session's transaction begins or ends
+  -- the begin or end of another session's transaction leaves the doomed one
   other-begun : (st : State) (u : ℕ) (o : Option Transaction) → u ≢ s → st.begun s ≡ Some x → cond (eqb s u) o (st.begun s) ≡ Some x
   other-begun st u o n e = go (eqb s u) refl
     where
@@ -55,7 +58,7 @@ module _ (s : ℕ) (x : Transaction) (doomed : x.doomed ≡ true) where
       go true f = absurd (n (sym ((Decides-eqb s u).0 f)))
       go false f = e
 
-  -- who has a transaction has begun it, and who is doomed can't commit
+  -- every call but its own abort leaves it: its session can't begin another, and can't commit it
   act-begun : (st : State) (u : ℕ) (c : Call) → first_failing (tests st u c) ≡ None → (u ≡ s → c ≢ Abort) → st.begun s ≡ Some x → (act st u c).state.begun s ≡ Some x
   act-begun st u Begin h n e = other-begun st u (Some (record { number = st.count + 1; doomed = false })) (λ f. opened f) e
     where
@@ -71,6 +74,7 @@ module _ (s : ℕ) (x : Transaction) (doomed : x.doomed ≡ true) where
       victim f = let p = all-pass (tests st u Commit) h in true≢false (ap (λ (w : ℕ). is_doomed st w) f ∙ (ap doomed_in e ∙ doomed)) p.1.1.0
   act-begun st u Abort h n e = other-begun st u None (λ f. n f refl) e
 
+  -- every call but its session's abort leaves the doomed transaction, refused or not
   step-begun : (st : State) (u : ℕ) (c : Call) → (u ≡ s → c ≢ Abort) → st.begun s ≡ Some x → (step st u c).state.begun s ≡ Some x
   step-begun st u c n e = go (first_failing (tests st u c)) refl
     where
@@ -78,9 +82,11 @@ module _ (s : ℕ) (x : Transaction) (doomed : x.doomed ≡ true) where
       go None h = act-begun st u c h n e
       go (Some w) h = e
 
+  -- a list of calls without its session's abort leaves the doomed transaction
   after-begun : (es : List Entry) (st : State) → All (IsNoAbort s) es → st.begun s ≡ Some x → (state_after st es).begun s ≡ Some x
   after-begun [] st n e = e
   after-begun (f ∷ es) st n e = after-begun es (step st f.session f.call).state (All-tail (IsNoAbort s) f es n) (step-begun st f.session f.call (All-head (IsNoAbort s) f es n) e)
 
+-- a doom stands, as the law states it
 pub doom-stands : (front rest : List Entry) → DoesDoomStand front rest
 doom-stands front rest s x e d n = ap (λ (st : State). st.begun s) (state_after-append front rest (state_of [])) ∙ after-begun s x d rest (state_of front) n e

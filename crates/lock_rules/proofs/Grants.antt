@@ -19,19 +19,20 @@ use Rattle.lock_rules.proofs.Lists.{same_path_tells}
 use Rattle.lock_rules.proofs.Alters.{true≢false}
 use Rattle.lock_rules.proofs.Marks.{some-above}
 use Rattle.lock_rules.proofs.Sound.{eqb-swap}
-use Rattle.lock_rules.proofs.Cuts.{IsAtRest, released-rises, ended-rises}
+use Rattle.lock_rules.proofs.Cuts.{IsQuiescent, released-rises, ended-rises}
 use Rattle.lock_rules.proofs.Steps.{all-pass, is-none, lock-kept, convert-kept, step-lawful, state-lawful}
 use Rattle.lock_rules.proofs.Histories.{state_after-append}
 
--- what a session holds on a resource is no less in the second table
+-- the session's lock on r didn't fall
 abbrev pub IsHeldOn : ℕ → List ℕ → Table → Table → Type 0
 IsHeldOn s r t t' = at_or_below (mode_or_nothing (held_mode t s r)) (mode_or_nothing (held_mode t' s r)) ≡ true
 
--- the call doesn't give the resource back
+-- the call doesn't give up the lock on r
 abbrev Keeps : List ℕ → Call → Type 0
 Keeps r c = (c ≢ Commit) × (c ≢ Abort) × (c ≢ Release r)
 
-act-stands : (st : State) (u : ℕ) (c : Call) → IsAtRest st.table → first_failing (tests st u c) ≡ None → (s : ℕ) (r : List ℕ) → (u ≡ s → Keeps r c) → IsHeldOn s r st.table (act st u c).state.table
+-- a call that passes its tests lowers a lock only if its session gives it up
+act-stands : (st : State) (u : ℕ) (c : Call) → IsQuiescent st.table → first_failing (tests st u c) ≡ None → (s : ℕ) (r : List ℕ) → (u ≡ s → Keeps r c) → IsHeldOn s r st.table (act st u c).state.table
 act-stands st u Begin i h s r k = at_or_below-refl (mode_or_nothing (held_mode st.table s r))
 act-stands st u (Lock x m) i h s r k = (lock-kept st u x m i h).rises s r
 act-stands st u (Convert x m) i h s r k = (convert-kept st u x m i h).rises s r
@@ -54,25 +55,28 @@ act-stands st u Abort i h s r k = elim (cases_Bool (eqb u s)) [
   | inl e ↦ absurd ((k ((Decides-eqb u s).0 e)).1 refl)
 ]
 
-step-stands : (st : State) (u : ℕ) (c : Call) → IsAtRest st.table → (s : ℕ) (r : List ℕ) → (u ≡ s → Keeps r c) → IsHeldOn s r st.table (step st u c).state.table
+-- a call lowers a lock only if its session gives it up
+step-stands : (st : State) (u : ℕ) (c : Call) → IsQuiescent st.table → (s : ℕ) (r : List ℕ) → (u ≡ s → Keeps r c) → IsHeldOn s r st.table (step st u c).state.table
 step-stands st u c i s r k = go (first_failing (tests st u c)) refl
   where
     go : (o : Option Why) → first_failing (tests st u c) ≡ o → IsHeldOn s r st.table (outcome_of o st u c).state.table
     go None e = act-stands st u c i e s r k
     go (Some w) e = at_or_below-refl (mode_or_nothing (held_mode st.table s r))
 
-after-stands : (es : List Entry) (st : State) → IsAtRest st.table → (s : ℕ) (r : List ℕ) → All (DoesKeepLock s r) es → IsHeldOn s r st.table (state_after st es).table
+-- a list of calls lowers a lock only if its session gives it up
+after-stands : (es : List Entry) (st : State) → IsQuiescent st.table → (s : ℕ) (r : List ℕ) → All (DoesKeepLock s r) es → IsHeldOn s r st.table (state_after st es).table
 after-stands [] st i s r k = at_or_below-refl (mode_or_nothing (held_mode st.table s r))
 after-stands (e ∷ es) st i s r k =
     at_or_below-trans (mode_or_nothing (held_mode st.table s r)) (mode_or_nothing (held_mode (step st e.session e.call).state.table s r)) (mode_or_nothing (held_mode (state_after (step st e.session e.call).state es).table s r))
     (step-stands st e.session e.call i s r (All-head (DoesKeepLock s r) e es k))
     (after-stands es (step st e.session e.call).state (step-lawful st e.session e.call i) s r (All-tail (DoesKeepLock s r) e es k))
 
--- what is no less than a mode that is something is held
+-- a mode at or above one that isn't NL is held
 pub held-on : (k : Mode) (o : Option Mode) → is_nothing k ≡ false → at_or_below k (mode_or_nothing o) ≡ true → (l : Mode) × (o ≡ Some l) × (at_or_below k l ≡ true)
 held-on k None n h = absurd (true≢false h (some-above k n))
 held-on k (Some l) n h = (l, refl, h)
 
+-- a grant stands, as the law states it
 pub grant-stands : (front rest : List Entry) → DoesGrantStand front rest
 grant-stands front rest s r k e all =
     let i = state-lawful front in

@@ -5,7 +5,7 @@ use Rattle.lock_rules.specs.Legal.{state_of}
 use Rattle.lock_rules.specs.Lawful.{IsLawfulState}
 use Rattle.lock_rules.proofs.Sound.{stands-under}
 use Rattle.lock_rules.proofs.Once.{holders-listed, locks-once, one-request}
-use Rattle.lock_rules.proofs.Few.{locks-few}
+use Rattle.lock_rules.proofs.LockCounts.{locks-bounded}
 use Rattle.lock_rules.proofs.Children.{children-held}
 use Rattle.lock_rules.proofs.Access.{access-compatible}
 use Rattle.lock_rules.proofs.Steps.{state-lawful}
@@ -19,13 +19,14 @@ use Rattle.lock_rules.proofs.Refusals.{refusals-meant, others-accepted, abort-ne
 use Rattle.lock_rules.proofs.Sessions.{begin-opens, poll-tells}
 use Rattle.lock_rules.proofs.Taken.{release-one, commit-all, abort-all}
 
+-- every state that a history leads to is lawful
 pub lawful : (es : List Entry) → IsLawfulState (state_of es)
 lawful es = let i = state-lawful es in record {
   holders_listed = holders-listed (state_of es) i.sound.order;
   locks_once = locks-once (state_of es) i.sound.order;
   one_request = one-request (state_of es) i.sound.once;
-  locks_few = locks-few es;
-  fit_tells = fit-tells (state_of es) i.sound;
+  locks_bounded = locks-bounded es;
+  fit_exact = fit-tells (state_of es) i.sound;
   holders_compatible = holders-compatible (state_of es) i.sound;
   nobody_waits_needlessly = i.unfit;
   locks_under_parents = λ s r m h. stands-under (state_of es).table s r m (i.sound.held_under s r m h);
@@ -35,17 +36,17 @@ lawful es = let i = state-lawful es in record {
   no_circle = λ s c. i.no_circle s c.others c.walk;
   doomed_wait_for_nothing = state-idle es;
   owners_open = owners-open (state_of es) (state-numbered es);
-  numbers_apart = (state-numbered es).apart;
+  numbers_distinct = (state-numbered es).apart;
   numbers_counted = (state-numbered es).counted;
   victims_determined = determined (state_of es) (state-numbered es);
   victims_keep_their_locks = keep-theirs (state_of es) i.sound.once;
   dooms_promote = doom-promotes (state_of es);
-  refusals_meant = refusals-meant (state_of es) (locks-few es);
-  others_accepted = others-accepted (state_of es) (locks-few es);
-  abort_needs_transaction = abort-needs (state_of es) (locks-few es);
-  clear_commit_accepted = commit-accepted (state_of es) (locks-few es);
+  refusals_meant = refusals-meant (state_of es) (locks-bounded es);
+  others_accepted = others-accepted (state_of es) (locks-bounded es);
+  abort_needs_transaction = abort-needs (state_of es) (locks-bounded es);
+  clear_commit_accepted = commit-accepted (state_of es) (locks-bounded es);
   begin_opens = begin-opens (state_of es);
-  poll_tells = poll-tells (state_of es) (state-numbered es);
+  poll_reports = poll-tells (state_of es) (state-numbered es);
   locks_answered = lock-asks (state_of es);
   conversions_answered = convert-asks (state_of es);
   held_is_converted = lock-converts (state_of es);

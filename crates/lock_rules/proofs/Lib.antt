@@ -22,7 +22,7 @@ pub mod Doomed
 pub mod Children
 pub mod Access
 pub mod Once
-pub mod Few
+pub mod LockCounts
 pub mod States
 pub mod Requests
 pub mod Sessions

@@ -1,4 +1,4 @@
--- What stands once: each holder of a resource, each lock of a session, and the request of a session.
+-- A holder, a lock and a request each occur once.
 use Rattle.std.proofs.Common.{◌≡◌, ◌≢◌, ℕ, ◌+◌, ◌<◌, ◌≤◌, Bool, true, false, cond, eqb, ◌&&◌, inl, inr, List, [], ◌∷◌, ◌++◌, Some, None, refl, sym, ◌∙◌, ap, arith}
 use Rattle.std.specs.List.{All}
 use Rattle.std.proofs.lemmas.Bool.Decides.{nat_tests, Decides-eqb}
@@ -14,11 +14,13 @@ use Rattle.lock_rules.proofs.Lists.{seek, seek-after, mode_in-seek, times-append
 
 -- the holders of a resource
 
+-- holders in order by the test have rising session numbers
 ascend-rising : (hs : List (ℕ × Mode)) → ascend hs ≡ true → AreSessionsRising hs
 ascend-rising [] h = tt
 ascend-rising (a ∷ []) h = tt
 ascend-rising (a ∷ b ∷ hs) h = (grind (arith, nat_tests), ascend-rising (b ∷ hs) (and_parts (after a.0 (b ∷ hs)) (ascend (b ∷ hs)) h).1)
 
+-- a member of a list after i has a number greater than i
 after-member : (i u : ℕ) (m : Mode) (hs : List (ℕ × Mode)) → after i hs ≡ true → Member (u, m) hs → i < u
 after-member i u m [] h k = absurd k
 after-member i u m (a ∷ hs) h k = elim k [
@@ -26,6 +28,7 @@ after-member i u m (a ∷ hs) h k = elim k [
   | inr j ↦ let n = after-member i u m hs in grind (arith, nat_tests, n)
 ]
 
+-- a holder in an ordered list is found with its mode
 member-seek : (u : ℕ) (m : Mode) (hs : List (ℕ × Mode)) → ascend hs ≡ true → Member (u, m) hs → seek u hs ≡ Some m
 member-seek u m [] h k = absurd k
 member-seek u m (a ∷ hs) h k =
@@ -35,6 +38,7 @@ member-seek u m (a ∷ hs) h k =
       | inr j ↦ let n = after-member a.0 u m hs p.0 j in let r = member-seek u m hs p.1 j in grind (arith, nat_tests)
     ]
 
+-- a mode that is found for a session is of a holder in the list
 seek-member : (u : ℕ) (m : Mode) (hs : List (ℕ × Mode)) → seek u hs ≡ Some m → Member (u, m) hs
 seek-member u m [] h = absurd (cc)
 seek-member u m (a ∷ hs) h = go (eqb a.0 u) refl h (seek-member u m hs)
@@ -43,6 +47,7 @@ seek-member u m (a ∷ hs) h = go (eqb a.0 u) refl h (seek-member u m hs)
     go true e k next = let f : a.0 ≡ u = (Decides-eqb a.0 u).0 e in let g : a.1 ≡ m = cc in inl (λ i. (f i, g i))
     go false e k next = inr (next k)
 
+-- the holders of a resource are exactly the sessions that hold it, in order
 pub holders-listed : (st : State) → IsOrdered st.table.held → AreHoldersListed st
 holders-listed st o = record {
   rising = λ r. ascend-rising (holders r st.table.held) (o r);
@@ -54,7 +59,7 @@ holders-listed st o = record {
 
 -- the locks of a session
 
--- with one lock less in front the holders still ascend
+-- without the first lock the holders are still in order
 pub ordered-rest : (c : Claim) (cs : List Claim) → IsOrdered (c ∷ cs) → IsOrdered cs
 ordered-rest c cs o r = go (same_path c.resource r) (o r)
   where
@@ -62,20 +67,21 @@ ordered-rest c cs o r = go (same_path c.resource r) (o r)
     go true h = (and_parts (after c.session (holders r cs)) (ascend (holders r cs)) h).1
     go false h = h
 
--- behind a lock stand later holders of its resource
+-- behind a lock come only later holders of its resource
 pub later-behind : (r : List ℕ) (c : Claim) (cs : List Claim) → IsOrdered (c ∷ cs) → same_path c.resource r ≡ true → after c.session (holders r cs) ≡ true
 later-behind r c cs o p =
     let h : ascend ((c.session, c.mode) ∷ holders r cs) ≡ true = ap (λ (b : Bool). ascend (cond b ((c.session, c.mode) ∷ holders r cs) (holders r cs))) (sym p) ∙ o r in
     (and_parts (after c.session (holders r cs)) (ascend (holders r cs)) h).0
 
--- so its session holds no more of the resource
+-- behind a lock its session has no other on the resource
 pub none-behind : (c : Claim) (cs : List Claim) → IsOrdered (c ∷ cs) → mode_in c.session c.resource cs ≡ None
 none-behind c cs o = mode_in-seek c.session c.resource cs ∙ seek-after c.session (holders c.resource cs) (later-behind c.resource c cs o (same_path-refl c.resource))
 
--- the claim is the session's, and what it holds
+-- the claim is the session's, in the mode in which the session holds its resource
 abbrev IsLock : ℕ → Claim → List Claim → Type 0
 IsLock s c cs = (c.session ≡ s) × (mode_in s c.resource cs ≡ Some c.mode)
 
+-- a lock among the session's is what it holds
 member-lock : (s : ℕ) (c : Claim) (cs : List Claim) → IsOrdered cs → Member c (claims_of s cs) → IsLock s c cs
 member-lock s c [] o k = absurd k
 member-lock s c (x ∷ cs) o k = go (eqb x.session s) refl k (member-lock s c cs (ordered-rest x cs o)) (none-behind x cs o)
@@ -98,6 +104,7 @@ member-lock s c (x ∷ cs) o k = go (eqb x.session s) refl k (member-lock s c cs
         )
     go false e j next n = let r = next j in (r.0, let a = r.1 in grind (arith, nat_tests))
 
+-- what a session holds is among its locks
 lock-member : (s : ℕ) (c : Claim) (cs : List Claim) → IsLock s c cs → Member c (claims_of s cs)
 lock-member s c [] k = let h = k.1 in absurd (cc)
 lock-member s c (x ∷ cs) k = go (eqb x.session s) (same_path x.resource c.resource) refl refl k.1 (λ h. lock-member s c cs (k.0, h))
@@ -112,11 +119,12 @@ lock-member s c (x ∷ cs) k = go (eqb x.session s) (same_path x.resource c.reso
     go true false e f h next = inr (next h)
     go false b e f h next = next h
 
--- each of the list is of another resource than all behind it
+-- no two of these claims are on one resource
 abbrev AreApart : List Claim → Type 0
 AreApart [] = Unit {0}
 AreApart (c ∷ cs) = ((d : Claim) → Member d cs → d.resource ≢ c.resource) × AreApart cs
 
+-- no two locks of a session are on one resource
 claims-apart : (s : ℕ) (cs : List Claim) → IsOrdered cs → AreApart (claims_of s cs)
 claims-apart s [] o = tt
 claims-apart s (x ∷ cs) o = go (eqb x.session s) refl (claims-apart s cs (ordered-rest x cs o)) (none-behind x cs o)
@@ -131,11 +139,12 @@ claims-apart s (x ∷ cs) o = go (eqb x.session s) refl (claims-apart s cs (orde
     )
     go false e next n = next
 
+-- the element between two parts of a list is a member of it
 member-append : (front rest : List Claim) (c : Claim) → Member c (front ++ c ∷ rest)
 member-append [] rest c = inl refl
 member-append (x ∷ front) rest c = inr (member-append front rest c)
 
--- so each is of another resource than all others
+-- if no two claims are on one resource, each is on another than all the others
 apart-others : (front rest : List Claim) (c : Claim) → AreApart (front ++ c ∷ rest) → All (λ (d : Claim). d.resource ≢ c.resource) (front ++ rest)
 apart-others front rest c h = all (front ++ rest) (λ d k. others front h d k)
   where
@@ -148,6 +157,7 @@ apart-others front rest c h = all (front ++ rest) (λ d k. others front h d k)
     all [] h = All-nil (λ (d : Claim). d.resource ≢ c.resource)
     all (x ∷ xs) h = All-cons (λ (d : Claim). d.resource ≢ c.resource) x xs (h x (inl refl)) (all xs (λ d k. h d (inr k)))
 
+-- the locks of a session are exactly what it holds, each once
 pub locks-once : (st : State) → IsOrdered st.table.held → AreLocksOnce st
 locks-once st o = record {
   once = λ s front rest c e. apart-others front rest c (rw (← e) (claims-apart s st.table.held o));
@@ -159,6 +169,7 @@ locks-once st o = record {
 
 -- requests
 
+-- no session has two waiting requests
 pub one-request : (st : State) → IsOnce st.table.requests → IsOneRequestEach st
 one-request st o front rest q e =
     let n : times q.session (front ++ q ∷ rest) ≤ 1 = rw (← e) (o q.session) in

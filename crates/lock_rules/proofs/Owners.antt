@@ -1,4 +1,4 @@
--- Whoever holds or waits has a transaction, and open transactions have numbers of their own.
+-- Every session that holds a lock or waits has a transaction, and open transactions have different numbers.
 use Rattle.std.proofs.Common.{◌≡◌, ℕ, zero, suc, ◌+◌, ◌≤◌, Bool, true, false, cond, eqb, ◌⊎◌, inl, inr, List, [], ◌∷◌, ◌++◌, length, Option, Some, None, refl, sym, ◌∙◌, ap, arith, map}
 use Rattle.std.proofs.lemmas.Bool.{not-false, cases_Bool}
 use Rattle.std.specs.Prelude.{is_some}
@@ -22,6 +22,7 @@ use Rattle.lock_rules.proofs.Sound.{In-queue, granted-alters, no_more-alters}
 use Rattle.lock_rules.proofs.Cuts.{less-alters, less-held, left-alters, left-none, one_less}
 use Rattle.lock_rules.proofs.Steps.{all-pass, is-none}
 
+-- a change of v's locks keeps AllOpen if v passes the test whenever it holds a lock
 altered-open : (p : ℕ → Bool) (v : ℕ) (t t' : Table) → Alters v t t' → AllOpen p t → ((r : List ℕ) (m : Mode) → held_mode t' v r ≡ Some m → p v ≡ true) → AllOpen p t'
 altered-open p v t t' a i own = record {
   waiting = λ s q e. elim (cases_Bool (eqb s v)) [
@@ -34,9 +35,11 @@ altered-open p v t t' a i own = record {
   ];
 }
 
+-- a grant to a session that passes the test keeps AllOpen
 granted-open : (p : ℕ → Bool) (s : ℕ) (r : List ℕ) (m : Mode) (t : Table) → AllOpen p t → p s ≡ true → AllOpen p (after_grant s r m t)
 granted-open p s r m t i h = altered-open p s t (after_grant s r m t) (granted-alters s r m t) i (λ x k e. h)
 
+-- the session of a request in the list has a request
 In-some : (h : Claim) (xs : List Claim) → In h xs → (q : Claim) × (request_of h.session xs ≡ Some q)
 In-some h [] k = absurd k
 In-some h (x ∷ xs) k = go (eqb x.session h.session) refl k (In-some h xs)
@@ -46,6 +49,7 @@ In-some h (x ∷ xs) k = go (eqb x.session h.session) refl k (In-some h xs)
     go false e (inl f) next = absurd (true≢false ((Decides-eqb x.session h.session).1 (ap (λ (c : Claim). c.session) (sym f))) e)
     go false e (inr i) next = next i
 
+-- grants to sessions that pass the test keep AllOpen
 front-open : (p : ℕ → Bool) (qs : List Claim) (t : Table) → AllOpen p t → ((q : Claim) → In q qs → p q.session ≡ true) → AllOpen p (granted_while_fitting qs t)
 front-open p [] t i h = i
 front-open p (q ∷ qs) t i h = go (fits t q.session q.resource q.mode) (front-open p qs (after_grant q.session q.resource q.mode t) (granted-open p q.session q.resource q.mode t i (h q (inl refl))) (λ c k. h c (inr k)))
@@ -54,27 +58,32 @@ front-open p (q ∷ qs) t i h = go (fits t q.session q.resource q.mode) (front-o
     go true k = k
     go false k = i
 
+-- a promotion keeps AllOpen
 promoted-open : (p : ℕ → Bool) (r : List ℕ) (t : Table) → AllOpen p t → AllOpen p (after_promotion r t)
 promoted-open p r t i = front-open p (queue t r) t i (λ q k. let w = In-some q t.requests (In-queue t r q k).0 in i.waiting q.session w.0 w.1)
 
+-- promotions keep AllOpen
 all-open : (p : ℕ → Bool) (rs : List (List ℕ)) (t : Table) → AllOpen p t → AllOpen p (after_promotions rs t)
 all-open p [] t i = i
 all-open p (r ∷ rs) t i = all-open p rs (after_promotion r t) (promoted-open p r t i)
 
+-- cancelling a request keeps AllOpen
 cancelled-open : (p : ℕ → Bool) (v : ℕ) (t : Table) → AllOpen p t → AllOpen p (after_cancel v t)
 cancelled-open p v t i = all-open p (resource_of_request (request_of v t.requests)) (without_request v t) (altered-open p v t (without_request v t) (no_more-alters v t) i (λ r m e. i.holding v r m e))
 
+-- AllOpen holds of any weaker test
 wider-open : (p p' : ℕ → Bool) (t : Table) → ((s : ℕ) → p s ≡ true → p' s ≡ true) → AllOpen p t → AllOpen p' t
 wider-open p p' t h i = record { waiting = λ s q e. h s (i.waiting s q e); holding = λ s r m e. h s (i.holding s r m e) }
 
--- the numbers
+-- the numbers of transactions
 
--- the same transactions, though some may be doomed
+-- the same transactions with the same numbers; some may be doomed
 pub record SameNumbers (st st' : State) : Type 0 where
   pub count : st'.count ≡ st.count
   pub opened : (s : ℕ) → is_open st' s ≡ is_open st s
   pub number : (s : ℕ) → number_of st' s ≡ number_of st s
 
+-- IsNumbered holds of the same transactions over a table of their sessions
 numbered-same : (st st' : State) → SameNumbers st st' → IsNumbered st → AllOpen (is_open st) st'.table → IsNumbered st'
 numbered-same st st' m i a = record {
   owners = wider-open (is_open st) (is_open st') st'.table (λ s h. m.opened s ∙ h) a;
@@ -82,11 +91,13 @@ numbered-same st st' m i a = record {
   apart = λ s u h k e. i.apart s u (sym (m.opened s) ∙ h) (sym (m.opened u) ∙ k) (sym (m.number s) ∙ (e ∙ m.number u));
 }
 
+-- a doom closes no transaction and changes no number
 doomed-open : (b : Bool) (o o' : Option Transaction) → (b ≡ true → o' ≡ o) → (is_some (cond b (doom o) o') ≡ is_some o') × (number_in (cond b (doom o) o') ≡ number_in o')
 doomed-open false o o' h = (refl, refl)
 doomed-open true None o' h = (ap is_some (sym (h refl)), ap number_in (sym (h refl)))
 doomed-open true (Some t) o' h = (ap is_some (sym (h refl)), ap number_in (sym (h refl)))
 
+-- a victim leaves the transactions and their numbers
 victim-numbers : (v : ℕ) (st : State) → SameNumbers st (after_victim v st)
 victim-numbers v st = record {
   count = refl;
@@ -94,10 +105,11 @@ victim-numbers v st = record {
   number = λ s. (doomed-open (eqb s v) (st.begun v) (st.begun s) (λ e. ap st.begun ((Decides-eqb s v).0 e))).1;
 }
 
--- a victim keeps its number
+-- a victim keeps IsNumbered
 pub victim-numbered : (v : ℕ) (st : State) → IsNumbered st → IsNumbered (after_victim v st)
 victim-numbered v st i = numbered-same st (after_victim v st) (victim-numbers v st) i (cancelled-open (is_open st) v st.table i.owners)
 
+-- the choice of victims keeps IsNumbered
 settled-numbered : (n s : ℕ) (st : State) → IsNumbered st → IsNumbered (after_victims n s st)
 settled-numbered zero s st i = i
 settled-numbered (suc n) s st i = go (reaches st.table s s) (settled-numbered n s (after_victim (victim_of st s) st) (victim-numbered (victim_of st s) st i))
@@ -106,11 +118,11 @@ settled-numbered (suc n) s st i = go (reaches st.table s s) (settled-numbered n 
     go true k = k
     go false k = i
 
--- the same transactions over another table
+-- IsNumbered holds over another table of the same sessions
 pub retabled : (st : State) (t : Table) → IsNumbered st → AllOpen (is_open st) t → IsNumbered (with_table t st)
 retabled st t i a = record { owners = a; counted = i.counted; apart = i.apart }
 
--- who begins to wait has a transaction
+-- a request of a session that passes the test keeps AllOpen
 pub begins-open : (p : ℕ → Bool) (s : ℕ) (r : List ℕ) (m : Mode) (t : Table) → AllOpen p t → p s ≡ true → AllOpen p (with_request s r m t)
 begins-open p s r m t i h = record { waiting = λ u q e. waits t.requests u q e (λ c. i.waiting u c); holding = λ u x k e. i.holding u x k e }
   where
@@ -124,6 +136,7 @@ begins-open p s r m t i h = record { waiting = λ u q e. waits t.requests u q e 
         request_of-push_other u [] n = ap (λ (b : Bool). cond b (Some (record { session = s; resource = r; mode = m })) None) n
         request_of-push_other u (c ∷ qs) n = ap (λ (o : Option Claim). cond (eqb c.session u) (Some c) o) (request_of-push_other u qs n)
 
+-- a request of a session with a transaction keeps IsNumbered
 asked-numbered : (st : State) (s : ℕ) (r : List ℕ) (m : Mode) → IsNumbered st → is_open st s ≡ true → IsNumbered (after_asking st s r m)
 asked-numbered st s r m i h = go (is_held (held_mode st.table s r) m) (is_granted_at_once st.table s r m)
   where
@@ -132,6 +145,7 @@ asked-numbered st s r m i h = go (is_held (held_mode st.table s r) m) (is_grante
     go false true = retabled st (after_grant s r m st.table) i (granted-open (is_open st) s r m st.table i.owners h)
     go false false = settled-numbered (length st.table.requests + 2) s (with_table (with_request s r m st.table) st) (retabled st (with_request s r m st.table) i (begins-open (is_open st) s r m st.table i.owners h))
 
+-- the end of a transaction keeps IsNumbered
 ended-numbered : (st : State) (s : ℕ) → IsNumbered st → IsNumbered (with_begun s None (with_table (after_end s st.table) st))
 ended-numbered st s i =
     let p : ℕ → Bool = λ (u : ℕ). is_some (cond (eqb u s) None (st.begun u)) in
@@ -161,8 +175,7 @@ ended-numbered st s i =
         go true h = absurd (cc)
         go false h = (refl, h)
 
--- a new transaction has the greatest number
-
+-- a begin keeps IsNumbered, since the new transaction has the greatest number
 begin-numbered : (st : State) (s : ℕ) → IsNumbered st → is_open st s ≡ false → IsNumbered (act st s Begin).state
 begin-numbered st s i closed = record {
   owners = wider-open (is_open st) p st.table (λ u h. opened (eqb u s) u h) i.owners;
@@ -188,12 +201,14 @@ begin-numbered st s i closed = record {
     distinct false true u w f g h k e = absurd (omega (arith, i.counted u h))
     distinct false false u w f g h k e = i.apart u w h k e
 
+-- a release keeps IsNumbered
 released-numbered : (st : State) (s : ℕ) (r : List ℕ) → IsNumbered st → request_of s st.table.requests ≡ None → IsNumbered (with_table (after_release s r st.table) st)
 released-numbered st s r i n =
     retabled st (after_release s r st.table) i
     (promoted-open (is_open st) r (one_less s r st.table)
     (altered-open (is_open st) s st.table (one_less s r st.table) (less-alters s r st.table n) i.owners (λ x k e. i.owners.holding s x k (less-held s r x st.table k e).1)))
 
+-- every call that passes its tests keeps IsNumbered
 act-numbered : (st : State) (s : ℕ) (c : Call) → IsNumbered st → first_failing (tests st s c) ≡ None → IsNumbered (act st s c).state
 act-numbered st s Begin i h = let p = all-pass (tests st s Begin) h in begin-numbered st s i p.0
 act-numbered st s (Lock r m) i h = let p = all-pass (tests st s (Lock r m)) h in asked-numbered st s r (target_of (held_mode st.table s r) m) i (not-false _ p.0)
@@ -203,6 +218,7 @@ act-numbered st s (Release r) i h = let p = all-pass (tests st s (Release r)) h 
 act-numbered st s Commit i h = ended-numbered st s i
 act-numbered st s Abort i h = ended-numbered st s i
 
+-- every call keeps IsNumbered, refused or not
 pub step-numbered : (st : State) (s : ℕ) (c : Call) → IsNumbered st → IsNumbered (step st s c).state
 step-numbered st s c i = go (first_failing (tests st s c)) refl
   where
@@ -210,6 +226,7 @@ step-numbered st s c i = go (first_failing (tests st s c)) refl
     go None e = act-numbered st s c i e
     go (Some w) e = i
 
+-- IsNumbered holds of the empty state
 empty-numbered : IsNumbered empty
 empty-numbered = record {
   owners = record { waiting = λ s q e. absurd (cc); holding = λ s r m e. absurd (cc) };
@@ -217,17 +234,19 @@ empty-numbered = record {
   apart = λ s u h k e. absurd (cc);
 }
 
+-- every list of calls keeps IsNumbered
 after-numbered : (es : List Entry) (st : State) → IsNumbered st → IsNumbered (state_after st es)
 after-numbered [] st i = i
 after-numbered (e ∷ es) st i = after-numbered es (step st e.session e.call).state (step-numbered st e.session e.call i)
 
--- so in every state of a history
+-- IsNumbered holds in every state that a history leads to
 pub state-numbered : (es : List Entry) → IsNumbered (state_of es)
 state-numbered es = after-numbered es empty empty-numbered
 
--- with a request of a session that has a transaction
+-- a request that begins to wait, of a session with a transaction, keeps IsNumbered
 pub waiting-numbered : (st : State) (s : ℕ) (r : List ℕ) (m : Mode) → IsNumbered st → is_open st s ≡ true → IsNumbered (with_table (with_request s r m st.table) st)
 waiting-numbered st s r m i h = retabled st (with_request s r m st.table) i (begins-open (is_open st) s r m st.table i.owners h)
 
+-- every session that holds a lock or waits has a transaction, as the law states it
 pub owners-open : (st : State) → IsNumbered st → AreOwnersOpen st
 owners-open st i s h = elim h [ inl k ↦ i.owners.holding s k.0 k.1 k.2 | inr k ↦ i.owners.waiting s k.0 k.1 ]

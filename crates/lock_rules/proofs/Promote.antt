@@ -1,4 +1,4 @@
--- What promotions keep, and what they bring about.
+-- What promotions keep and what they bring about.
 use Rattle.std.proofs.Common.{◌≡◌, ℕ, ◌<◌, ◌≤◌, Bool, true, false, cond, eqb, inl, inr, List, [], ◌∷◌, length, Some, refl, sym, ◌∙◌, ap, arith}
 use Rattle.std.proofs.lemmas.Bool.{or_from, cases_Bool}
 use Rattle.std.specs.List.{list_any}
@@ -15,23 +15,26 @@ use Rattle.lock_rules.proofs.Lists.{same_path_tells, same_path-true, request_of-
 use Rattle.lock_rules.proofs.Alters.{NoCircle, beside, circle-alters, circle-alters_beside}
 use Rattle.lock_rules.proofs.Sound.{UnfitAt, Rises, head-request, queue-rest, unfit_at-alters, granted-alters, granted-rises, granted-sound}
 
--- requests that are left
+-- the requests that are left
 
+-- removing a session's claims doesn't make the list longer
 pub length-claims_but : (s : ℕ) (qs : List Claim) → length (claims_but s qs) ≤ length qs
 length-claims_but s [] = omega arith
 length-claims_but s (q ∷ qs) = grind (arith, nat_tests, length-claims_but s qs)
 
+-- removing the claims of a session that has one makes the list shorter
 pub length-claims_but_some : (s : ℕ) (qs : List Claim) (q : Claim) → request_of s qs ≡ Some q → length (claims_but s qs) < length qs
 length-claims_but_some s [] q h = absurd (cc)
 length-claims_but_some s (c ∷ qs) q h = grind (arith, nat_tests, length-claims_but_some s qs q, length-claims_but s qs)
 
+-- a request left after a removal was there before
 pub request-fewer : (s v : ℕ) (qs : List Claim) (q : Claim) → request_of s (claims_but v qs) ≡ Some q → request_of s qs ≡ Some q
 request-fewer s v qs q h = elim (cases_Bool (eqb s v)) [
   | inr n ↦ sym (request_of-claims_but_other s v qs n) ∙ h
   | inl e ↦ let f = (Decides-eqb s v).0 e in let g = rw f at h in let k = request_of-claims_but v qs in absurd (cc)
 ]
 
--- a promotion leaves no more requests than there were
+-- grants leave no more requests than there were
 front-fewer : (qs : List Claim) (t : Table) → length (granted_while_fitting qs t).requests ≤ length t.requests
 front-fewer [] t = omega arith
 front-fewer (q ∷ qs) t = go (fits t q.session q.resource q.mode) (front-fewer qs (after_grant q.session q.resource q.mode t))
@@ -40,11 +43,12 @@ front-fewer (q ∷ qs) t = go (fits t q.session q.resource q.mode) (front-fewer 
     go true h = omega (arith, h, length-claims_but q.session t.requests)
     go false h = omega arith
 
+-- promotions leave no more requests than there were
 pub all-fewer : (rs : List (List ℕ)) (t : Table) → length (after_promotions rs t).requests ≤ length t.requests
 all-fewer [] t = omega arith
 all-fewer (r ∷ rs) t = omega (arith, all-fewer rs (after_promotion r t), front-fewer (queue t r) t)
 
--- the table stays sound, nobody holds less, no circle is new, and no request is new
+-- the table stays sound, no lock falls, no cycle is new, and no request is new
 pub record Follows (t t' : Table) : Type 0 where
   pub sound : IsSound t'
   pub rises : Rises t t'
@@ -53,9 +57,11 @@ pub record Follows (t t' : Table) : Type 0 where
   pub fewer : length t'.requests ≤ length t.requests
   pub requests : (s : ℕ) (q : Claim) → request_of s t'.requests ≡ Some q → request_of s t.requests ≡ Some q
 
+-- `Follows` holds if nothing changes
 pub follows-refl : (t : Table) → IsSound t → Follows t t
 follows-refl t i = record { sound = i; rises = λ s x. at_or_below-refl (mode_or_nothing (held_mode t s x)); circle = λ h. h; circle_beside = λ a h. h; fewer = omega arith; requests = λ s q h. h }
 
+-- `Follows` holds of two changes, one after the other, if it holds of each
 pub follows-trans : (t u w : Table) → Follows t u → Follows u w → Follows t w
 follows-trans t u w a b = record {
   sound = b.sound;
@@ -66,6 +72,7 @@ follows-trans t u w a b = record {
   requests = λ s q h. a.requests s q (b.requests s q h);
 }
 
+-- `Follows` holds of a grant of a target that fits and obeys the parent rule
 pub granted-follows : (s : ℕ) (r : List ℕ) (m : Mode) (t : Table) → IsSound t → at_or_below (mode_or_nothing (held_mode t s r)) m ≡ true → Stands t s r m → fits t s r m ≡ true → Follows t (after_grant s r m t)
 granted-follows s r m t i up under fit = record {
   sound = granted-sound s r m t i up under fit;
@@ -76,14 +83,17 @@ granted-follows s r m t i up under fit = record {
   requests = λ u q h. request-fewer u s t.requests q h;
 }
 
+-- on other resources, a head of a queue that didn't fit still doesn't
 abbrev pub Elsewhere : List ℕ → Table → Table → Type 0
 Elsewhere r t t' = (x : List ℕ) → same_path r x ≡ false → UnfitAt t x → UnfitAt t' x
 
+-- what a promotion of r brings about: `Follows`, and afterwards the head of r's queue doesn't fit
 pub record IsPromoted (r : List ℕ) (t t' : Table) : Type 0 where
   pub follows : Follows t t'
   pub elsewhere : Elsewhere r t t'
   pub there : UnfitAt t' r
 
+-- granting a queue up to the first request that doesn't fit promotes its resource
 granted_front-promoted : (r : List ℕ) (qs : List Claim) (t : Table) → IsSound t → queue t r ≡ qs → IsPromoted r t (granted_while_fitting qs t)
 granted_front-promoted r [] t i e = record { follows = follows-refl t i; elsewhere = λ x n h. h; there = λ q qs f. let g = sym e ∙ f in absurd (cc) }
 granted_front-promoted r (q ∷ qs) t i e = go (fits t q.session q.resource q.mode) refl (λ j f. granted_front-promoted r qs (after_grant q.session q.resource q.mode t) j f)
@@ -113,16 +123,20 @@ granted_front-promoted r (q ∷ qs) t i e = go (fits t q.session q.resource q.mo
           there = rest.there;
         }
 
+-- a promotion does what `IsPromoted` says
 pub promoted-promoted : (r : List ℕ) (t : Table) → IsSound t → IsPromoted r t (after_promotion r t)
 promoted-promoted r t i = granted_front-promoted r (queue t r) t i refl
 
+-- the resource is one of these
 abbrev pub among : List (List ℕ) → List ℕ → Bool
 among rs x = list_any (λ r. same_path r x) rs
 
+-- what promotions of these resources bring about: `Follows`, and no head of a queue fits, if no other head fitted before
 pub record ArePromoted (rs : List (List ℕ)) (t t' : Table) : Type 0 where
   pub follows : Follows t t'
   pub unfit : ((x : List ℕ) → among rs x ≡ false → UnfitAt t x) → (x : List ℕ) → UnfitAt t' x
 
+-- promotions do what `ArePromoted` says
 pub all-promoted : (rs : List (List ℕ)) (t : Table) → IsSound t → ArePromoted rs t (after_promotions rs t)
 all-promoted [] t i = record { follows = follows-refl t i; unfit = λ h x. h x refl }
 all-promoted (r ∷ rs) t i =

@@ -1,4 +1,4 @@
--- The tests of each call say what the refusals mean, in the same order.
+-- The tests of each call decide what the refusals mean, in the same order.
 use Rattle.std.proofs.Common.{◌≡◌, ◌≢◌, ℕ, ◌+◌, ◌≤◌, Bool, true, false, cond, not, eqb, leb, ◌&&◌, ◌↔◌, inl, inr, List, [], ◌∷◌, ◌++◌, length, Option, Some, None, is_some, refl, sym, ◌∙◌, ap, arith, subst, Decides}
 use Rattle.std.specs.List.{All, list_any}
 use Rattle.std.proofs.lemmas.Bool.{and_parts, and_from, or_cases, not-true, leb-true, le-leb, cases_Bool}
@@ -17,7 +17,7 @@ use Rattle.lock_rules.specs.declared.calls.Why.TheVariants.{NoTransaction, IsWai
 use Rattle.lock_rules.specs.declared.calls.TheConstants.{MAX_LOCKS}
 use Rattle.lock_rules.specs.State.{Claim, Table, State, mode_in, held_mode, mode_or_nothing, claims_of, is_open, is_waiting, is_doomed}
 use Rattle.lock_rules.specs.Step.{is_nothing, target_of, lacks_parent, holds_child, tests, first_failing, after_asking, act, outcome_of, step}
-use Rattle.lock_rules.specs.Laws.{HasTransaction, AreLocksFew}
+use Rattle.lock_rules.specs.Laws.{HasTransaction, AreLocksBounded}
 use Rattle.lock_rules.specs.Effects.{IsTarget}
 use Rattle.lock_rules.specs.Refusals.{LacksParent, HoldsBelow, Fails, refusals_of, AreRefusalsMeant, AreOthersAccepted, DoesAbortNeedTransaction, IsClearCommitAccepted}
 use Rattle.lock_rules.proofs.Lists.{same_path-refl}
@@ -31,6 +31,7 @@ use Rattle.lock_rules.proofs.Sessions.{open-decides, waiting-decides, doomed-dec
 
 -- each test of a call
 
+-- the test for NL decides whether the mode is NL
 nothing-decides : (m : Mode) → Decides (is_nothing m) (m ≡ NL)
 nothing-decides NL = (λ h. refl, λ h. refl)
 nothing-decides IS = (λ h. absurd (cc), λ h. absurd (cc))
@@ -39,16 +40,17 @@ nothing-decides S = (λ h. absurd (cc), λ h. absurd (cc))
 nothing-decides SIX = (λ h. absurd (cc), λ h. absurd (cc))
 nothing-decides X = (λ h. absurd (cc), λ h. absurd (cc))
 
+-- the test for no lock decides whether there is none
 unheld-decides : (o : Option Mode) → Decides (not (is_some o)) (o ≡ None)
 unheld-decides None = (λ h. refl, λ h. refl)
 unheld-decides (Some k) = (λ h. absurd (cc), λ h. absurd (cc))
 
--- the target is one mode
+-- the target of a request is `target_of`
 one-target : (o : Option Mode) (m k : Mode) → IsTarget o m k → k ≡ target_of o m
 one-target None m k h = h
 one-target (Some a) m k h = sup_only a m k h
 
--- where something is asked
+-- the test of the parent rule decides LacksParent, if the mode asked isn't NL
 parent-decides : (t : Table) (s : ℕ) (r : List ℕ) (m : Mode) → (m ≢ NL) → Decides (lacks_parent t s r (target_of (held_mode t s r) m)) (LacksParent t s r m)
 parent-decides t s r m asked = (lacks, test)
   where
@@ -72,7 +74,7 @@ parent-decides t s r m asked = (lacks, test)
           absurd (h.3 (u.0, u.1, rw (one-target (held_mode t s r) m h.0 h.1) u.2))
     ]
 
--- who has a lock on a resource holds it in some mode
+-- a lock on a descendant that the test finds is held in some mode
 below-held : (s : ℕ) (r : List ℕ) (cs : List Claim) → holds_child (record { held = cs; requests = [] }) s r ≡ true → HoldsBelow (record { held = cs; requests = [] }) s r
 below-held s r [] h = absurd (cc)
 below-held s r (c ∷ cs) h = elim (or_cases (eqb c.session s && is_ancestor r c.resource) (list_any (λ d. eqb d.session s && is_ancestor r d.resource) cs) h) [
@@ -89,17 +91,19 @@ below-held s r (c ∷ cs) h = elim (or_cases (eqb c.session s && is_ancestor r c
         go true f = (x, c.mode, a, ap (λ (b : Bool). cond b (Some c.mode) (mode_in s x cs)) f)
         go false f = (x, k, a, ap (λ (b : Bool). cond b (Some c.mode) (mode_in s x cs)) f ∙ e)
 
+-- the test for too many locks decides whether there are MAX_LOCKS and none on the resource
 full-decides : (max n : ℕ) (o : Option Mode) → n ≤ max → Decides (not (is_some o) && leb max n) ((o ≡ None) × (n ≡ max))
 full-decides max n None l = (λ h. (refl, omega (arith, leb-true max n h)), λ h. le-leb max n (omega (arith, h.1)))
 full-decides max n (Some k) l = (λ h. absurd (cc), λ h. let e = h.0 in absurd (cc))
 
--- a list of tests and one of refusals say the same, one by one, as far as the tests before pass
+-- each test gives the refusal at its place in the list and decides what it says, if no earlier one is so
 abbrev AreMeant : (Why → Type 0) → List (Bool × Why) → List Why → Type 0
 AreMeant F [] [] = Unit {0}
 AreMeant F (t ∷ ts) (w ∷ ws) = (t.1 ≡ w) × Decides t.0 (F w) × ((F w → ⊥) → AreMeant F ts ws)
 AreMeant F _ _ = ⊥
 
-call-meant : (st : State) (s : ℕ) → AreLocksFew st → (c : Call) → AreMeant (Fails st s c) (tests st s c) (refusals_of c)
+-- the tests of every call decide what its refusals say
+call-meant : (st : State) (s : ℕ) → AreLocksBounded st → (c : Call) → AreMeant (Fails st s c) (tests st s c) (refusals_of c)
 call-meant st s few Begin = (refl, open-decides st s, λ a. tt)
 call-meant st s few (Lock r m) = (refl, Decides-not (is_open st s) (open-decides st s), λ a. (refl, waiting-decides st s, λ b. (refl, doomed-decides st s, λ d. (refl, nothing-decides m, λ asked. (refl, parent-decides st.table s r m asked, λ e. (refl, full-decides MAX_LOCKS (length (claims_of s st.table.held)) (held_mode st.table s r) (few s), λ f. tt))))))
 call-meant st s few (Convert r m) = (refl, Decides-not (is_open st s) (open-decides st s), λ a. (refl, waiting-decides st s, λ b. (refl, doomed-decides st s, λ d. (refl, nothing-decides m, λ asked. (refl, unheld-decides (held_mode st.table s r), λ e. (refl, parent-decides st.table s r m asked, λ f. tt))))))
@@ -111,11 +115,13 @@ call-meant st s few (Release r) = (refl, Decides-not (is_open st s) (open-decide
 call-meant st s few Commit = (refl, Decides-not (is_open st s) (open-decides st s), λ a. (refl, waiting-decides st s, λ b. (refl, doomed-decides st s, λ d. tt)))
 call-meant st s few Abort = (refl, Decides-not (is_open st s) (open-decides st s), λ a. tt)
 
--- the first that fails
+-- the first test that fails
 
+-- why is in the list, what it says is so, and what no refusal before it says is
 abbrev IsFirst : (Why → Type 0) → List Why → Why → Type 0
 IsFirst F ws why = (before after : List Why) × (ws ≡ before ++ why ∷ after) × F why × All (λ w. F w → ⊥) before
 
+-- if a test is the first to fail, its refusal is the first that is so
 first-meant : (F : Why → Type 0) (ts : List (Bool × Why)) (ws : List Why) → AreMeant F ts ws → (why : Why) → first_failing ts ≡ Some why → IsFirst F ws why
 first-meant F [] ws a why h = absurd (cc)
 first-meant F (t ∷ ts) [] a why h = absurd a
@@ -128,6 +134,7 @@ first-meant F (t ∷ ts) (w ∷ ws) a why h = go t.0 refl h (λ n k. first-meant
         let r = next n h in
         (w ∷ r.0, r.1, ap (λ (xs : List Why). w ∷ xs) r.2, r.3, All-cons (λ (x : Why). F x → ⊥) w r.0 n r.4)
 
+-- if a refusal is the first that is so, its test is the first to fail
 meant-first : (F : Why → Type 0) (ts : List (Bool × Why)) (ws : List Why) → AreMeant F ts ws → (why : Why) → IsFirst F ws why → first_failing ts ≡ Some why
 meant-first F [] [] a why ([], after, e, f, n) = absurd (cc)
 meant-first F [] [] a why (b ∷ before, after, e, f, n) = absurd (cc)
@@ -143,6 +150,7 @@ meant-first F (t ∷ ts) (w ∷ ws) a why (b ∷ before, after, e, f, n) =
     let pass : t.0 ≡ false = elim (cases_Bool t.0) [ inl y ↦ absurd (fails (a.1.0 y)) | inr y ↦ y ] in
     ap (λ (x : Bool). cond x (Some t.1) (first_failing ts)) pass ∙ meant-first F ts ws (a.2 fails) why (before, after, rest, f, All-tail (λ (x : Why). F x → ⊥) b before n)
 
+-- if no test fails, no refusal of the list is so
 none-fails : (F : Why → Type 0) (ts : List (Bool × Why)) (ws : List Why) → AreMeant F ts ws → first_failing ts ≡ None → All (λ w. F w → ⊥) ws
 none-fails F [] [] a h = All-nil (λ (x : Why). F x → ⊥)
 none-fails F [] (w ∷ ws) a h = absurd a
@@ -153,6 +161,7 @@ none-fails F (t ∷ ts) (w ∷ ws) a h = go t.0 refl h (λ n k. none-fails F ts 
     go true e h next = absurd (cc)
     go false e h next = let n : F w → ⊥ = λ f. true≢false (a.1.1 f) e in All-cons (λ (x : Why). F x → ⊥) w ws n (next n h)
 
+-- if no refusal of the list is so, no test fails
 all-pass-none : (F : Why → Type 0) (ts : List (Bool × Why)) (ws : List Why) → AreMeant F ts ws → All (λ w. F w → ⊥) ws → first_failing ts ≡ None
 all-pass-none F [] ws a n = refl
 all-pass-none F (t ∷ ts) [] a n = absurd a
@@ -163,22 +172,27 @@ all-pass-none F (t ∷ ts) (w ∷ ws) a n =
 
 -- a call that passes its tests isn't refused
 
+-- the reply to a request isn't a refusal
 ask-answers : (d w : Bool) (k : Mode) (why : Why) → cond d Deadlock (cond w Waiting (Granted k)) ≡ Refused why → ⊥
 ask-answers true w k why e = cc
 ask-answers false true k why e = cc
 ask-answers false false k why e = cc
 
+-- the reply to a poll isn't a refusal
 poll-answers : (d w : Bool) (why : Why) → cond d Deadlock (cond w Waiting Clear) ≡ Refused why → ⊥
 poll-answers true w why e = cc
 poll-answers false true why e = cc
 poll-answers false false why e = cc
 
+-- the reply to a begin isn't a refusal
 begin-answers : (n : ℕ) (why : Why) → Began n ≡ Refused why → ⊥
 begin-answers n why e = cc
 
+-- the replies to a commit and an abort aren't refusals
 end-answers : (n : ℕ) (why : Why) → (Committed n ≡ Refused why → ⊥) × (Aborted n ≡ Refused why → ⊥)
 end-answers n why = (λ e. cc, λ e. cc)
 
+-- no call that acts replies with a refusal
 act-answers : (st : State) (s : ℕ) (c : Call) (why : Why) → (act st s c).reply ≡ Refused why → ⊥
 act-answers st s Begin why = begin-answers (st.count + 1) why
 act-answers st s (Lock r m) why =
@@ -192,6 +206,7 @@ act-answers st s (Release r) why = λ e. cc
 act-answers st s Commit why = (end-answers (length (claims_of s st.table.held)) why).0
 act-answers st s Abort why = (end-answers (length (claims_of s st.table.held)) why).1
 
+-- a refusal comes from the tests
 outcome-refused : (o : Option Why) (st : State) (s : ℕ) (c : Call) (why : Why) → (outcome_of o st s c).reply ≡ Refused why → o ≡ Some why
 outcome-refused None st s c why e = absurd (act-answers st s c why e)
 outcome-refused (Some w) st s c why e = same w why e
@@ -199,18 +214,21 @@ outcome-refused (Some w) st s c why e = same w why e
     same : (a b : Why) → Refused a ≡ Refused b → Some a ≡ Some b
     same a b f = cc
 
+-- a call is refused for a reason exactly if that is its first test that fails
 refused-first : (st : State) (s : ℕ) (c : Call) (why : Why) → ((step st s c).reply ≡ Refused why) ↔ (first_failing (tests st s c) ≡ Some why)
 refused-first st s c why = (outcome-refused (first_failing (tests st s c)) st s c why, λ e. ap (λ (o : Option Why). (outcome_of o st s c).reply) e)
 
 -- the laws
 
-pub refusals-meant : (st : State) → AreLocksFew st → AreRefusalsMeant st
+-- a call is refused for a reason exactly if that reason is the first that is so
+pub refusals-meant : (st : State) → AreLocksBounded st → AreRefusalsMeant st
 refusals-meant st few s c why = (
   λ h. first-meant (Fails st s c) (tests st s c) (refusals_of c) (call-meant st s few c) why ((refused-first st s c why).0 h),
   λ h. (refused-first st s c why).1 (meant-first (Fails st s c) (tests st s c) (refusals_of c) (call-meant st s few c) why h),
 )
 
-pub others-accepted : (st : State) → AreLocksFew st → AreOthersAccepted st
+-- a call isn't refused exactly if no reason of its list is so
+pub others-accepted : (st : State) → AreLocksBounded st → AreOthersAccepted st
 others-accepted st few s c = (
   λ h. none-fails (Fails st s c) (tests st s c) (refusals_of c) (call-meant st s few c) (passes st s c h),
   λ n why h.
@@ -220,7 +238,8 @@ others-accepted st few s c = (
     unlike : (o : Option Why) (w : Why) → o ≡ None → o ≡ Some w → ⊥
     unlike o w e f = cc
 
-pub abort-needs : (st : State) → AreLocksFew st → DoesAbortNeedTransaction st
+-- an abort is refused only without a transaction
+pub abort-needs : (st : State) → AreLocksBounded st → DoesAbortNeedTransaction st
 abort-needs st few s why = (
   λ h. let r = (refusals-meant st few s Abort why).0 h in alone r.0 r.1 r.2 r.3,
   λ h. (refusals-meant st few s Abort why).1 ([], [], ap (λ (w : Why). w ∷ []) (sym h.0), subst (λ (w : Why). Fails st s Abort w) (sym h.0) h.1, All-nil (λ (w : Why). Fails st s Abort w → ⊥)),
@@ -231,7 +250,8 @@ abort-needs st few s why = (
     alone (b ∷ []) after e f = absurd (cc)
     alone (b ∷ d ∷ before) after e f = absurd (cc)
 
-pub commit-accepted : (st : State) → AreLocksFew st → IsClearCommitAccepted st
+-- a commit of a session that is open, doesn't wait and isn't doomed isn't refused
+pub commit-accepted : (st : State) → AreLocksBounded st → IsClearCommitAccepted st
 commit-accepted st few s opened free whole =
     let P : Why → Type 0 = λ (w : Why). Fails st s Commit w → ⊥ in
     (others-accepted st few s Commit).1

@@ -1,4 +1,4 @@
--- What comes of a lock or a conversion that is asked and not refused.
+-- What a Lock or a Convert that isn't refused brings about.
 use Rattle.std.proofs.Common.{◌≡◌, ◌≢◌, ℕ, ◌+◌, ◌<◌, Bool, true, false, cond, not, ◌&&◌, ◌||◌, ◌⊎◌, inl, inr, List, [], ◌∷◌, ◌++◌, length, Option, Some, None, is_some, refl, sym, ◌∙◌, ap, arith, subst, length-append}
 use Rattle.std.proofs.lemmas.Bool.{and_parts, and_from, or_right, not-false, cases_Bool}
 use Rattle.lock_modes.specs.declared.Mode.{Mode}
@@ -14,7 +14,7 @@ use Rattle.lock_rules.specs.State.{Claim, Table, State, held_mode, mode_or_nothi
 use Rattle.lock_rules.specs.Waits.{doom}
 use Rattle.lock_rules.specs.Queue.{queue, is_empty, fits, after_grant, is_granted_at_once, with_request}
 use Rattle.lock_rules.specs.Step.{Outcome, target_of, is_nothing, tests, first_failing, after_wait, is_held, after_asking, ask, outcome_of}
-use Rattle.lock_rules.specs.Effects.{IsPromotionOf, IsTarget, IsFree, IsWaitOf, IsTold, IsWaitSettled, IsAnswerTo, IsLockAnswered, IsConvertAnswered, IsLockOfHeldConvert, IsGrantedHeld, IsConversionHeld}
+use Rattle.lock_rules.specs.Effects.{IsPromotionOf, IsTarget, IsFree, IsWaitOf, IsReplyAfterWait, IsWaitSettled, IsAnswerTo, IsLockAnswered, IsConvertAnswered, IsLockOfHeldConvert, IsGrantedHeld, IsConversionHeld}
 use Rattle.lock_rules.specs.Sound.{IsOnce}
 use Rattle.lock_rules.proofs.Lists.{other, differs, request_of-claims_but, request_of-push}
 use Rattle.lock_rules.proofs.Alters.{request-alters, true≢false}
@@ -28,37 +28,44 @@ use Rattle.lock_rules.proofs.Doomed.{victims-keep, among-or-not}
 
 -- the target
 
+-- `target_of` is the target of a request
 pub target : (o : Option Mode) (m : Mode) → IsTarget o m (target_of o m)
 target None m = refl
 target (Some h) m = sup_least h m (target_of (Some h) m) refl
 
--- a target that what is held covers is what is held
+-- a held mode that is at or below the target and covers it is the target
 covered : (o : Option Mode) (k : Mode) → at_or_below (mode_or_nothing o) k ≡ true → is_held o k ≡ true → o ≡ Some k
 covered None k h e = absurd (cc)
 covered (Some a) k h e = ap (λ (c : Mode). Some c) (at_or_below-antisym a k h e)
 
+-- a held mode that is the target covers it
 covers : (o : Option Mode) (k : Mode) → o ≡ Some k → is_held o k ≡ true
 covers o k e = ap (λ (p : Option Mode). is_held p k) e ∙ at_or_below-refl k
 
+-- a held mode below the target, and not the target, doesn't cover it
 not-covered : (o : Option Mode) (k : Mode) → at_or_below (mode_or_nothing o) k ≡ true → o ≢ Some k → is_held o k ≡ false
 not-covered o k h n = elim (cases_Bool (is_held o k)) [ inl e ↦ absurd (n (covered o k h e)) | inr e ↦ e ]
 
--- what is free
+-- requests that are free
 
+-- an option that isn't None is some
 some : (o : Option Mode) → o ≢ None → is_some o ≡ true
 some None n = absurd (n refl)
 some (Some k) n = refl
 
+-- the empty list is empty by the test
 none-empty : (qs : List Claim) → qs ≡ [] → is_empty qs ≡ true
 none-empty [] e = refl
 none-empty (q ∷ qs) e = cc
 
+-- a free request is granted at once by the test
 free-granted : (t : Table) (s : ℕ) (r : List ℕ) (k : Mode) → IsFree t s r k → is_granted_at_once t s r k ≡ true
 free-granted t s r k f = and_from (fits t s r k) (is_some (held_mode t s r) || is_empty (queue t r)) f.0 (elim f.1 [
   | inl n ↦ ap (λ (b : Bool). b || is_empty (queue t r)) (some (held_mode t s r) n)
   | inr e ↦ or_right (is_some (held_mode t s r)) (is_empty (queue t r)) (none-empty (queue t r) e)
 ])
 
+-- a request granted at once by the test is free
 granted-free : (t : Table) (s : ℕ) (r : List ℕ) (k : Mode) → is_granted_at_once t s r k ≡ true → IsFree t s r k
 granted-free t s r k h =
     let p = and_parts (fits t s r k) (is_some (held_mode t s r) || is_empty (queue t r)) h in
@@ -69,11 +76,13 @@ granted-free t s r k h =
     either None [] e = inr refl
     either None (q ∷ qs) e = absurd (cc)
 
+-- a request that isn't free isn't granted at once by the test
 not-free : (t : Table) (s : ℕ) (r : List ℕ) (k : Mode) → (IsFree t s r k → ⊥) → is_granted_at_once t s r k ≡ false
 not-free t s r k n = elim (cases_Bool (is_granted_at_once t s r k)) [ inl e ↦ absurd (n (granted-free t s r k e)) | inr e ↦ e ]
 
--- the three cases
+-- the three cases of IsAnswerTo
 
+-- a request that begins to wait is queued as IsWaitOf says
 waits-behind : (s : ℕ) (r : List ℕ) (k : Mode) (t : Table) → request_of s t.requests ≡ None → IsWaitOf s r k t (with_request s r k t)
 waits-behind s r k t n = record {
   held = λ u x. refl;
@@ -85,30 +94,38 @@ waits-behind s r k t n = record {
 }
 
 module _ (st : State) (s : ℕ) (r : List ℕ) (k : Mode) where
+  -- the state after a request whose target isn't held yet: a grant or a wait
   abbrev later : Bool → State
   later g = cond g (with_table (after_grant s r k st.table) st) (after_wait st s r k)
 
+  -- the state in which the request has begun to wait
   abbrev waiting : State
   waiting = with_table (with_request s r k st.table) st
 
+  -- the reply to the request in this state
   abbrev answer : State → Reply
   answer after = cond (is_doomed after s) Deadlock (cond (is_waiting after s) Waiting (Granted k))
 
+  -- this state and the reply in it
   abbrev outcome : State → Outcome
   outcome after = record { state = after; reply = answer after }
 
+  -- a target that is held already changes nothing
   same-state : is_held (held_mode st.table s r) k ≡ true → after_asking st s r k ≡ st
   same-state e = ap (λ (b : Bool). cond b st (later (is_granted_at_once st.table s r k))) e
 
+  -- any other target leads to a grant or a wait
   later-state : (g : Bool) → is_held (held_mode st.table s r) k ≡ false → is_granted_at_once st.table s r k ≡ g → after_asking st s r k ≡ later g
   later-state g e f = ap (λ (b : Bool). cond b st (later (is_granted_at_once st.table s r k))) e ∙ ap later f
 
+  -- the reply is Granted if the asker isn't doomed and has no request
   granted-answer : (after : State) → is_doomed after s ≡ false → request_of s after.table.requests ≡ None → answer after ≡ Granted k
   granted-answer after d n =
       ap (λ (b : Bool). cond b Deadlock (cond (is_waiting after s) Waiting (Granted k))) d
       ∙ ap (λ (o : Option Claim). cond (is_some o) Waiting (Granted k)) n
 
-  told : (after : State) → IsTold s k (outcome after)
+  -- the reply is the one of IsReplyAfterWait
+  told : (after : State) → IsReplyAfterWait s k (outcome after)
   told after = record {
     deadlock = λ d. ap (λ (b : Bool). cond b Deadlock (cond (is_waiting after s) Waiting (Granted k))) d;
     waiting = λ d n. ap (λ (b : Bool). cond b Deadlock (cond (is_waiting after s) Waiting (Granted k))) d ∙ ap (λ (b : Bool). cond b Waiting (Granted k)) (requested (request_of s after.table.requests) n);
@@ -119,14 +136,17 @@ module _ (st : State) (s : ℕ) (r : List ℕ) (k : Mode) where
       requested None n = absurd (n refl)
       requested (Some q) n = refl
 
+  -- there are more rounds than requests
   few : length (st.table.requests ++ new s r k ∷ []) < length st.table.requests + 2
   few = omega (arith, length-append st.table.requests (new s r k ∷ []))
 
+  -- a wait is settled as IsWaitSettled says
   settles : request_of s st.table.requests ≡ None → IsWaitSettled s r k st (outcome (after_wait st s r k))
   settles n =
       let v = settled-victims (length st.table.requests + 2) s waiting few in
       record { wait = waits-behind s r k st.table n; victims = v.0; one_after_another = v.1; told = told (after_wait st s r k) }
 
+  -- a request is answered as IsAnswerTo says
   ask-answers : request_of s st.table.requests ≡ None → is_doomed st s ≡ false → at_or_below (mode_or_nothing (held_mode st.table s r)) k ≡ true → IsAnswerTo s r k st (ask st s r k)
   ask-answers n d up = record {
     held_already = λ e.
@@ -140,7 +160,7 @@ module _ (st : State) (s : ℕ) (r : List ℕ) (k : Mode) where
         subst (λ (x : State). IsWaitSettled s r k st (outcome x)) (sym f) (settles n);
   }
 
-  -- who is neither doomed nor waits after it has asked holds the target
+  -- after a request, a session that isn't doomed and doesn't wait holds the target
   module _ (once : IsOnce st.table.requests) (n : request_of s st.table.requests ≡ None) (opened : is_open st s ≡ true) (up : at_or_below (mode_or_nothing (held_mode st.table s r)) k ≡ true) where
     doomed-is : (o : Option Transaction) → is_some o ≡ true → doomed_in (doom o) ≡ true
     doomed-is None e = absurd (cc)
@@ -181,6 +201,7 @@ module _ (st : State) (s : ℕ) (r : List ℕ) (k : Mode) where
         parts false true e = absurd (cc)
         parts false false e = (refl, refl, cc)
 
+-- a Lock that isn't refused is answered as the law states it
 pub lock-asks : (st : State) → IsLockAnswered st
 lock-asks st s r m h =
     let p = all-pass (tests st s (Lock r m)) (passes st s (Lock r m) h) in (
@@ -190,6 +211,7 @@ lock-asks st s r m h =
           (ask-answers st s r (target_of (held_mode st.table s r) m) (is-none (request_of s st.table.requests) p.1.0) p.1.1.0 (below-sup (mode_or_nothing (held_mode st.table s r)) m)),
     )
 
+-- a Convert that isn't refused is answered as the law states it
 pub convert-asks : (st : State) → IsConvertAnswered st
 convert-asks st s r m h =
     let p = all-pass (tests st s (Convert r m)) (passes st s (Convert r m) h) in (
@@ -199,11 +221,13 @@ convert-asks st s r m h =
           (ask-answers st s r (target_of (held_mode st.table s r) m) (is-none (request_of s st.table.requests) p.1.0) p.1.1.0 (below-sup (mode_or_nothing (held_mode st.table s r)) m)),
     )
 
--- what is told is held
+-- what is granted is held
 
+-- a refusal isn't a grant
 unlike : (w : Why) (j : Mode) → Refused w ≡ Granted j → ⊥
 unlike w j e = cc
 
+-- if a Lock replies Granted, the session holds the resource in that mode
 pub lock-holds : (st : State) → IsOnce st.table.requests → IsGrantedHeld st
 lock-holds st once s r m j = go (first_failing (tests st s (Lock r m))) refl
   where
@@ -213,6 +237,7 @@ lock-holds st once s r m j = go (first_failing (tests st s (Lock r m))) refl
         let p = all-pass (tests st s (Lock r m)) e in
         ask-held st s r (target_of (held_mode st.table s r) m) once (is-none (request_of s st.table.requests) p.1.0) (not-false (is_open st s) p.0) (below-sup (mode_or_nothing (held_mode st.table s r)) m) j g
 
+-- if a Convert replies Granted, the session holds the resource in that mode
 pub convert-holds : (st : State) → IsOnce st.table.requests → IsConversionHeld st
 convert-holds st once s r m j = go (first_failing (tests st s (Convert r m))) refl
   where
@@ -222,14 +247,16 @@ convert-holds st once s r m j = go (first_failing (tests st s (Convert r m))) re
         let p = all-pass (tests st s (Convert r m)) e in
         ask-held st s r (target_of (held_mode st.table s r) m) once (is-none (request_of s st.table.requests) p.1.0) (not-false (is_open st s) p.0) (below-sup (mode_or_nothing (held_mode st.table s r)) m) j g
 
--- a lock on what is held
+-- a Lock on a resource that the session holds
 
+-- its tests and those of a Convert give the same refusal
 held-converts : (st : State) (s : ℕ) (r : List ℕ) (m k : Mode) → (o : Option Mode) → o ≡ Some k → (lacks full : Bool) →
     first_failing ((not (is_open st s), NoTransaction) ∷ (is_waiting st s, IsWaiting) ∷ (is_doomed st s, IsDoomed) ∷ (is_nothing m, NothingAsked) ∷ (lacks, ParentNotHeld) ∷ (not (is_some o) && full, TooManyLocks) ∷ [])
     ≡ first_failing ((not (is_open st s), NoTransaction) ∷ (is_waiting st s, IsWaiting) ∷ (is_doomed st s, IsDoomed) ∷ (is_nothing m, NothingAsked) ∷ (not (is_some o), NotHeld) ∷ (lacks, ParentNotHeld) ∷ [])
 held-converts st s r m k None e lacks full = absurd (cc)
 held-converts st s r m k (Some h) e lacks full = refl
 
+-- a Lock on a resource that the session holds does what a Convert does
 pub lock-converts : (st : State) → IsLockOfHeldConvert st
 lock-converts st s r m k e =
     ap (λ (o : Option Why). outcome_of o st s (Lock r m)) (held-converts st s r m k (held_mode st.table s r) e _ _)

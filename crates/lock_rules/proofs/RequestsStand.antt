@@ -1,4 +1,4 @@
--- A request stands until it is granted, its session becomes a victim, or its session aborts.
+-- A request stands until it is granted, its session becomes a victim or aborts.
 use Rattle.std.proofs.Common.{◌≡◌, ℕ, ◌+◌, ◌<◌, Bool, true, false, cond, eqb, ◌⊎◌, inl, inr, List, [], ◌∷◌, ◌++◌, length, Option, Some, None, is_some, refl, sym, ◌∙◌, ap, arith, length-append}
 use Rattle.std.proofs.lemmas.Bool.Decides.{Decides-eqb}
 use Rattle.std.proofs.lemmas.Bool.{cases_Bool}
@@ -14,44 +14,45 @@ use Rattle.lock_rules.specs.Waits.{doom}
 use Rattle.lock_rules.specs.Step.{target_of, tests, first_failing, is_held, after_wait, after_asking, after_release, after_end, act, outcome_of, step}
 use Rattle.lock_rules.specs.Legal.{state_of}
 use Rattle.lock_rules.specs.Laws.{IsRequestOver, DoesWaitOn, DoesRequestStand}
-use Rattle.lock_rules.specs.Effects.{IsApart, IsWantedBy}
+use Rattle.lock_rules.specs.Effects.{HasNoClaimOn, IsWantedBy}
 use Rattle.lock_rules.specs.Sound.{IsNumbered}
 use Rattle.lock_rules.proofs.Lists.{apart, request_of-claims_but_other}
 use Rattle.lock_rules.proofs.Alters.{request-alters, true≢false}
-use Rattle.lock_rules.proofs.Cuts.{IsAtRest}
+use Rattle.lock_rules.proofs.Cuts.{IsQuiescent}
 use Rattle.lock_rules.proofs.Begins.{new, back, once-push}
 use Rattle.lock_rules.proofs.Steps.{all-pass, is-none, step-lawful, state-lawful}
 use Rattle.lock_rules.proofs.Owners.{step-numbered, state-numbered}
-use Rattle.lock_rules.proofs.Taken.{IsServed, released-takes, ended-takes}
+use Rattle.lock_rules.proofs.Taken.{IsUnchangedOrPromoted, released-takes, ended-takes}
 use Rattle.lock_rules.proofs.Victims.{settled-victims}
 use Rattle.lock_rules.proofs.Doomed.{victims-keep, among-or-not}
 
 module _ (s : ℕ) (q : Claim) where
-  -- the request is over, or it waits on
+  -- the request is over or still waits
   abbrev GoesOn : State → Type 0
   GoesOn st = IsRequestOver s q st ⊎ (request_of s st.table.requests ≡ Some q)
 
-  -- where others' requests may be granted
-  served-goes_on : (P : List ℕ → Type 0) (t : Table) (st : State) → request_of s t.requests ≡ Some q → IsServed s P t st.table → GoesOn st
+  -- a change that leaves the session unchanged or grants its request lets the request go on
+  served-goes_on : (P : List ℕ → Type 0) (t : Table) (st : State) → request_of s t.requests ≡ Some q → IsUnchangedOrPromoted s P t st.table → GoesOn st
   served-goes_on P t st w (inl a) = inr (a.request ∙ w)
   served-goes_on P t st w (inr p) =
       let e = p.1.waited in
       let same : p.0 ≡ q = cc in
       inl (p.1.waits_no_more, inl (ap (λ (c : Claim). held_mode st.table s c.resource) (sym same) ∙ (p.1.held ∙ ap (λ (c : Claim). Some c.mode) same)))
 
+  -- the doom of an open transaction is a doomed transaction
   doom-open : (o : Option Transaction) → is_some o ≡ true → (x : Transaction) × (doom o ≡ Some x) × (x.doomed ≡ true)
   doom-open None e = absurd (cc)
   doom-open (Some x) e = (record { number = x.number; doomed = true }, refl, refl)
 
-  module _ (st : State) (i : IsAtRest st.table) (n : IsNumbered st) (w : request_of s st.table.requests ≡ Some q) where
-    -- who doesn't wait is another
+  module _ (st : State) (i : IsQuiescent st.table) (n : IsNumbered st) (w : request_of s st.table.requests ≡ Some q) where
+    -- a session that doesn't wait is another
     apart-from : (u : ℕ) → is_waiting st u ≡ false → eqb s u ≡ false
     apart-from u f = elim (cases_Bool (eqb s u)) [
       | inl e ↦ absurd (true≢false (ap (λ (o : Option Claim). is_some o) w) (ap (λ (v : ℕ). is_waiting st v) ((Decides-eqb s u).0 e) ∙ f))
       | inr e ↦ e
     ]
 
-    -- another session begins to wait, and its deadlocks are resolved
+    -- a wait of another session and its victims let the request go on
     wait-goes_on : (u : ℕ) (r : List ℕ) (m : Mode) → eqb s u ≡ false → request_of u st.table.requests ≡ None → GoesOn (after_wait st u r m)
     wait-goes_on u r m d free =
         let waiting : State = with_table (with_request u r m st.table) st in
@@ -67,7 +68,7 @@ module _ (s : ℕ) (q : Claim) where
           | inr k ↦ served-goes_on (λ y. IsWantedBy v.0 waiting.table y) waiting.table (after_wait st u r m) before (kept.others s k)
         ]
 
-    -- whoever passes the tests of an asking doesn't wait
+    -- a request of a session that doesn't wait lets this one go on
     asked-goes_on : (u : ℕ) (r : List ℕ) (m : Mode) → is_waiting st u ≡ false → GoesOn (after_asking st u r m)
     asked-goes_on u r m f = go (is_held (held_mode st.table u r) m) (is_granted_at_once st.table u r m)
       where
@@ -79,13 +80,15 @@ module _ (s : ℕ) (q : Claim) where
         go false true = inr (request_of-claims_but_other s u st.table.requests d ∙ w)
         go false false = wait-goes_on u r m d (is-none (request_of u st.table.requests) f)
 
-    -- the session itself can only abort
+    -- the call is the session's abort, or the request goes on
     abbrev Stands : ℕ → Call → State → Type 0
     Stands u c after = ((u ≡ s) × (c ≡ Abort)) ⊎ GoesOn after
 
+    -- the end of another session's transaction lets the request go on
     ended-goes_on : (u : ℕ) → eqb s u ≡ false → GoesOn (with_begun u None (with_table (after_end u st.table) st))
-    ended-goes_on u d = served-goes_on (λ x. IsApart st.table u x → ⊥) st.table (with_begun u None (with_table (after_end u st.table) st)) w ((ended-takes u st i.sound).others s (apart u s d))
+    ended-goes_on u d = served-goes_on (λ x. HasNoClaimOn st.table u x → ⊥) st.table (with_begun u None (with_table (after_end u st.table) st)) w ((ended-takes u st i.sound).others s (apart u s d))
 
+    -- a call that passes its tests is the session's abort, or the request goes on
     act-stands : (u : ℕ) (c : Call) → first_failing (tests st u c) ≡ None → Stands u c (act st u c).state
     act-stands u Begin h = inr (inr w)
     act-stands u (Lock r m) h = let p = all-pass (tests st u (Lock r m)) h in inr (asked-goes_on u r (target_of (held_mode st.table u r) m) p.1.0)
@@ -101,6 +104,7 @@ module _ (s : ℕ) (q : Claim) where
       | inr d ↦ inr (ended-goes_on u d)
     ]
 
+    -- every call is the session's abort, or the request goes on
     step-stands : (u : ℕ) (c : Call) → Stands u c (step st u c).state
     step-stands u c = go (first_failing (tests st u c)) refl
       where
@@ -108,7 +112,8 @@ module _ (s : ℕ) (q : Claim) where
         go None h = act-stands u c h
         go (Some y) h = inr (inr w)
 
-  waits-on : (es : List Entry) (st : State) → IsAtRest st.table → IsNumbered st → request_of s st.table.requests ≡ Some q → DoesWaitOn s q st es
+  -- through a list of calls the session waits on
+  waits-on : (es : List Entry) (st : State) → IsQuiescent st.table → IsNumbered st → request_of s st.table.requests ≡ Some q → DoesWaitOn s q st es
   waits-on [] st i n w = w
   waits-on (e ∷ es) st i n w = (
     w,
@@ -121,5 +126,6 @@ module _ (s : ℕ) (q : Claim) where
     ],
   )
 
+-- a request stands, as the law states it
 pub request-stands : (front rest : List Entry) → DoesRequestStand front rest
 request-stands front rest s q w = waits-on s q rest (state_of front) (state-lawful front) (state-numbered front) w

@@ -6,18 +6,22 @@ use Rattle.lock_rules.specs.Legal.{Answered, calls_from, calls_of}
 use Rattle.lock_rules.specs.Laws.{IsEntryOf, ArePlacesRising}
 use Rattle.lock_rules.proofs.Members.{Member, contains-member, member-contains}
 
+-- the call and reply of an entry at this place
 abbrev answer : ℕ → Entry → Answered
 answer place e = record { place = place; call = e.call; reply = e.reply }
 
 -- one more entry
 
+-- the entry as a call of the session, if it is the session's
 abbrev pub last_call : ℕ → ℕ → Entry → List Answered
 last_call s place e = cond (eqb e.session s) (answer place e ∷ []) []
 
+-- a head that may be left out, before a concatenation
 same-append : (b : Bool) (x : Answered) (xs ys : List Answered) → cond b (x ∷ (xs ++ ys)) (xs ++ ys) ≡ cond b (x ∷ xs) xs ++ ys
 same-append true x xs ys = refl
 same-append false x xs ys = refl
 
+-- one more entry appends one call if it is the session's, with places counted from a start
 calls_from-push : (s place : ℕ) (es : List Entry) (e : Entry) → calls_from s place (es ++ e ∷ []) ≡ calls_from s place es ++ last_call s (place + length es) e
 calls_from-push s place [] e = let z : place ≡ place + 0 = omega arith in ap (λ (p : ℕ). last_call s p e) z
 calls_from-push s place (f ∷ es) e =
@@ -27,15 +31,18 @@ calls_from-push s place (f ∷ es) e =
     ap (λ (xs : List Answered). cond (eqb f.session s) (answer place f ∷ xs) xs) next
     ∙ same-append (eqb f.session s) (answer place f) (calls_from s (place + 1) es) (last_call s (place + suc (length es)) e)
 
+-- one more entry of a history appends one call if it is the session's
 pub calls_of-push : (s : ℕ) (es : List Entry) (e : Entry) → calls_of s (es ++ e ∷ []) ≡ calls_of s es ++ last_call s (length es) e
 calls_of-push s es e = calls_from-push s 0 es e ∙ ap (λ (p : ℕ). calls_of s es ++ last_call s p e) (let z : 0 + length es ≡ length es = omega arith in z)
 
 -- the places rise
 
+-- the first call's place is at least this one
 abbrev StartsAt : ℕ → List Answered → Type 0
 StartsAt place [] = Unit {0}
 StartsAt place (a ∷ rest) = place ≤ a.place
 
+-- no call has a place before the first entry's
 starts : (s place : ℕ) (es : List Entry) → StartsAt place (calls_from s place es)
 starts s place [] = tt
 starts s place (e ∷ es) = go (eqb e.session s) (starts s (place + 1) es)
@@ -48,6 +55,7 @@ starts s place (e ∷ es) = go (eqb e.session s) (starts s (place + 1) es)
     go true h = omega arith
     go false h = later (calls_from s (place + 1) es) h
 
+-- the places rise, counted from a start
 rising-from : (s place : ℕ) (es : List Entry) → ArePlacesRising (calls_from s place es)
 rising-from s place [] = tt
 rising-from s place (e ∷ es) = go (eqb e.session s) (rising-from s (place + 1) es)
@@ -60,18 +68,21 @@ rising-from s place (e ∷ es) = go (eqb e.session s) (rising-from s (place + 1)
     go true h = put_first (calls_from s (place + 1) es) (starts s (place + 1) es) h
     go false h = h
 
+-- the places of a session's calls rise
 pub rising : (s : ℕ) (es : List Entry) → ArePlacesRising (calls_of s es)
 rising s es = rising-from s 0 es
 
--- the members are the entries of the session
+-- a session's calls are its entries
 
+-- the entry of the session with this call and reply
 abbrev entry_of : ℕ → Answered → Entry
 entry_of s a = record { session = s; call = a.call; reply = a.reply }
 
--- the entry so many after this place is the answered call
+-- the call is the entry at its place, if the first entry has the given place
 abbrev IsAfter : ℕ → ℕ → List Entry → Answered → Type 0
 IsAfter s place es a = (k : ℕ) × (a.place ≡ place + k) × (slice_get es k ≡ Some (entry_of s a))
 
+-- a call in the list is an entry of the session
 in-entry : (s place : ℕ) (es : List Entry) (a : Answered) → Member a (calls_from s place es) → IsAfter s place es a
 in-entry s place [] a h = absurd h
 in-entry s place (e ∷ es) a h = go (λ i. later (in-entry s (place + 1) es a i)) (eqb e.session s) refl h
@@ -90,14 +101,17 @@ in-entry s place (e ∷ es) a h = go (λ i. later (in-entry s (place + 1) es a i
     go next true f (inr i) = next i
     go next false f i = next i
 
+-- a member of a list is one behind a head that may be left out
 in-later : (b : Bool) (x a : Answered) (xs : List Answered) → Member a xs → Member a (cond b (x ∷ xs) xs)
 in-later true x a xs h = inr h
 in-later false x a xs h = h
 
+-- a head that isn't left out is a member
 in-here : (b : Bool) (x a : Answered) (xs : List Answered) → b ≡ true → x ≡ a → Member a (cond b (x ∷ xs) xs)
 in-here true x a xs h e = inl e
 in-here false x a xs h e = absurd (cc)
 
+-- an entry of the session is a call in the list
 entry-in : (s place : ℕ) (es : List Entry) (a : Answered) (k : ℕ) → a.place ≡ place + k → slice_get es k ≡ Some (entry_of s a) → Member a (calls_from s place es)
 entry-in s place [] a k p h = absurd (cc)
 entry-in s place (e ∷ es) a zero p h =
@@ -108,11 +122,13 @@ entry-in s place (e ∷ es) a (suc k) p h =
     let q : a.place ≡ place + 1 + k = omega (arith, p) in
     in-later (eqb e.session s) (answer place e) a (calls_from s (place + 1) es) (entry-in s (place + 1) es a k q h)
 
+-- each of a session's calls is its entry
 pub contains-entry : (s : ℕ) (es : List Entry) (a : Answered) → Contains (calls_of s es) a → IsEntryOf s es a
 contains-entry s es a h =
     let r = in-entry s 0 es a (contains-member a (calls_of s es) h) in
     let p : a.place ≡ r.0 = omega (arith, r.1) in
     ap (slice_get es) p ∙ r.2
 
+-- each of a session's entries is among its calls
 pub entry-contains : (s : ℕ) (es : List Entry) (a : Answered) → IsEntryOf s es a → Contains (calls_of s es) a
 entry-contains s es a h = let p : a.place ≡ 0 + a.place = omega arith in member-contains a (calls_of s es) (entry-in s 0 es a a.place p h)

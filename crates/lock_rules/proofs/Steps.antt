@@ -1,4 +1,4 @@
--- Each call keeps what holds between any two calls.
+-- Each call keeps what holds of the table between two calls.
 use Rattle.std.proofs.Common.{◌≡◌, ℕ, ◌+◌, ◌<◌, Bool, true, false, cond, not, eqb, ◌&&◌, List, [], ◌∷◌, ◌++◌, length, Option, Some, None, refl, arith, length-append}
 use Rattle.std.specs.Prelude.{is_some}
 use Rattle.std.proofs.lemmas.Bool.{and_parts}
@@ -19,11 +19,12 @@ use Rattle.lock_rules.specs.Sound.{Stands}
 use Rattle.lock_rules.proofs.Marks.{below-sup, sup-some}
 use Rattle.lock_rules.proofs.Sound.{Rises, granted-alters, unfit_at-alters}
 use Rattle.lock_rules.proofs.Promote.{granted-follows}
-use Rattle.lock_rules.proofs.Cuts.{IsAtRest, released-lawful, ended-lawful}
+use Rattle.lock_rules.proofs.Cuts.{IsQuiescent, released-lawful, ended-lawful}
 use Rattle.lock_rules.proofs.Begins.{new, begins-sound, begins-beside, begins-unfit}
 use Rattle.lock_rules.proofs.Settle.{settled-lawful}
 
-pub none-lawful : IsAtRest no_locks
+-- the empty table is as between two calls
+pub none-lawful : IsQuiescent no_locks
 none-lawful = record {
   sound = record { order = λ r. refl; once = λ s. omega arith; raising = λ s q e. absurd (cc); asked_under = λ s q e. absurd (cc); held_under = λ s r k e. absurd (cc); agree = λ s u r k l n e f. absurd (cc) };
   no_circle = none;
@@ -38,16 +39,17 @@ none-lawful = record {
     none s [] walk = and-false (not (eqb s s)) walk
     none s (w ∷ ws) walk = and-false (not (eqb w s)) walk.0
 
--- the laws hold, and nobody holds less
+-- the table is as between two calls again, and no lock fell
 pub record IsKept (t t' : Table) : Type 0 where
-  pub lawful : IsAtRest t'
+  pub lawful : IsQuiescent t'
   pub rises : Rises t t'
 
-same-kept : (t : Table) → IsAtRest t → IsKept t t
+-- it is kept if nothing changes
+same-kept : (t : Table) → IsQuiescent t → IsKept t t
 same-kept t i = record { lawful = i; rises = λ s x. at_or_below-refl (mode_or_nothing (held_mode t s x)) }
 
--- a request is granted, or begins to wait and its deadlocks are resolved
-pub asked-kept : (st : State) (s : ℕ) (r : List ℕ) (m : Mode) → IsAtRest st.table → request_of s st.table.requests ≡ None → at_or_below (mode_or_nothing (held_mode st.table s r)) m ≡ true → Stands st.table s r m → IsKept st.table (after_asking st s r m).table
+-- a request keeps it: one that is granted, or one that begins to wait and has its deadlocks resolved
+pub asked-kept : (st : State) (s : ℕ) (r : List ℕ) (m : Mode) → IsQuiescent st.table → request_of s st.table.requests ≡ None → at_or_below (mode_or_nothing (held_mode st.table s r)) m ≡ true → Stands st.table s r m → IsKept st.table (after_asking st s r m).table
 asked-kept st s r m i n up under = held_already (is_held (held_mode st.table s r) m)
   where
     none : (q : Claim) → request_of s st.table.requests ≡ Some q → ⊥
@@ -75,11 +77,12 @@ asked-kept st s r m i n up under = held_already (is_held (held_mode st.table s r
     held_already true = same-kept st.table i
     held_already false = decided (is_granted_at_once st.table s r m) refl
 
--- all tests of a list pass
+-- all tests of the list pass
 abbrev pub AllPass : List (Bool × Why) → Type 0
 AllPass [] = Unit {0}
 AllPass (t ∷ ts) = (t.0 ≡ false) × AllPass ts
 
+-- if no test is the first to fail, all pass
 pub all-pass : (ts : List (Bool × Why)) → first_failing ts ≡ None → AllPass ts
 all-pass [] h = tt
 all-pass (t ∷ ts) h = go t.0 refl h (all-pass ts)
@@ -88,23 +91,27 @@ all-pass (t ∷ ts) h = go t.0 refl h (all-pass ts)
     go true e h next = absurd (cc)
     go false e h next = (e, next h)
 
+-- what isn't some is None
 pub is-none : {A : Type 0} (o : Option A) → is_some o ≡ false → o ≡ None
 is-none None h = refl
 is-none (Some q) h = cc
 
--- who passes the tests of an asking may ask for its target
-may-ask : (st : State) (s : ℕ) (r : List ℕ) (m : Mode) → IsAtRest st.table → is_waiting st s ≡ false → is_nothing m ≡ false → lacks_parent st.table s r (target_of (held_mode st.table s r) m) ≡ false → IsKept st.table (after_asking st s r (target_of (held_mode st.table s r) m)).table
+-- a request that passes its tests keeps it
+may-ask : (st : State) (s : ℕ) (r : List ℕ) (m : Mode) → IsQuiescent st.table → is_waiting st s ≡ false → is_nothing m ≡ false → lacks_parent st.table s r (target_of (held_mode st.table s r) m) ≡ false → IsKept st.table (after_asking st s r (target_of (held_mode st.table s r) m)).table
 may-ask st s r m i w n p =
     asked-kept st s r (target_of (held_mode st.table s r) m) i (is-none (request_of s st.table.requests) w) (below-sup (mode_or_nothing (held_mode st.table s r)) m)
     (p, sup-some (mode_or_nothing (held_mode st.table s r)) m n)
 
-pub lock-kept : (st : State) (s : ℕ) (r : List ℕ) (m : Mode) → IsAtRest st.table → first_failing (tests st s (Lock r m)) ≡ None → IsKept st.table (after_asking st s r (target_of (held_mode st.table s r) m)).table
+-- a Lock that passes its tests keeps it
+pub lock-kept : (st : State) (s : ℕ) (r : List ℕ) (m : Mode) → IsQuiescent st.table → first_failing (tests st s (Lock r m)) ≡ None → IsKept st.table (after_asking st s r (target_of (held_mode st.table s r) m)).table
 lock-kept st s r m i h = let p = all-pass (tests st s (Lock r m)) h in may-ask st s r m i p.1.0 p.1.1.1.0 p.1.1.1.1.0
 
-pub convert-kept : (st : State) (s : ℕ) (r : List ℕ) (m : Mode) → IsAtRest st.table → first_failing (tests st s (Convert r m)) ≡ None → IsKept st.table (after_asking st s r (target_of (held_mode st.table s r) m)).table
+-- a Convert that passes its tests keeps it
+pub convert-kept : (st : State) (s : ℕ) (r : List ℕ) (m : Mode) → IsQuiescent st.table → first_failing (tests st s (Convert r m)) ≡ None → IsKept st.table (after_asking st s r (target_of (held_mode st.table s r) m)).table
 convert-kept st s r m i h = let p = all-pass (tests st s (Convert r m)) h in may-ask st s r m i p.1.0 p.1.1.1.0 p.1.1.1.1.1.0
 
-pub act-lawful : (st : State) (s : ℕ) (c : Call) → IsAtRest st.table → first_failing (tests st s c) ≡ None → IsAtRest (act st s c).state.table
+-- every call that passes its tests keeps it
+pub act-lawful : (st : State) (s : ℕ) (c : Call) → IsQuiescent st.table → first_failing (tests st s c) ≡ None → IsQuiescent (act st s c).state.table
 act-lawful st s Begin i h = i
 act-lawful st s (Lock r m) i h = (lock-kept st s r m i h).lawful
 act-lawful st s (Convert r m) i h = (convert-kept st s r m i h).lawful
@@ -115,16 +122,19 @@ act-lawful st s (Release r) i h =
 act-lawful st s Commit i h = ended-lawful s st.table i
 act-lawful st s Abort i h = ended-lawful s st.table i
 
-pub step-lawful : (st : State) (s : ℕ) (c : Call) → IsAtRest st.table → IsAtRest (step st s c).state.table
+-- every call keeps it, refused or not
+pub step-lawful : (st : State) (s : ℕ) (c : Call) → IsQuiescent st.table → IsQuiescent (step st s c).state.table
 step-lawful st s c i = go (first_failing (tests st s c)) refl
   where
-    go : (o : Option Why) → first_failing (tests st s c) ≡ o → IsAtRest (outcome_of o st s c).state.table
+    go : (o : Option Why) → first_failing (tests st s c) ≡ o → IsQuiescent (outcome_of o st s c).state.table
     go None e = act-lawful st s c i e
     go (Some w) e = i
 
-pub after-lawful : (es : List Entry) (st : State) → IsAtRest st.table → IsAtRest (state_after st es).table
+-- every list of calls keeps it
+pub after-lawful : (es : List Entry) (st : State) → IsQuiescent st.table → IsQuiescent (state_after st es).table
 after-lawful [] st i = i
 after-lawful (e ∷ es) st i = after-lawful es (step st e.session e.call).state (step-lawful st e.session e.call i)
 
-pub state-lawful : (es : List Entry) → IsAtRest (state_of es).table
+-- it holds in every state that a history leads to
+pub state-lawful : (es : List Entry) → IsQuiescent (state_of es).table
 state-lawful es = after-lawful es empty none-lawful

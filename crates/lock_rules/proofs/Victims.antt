@@ -1,4 +1,4 @@
--- The function with rounds is the relation of victims one after another, and the victims are determined.
+-- `after_victims` chooses the victims that the law describes, and these are determined.
 use Rattle.std.proofs.Common.{◌≡◌, ℕ, zero, suc, ◌<◌, Bool, true, false, cond, List, [], ◌∷◌, length, refl, sym, ◌∙◌, ap, arith}
 use Rattle.std.specs.Prelude.{filter}
 use Rattle.std.proofs.lemmas.Bool.{and_parts, and_from}
@@ -14,7 +14,7 @@ use Rattle.lock_rules.proofs.Cuts.{cancelled-follows, cancelled-fewer, victim-fe
 use Rattle.lock_rules.proofs.Settle.{on_circle, youngest-most, filter-has, victim-on, victim-waits, reached-walk, reaches-walk, walk-waits, has-waits}
 use Rattle.lock_rules.proofs.Owners.{victim-numbered, waiting-numbered}
 
--- where a circle goes through s, the victim is of all on one with s the youngest
+-- on a cycle through s, `victim_of` is the youngest of all sessions on a cycle with s
 pub victim-most : (st : State) (s : ℕ) → reaches st.table s s ≡ true → IsVictim st s (victim_of st s)
 victim-most st s h =
     let p = and_parts (reaches st.table s (victim_of st s)) (reaches st.table (victim_of st s) s) (victim-on st s h) in
@@ -25,7 +25,7 @@ victim-most st s h =
           (and_from (reaches st.table s u) (reaches st.table u s) (reaches-walk st.table s u c.there) (reaches-walk st.table u s c.back)));
     }
 
--- the victims of the function are victims one after another
+-- the victims of `after_victims` are victims one after another
 pub settled-victims : (n s : ℕ) (st : State) → length st.table.requests < n → (vs : List ℕ) × AreVictims s vs st (after_victims n s st)
 settled-victims zero s st few = absurd (omega arith)
 settled-victims (suc n) s st few = go (reaches st.table s s) refl (λ k. settled-victims n s (after_victim (victim_of st s) st) k)
@@ -54,7 +54,7 @@ settled-enough (suc n) (suc m) s st i few less = go (reaches st.table s s) refl 
         let fewer = cancelled-fewer (victim_of st s) st.table w.0 i w.1 in
         next (cancelled-follows (victim_of st s) st.table i).sound (omega (arith, fewer)) (omega (arith, fewer))
 
--- who is on a circle waits, and so has a transaction
+-- a session on a cycle waits, and so has a transaction
 on_circle-open : (st : State) (s v : ℕ) → IsNumbered st → AreOnCircle (waits_for st.table) s v → is_open st v ≡ true
 on_circle-open st s v i c = let w = has-waits v st.table.requests (walk-waits st.table v c.back.others s c.back.walk) in i.owners.waiting v w.0 w.1
 
@@ -62,10 +62,11 @@ on_circle-open st s v i c = let w = has-waits v st.table.requests (walk-waits st
 pub one-victim : (st : State) → IsNumbered st → (s v w : ℕ) → IsVictim st s v → IsVictim st s w → v ≡ w
 one-victim st i s v w a b = i.apart v w (on_circle-open st s v i a.on_circle) (on_circle-open st s w i b.on_circle) (omega (arith, a.youngest w b.on_circle, b.youngest v a.on_circle))
 
+-- if there is a victim for s, s is on a cycle
 round : (st : State) (s v : ℕ) → IsVictim st s v → Reaches (waits_for st.table) s s
 round st s v a = reaches-trans (waits_for st.table) s v s a.on_circle.there a.on_circle.back
 
--- the victims and the last state are determined
+-- two lists of victims are equal, and so are the states that they lead to
 pub same-victims : (s : ℕ) (vs ws : List ℕ) (st last end : State) → IsNumbered st → AreVictims s vs st last → AreVictims s ws st end → (vs ≡ ws) × (last ≡ end)
 same-victims s [] [] st last end i a b = (refl, a.1 ∙ sym b.1)
 same-victims s [] (w ∷ ws) st last end i a b = absurd (a.0 (round st s w b.0))
@@ -75,5 +76,6 @@ same-victims s (v ∷ vs) (w ∷ ws) st last end i a b =
     let r = same-victims s vs ws (after_victim v st) last end (victim-numbered v st i) a.1 (rw (← e) at b.1) in
     (ap (λ (x : ℕ). x ∷ vs) e ∙ ap (λ (xs : List ℕ). w ∷ xs) r.0, r.1)
 
+-- the victims of a request that begins to wait are determined
 pub determined : (st : State) → IsNumbered st → AreVictimsDetermined st
 determined st i s r k vs ws last end o a b = same-victims s vs ws (with_table (with_request s r k st.table) st) last end (waiting-numbered st s r k i o) a b

@@ -1,4 +1,4 @@
--- The worked histories are legal: the checker serves their calls.
+-- Each history worked by hand is legal: the prover serves its calls and compares the replies.
 use Rattle.std.proofs.Common.{refl}
 use Rattle.lock_rules.specs.Legal.{IsLegal}
 use Rattle.lock_rules.specs.Examples.{queue_in_order, promotion_stops, readers_together, promotion_in_order, intentions, refusals, down_the_tree, up_the_tree, release_promotes, release_of_one, asks_again, conversion_first, conversion_at_once, conversion_under_parent, abort_while_waiting, readers_that_convert, youngest_of_two, victim_in_the_way, conversions_that_meet, circle_through_the_queue, two_victims, begin_beside_others, polls, release_above_another, commit_of_four}

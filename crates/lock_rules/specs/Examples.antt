@@ -1,4 +1,4 @@
--- Histories worked by hand. The law that cites them has the checker compute each reply.
+-- Histories worked by hand. The prover computes each reply, in the law that cites them.
 use Rattle.std.specs.Prelude.{ℕ, zero, suc, List, [], ◌∷◌}
 use Rattle.lock_modes.specs.declared.Mode.TheVariants.{NL, IS, IX, S, SIX, X}
 use Rattle.lock_rules.specs.declared.calls.Call.{Call}
@@ -8,21 +8,21 @@ use Rattle.lock_rules.specs.declared.calls.Reply.TheVariants.{Began, Granted, Wa
 use Rattle.lock_rules.specs.declared.calls.Why.TheVariants.{AlreadyOpen, NoTransaction, IsWaiting, IsDoomed, NothingAsked, NotHeld, ParentNotHeld, ChildHeld}
 use Rattle.lock_rules.specs.declared.calls.Entry.{Entry}
 
--- a session's call with its reply
+-- a call of a session with its reply
 abbrev pub entry : ℕ → Call → Reply → Entry
 entry s c r = record { session = s; call = c; reply = r }
 
--- the history with another reply at this place
+-- the history with reply r at this place
 abbrev pub with_reply : ℕ → Reply → List Entry → List Entry
 with_reply place r [] = []
 with_reply zero r (e ∷ es) = entry e.session e.call r ∷ es
 with_reply (suc place) r (e ∷ es) = e ∷ with_reply place r es
 
--- the resource at the root of the lock tree with this number
+-- the database with this number, at the root of the resource tree
 abbrev pub database : ℕ → List ℕ
 database n = n ∷ []
 
--- The reader 3 comes after the writer 2 and waits behind it, though it fits beside the reader 1.
+-- Reader 3 comes after writer 2 and waits behind it, though its mode fits beside reader 1.
 abbrev pub queue_in_order : List Entry
 queue_in_order =
     entry 1 Begin (Began 1) ∷ entry 2 Begin (Began 2) ∷ entry 3 Begin (Began 3)
@@ -33,7 +33,7 @@ queue_in_order =
     ∷ entry 1 Commit (Committed 1) ∷ entry 2 Commit (Committed 1) ∷ entry 3 Commit (Committed 1)
     ∷ []
 
--- A commit promotes the first of the queue and leaves what doesn't fit beside it waiting.
+-- A commit promotes the first of the queue. The next request doesn't fit beside it and waits on.
 abbrev pub promotion_stops : List Entry
 promotion_stops =
     entry 1 Begin (Began 1) ∷ entry 2 Begin (Began 2) ∷ entry 3 Begin (Began 3)
@@ -46,7 +46,7 @@ promotion_stops =
     ∷ entry 3 (Lock (database 1) NL) (Refused IsWaiting)
     ∷ []
 
--- Several readers that wait are granted together.
+-- One promotion grants several readers.
 abbrev pub readers_together : List Entry
 readers_together =
     entry 1 Begin (Began 1) ∷ entry 2 Begin (Began 2) ∷ entry 3 Begin (Began 3)
@@ -58,7 +58,7 @@ readers_together =
     ∷ entry 2 Commit (Committed 1) ∷ entry 3 Commit (Committed 1)
     ∷ []
 
--- The first request that doesn't fit stops the promotion, also where a later one would fit.
+-- The first request that doesn't fit ends a promotion, even if a later one would fit.
 abbrev pub promotion_in_order : List Entry
 promotion_in_order =
     entry 1 Begin (Began 1) ∷ entry 2 Begin (Began 2) ∷ entry 3 Begin (Began 3) ∷ entry 4 Begin (Began 4)
@@ -70,7 +70,7 @@ promotion_in_order =
     ∷ entry 4 Poll Waiting
     ∷ []
 
--- IS goes beside SIX, and IX doesn't.
+-- IS is compatible with SIX, and IX isn't.
 abbrev pub intentions : List Entry
 intentions =
     entry 1 Begin (Began 1) ∷ entry 2 Begin (Began 2) ∷ entry 3 Begin (Began 3)
@@ -79,7 +79,7 @@ intentions =
     ∷ entry 3 (Lock (database 1) IX) Waiting
     ∷ []
 
--- What is refused, and that another transaction of the same session has a number of its own.
+-- Refusals of several kinds. A session's next transaction has a new number.
 abbrev pub refusals : List Entry
 refusals =
     entry 1 Commit (Refused NoTransaction)
@@ -95,7 +95,7 @@ refusals =
     ∷ entry 1 (Lock (1 ∷ 2 ∷ []) NL) (Refused NothingAsked)
     ∷ []
 
--- A lock needs its parent: IS or above for S, IX or above for X; the parent's parent doesn't serve.
+-- A lock needs its parent, in IS or above for S, in IX or above for X. A lock on the grandparent isn't enough.
 abbrev pub down_the_tree : List Entry
 down_the_tree =
     entry 1 Begin (Began 1)
@@ -134,7 +134,7 @@ release_promotes =
     ∷ entry 1 (Release (database 1)) (Refused NotHeld)
     ∷ []
 
--- A release takes the lock of its session alone.
+-- A release gives back the lock of its own session alone.
 abbrev pub release_of_one : List Entry
 release_of_one =
     entry 1 Begin (Began 1) ∷ entry 2 Begin (Began 2)
@@ -145,7 +145,7 @@ release_of_one =
     ∷ entry 2 Commit (Committed 1)
     ∷ []
 
--- A holder that asks again gets the least mode at or above both; its own lock is not in its way.
+-- A holder that asks again gets the least mode at or above both. Its own lock doesn't block it.
 abbrev pub asks_again : List Entry
 asks_again =
     entry 1 Begin (Began 1)
@@ -158,7 +158,7 @@ asks_again =
     ∷ entry 1 Commit (Committed 1)
     ∷ []
 
--- A conversion that has to wait goes before the fresh request that came earlier.
+-- A conversion that has to wait is queued before a fresh request that came earlier.
 abbrev pub conversion_first : List Entry
 conversion_first =
     entry 1 Begin (Began 1) ∷ entry 2 Begin (Began 2) ∷ entry 3 Begin (Began 3)
@@ -184,7 +184,7 @@ conversion_at_once =
     ∷ entry 3 Poll Waiting
     ∷ []
 
--- A conversion needs the parent as its target does.
+-- A conversion needs the parent in what its target needs.
 abbrev pub conversion_under_parent : List Entry
 conversion_under_parent =
     entry 1 Begin (Began 1)
@@ -196,7 +196,7 @@ conversion_under_parent =
     ∷ entry 1 Abort (Aborted 2)
     ∷ []
 
--- A session that waits can't commit but can abort: its request goes, and the one behind it is granted.
+-- A waiting session can't commit but can abort. Its request goes, and the one behind it is granted.
 abbrev pub abort_while_waiting : List Entry
 abort_while_waiting =
     entry 1 Begin (Began 1) ∷ entry 2 Begin (Began 2) ∷ entry 3 Begin (Began 3)
@@ -209,7 +209,7 @@ abort_while_waiting =
     ∷ entry 2 Poll (Refused NoTransaction)
     ∷ []
 
--- Two readers ask to write what both hold: the second is the younger and is doomed, and keeps its lock until it aborts.
+-- Two readers both ask to convert to X. The second is the younger: it is doomed, and keeps its lock until it aborts.
 abbrev pub readers_that_convert : List Entry
 readers_that_convert =
     entry 1 Begin (Began 1) ∷ entry 2 Begin (Began 2)
@@ -226,7 +226,7 @@ readers_that_convert =
     ∷ entry 1 Poll Clear
     ∷ []
 
--- The victim is the youngest of the circle, not the one who asked last.
+-- The victim is the youngest transaction on the cycle, not the one that asked last.
 abbrev pub youngest_of_two : List Entry
 youngest_of_two =
     entry 1 Begin (Began 1) ∷ entry 2 Begin (Began 2)
@@ -242,7 +242,7 @@ youngest_of_two =
     ∷ entry 1 Poll Clear
     ∷ []
 
--- The victim stands before the asker in a queue: once its request is gone, the asker is granted.
+-- The victim is ahead of the asker in a queue. Once its request is gone, the asker is granted.
 abbrev pub victim_in_the_way : List Entry
 victim_in_the_way =
     entry 1 Begin (Began 1) ∷ entry 2 Begin (Began 2) ∷ entry 3 Begin (Began 3)
@@ -255,7 +255,7 @@ victim_in_the_way =
     ∷ entry 2 Poll Waiting
     ∷ []
 
--- A request that is refused makes nobody wait; two conversions of one resource make a circle.
+-- A refused request blocks nobody. Two conversions on one resource make a cycle.
 abbrev pub conversions_that_meet : List Entry
 conversions_that_meet =
     entry 1 Begin (Began 1) ∷ entry 2 Begin (Began 2)
@@ -268,7 +268,7 @@ conversions_that_meet =
     ∷ entry 2 Poll Deadlock
     ∷ []
 
--- A circle through a place in the queue: 3 waits for 2 only because 2 stands before it.
+-- A cycle through a place in the queue: 3 waits for 2 only because 2 is ahead of it.
 abbrev pub circle_through_the_queue : List Entry
 circle_through_the_queue =
     entry 1 Begin (Began 1) ∷ entry 2 Begin (Began 2) ∷ entry 3 Begin (Began 3)
@@ -285,7 +285,7 @@ circle_through_the_queue =
     ∷ entry 2 Poll Clear
     ∷ []
 
--- Two circles go through the asker: the youngest of both is doomed first, and then the other.
+-- Two cycles go through the asker. The youngest transaction of all on them is doomed first, then the other.
 abbrev pub two_victims : List Entry
 two_victims =
     entry 1 Begin (Began 1) ∷ entry 2 Begin (Began 2) ∷ entry 3 Begin (Began 3)
@@ -303,7 +303,7 @@ two_victims =
     ∷ entry 1 Poll Clear
     ∷ []
 
--- A begin changes nothing of the others: who waits waits on, and who is doomed stays so.
+-- A begin changes nothing for others: a waiting session waits on, a doomed one stays doomed.
 abbrev pub begin_beside_others : List Entry
 begin_beside_others =
     entry 1 Begin (Began 1) ∷ entry 2 Begin (Began 2)
@@ -319,7 +319,7 @@ begin_beside_others =
     ∷ entry 1 Poll Clear
     ∷ []
 
--- A poll tells of the session's own request: one that holds is clear, though another waits for what it holds.
+-- A poll reports the session's own request: a holder is clear, though another session waits for it.
 abbrev pub polls : List Entry
 polls =
     entry 1 Begin (Began 1) ∷ entry 2 Begin (Began 2)
@@ -334,7 +334,7 @@ polls =
     ∷ entry 2 Poll Clear
     ∷ []
 
--- What another session holds below is no hindrance to a release.
+-- Another session's locks below a resource don't prevent a release.
 abbrev pub release_above_another : List Entry
 release_above_another =
     entry 1 Begin (Began 1) ∷ entry 2 Begin (Began 2)
@@ -347,7 +347,7 @@ release_above_another =
     ∷ entry 2 Commit (Committed 2)
     ∷ []
 
--- A commit of four locks: it is no matter to a commit how many there are.
+-- A commit releases any number of locks, here four.
 abbrev pub commit_of_four : List Entry
 commit_of_four =
     entry 1 Begin (Began 1)

@@ -1,16 +1,16 @@
--- All laws of a state that a history leads to: of its table, of its transactions, and of the calls that are asked in it, refused or not.
+-- All laws of a state that a history leads to: of its table, of its transactions, and of the calls made in it, refused or not.
 use Rattle.lock_rules.specs.State.{State}
-use Rattle.lock_rules.specs.Laws.{AreHoldersListed, AreLocksOnce, IsOneRequestEach, AreLocksFew, DoesFitTell, AreHoldersCompatible, DoesNobodyWaitNeedlessly, AreLocksUnderParents, AreRequestsUnderParents, AreChildrenHeld, IsAccessCompatible, HasNoCircle, DoDoomedWaitForNothing, AreOwnersOpen, AreNumbersApart, AreNumbersCounted, AreVictimsDetermined}
-use Rattle.lock_rules.specs.Effects.{DoesBeginOpen, DoesPollTell, DoVictimsKeepTheirLocks, DoesDoomPromote, IsLockAnswered, IsConvertAnswered, IsLockOfHeldConvert, IsGrantedHeld, IsConversionHeld, DoesReleaseTakeOneLock, DoesCommitTakeAllLocks, DoesAbortTakeAllLocks}
+use Rattle.lock_rules.specs.Laws.{AreHoldersListed, AreLocksOnce, IsOneRequestEach, AreLocksBounded, IsFitExact, AreHoldersCompatible, DoesNobodyWaitNeedlessly, AreLocksUnderParents, AreRequestsUnderParents, AreChildrenHeld, IsAccessCompatible, HasNoCircle, DoDoomedWaitForNothing, AreOwnersOpen, AreNumbersDistinct, AreNumbersCounted, AreVictimsDetermined}
+use Rattle.lock_rules.specs.Effects.{DoesBeginOpen, DoesPollReport, DoVictimsKeepTheirLocks, DoesDoomPromote, IsLockAnswered, IsConvertAnswered, IsLockOfHeldConvert, IsGrantedHeld, IsConversionHeld, DoesReleaseTakeOneLock, DoesCommitTakeAllLocks, DoesAbortTakeAllLocks}
 use Rattle.lock_rules.specs.Refusals.{AreRefusalsMeant, AreOthersAccepted, DoesAbortNeedTransaction, IsClearCommitAccepted}
 
--- the state is as the laws say
+-- all laws of a state hold
 pub record IsLawfulState (st : State) : Type 0 where
   pub holders_listed : AreHoldersListed st
   pub locks_once : AreLocksOnce st
   pub one_request : IsOneRequestEach st
-  pub locks_few : AreLocksFew st
-  pub fit_tells : DoesFitTell st
+  pub locks_bounded : AreLocksBounded st
+  pub fit_exact : IsFitExact st
   pub holders_compatible : AreHoldersCompatible st
   pub nobody_waits_needlessly : DoesNobodyWaitNeedlessly st
   pub locks_under_parents : AreLocksUnderParents st
@@ -20,7 +20,7 @@ pub record IsLawfulState (st : State) : Type 0 where
   pub no_circle : HasNoCircle st
   pub doomed_wait_for_nothing : DoDoomedWaitForNothing st
   pub owners_open : AreOwnersOpen st
-  pub numbers_apart : AreNumbersApart st
+  pub numbers_distinct : AreNumbersDistinct st
   pub numbers_counted : AreNumbersCounted st
   pub victims_determined : AreVictimsDetermined st
   pub victims_keep_their_locks : DoVictimsKeepTheirLocks st
@@ -30,7 +30,7 @@ pub record IsLawfulState (st : State) : Type 0 where
   pub abort_needs_transaction : DoesAbortNeedTransaction st
   pub clear_commit_accepted : IsClearCommitAccepted st
   pub begin_opens : DoesBeginOpen st
-  pub poll_tells : DoesPollTell st
+  pub poll_reports : DoesPollReport st
   pub locks_answered : IsLockAnswered st
   pub conversions_answered : IsConvertAnswered st
   pub held_is_converted : IsLockOfHeldConvert st

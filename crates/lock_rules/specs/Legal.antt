@@ -1,4 +1,4 @@
--- Histories: which of them a sequential lock manager gives, and what state they lead to.
+-- Legal histories, which are those that the sequential lock manager produces, and the state that a history leads to.
 use Rattle.std.specs.Prelude.{◌≡◌, ℕ, ◌+◌, if◌then◌else◌, ◌==◌, List, [], ◌∷◌, map}
 use Rattle.lock_rules.specs.declared.calls.Call.{Call}
 use Rattle.lock_rules.specs.declared.calls.Reply.{Reply}
@@ -6,40 +6,40 @@ use Rattle.lock_rules.specs.declared.calls.Entry.{Entry}
 use Rattle.lock_rules.specs.State.{State, empty}
 use Rattle.lock_rules.specs.Step.{step}
 
--- the state after the calls of these entries
+-- the state after the calls of these entries, starting from st
 abbrev pub state_after : State → List Entry → State
 state_after st [] = st
 state_after st (e ∷ es) = state_after (step st e.session e.call).state es
 
--- the state that a history leads to
+-- the state after the calls of a history, starting from the empty state
 abbrev pub state_of : List Entry → State
 state_of es = state_after empty es
 
--- each reply is the one that the step gives at its place
+-- starting from st, each reply is the one that the sequential lock manager gives
 abbrev pub IsLegalFrom : State → List Entry → Type 0
 IsLegalFrom st [] = Unit {0}
 IsLegalFrom st (e ∷ es) = (e.reply ≡ (step st e.session e.call).reply) × IsLegalFrom (step st e.session e.call).state es
 
--- a history that a lock manager gives that has nothing in mind before the first call
+-- the history is legal: starting from the empty state, each reply is the one that the sequential lock manager gives
 abbrev pub IsLegal : List Entry → Type 0
 IsLegal es = IsLegalFrom empty es
 
--- what the entries asked: the session and the call of each
+-- the calls of the entries, each with its session, without the replies
 abbrev pub asked_in : List Entry → List (ℕ × Call)
 asked_in es = map (λ e. (e.session, e.call)) es
 
--- a call of one session: its place in the history, and its reply
+-- a call of one session: its place in the history, counted from 0, and its reply
 pub record Answered : Type 0 where
   pub place : ℕ
   pub call : Call
   pub reply : Reply
 
--- the calls of a session among these entries, the first of which has this place
+-- the session's calls among these entries, if the first entry has this place
 abbrev pub calls_from : ℕ → ℕ → List Entry → List Answered
 calls_from s place [] = []
 calls_from s place (e ∷ es) =
     if e.session == s then record { place = place; call = e.call; reply = e.reply } ∷ calls_from s (place + 1) es else calls_from s (place + 1) es
 
--- the calls of a session in a history, in their order
+-- the session's calls in a history, in order
 abbrev pub calls_of : ℕ → List Entry → List Answered
 calls_of s es = calls_from s 0 es

@@ -1,9 +1,9 @@
--- The names of the refusals.
+-- The names of the refusals, as histories and messages write them.
 use Rattle.std.specs.Prelude.{ℕ, List, codes}
 use Rattle.lock_rules.specs.declared.calls.Why.{Why}
 use Rattle.lock_rules.specs.declared.calls.Why.TheVariants.{AlreadyOpen, NoTransaction, IsWaiting, IsDoomed, NothingAsked, NotHeld, ParentNotHeld, ChildHeld, TooManyLocks}
 
--- each refusal has one name, as histories write it
+-- the name of the refusal, as histories write it
 abbrev pub name_of_why : Why → List ℕ
 name_of_why AlreadyOpen = codes "AlreadyOpen"
 name_of_why NoTransaction = codes "NoTransaction"

@@ -1,4 +1,4 @@
--- What each refusal means, in plain words: relations, beside the tests of Step that compute.
+-- What each refusal means, as relations, beside the tests of Step that compute.
 use Rattle.std.specs.Prelude.{◌≡◌, ℕ, ◌↔◌, true, List, [], ◌∷◌, ◌++◌, length, None, Some, All}
 use Rattle.lock_modes.specs.declared.Mode.{Mode}
 use Rattle.lock_modes.specs.declared.Mode.TheVariants.{NL}
@@ -15,19 +15,19 @@ use Rattle.lock_rules.specs.Step.{step}
 use Rattle.lock_rules.specs.Laws.{HoldsAtLeast, HasTransaction, HasDoomedTransaction, HasRequest}
 use Rattle.lock_rules.specs.Effects.{IsNotRefused, IsTarget}
 
--- the resource has a parent, and the session doesn't hold it in a mode at or above what the target needs
+-- r has a parent, and the session doesn't hold it in a mode at or above what the target of this request needs
 abbrev pub LacksParent : Table → ℕ → List ℕ → Mode → Type 0
 LacksParent t s r m = (k : Mode) × IsTarget (held_mode t s r) m k × (has_parent r ≡ true) × (HoldsAtLeast t s (parent_of r) (need_of k) → ⊥)
 
--- the session itself holds a resource below
+-- the session itself holds a lock on a descendant of r
 abbrev pub HoldsBelow : Table → ℕ → List ℕ → Type 0
 HoldsBelow t s r = (x : List ℕ) × (k : Mode) × (is_ancestor r x ≡ true) × (held_mode t s x ≡ Some k)
 
--- the session doesn't hold the resource, and holds as many others as it may
-abbrev pub HoldsAllItMay : Table → ℕ → List ℕ → Type 0
-HoldsAllItMay t s r = (held_mode t s r ≡ None) × (length (claims_of s t.held) ≡ MAX_LOCKS)
+-- the session doesn't hold r, and it holds MAX_LOCKS locks
+abbrev pub HoldsMaxLocks : Table → ℕ → List ℕ → Type 0
+HoldsMaxLocks t s r = (held_mode t s r ≡ None) × (length (claims_of s t.held) ≡ MAX_LOCKS)
 
--- what a refusal says of the session and its call; nothing is so where the call has no such test
+-- what each refusal says of the session and its call; false if the call has no such test
 abbrev pub Fails : State → ℕ → Call → Why → Type 0
 Fails st s c AlreadyOpen = HasTransaction st s
 Fails st s c NoTransaction = HasTransaction st s → ⊥
@@ -40,10 +40,10 @@ Fails st s (Release r) NotHeld = held_mode st.table s r ≡ None
 Fails st s (Lock r m) ParentNotHeld = LacksParent st.table s r m
 Fails st s (Convert r m) ParentNotHeld = LacksParent st.table s r m
 Fails st s (Release r) ChildHeld = HoldsBelow st.table s r
-Fails st s (Lock r m) TooManyLocks = HoldsAllItMay st.table s r
+Fails st s (Lock r m) TooManyLocks = HoldsMaxLocks st.table s r
 Fails st s _ _ = ⊥
 
--- the refusals that a call can meet, in the order of its tests, which is that of their numbers
+-- the refusals that a call can get, in the order of its tests, which is the order of their numbers
 abbrev pub refusals_of : Call → List Why
 refusals_of Begin = AlreadyOpen ∷ []
 refusals_of (Lock r m) = NoTransaction ∷ IsWaiting ∷ IsDoomed ∷ NothingAsked ∷ ParentNotHeld ∷ TooManyLocks ∷ []
@@ -53,22 +53,22 @@ refusals_of (Release r) = NoTransaction ∷ IsWaiting ∷ IsDoomed ∷ NotHeld �
 refusals_of Commit = NoTransaction ∷ IsWaiting ∷ IsDoomed ∷ []
 refusals_of Abort = NoTransaction ∷ []
 
--- the refusal is one of the call's, its test fails, and none before it does
+-- the refusal is one of the call's, its test fails, and no test before it does
 abbrev pub IsFirstToFail : State → ℕ → Call → Why → Type 0
 IsFirstToFail st s c why = (before after : List Why) × (refusals_of c ≡ before ++ why ∷ after) × Fails st s c why × All (λ w. Fails st s c w → ⊥) before
 
--- a call is refused for a reason exactly where that is the first of its tests that fails
+-- a call is refused for a reason exactly if that reason's test is the first to fail
 abbrev pub AreRefusalsMeant : State → Type 0
 AreRefusalsMeant st = (s : ℕ) (c : Call) (why : Why) → ((step st s c).reply ≡ Refused why) ↔ IsFirstToFail st s c why
 
--- and it isn't refused exactly where none of its tests fails
+-- a call isn't refused exactly if none of its tests fails
 abbrev pub AreOthersAccepted : State → Type 0
 AreOthersAccepted st = (s : ℕ) (c : Call) → IsNotRefused st s c ↔ All (λ w. Fails st s c w → ⊥) (refusals_of c)
 
--- an abort is refused for want of a transaction, and for nothing else
+-- an abort is refused only with NoTransaction, and exactly if the session has no transaction
 abbrev pub DoesAbortNeedTransaction : State → Type 0
 DoesAbortNeedTransaction st = (s : ℕ) (why : Why) → ((step st s Abort).reply ≡ Refused why) ↔ ((why ≡ NoTransaction) × (HasTransaction st s → ⊥))
 
--- a commit of an open session that neither waits nor is doomed is never refused
+-- a commit is never refused if the session has a transaction, doesn't wait and isn't doomed
 abbrev pub IsClearCommitAccepted : State → Type 0
 IsClearCommitAccepted st = (s : ℕ) → HasTransaction st s → (HasRequest st s → ⊥) → (HasDoomedTransaction st s → ⊥) → IsNotRefused st s Commit

@@ -1,4 +1,4 @@
--- The sequential lock manager: what a call does, and its reply.
+-- The sequential lock manager: the tests of each call, what it changes, and its reply.
 use Rattle.std.specs.Prelude.{ℕ, ◌+◌, Bool, true, false, not, ◌&&◌, if◌then◌else◌, ◌==◌, nat_le, List, [], ◌∷◌, ◌++◌, length, map, Option, Some, None, is_some}
 use Rattle.std.specs.List.{list_any}
 use Rattle.lock_modes.specs.declared.Mode.{Mode}
@@ -16,29 +16,29 @@ use Rattle.lock_rules.specs.State.{Table, State, held_mode, mode_or_nothing, req
 use Rattle.lock_rules.specs.Waits.{resource_of_request, after_victims}
 use Rattle.lock_rules.specs.Queue.{locks_but, after_grant, is_granted_at_once, with_request, after_promotion, after_promotions}
 
--- a new state and a reply
+-- the state after a call, and its reply
 pub record Outcome : Type 0 where
   pub state : State
   pub reply : Reply
 
--- NL, which asks for nothing
+-- the mode is NL, which asks for nothing
 abbrev pub is_nothing : Mode → Bool
 is_nothing NL = true
 is_nothing _ = false
 
--- what is asked for in the end: the least mode at or above what is held, if anything is, and the mode that was asked
+-- the target of a request: the least mode at or above both the mode held, if any, and the mode asked
 abbrev pub target_of : Option Mode → Mode → Mode
 target_of o m = sup_of (mode_or_nothing o) m
 
--- the resource has a parent, and what the session holds on it outright doesn't cover what the mode needs
+-- the parent rule is broken: r has a parent, and the session's lock on it doesn't cover what mode m needs
 abbrev pub lacks_parent : Table → ℕ → List ℕ → Mode → Bool
 lacks_parent t s r m = has_parent r && not (at_or_below (need_of m) (mode_or_nothing (held_mode t s (parent_of r))))
 
--- the session holds a resource below
+-- the session holds a lock on a descendant of the resource
 abbrev pub holds_child : Table → ℕ → List ℕ → Bool
 holds_child t s r = list_any (λ c. (c.session == s) && is_ancestor r c.resource) t.held
 
--- the tests of a call in their order: whether each fails, and the refusal that it gives
+-- the tests of a call, in order: whether each fails, and the refusal that it gives
 abbrev pub tests : State → ℕ → Call → List (Bool × Why)
 tests st s Begin = (is_open st s, AlreadyOpen) ∷ []
 tests st s (Lock r m) =
@@ -68,45 +68,46 @@ tests st s (Release r) =
 tests st s Commit = (not (is_open st s), NoTransaction) ∷ (is_waiting st s, IsWaiting) ∷ (is_doomed st s, IsDoomed) ∷ []
 tests st s Abort = (not (is_open st s), NoTransaction) ∷ []
 
--- the refusal of the first test that fails
+-- the refusal of the first test that fails, None if all pass
 abbrev pub first_failing : List (Bool × Why) → Option Why
 first_failing [] = None
 first_failing (t ∷ ts) = if t.0 then Some t.1 else first_failing ts
 
--- a request begins to wait, and the deadlocks that it makes are resolved; each victim is a session that waits, so there are enough rounds
+-- the state after a request begins to wait and its deadlocks are resolved
+-- Each victim has a waiting request and loses it, so this number of rounds is enough.
 abbrev pub after_wait : State → ℕ → List ℕ → Mode → State
 after_wait st s r m = after_victims (length st.table.requests + 2) s (with_table (with_request s r m st.table) st)
 
--- the mode that is held covers this one
+-- there is a held mode, and it covers m
 abbrev pub is_held : Option Mode → Mode → Bool
 is_held None m = false
 is_held (Some k) m = at_or_below m k
 
--- the state after a session has asked for a target on a resource; a target that is held already changes nothing
+-- the state after a request for the target m: unchanged if the session's lock covers it, else after a grant or a wait
 abbrev pub after_asking : State → ℕ → List ℕ → Mode → State
 after_asking st s r m =
     if is_held (held_mode st.table s r) m then st
     else (if is_granted_at_once st.table s r m then with_table (after_grant s r m st.table) st else after_wait st s r m)
 
--- the session is told that it became a victim, or that it waits, or that it was granted the target, at once or by the end of a victim's request
+-- a request for the target m; its reply is Deadlock if the asker became a victim, Waiting if it still waits, else Granted
 abbrev pub ask : State → ℕ → List ℕ → Mode → Outcome
 ask st s r m =
     let after = after_asking st s r m in
     record { state = after; reply = if is_doomed after s then Deadlock else (if is_waiting after s then Waiting else Granted m) }
 
--- one lock is taken away, and its resource is promoted
+-- the table after a release: the lock is removed, and its resource is promoted
 abbrev pub after_release : ℕ → List ℕ → Table → Table
 after_release s r t = after_promotion r (record { held = locks_but s r t.held; requests = t.requests })
 
--- all that the session holds and waits for is taken away
+-- the table without the session's locks and its request
 abbrev pub without_claims : ℕ → Table → Table
 without_claims s t = record { held = claims_but s t.held; requests = claims_but s t.requests }
 
--- and each resource that this touches is promoted
+-- the table after a transaction ends: its locks and its request are removed, and each of their resources is promoted
 abbrev pub after_end : ℕ → Table → Table
 after_end s t = after_promotions (resource_of_request (request_of s t.requests) ++ map (λ c. c.resource) (claims_of s t.held)) (without_claims s t)
 
--- what a call does where no test fails
+-- what a call does if all its tests pass, and its reply
 abbrev pub act : State → ℕ → Call → Outcome
 act st s Begin = record {
   state = with_begun s (Some (record { number = st.count + 1; doomed = false })) (record { count = st.count + 1; begun = st.begun; table = st.table });
@@ -125,11 +126,11 @@ act st s Abort = record {
   reply = Aborted (length (claims_of s st.table.held));
 }
 
--- a refusal changes nothing; a call that isn't refused acts
+-- a refused call changes nothing; any other call acts
 abbrev pub outcome_of : Option Why → State → ℕ → Call → Outcome
 outcome_of (Some why) st s call = record { state = st; reply = Refused why }
 outcome_of None st s call = act st s call
 
--- a call of a session in a state
+-- one call of one session: refused by the first test that fails, else it acts
 abbrev pub step : State → ℕ → Call → Outcome
 step st s call = outcome_of (first_failing (tests st s call)) st s call

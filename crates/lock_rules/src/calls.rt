@@ -1,98 +1,101 @@
-//! What a session calls, and what it is told.
+//! What a session may call, the replies, and the reasons of refusals.
 
 use lock_modes::Mode;
 use lock_tree::Resource;
 
-/// The sessions of one lock table are numbered from 1 to at most this number.
+/// The greatest number of sessions of one lock table. Sessions are numbered from 1.
 pub const MAX_SESSIONS: u16 = waits_for::MAX_SESSIONS;
 
-/// How many locks a transaction may hold at once; one more is refused with `Why::TooManyLocks`.
+/// The greatest number of locks that a transaction may hold at once. A request for one more is refused with
+/// `Why::TooManyLocks`.
 pub const MAX_LOCKS: usize = 4096;
 
-/// What a session asks of the lock table.
+/// A call of a session on the lock table.
 #[derive(Clone, Copy, Debug, PartialEq, Eq, Hash)]
 pub enum Call {
-    /// Begins a transaction. A session has at most one open.
+    /// Begins a transaction. A session has at most one open transaction.
     Begin,
-    /// Asks for a lock on the resource: in this mode, or, where the session holds the resource already, in the least
-    /// mode at or above what it holds and this one.
+    /// Requests a lock on the resource in the mode. If the session holds the resource already, requests a conversion to
+    /// the least mode at or above both the mode held and this one.
     Lock(Resource, Mode),
-    /// The same, of a resource that the session holds. Whoever asks for a conversion where nothing is held is refused.
+    /// Requests a conversion, as `Lock` does for a resource that the session holds. Refused with `Why::NotHeld` if it
+    /// doesn't hold it.
     Convert(Resource, Mode),
-    /// Asks how the session stands: whether it waits, or was chosen as a deadlock's victim. It changes nothing.
+    /// Asks whether the session waits or its transaction was chosen as a deadlock victim. Changes nothing.
     Poll,
-    /// Gives back one lock before the end of the transaction. Locks are given back from leaf to root.
+    /// Releases one lock before the transaction ends. Locks are released from leaf to root.
     Release(Resource),
-    /// Ends the transaction and gives back all its locks.
+    /// Commits the transaction and releases all its locks.
     Commit,
-    /// Ends the transaction, also one that waits or is doomed: takes away its request and gives back all its locks.
+    /// Aborts the transaction, even if it waits or is doomed: cancels its request and releases all its locks.
     Abort,
 }
 
-/// An open transaction of a session.
+/// The open transaction of a session.
 #[derive(Clone, Copy, Debug, PartialEq, Eq, Hash)]
 pub struct Transaction {
-    /// Transactions are numbered 1, 2, .. in the order in which they began.
+    /// Its number. Transactions are numbered 1, 2, .. in the order in which they began; the youngest has the greatest
+    /// number.
     pub number: u64,
-    /// Whether it was chosen as a deadlock's victim: all it can do then is to abort.
+    /// Whether it was chosen as a deadlock victim. A doomed transaction can only abort.
     pub doomed: bool,
 }
 
-/// Why a call was refused. The tests of a call are made in the order of these numbers; the first that
-/// fails gives the reply. The number 10 is of no refusal.
+/// The reason of a refusal. A call's tests are made in the order of these numbers, and the first that fails gives the
+/// reply. Number 10 is retired.
 #[derive(Clone, Copy, Debug, PartialEq, Eq, Hash)]
 pub enum Why {
-    /// The session has a transaction already.
+    /// The session has an open transaction already.
     AlreadyOpen = 1,
-    /// The session has no transaction.
+    /// The session has no open transaction.
     NoTransaction = 2,
-    /// The session has a request that waits.
+    /// The session has a waiting request.
     IsWaiting = 3,
-    /// The session's transaction was chosen as a deadlock's victim, and hasn't aborted yet.
+    /// The session's transaction was chosen as a deadlock victim and has not aborted yet.
     IsDoomed = 4,
-    /// The mode that was asked is NL.
+    /// The requested mode is NL.
     NothingAsked = 5,
-    /// The session doesn't hold the resource outright.
+    /// The session has no lock of its own on the resource. A lock on an ancestor doesn't count.
     NotHeld = 6,
-    /// The session doesn't hold the parent in a mode that covers what the target needs of it.
+    /// The session doesn't hold the parent in a mode that covers what the request's target needs of it.
     ParentNotHeld = 7,
-    /// The session holds a resource below.
+    /// The session holds a lock on a descendant of the resource.
     ChildHeld = 8,
-    /// One lock more is asked, and the transaction holds `MAX_LOCKS` locks.
+    /// The request would be one lock more than `MAX_LOCKS`.
     TooManyLocks = 9,
 }
 
-/// What a session is told.
+/// The reply to a call.
 #[derive(Clone, Copy, Debug, PartialEq, Eq, Hash)]
 pub enum Reply {
-    /// The transaction has begun. Transactions are numbered 1, 2, .. in the order in which they began.
+    /// The transaction has begun and has this number.
     Began(u64),
-    /// The session holds the resource in this mode.
+    /// The lock is granted: the session holds the resource in this mode.
     Granted(Mode),
-    /// The request waits for other transactions.
+    /// The session's request waits.
     Waiting,
-    /// The transaction was chosen as a deadlock's victim: its request is taken away, it keeps its locks, and all it
-    /// can do is to abort. A session that waited learns it by a poll.
+    /// The transaction was chosen as a deadlock victim. Its request is cancelled, it keeps its locks, and it can only
+    /// abort. A session that waited when it was chosen learns this by a poll.
     Deadlock,
-    /// The session has no request that waits, and is not doomed.
+    /// The session has a transaction, no waiting request, and isn't doomed.
     Clear,
-    /// The lock was given back.
+    /// The lock is released.
     Released,
-    /// The transaction has ended; this many locks were given back.
+    /// The transaction is committed, and this many locks were released.
     Committed(u32),
-    /// The transaction was given up; this many locks were given back.
+    /// The transaction is aborted, and this many locks were released.
     Aborted(u32),
-    /// Nothing was done.
+    /// The call is refused and changed nothing.
     Refused(Why),
 }
 
-/// One call of one session, with its reply. A list of these, oldest first, is a history.
+/// One call of one session, with its reply. A list of entries, oldest first, is a history.
 #[derive(Clone, Copy, Debug, PartialEq, Eq, Hash)]
 pub struct Entry {
-    /// From 1 to the number of sessions.
+    /// The session that called, numbered from 1.
     pub session: u16,
-    /// What it asked.
+    /// What it called.
     pub call: Call,
-    /// What it was told.
+    /// The reply to it.
     pub reply: Reply,
 }

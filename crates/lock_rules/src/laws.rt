@@ -1,4 +1,5 @@
-//! Laws of the definitions, each the contract of a function that does nothing. Other crates cite one by calling it.
+//! The laws of the locking rules. Each is the contract of a function with an empty body; another crate cites a law by
+//! calling its function.
 
 ghost use Rattle.std.specs.Prelude.{◌≡◌, ℕ, ◌↔◌, List, [], ◌∷◌, ◌++◌, length, Contains, if◌then◌else◌, ◌==◌};
 ghost use Rattle.lock_modes.specs.declared.Mode.{Mode as ModeValue};
@@ -11,14 +12,14 @@ ghost use Rattle.lock_rules.specs.State.{State, Table, empty};
 ghost use Rattle.lock_rules.specs.Queue.{after_grant};
 ghost use Rattle.lock_rules.specs.Step.{step};
 ghost use Rattle.lock_rules.specs.Legal.{Answered, IsLegal, state_of, asked_in, calls_of};
-ghost use Rattle.lock_rules.specs.Laws.{AreRepliesOfSteps, IsEntryOf, ArePlacesRising, IsRefusalExact, DoesRefusalKeep, IsGrantOf, DoesPromotionGrantLongest, DoesFitTell, AreHoldersCompatible, DoesNobodyWaitNeedlessly, AreLocksUnderParents, AreRequestsUnderParents, AreChildrenHeld, IsAccessCompatible, DoesGrantStand, DoesDoomStand, DoesRequestStand, AreOwnersOpen, AreNumbersApart, AreNumbersCounted, DoWaitsTell, HasNoCircle, DoDoomedWaitForNothing, AreVictimsDetermined, AreHoldersListed, AreLocksOnce, IsOneRequestEach, AreLocksFew};
-ghost use Rattle.lock_rules.specs.Effects.{DoesBeginOpen, DoesPollTell, IsLockAnswered, IsConvertAnswered, IsLockOfHeldConvert, IsGrantedHeld, IsConversionHeld, DoVictimsKeepTheirLocks, DoesDoomPromote, DoesReleaseTakeOneLock, DoesCommitTakeAllLocks, DoesAbortTakeAllLocks};
+ghost use Rattle.lock_rules.specs.Laws.{AreRepliesOfSteps, IsEntryOf, ArePlacesRising, IsRefusalExact, DoesRefusalKeep, IsGrantOf, DoesPromotionGrantLongest, IsFitExact, AreHoldersCompatible, DoesNobodyWaitNeedlessly, AreLocksUnderParents, AreRequestsUnderParents, AreChildrenHeld, IsAccessCompatible, DoesGrantStand, DoesDoomStand, DoesRequestStand, AreOwnersOpen, AreNumbersDistinct, AreNumbersCounted, AreWaitsExact, HasNoCircle, DoDoomedWaitForNothing, AreVictimsDetermined, AreHoldersListed, AreLocksOnce, IsOneRequestEach, AreLocksBounded};
+ghost use Rattle.lock_rules.specs.Effects.{DoesBeginOpen, DoesPollReport, IsLockAnswered, IsConvertAnswered, IsLockOfHeldConvert, IsGrantedHeld, IsConversionHeld, DoVictimsKeepTheirLocks, DoesDoomPromote, DoesReleaseTakeOneLock, DoesCommitTakeAllLocks, DoesAbortTakeAllLocks};
 ghost use Rattle.lock_rules.specs.Refusals.{AreRefusalsMeant, AreOthersAccepted, DoesAbortNeedTransaction, IsClearCommitAccepted};
 ghost use Rattle.lock_rules.specs.Lawful.{IsLawfulState};
 ghost use Rattle.lock_rules.specs.Examples.{with_reply, queue_in_order, promotion_stops, readers_together, promotion_in_order, intentions, refusals, down_the_tree, up_the_tree, release_promotes, release_of_one, asks_again, conversion_first, conversion_at_once, conversion_under_parent, abort_while_waiting, readers_that_convert, youngest_of_two, victim_in_the_way, conversions_that_meet, circle_through_the_queue, two_victims, begin_beside_others, polls, release_above_another, commit_of_four};
 
-/// A history is legal exactly where each reply is the one that the step gives at its place. So each
-/// front of a legal history is legal.
+/// A history is legal exactly if each reply is the one that `step` gives in the state after the entries before it. So
+/// every front of a legal history is legal.
 pub fn histories_are_legal_by_steps()
     ensures by_steps { (history : List EntryValue) → IsLegal history ↔ AreRepliesOfSteps history }
     ensures fronts { (front rest : List EntryValue) → IsLegal (front ++ rest) → IsLegal front }
@@ -26,20 +27,20 @@ pub fn histories_are_legal_by_steps()
         IsLegal history → e.reply ≡ (step (state_of history) e.session e.call).reply → IsLegal (history ++ e ∷ []) }
 {}
 
-/// The state after one more entry is the step of the state before.
+/// The empty history leads to the empty state, and one more entry leads to the state after one more step.
 pub fn states_follow_by_steps()
     ensures first { state_of [] ≡ empty }
     ensures one_more { (history : List EntryValue) (e : EntryValue) →
         state_of (history ++ e ∷ []) ≡ (step (state_of history) e.session e.call).state }
 {}
 
-/// For every list of calls there is one legal history that has them in their order, and no other.
+/// For every list of calls there is exactly one legal history of these calls in this order.
 pub fn histories_are_determined_by_calls()
     ensures some { (calls : List (ℕ × CallValue)) → (history : List EntryValue) × ((asked_in history ≡ calls) × IsLegal history) }
     ensures one { (a b : List EntryValue) → asked_in a ≡ asked_in b → IsLegal a → IsLegal b → a ≡ b }
 {}
 
-/// The calls of a session are the entries of that session, each once, in the order of their places.
+/// The calls of a session are exactly the history's entries of that session, by rising place.
 pub fn calls_are_in_order()
     ensures entries { (session : ℕ) (history : List EntryValue) (a : Answered) →
         Contains (calls_of session history) a ↔ IsEntryOf session history a }
@@ -49,16 +50,16 @@ pub fn calls_are_in_order()
         ++ (if e.session == session then record { place = length history; call = e.call; reply = e.reply } ∷ [] else []) }
 {}
 
-/// A call is refused exactly where a test fails, with the refusal of the first that does, and then
-/// the state stays.
+/// A call is refused exactly if one of its tests fails, with the refusal of the first that fails. A refused call
+/// changes nothing.
 pub fn refusals_keep_the_state()
     ensures exact { (st : State) → IsRefusalExact st }
     ensures keeps { (st : State) → DoesRefusalKeep st }
 {}
 
-/// A refusal means what it says: a call is refused exactly where one of its tests fails in words, with the refusal of the
-/// first that does, and isn't refused exactly where none fails. So an abort is refused for want of a transaction alone,
-/// and a commit of an open session that neither waits nor is doomed is never refused.
+/// Each refusal means what `Fails` says of it: a call is refused exactly if one of them fails, with the refusal of the
+/// first that does. An abort is refused only if the session has no transaction. A commit is never refused if the
+/// session has a transaction, doesn't wait and isn't doomed.
 pub fn refusals_mean_what_they_say()
     ensures meant { (history : List EntryValue) → AreRefusalsMeant (state_of history) }
     ensures others { (history : List EntryValue) → AreOthersAccepted (state_of history) }
@@ -66,71 +67,74 @@ pub fn refusals_mean_what_they_say()
     ensures commit { (history : List EntryValue) → IsClearCommitAccepted (state_of history) }
 {}
 
-/// A begin that isn't refused raises the count of transactions by one, and gives the session the transaction of that
-/// number, not doomed. No lock, no request and no other transaction changes.
+/// A begin that isn't refused opens a transaction, not doomed, whose number is one more than the count so far. No lock,
+/// no request and no other transaction changes.
 pub fn begins_open_one_transaction()
     ensures { (st : State) → DoesBeginOpen st }
 {}
 
-/// A poll changes nothing. It tells Deadlock exactly where the session's transaction is doomed, Waiting exactly where
-/// it has a request and isn't doomed, and Clear exactly where it has a transaction that is neither.
+/// A poll changes nothing. It replies Deadlock exactly if the session's transaction is doomed, Waiting exactly if the
+/// session waits and isn't doomed, and Clear exactly if it has a transaction, doesn't wait and isn't doomed.
 pub fn polls_tell_how_sessions_stand()
-    ensures { (history : List EntryValue) → DoesPollTell (state_of history) }
+    ensures { (history : List EntryValue) → DoesPollReport (state_of history) }
 {}
 
-/// A grant changes one lock of one session, which waits no more. What others hold stays, and who waits still
-/// stands in the order of before.
+/// A grant sets one lock of one session, which then waits no more. All other locks stay, and so do the requests of
+/// others, in order.
 pub fn grants_change_one_lock()
     ensures { (session : ℕ) (resource : List ℕ) (mode : ModeValue) (t : Table) → IsGrantOf session resource mode t (after_grant session resource mode t) }
 {}
 
-/// The target of a lock or a conversion that isn't refused is the least mode at or above what is held and
-/// what is asked. A target that is held already changes nothing; one that fits is granted, where the session
-/// holds the resource or nobody waits for it; any other waits, conversions before fresh requests. A request
-/// that begins to wait makes victims, one after another, each the youngest on a circle with the asker, until
-/// no circle goes through the asker. A lock on a resource that the session holds is a conversion.
+/// The target of a Lock or Convert that isn't refused is the least mode at or above both the mode held and the mode
+/// asked. If the session holds the target already, it is granted and nothing changes. If the target fits, it is granted
+/// at once to a holder, and to others if nobody waits for the resource. Any other request waits, conversions before
+/// fresh requests.
+///
+/// A request that begins to wait makes victims, one after another: each is the youngest transaction on a cycle with the
+/// asker, until the asker is on no cycle. A Lock on a resource that the session holds does what a Convert does.
 pub fn requests_are_granted_or_wait()
     ensures lock { (st : State) → IsLockAnswered st }
     ensures convert { (st : State) → IsConvertAnswered st }
     ensures same { (st : State) → IsLockOfHeldConvert st }
 {}
 
-/// Whoever is told that a lock is granted, at once or because a victim stood in the way, holds it.
+/// If a Lock or Convert replies Granted, at once or because a victim made room, the session holds the resource in that
+/// mode.
 pub fn granted_locks_are_held()
     ensures lock { (history : List EntryValue) → IsGrantedHeld (state_of history) }
     ensures convert { (history : List EntryValue) → IsConversionHeld (state_of history) }
 {}
 
-/// A promotion grants the longest front of the queue in which each request fits once those before it
-/// are held, and no other request.
+/// A promotion grants exactly the longest front of the queue in which each request fits once those before it are
+/// granted.
 pub fn promotions_grant_the_longest_front()
     ensures { (t : Table) → DoesPromotionGrantLongest t }
 {}
 
-/// The holders of a resource are the sessions that hold it, each with its mode, and stand by session number.
+/// The holders of a resource are exactly the sessions that hold it, each with its mode, in order of session number.
 pub fn holders_are_listed_by_session()
     ensures { (history : List EntryValue) → AreHoldersListed (state_of history) }
 {}
 
-/// The locks of a session are what it holds, and no two of them are of one resource. So a commit and an abort
-/// count different locks.
+/// The locks of a session are exactly what it holds, and no two of them are on one resource. So a commit and an abort
+/// count each lock once.
 pub fn locks_stand_once()
     ensures { (history : List EntryValue) → AreLocksOnce (state_of history) }
 {}
 
-/// A session has one request at most.
+/// No session has two waiting requests.
 pub fn sessions_have_one_request()
     ensures { (history : List EntryValue) → IsOneRequestEach (state_of history) }
 {}
 
 /// No session holds more than `MAX_LOCKS` locks.
 pub fn locks_are_few()
-    ensures { (history : List EntryValue) → AreLocksFew (state_of history) }
+    ensures { (history : List EntryValue) → AreLocksBounded (state_of history) }
 {}
 
-/// A mode fits exactly where it is compatible with what each other session holds there.
+/// A mode fits exactly if it is compatible with the mode of each other session that holds the resource.
 pub fn fits_is_compatible_with_others()
-    ensures { (history : List EntryValue) → DoesFitTell (state_of history) }
+    ensures { (history : List EntryValue) → IsFitExact (state_of history) }
 {}
 
 /// Two holders of one resource have compatible modes.
@@ -138,108 +142,104 @@ pub fn holders_are_compatible()
     ensures { (history : List EntryValue) → AreHoldersCompatible (state_of history) }
 {}
 
-/// Nobody waits whose request is the first of its queue and fits.
+/// The first request of a queue never fits.
 pub fn nobody_waits_needlessly()
     ensures { (history : List EntryValue) → DoesNobodyWaitNeedlessly (state_of history) }
 {}
 
-/// Each lock, and each request that waits, stands under a parent that the same session holds outright,
-/// in a mode at or above what it needs of the parent.
+/// Every lock and every waiting request obeys the parent rule: if the resource has a parent, the same session holds the
+/// parent in a mode at or above what the lock's mode, or the request's target, needs of it.
 pub fn locks_stand_under_parents()
     ensures locks { (history : List EntryValue) → AreLocksUnderParents (state_of history) }
     ensures requests { (history : List EntryValue) → AreRequestsUnderParents (state_of history) }
 {}
 
-/// What a session holds somewhere below a resource, it holds under a child of the resource that it
-/// holds too. So a test of the children tells whether it holds anything below.
+/// If a session holds a lock somewhere below a resource, it holds a lock on a child of the resource. So a test of the
+/// children finds every lock below.
 pub fn children_are_held()
     ensures { (history : List EntryValue) → AreChildrenHeld (state_of history) }
 {}
 
-/// No two sessions have incompatible access to a resource, whether anybody holds it or not: what one
-/// writes, outright or through an ancestor, no other reads or writes.
+/// No two sessions have incompatible access to a resource, whether or not anybody holds the resource itself. What one
+/// session may write, through a lock on the resource or on an ancestor, no other may read or write.
 pub fn no_incompatible_access()
     ensures { (history : List EntryValue) → IsAccessCompatible (state_of history) }
 {}
 
-/// A release that isn't refused gives back that one lock of that one session, and promotes its resource. The others
-/// hold no less:
-/// requests of theirs for the resource may be granted, and nothing else of them changes.
+/// A release that isn't refused gives back that one lock of that session and promotes the resource. Each other session
+/// is unchanged, or its request for the resource is granted; none holds less.
 pub fn releases_take_one_lock()
     ensures { (history : List EntryValue) → DoesReleaseTakeOneLock (state_of history) }
 {}
 
-/// A commit or an abort that isn't refused leaves the session no lock and no request, tells how many locks it
-/// had, and promotes what it held and waited for, one after another. The others hold no less: requests of theirs for what it held or waited for may be granted,
-/// and nothing else of them changes.
+/// A commit or an abort that isn't refused ends the session's transaction, takes all its locks and its request, and
+/// replies with how many locks it held. What it held or waited for is promoted, one resource after another. Each other
+/// session is unchanged, or its request for one of these resources is granted; none holds less.
 pub fn ends_take_all_locks()
     ensures commit { (history : List EntryValue) → DoesCommitTakeAllLocks (state_of history) }
     ensures abort { (history : List EntryValue) → DoesAbortTakeAllLocks (state_of history) }
 {}
 
-/// A grant stands: whatever the others call, a session holds on in the same mode or one above it, until
-/// it commits, aborts or releases the resource.
+/// A grant stands: whatever others call, a session keeps its lock in the same mode or one above, until it commits,
+/// aborts or releases the resource.
 pub fn grants_stand()
     ensures { (front rest : List EntryValue) → DoesGrantStand front rest }
 {}
 
-/// A doom stands: whoever is doomed stays so, with the same transaction, whatever others call, until it aborts.
+/// A doom stands: whatever others call, a doomed transaction stays open and doomed until it aborts.
 pub fn dooms_stand()
     ensures { (front rest : List EntryValue) → DoesDoomStand front rest }
 {}
 
-/// A request stands: whatever is called, a session waits on with the same request for the same target, until the
-/// session aborts, or waits no more because it was granted the target and holds the resource in it, or because it became
-/// a victim.
+/// A request stands: the session waits on with the same request until it holds the resource in the target, its
+/// transaction becomes a victim, or it aborts.
 pub fn requests_stand()
     ensures { (front rest : List EntryValue) → DoesRequestStand front rest }
 {}
 
-/// Whoever holds a lock or waits for one has a transaction, and the transactions that are open have numbers
-/// of their own, none above how many have begun.
+/// Every session that holds a lock or waits has an open transaction. Open transactions have different numbers, none
+/// above how many have begun.
 pub fn transactions_are_apart()
     ensures owners { (history : List EntryValue) → AreOwnersOpen (state_of history) }
-    ensures numbers { (history : List EntryValue) → AreNumbersApart (state_of history) }
+    ensures numbers { (history : List EntryValue) → AreNumbersDistinct (state_of history) }
     ensures counted { (history : List EntryValue) → AreNumbersCounted (state_of history) }
 {}
 
-/// A session waits for each other session that holds the resource of its request in a mode that
-/// conflicts with the target, and for each whose request stands before its own in the queue; for nobody
-/// else.
+/// A session waits for exactly those other sessions that hold the resource of its request in a mode that conflicts with
+/// its target, or that have an earlier request in the queue.
 pub fn waits_are_for_holders_and_earlier_requests()
-    ensures { (t : Table) → DoWaitsTell t }
+    ensures { (t : Table) → AreWaitsExact t }
 {}
 
-/// No waits form a circle, so no deadlock outlasts the call that made it.
+/// The waits-for graph has no cycle. So no deadlock outlasts the call that made it.
 pub fn no_waits_form_a_circle()
     ensures { (history : List EntryValue) → HasNoCircle (state_of history) }
 {}
 
-/// A doomed transaction waits for nothing, so no victim is chosen twice.
+/// A doomed transaction has no waiting request. So no victim is chosen twice.
 pub fn doomed_transactions_wait_for_nothing()
     ensures { (history : List EntryValue) → DoDoomedWaitForNothing (state_of history) }
 {}
 
-/// There is one list of victims at most that a request can make where it begins to wait, and one state that
-/// they lead to. That there is one is said with the answers of requests.
+/// A request that begins to wait has at most one list of victims, and one state after them.
+/// `requests_are_granted_or_wait` says that there is one.
 pub fn victims_are_determined()
     ensures { (history : List EntryValue) → AreVictimsDetermined (state_of history) }
 {}
 
-/// A victim loses its request and none of its locks, and it is doomed. What it waited for is promoted: of the
-/// others nothing changes, but that requests for that may be granted.
+/// A victim loses its request, keeps its locks and is doomed. What it waited for is promoted: each other session is
+/// unchanged, or its request for such a resource is granted.
 pub fn victims_keep_their_locks()
     ensures keep { (history : List EntryValue) → DoVictimsKeepTheirLocks (state_of history) }
     ensures promotion { (st : State) → DoesDoomPromote st }
 {}
 
-/// Every state that a history leads to is lawful: all laws of states hold there, and those of the calls that
-/// are answered in it.
+/// Every state that a history leads to is lawful: all laws of states hold in it, and those of the calls made in it.
 pub fn states_are_lawful()
     ensures { (history : List EntryValue) → IsLawfulState (state_of history) }
 {}
 
-/// Histories that were worked by hand are legal, and with a wrong reply they are not.
+/// Histories worked by hand are legal, and with a wrong reply they are not.
 pub fn examples_are_legal()
     ensures queue_in_order { IsLegal queue_in_order }
     ensures reader_jumps_the_queue { IsLegal (with_reply 5 (Granted S) queue_in_order) → ⊥ }

@@ -1,4 +1,4 @@
-//! The rules of locking: what a session may call, what it is told, and the sequential lock manager as definitions.
+//! The locking rules: the calls of a session, the replies, the sequential lock manager as definitions, and its laws.
 #![tactic(auto)]
 
 mod calls;

@@ -1,4 +1,4 @@
-//! The names of the refusals, which histories write and read.
+//! The names of refusals, written and read.
 
 ghost use Rattle.std.specs.Prelude.{◌≡◌, ◌↔◌, Some};
 ghost use Rattle.lock_rules.specs.declared.calls.Why.{Why as WhyValue};
@@ -6,7 +6,7 @@ ghost use Rattle.lock_rules.specs.Names.{name_of_why};
 
 use crate::calls::Why;
 
-// All refusals, in the order of their numbers.
+/// All refusals, in the order of their numbers.
 const REFUSALS: [Why; 9] = [
     Why::AlreadyOpen,
     Why::NoTransaction,
@@ -20,7 +20,7 @@ const REFUSALS: [Why; 9] = [
 ];
 
 impl Why {
-    /// The name that histories and messages write.
+    /// Returns the name that histories and messages write.
     pub fn name(self) -> &'static str
         ensures { result.now ≡ name_of_why self }
     {
@@ -37,7 +37,7 @@ impl Why {
         }
     }
 
-    /// Reads a name back. It has to be exact, with nothing before or after it.
+    /// Returns the refusal of this name. `None` if the text isn't exactly a name.
     pub fn parse(text: &str) -> Option<Why>
         ensures { (w : WhyValue) → (result ≡ Some w) ↔ (text.now ≡ name_of_why w) }
     {

@@ -1,4 +1,4 @@
--- Fields are read as an entry where they are the fields of that entry at its place.
+-- A record is read as the entry of a place exactly if its fields are the fields of that entry at that place.
 use Rattle.std.proofs.Common.{◌≡◌, ◌↔◌, ℕ, ◌<◌, ◌≤◌, ◌^◌, Bool, true, false, List, [], ◌∷◌, ◌++◌, length, Result, Ok, Err, refl, ap, ◌∙◌, subst, arith}
 use Rattle.std.specs.Prelude.{◌==◌, not, if◌then◌else◌, decimal, bytes_eq}
 use Rattle.std.proofs.lemmas.Slice.Eq.{bytes_eq-Decides}
@@ -11,10 +11,10 @@ use Rattle.lock_rules.specs.declared.calls.Entry.{Entry}
 use Rattle.lock_trace.specs.declared.faults.TraceKind.{TraceKind}
 use Rattle.lock_trace.specs.declared.faults.TraceKind.TheVariants as kind
 use Rattle.lock_trace.specs.declared.words.ReplyWord.{ReplyWord}
-use Rattle.lock_trace.specs.declared.words.ReplyWord.TheVariants as told
+use Rattle.lock_trace.specs.declared.words.ReplyWord.TheVariants as words
 use Rattle.lock_trace.specs.declared.rows.TraceRow.{TraceRow}
 use Rattle.lock_trace.specs.Words.{word_of_reply, reply_word_of}
-use Rattle.lock_trace.specs.Fields.{place_in, reply_word_in, or_value, number_in, granted_in, mode_in, why_in, most_64, most_32}
+use Rattle.lock_trace.specs.Fields.{place_in, reply_word_in, or_value, number_in, granted_in, mode_in, why_in, max_u64, max_u32}
 use Rattle.lock_trace.specs.Rows.{fields_of_row, row_in, ◌>>=◌}
 use Rattle.lock_trace.specs.Tests.{field_of}
 use Rattle.lock_trace.specs.Entries.{IsReply, IsEntry, value_in, reply_in, with_reply, entry_in, entry_of}
@@ -22,136 +22,163 @@ use Rattle.lock_trace.specs.Histories.{value_field, fields_of_reply, row_of_entr
 use Rattle.lock_trace.proofs.Names.{reply_word_is, mode_is, mode_by_name, why_is, why_by_name}
 use Rattle.lock_trace.proofs.RowLaws.{bind_ok, empty, read_row, row_back}
 
--- places
+-- Places.
 
+-- An `Ok` of a place test, with the fault type fixed.
 abbrev at_place : Result (Unit {0}) TraceKind
 at_place = Ok tt
 
+-- A place field that passes is the decimal text of the place.
 place_is : (place : ℕ) (field : List ℕ) (b : Bool) → bytes_eq field (decimal place) ≡ b → (if b then at_place else Err kind.Place) ≡ at_place → field ≡ decimal place
 place_is place field true is e = (bytes_eq-Decides field (decimal place)).0 is
 place_is place field false is e = absurd cc
 
+-- The decimal text of a place passes.
 pub place_back : (place : ℕ) → place_in place (decimal place) ≡ Ok tt
 place_back place = rw ((bytes_eq-Decides (decimal place) (decimal place)).1 refl) refl
 
+-- A place field passes exactly if it is the decimal text of the place.
 pub place_iff : (place : ℕ) (field : List ℕ) → (place_in place field ≡ Ok tt) ↔ (field ≡ decimal place)
 place_iff place field = (place_is place field (bytes_eq field (decimal place)) refl, λ e. ap (place_in place) e ∙ place_back place)
 
--- values
+-- Values.
 
+-- A value behind `or_value` was read without a fault.
 or_value_ok : {A F : Type 0} (x : Result A F) (a : A) → or_value x ≡ Ok a → x ≡ Ok a
 or_value_ok (Ok b) a e = cc
 or_value_ok (Err f) a e = absurd cc
 
+-- If a number is read, it is within the limit and the field is its decimal text.
 number_is : (most n : ℕ) (v : List ℕ) → most < 2 ^ 64 → number_in most v ≡ Ok n → (n ≤ most) × (v ≡ decimal n)
 number_is most n v lt e = (reading_iff v most n lt).0 (or_value_ok _ n e)
 
+-- The decimal text of a number within the limit is read as that number.
 number_back : (most n : ℕ) → most < 2 ^ 64 → n ≤ most → number_in most (decimal n) ≡ Ok n
 number_back most n lt le = ap or_value ((reading_iff (decimal n) most n lt).1 (le, refl))
 
+-- If a mode is read, the field is its name.
 granted_is : (m : Mode) (v : List ℕ) → granted_in v ≡ Ok m → v ≡ name_of m
 granted_is m v e = mode_is v m (or_value_ok (mode_in v) m e)
 
+-- The name of a mode is read as that mode.
 granted_back : (m : Mode) → granted_in (name_of m) ≡ Ok m
 granted_back m = ap or_value (mode_by_name m (name_of m) refl)
 
+-- An `Ok` of a reply, with the fault type fixed.
 abbrev ok_reply : Reply → Result Reply TraceKind
 ok_reply r = Ok r
 
+-- That `Ok` is injective.
 same_reply : (a b : Reply) → ok_reply a ≡ ok_reply b → a ≡ b
 same_reply a b e = cc
 
--- the word and the value of what is read
-record AreReplys (w v : List ℕ) (r : Reply) : Type 0 where
+-- The two fields are the word and the value of the reply, whose numbers are in range.
+record AreReplyFields (w v : List ℕ) (r : Reply) : Type 0 where
   reply : IsReply r
   word : w ≡ word_of_reply (reply_word_of r)
   value : v ≡ value_field r
 
-without_cases : (w v : List ℕ) (a r : Reply) (b : Bool) → IsReply a → w ≡ word_of_reply (reply_word_of a) → [] ≡ value_field a → (length v == 0) ≡ b → (if not b then Err kind.Value else ok_reply a) ≡ ok_reply r → AreReplys w v r
-without_cases w v a r true is word none no_v e = subst (AreReplys w v) (same_reply a r e) (record { reply = is; word = word; value = empty v no_v ∙ none })
+-- If a reply without a value is read, the value field was empty; by cases.
+without_cases : (w v : List ℕ) (a r : Reply) (b : Bool) → IsReply a → w ≡ word_of_reply (reply_word_of a) → [] ≡ value_field a → (length v == 0) ≡ b → (if not b then Err kind.Value else ok_reply a) ≡ ok_reply r → AreReplyFields w v r
+without_cases w v a r true is word none no_v e = subst (AreReplyFields w v) (same_reply a r e) (record { reply = is; word = word; value = empty v no_v ∙ none })
 without_cases w v a r false is word none no_v e = absurd cc
 
-below_64 : (n : ℕ) → n ≤ most_64 → n < 2 ^ 64
+-- A number of at most the largest of 64 bits is below 2 ^ 64.
+below_64 : (n : ℕ) → n ≤ max_u64 → n < 2 ^ 64
 below_64 n le = omega (arith, le)
 
-below_32 : (n : ℕ) → n ≤ most_32 → n < 2 ^ 32
+-- A number of at most the largest of 32 bits is below 2 ^ 32.
+below_32 : (n : ℕ) → n ≤ max_u32 → n < 2 ^ 32
 below_32 n le = omega (arith, le)
 
-within_64 : (n : ℕ) → n < 2 ^ 64 → n ≤ most_64
+-- A number below 2 ^ 64 is at most the largest of 64 bits.
+within_64 : (n : ℕ) → n < 2 ^ 64 → n ≤ max_u64
 within_64 n lt = omega (arith, lt)
 
-within_32 : (n : ℕ) → n < 2 ^ 32 → n ≤ most_32
+-- A number below 2 ^ 32 is at most the largest of 32 bits.
+within_32 : (n : ℕ) → n < 2 ^ 32 → n ≤ max_u32
 within_32 n lt = omega (arith, lt)
 
-few_64 : most_64 < 2 ^ 64
+-- The largest number of 64 bits fits in 64 bits.
+few_64 : max_u64 < 2 ^ 64
 few_64 = omega arith
 
-few_32 : most_32 < 2 ^ 64
+-- The largest number of 32 bits fits in 64 bits.
+few_32 : max_u32 < 2 ^ 64
 few_32 = omega arith
 
-read_value : (t : ReplyWord) (w v : List ℕ) (r : Reply) → w ≡ word_of_reply t → value_in t v ≡ Ok r → AreReplys w v r
-read_value told.Began w v r word e =
-    let (n, read, is) = bind_ok (number_in most_64 v) (λ n. ok_reply (reply.Began n)) r e in
-    let of = number_is most_64 n v few_64 read in
-    subst (AreReplys w v) (same_reply (reply.Began n) r is) (record { reply = below_64 n of.0; word = word; value = of.1 })
-read_value told.Granted w v r word e =
+-- If the value of a kind of reply is read, the fields are the word and the value of the reply.
+read_value : (t : ReplyWord) (w v : List ℕ) (r : Reply) → w ≡ word_of_reply t → value_in t v ≡ Ok r → AreReplyFields w v r
+read_value words.Began w v r word e =
+    let (n, read, is) = bind_ok (number_in max_u64 v) (λ n. ok_reply (reply.Began n)) r e in
+    let of = number_is max_u64 n v few_64 read in
+    subst (AreReplyFields w v) (same_reply (reply.Began n) r is) (record { reply = below_64 n of.0; word = word; value = of.1 })
+read_value words.Granted w v r word e =
     let (m, read, is) = bind_ok (granted_in v) (λ m. ok_reply (reply.Granted m)) r e in
-    subst (AreReplys w v) (same_reply (reply.Granted m) r is) (record { reply = tt; word = word; value = granted_is m v read })
-read_value told.Waiting w v r word e = without_cases w v reply.Waiting r (length v == 0) tt word refl refl e
-read_value told.Deadlock w v r word e = without_cases w v reply.Deadlock r (length v == 0) tt word refl refl e
-read_value told.Clear w v r word e = without_cases w v reply.Clear r (length v == 0) tt word refl refl e
-read_value told.Released w v r word e = without_cases w v reply.Released r (length v == 0) tt word refl refl e
-read_value told.Committed w v r word e =
-    let (n, read, is) = bind_ok (number_in most_32 v) (λ n. ok_reply (reply.Committed n)) r e in
-    let of = number_is most_32 n v few_32 read in
-    subst (AreReplys w v) (same_reply (reply.Committed n) r is) (record { reply = below_32 n of.0; word = word; value = of.1 })
-read_value told.Aborted w v r word e =
-    let (n, read, is) = bind_ok (number_in most_32 v) (λ n. ok_reply (reply.Aborted n)) r e in
-    let of = number_is most_32 n v few_32 read in
-    subst (AreReplys w v) (same_reply (reply.Aborted n) r is) (record { reply = below_32 n of.0; word = word; value = of.1 })
-read_value told.Refused w v r word e =
+    subst (AreReplyFields w v) (same_reply (reply.Granted m) r is) (record { reply = tt; word = word; value = granted_is m v read })
+read_value words.Waiting w v r word e = without_cases w v reply.Waiting r (length v == 0) tt word refl refl e
+read_value words.Deadlock w v r word e = without_cases w v reply.Deadlock r (length v == 0) tt word refl refl e
+read_value words.Clear w v r word e = without_cases w v reply.Clear r (length v == 0) tt word refl refl e
+read_value words.Released w v r word e = without_cases w v reply.Released r (length v == 0) tt word refl refl e
+read_value words.Committed w v r word e =
+    let (n, read, is) = bind_ok (number_in max_u32 v) (λ n. ok_reply (reply.Committed n)) r e in
+    let of = number_is max_u32 n v few_32 read in
+    subst (AreReplyFields w v) (same_reply (reply.Committed n) r is) (record { reply = below_32 n of.0; word = word; value = of.1 })
+read_value words.Aborted w v r word e =
+    let (n, read, is) = bind_ok (number_in max_u32 v) (λ n. ok_reply (reply.Aborted n)) r e in
+    let of = number_is max_u32 n v few_32 read in
+    subst (AreReplyFields w v) (same_reply (reply.Aborted n) r is) (record { reply = below_32 n of.0; word = word; value = of.1 })
+read_value words.Refused w v r word e =
     let (why, read, is) = bind_ok (why_in v) (λ why. ok_reply (reply.Refused why)) r e in
-    subst (AreReplys w v) (same_reply (reply.Refused why) r is) (record { reply = tt; word = word; value = why_is v why read })
+    subst (AreReplyFields w v) (same_reply (reply.Refused why) r is) (record { reply = tt; word = word; value = why_is v why read })
 
-read_reply : (w v : List ℕ) (r : Reply) → reply_in w v ≡ Ok r → AreReplys w v r
+-- If a reply is read, the fields are its word and its value.
+read_reply : (w v : List ℕ) (r : Reply) → reply_in w v ≡ Ok r → AreReplyFields w v r
 read_reply w v r e =
     let (t, read, then_value) = bind_ok (reply_word_in w) (λ t. value_in t v) r e in
     read_value t w v r (reply_word_is w t read) then_value
 
+-- The word and the value of a reply are read as that reply.
 pub reply_back : (r : Reply) → IsReply r → reply_in (word_of_reply (reply_word_of r)) (value_field r) ≡ Ok r
-reply_back (reply.Began n) is = rw (number_back most_64 n few_64 (within_64 n is)) refl
+reply_back (reply.Began n) is = rw (number_back max_u64 n few_64 (within_64 n is)) refl
 reply_back (reply.Granted m) is = rw (granted_back m) refl
 reply_back reply.Waiting is = refl
 reply_back reply.Deadlock is = refl
 reply_back reply.Clear is = refl
 reply_back reply.Released is = refl
-reply_back (reply.Committed n) is = rw (number_back most_32 n few_32 (within_32 n is)) refl
-reply_back (reply.Aborted n) is = rw (number_back most_32 n few_32 (within_32 n is)) refl
+reply_back (reply.Committed n) is = rw (number_back max_u32 n few_32 (within_32 n is)) refl
+reply_back (reply.Aborted n) is = rw (number_back max_u32 n few_32 (within_32 n is)) refl
 reply_back (reply.Refused w) is = rw (why_by_name w _ refl) refl
 
+-- Equal words and values make equal pairs of fields.
 both : (w v w' v' : List ℕ) → w ≡ w' → v ≡ v' → (w ∷ v ∷ []) ≡ (w' ∷ v' ∷ [])
 both w v w' v' e f = rw (e, f) refl
 
+-- The two fields of a reply are read as that reply.
 parts_back : (w v : List ℕ) (r : Reply) → IsReply r → (w ∷ v ∷ []) ≡ fields_of_reply r → reply_in w v ≡ Ok r
 parts_back w v r is e =
     let word : w ≡ word_of_reply (reply_word_of r) = cc in
     let value : v ≡ value_field r = cc in
     rw (word, value) (reply_back r is)
 
+-- Two fields are read as a reply exactly if they are the fields of that reply and its numbers are in range.
 pub reply_iff : (w v : List ℕ) (r : Reply) → (reply_in w v ≡ Ok r) ↔ (IsReply r × ((w ∷ v ∷ []) ≡ fields_of_reply r))
 reply_iff w v r = (
   λ e. let of = read_reply w v r e in (of.reply, both w v _ _ of.word of.value),
   λ h. parts_back w v r h.0 h.1,
 )
 
--- entries
+-- Entries.
 
+-- An `Ok` of an entry, with the fault type fixed.
 abbrev ok_entry : Entry → Result Entry TraceKind
 ok_entry e = Ok e
 
+-- That `Ok` is injective.
 same_entry : (a b : Entry) → ok_entry a ≡ ok_entry b → a ≡ b
 same_entry a b e = cc
 
+-- A place field, the fields of a row and the fields of a reply are the seven fields of an entry.
 joined : (p p' s o r m w v : List ℕ) (row : TraceRow) (answer : Reply) → p ≡ p' → (s ∷ o ∷ r ∷ m ∷ []) ≡ fields_of_row row → (w ∷ v ∷ []) ≡ fields_of_reply answer
     → (p ∷ s ∷ o ∷ r ∷ m ∷ w ∷ v ∷ []) ≡ (p' ∷ (fields_of_row row ++ fields_of_reply answer))
 joined p p' s o r m w v row answer place fields reply =
@@ -159,6 +186,7 @@ joined p p' s o r m w v row answer place fields reply =
     ∙ ap (λ (fs : List (List ℕ)). p' ∷ (fs ++ (w ∷ v ∷ []))) fields
     ∙ ap (λ (fs : List (List ℕ)). p' ∷ (fields_of_row row ++ fs)) reply
 
+-- If an entry is read from seven fields, the entry is valid and these are its fields at that place.
 read_entry : (n place : ℕ) (p s o r m w v : List ℕ) (e : Entry) → n < 2 ^ 16 → entry_in n place p s o r m w v ≡ Ok e → IsEntry n e × ((p ∷ s ∷ o ∷ r ∷ m ∷ w ∷ v ∷ []) ≡ fields_of_entry place e)
 read_entry n place p s o r m w v e lt is =
     let (here, read_p, then_row) = bind_ok (place_in place p) (λ here. row_in n s o r m >>= (λ row. reply_in w v >>= (λ answer. ok_entry (with_reply row answer)))) e is in
@@ -173,6 +201,7 @@ read_entry n place p s o r m w v e lt is =
       joined p (decimal place) s o r m w v row answer at has.1 told.1,
     )
 
+-- If an entry is read from a record, the entry is valid and the record is its fields at that place.
 entry_fields : (n place : ℕ) (e : Entry) (fields : List (List ℕ)) → n < 2 ^ 16 → entry_of n place fields ≡ Ok e → IsEntry n e × (fields ≡ fields_of_entry place e)
 entry_fields n place e [] lt is = absurd cc
 entry_fields n place e (p ∷ []) lt is = absurd cc
@@ -184,15 +213,18 @@ entry_fields n place e (p ∷ s ∷ o ∷ r ∷ m ∷ w ∷ []) lt is = absurd c
 entry_fields n place e (p ∷ s ∷ o ∷ r ∷ m ∷ w ∷ v ∷ []) lt is = read_entry n place p s o r m w v e lt is
 entry_fields n place e (p ∷ s ∷ o ∷ r ∷ m ∷ w ∷ v ∷ x ∷ xs) lt is = absurd cc
 
+-- The fields of a valid entry at a place are read as that entry.
 entry_back : (n place : ℕ) (e : Entry) → n < 2 ^ 16 → IsEntry n e → entry_of n place (fields_of_entry place e) ≡ Ok e
 entry_back n place e lt is =
     let row = row_back n (row_of_entry e) lt (record { first = is.first; last = is.last; resources = is.resources }) in
     rw (place_back place, row, reply_back e.reply is.reply) refl
 
+-- A record is read as the entry of a place exactly if the entry is valid and the record is its fields at that
+-- place.
 pub entry_iff : (n place : ℕ) (e : Entry) (fields : List (List ℕ)) → n < 2 ^ 16 → (entry_of n place fields ≡ Ok e) ↔ (IsEntry n e × (fields ≡ fields_of_entry place e))
 entry_iff n place e fields lt = (entry_fields n place e fields lt, λ h. ap (entry_of n place) h.1 ∙ entry_back n place e lt h.0)
 
--- seven fields by their places
+-- Reading a record of seven fields is reading its fields 0 to 6.
 pub seven : (n place : ℕ) (fs : List (List ℕ)) → length fs ≡ 7
     → entry_in n place (field_of fs 0) (field_of fs 1) (field_of fs 2) (field_of fs 3) (field_of fs 4) (field_of fs 5) (field_of fs 6) ≡ entry_of n place fs
 seven n place [] len = absurd (omega (arith, len))
@@ -205,6 +237,7 @@ seven n place (a ∷ b ∷ c ∷ d ∷ e ∷ f ∷ []) len = absurd (omega (arit
 seven n place (a ∷ b ∷ c ∷ d ∷ e ∷ f ∷ g ∷ []) len = refl
 seven n place (a ∷ b ∷ c ∷ d ∷ e ∷ f ∷ g ∷ h ∷ hs) len = absurd (omega (arith, len))
 
+-- A record that does not have seven fields has the fault Shape.
 pub not_seven : (n place : ℕ) (fs : List (List ℕ)) → (length fs ≡ 7 → ⊥) → Err kind.Shape ≡ entry_of n place fs
 not_seven n place [] no_more = refl
 not_seven n place (a ∷ []) no_more = refl

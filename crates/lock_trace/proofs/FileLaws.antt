@@ -1,4 +1,4 @@
--- A file is the fields of its rows.
+-- A file is read as rows exactly if its records are the fields of these rows.
 use Rattle.std.proofs.Common.{◌≡◌, ◌↔◌, ℕ, ◌+◌, List, [], ◌∷◌, ◌++◌, length, Bool, Some, Result, Ok, Err, refl, sym, ap, ◌∙◌, subst, arith}
 use Rattle.std.specs.List.{All, AllByRecursion}
 use Rattle.std.proofs.lemmas.List.Elements.{All-from_recursion, recursion_from_All}
@@ -6,31 +6,35 @@ use Rattle.lock_trace.specs.declared.faults.TraceKind.{TraceKind}
 use Rattle.lock_trace.specs.declared.faults.TraceFault.{TraceFault}
 use Rattle.lock_trace.specs.Tests.{first_failing}
 use Rattle.lock_trace.specs.Files.{then_rows, rows_from, fields_from, IsFirstBad}
-use Rattle.lock_trace.specs.Reading.{IsFormat}
+use Rattle.lock_trace.specs.inner.Reading.{IsFormat}
 
--- the fields of rows are read as those rows
+-- The records of valid rows are read as these rows.
 rows_back : {A : Type 0} {Is : A → Type 0} {records_for : List A → List (List (List ℕ))} {fields : ℕ → A → List (List ℕ)} {read : ℕ → List (List ℕ) → Result A TraceKind} → IsFormat Is records_for fields read
     → (place : ℕ) (rows : List A) → AllByRecursion Is rows → rows_from read place (fields_from fields place rows) ≡ Ok rows
 rows_back format place [] are = refl
 rows_back {fields = fields} format place (row ∷ rows) are = rw ((format.reads place row (fields place row)).1 (are.0, refl), rows_back format (place + 1) rows are.1) refl
 
--- the fault of the row at a place
+-- The fault of the row at a place.
 abbrev pub fault_at : ℕ → TraceKind → TraceFault
 fault_at place e = record { row = place + 1; kind = e }
 
+-- An `Err` of a file, with the row type fixed.
 abbrev refused : {A : Type 0} → TraceFault → Result (List A) TraceFault
 refused fault = Err fault
 
+-- An `Ok` of rows, with the fault type fixed.
 abbrev accepted : {A : Type 0} → List A → Result (List A) TraceFault
 accepted rows = Ok rows
 
+-- A place after no rows is the place itself.
 no_more : (k : ℕ) → k + 0 ≡ k
 no_more k = omega arith
 
+-- A place after one row and others is the next place after the others.
 one_more : {A : Type 0} (k : ℕ) (row : A) (front : List A) → k + length (row ∷ front) ≡ k + 1 + length front
 one_more k row front = omega arith
 
--- and what follows them decides
+-- The records of valid rows, followed by a record that is no row, are read as the fault of that record.
 bad_back : {A : Type 0} {Is : A → Type 0} {records_for : List A → List (List (List ℕ))} {fields : ℕ → A → List (List ℕ)} {read : ℕ → List (List ℕ) → Result A TraceKind} → IsFormat Is records_for fields read
     → (place : ℕ) (front : List A) (bad : List (List ℕ)) (rest : List (List (List ℕ))) (e : TraceKind) → AllByRecursion Is front → read (place + length front) bad ≡ Err e
     → rows_from read place (fields_from fields place front ++ bad ∷ rest) ≡ refused (fault_at (place + length front) e)
@@ -43,12 +47,12 @@ bad_back {A = A} {fields = fields} {read = read} format place (row ∷ front) ba
     let here : rows_from read place (fields place row ∷ (fields_from fields (place + 1) front ++ bad ∷ rest)) ≡ refused (fault_at (place + 1 + length front) e) = rw ((format.reads place row (fields place row)).1 (are.0, refl), later) refl in
     here ∙ ap (λ (j : ℕ). refused {A = A} (fault_at j e)) (sym (one_more place row front))
 
--- these records are the fields of rows
+-- The rows are valid, and the records are their fields.
 record AreOf {A : Type 0} (Is : A → Type 0) (fields : ℕ → A → List (List ℕ)) (place : ℕ) (rs : List (List (List ℕ))) (rows : List A) : Type 0 where
   are : AllByRecursion Is rows
   is : rs ≡ fields_from fields place rows
 
--- the first bad row of records from a place on
+-- The first record that is no row, among the records from a place on, and its fault.
 record IsBadFrom {A : Type 0} (Is : A → Type 0) (fields : ℕ → A → List (List ℕ)) (read : ℕ → List (List ℕ) → Result A TraceKind) (place : ℕ) (rs : List (List (List ℕ))) (fault : TraceFault) : Type 0 where
   front : List A
   bad : List (List ℕ)
@@ -58,11 +62,13 @@ record IsBadFrom {A : Type 0} (Is : A → Type 0) (fields : ℕ → A → List (
   number : fault.row ≡ place + length front + 1
   fails : read (place + length front) bad ≡ Err fault.kind
 
--- what was read, with what it says
+-- The meaning of a result: rows are valid and the records are their fields, or a fault names the first record that
+-- is no row.
 data Says {A : Type 0} (Is : A → Type 0) (fields : ℕ → A → List (List ℕ)) (read : ℕ → List (List ℕ) → Result A TraceKind) (place : ℕ) (rs : List (List (List ℕ))) : Result (List A) TraceFault → Type 0 where
   says_rows : (rows : List A) → AreOf Is fields place rs rows → Says Is fields read place rs (Ok rows)
   says_bad : (fault : TraceFault) → IsBadFrom Is fields read place rs fault → Says Is fields read place rs (Err fault)
 
+-- With one more record in front, the result keeps its meaning.
 says_then : {A : Type 0} {Is : A → Type 0} {records_for : List A → List (List (List ℕ))} {fields : ℕ → A → List (List ℕ)} {read : ℕ → List (List ℕ) → Result A TraceKind} → IsFormat Is records_for fields read
     → (place : ℕ) (r : List (List ℕ)) (rs : List (List (List ℕ))) (x : Result A TraceKind) (later : Result (List A) TraceFault)
     → read place r ≡ x → Says Is fields read (place + 1) rs later → Says Is fields read place (r ∷ rs) (then_rows place x later)
@@ -83,11 +89,13 @@ says_then {read = read} format place r rs (Ok row) _ is (says_bad fault of) =
       fails = subst (λ (j : ℕ). read j of.bad ≡ Err fault.kind) (sym (one_more place row of.front)) of.fails;
     })
 
+-- The result of reading records has its meaning.
 says : {A : Type 0} {Is : A → Type 0} {records_for : List A → List (List (List ℕ))} {fields : ℕ → A → List (List ℕ)} {read : ℕ → List (List ℕ) → Result A TraceKind} → IsFormat Is records_for fields read
     → (place : ℕ) (rs : List (List (List ℕ))) → Says Is fields read place rs (rows_from read place rs)
 says format place [] = says_rows [] (record { are = tt; is = refl })
 says {read = read} format place (r ∷ rs) = says_then format place r rs (read place r) (rows_from read (place + 1) rs) refl (says format (place + 1) rs)
 
+-- If records are read as rows, they are the fields of these rows.
 rows_said : {A : Type 0} {Is : A → Type 0} {fields : ℕ → A → List (List ℕ)} {read : ℕ → List (List ℕ) → Result A TraceKind} (place : ℕ) (rs : List (List (List ℕ))) (said : Result (List A) TraceFault) (rows : List A)
     → Says Is fields read place rs said → said ≡ Ok rows → AreOf Is fields place rs rows
 rows_said {A = A} {Is = Is} {fields = fields} place rs _ rows (says_rows others of) e = subst (AreOf Is fields place rs) (same others rows e) of
@@ -96,6 +104,7 @@ rows_said {A = A} {Is = Is} {fields = fields} place rs _ rows (says_rows others 
     same a b e = cc
 rows_said place rs _ rows (says_bad fault of) e = absurd cc
 
+-- If records are read as a fault, the fault names the first record that is no row.
 bad_said : {A : Type 0} {Is : A → Type 0} {fields : ℕ → A → List (List ℕ)} {read : ℕ → List (List ℕ) → Result A TraceKind} (place : ℕ) (rs : List (List (List ℕ))) (said : Result (List A) TraceFault) (fault : TraceFault)
     → Says Is fields read place rs said → said ≡ Err fault → IsBadFrom Is fields read place rs fault
 bad_said place rs _ fault (says_rows rows of) e = absurd cc
@@ -104,7 +113,7 @@ bad_said {A = A} {Is = Is} {fields = fields} {read = read} place rs _ fault (say
     same : (a b : TraceFault) → refused {A = A} a ≡ refused b → a ≡ b
     same a b e = cc
 
--- rows are read exactly where the records are their fields
+-- Records are read as rows exactly if the rows are valid and the records are their fields.
 pub file_rows : {A : Type 0} {Is : A → Type 0} {records_for : List A → List (List (List ℕ))} {fields : ℕ → A → List (List ℕ)} {read : ℕ → List (List ℕ) → Result A TraceKind} → IsFormat Is records_for fields read
     → (records : List (List (List ℕ))) (rows : List A) → (rows_from read 0 records ≡ Ok rows) ↔ (All Is rows × (records ≡ records_for rows))
 file_rows {Is = Is} {read = read} format records rows = (
@@ -112,10 +121,11 @@ file_rows {Is = Is} {read = read} format records rows = (
   λ h. ap (rows_from read 0) (h.1 ∙ format.records rows) ∙ rows_back format 0 rows (recursion_from_All Is rows h.0),
 )
 
+-- A place from 0 on is the place itself.
 from_none : (k : ℕ) → 0 + k ≡ k
 from_none k = omega arith
 
--- after rows, a record that is none is the fault
+-- If valid rows are followed by a record that is no row, the file is read as that record's fault.
 pub bad_row : {A : Type 0} {Is : A → Type 0} {records_for : List A → List (List (List ℕ))} {fields : ℕ → A → List (List ℕ)} {read : ℕ → List (List ℕ) → Result A TraceKind} → IsFormat Is records_for fields read
     → (records : List (List (List ℕ))) (front : List A) (bad : List (List ℕ)) (rest : List (List (List ℕ))) (fault : TraceFault) → All Is front → records ≡ records_for front ++ bad ∷ rest
     → fault.row ≡ length front + 1 → read (length front) bad ≡ Err fault.kind → rows_from read 0 records ≡ Err fault
@@ -128,7 +138,7 @@ bad_row {A = A} {Is = Is} {fields = fields} {read = read} format records front b
     same_row : (k row : ℕ) → row ≡ k + 1 → 0 + k + 1 ≡ row
     same_row k row e = omega (arith, e)
 
--- and there is no other fault of the text
+-- Records are read as a fault exactly if the fault names the first record that is no row.
 pub file_fault : {A : Type 0} {Is : A → Type 0} {records_for : List A → List (List (List ℕ))} {fields : ℕ → A → List (List ℕ)} {read : ℕ → List (List ℕ) → Result A TraceKind} → IsFormat Is records_for fields read
     → (tests : ℕ → List (List ℕ) → List (Bool × TraceKind)) → ((place : ℕ) (fs : List (List ℕ)) (k : TraceKind) → (read place fs ≡ Err k) ↔ (first_failing (tests place fs) ≡ Some k))
     → (records : List (List (List ℕ))) (fault : TraceFault) → (rows_from read 0 records ≡ Err fault) ↔ IsFirstBad Is records_for tests records fault

@@ -11,7 +11,7 @@ pub mod FileLaws
 pub mod FileSteps
 pub mod TraceLaws
 pub mod Digits
-pub mod PlainTexts
+pub mod FastPath
 pub mod LineSteps
 pub mod Lines
 pub mod ReadBack

@@ -1,4 +1,4 @@
--- What is written into a line stands behind what stood there before.
+-- What a line has after each write: what it had before, and what was written.
 use Rattle.std.proofs.Common.{◌≡◌, ℕ, ◌+◌, ◌/◌, ◌%◌, ◌^◌, ◌<◌, ◌≤◌, List, [], ◌∷◌, ◌++◌, length, take, ap, sym, refl, ◌∙◌, append_assoc, arith}
 use Rattle.std.specs.Prelude.{decimal}
 use Rattle.std.proofs.lemmas.List.{append-nil, length-take-le, take-take}
@@ -9,11 +9,11 @@ use borrow.Rule.Slice.PartMut.{put_mid}
 use Rattle.lock_trace.specs.Histories.{after_commas}
 use Rattle.lock_trace.proofs.Digits.{two_digits, hundreds}
 
--- two pieces, one after the other
+-- Two texts written one after the other.
 pub both_written : (front mid all s t : List ℕ) → mid ≡ front ++ s → all ≡ mid ++ t → all ≡ front ++ (s ++ t)
 both_written front mid all s t first second = second ∙ ap (λ (x : List ℕ). x ++ t) first ∙ append_assoc front s t
 
--- of a piece that is copied whole its front counts
+-- Of a token that is copied whole, the first n bytes count.
 pub front_written : (a k n : ℕ) (line piece token : List ℕ) → a ≤ length line → n ≤ length piece → piece ≡ token → take (a + n) (put_mid a k line piece) ≡ take a line ++ take n token
 front_written a k n line piece token le few is =
     sym (take-take (a + n) (a + length piece) (put_mid a k line piece) (omega (arith, few)))
@@ -22,17 +22,20 @@ front_written a k n line piece token le few is =
     ∙ take-append-add (take a line) piece n
     ∙ ap (λ (t : List ℕ). take a line ++ take n t) is
 
+-- One digit is the decimal text of a number below 10.
 pub digit_written : (front all : List ℕ) (n : ℕ) → n < 10 → all ≡ front ++ (48 + n) ∷ [] → all ≡ front ++ decimal n
 digit_written front all n lt is = is ∙ ap (λ (t : List ℕ). front ++ t) (sym (decimal_digit n lt))
 
+-- Two digits are the decimal text of a number from 10 to 99.
 pub pair_written : (front all : List ℕ) (n : ℕ) → 10 ≤ n → n < 100 → all ≡ front ++ (48 + n / 10) ∷ (48 + n % 10) ∷ [] → all ≡ front ++ decimal n
 pair_written front all n low high is = is ∙ ap (λ (t : List ℕ). front ++ t) (sym (two_digits n low high))
 
+-- The hundreds and two more digits are the decimal text of a number from 100 on.
 pub hundreds_written : (front mid all : List ℕ) (n : ℕ) → 100 ≤ n → n < 2 ^ 64 → mid ≡ front ++ decimal (n / 100) → all ≡ mid ++ (48 + n % 100 / 10) ∷ (48 + n % 100 % 10) ∷ [] → all ≡ front ++ decimal n
 hundreds_written front mid all n low high first second =
     both_written front mid all (decimal (n / 100)) ((48 + n % 100 / 10) ∷ (48 + n % 100 % 10) ∷ []) first second ∙ ap (λ (t : List ℕ). front ++ t) (sym (hundreds n low high))
 
--- the word of a reply between commas, and its value
+-- The word of a reply between commas, and its value, are its fields with a comma before each.
 pub reply_written : (front mid all token word value : List ℕ) → mid ≡ front ++ token → token ≡ 44 ∷ (word ++ 44 ∷ []) → all ≡ mid ++ value → all ≡ front ++ after_commas (word ∷ value ∷ [])
 unfolding after_commas
 reply_written front mid all token word value first is second =
@@ -40,7 +43,7 @@ reply_written front mid all token word value first is second =
     ∙ ap (λ (t : List ℕ). front ++ (t ++ value)) is
     ∙ ap (λ (t : List ℕ). front ++ 44 ∷ t) (append_assoc word (44 ∷ []) value ∙ ap (λ (t : List ℕ). word ++ 44 ∷ t) (sym (append-nil value)))
 
--- the word of a call between commas, its resource, a comma, and its mode
+-- The word of a call between commas, its resource, a comma and its mode are its fields with a comma before each.
 pub call_written : (front l1 l2 l3 l4 token word resource mode : List ℕ) → l1 ≡ front ++ token → token ≡ 44 ∷ (word ++ 44 ∷ []) → l2 ≡ l1 ++ resource → l3 ≡ l2 ++ 44 ∷ [] → l4 ≡ l3 ++ mode
     → l4 ≡ front ++ after_commas (word ∷ resource ∷ mode ∷ [])
 unfolding after_commas

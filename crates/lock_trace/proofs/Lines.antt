@@ -1,4 +1,4 @@
--- A line is written field by field, and a text line by line.
+-- A resource is written number by number, a line field by field, and a history line by line.
 use Rattle.std.proofs.Common.{◌≡◌, ℕ, zero, suc, ◌+◌, ◌<◌, ◌≤◌, List, [], ◌∷◌, ◌++◌, length, take, take-suc, take_all, get_or, refl, ap, sym, ◌∙◌, append_assoc, add-one, length-take, arith, rules}
 use Rattle.std.specs.Prelude.{decimal}
 use Rattle.std.proofs.lemmas.List.{append-nil}
@@ -7,8 +7,9 @@ use Rattle.lock_rules.specs.declared.calls.Entry.{Entry}
 use Rattle.lock_trace.specs.Histories.{after_commas, line_of, lines_of, fields_of_entry, text_of_history}
 use Rattle.lock_trace.specs.Files.{fields_from}
 
--- one number more of a resource
+-- Resources.
 
+-- One more number of a path adds a `/` and its decimal text.
 text_push : (xs : List ℕ) (y : ℕ) → 0 < length xs → text_of (xs ++ (y ∷ [])) ≡ text_of xs ++ (47 ∷ decimal y)
 text_push [] y some = absurd (omega arith)
 text_push (x ∷ []) y some = refl
@@ -16,12 +17,14 @@ text_push (x ∷ z ∷ xs) y some =
     ap (λ (t : List ℕ). decimal x ++ (47 ∷ t)) (text_push (z ∷ xs) y (omega arith))
     ∙ sym (append_assoc (decimal x) (47 ∷ text_of (z ∷ xs)) (47 ∷ decimal y))
 
+-- The first number of a path is its decimal text.
 pub first_number : (r old out out2 : List ℕ) (i : ℕ) → i ≤ 0 → i < length r → out ≡ old ++ text_of (take i r) → out2 ≡ out ++ decimal (get_or r i 0) → out2 ≡ old ++ text_of (take (i + 1) r)
 first_number r old out out2 zero none lt so_far more =
     let one : take 1 r ≡ get_or r 0 0 ∷ [] = take-suc r 0 0 lt in
     more ∙ ap (λ (t : List ℕ). t ++ decimal (get_or r 0 0)) (so_far ∙ append-nil old) ∙ ap (λ (xs : List ℕ). old ++ text_of xs) (sym one)
 first_number r old out out2 (suc i) none lt so_far more = absurd (omega arith)
 
+-- After a `/` and the next number, the path so far is one number longer.
 pub next_number : (r old out mid out2 : List ℕ) (i : ℕ) → 0 < i → i < length r → out ≡ old ++ text_of (take i r) → mid ≡ out ++ (47 ∷ []) → out2 ≡ mid ++ decimal (get_or r i 0) → out2 ≡ old ++ text_of (take (i + 1) r)
 next_number r old out mid out2 i some lt so_far slash more =
     let long : 0 < length (take i r) = omega (arith, length-take i r, some, lt) in
@@ -33,26 +36,30 @@ next_number r old out mid out2 i some lt so_far slash more =
     ∙ append_assoc old (text_of (take i r)) (47 ∷ decimal (get_or r i 0))
     ∙ ap (λ (t : List ℕ). old ++ t) (sym text)
 
--- a line
+-- Lines.
 
+-- Commas before the fields of two lists are commas before all their fields.
 after_commas_append : (xs ys : List (List ℕ)) → after_commas (xs ++ ys) ≡ after_commas xs ++ after_commas ys
 unfolding after_commas
 after_commas_append [] ys = refl
 after_commas_append (x ∷ xs) ys = ap (λ (t : List ℕ). 44 ∷ (x ++ t)) (after_commas_append xs ys) ∙ ap (λ (t : List ℕ). 44 ∷ t) (sym (append_assoc x (after_commas xs) (after_commas ys)))
 
+-- Two ways to group the pieces of a line.
 regrouped : (o p s c r : List ℕ) → (((((o ++ p) ++ (44 ∷ [])) ++ s) ++ c) ++ r) ++ (10 ∷ []) ≡ o ++ (p ++ (44 ∷ ((s ++ (c ++ r)) ++ (10 ∷ []))))
 regrouped o p s c r =
     append_assoc ((((o ++ p) ++ (44 ∷ [])) ++ s) ++ c) r (10 ∷ []) ∙ append_assoc (((o ++ p) ++ (44 ∷ [])) ++ s) c (r ++ (10 ∷ []))
     ∙ append_assoc ((o ++ p) ++ (44 ∷ [])) s (c ++ (r ++ (10 ∷ []))) ∙ append_assoc (o ++ p) (44 ∷ []) (s ++ (c ++ (r ++ (10 ∷ [])))) ∙ append_assoc o p (44 ∷ (s ++ (c ++ (r ++ (10 ∷ [])))))
     ∙ ap (λ (t : List ℕ). o ++ (p ++ (44 ∷ t))) (ap (λ (t : List ℕ). s ++ t) (sym (append_assoc c r (10 ∷ []))) ∙ sym (append_assoc s (c ++ r) (10 ∷ [])))
 
+-- The pieces of an entry, one after another, are its line.
 pub entry_line : (o o1 o2 o3 o4 o5 o6 p s : List ℕ) (cs rs : List (List ℕ)) → o1 ≡ o ++ p → o2 ≡ o1 ++ (44 ∷ []) → o3 ≡ o2 ++ s → o4 ≡ o3 ++ after_commas cs → o5 ≡ o4 ++ after_commas rs → o6 ≡ o5 ++ (10 ∷ [])
     → o6 ≡ o ++ (p ++ (after_commas (s ∷ (cs ++ rs)) ++ (10 ∷ [])))
 unfolding after_commas
 entry_line o o1 o2 o3 o4 o5 o6 p s cs rs e1 e2 e3 e4 e5 e6 = rw (e6, e5, e4, e3, e2, e1, after_commas_append cs rs) (regrouped o p s (after_commas cs) (after_commas rs))
 
--- one entry more of a history
+-- Histories.
 
+-- One more entry adds its line.
 lines_push : (place : ℕ) (es : List Entry) (e : Entry) → lines_of (fields_from fields_of_entry place (es ++ (e ∷ []))) ≡ lines_of (fields_from fields_of_entry place es) ++ line_of (fields_of_entry (place + length es) e)
 lines_push place [] e = append-nil (line_of (fields_of_entry place e)) ∙ ap (λ (k : ℕ). line_of (fields_of_entry k e)) (omega arith)
 lines_push place (x ∷ es) e =
@@ -62,6 +69,7 @@ lines_push place (x ∷ es) e =
     ap (λ (t : List ℕ). line_of (fields_of_entry place x) ++ t) inner
     ∙ sym (append_assoc (line_of (fields_of_entry place x)) (lines_of (fields_from fields_of_entry (place + 1) es)) (line_of (fields_of_entry (place + length (x ∷ es)) e)))
 
+-- After the line of the next entry, the text so far is the text of one entry more.
 pub next_entry : (es : List Entry) (i : ℕ) (e : Entry) (out out2 : List ℕ) → i < length es → e ≡ get_or es i e → out ≡ text_of_history (take i es) → out2 ≡ out ++ line_of (fields_of_entry i e)
     → out2 ≡ text_of_history (take (i + 1) es)
 next_entry es i e out out2 lt is so_far more =
@@ -71,8 +79,10 @@ next_entry es i e out out2 lt is so_far more =
     ∙ ap (λ (k : ℕ). text_of_history (take i es) ++ line_of (fields_of_entry k e)) (sym long)
     ∙ sym (lines_push 0 (take i es) e) ∙ ap text_of_history (sym grown)
 
+-- Taking as many entries as there are, or more, takes all.
 pub take_every : (es : List Entry) (i : ℕ) → length es ≤ i → take i es ≡ es
 take_every es i le = search (rules, take_all)
 
+-- Taking as many numbers as there are, or more, takes all.
 pub take_all_numbers : (r : List ℕ) (i : ℕ) → length r ≤ i → take i r ≡ r
 take_all_numbers r i le = search (rules, take_all)

@@ -1,4 +1,4 @@
--- Operations, modes, replies and refusals are found by their names, and nothing else is.
+-- Operations, modes, reply words and refusals are found by their names, and no other field finds one.
 use Rattle.std.proofs.Common.{◌≡◌, ℕ, Bool, true, false, List, [], ◌∷◌, length, drop, drop-cons, get_or, add-one, ◌+◌, Result, Ok, Err, refl, sym, ap, ◌∙◌, arith}
 use Rattle.std.specs.Prelude.{if◌then◌else◌, bytes_eq, nat_lt, ◌<◌}
 use Rattle.std.specs.List.{list_all}
@@ -19,48 +19,53 @@ use Rattle.lock_trace.specs.declared.faults.TraceKind.TheVariants as kind
 use Rattle.lock_trace.specs.declared.words.Op.{Op}
 use Rattle.lock_trace.specs.declared.words.ReplyWord.{ReplyWord}
 use Rattle.lock_trace.specs.Words.{word_of, ops, word_of_reply, reply_words}
-use Rattle.lock_trace.specs.Fields.{named, modes, op_in, mode_in, reply_word_in, whys, why_in}
+use Rattle.lock_trace.specs.Fields.{find_named, modes, op_in, mode_in, reply_word_in, whys, why_in}
 
--- the name of none of them
+-- The field is the name of no item.
 abbrev pub Misses : {A : Type 0} → (A → List ℕ) → List A → List ℕ → Type 0
 Misses name [] bs = Unit {0}
 Misses name (x ∷ xs) bs = (bs ≡ name x → ⊥) × Misses name xs bs
 
--- a name of none of them is a fault
-pub named_none : {A : Type 0} (name : A → List ℕ) (fault : TraceKind) (xs : List A) (bs : List ℕ) → Misses name xs bs → named name fault xs bs ≡ Err fault
+-- A field that is the name of no item is the fault.
+pub named_none : {A : Type 0} (name : A → List ℕ) (fault : TraceKind) (xs : List A) (bs : List ℕ) → Misses name xs bs → find_named name fault xs bs ≡ Err fault
 named_none name fault [] bs miss = refl
 named_none {A} name fault (y ∷ ys) bs miss = cases (bytes_eq bs (name y)) refl (named_none name fault ys bs miss.1)
   where
-    cases : (b : Bool) → bytes_eq bs (name y) ≡ b → named name fault ys bs ≡ Err fault → (if b then Ok y else named name fault ys bs) ≡ Err fault
+    cases : (b : Bool) → bytes_eq bs (name y) ≡ b → find_named name fault ys bs ≡ Err fault → (if b then Ok y else find_named name fault ys bs) ≡ Err fault
     cases true is rest = absurd (miss.0 ((bytes_eq-Decides bs (name y)).0 is))
     cases false is rest = rest
 
--- one of another name is passed over
+-- The search goes on with the next item if the current one has another name.
 pub passed_over : {A : Type 0} (name : A → List ℕ) (fault : TraceKind) (xs : List A) (i : ℕ) (d : A) (bs word : List ℕ) (found : Result A TraceKind) → i < length xs
-    → word ≡ name (get_or xs i d) → bytes_eq bs word ≡ false → found ≡ named name fault (drop i xs) bs → found ≡ named name fault (drop (i + 1) xs) bs
-passed_over {A} name fault xs i d bs word found lt is other so_far = so_far ∙ ap (λ (ys : List A). named name fault ys bs) (drop-cons xs i d lt) ∙ rw (← is, other, add-one i) refl
+    → word ≡ name (get_or xs i d) → bytes_eq bs word ≡ false → found ≡ find_named name fault (drop i xs) bs → found ≡ find_named name fault (drop (i + 1) xs) bs
+passed_over {A} name fault xs i d bs word found lt is other so_far = so_far ∙ ap (λ (ys : List A). find_named name fault ys bs) (drop-cons xs i d lt) ∙ rw (← is, other, add-one i) refl
 
+-- An `Ok` with the fault type fixed.
 abbrev ok : {A : Type 0} → A → Result A TraceKind
 ok a = Ok a
 
+-- `Ok` is injective.
 same_ok : {A : Type 0} (a b : A) → ok a ≡ ok b → a ≡ b
 same_ok a b e = cc
 
--- what is found has the name
-pub named_ok : {A : Type 0} (name : A → List ℕ) (fault : TraceKind) (xs : List A) (bs : List ℕ) (x : A) → named name fault xs bs ≡ Ok x → bs ≡ name x
+-- The field is the name of the item that was found.
+pub named_ok : {A : Type 0} (name : A → List ℕ) (fault : TraceKind) (xs : List A) (bs : List ℕ) (x : A) → find_named name fault xs bs ≡ Ok x → bs ≡ name x
 named_ok name fault [] bs x e = absurd cc
 named_ok {A} name fault (y ∷ ys) bs x e = cases (bytes_eq bs (name y)) refl (named_ok name fault ys bs x) e
   where
-    cases : (b : Bool) → bytes_eq bs (name y) ≡ b → (named name fault ys bs ≡ Ok x → bs ≡ name x) → (if b then ok y else named name fault ys bs) ≡ ok x → bs ≡ name x
+    cases : (b : Bool) → bytes_eq bs (name y) ≡ b → (find_named name fault ys bs ≡ Ok x → bs ≡ name x) → (if b then ok y else find_named name fault ys bs) ≡ ok x → bs ≡ name x
     cases true is later found = (bytes_eq-Decides bs (name y)).0 is ∙ ap name (same_ok y x found)
     cases false is later found = later found
 
+-- The field of an operation is its word.
 pub op_is : (bs : List ℕ) (o : Op) → op_in bs ≡ Ok o → bs ≡ word_of o
 op_is bs o e = named_ok word_of kind.Op ops bs o e
 
+-- The field of a mode is its name.
 pub mode_is : (bs : List ℕ) (m : Mode) → mode_in bs ≡ Ok m → bs ≡ name_of m
 mode_is bs m e = named_ok name_of kind.Mode modes bs m e
 
+-- The name of a mode finds that mode.
 pub mode_by_name : (m : Mode) (bs : List ℕ) → bs ≡ name_of m → mode_in bs ≡ Ok m
 mode_by_name NL bs e = rw e refl
 mode_by_name IS bs e = rw e refl
@@ -69,6 +74,7 @@ mode_by_name S bs e = rw e refl
 mode_by_name SIX bs e = rw e refl
 mode_by_name X bs e = rw e refl
 
+-- A list of bytes below 128 is ASCII.
 ascii_by_test : (bs : List ℕ) → list_all (λ b. nat_lt b 128) bs ≡ true → IsAscii bs
 ascii_by_test [] e = IsAscii-nil
 ascii_by_test (b ∷ bs) e =
@@ -78,9 +84,11 @@ ascii_by_test (b ∷ bs) e =
     below : (b : ℕ) → nat_lt b 128 ≡ true → b < 128
     below b is = grind (arith, nat_tests)
 
+-- A list of bytes below 128 is UTF-8.
 pub is_text : (bs : List ℕ) → list_all (λ b. nat_lt b 128) bs ≡ true → is_utf8 bs ≡ true
 is_text bs e = is_utf8-from_IsUtf8 bs (IsUtf8-from_ascii bs (ascii_by_test bs e))
 
+-- The names of modes are UTF-8.
 mode_text : (m : Mode) → is_utf8 (name_of m) ≡ true
 mode_text NL = is_text _ refl
 mode_text IS = is_text _ refl
@@ -89,18 +97,23 @@ mode_text S = is_text _ refl
 mode_text SIX = is_text _ refl
 mode_text X = is_text _ refl
 
+-- A field that is no mode's name has the fault Mode.
 pub no_mode : (bs : List ℕ) → ((m : Mode) → bs ≡ name_of m → ⊥) → mode_in bs ≡ Err kind.Mode
 no_mode bs none = named_none name_of kind.Mode modes bs (none NL, (none IS, (none IX, (none S, (none SIX, (none X, tt))))))
 
+-- A field that is not UTF-8 has the fault Mode.
 pub no_text_no_mode : (bs : List ℕ) → is_utf8 bs ≡ false → mode_in bs ≡ Err kind.Mode
 no_text_no_mode bs not = no_mode bs (λ m e. let is : is_utf8 bs ≡ true = ap is_utf8 e ∙ mode_text m in let bad : true ≡ false = sym is ∙ not in cc)
 
+-- The field of a kind of reply is its word.
 pub reply_word_is : (bs : List ℕ) (w : ReplyWord) → reply_word_in bs ≡ Ok w → bs ≡ word_of_reply w
 reply_word_is bs w e = named_ok word_of_reply kind.Reply reply_words bs w e
 
+-- The field of a reason of a refusal is its name.
 pub why_is : (bs : List ℕ) (w : Why) → why_in bs ≡ Ok w → bs ≡ name_of_why w
 why_is bs w e = named_ok name_of_why kind.Value whys bs w e
 
+-- The name of a reason of a refusal finds that reason.
 pub why_by_name : (w : Why) (bs : List ℕ) → bs ≡ name_of_why w → why_in bs ≡ Ok w
 why_by_name why.AlreadyOpen bs e = rw e refl
 why_by_name why.NoTransaction bs e = rw e refl
@@ -112,6 +125,7 @@ why_by_name why.ParentNotHeld bs e = rw e refl
 why_by_name why.ChildHeld bs e = rw e refl
 why_by_name why.TooManyLocks bs e = rw e refl
 
+-- The names of reasons of a refusal are UTF-8.
 why_text : (w : Why) → is_utf8 (name_of_why w) ≡ true
 why_text why.AlreadyOpen = is_text _ refl
 why_text why.NoTransaction = is_text _ refl
@@ -123,10 +137,12 @@ why_text why.ParentNotHeld = is_text _ refl
 why_text why.ChildHeld = is_text _ refl
 why_text why.TooManyLocks = is_text _ refl
 
+-- A field that is no reason's name has the fault Value.
 pub no_why : (bs : List ℕ) → ((w : Why) → bs ≡ name_of_why w → ⊥) → why_in bs ≡ Err kind.Value
 no_why bs none =
     named_none name_of_why kind.Value whys bs
     (none why.AlreadyOpen, (none why.NoTransaction, (none why.IsWaiting, (none why.IsDoomed, (none why.NothingAsked, (none why.NotHeld, (none why.ParentNotHeld, (none why.ChildHeld, (none why.TooManyLocks, tt)))))))))
 
+-- A field that is not UTF-8 has the fault Value, as a reason of a refusal.
 pub no_text_no_why : (bs : List ℕ) → is_utf8 bs ≡ false → why_in bs ≡ Err kind.Value
 no_text_no_why bs not = no_why bs (λ w e. let is : is_utf8 bs ≡ true = ap is_utf8 e ∙ why_text w in let bad : true ≡ false = sym is ∙ not in cc)

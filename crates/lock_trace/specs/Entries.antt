@@ -1,4 +1,4 @@
--- The rows of a history: which fields are an entry.
+-- The rows of a history: the entry of some fields.
 use Rattle.std.specs.Prelude.{◌==◌, ◌<◌, ◌≤◌, ◌^◌, ℕ, not, if◌then◌else◌, List, [], ◌∷◌, length, Result, Ok, Err}
 use Rattle.lock_rules.specs.declared.calls.Reply.{Reply}
 use Rattle.lock_rules.specs.declared.calls.Reply.TheVariants as reply
@@ -7,11 +7,11 @@ use Rattle.lock_trace.specs.declared.faults.TraceKind.{TraceKind}
 use Rattle.lock_trace.specs.declared.faults.TraceKind.TheVariants as kind
 use Rattle.lock_trace.specs.declared.rows.TraceRow.{TraceRow}
 use Rattle.lock_trace.specs.declared.words.ReplyWord.{ReplyWord}
-use Rattle.lock_trace.specs.declared.words.ReplyWord.TheVariants as told
-use Rattle.lock_trace.specs.Fields.{place_in, reply_word_in, number_in, granted_in, why_in, most_64, most_32}
+use Rattle.lock_trace.specs.declared.words.ReplyWord.TheVariants as words
+use Rattle.lock_trace.specs.Fields.{place_in, reply_word_in, number_in, granted_in, why_in, max_u64, max_u32}
 use Rattle.lock_trace.specs.Rows.{◌>>=◌, HasResources, row_in}
 
--- the number of a transaction has 64 bits, and a count of locks 32
+-- The numbers of a reply are in range: 64 bits for a transaction number, 32 bits for a count of locks.
 abbrev pub IsReply : Reply → Type 0
 IsReply (reply.Began n) = n < 2 ^ 64
 IsReply (reply.Granted m) = Unit {0}
@@ -23,50 +23,51 @@ IsReply (reply.Committed n) = n < 2 ^ 32
 IsReply (reply.Aborted n) = n < 2 ^ 32
 IsReply (reply.Refused w) = Unit {0}
 
--- an entry for so many sessions
+-- The entry's session is between 1 and the number of sessions, its call names only valid resources, and its
+-- reply's numbers are in range.
 pub record IsEntry (sessions : ℕ) (e : Entry) : Type 0 where
   pub first : 0 < e.session
   pub last : e.session ≤ sessions
   pub resources : HasResources e.call
   pub reply : IsReply e.reply
 
--- a reply that takes no value
+-- The reply, which takes no value: the value field must be empty.
 abbrev pub without_value : Reply → List ℕ → Result Reply TraceKind
 without_value r v = if not (length v == 0) then Err kind.Value else Ok r
 
--- the reply that a word and a value are
+-- The reply of a kind and a value field, or the fault Value.
 abbrev pub value_in : ReplyWord → List ℕ → Result Reply TraceKind
-value_in told.Began v = do
-  number ← number_in most_64 v
+value_in words.Began v = do
+  number ← number_in max_u64 v
   Ok (reply.Began number)
-value_in told.Granted v = do
+value_in words.Granted v = do
   mode ← granted_in v
   Ok (reply.Granted mode)
-value_in told.Waiting v = without_value reply.Waiting v
-value_in told.Deadlock v = without_value reply.Deadlock v
-value_in told.Clear v = without_value reply.Clear v
-value_in told.Released v = without_value reply.Released v
-value_in told.Committed v = do
-  locks ← number_in most_32 v
+value_in words.Waiting v = without_value reply.Waiting v
+value_in words.Deadlock v = without_value reply.Deadlock v
+value_in words.Clear v = without_value reply.Clear v
+value_in words.Released v = without_value reply.Released v
+value_in words.Committed v = do
+  locks ← number_in max_u32 v
   Ok (reply.Committed locks)
-value_in told.Aborted v = do
-  locks ← number_in most_32 v
+value_in words.Aborted v = do
+  locks ← number_in max_u32 v
   Ok (reply.Aborted locks)
-value_in told.Refused v = do
+value_in words.Refused v = do
   why ← why_in v
   Ok (reply.Refused why)
 
--- the reply that two fields are, or the first of their tests that fails
+-- The reply of a reply field and a value field, or the first fault.
 abbrev pub reply_in : List ℕ → List ℕ → Result Reply TraceKind
 reply_in w v = do
   word ← reply_word_in w
   value_in word v
 
--- a row with its reply
+-- The entry of a trace row and a reply.
 abbrev pub with_reply : TraceRow → Reply → Entry
 with_reply row r = record { session = row.session; call = row.call; reply = r }
 
--- the entry that seven fields are at a place, or the first test that fails
+-- The entry of seven fields at a place of a history, or the first fault.
 abbrev pub entry_in : ℕ → ℕ → List ℕ → List ℕ → List ℕ → List ℕ → List ℕ → List ℕ → List ℕ → Result Entry TraceKind
 entry_in n place p s o r m w v = do
   here ← place_in place p
@@ -74,7 +75,8 @@ entry_in n place p s o r m w v = do
   answer ← reply_in w v
   Ok (with_reply row answer)
 
--- the same of any fields
+-- The entry of a record at a place of a history, or the first fault. A record that does not have seven fields has
+-- the fault Shape.
 abbrev pub entry_of : ℕ → ℕ → List (List ℕ) → Result Entry TraceKind
 entry_of n place [] = Err kind.Shape
 entry_of n place (p ∷ []) = Err kind.Shape

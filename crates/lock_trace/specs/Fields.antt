@@ -1,4 +1,4 @@
--- What the single fields of a row say.
+-- What each single field of a row is read as, or the fault of the field.
 use Rattle.std.specs.Prelude.{◌≡◌, ◌==◌, ◌<◌, ◌≤◌, ℕ, if◌then◌else◌, List, [], ◌∷◌, Result, Ok, Err, bytes_eq, decimal}
 use Rattle.std.specs.Str.{is_utf8}
 use Rattle.lock_modes.specs.declared.Mode.{Mode}
@@ -18,76 +18,80 @@ use Rattle.lock_trace.specs.declared.words.Op.{Op}
 use Rattle.lock_trace.specs.declared.words.ReplyWord.{ReplyWord}
 use Rattle.lock_trace.specs.Words.{word_of, ops, word_of_reply, reply_words}
 
--- a number that was read, unless it is 0
+-- A session number that was parsed: 0 is a fault, as is a parse fault.
 abbrev pub above_zero : Result ℕ NumeralFault → Result ℕ TraceKind
 above_zero (Ok s) = if s == 0 then Err kind.Session else Ok s
 above_zero (Err f) = Err kind.Session
 
--- a session is a numeral from 1 to so many
+-- The session number of a field: the decimal text of a number from 1 to n.
 abbrev pub session_in : ℕ → List ℕ → Result ℕ TraceKind
 session_in n bs = above_zero (reading_of_numeral n bs)
 
--- the one text of a session that is one of so many
+-- The field is the decimal text of session s, one of n sessions.
 pub record IsSessionText (n s : ℕ) (field : List ℕ) : Type 0 where
   pub first : 0 < s
   pub last : s ≤ n
   pub text : field ≡ decimal s
 
--- the modes, each once
+-- All modes, each once.
 abbrev pub modes : List Mode
 modes = NL ∷ IS ∷ IX ∷ S ∷ SIX ∷ X ∷ []
 
--- the first of these whose name is given, or else this fault
-abbrev pub named : {A : Type 0} → (A → List ℕ) → TraceKind → List A → List ℕ → Result A TraceKind
-named name fault [] bs = Err fault
-named name fault (x ∷ xs) bs = if bytes_eq bs (name x) then Ok x else named name fault xs bs
+-- The first item whose name is the field, or the fault if there is none.
+abbrev pub find_named : {A : Type 0} → (A → List ℕ) → TraceKind → List A → List ℕ → Result A TraceKind
+find_named name fault [] bs = Err fault
+find_named name fault (x ∷ xs) bs = if bytes_eq bs (name x) then Ok x else find_named name fault xs bs
 
+-- The operation of a field, by its word.
 abbrev pub op_in : List ℕ → Result Op TraceKind
-op_in bs = named word_of kind.Op ops bs
+op_in bs = find_named word_of kind.Op ops bs
 
+-- The mode of a field, by its name.
 abbrev pub mode_in : List ℕ → Result Mode TraceKind
-mode_in bs = named name_of kind.Mode modes bs
+mode_in bs = find_named name_of kind.Mode modes bs
 
--- a path's fault is a row's
+-- A resource, or the path fault as the fault of a row.
 abbrev pub or_path : Result (List ℕ) PathFault → Result (List ℕ) TraceKind
 or_path (Ok r) = Ok r
 or_path (Err f) = Err (kind.Path f)
 
--- a field that isn't UTF-8 has no number, whatever else is wrong with it
+-- The resource of a field. A field that is not UTF-8 has the path fault NotANumber.
 abbrev pub resource_in : List ℕ → Result (List ℕ) TraceKind
 resource_in bs = if is_utf8 bs then or_path (reading_of bs) else Err (kind.Path path.NotANumber)
 
--- a place is told by its one text
+-- The place field is the decimal text of the place, or faulty.
 abbrev pub place_in : ℕ → List ℕ → Result (Unit {0}) TraceKind
 place_in place bs = if bytes_eq bs (decimal place) then Ok tt else Err kind.Place
 
+-- The kind of reply of a field, by its word.
 abbrev pub reply_word_in : List ℕ → Result ReplyWord TraceKind
-reply_word_in bs = named word_of_reply kind.Reply reply_words bs
+reply_word_in bs = find_named word_of_reply kind.Reply reply_words bs
 
--- what is wrong with a part of a value is wrong with the value
+-- What was read, or the fault Value for any fault.
 abbrev pub or_value : {A F : Type 0} → Result A F → Result A TraceKind
 or_value (Ok x) = Ok x
 or_value (Err f) = Err kind.Value
 
--- the greatest numbers of 64 and of 32 bits
-abbrev pub most_64 : ℕ
-most_64 = 18446744073709551615
+-- The largest number of 64 bits.
+abbrev pub max_u64 : ℕ
+max_u64 = 18446744073709551615
 
-abbrev pub most_32 : ℕ
-most_32 = 4294967295
+-- The largest number of 32 bits.
+abbrev pub max_u32 : ℕ
+max_u32 = 4294967295
 
--- a value that is a numeral of so much at most
+-- The number of a value field: the decimal text of a number of at most `most`.
 abbrev pub number_in : ℕ → List ℕ → Result ℕ TraceKind
 number_in most bs = or_value (reading_of_numeral most bs)
 
--- a value that is the name of a mode
+-- The mode of a value field, by its name.
 abbrev pub granted_in : List ℕ → Result Mode TraceKind
 granted_in bs = or_value (mode_in bs)
 
--- the refusals, each once
+-- All reasons of a refusal, each once.
 abbrev pub whys : List Why
 whys = AlreadyOpen ∷ NoTransaction ∷ IsWaiting ∷ IsDoomed ∷ NothingAsked ∷ NotHeld ∷ ParentNotHeld ∷ ChildHeld ∷ TooManyLocks ∷ []
 
--- a value that is the name of a refusal
+-- The reason of a refusal in a value field, by its name.
 abbrev pub why_in : List ℕ → Result Why TraceKind
-why_in bs = named name_of_why kind.Value whys bs
+why_in bs = find_named name_of_why kind.Value whys bs

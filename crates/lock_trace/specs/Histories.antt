@@ -10,7 +10,7 @@ use Rattle.lock_trace.specs.Words.{word_of_reply, reply_word_of}
 use Rattle.lock_trace.specs.Rows.{HasResources, fields_of_row}
 use Rattle.lock_trace.specs.Files.{fields_from}
 
--- what a reply tells beside its word, or nothing
+-- The value of a reply: a transaction number, a mode, a count of locks, a reason of a refusal, or the empty field.
 abbrev pub value_field : Reply → List ℕ
 value_field (reply.Began n) = decimal n
 value_field (reply.Granted m) = name_of m
@@ -22,40 +22,42 @@ value_field (reply.Committed n) = decimal n
 value_field (reply.Aborted n) = decimal n
 value_field (reply.Refused w) = name_of_why w
 
--- the fields of a reply: its word and its value
+-- The fields of a reply: its word and its value.
 abbrev pub fields_of_reply : Reply → List (List ℕ)
 fields_of_reply r = word_of_reply (reply_word_of r) ∷ value_field r ∷ []
 
--- the row of a trace that the entry answers
+-- The trace row of an entry: its session and its call.
 abbrev pub row_of_entry : Entry → TraceRow
 row_of_entry e = record { session = e.session; call = e.call }
 
--- the seven fields of an entry: its place, its row and its reply
+-- The seven fields of an entry at a place: the place, the trace row and the reply.
 abbrev pub fields_of_entry : ℕ → Entry → List (List ℕ)
 fields_of_entry place e = decimal place ∷ (fields_of_row (row_of_entry e) ++ fields_of_reply e.reply)
 
+-- The records of a history: the fields of each entry, in order.
 abbrev pub records_of_history : List Entry → List (List (List ℕ))
 records_of_history es = fields_from fields_of_entry 0 es
 
--- fields with a comma before each
+-- The fields with a comma before each.
 unfoldable pub after_commas : List (List ℕ) → List ℕ
 after_commas [] = []
 after_commas (f ∷ fs) = 44 ∷ (f ++ after_commas fs)
 
--- fields joined by commas, and a line feed
+-- The fields joined by commas, and a line feed.
 abbrev pub line_of : List (List ℕ) → List ℕ
 line_of [] = 10 ∷ []
 line_of (f ∷ fs) = f ++ (after_commas fs ++ 10 ∷ [])
 
--- the lines of some records
+-- The lines of some records.
 abbrev pub lines_of : List (List (List ℕ)) → List ℕ
 lines_of [] = []
 lines_of (r ∷ rs) = line_of r ++ lines_of rs
 
+-- The text of a history.
 abbrev pub text_of_history : List Entry → List ℕ
 text_of_history es = lines_of (records_of_history es)
 
--- the numbers of a reply are of the machine
+-- The numbers of a reply fit in 64 bits.
 abbrev pub ReplyFits : Reply → Type 0
 ReplyFits (reply.Began n) = n < 2 ^ 64
 ReplyFits (reply.Granted m) = Unit {0}
@@ -67,11 +69,12 @@ ReplyFits (reply.Committed n) = n < 2 ^ 64
 ReplyFits (reply.Aborted n) = n < 2 ^ 64
 ReplyFits (reply.Refused w) = Unit {0}
 
--- an entry that a machine can hold
+-- The numbers of an entry fit in 64 bits, and its call names only valid resources.
 pub record EntryFits (e : Entry) : Type 0 where
   pub session : e.session < 2 ^ 64
   pub resources : HasResources e.call
   pub reply : ReplyFits e.reply
 
+-- All entries fit.
 abbrev pub AllFit : List Entry → Type 0
 AllFit es = All EntryFits es

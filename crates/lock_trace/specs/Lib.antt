@@ -1,3 +1,4 @@
+-- What public contracts speak of.
 pub mod Words
 pub mod Fields
 pub mod Tests
@@ -6,6 +7,7 @@ pub mod Entries
 pub mod Records
 pub mod Files
 pub mod Traces
-pub mod Reading
 pub mod Histories
 pub mod ReadHistories
+-- What only private contracts speak of.
+pub mod inner

@@ -1,4 +1,4 @@
-//! One row of a history, from the fields of its record.
+//! Reads one row of a history from the fields of its record.
 
 ghost use Rattle.std.specs.Prelude.{◌≡◌, length};
 ghost use Rattle.csv.specs.Records.{fields_of};
@@ -6,15 +6,15 @@ ghost use Rattle.lock_trace.specs.Tests.{field_of};
 ghost use Rattle.lock_trace.specs.Entries.{without_value, value_in, reply_in, entry_in};
 
 use crate::faults::TraceKind;
-use crate::fields::{count_of, granted_of, number_of, place_of, reply_word_of, why_of};
-use crate::files::Row;
-use crate::rows::{TraceRow, field_at, read_row};
+use crate::fields::{check_place, count_of, granted_of, number_of, reply_word_of, why_of};
+use crate::row::{Row, field_at};
+use crate::rows::{TraceRow, read_row};
 use crate::words::ReplyWord;
 use csv::ByteRecord;
 use lock_rules::{Entry, Reply};
 
-// A reply that takes no value.
-fn without(reply: Reply, value: &[u8]) -> Result<Reply, TraceKind>
+/// Returns `reply`, which takes no value. Fails with `Value` unless the value field is empty.
+fn reply_without_value(reply: Reply, value: &[u8]) -> Result<Reply, TraceKind>
     ensures { result ≡ without_value reply value.now }
 {
     if !value.is_empty() {
@@ -23,7 +23,8 @@ fn without(reply: Reply, value: &[u8]) -> Result<Reply, TraceKind>
     Ok(reply)
 }
 
-fn value_of(word: ReplyWord, value: &[u8]) -> Result<Reply, TraceKind>
+/// The reply with this word; `value` is its value field. Fails with `Value`.
+fn reply_of_word(word: ReplyWord, value: &[u8]) -> Result<Reply, TraceKind>
     ensures { result ≡ value_in word value.now }
 {
     match word {
@@ -35,10 +36,10 @@ fn value_of(word: ReplyWord, value: &[u8]) -> Result<Reply, TraceKind>
             let mode = granted_of(value)?;
             Ok(Reply::Granted(mode))
         }
-        ReplyWord::Waiting => without(Reply::Waiting, value),
-        ReplyWord::Deadlock => without(Reply::Deadlock, value),
-        ReplyWord::Clear => without(Reply::Clear, value),
-        ReplyWord::Released => without(Reply::Released, value),
+        ReplyWord::Waiting => reply_without_value(Reply::Waiting, value),
+        ReplyWord::Deadlock => reply_without_value(Reply::Deadlock, value),
+        ReplyWord::Clear => reply_without_value(Reply::Clear, value),
+        ReplyWord::Released => reply_without_value(Reply::Released, value),
         ReplyWord::Committed => {
             let locks = count_of(value)?;
             Ok(Reply::Committed(locks))
@@ -54,20 +55,23 @@ fn value_of(word: ReplyWord, value: &[u8]) -> Result<Reply, TraceKind>
     }
 }
 
+/// Reads a reply from its two fields. Fails with `Reply` if the word is unknown, and with `Value` if the word does
+/// not take the value.
 fn reply_of(word: &[u8], value: &[u8]) -> Result<Reply, TraceKind>
     ensures { result ≡ reply_in word.now value.now }
 {
     let word = reply_word_of(word)?;
-    value_of(word, value)
+    reply_of_word(word, value)
 }
 
-// The entry of seven fields.
+/// Reads the entry at index `place` of a history from a record of seven fields. Tests the fields from left to
+/// right, with `Extra` after the mode, and fails with the first test that fails.
 fn entry_at(row: &ByteRecord, sessions: u16, place: u64) -> Result<Entry, TraceKind>
     requires { length (fields_of row.now) ≡ 7 }
     ensures { let field = field_of (fields_of row.now) in
         result ≡ entry_in sessions place (field 0) (field 1) (field 2) (field 3) (field 4) (field 5) (field 6) }
 {
-    place_of(field_at(row, 0), place)?;
+    check_place(field_at(row, 0), place)?;
     let TraceRow { session, call } = read_row(
         sessions,
         field_at(row, 1),

@@ -1,4 +1,4 @@
-//! What is wrong with a trace or a history, and in which row.
+//! The faults of a trace or a history, and the row that each is in.
 
 ghost use Rattle.std.specs.Prelude.{◌≡◌};
 ghost use Rattle.lock_trace.specs.Tests.{number_of_kind};
@@ -6,38 +6,39 @@ ghost use Rattle.lock_trace.specs.Tests.{number_of_kind};
 use lock_tree::PathFault;
 use thiserror::Error;
 
-/// The first faulty row of a trace or a history, and what is wrong with it. It is shown as `row 3: Mode`.
+/// The first faulty row of a trace or a history, and what is wrong with it. Displayed as `row 3: Mode`.
 #[derive(Clone, Copy, Debug, PartialEq, Eq, Error)]
 #[error("row {row}: {kind}")]
 pub struct TraceFault {
-    /// The row's number. Rows are counted from 1, and empty lines aren't counted.
+    /// The row number. Rows are counted from 1, without empty lines.
     pub row: u64,
-    /// The first test that the row fails.
+    /// The first test that the row fails, or `Device` or `NoMemory`.
     pub kind: TraceKind,
 }
 
-/// Why a row is refused. The tests of a trace's row are made in the order in which they stand here, and the
-/// first that fails is told. A history's row is tested for its place after its shape, and for its reply and the
-/// value of that last. They are this project's own choice, as are the formats; see docs/FORMATS.md.
+/// Why a row is refused. A trace row is tested in the order `Shape`, `Session`, `Op`, `Path`, `Mode`, `Extra`, and
+/// the first test that fails is the fault. A history row is also tested for `Place`, right after `Shape`, and for
+/// `Reply` and `Value`, last. `Device` and `NoMemory` are no faults of the text. The tests are this project's own
+/// choice, as are the formats; see docs/FORMATS.md.
 #[derive(Clone, Copy, Debug, PartialEq, Eq, Error)]
 pub enum TraceKind {
-    /// The row has fewer or more fields than a row has to have.
+    /// The row has too few or too many fields.
     #[error("Shape")]
     Shape,
-    /// The session is no decimal number from 1 to the number of sessions, of digits alone and
-    /// without a leading zero.
+    /// The session is not the decimal text of a number from 1 to the number of sessions: digits alone, without a
+    /// leading zero.
     #[error("Session")]
     Session,
-    /// The operation is none that is known. Names are lower case.
+    /// The operation is unknown. Names are lower case.
     #[error("Op")]
     Op,
-    /// The operation takes a resource, and the field isn't one.
+    /// The operation takes a resource, and the field is no resource path.
     #[error("Path {0}")]
     Path(PathFault),
-    /// The operation takes a mode, and the field isn't the name of one.
+    /// The operation takes a mode, and the field is no mode's name.
     #[error("Mode")]
     Mode,
-    /// A field that the operation doesn't take isn't empty.
+    /// A field that the operation does not take is not empty.
     #[error("Extra")]
     Extra,
     /// The reader failed while it read this row.
@@ -46,20 +47,20 @@ pub enum TraceKind {
     /// Memory was refused while this row was read.
     #[error("NoMemory")]
     NoMemory,
-    /// The place of a history's row isn't the text of its number less one.
+    /// The place is not the decimal text of the row's number less 1.
     #[error("Place")]
     Place,
-    /// The reply is none that is known. Their words are lower case.
+    /// The reply is unknown. Reply words are lower case.
     #[error("Reply")]
     Reply,
-    /// The value isn't of the form that the reply takes.
+    /// The value does not have the form that the reply takes.
     #[error("Value")]
     Value,
 }
 
 impl TraceKind {
-    /// The number of the fault. The first six are those of the tests of a trace's row, in their order, and the last
-    /// three are of histories alone.
+    /// The number of the fault: 1 to 6 for the tests of a trace row, in their order; 7 for `Device` and 8 for
+    /// `NoMemory`; 9 to 11 for the tests that only a history row has.
     pub fn number(&self) -> u8
         ensures { result ≡ number_of_kind self.now }
     {

@@ -1,12 +1,12 @@
-//! What the single fields of a row say.
+//! Reads single fields of a row.
 
 ghost use Rattle.std.specs.Prelude.{◌≡◌, ◌<◌, ◌≤◌, Bool, true, false, IfOk, IfSome, IfNone};
 ghost use Rattle.std.specs.Str.{is_utf8};
 ghost use Rattle.lock_tree.specs.Readings.{reading_of};
-ghost use Rattle.lock_trace.specs.Fields.{session_in, op_in, resource_in, mode_in, place_in, reply_word_in, number_in, granted_in, why_in, most_32};
+ghost use Rattle.lock_trace.specs.Fields.{session_in, op_in, resource_in, mode_in, place_in, reply_word_in, number_in, granted_in, why_in, max_u32};
 
+use crate::fast_path::{fast_number, fast_resource};
 use crate::faults::TraceKind;
-use crate::plain::{plain_number, plain_resource};
 use crate::words::{OPS, Op, REPLY_WORDS, ReplyWord};
 use itoa::Buffer;
 use lock_modes::Mode;
@@ -14,11 +14,12 @@ use lock_rules::Why;
 use lock_tree::{PathFault, Resource, parse_numeral};
 use std::str;
 
-// All modes, each once.
+/// All modes, each once.
 const MODES: [Mode; 6] = [Mode::NL, Mode::IS, Mode::IX, Mode::S, Mode::SIX, Mode::X];
 
-// A session, or that the field isn't one, whatever it has.
-fn tested_session(field: &[u8], sessions: u16) -> Result<u16, TraceKind>
+/// Reads a session number from any field. Fails with `Session` unless the field is the decimal text of a number
+/// from 1 to `sessions`.
+fn slow_session(field: &[u8], sessions: u16) -> Result<u16, TraceKind>
     ensures value { result ≡ session_in sessions field.now }
     ensures range { IfOk result (λ session. (0 < session) × (session ≤ sessions)) }
 {
@@ -31,17 +32,19 @@ fn tested_session(field: &[u8], sessions: u16) -> Result<u16, TraceKind>
     Ok(session as u16)
 }
 
+/// Reads a session number, from 1 to `sessions`. Fails with `Session`. Tries the fast path first.
 #[inline(always)]
 pub(crate) fn session_of(field: &[u8], sessions: u16) -> Result<u16, TraceKind>
     ensures value { result ≡ session_in sessions field.now }
     ensures range { IfOk result (λ session. (0 < session) × (session ≤ sessions)) }
 {
-    match plain_number(field) {
+    match fast_number(field) {
         Some(session) if session != 0 && session <= sessions as u32 => Ok(session as u16),
-        _ => tested_session(field, sessions),
+        _ => slow_session(field, sessions),
     }
 }
 
+/// The operation whose word is the field. Fails with `Op` if there is none.
 #[inline(always)]
 pub(crate) fn op_of(field: &[u8]) -> Result<Op, TraceKind>
     ensures { result ≡ op_in field.now }
@@ -54,7 +57,7 @@ pub(crate) fn op_of(field: &[u8]) -> Result<Op, TraceKind>
     Err(TraceKind::Op)
 }
 
-// The field as text, if it is text.
+/// The field as text, or `None` if it is not UTF-8.
 fn text_in(field: &[u8]) -> Option<&str>
     ensures some { IfSome result (λ text. (text.now ≡ field.now) × (is_utf8 field.now ≡ true)) }
     ensures none { IfNone result (is_utf8 field.now ≡ false) }
@@ -65,15 +68,16 @@ fn text_in(field: &[u8]) -> Option<&str>
     }
 }
 
-// A resource, or what is wrong with its text.
+/// Parses a resource path. Fails with the fault that `lock_tree` finds.
 fn resource_in_text(text: &str) -> Result<Resource, PathFault>
     ensures { result ≡ reading_of text.now }
 {
     Resource::parse(text)
 }
 
-// A resource, or the first fault of the field, whatever it has.
-fn tested_resource(field: &[u8]) -> Result<Resource, TraceKind>
+/// Reads a resource path from any field. Fails with `Path` and the fault of the text. A field that is not UTF-8
+/// has the fault `NotANumber`.
+fn slow_resource(field: &[u8]) -> Result<Resource, TraceKind>
     ensures { result ≡ resource_in field.now }
 {
     let Some(text) = text_in(field) else {
@@ -85,15 +89,17 @@ fn tested_resource(field: &[u8]) -> Result<Resource, TraceKind>
     }
 }
 
+/// Reads a resource path. Fails with `Path`. Tries the fast path first.
 pub(crate) fn resource_of(field: &[u8]) -> Result<Resource, TraceKind>
     ensures { result ≡ resource_in field.now }
 {
-    match plain_resource(field) {
+    match fast_resource(field) {
         Some(resource) => Ok(resource),
-        None => tested_resource(field),
+        None => slow_resource(field),
     }
 }
 
+/// The mode whose name is the field. Fails with `Mode` if there is none.
 #[inline(always)]
 pub(crate) fn mode_of(field: &[u8]) -> Result<Mode, TraceKind>
     ensures { result ≡ mode_in field.now }
@@ -106,7 +112,8 @@ pub(crate) fn mode_of(field: &[u8]) -> Result<Mode, TraceKind>
     Err(TraceKind::Mode)
 }
 
-pub(crate) fn place_of(field: &[u8], place: u64) -> Result<(), TraceKind>
+/// Checks that the field is the decimal text of `place`. Fails with `Place`.
+pub(crate) fn check_place(field: &[u8], place: u64) -> Result<(), TraceKind>
     ensures { result ≡ place_in place field.now }
 {
     let mut buffer = Buffer::new();
@@ -116,6 +123,7 @@ pub(crate) fn place_of(field: &[u8], place: u64) -> Result<(), TraceKind>
     Ok(())
 }
 
+/// The reply word that is the field. Fails with `Reply` if there is none.
 pub(crate) fn reply_word_of(field: &[u8]) -> Result<ReplyWord, TraceKind>
     ensures { result ≡ reply_word_in field.now }
 {
@@ -127,6 +135,7 @@ pub(crate) fn reply_word_of(field: &[u8]) -> Result<ReplyWord, TraceKind>
     Err(TraceKind::Reply)
 }
 
+/// Reads a decimal number of at most `most`. Fails with `Value`.
 pub(crate) fn number_of(field: &[u8], most: u64) -> Result<u64, TraceKind>
     ensures { result ≡ number_in most field.now }
 {
@@ -136,13 +145,15 @@ pub(crate) fn number_of(field: &[u8], most: u64) -> Result<u64, TraceKind>
     }
 }
 
+/// Reads a count of locks, a number of 32 bits. Fails with `Value`.
 pub(crate) fn count_of(field: &[u8]) -> Result<u32, TraceKind>
-    ensures { result ≡ number_in most_32 field.now }
+    ensures { result ≡ number_in max_u32 field.now }
 {
     let count = number_of(field, u32::MAX as u64)?;
     Ok(count as u32)
 }
 
+/// Reads the mode that was granted. Fails with `Value`.
 pub(crate) fn granted_of(field: &[u8]) -> Result<Mode, TraceKind>
     ensures { result ≡ granted_in field.now }
 {
@@ -152,6 +163,7 @@ pub(crate) fn granted_of(field: &[u8]) -> Result<Mode, TraceKind>
     }
 }
 
+/// Reads the reason of a refusal by its name. Fails with `Value`.
 pub(crate) fn why_of(field: &[u8]) -> Result<Why, TraceKind>
     ensures { result ≡ why_in field.now }
 {

@@ -1,4 +1,5 @@
-//! What holds of the formats. A caller's proof cites a law by calling it, which costs nothing at run time.
+//! Laws of the formats, each the contract of a function that does nothing. A caller's proof cites a law by calling
+//! its function, which costs nothing at run time.
 
 ghost use Rattle.std.specs.Prelude.{◌≡◌, ◌<◌, ◌^◌, ◌↔◌, ℕ, List, [], ◌∷◌, length, map, All, Some, None, Ok, Err, decimal};
 ghost use Rattle.csv.specs.Reading.{AreRecords, default_config, strip_bom};
@@ -23,7 +24,7 @@ ghost use Rattle.lock_trace.specs.Histories.{AllFit, fields_of_reply, fields_of_
 ghost use Rattle.lock_trace.specs.Entries.{IsReply, IsEntry, reply_in, entry_of};
 ghost use Rattle.lock_trace.specs.ReadHistories.{IsFirstBadEntry, history_of};
 
-/// Each test of a field lets the texts of its part through, and no others.
+/// The test of a session, operation, resource or mode field accepts exactly the text of what it reads.
 pub fn tests_pass_texts()
     ensures session { (n s : ℕ) (field : List ℕ) → n < 2 ^ 16 →
         (session_in n field ≡ Ok s) ↔ IsSessionText n s field }
@@ -33,27 +34,27 @@ pub fn tests_pass_texts()
     ensures mode { (m : Mode) (field : List ℕ) → (mode_in field ≡ Ok m) ↔ (field ≡ name_of m) }
 {}
 
-/// And so does each test of a place and of a reply, which is a word and its value.
+/// The tests of a place field, and of a reply's word and value fields, accept exactly the texts of what they read.
 pub fn tests_of_histories_pass_texts()
     ensures place { (place : ℕ) (field : List ℕ) → (place_in place field ≡ Ok tt) ↔ (field ≡ decimal place) }
     ensures reply { (word value : List ℕ) (reply : Reply) →
         (reply_in word value ≡ Ok reply) ↔ (IsReply reply × (word ∷ value ∷ [] ≡ fields_of_reply reply)) }
 {}
 
-/// Fields are read as a row exactly where they are the fields of that row.
+/// Fields are read as a trace row exactly if they are the fields of that row.
 pub fn rows_are_their_fields()
     ensures { (n : ℕ) (row : RowValue) (fields : List (List ℕ)) → n < 2 ^ 16 →
         (row_of n fields ≡ Ok row) ↔ (IsRow n row × (fields ≡ fields_of_row row)) }
 {}
 
-/// Fields are read as an entry at a place exactly where they are the fields of that entry there.
+/// Fields are read as the entry at a place exactly if they are the fields of that entry at that place.
 pub fn entries_are_their_fields()
     ensures { (n place : ℕ) (e : Entry) (fields : List (List ℕ)) → n < 2 ^ 16 →
         (entry_of n place fields ≡ Ok e) ↔ (IsEntry n e × (fields ≡ fields_of_entry place e)) }
 {}
 
-/// No test of a row fails exactly where its fields are those of a row, which is then read. Otherwise
-/// the fault is that of the first test that fails. The tests stand in the order of their numbers.
+/// Fields fail no test exactly if they are the fields of a trace row. Otherwise reading fails with the first test
+/// that fails. The tests are in the order of their numbers.
 pub fn the_first_test_that_fails_decides()
     ensures none { (n : ℕ) (fields : List (List ℕ)) → n < 2 ^ 16 →
         (first_failing (tests_of_row n fields) ≡ None)
@@ -64,8 +65,9 @@ pub fn the_first_test_that_fails_decides()
         map (λ test. number_of_kind test.1) (tests_of_row n fields) ≡ 1 ∷ 2 ∷ 3 ∷ 4 ∷ 5 ∷ 6 ∷ [] }
 {}
 
-/// The same of the row of a history at a place. Its tests stand in the order of their numbers, but for that of the
-/// place, which stands after that of the shape.
+/// Fields fail no test of a history row exactly if they are the fields of an entry at that place. Otherwise
+/// reading fails with the first test that fails. The tests are in the order of their numbers, except that `Place`
+/// is second.
 pub fn the_first_test_of_an_entry_that_fails_decides()
     ensures none { (n place : ℕ) (fields : List (List ℕ)) → n < 2 ^ 16 →
         (first_failing (tests_of_entry n place fields) ≡ None)
@@ -77,8 +79,8 @@ pub fn the_first_test_of_an_entry_that_fails_decides()
         ≡ 1 ∷ 9 ∷ 2 ∷ 3 ∷ 4 ∷ 5 ∷ 6 ∷ 10 ∷ 11 ∷ [] }
 {}
 
-/// A text is a trace exactly where its records are the fields of rows. Otherwise there is a first
-/// record that is no row.
+/// A text is read as a trace exactly if its records are the fields of the trace's rows. Otherwise the fault is in
+/// the first record that is no row.
 pub fn traces_are_their_rows()
     ensures rows { (n : ℕ) (bytes : List ℕ) (rows : List RowValue) → n < 2 ^ 16 →
         (trace_of n bytes ≡ Ok rows)
@@ -87,8 +89,8 @@ pub fn traces_are_their_rows()
         (trace_of n bytes ≡ Err fault) ↔ IsFirstBadRow n (records_of bytes) fault }
 {}
 
-/// A text is a history exactly where its records are the fields of entries at their places. Otherwise
-/// there is a first record that is none.
+/// A text is read as a history exactly if its records are the fields of the history's entries at their places.
+/// Otherwise the fault is in the first record that is no entry of its place.
 pub fn histories_are_their_entries()
     ensures entries { (n : ℕ) (bytes : List ℕ) (entries : List Entry) → n < 2 ^ 16 →
         (history_of n bytes ≡ Ok entries)
@@ -97,7 +99,8 @@ pub fn histories_are_their_entries()
         (history_of n bytes ≡ Err fault) ↔ IsFirstBadEntry n (records_of bytes) fault }
 {}
 
-/// The records of some bytes are those that csv reads by its default rules, and no others.
+/// The records of a text are the records that csv reads from it by its default rules, after a byte order mark, and
+/// no others.
 pub fn records_are_of_csv()
     ensures are { (bytes : List ℕ) →
         AreRecords default_config st.StartRecord (strip_bom bytes) (records_of bytes) }
@@ -105,15 +108,14 @@ pub fn records_are_of_csv()
         AreRecords default_config st.StartRecord (strip_bom bytes) records → records_of bytes ≡ records }
 {}
 
-/// The records of a history's text are the fields of its entries and no others, so what was written
-/// can be read back.
+/// The records of a history's text are the fields of its entries, and no others.
 pub fn rows_come_back()
     ensures { (history : List Entry) → length history < 2 ^ 64 → AllFit history →
         records_of (text_of_history history) ≡ records_of_history history }
 {}
 
-/// What is written of a history is read as that history, where its sessions are some of those that are
-/// read for. So `read_history` gives back what `history_text` was given.
+/// The text of a history is read as that history, if each entry is one for the sessions that it is read for. So
+/// `read_history` returns the entries that `history_text` was given.
 pub fn histories_come_back()
     ensures { (n : ℕ) (history : List Entry) → n < 2 ^ 16 → length history < 2 ^ 64 → All (IsEntry n) history →
         history_of n (text_of_history history) ≡ Ok history }

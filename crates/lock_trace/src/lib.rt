@@ -1,14 +1,14 @@
-//! Traces and histories as text: rows of calls are read from bytes, and histories are written to bytes.
+//! Traces and histories as text: reads traces, and reads and writes histories.
 #![tactic(auto)]
 
 mod entries;
+mod fast_path;
 mod faults;
 mod fields;
-mod files;
 pub mod laws;
 mod line;
-mod plain;
 mod reading;
+mod row;
 mod rows;
 mod tokens;
 mod words;

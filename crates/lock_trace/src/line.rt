@@ -1,16 +1,17 @@
-//! A line of a history, written from its front into room that is made once and used again for each line.
-//! Each call writes from a place on and answers the place after what it wrote.
+//! Writes one line of a history into a buffer that is used again for each line. Each function writes at index
+//! `at`, keeps what is before it, and returns the index after what it wrote.
 
 ghost use Rattle.std.specs.Prelude.{◌≡◌, ℕ, ◌+◌, ◌/◌, ◌%◌, ◌<◌, ◌≤◌, ◌++◌, [], ◌∷◌, length, take, decimal};
 
 use itoa::Buffer;
 
-/// The room of a token, which is copied whole.
-pub(crate) const TOKEN: usize = 16;
+/// The room that a token needs, in bytes. A token is copied whole, whatever its length.
+pub(crate) const TOKEN_BYTES: usize = 16;
 
-/// The room of a number.
-pub(crate) const NUMBER: usize = 20;
+/// The room that a number needs, in bytes: the 20 digits of the largest `u64`.
+pub(crate) const NUMBER_BYTES: usize = 20;
 
+/// Writes one byte.
 #[inline(always)]
 pub(crate) fn put_byte(line: &mut [u8], at: usize, byte: u8) -> usize
     requires room { at < length line.old }
@@ -22,20 +23,21 @@ pub(crate) fn put_byte(line: &mut [u8], at: usize, byte: u8) -> usize
     at + 1
 }
 
-/// The first so many bytes of the token. The others are copied with them, so that it is one move, and are written over
-/// by what comes next.
+/// Writes the first `count` bytes of the token. All 16 bytes are copied, in one move; the next write overwrites
+/// the surplus.
 #[inline(always)]
 pub(crate) fn put_token(line: &mut [u8], at: usize, token: &[u8; 16], count: usize) -> usize
-    requires room { at + TOKEN ≤ length line.old }
-    requires few { count ≤ TOKEN }
+    requires room { at + TOKEN_BYTES ≤ length line.old }
+    requires few { count ≤ TOKEN_BYTES }
     ensures text { take result line.new ≡ take at line.old ++ take count token.now }
     ensures room { length line.new ≡ length line.old }
     ensures end { result ≡ at + count }
 {
-    line[at..at + TOKEN].copy_from_slice(token.as_slice());
+    line[at..at + TOKEN_BYTES].copy_from_slice(token.as_slice());
     at + count
 }
 
+/// Writes a text.
 #[inline(always)]
 pub(crate) fn put_text(line: &mut [u8], at: usize, text: &[u8]) -> usize
     requires room { at + length text.now ≤ length line.old }
@@ -48,9 +50,9 @@ pub(crate) fn put_text(line: &mut [u8], at: usize, text: &[u8]) -> usize
     end
 }
 
-// Two digits, the first of which may be 0.
+/// Writes a number below 100 as two digits, the first of which may be 0.
 #[inline(always)]
-fn put_two(line: &mut [u8], at: usize, number: u8) -> usize
+fn put_two_digits(line: &mut [u8], at: usize, number: u8) -> usize
     requires room { at + 2 ≤ length line.old }
     requires two { number < 100 }
     ensures text { take result line.new ≡ take at line.old ++ (48 + number / 10) ∷ (48 + number % 10) ∷ [] }
@@ -61,9 +63,9 @@ fn put_two(line: &mut [u8], at: usize, number: u8) -> usize
     put_byte(line, next, b'0' + number % 10)
 }
 
-// A number of one digit or two.
+/// Writes a number of one or two digits.
 #[inline(always)]
-fn put_small(line: &mut [u8], at: usize, number: u8) -> usize
+fn put_below_100(line: &mut [u8], at: usize, number: u8) -> usize
     requires room { at + 2 ≤ length line.old }
     requires two { number < 100 }
     ensures text { take result line.new ≡ take at line.old ++ decimal number }
@@ -73,12 +75,12 @@ fn put_small(line: &mut [u8], at: usize, number: u8) -> usize
     if number < 10 {
         return put_byte(line, at, b'0' + number);
     }
-    put_two(line, at, number)
+    put_two_digits(line, at, number)
 }
 
-// A number of four digits at most.
+/// Writes a number of at most four digits.
 #[inline(always)]
-fn put_short(line: &mut [u8], at: usize, number: u16) -> usize
+fn put_below_10000(line: &mut [u8], at: usize, number: u16) -> usize
     requires room { at + 4 ≤ length line.old }
     requires four { number < 10000 }
     ensures text { take result line.new ≡ take at line.old ++ decimal number }
@@ -86,14 +88,14 @@ fn put_short(line: &mut [u8], at: usize, number: u16) -> usize
     ensures few { result ≤ at + 4 }
 {
     if number < 100 {
-        return put_small(line, at, number as u8);
+        return put_below_100(line, at, number as u8);
     }
-    let next = put_small(line, at, (number / 100) as u8);
-    put_two(line, next, (number % 100) as u8)
+    let next = put_below_100(line, at, (number / 100) as u8);
+    put_two_digits(line, next, (number % 100) as u8)
 }
 
-// A number of five to eight digits.
-fn put_wide(line: &mut [u8], at: usize, number: u32) -> usize
+/// Writes a number of five to eight digits.
+fn put_5_to_8_digits(line: &mut [u8], at: usize, number: u32) -> usize
     requires room { at + 8 ≤ length line.old }
     requires five { 10000 ≤ number }
     requires eight { number < 100000000 }
@@ -102,49 +104,50 @@ fn put_wide(line: &mut [u8], at: usize, number: u32) -> usize
     ensures few { result ≤ at + 8 }
 {
     let front = number / 100;
-    let next = put_short(line, at, (front / 100) as u16);
-    let last = put_two(line, next, (front % 100) as u8);
-    put_two(line, last, (number % 100) as u8)
+    let next = put_below_10000(line, at, (front / 100) as u16);
+    let last = put_two_digits(line, next, (front % 100) as u8);
+    put_two_digits(line, last, (number % 100) as u8)
 }
 
-// Any number, by a buffer of its own. It stands apart, so that the short ways keep their few instructions.
+/// Writes any number, through a buffer of itoa. Never inlined, so that the paths for short numbers stay small.
 #[inline(never)]
-fn put_long(line: &mut [u8], at: usize, number: u64) -> usize
-    requires room { at + NUMBER ≤ length line.old }
+fn put_with_itoa(line: &mut [u8], at: usize, number: u64) -> usize
+    requires room { at + NUMBER_BYTES ≤ length line.old }
     ensures text { take result line.new ≡ take at line.old ++ decimal number }
     ensures room { length line.new ≡ length line.old }
-    ensures few { result ≤ at + NUMBER }
+    ensures few { result ≤ at + NUMBER_BYTES }
 {
     let mut buffer = Buffer::new();
     put_text(line, at, buffer.format(number).as_bytes())
 }
 
-// Numbers of three digits or more.
+/// Writes any number. `put_number` calls it for three digits or more.
 fn put_large(line: &mut [u8], at: usize, number: u64) -> usize
-    requires room { at + NUMBER ≤ length line.old }
+    requires room { at + NUMBER_BYTES ≤ length line.old }
     ensures text { take result line.new ≡ take at line.old ++ decimal number }
     ensures room { length line.new ≡ length line.old }
-    ensures few { result ≤ at + NUMBER }
+    ensures few { result ≤ at + NUMBER_BYTES }
 {
     if number < 10_000 {
-        return put_short(line, at, number as u16);
+        return put_below_10000(line, at, number as u16);
     }
     if number < 100_000_000 {
-        return put_wide(line, at, number as u32);
+        return put_5_to_8_digits(line, at, number as u32);
     }
-    put_long(line, at, number)
+    put_with_itoa(line, at, number)
 }
 
-/// Most numbers have one digit or two.
+/// Writes a number in decimal. Most numbers of a history have one or two digits, so that case is tested first,
+/// inline.
 #[inline(always)]
 pub(crate) fn put_number(line: &mut [u8], at: usize, number: u64) -> usize
-    requires room { at + NUMBER ≤ length line.old }
+    requires room { at + NUMBER_BYTES ≤ length line.old }
     ensures text { take result line.new ≡ take at line.old ++ decimal number }
     ensures room { length line.new ≡ length line.old }
-    ensures few { result ≤ at + NUMBER }
+    ensures few { result ≤ at + NUMBER_BYTES }
 {
     if number < 100 {
-        return put_small(line, at, number as u8);
+        return put_below_100(line, at, number as u8);
     }
     put_large(line, at, number)
 }

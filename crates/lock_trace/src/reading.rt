@@ -1,4 +1,4 @@
-//! Traces and histories out of bytes.
+//! Reads whole traces and histories.
 
 ghost use Rattle.std.specs.Prelude.{◌≡◌, ℕ, ◌+◌, ◌<◌, Bool, true, List, [], Some, IsSome, IfSome, IfOk, IfErr, OnOk, if◌then◌else◌, option_map, All};
 ghost use Rattle.csv.specs.Reading.{source_of, strip_bom, is_io, error_kind};
@@ -11,24 +11,25 @@ ghost use Rattle.lock_trace.specs.Records.{records_on, records_of};
 ghost use Rattle.lock_trace.specs.Files.{AnswersWith, rows_from};
 ghost use Rattle.lock_trace.specs.Traces.{Answers};
 ghost use Rattle.lock_trace.specs.ReadHistories.{AnswersHistory};
-ghost use Rattle.lock_trace.specs.Reading.{IsReading, IsFormat, IsNextRecord, IsNextRow, is_of_device_or_memory};
+ghost use Rattle.lock_trace.specs.inner.Reading.{IsRecordReader, IsFormat, IsNextRecord, IsNextRow, is_io_or_memory_error};
 
 use crate::faults::{TraceFault, TraceKind};
-use crate::files::Row;
+use crate::row::Row;
 use crate::rows::TraceRow;
 use csv::{ByteRecord, Error, ErrorKind, Reader, ReaderBuilder};
 use lock_rules::Entry;
 use std::alloc::Global;
 use std::io::Read;
 
-// The room of the record that rows are read into. It grows where a row is longer.
+/// The bytes that the record has room for at first. The record grows if a row is longer.
 const RECORD_BYTES: usize = 256;
 
+/// The fields that the record has room for at first.
 const RECORD_FIELDS: usize = 8;
 
-// A reader of records of any length, with no header.
-fn records<R: Read>(alloc: Global, input: R) -> Reader<R>
-    ensures reading { IsReading result }
+/// A csv reader without a header row that takes records of any number of fields.
+fn record_reader<R: Read>(alloc: Global, input: R) -> Reader<R>
+    ensures reading { IsRecordReader result }
     ensures start { result.state ≡ st.StartRecord }
     ensures source { source_of R.remaining result ≡ option_map strip_bom (R.remaining input) }
 {
@@ -38,9 +39,10 @@ fn records<R: Read>(alloc: Global, input: R) -> Reader<R>
         .from_reader(alloc, input)
 }
 
-// A record with room for a row of common length, where memory is there. The reader takes as many bytes of a row at once
-// as the record has room for, so a record that grows by itself, and by little, is read in several pieces.
-fn roomy_record(alloc: Global) -> ByteRecord
+/// A record with room for a row of common length, or without room if memory is refused. The csv reader takes in at
+/// once as many bytes of a row as the record has room for, so a record that starts small is filled in several
+/// pieces.
+fn sized_record(alloc: Global) -> ByteRecord
     ensures { fields_of result ≡ [] }
 {
     match ByteRecord::with_capacity(alloc, RECORD_BYTES, RECORD_FIELDS) {
@@ -49,11 +51,12 @@ fn roomy_record(alloc: Global) -> ByteRecord
     }
 }
 
-// The reader refuses no record for its length or its bytes.
+/// The fault of a failed read: `Device` or `NoMemory`. The csv reader refuses no record for its length or its
+/// bytes.
 #[cold]
 #[inline(never)]
-fn kind_of(error: &Error) -> TraceKind
-    requires { is_of_device_or_memory (error_kind error.now) ≡ true }
+fn fault_kind(error: &Error) -> TraceKind
+    requires { is_io_or_memory_error (error_kind error.now) ≡ true }
     ensures { result ≡ (if is_io (error_kind error.now) then kind.Device else kind.NoMemory) }
 {
     match error.kind() {
@@ -63,30 +66,31 @@ fn kind_of(error: &Error) -> TraceKind
     }
 }
 
-// Reads the next record, and whether there was one.
+/// Reads the next record into `row`. Returns whether there was one. Fails with `Device` or `NoMemory`.
 #[inline(always)]
 fn next_record<R: Read>(reader: &mut Reader<R>, row: &mut ByteRecord) -> Result<bool, TraceKind>
-    requires { IsReading reader.old }
-    ensures reading { OnOk result (IsReading reader.new) }
+    requires { IsRecordReader reader.old }
+    ensures reading { OnOk result (IsRecordReader reader.new) }
     ensures next { (bytes : List ℕ) → source_of R.remaining reader.old ≡ Some bytes
         → IsNextRecord R.remaining (records_on reader.old.state [] [] bytes) reader.new (fields_of row.new) result }
 {
     match reader.read_byte_record(row) {
         Ok(found) => Ok(found),
-        Err(error) => Err(kind_of(&error)),
+        Err(error) => Err(fault_kind(&error)),
     }
 }
 
-// The next row, or what is wrong with it.
+/// Reads the next row, or `None` at the end of the input. Fails with `Device`, `NoMemory`, or the first test that
+/// the row fails.
 fn next_row<R: Read, T: Row>(
     reader: &mut Reader<R>,
     row: &mut ByteRecord,
     sessions: u16,
     place: u64,
 ) -> Result<Option<T>, TraceKind>
-    requires reading { IsReading reader.old }
+    requires reading { IsRecordReader reader.old }
     requires format { IsFormat (T.is sessions) T.records T.fields (T.read sessions) }
-    ensures reading { IfOk result (λ found. IsSome found → IsReading reader.new) }
+    ensures reading { IfOk result (λ found. IsSome found → IsRecordReader reader.new) }
     ensures row { IfOk result (λ found. IfSome found (λ row. T.is sessions row)) }
     ensures next { (bytes : List ℕ) → source_of R.remaining reader.old ≡ Some bytes
         → IsNextRow R.remaining (T.fields place) (T.read sessions place) (records_on reader.old.state [] [] bytes) reader.new result }
@@ -100,7 +104,7 @@ fn next_row<R: Read, T: Row>(
     }
 }
 
-// All rows, or the first that is none.
+/// Reads all rows of a file. Fails at the first row that cannot be read.
 fn read_rows<R: Read + Drop, T: Row>(
     alloc: Global,
     input: R,
@@ -112,8 +116,8 @@ fn read_rows<R: Read + Drop, T: Row>(
     ensures answer { (bytes : List ℕ) → R.remaining input ≡ Some bytes
         → AnswersWith (T.is sessions) T.records (records_of bytes) (rows_from (T.read sessions) 0 (records_of bytes)) result }
 {
-    let mut reader = records(alloc, input);
-    let mut row = roomy_record(alloc);
+    let mut reader = record_reader(alloc, input);
+    let mut row = sized_record(alloc);
     let mut rows = Vec::new(alloc);
     for _ in 0..u64::MAX {
         let place = rows.len() as u64;
@@ -136,45 +140,50 @@ fn read_rows<R: Read + Drop, T: Row>(
     })
 }
 
-/// Reads a whole trace, for sessions that are numbered from 1 to `sessions`, which is at most
-/// `MAX_SESSIONS`. The text is comma-separated: four fields a row, which docs/FORMATS.md describes.
+/// Reads a whole trace for sessions numbered from 1 to `sessions`. A session above that number is the fault
+/// `Session`; `sessions` itself is not checked against `MAX_SESSIONS`. The input is csv without a header row, four
+/// fields a row: session, operation, resource, mode. docs/FORMATS.md describes them.
 ///
-/// Every record has to be a row. Otherwise nothing is given back but the first faulty row, with the
-/// first test that it fails; `Device` and `NoMemory` tell the row that was being read. The reader is
-/// consumed, and a fault doesn't tell how far it was read.
+/// Returns the rows in order if every record is a row. Otherwise returns no rows, but the number of the first
+/// faulty row and the first test that it fails. `Device` (the reader failed) and `NoMemory` (memory was refused)
+/// have the number of the row that was being read. The reader is consumed; how far it was read before a fault is
+/// not specified.
 pub fn read_trace<R: Read + Drop>(
     alloc: Global,
     input: R,
     sessions: u16,
 ) -> Result<Vec<TraceRow>, TraceFault>
-    // These hold whatever the reader gives.
+    // Hold whatever the reader gives.
     ensures rows { IfOk result (λ rows. All (IsRow sessions) rows.items) }
     ensures from_one { IfErr result (λ fault. 0 < fault.row) }
 
-    // This holds where the reader tells what it gives.
+    // Holds if the reader states which bytes remain in it.
     ensures answer { (bytes : List ℕ) → R.remaining input ≡ Some bytes
         → Answers sessions bytes result }
 {
     read_rows(alloc, input, sessions)
 }
 
-/// Reads a whole history, for sessions that are numbered from 1 to `sessions`, which is at most
-/// `MAX_SESSIONS`. The text is comma-separated: seven fields a row, which docs/FORMATS.md describes.
+/// Reads a whole history for sessions numbered from 1 to `sessions`. A session above that number is the fault
+/// `Session`; `sessions` itself is not checked against `MAX_SESSIONS`. The input is csv without a header row,
+/// seven fields a row: place, session, operation, resource, mode, reply, value. docs/FORMATS.md describes them.
 ///
-/// Every record has to be an entry at its place. Otherwise nothing is given back but the first faulty
-/// row, with the first test that it fails; `Device` and `NoMemory` tell the row that was being read.
-/// The reader is consumed, and a fault doesn't tell how far it was read. Whether the history is legal
-/// isn't tested here.
+/// Returns the entries in order if every record is the entry of its place; places are counted from 0. Otherwise
+/// returns no entries, but the number of the first faulty row and the first test that it fails. `Device` (the
+/// reader failed) and `NoMemory` (memory was refused) have the number of the row that was being read. The reader
+/// is consumed; how far it was read before a fault is not specified.
+///
+/// Does not check whether the history is legal.
 pub fn read_history<R: Read + Drop>(
     alloc: Global,
     input: R,
     sessions: u16,
 ) -> Result<Vec<Entry>, TraceFault>
-    // These hold whatever the reader gives.
+    // Hold whatever the reader gives.
     ensures entries { IfOk result (λ entries. All (IsEntry sessions) entries.items) }
     ensures from_one { IfErr result (λ fault. 0 < fault.row) }
 
-    // This holds where the reader tells what it gives.
+    // Holds if the reader states which bytes remain in it.
     ensures answer { (bytes : List ℕ) → R.remaining input ≡ Some bytes
         → AnswersHistory sessions bytes result }
 {

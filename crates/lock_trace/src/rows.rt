@@ -1,32 +1,30 @@
-//! One row of a trace, from the fields of its record.
+//! Reads one row of a trace from the fields of its record.
 
-ghost use Rattle.std.specs.Prelude.{◌≡◌, ◌<◌, length};
-ghost use Rattle.csv.specs.Records.{fields_of};
-ghost use Rattle.lock_trace.specs.Tests.{field_of};
-ghost use Rattle.lock_trace.specs.Rows.{bare, resource_and_mode_in, call_in, row_in};
+ghost use Rattle.std.specs.Prelude.{◌≡◌};
+ghost use Rattle.lock_trace.specs.Rows.{without_fields, resource_and_mode_in, call_in, row_in};
 
 use crate::faults::TraceKind;
 use crate::fields::{mode_of, op_of, resource_of, session_of};
-use crate::files::Row;
+use crate::row::{Row, field_at};
 use crate::words::Op;
 use csv::ByteRecord;
 use lock_modes::Mode;
 use lock_rules::Call;
 use lock_tree::Resource;
 
-/// One row of a trace: a session's call. The rows are in the order in which the calls are made.
+/// One row of a trace: a call of a session. Rows are in the order in which the calls are made.
 #[derive(Clone, Copy, Debug, PartialEq, Eq)]
 pub struct TraceRow {
-    /// From 1 to the number of sessions.
+    /// The session number, counted from 1.
     pub session: u16,
-    /// What it asks.
+    /// The call that the session makes.
     pub call: Call,
 }
 
-// A call that takes neither a resource nor a mode.
+/// Returns `call`, which takes no resource and no mode. Fails with `Extra` unless both fields are empty.
 #[inline(always)]
-fn bare_call(call: Call, resource: &[u8], mode: &[u8]) -> Result<Call, TraceKind>
-    ensures { result ≡ bare call resource.now mode.now }
+fn call_without_fields(call: Call, resource: &[u8], mode: &[u8]) -> Result<Call, TraceKind>
+    ensures { result ≡ without_fields call resource.now mode.now }
 {
     if !resource.is_empty() || !mode.is_empty() {
         return Err(TraceKind::Extra);
@@ -34,7 +32,7 @@ fn bare_call(call: Call, resource: &[u8], mode: &[u8]) -> Result<Call, TraceKind
     Ok(call)
 }
 
-// The resource and the mode of a call that takes both.
+/// Reads the resource and the mode of a call that takes both. Fails with `Path`, or else with `Mode`.
 #[inline(always)]
 fn resource_and_mode(resource: &[u8], mode: &[u8]) -> Result<(Resource, Mode), TraceKind>
     ensures { result ≡ resource_and_mode_in resource.now mode.now }
@@ -44,12 +42,14 @@ fn resource_and_mode(resource: &[u8], mode: &[u8]) -> Result<(Resource, Mode), T
     Ok((resource, mode))
 }
 
+/// Reads the call of an operation from its resource and mode fields. Fails with the first that applies of `Path`,
+/// `Mode` and `Extra`.
 #[inline(always)]
 fn call_of(op: Op, resource: &[u8], mode: &[u8]) -> Result<Call, TraceKind>
     ensures { result ≡ call_in op resource.now mode.now }
 {
     match op {
-        Op::Begin => bare_call(Call::Begin, resource, mode),
+        Op::Begin => call_without_fields(Call::Begin, resource, mode),
         Op::Lock => {
             let (resource, mode) = resource_and_mode(resource, mode)?;
             Ok(Call::Lock(resource, mode))
@@ -58,7 +58,7 @@ fn call_of(op: Op, resource: &[u8], mode: &[u8]) -> Result<Call, TraceKind>
             let (resource, mode) = resource_and_mode(resource, mode)?;
             Ok(Call::Convert(resource, mode))
         }
-        Op::Poll => bare_call(Call::Poll, resource, mode),
+        Op::Poll => call_without_fields(Call::Poll, resource, mode),
         Op::Release => {
             let resource = resource_of(resource)?;
             if !mode.is_empty() {
@@ -66,11 +66,13 @@ fn call_of(op: Op, resource: &[u8], mode: &[u8]) -> Result<Call, TraceKind>
             }
             Ok(Call::Release(resource))
         }
-        Op::Commit => bare_call(Call::Commit, resource, mode),
-        Op::Abort => bare_call(Call::Abort, resource, mode),
+        Op::Commit => call_without_fields(Call::Commit, resource, mode),
+        Op::Abort => call_without_fields(Call::Abort, resource, mode),
     }
 }
 
+/// Reads a trace row from its four fields. Fails with the first that applies of `Session`, `Op`, `Path`, `Mode`
+/// and `Extra`.
 #[inline(always)]
 pub(crate) fn read_row(
     sessions: u16,
@@ -85,14 +87,6 @@ pub(crate) fn read_row(
     let op = op_of(op)?;
     let call = call_of(op, resource, mode)?;
     Ok(TraceRow { session, call })
-}
-
-// The field at a place.
-pub(crate) fn field_at<'a>(row: &'a ByteRecord, i: usize) -> &'a [u8]
-    requires { i < length (fields_of row.now) }
-    ensures { result.now ≡ field_of (fields_of row.now) i }
-{
-    row.get(i).unwrap()
 }
 
 impl Row for TraceRow {

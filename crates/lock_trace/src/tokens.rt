@@ -1,15 +1,14 @@
-//! The words of histories with the commas beside them, each at the front of sixteen bytes, so that it is copied by one
-//! move.
+//! The words of histories with the commas beside them, each at the front of 16 bytes, so that one move copies it.
 
 ghost use Rattle.std.specs.Prelude.{◌≡◌, ◌≤◌, ◌++◌, [], ◌∷◌, take};
 ghost use Rattle.lock_modes.specs.Codes.{name_of};
 ghost use Rattle.lock_trace.specs.Words.{word_of, op_of_call, word_of_reply, reply_word_of};
 
-use crate::line::TOKEN;
+use crate::line::TOKEN_BYTES;
 use lock_modes::Mode;
 use lock_rules::{Call, Reply};
 
-/// The word of the call, between commas.
+/// The word of the call's operation between commas, padded to 16 bytes, and its length with the commas.
 #[inline(always)]
 pub(crate) fn op_token(call: &Call) -> (&'static [u8; 16], usize)
     ensures text { take result.1 result.0.now ≡ 44 ∷ (word_of (op_of_call call.now) ++ 44 ∷ []) }
@@ -26,7 +25,7 @@ pub(crate) fn op_token(call: &Call) -> (&'static [u8; 16], usize)
     }
 }
 
-/// The name of the mode.
+/// The name of the mode, padded to 16 bytes, and its length.
 #[inline(always)]
 pub(crate) fn mode_token(mode: Mode) -> (&'static [u8; 16], usize)
     ensures text { take result.1 result.0.now ≡ name_of mode }
@@ -42,7 +41,7 @@ pub(crate) fn mode_token(mode: Mode) -> (&'static [u8; 16], usize)
     }
 }
 
-/// The word of the reply, between commas.
+/// The word of the reply between commas, padded to 16 bytes, and its length with the commas.
 #[inline(always)]
 pub(crate) fn reply_token(reply: &Reply) -> (&'static [u8; 16], usize)
     ensures text { take result.1 result.0.now ≡ 44 ∷ (word_of_reply (reply_word_of reply.now) ++ 44 ∷ []) }

@@ -1,9 +1,9 @@
-//! The words of operations and of replies, which rows are read by.
+//! The words of operations and replies in traces and histories.
 
 ghost use Rattle.std.specs.Prelude.{◌≡◌};
 ghost use Rattle.lock_trace.specs.Words.{word_of, word_of_reply};
 
-/// What a row asks for.
+/// The operation of a call, without its resource and its mode.
 #[derive(Clone, Copy)]
 pub(crate) enum Op {
     Begin,
@@ -27,7 +27,7 @@ pub(crate) const OPS: [Op; 7] = [
 ];
 
 impl Op {
-    /// Its word in traces and histories, in lower case.
+    /// The operation's word, in lower case.
     pub(crate) fn word(self) -> &'static str
         ensures { result.now ≡ word_of self }
     {
@@ -43,7 +43,7 @@ impl Op {
     }
 }
 
-/// What a row tells, without its value.
+/// The kind of a reply, without its value.
 #[derive(Clone, Copy)]
 pub(crate) enum ReplyWord {
     Began,
@@ -57,7 +57,7 @@ pub(crate) enum ReplyWord {
     Refused,
 }
 
-/// All words of replies, each once.
+/// All reply words, each once.
 pub(crate) const REPLY_WORDS: [ReplyWord; 9] = [
     ReplyWord::Began,
     ReplyWord::Granted,
@@ -71,7 +71,7 @@ pub(crate) const REPLY_WORDS: [ReplyWord; 9] = [
 ];
 
 impl ReplyWord {
-    /// Its word in histories, in lower case.
+    /// The word in histories, in lower case.
     pub(crate) fn word(self) -> &'static str
         ensures { result.now ≡ word_of_reply self }
     {

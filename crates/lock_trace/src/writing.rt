@@ -1,4 +1,4 @@
-//! Histories as bytes.
+//! Writes histories as text.
 
 ghost use Rattle.std.specs.Prelude.{◌≡◌, ◌+◌, ◌<◌, ◌≤◌, ◌++◌, List, [], ◌∷◌, OnOk, IfOk, decimal, length, take};
 ghost use Rattle.lock_modes.specs.Codes.{name_of};
@@ -6,33 +6,36 @@ ghost use Rattle.lock_tree.specs.Text.{text_of};
 ghost use Rattle.lock_trace.specs.Rows.{resource_field, mode_field, fields_of_call};
 ghost use Rattle.lock_trace.specs.Histories.{value_field, fields_of_reply, fields_of_entry, after_commas, line_of, text_of_history};
 
-use crate::line::{NUMBER, TOKEN, put_byte, put_number, put_text, put_token};
+use crate::line::{NUMBER_BYTES, TOKEN_BYTES, put_byte, put_number, put_text, put_token};
 use crate::tokens::{mode_token, op_token, reply_token};
 use lock_modes::Mode;
 use lock_rules::{Call, Entry, Reply};
 use lock_tree::{LEVELS, Resource};
 use std::alloc::{AllocError as NoMemory, Global};
 
-// About the length of a row. Where rows are longer, the text grows as they are written.
-const ROW_BYTES: usize = 40;
+/// The length of a common row of a history, in bytes, for the first allocation. The text grows if rows are longer.
+const TYPICAL_ROW_BYTES: usize = 40;
 
-// The room of a resource: its numbers, with a `/` before each but the first.
-const RESOURCE: usize = LEVELS * (NUMBER + 1);
+/// The room that a resource path needs, in bytes: a number for each level, and a `/` beside each.
+const RESOURCE_BYTES: usize = LEVELS * (NUMBER_BYTES + 1);
 
-// The room of a call, between its commas, and of a reply. A token takes more than it leaves written.
-const CALL: usize = RESOURCE + 40;
+/// The room that a call needs, in bytes, with its commas. A token is copied whole, so this is more than the text
+/// of a call.
+const CALL_BYTES: usize = RESOURCE_BYTES + 40;
 
-const REPLY: usize = 64;
+/// The room that a reply needs, in bytes, with its commas.
+const REPLY_BYTES: usize = 64;
 
-// The room of a line.
-const LINE: usize = 256;
+/// The room that a line needs, in bytes.
+const LINE_BYTES: usize = 256;
 
+/// Writes a resource path: its numbers, with a `/` between them.
 #[inline(always)]
 fn put_resource(line: &mut [u8], at: usize, resource: &Resource) -> usize
-    requires room { at + RESOURCE ≤ length line.old }
+    requires room { at + RESOURCE_BYTES ≤ length line.old }
     ensures text { take result line.new ≡ take at line.old ++ text_of resource.now }
     ensures room { length line.new ≡ length line.old }
-    ensures few { result ≤ at + RESOURCE }
+    ensures few { result ≤ at + RESOURCE_BYTES }
 {
     let numbers = resource.numbers();
     let mut end = put_number(line, at, numbers[0] as u64);
@@ -43,12 +46,13 @@ fn put_resource(line: &mut [u8], at: usize, resource: &Resource) -> usize
     end
 }
 
+/// Writes the resource that the call names, or nothing.
 #[inline(always)]
 fn put_resource_field(line: &mut [u8], at: usize, call: &Call) -> usize
-    requires room { at + RESOURCE ≤ length line.old }
+    requires room { at + RESOURCE_BYTES ≤ length line.old }
     ensures text { take result line.new ≡ take at line.old ++ resource_field call.now }
     ensures room { length line.new ≡ length line.old }
-    ensures few { result ≤ at + RESOURCE }
+    ensures few { result ≤ at + RESOURCE_BYTES }
 {
     match call {
         Call::Lock(resource, _) | Call::Convert(resource, _) | Call::Release(resource) => {
@@ -58,9 +62,10 @@ fn put_resource_field(line: &mut [u8], at: usize, call: &Call) -> usize
     }
 }
 
+/// Writes the name of the mode.
 #[inline(always)]
 fn put_mode(line: &mut [u8], at: usize, mode: Mode) -> usize
-    requires room { at + TOKEN ≤ length line.old }
+    requires room { at + TOKEN_BYTES ≤ length line.old }
     ensures text { take result line.new ≡ take at line.old ++ name_of mode }
     ensures room { length line.new ≡ length line.old }
     ensures few { result ≤ at + 3 }
@@ -69,9 +74,10 @@ fn put_mode(line: &mut [u8], at: usize, mode: Mode) -> usize
     put_token(line, at, token, count)
 }
 
+/// Writes the mode that the call asks for, or nothing.
 #[inline(always)]
 fn put_mode_field(line: &mut [u8], at: usize, call: &Call) -> usize
-    requires room { at + TOKEN ≤ length line.old }
+    requires room { at + TOKEN_BYTES ≤ length line.old }
     ensures text { take result line.new ≡ take at line.old ++ mode_field call.now }
     ensures room { length line.new ≡ length line.old }
     ensures few { result ≤ at + 3 }
@@ -82,27 +88,29 @@ fn put_mode_field(line: &mut [u8], at: usize, call: &Call) -> usize
     }
 }
 
-// The operation, the resource and the mode, with a comma before each.
+/// Writes the operation, the resource and the mode of the call, with a comma before each.
 #[inline(always)]
 fn put_call(line: &mut [u8], at: usize, call: &Call) -> usize
-    requires room { at + CALL ≤ length line.old }
+    requires room { at + CALL_BYTES ≤ length line.old }
     ensures text { take result line.new ≡ take at line.old ++ after_commas (fields_of_call call.now) }
     ensures room { length line.new ≡ length line.old }
-    ensures few { result ≤ at + RESOURCE + 13 }
+    ensures few { result ≤ at + RESOURCE_BYTES + 13 }
 {
     let (token, count) = op_token(call);
-    let named = put_token(line, at, token, count);
-    let resource = put_resource_field(line, named, call);
-    let comma = put_byte(line, resource, b',');
-    put_mode_field(line, comma, call)
+    let after_op = put_token(line, at, token, count);
+    let after_resource = put_resource_field(line, after_op, call);
+    let after_comma = put_byte(line, after_resource, b',');
+    put_mode_field(line, after_comma, call)
 }
 
+/// Writes the value of the reply: a transaction number, a mode, a count of locks or the name of a refusal; or
+/// nothing.
 #[inline(always)]
 fn put_value(line: &mut [u8], at: usize, reply: &Reply) -> usize
-    requires room { at + NUMBER ≤ length line.old }
+    requires room { at + NUMBER_BYTES ≤ length line.old }
     ensures text { take result line.new ≡ take at line.old ++ value_field reply.now }
     ensures room { length line.new ≡ length line.old }
-    ensures few { result ≤ at + NUMBER }
+    ensures few { result ≤ at + NUMBER_BYTES }
 {
     match reply {
         Reply::Granted(mode) => put_mode(line, at, *mode),
@@ -113,43 +121,44 @@ fn put_value(line: &mut [u8], at: usize, reply: &Reply) -> usize
     }
 }
 
-// The word of the reply and its value, with a comma before each.
+/// Writes the word and the value of the reply, with a comma before each.
 #[inline(always)]
 fn put_reply(line: &mut [u8], at: usize, reply: &Reply) -> usize
-    requires room { at + REPLY ≤ length line.old }
+    requires room { at + REPLY_BYTES ≤ length line.old }
     ensures text { take result line.new ≡ take at line.old ++ after_commas (fields_of_reply reply.now) }
     ensures room { length line.new ≡ length line.old }
-    ensures few { result ≤ at + NUMBER + 11 }
+    ensures few { result ≤ at + NUMBER_BYTES + 11 }
 {
     let (token, count) = reply_token(reply);
-    let worded = put_token(line, at, token, count);
-    put_value(line, worded, reply)
+    let after_word = put_token(line, at, token, count);
+    put_value(line, after_word, reply)
 }
 
-// The line of an entry, at the front of the room.
+/// Writes the line of the entry at index `place` at the front of `line`, and returns its length.
 #[inline(always)]
 fn put_entry(line: &mut [u8], place: usize, entry: &Entry) -> usize
-    requires room { LINE ≤ length line.old }
+    requires room { LINE_BYTES ≤ length line.old }
     ensures text { take result line.new ≡ line_of (fields_of_entry place entry.now) }
     ensures room { length line.new ≡ length line.old }
     ensures few { result ≤ length line.new }
 {
-    let placed = put_number(line, 0, place as u64);
-    let comma = put_byte(line, placed, b',');
-    let session = put_number(line, comma, entry.session as u64);
-    let called = put_call(line, session, &entry.call);
-    let replied = put_reply(line, called, &entry.reply);
-    put_byte(line, replied, b'\n')
+    let after_place = put_number(line, 0, place as u64);
+    let after_comma = put_byte(line, after_place, b',');
+    let after_session = put_number(line, after_comma, entry.session as u64);
+    let after_call = put_call(line, after_session, &entry.call);
+    let after_reply = put_reply(line, after_call, &entry.reply);
+    put_byte(line, after_reply, b'\n')
 }
 
-/// The text of a history: a row of seven fields for each entry, the first of which is the entry's
-/// place, counted from 0. Fields are joined by single commas, and each row is ended by one LF. An
-/// empty history is no bytes. docs/FORMATS.md describes the fields, which are this project's own choice.
+/// The text of a history: one row of seven fields for each entry, in order. The fields are the entry's place,
+/// counted from 0, its session, operation, resource, mode, reply and value. Fields are joined by single commas,
+/// and each row ends with one LF. An empty history is no bytes. Fails only with `NoMemory`. The format is this
+/// project's own choice; see docs/FORMATS.md.
 pub fn history_text(alloc: Global, entries: &[Entry]) -> Result<Vec<u8>, NoMemory>
     ensures { IfOk result (λ text. text.items ≡ text_of_history entries.now) }
 {
-    let mut out = Vec::with_capacity(alloc, entries.len().saturating_mul(ROW_BYTES))?;
-    let mut line = [0; LINE];
+    let mut out = Vec::with_capacity(alloc, entries.len().saturating_mul(TYPICAL_ROW_BYTES))?;
+    let mut line = [0; LINE_BYTES];
     for (place, entry) in entries.iter().enumerate() {
         let end = put_entry(&mut line, place, entry);
         out.extend_from_slice(&line[..end])?;

@@ -6,4 +6,4 @@ pub mod PaddedOrder
 pub mod PaddedEquality
 pub mod Ancestors
 pub mod Parents
-pub mod Alike
+pub mod HashWrites

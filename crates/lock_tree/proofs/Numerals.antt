@@ -11,16 +11,18 @@ use Rattle.lock_tree.specs.declared.numeral.NumeralFault.TheVariants.{Empty, Not
 use Rattle.lock_tree.specs.Numerals.{number_of, has_leading_zero, fault_of_numeral, ok_unless, reading_of_numeral}
 use Rattle.lock_tree.specs.Text.{is_slash}
 
+-- `number_of` is the value of digits in decimal
 own : IsNumeralModel (λ ds. list_all is_ascii_digit ds ≡ true) number_of
 own = numerals_by_value _ (search rules)
 
--- a text that passes every test
+-- the text passes every test
 pub record IsNumeral (greatest : ℕ) (text : List ℕ) : Type 0 where
   pub some : 0 < length text
   pub digits : list_all is_ascii_digit text ≡ true
   pub small : number_of text ≤ greatest
   pub plain : has_leading_zero text ≡ false
 
+-- if no test gives a fault, all pass
 passed : (a b c d : Bool) → (if a then Some Empty else if not b then Some NotANumber else if c then Some TooLarge else if d then Some LeadingZero else None) ≡ None → (a ≡ false) × (b ≡ true) × (c ≡ false) × (d ≡ false)
 passed true b c d e = absurd cc
 passed false false c d e = absurd cc
@@ -28,18 +30,21 @@ passed false true true d e = absurd cc
 passed false true false true e = absurd cc
 passed false true false false e = (refl, refl, refl, refl)
 
+-- a text without a fault passes every test
 pub numeral_of_faultless : (greatest : ℕ) (text : List ℕ) → fault_of_numeral greatest text ≡ None → IsNumeral greatest text
 numeral_of_faultless greatest text e =
     let tests = passed (length text == 0) (list_all is_ascii_digit text) (nat_lt greatest (number_of text)) (has_leading_zero text) e in
     let some = eqb-false (length text) 0 tests.0 in
     record { some = omega arith; digits = tests.1; small = ltb-false greatest (number_of text) tests.2; plain = tests.3 }
 
+-- a text that passes every test has no fault
 pub faultless_of_numeral : (greatest : ℕ) (text : List ℕ) → IsNumeral greatest text → fault_of_numeral greatest text ≡ None
 faultless_of_numeral greatest text h =
     let some : (length text == 0) ≡ false = ne_eqb (length text) 0 (λ e. omega arith) in
     let small : nat_lt greatest (number_of text) ≡ false = le-ltb greatest (number_of text) h.small in
     rw (some, h.digits, small, h.plain) refl
 
+-- a numeral that begins with 0 is 0 alone
 pub alone : (text : List ℕ) → has_leading_zero text ≡ false → 0 < length text → get_or text 0 0 ≡ 48 → length text ≡ 1
 alone [] plain some first = absurd (omega arith)
 alone (b ∷ []) plain some first = refl
@@ -52,18 +57,21 @@ alone (b ∷ c ∷ cs) plain some first =
 pub decimal_of_numeral : (greatest : ℕ) (text : List ℕ) → greatest < 2 ^ 64 → IsNumeral greatest text → decimal (number_of text) ≡ text
 decimal_of_numeral greatest text lt h = decimal-digits_value own text h.digits h.some (alone text h.plain h.some) (omega (arith, h.small, lt))
 
+-- a text that begins above 0 has no leading zero
 pub above_zero : (text : List ℕ) → 48 < get_or text 0 0 → has_leading_zero text ≡ false
 above_zero [] lt = refl
 above_zero (b ∷ bs) lt = and_right (nat_lt 1 (length (b ∷ bs))) (b == 48) (ne_eqb b 48 (λ e. omega (arith, e, lt)))
 
+-- the decimal text of a number has no leading zero
 no_zero_before : (n : ℕ) → n < 2 ^ 64 → has_leading_zero (decimal n) ≡ false
 no_zero_before zero lt = rw (decimal_digit 0 (omega arith)) refl
 no_zero_before (suc n) lt = above_zero (decimal (suc n)) (first_decimal (suc n) (omega arith) lt)
 
+-- the decimal text of a number is read as the number
 pub number_of_decimal : (n : ℕ) → n < 2 ^ 64 → number_of (decimal n) ≡ n
 number_of_decimal n lt = digits_value-decimal own n lt
 
--- and the text of a number is a numeral
+-- the decimal text of a number is a numeral
 pub numeral_of_decimal : (greatest n : ℕ) → greatest < 2 ^ 64 → n ≤ greatest → IsNumeral greatest (decimal n)
 numeral_of_decimal greatest n lt le =
     let small : n < 2 ^ 64 = omega (arith, lt, le) in
@@ -74,6 +82,7 @@ numeral_of_decimal greatest n lt le =
       plain = no_zero_before n small;
     }
 
+-- a text has no fault exactly if it is the decimal text of a number of at most `greatest`
 pub faultless_iff : (text : List ℕ) (greatest : ℕ) → greatest < 2 ^ 64 → (fault_of_numeral greatest text ≡ None) ↔ ((n : ℕ) × (n ≤ greatest) × (text ≡ decimal n))
 faultless_iff text greatest lt = (
   λ e. let is = numeral_of_faultless greatest text e in (number_of text, is.small, sym (decimal_of_numeral greatest text lt is)),
@@ -82,10 +91,12 @@ faultless_iff text greatest lt = (
       subst P (sym of.2) (faultless_of_numeral greatest (decimal of.0) (numeral_of_decimal greatest of.0 lt of.1)),
 )
 
+-- a reading is Ok only without a fault
 pub read_ok : {F A : Type 0} (f : Option F) (v r : A) → ok_unless f v ≡ Ok r → (f ≡ None) × (v ≡ r)
 read_ok None v r e = (refl, cc)
 read_ok (Some f) v r e = absurd cc
 
+-- a text is read as n exactly if it is the decimal text of n, and n is at most `greatest`
 pub reading_iff : (text : List ℕ) (greatest n : ℕ) → greatest < 2 ^ 64 → (reading_of_numeral greatest text ≡ Ok n) ↔ ((n ≤ greatest) × (text ≡ decimal n))
 reading_iff text greatest n lt = (
   λ e.

@@ -1,8 +1,8 @@
--- The parent is what stands before the last number.
+-- The parent is all numbers but the last.
 use Rattle.std.proofs.Common.{◌≡◌, ℕ, zero, suc, ◌<◌, take, set, List, [], ◌∷◌, length, refl, ap, arith}
 use Rattle.lock_tree.specs.Paths.{parent_of}
 
--- with one number written over, what stands before it is the parent of what ends with it
+-- with the number at n overwritten, the numbers before it are the parent of those up to it
 pub parent_of-set : (n : ℕ) (xs : List ℕ) (v : ℕ) → n < length xs → take n (set xs n v) ≡ parent_of (take (suc n) xs)
 parent_of-set n [] v lt = absurd (omega (arith, lt))
 parent_of-set zero (x ∷ xs) v lt = refl

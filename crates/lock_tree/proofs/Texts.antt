@@ -18,27 +18,32 @@ use Rattle.lock_tree.specs.Faults.{path_fault_of, fault_of_piece, first_fault, f
 use Rattle.lock_tree.specs.Readings.{numbers_in, reading_of}
 use Rattle.lock_tree.proofs.Numerals.{IsNumeral, numeral_of_faultless, faultless_of_numeral, decimal_of_numeral, number_of_decimal, numeral_of_decimal, no_slash, read_ok}
 
+-- if neither of two options gives a fault, both are None
 no_first : (a b : Option PathFault) → option_or a b ≡ None → (a ≡ None) × (b ≡ None)
 no_first None b e = (refl, e)
 no_first (Some f) b e = absurd cc
 
+-- a piece without a fault has none of a numeral
 no_numeral_fault : (o : Option NumeralFault) → option_map path_fault_of o ≡ None → o ≡ None
 no_numeral_fault None e = refl
 no_numeral_fault (Some f) e = absurd cc
 
+-- a piece without a fault is the numeral of a 32-bit number
 numeral_of_piece : (piece : List ℕ) → fault_of_piece piece ≡ None → IsNumeral 4294967295 piece
 numeral_of_piece piece e = numeral_of_faultless 4294967295 piece (no_numeral_fault (fault_of_numeral 4294967295 piece) e)
 
+-- the decimal text of a 32-bit number is a piece without a fault
 piece_of_number : (n : ℕ) → n < 2 ^ 32 → fault_of_piece (decimal n) ≡ None
 piece_of_number n small = ap (option_map path_fault_of) (faultless_of_numeral 4294967295 (decimal n) (numeral_of_decimal 4294967295 n (omega arith) (omega (arith, small))))
 
--- pieces without a fault are the texts of their numbers, which are small
+-- pieces without a fault are the decimal texts of their numbers
 decimals_of : (ps : List (List ℕ)) → first_fault ps ≡ None → map decimal (map number_of ps) ≡ ps
 decimals_of [] e = refl
 decimals_of (p ∷ ps) e =
     let parts = no_first (fault_of_piece p) (first_fault ps) e in
     rw (decimal_of_numeral 4294967295 p (omega arith) (numeral_of_piece p parts.0), decimals_of ps parts.1) refl
 
+-- the numbers of pieces without a fault have 32 bits
 all_small : (ps : List (List ℕ)) → first_fault ps ≡ None → AllByRecursion (λ n. n < 2 ^ 32) (map number_of ps)
 all_small [] e = tt
 all_small (p ∷ ps) e =
@@ -46,43 +51,47 @@ all_small (p ∷ ps) e =
     let small = (numeral_of_piece p parts.0).small in
     (omega (arith, small), all_small ps parts.1)
 
--- the texts of small numbers have no fault, and are read as those numbers
+-- the decimal texts of 32-bit numbers have no fault
 no_fault : (r : List ℕ) → AllByRecursion (λ n. n < 2 ^ 32) r → first_fault (map decimal r) ≡ None
 no_fault [] small = refl
 no_fault (n ∷ ns) small = rw (piece_of_number n small.0) (no_fault ns small.1)
 
+-- the decimal texts of 32-bit numbers are read as those numbers
 numbers_again : (r : List ℕ) → AllByRecursion (λ n. n < 2 ^ 32) r → map number_of (map decimal r) ≡ r
 numbers_again [] small = refl
 numbers_again (n ∷ ns) small = rw (number_of_decimal n (omega (arith, small.0)), numbers_again ns small.1) refl
 
+-- the decimal text of a number has no `/`
 no_slash_in : (n : ℕ) → n < 2 ^ 32 → All (λ b. is_slash b ≡ false) (decimal n)
 no_slash_in n small = no_slash (decimal n) (numeral_of_decimal 4294967295 n (omega arith) (omega (arith, small))).digits
 
--- the pieces of the text of some numbers are their texts
+-- the pieces of a resource's text are the decimal texts of its numbers
 pieces_again : (n : ℕ) (ns : List ℕ) → AllByRecursion (λ n. n < 2 ^ 32) (n ∷ ns) → pieces_of (text_of (n ∷ ns)) ≡ map decimal (n ∷ ns)
 pieces_again n [] small = slice_split_none is_slash (decimal n) (no_slash_in n small.0)
 pieces_again n (m ∷ ms) small =
     slice_split_at is_slash (decimal n) 47 (text_of (m ∷ ms)) (no_slash_in n small.0) refl
     ∙ ap (λ (ps : List (List ℕ)). decimal n ∷ ps) (pieces_again m ms small.1)
 
--- the tests of the whole text
+-- if neither test of the whole text gives a fault, both pass
 both_passed : (a b : Bool) (f : Option PathFault) → (if a then Some Empty else if b then Some TooDeep else f) ≡ None → (b ≡ false) × (f ≡ None)
 both_passed true b f e = absurd cc
 both_passed false true f e = absurd cc
 both_passed false false f e = (refl, e)
 
+-- a text without a fault has fewer than LEVELS `/`, and no piece is faulty
 passed : (t : List ℕ) → fault_of t ≡ None → (count_by is_slash t < LEVELS) × (first_fault (pieces_of t) ≡ None)
 passed t e =
     let tests = both_passed (length t == 0) (nat_le LEVELS (count_by is_slash t)) (first_fault (pieces_of t)) e in
     (leb-false LEVELS (count_by is_slash t) tests.0, tests.1)
 
+-- a text with LEVELS or more `/` is TooDeep
 pub fault_deep : (t : List ℕ) → LEVELS ≤ count_by is_slash t → fault_of t ≡ Some TooDeep
 fault_deep [] deep = absurd (omega (arith, deep))
 fault_deep (b ∷ bs) deep =
     let some : (length (b ∷ bs) == 0) ≡ false = ne_eqb (length (b ∷ bs)) 0 (λ e. omega arith) in
     rw (some, le-leb LEVELS (count_by is_slash (b ∷ bs)) deep) refl
 
--- an empty text is one empty piece
+-- a text with fewer `/` has the fault of its first faulty piece; an empty text is one empty piece
 pub fault_in_piece : (t : List ℕ) → count_by is_slash t < LEVELS → fault_of t ≡ first_fault (pieces_of t)
 fault_in_piece [] flat = refl
 fault_in_piece (b ∷ bs) flat =
@@ -114,17 +123,18 @@ text_of_resource (n ∷ ns) h =
       ap (map number_of) pieces ∙ numbers_again (n ∷ ns) small,
     )
 
--- the text determines the resource
+-- no two resources have the same text
 pub same_text : (a b : List ℕ) → IsResource a → IsResource b → text_of a ≡ text_of b → a ≡ b
 same_text a b ha hb e = sym (text_of_resource a ha).1 ∙ ap numbers_in e ∙ (text_of_resource b hb).1
 
+-- a text has no fault exactly if it is the text of a resource
 pub no_fault_iff : (t : List ℕ) → (fault_of t ≡ None) ↔ ((r : List ℕ) × IsResource r × (text_of r ≡ t))
 no_fault_iff t = (
   λ e. let found = resource_of_text t e in (numbers_in t, found.0, found.1),
   λ of. let P : List ℕ → Type 0 = λ u. fault_of u ≡ None in subst P of.2 (text_of_resource of.0 of.1).0,
 )
 
--- what is read is the resource whose text it is
+-- a text is read as r exactly if it is the text of the resource r
 pub ok_iff : (t r : List ℕ) → (reading_of t ≡ Ok r) ↔ (IsResource r × (text_of r ≡ t))
 ok_iff t r = (
   λ e.
@@ -137,7 +147,7 @@ ok_iff t r = (
       subst P of.1 (rw (back.0, back.1) refl),
 )
 
--- and else there is a fault
+-- a text is read as a fault exactly if that is its fault
 pub err_iff : (t : List ℕ) (f : PathFault) → (reading_of t ≡ Err f) ↔ (fault_of t ≡ Some f)
 err_iff t f = cases (fault_of t)
   where

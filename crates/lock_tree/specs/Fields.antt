@@ -5,11 +5,11 @@ use Rattle.std.proofs.lemmas.List.{take-append-drop}
 use Rattle.lock_tree.specs.declared.levels.TheConstants.{LEVELS}
 use Rattle.lock_tree.specs.declared.resource.Resource.TheInside.{Inside}
 
--- the first numbers, as many as the level says
+-- the numbers of a resource: the first `level` of the field
 abbrev pub path_of : Inside → List ℕ
 path_of a = take a.level a.numbers
 
--- there is a number at least, and those past the level are 0
+-- the level is from 1 to LEVELS, and the numbers past it are 0
 pub record ArePadded (a : Inside) : Type 0 where
   pub rest : drop a.level a.numbers ≡ replicate (LEVELS - a.level) 0
   pub full : length a.numbers ≡ LEVELS
@@ -17,7 +17,7 @@ pub record ArePadded (a : Inside) : Type 0 where
   pub few : a.level ≤ LEVELS
   pub small : All (λ n. n < 2 ^ 32) a.numbers
 
--- the numbers, and 0 in each place past them
+-- the fields that hold these numbers, padded with 0
 abbrev pub fields_of : List ℕ → Inside
 fields_of xs = record { numbers = xs ++ replicate (LEVELS - length xs) 0; level = length xs }
 

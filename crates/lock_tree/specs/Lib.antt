@@ -1,8 +1,9 @@
 pub mod Paths
 pub mod Text
 pub mod Numerals
-pub mod Digits
 pub mod Faults
 pub mod Readings
 pub mod Fields
 pub mod Hashes
+-- what only private contracts speak of
+pub mod inner

@@ -1,4 +1,4 @@
-//! What holds of resources and of their text.
+//! The laws of resources and of their text. Each is the contract of a function with an empty body.
 
 ghost use Rattle.std.specs.Prelude.{◌≡◌, ℕ, ◌+◌, ◌/◌, ◌<◌, ◌≤◌, ◌^◌, ◌↔◌, ◌⊎◌, List, length, true, None, Ok, decimal};
 ghost use Rattle.lock_tree.specs.Numerals.{fault_of_numeral, reading_of_numeral};
@@ -11,13 +11,14 @@ use crate::levels::LEVELS;
 use crate::resource::Resource;
 use std::hash::Hash;
 
-/// The test for the same resource is equality of all numbers, and `==` makes that test.
+/// Two resources are the same exactly if all their numbers are, and `==` tests this.
 pub fn same_path_is_equality()
     ensures numbers { (a b : List ℕ) → (same_path a b ≡ true) ↔ (a ≡ b) }
     ensures code { (a b : List ℕ) → ⟦<Resource as PartialEq>⟧.eq a b ≡ same_path a b }
 {}
 
-/// The numerals are the texts of numbers in decimal, and each is read as its number.
+/// The texts without a numeral's fault are exactly the decimal texts of the numbers up to `greatest`, and each is read
+/// as its number.
 pub fn numerals_are_decimals()
     ensures faultless { (text : List ℕ) (greatest : ℕ) → greatest < 2 ^ 64
         → (fault_of_numeral greatest text ≡ None)
@@ -26,7 +27,7 @@ pub fn numerals_are_decimals()
         → (reading_of_numeral greatest text ≡ Ok n) ↔ ((n ≤ greatest) × (text ≡ decimal n)) }
 {}
 
-/// The texts without a fault are those of resources, and no two resources share one.
+/// The texts without a fault are exactly the texts of resources, and no two resources have the same text.
 pub fn texts_are_of_resources()
     ensures faultless { (t : List ℕ)
         → (fault_of t ≡ None) ↔ ((r : List ℕ) × IsResource r × (text_of r ≡ t)) }
@@ -34,8 +35,8 @@ pub fn texts_are_of_resources()
         → IsResource a → IsResource b → text_of a ≡ text_of b → a ≡ b }
 {}
 
-/// A path has a parent exactly where it has an ancestor, and the parent is the longest one: each
-/// ancestor is the parent or an ancestor of it.
+/// A resource has a parent exactly if it has an ancestor. The parent is the longest ancestor, and every other ancestor
+/// is an ancestor of the parent.
 pub fn parents_are_the_longest_ancestors()
     ensures test { (a r : List ℕ) → (is_ancestor a r ≡ true) ↔ IsAncestor a r }
     ensures some { (r : List ℕ)
@@ -46,8 +47,8 @@ pub fn parents_are_the_longest_ancestors()
         → IsAncestor a r → (a ≡ parent_of r) ⊎ IsAncestor a (parent_of r) }
 {}
 
-/// Equal resources hash alike: what a hash is fed follows from the numbers. It is one write for every two numbers that
-/// a resource may have.
+/// Equal resources hash alike, since what is fed to a hasher follows from the numbers. It is one write for every two
+/// numbers that a resource can have.
 pub fn equal_resources_hash_alike()
     ensures alike { (a b : List ℕ) → same_path a b ≡ true
         → ⟦<Resource as Hash>⟧.hash_input a ≡ ⟦<Resource as Hash>⟧.hash_input b }
@@ -55,7 +56,7 @@ pub fn equal_resources_hash_alike()
     ensures writes { (r : List ℕ) → length (hash_input_of r) ≡ (LEVELS + 1) / 2 }
 {}
 
-/// Resources are ordered by their numbers, a front before what continues it.
+/// Resources are ordered number by number, and a prefix comes before what continues it.
 pub fn order_is_by_numbers()
     ensures { (a b : List ℕ)
         → IsResource a → IsResource b → ⟦<Resource as Ord>⟧.cmp a b ≡ path_cmp a b }

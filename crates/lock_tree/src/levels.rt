@@ -1,7 +1,5 @@
 //! The depth of the lock tree.
 
-/// How many levels the lock tree has, counted from the top.
-///
-/// Gray, Lorie, Putzolu and Traiger (1976) have a database, its files, their pages and the pages'
-/// records. No other line of this crate depends on how many there are.
+/// The number of levels of the lock tree: database, file, page, record, as in Gray, Lorie, Putzolu and Traiger (1976).
+/// No other line of code or proof in this crate depends on how many there are.
 pub const LEVELS: usize = 4;

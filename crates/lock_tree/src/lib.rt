@@ -1,4 +1,4 @@
-//! Resources of the lock tree and their text, and the numerals that the text is made of.
+//! Resources, which are the nodes of the lock tree, their text, and the reader of decimal numerals.
 #![tactic(auto)]
 
 mod laws;

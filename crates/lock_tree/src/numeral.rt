@@ -1,56 +1,59 @@
-//! Numerals: numbers in decimal, without zeros before them.
+//! Numerals: decimal numbers without leading zeros.
 
 ghost use Rattle.std.specs.Prelude.{◌≡◌, ℕ, List, ◌<◌, ◌+◌, ◌*◌, ◌^◌, ◌++◌, [], ◌∷◌};
 ghost use Rattle.std.specs.Option.{SomeIff};
 ghost use Rattle.lock_tree.specs.Numerals.{reading_of_numeral};
-ghost use Rattle.lock_tree.specs.Digits.{AreRead};
+ghost use Rattle.lock_tree.specs.inner.NumeralScan.{IsScanOf};
 
-/// What is wrong with a text that is to be a numeral: the first of these tests that it fails.
+/// The fault of a text that is no numeral: the first of these tests that it fails.
 ///
-/// That zeros before a number are refused, so that each number has one text, is this project's own
-/// choice, and so is the order of the tests.
+/// Leading zeros are refused so that each number has exactly one text. This and the order of the tests are this
+/// project's own choice.
 #[derive(Clone, Copy, Debug, PartialEq, Eq)]
 pub enum NumeralFault {
-    /// The text has no byte.
+    /// The text is empty.
     Empty,
     /// The text has a byte other than `0` to `9`: a sign, a space, a letter.
     NotANumber,
-    /// The number is above the greatest one that is taken, with or without zeros before it.
+    /// The number is above the greatest one allowed, with or without leading zeros.
     TooLarge,
-    /// The text has two or more digits, of which the first is `0`.
+    /// The text has two or more digits, and the first is `0`.
     LeadingZero,
 }
 
-/// What is kept of the bytes read so far of a text that is to be a numeral.
+/// What is known of the bytes of a numeral scanned so far.
 #[derive(Clone, Copy)]
-pub(crate) struct Digits {
+pub(crate) struct NumeralScan {
+    /// Whether all bytes are digits.
     are_digits: bool,
-    // `None` from a number above 18446744073709551615 on. It means nothing where a byte is no digit.
+    /// The number, `None` if it is above 18446744073709551615. Without meaning once a byte isn't a digit.
     number: Option<u64>,
 }
 
-impl Digits {
-    pub(crate) fn none() -> Digits
-        ensures { AreRead result [] }
+impl NumeralScan {
+    /// A scan of no bytes yet.
+    pub(crate) fn new() -> NumeralScan
+        ensures { IsScanOf result [] }
     {
-        Digits {
+        NumeralScan {
             are_digits: true,
             number: Some(0),
         }
     }
 
-    pub(crate) fn with(self, byte: u8) -> Digits
-        ensures { (text : List ℕ) → AreRead self text → AreRead result (text ++ byte ∷ []) }
+    /// Adds the next byte.
+    pub(crate) fn push(self, byte: u8) -> NumeralScan
+        ensures { (text : List ℕ) → IsScanOf self text → IsScanOf result (text ++ byte ∷ []) }
     {
-        Digits {
+        NumeralScan {
             are_digits: self.are_digits & byte.is_ascii_digit(),
             number: with_digit(self.number, byte.saturating_sub(b'0')),
         }
     }
 
-    /// Tests the text whose bytes have been read.
-    pub(crate) fn numeral(self, text: &[u8], greatest: u64) -> Result<u64, NumeralFault>
-        requires { AreRead self text.now }
+    /// Returns the number, or the first fault, of the scanned text.
+    pub(crate) fn finish(self, text: &[u8], greatest: u64) -> Result<u64, NumeralFault>
+        requires { IsScanOf self text.now }
         ensures { result ≡ reading_of_numeral greatest text.now }
     {
         if text.is_empty() {
@@ -72,7 +75,7 @@ impl Digits {
     }
 }
 
-// The number with one more digit, unless it is above 18446744073709551615.
+/// Appends a digit to the number. `None` once it is above 18446744073709551615.
 fn with_digit(number: Option<u64>, digit: u8) -> Option<u64>
     ensures { (n : ℕ) → SomeIff number (n < 2 ^ 64) n
         → SomeIff result (n * 10 + digit < 2 ^ 64) (n * 10 + digit) }
@@ -80,15 +83,16 @@ fn with_digit(number: Option<u64>, digit: u8) -> Option<u64>
     number?.checked_mul(10)?.checked_add(digit as u64)
 }
 
-/// Reads a number in decimal that is `greatest` at most: digits alone, and no zero before others.
+/// Reads a decimal number of at most `greatest`: digits alone, without leading zeros. On failure returns the first test
+/// that the text fails.
 ///
-/// This is one pass over the text, and takes no memory.
+/// Reads the text in one pass, without memory.
 pub fn parse_numeral(text: &[u8], greatest: u64) -> Result<u64, NumeralFault>
     ensures { result ≡ reading_of_numeral greatest text.now }
 {
-    let mut read = Digits::none();
+    let mut scan = NumeralScan::new();
     for byte in text {
-        read = read.with(*byte);
+        scan = scan.push(*byte);
     }
-    read.numeral(text, greatest)
+    scan.finish(text, greatest)
 }

@@ -1,34 +1,34 @@
-//! One piece of a text: a number, unless it is faulty.
+//! One piece of a resource's text: the number between two `/`.
 
 ghost use Rattle.std.specs.Prelude.{◌≡◌, length};
-ghost use Rattle.lock_tree.specs.Text.{first_piece};
-ghost use Rattle.lock_tree.specs.Digits.{AreRead};
+ghost use Rattle.lock_tree.specs.inner.Pieces.{first_piece, reading_of_piece};
+ghost use Rattle.lock_tree.specs.inner.NumeralScan.{IsScanOf};
 ghost use Rattle.lock_tree.specs.Faults.{path_fault_of};
-ghost use Rattle.lock_tree.specs.Readings.{reading_of_piece};
 
-use crate::numeral::{Digits, NumeralFault};
+use crate::numeral::{NumeralFault, NumeralScan};
 use crate::path_fault::PathFault;
 
-// The largest number that a piece may be.
-const MAX: u64 = u32::MAX as u64;
+/// The greatest number of a piece.
+const MAX_NUMBER: u64 = u32::MAX as u64;
 
-// The bytes up to the first `/`, or all of them, and what is kept of them.
-fn next_piece(bytes: &[u8]) -> (&[u8], Digits)
+/// Returns the bytes before the first `/`, or all of them, and their scan.
+fn next_piece(bytes: &[u8]) -> (&[u8], NumeralScan)
     ensures piece { result.0.now ≡ first_piece bytes.now }
-    ensures read { AreRead result.1 (first_piece bytes.now) }
+    ensures scan { IsScanOf result.1 (first_piece bytes.now) }
 {
     let mut length = 0;
-    let mut read = Digits::none();
+    let mut scan = NumeralScan::new();
     for byte in bytes {
         if *byte == b'/' {
             break;
         }
-        read = read.with(*byte);
+        scan = scan.push(*byte);
         length += 1;
     }
-    (&bytes[..length], read)
+    (&bytes[..length], scan)
 }
 
+/// The fault of a path whose piece has this fault.
 fn path_fault(fault: NumeralFault) -> PathFault
     ensures { result ≡ path_fault_of fault }
 {
@@ -40,13 +40,14 @@ fn path_fault(fault: NumeralFault) -> PathFault
     }
 }
 
-/// Reads the bytes up to the first `/`, or all of them, and says how many they are.
+/// Reads the first piece, which ends before the first `/` or at the end. Returns its number or its fault, and its
+/// length in bytes.
 pub(crate) fn read_piece(bytes: &[u8]) -> (Result<u32, PathFault>, usize)
     ensures number { result.0 ≡ reading_of_piece (first_piece bytes.now) }
     ensures length { result.1 ≡ length (first_piece bytes.now) }
 {
-    let (piece, read) = next_piece(bytes);
-    let number = match read.numeral(piece, MAX) {
+    let (piece, scan) = next_piece(bytes);
+    let number = match scan.finish(piece, MAX_NUMBER) {
         Ok(number) => Ok(number as u32),
         Err(fault) => Err(path_fault(fault)),
     };

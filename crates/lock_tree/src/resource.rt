@@ -1,7 +1,7 @@
-//! A resource: the numbers on the way down the lock tree.
+//! A resource: the path of numbers from the top of the lock tree down to a node.
 
 ghost use Rattle.std.specs.Prelude.{◌≡◌, ◌<◌, ◌↔◌, ℕ, List, Some, Ok, Err, true, length, IsTrue, IsSome, IfSome};
-ghost use Rattle.lock_tree.specs.Paths.{IsResource, IsAncestor, is_ancestor, is_front, has_parent, parent_of};
+ghost use Rattle.lock_tree.specs.Paths.{IsResource, IsAncestor, is_ancestor, is_proper_prefix, has_parent, parent_of};
 ghost use Rattle.lock_tree.specs.Text.{text_of};
 ghost use Rattle.lock_tree.specs.Faults.{fault_of};
 ghost use Rattle.lock_tree.specs.Hashes.{word_at, hash_input_of};
@@ -15,20 +15,22 @@ use std::fmt;
 use std::hash::{Hash, Hasher};
 use std::marker::Model;
 
-// How many words of 64 bits have all numbers, two in each.
+/// How many 64-bit words hold all numbers, two in each word.
 const WORDS: usize = (LEVELS + 1) / 2;
 
-/// A node of the lock tree, by 1 to `LEVELS` numbers from 0 to 4294967295, that of the top first.
+/// A node of the lock tree: the 1 to `LEVELS` numbers on the path to it, from the top, each from 0 to 4294967295.
 ///
-/// It is small and copied freely. The order is number by number, a front before what continues
-/// it, so that an ancestor stands before its descendants.
+/// It is small and `Copy`. Resources are ordered number by number, and a prefix comes before what continues it, so an
+/// ancestor comes before its descendants.
 #[derive(Clone, Copy, Debug, PartialEq, Eq, PartialOrd, Ord)]
 pub struct Resource {
+    /// The numbers, padded with 0.
     numbers: [u32; LEVELS],
-    // As wide as a number, so that no padding is copied with it.
+    /// How many numbers there are. As wide as a number, so that the struct has no padding to copy.
     level: u32,
 }
 
+/// In contracts a resource is the list of its numbers.
 impl Model for Resource {
     ghost use Rattle.std.specs.Prelude.{ℕ, List};
     ghost use Rattle.lock_tree.specs.Fields.{path_of, fields_of, fields_again, ArePadded};
@@ -45,10 +47,10 @@ impl Model for Resource {
 }
 
 impl Resource {
-    /// Reads a resource from the text that it is displayed as, and from no other text.
+    /// Reads a resource from the text that `Display` writes, and from no other text. `PathFault` says which fault is
+    /// returned if there are several.
     ///
-    /// This is one pass over the text, and takes no memory. `PathFault` says which fault is told
-    /// where there are several.
+    /// Reads the text in one pass, without memory.
     pub fn parse(text: &str) -> Result<Resource, PathFault>
         ensures ok { (r : List ℕ)
             → (result ≡ Ok r) ↔ (IsResource r × (text_of r ≡ text.now)) }
@@ -57,7 +59,7 @@ impl Resource {
         Resource::read(text.as_bytes())
     }
 
-    // A faulty piece doesn't end it, since a `/` too many is told first.
+    /// Reads a resource from bytes. Goes on after a faulty piece, since `TooDeep` comes before the faults of pieces.
     fn read(bytes: &[u8]) -> Result<Resource, PathFault>
         ensures { result ≡ reading_of bytes.now }
     {
@@ -83,7 +85,7 @@ impl Resource {
         Err(PathFault::TooDeep)
     }
 
-    /// The resource with these numbers, or `None` where there are none or more than `LEVELS`.
+    /// Returns the resource with these numbers. `None` if there are no numbers, or more than `LEVELS`.
     pub fn from_numbers(numbers: &[u32]) -> Option<Resource>
         ensures found { IsSome result ↔ IsResource numbers.now }
         ensures value { IfSome result (λ resource. resource ≡ numbers.now) }
@@ -106,7 +108,7 @@ impl Resource {
         self.level as u8
     }
 
-    /// The resource above: all numbers but the last. `None` for a database, which has nothing above.
+    /// The parent: all numbers but the last. `None` for a database.
     pub fn parent(&self) -> Option<Resource>
         ensures some { IsSome result ↔ (has_parent self.now ≡ true) }
         ensures value { IfSome result (λ parent. parent ≡ parent_of self.now) }
@@ -123,17 +125,17 @@ impl Resource {
         })
     }
 
-    /// Whether this resource stands above the other one, at any height. None stands above itself.
+    /// Whether this resource is an ancestor of the other, at any height. No resource is its own ancestor.
     pub fn is_ancestor_of(&self, other: &Resource) -> bool
         ensures value { result ≡ is_ancestor self.now other.now }
         ensures relation { IsTrue result ↔ IsAncestor self.now other.now }
     {
         let numbers = self.numbers();
         let others = other.numbers();
-        is_front(numbers, others)
+        is_proper_prefix(numbers, others)
     }
 
-    // The numbers at 2k and 2k + 1, side by side.
+    /// The numbers at `2k` and `2k + 1` in one word, the first in the lower half.
     fn word(&self, k: usize) -> u64
         requires { k < WORDS }
         ensures { result ≡ word_at self.now k }
@@ -147,7 +149,7 @@ impl Resource {
         (upper << 32) + lower
     }
 
-    /// The numbers, that of the top first.
+    /// The numbers on the path to the resource, from the top.
     pub fn numbers(&self) -> &[u32]
         ensures value { result.now ≡ self.now }
         ensures resource { IsResource self.now }
@@ -156,16 +158,16 @@ impl Resource {
     }
 }
 
-// Whether the numbers begin the other ones, which are more.
-fn is_front(numbers: &[u32], others: &[u32]) -> bool
-    ensures { result ≡ is_front numbers.now others.now }
+/// Whether `others` begins with `numbers` and is longer.
+fn is_proper_prefix(numbers: &[u32], others: &[u32]) -> bool
+    ensures { result ≡ is_proper_prefix numbers.now others.now }
 {
     let count = numbers.len();
     count < others.len() && numbers == &others[..count]
 }
 
-/// Feeds two numbers at a time, since most hashers multiply once for each write. The level is left out, so that
-/// resources share a hash where they differ by zeros at the end alone. That is this project's own choice.
+/// Feeds two numbers in each write, since most hashers multiply once for each write. The level is left out, so
+/// resources that differ only by zeros at the end have the same hash. This is this project's own choice.
 impl Hash for Resource {
     ghost use Rattle.lock_tree.specs.Hashes.{equal_hash_alike};
 
@@ -180,7 +182,7 @@ impl Hash for Resource {
     }
 }
 
-/// Writes the numbers in decimal, with a `/` between each two. That is this project's own choice.
+/// Writes the numbers in decimal, separated by `/`. The format is this project's own choice.
 impl fmt::Display for Resource {
     ghost output = { λ r. Some (text_of r) };
 

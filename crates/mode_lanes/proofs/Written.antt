@@ -9,21 +9,22 @@ use Rattle.mode_lanes.proofs.Unions.{or-zero_parts, or-zero, zero-from_union, un
 use lib.Lanes.{zip2, put_chunk, chunk}
 use Rattle.std.proofs.lemmas.Simd.{length-chunk, length-zip2, get_or-zip2, get_or-chunk, get_or-put_chunk_below, get_or-put_chunk_at, get_or-put_chunk_above, length-put_chunk}
 
--- below n the items are f of the old ones and of another row's, and from n on they are the old ones
+-- The items below n are f of the old items and the other row's items; the items from n on are the old items.
 pub record WrittenBelow (f : ℕ → ℕ → ℕ) (n : ℕ) (old other now : List ℕ) : Type 0 where
   pub room : length now ≡ length old
   pub written : (k : ℕ) → k < n → get_or now k 0 ≡ f (get_or old k 0) (get_or other k 0)
   pub open_yet : (k : ℕ) → n ≤ k → get_or now k 0 ≡ get_or old k 0
 
--- below n another row has no bit that isn't there
+-- Below n the other row has no bit that the old row does not have.
 abbrev pub AddsNothingBelow : ℕ → List ℕ → List ℕ → Type 0
 AddsNothingBelow n old other = (k : ℕ) → k < n → bit_or (get_or old k 0) (get_or other k 0) ≡ get_or old k 0
 
+-- Before the first item, nothing is written.
 pub written-none : (f : ℕ → ℕ → ℕ) (old other : List ℕ) → WrittenBelow f 0 old other old
 written-none f old other = record { room = refl; written = λ k lt. absurd (omega (arith, lt)); open_yet = λ k le. refl }
 
 module _ (f : ℕ → ℕ → ℕ) (old other now : List ℕ) (n : ℕ) (h : WrittenBelow f n old other now) where
-  -- one item more
+  -- After one more item, the items are written one further.
   pub written-item : n < length old → WrittenBelow f (n + 1) old other (set now n (f (get_or now n 0) (get_or other n 0)))
   written-item lt = record {
     room = length-set now n _ ∙ h.room;
@@ -34,7 +35,7 @@ module _ (f : ℕ → ℕ → ℕ) (old other now : List ℕ) (n : ℕ) (h : Wri
     open_yet = λ k above. let ne : k ≢ n = omega (arith, above) in get_or-set_other now n k _ 0 ne ∙ h.open_yet k (omega (arith, above));
   }
 
-  -- one chunk more
+  -- After one more chunk, the items are written one chunk further.
   pub written-chunk : (w : ℕ) (vs : List ℕ) → length vs ≡ w → n + w ≤ length old → ((j : ℕ) → j < w → get_or vs j 0 ≡ f (get_or now (n + j) 0) (get_or other (n + j) 0)) → WrittenBelow f (n + w) old other (put_chunk n now vs)
   written-chunk w vs long le each = record {
     room = length-put_chunk n now vs ∙ h.room;
@@ -52,7 +53,7 @@ module _ (f : ℕ → ℕ → ℕ) (old other now : List ℕ) (n : ℕ) (h : Wri
           ap (λ (i : ℕ). get_or (put_chunk n now vs) i 0) (sym e) ∙ get_or-put_chunk_at n now vs (k - n) 0 (omega (arith, small, long)) (omega (arith, long, le, h.room))
           ∙ each (k - n) small ∙ ap (λ (i : ℕ). f (get_or now i 0) (get_or other i 0)) e ∙ ap (λ (x : ℕ). f x (get_or other k 0)) (h.open_yet k from)
 
-  -- a chunk more, of f lane by lane
+  -- After one more chunk, written as f of two chunks lane by lane, the items are written one chunk further.
   pub written-lanes : (w : ℕ) → length old ≡ length other → n + w ≤ length other → WrittenBelow f (n + w) old other (put_chunk n now (zip2 f (chunk n w now) (chunk n w other)))
   written-lanes w same le = written-chunk w _ (length-zip2 f (chunk n w now) (chunk n w other) (mine ∙ sym theirs) ∙ mine) (omega (arith, same, le)) (λ j lt. get_or-zip2 f (chunk n w now) (chunk n w other) j 0 0 0 (omega (arith, mine, lt)) (omega (arith, theirs, lt)) ∙ rw (get_or-chunk n w now j 0 lt) (rw (get_or-chunk n w other j 0 lt) refl))
     where
@@ -62,8 +63,9 @@ module _ (f : ℕ → ℕ → ℕ) (old other now : List ℕ) (n : ℕ) (h : Wri
       theirs : length (chunk n w other) ≡ w
       theirs = length-chunk n w other le
 
--- whether a row changes: one item more, and a chunk more
+-- Whether a row changes, after one more item and after one more chunk.
 module _ (old other now : List ℕ) (n : ℕ) (h : WrittenBelow bit_or n old other now) where
+  -- After one more item, no change was noted exactly if the other row adds nothing so far.
   pub adds-item : (changes : ℕ) → ((changes ≡ 0) ↔ AddsNothingBelow n old other) → (bit_or changes (bit_xor (get_or now n 0) (bit_or (get_or now n 0) (get_or other n 0))) ≡ 0) ↔ AddsNothingBelow (n + 1) old other
   adds-item changes s = (there, back)
     where
@@ -81,6 +83,7 @@ module _ (old other now : List ℕ) (n : ℕ) (h : WrittenBelow bit_or n old oth
       back : AddsNothingBelow (n + 1) old other → bit_or changes (bit_xor (get_or now n 0) (bit_or (get_or now n 0) (get_or other n 0))) ≡ 0
       back a = or-zero changes _ (s.1 (λ k less. a k (omega (arith, less)))) (rw was (rw (a n (omega arith)) (xor_self (get_or old n 0))))
 
+  -- After one more chunk, no change was noted exactly if the other row adds nothing so far.
   pub adds-lanes : (w : ℕ) (changed : List ℕ) → length old ≡ length other → n + w ≤ length other → length changed ≡ w → ((union_of changed ≡ 0) ↔ AddsNothingBelow n old other) → (union_of (zip2 bit_or changed (zip2 bit_xor (chunk n w now) (zip2 bit_or (chunk n w now) (chunk n w other)))) ≡ 0) ↔ AddsNothingBelow (n + w) old other
   adds-lanes w changed same le full s = (there, back)
     where
@@ -118,7 +121,7 @@ module _ (old other now : List ℕ) (n : ℕ) (h : WrittenBelow bit_or n old oth
       back : AddsNothingBelow (n + w) old other → union_of (zip2 bit_or changed (zip2 bit_xor (chunk n w now) (zip2 bit_or (chunk n w now) (chunk n w other)))) ≡ 0
       back a = parted ∙ or-zero (union_of changed) _ (s.1 (λ k less. a k (omega (arith, less)))) (union-all_zero _ (λ j lt. let small : j < w = omega (arith, lt, news) in lane j small ∙ rw (a (n + j) (omega (arith, small))) (xor_self (get_or old (n + j) 0))))
 
--- a row that was written whole is another one where something was added
+-- After the whole row, a change was noted exactly if the row differs from the old row.
 pub changed-whole : (old other now : List ℕ) (n changes : ℕ) → WrittenBelow bit_or n old other now → length old ≡ n → ((changes ≡ 0) ↔ AddsNothingBelow n old other) → (not (eqb changes 0) ≡ true) ↔ (now ≢ old)
 changed-whole old other now n changes h long s = (there, back)
   where

@@ -1,1 +1,2 @@
+-- What public contracts speak of.
 pub mod Masks

@@ -1,4 +1,4 @@
-//! Columns: bytes, of which each has a few bits set, and masks that ask for some of these bits.
+//! Kernels over columns: bytes, each with a few bits set, and masks that ask for some of these bits.
 
 ghost use Rattle.std.specs.Prelude.{◌≡◌, ℕ, ◌+◌, ◌<◌, ◌≤◌, not, false, if◌then◌else◌, length, slice_index, EachIndex, position};
 ghost use Rattle.std.specs.List.{list_any, prefix_len};
@@ -7,10 +7,10 @@ ghost use Rattle.mode_lanes.specs.Masks.{union_of, meets};
 
 use std::simd::prelude::*;
 
-// One vector register of every 64-bit x86 processor; wider ones gained nothing that lasted.
+/// The bytes of one vector register that every 64-bit x86 processor has. Wider vectors brought no lasting gain.
 const LANES: usize = 16;
 
-/// The bits that are set in some byte of the column, 0 where it is empty.
+/// The bits that are set in any byte of the column; 0 if it is empty.
 #[inline]
 pub fn union(column: &[u8]) -> u8
     ensures { result ≡ union_of column.now }
@@ -21,23 +21,24 @@ pub fn union(column: &[u8]) -> u8
         all |= u8x16::from_slice(&column[at..]);
         at += LANES;
     }
-    all.reduce_or() | union_of_rest(&column[at..])
+    all.reduce_or() | union_of_tail(&column[at..])
 }
 
+/// The bits that are set in any byte of the tail, one byte at a time.
 #[inline(always)]
-fn union_of_rest(rest: &[u8]) -> u8
-    ensures { result ≡ union_of rest.now }
+fn union_of_tail(tail: &[u8]) -> u8
+    ensures { result ≡ union_of tail.now }
 {
     let mut union = 0;
-    for &byte in rest {
+    for &byte in tail {
         union |= byte;
     }
     union
 }
 
-/// Whether some byte of the column has a bit of the mask.
+/// Whether any byte of the column has a bit of the mask.
 ///
-/// It reads the whole column, wherever the first such byte is: one test at the end is faster than one for each chunk.
+/// Reads the whole column, even after such a byte: one test at the end is faster than one test for each chunk.
 #[inline]
 pub fn any_meets(column: &[u8], mask: u8) -> bool
     ensures { result ≡ list_any (meets mask) column.now }
@@ -45,25 +46,27 @@ pub fn any_meets(column: &[u8], mask: u8) -> bool
     union(column) & mask != 0
 }
 
-/// The position of the first byte that has a bit of the mask, `None` where none has. It reads no chunk after that byte.
+/// The position of the first byte that has a bit of the mask, or `None` if there is none. Reads no chunk after
+/// that byte's chunk.
 #[inline]
 pub fn first_meets(column: &[u8], mask: u8) -> Option<usize>
     ensures { result ≡ position (meets mask) column.now }
 {
     let mut at = 0;
     while column.len() - at >= LANES {
-        let passed = passed_in_chunk(column, at, mask);
-        if passed < LANES {
-            return Some(at + passed);
+        let misses = leading_misses(column, at, mask);
+        if misses < LANES {
+            return Some(at + misses);
         }
         at += LANES;
     }
-    first_in_rest(column, mask, at)
+    first_in_tail(column, mask, at)
 }
 
-// How many bytes of the chunk at `at` come before the first that has a bit of the mask.
+/// The number of bytes of the chunk at `at` before the first byte that has a bit of the mask; `LANES` if there is
+/// none.
 #[inline(always)]
-fn passed_in_chunk(column: &[u8], at: usize, mask: u8) -> usize
+fn leading_misses(column: &[u8], at: usize, mask: u8) -> usize
     requires { at + LANES ≤ length column.now }
     ensures { result ≡ prefix_len (λ byte. not (meets mask byte)) (chunk at LANES column.now) }
 {
@@ -76,8 +79,10 @@ fn passed_in_chunk(column: &[u8], at: usize, mask: u8) -> usize
     }
 }
 
+/// The position of the first byte that has a bit of the mask, from position `from` on. No byte before `from` may
+/// have one.
 #[inline(always)]
-fn first_in_rest(column: &[u8], mask: u8, from: usize) -> Option<usize>
+fn first_in_tail(column: &[u8], mask: u8, from: usize) -> Option<usize>
     requires within { from ≤ length column.now }
     requires before { (k : ℕ) → k < from → meets mask (slice_index column.now k) ≡ false }
     ensures { result ≡ position (meets mask) column.now }
@@ -90,7 +95,7 @@ fn first_in_rest(column: &[u8], mask: u8, from: usize) -> Option<usize>
     None
 }
 
-/// Writes 1 at the positions of the bytes that have a bit of the mask, and 0 at the others.
+/// Sets `marks[k]` to 1 if byte k of the column has a bit of the mask, and to 0 if not.
 #[inline]
 pub fn mark_meets(column: &[u8], mask: u8, marks: &mut [u8])
     requires { length marks.old ≡ length column.now }

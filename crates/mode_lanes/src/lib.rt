@@ -1,8 +1,9 @@
-//! Kernels over columns of bytes, as the modes of a resource's holders, and rows of words, as who waits for whom.
+//! Vector kernels over columns of bytes, such as the modes of a resource's holders, and over rows of words, such
+//! as the rows of a waits-for graph.
 //!
-//! Each takes a chunk of items at a time, one in each lane of a vector, and then one by one the rest that fills no whole
-//! chunk. What it answers is said item by item and holds for every length; where there are two lists, equal lengths are a
-//! condition. None takes memory. The crate knows nothing of modes or waits.
+//! Each kernel takes a chunk of items at a time, one in each lane of a vector, and then the tail that fills no
+//! whole chunk, one item at a time. Contracts speak of single items and hold for every length; two lists must have
+//! the same length. No kernel allocates memory. The crate knows nothing of modes or waits.
 #![tactic(auto)]
 
 pub use columns::{any_meets, first_meets, mark_meets, union};

@@ -1,4 +1,4 @@
-//! Rows: words of 64 bits, a bit for each member of a set.
+//! Kernels over rows: words of 64 bits, a bit for each member of a set.
 
 ghost use Rattle.std.specs.Prelude.{◌≡◌, ◌≢◌, ◌↔◌, ℕ, ◌+◌, ◌≤◌, IsTrue, length, slice_index, EachIndex, SomeIndex, bit_and, bit_or};
 ghost use Rattle.std.specs.Simd.Lanes.{zip2};
@@ -6,10 +6,10 @@ ghost use Rattle.mode_lanes.specs.Masks.{union_of};
 
 use std::simd::prelude::*;
 
-// A chunk is a set of 256, one row of a table for as many sessions.
+/// The words of one chunk: 256 bits, which is one row of a waits-for graph of 256 sessions.
 const LANES: usize = 4;
 
-/// Adds the bits of another row, and tells whether one of them is new.
+/// Adds the bits of `other` to `row`. Returns whether `row` has changed.
 #[inline]
 pub fn or_into(row: &mut [u64], other: &[u64]) -> bool
     requires { length row.old ≡ length other.now }
@@ -36,7 +36,7 @@ pub fn or_into(row: &mut [u64], other: &[u64]) -> bool
     changes != 0
 }
 
-/// Keeps the bits that another row has too, and no others.
+/// Clears the bits of `row` that `other` does not have.
 #[inline]
 pub fn and_into(row: &mut [u64], other: &[u64])
     requires { length row.old ≡ length other.now }
@@ -54,7 +54,7 @@ pub fn and_into(row: &mut [u64], other: &[u64])
     }
 }
 
-/// Whether two rows have a bit in common. It reads the whole of both, wherever the first such bit is.
+/// Whether two rows have a bit in common. Reads both rows whole, even after such a bit.
 #[inline]
 pub fn any_common(row: &[u64], other: &[u64]) -> bool
     requires { length row.now ≡ length other.now }
@@ -67,12 +67,13 @@ pub fn any_common(row: &[u64], other: &[u64]) -> bool
         common |= u64x4::from_slice(&row[at..]) & u64x4::from_slice(&other[at..]);
         at += LANES;
     }
-    let rest = common_in_rest(&row[at..], &other[at..]);
-    (common.reduce_or() | rest) != 0
+    let tail = common_in_tail(&row[at..], &other[at..]);
+    (common.reduce_or() | tail) != 0
 }
 
+/// The or of `row[k] & other[k]` over all words of the two tails.
 #[inline(always)]
-fn common_in_rest(row: &[u64], other: &[u64]) -> u64
+fn common_in_tail(row: &[u64], other: &[u64]) -> u64
     requires { length row.now ≡ length other.now }
     ensures { result ≡ union_of (zip2 bit_and row.now other.now) }
 {

@@ -1,4 +1,4 @@
-//! A board of two sessions in one thread, call by call.
+//! A board of two sessions on one thread, call by call.
 
 ghost use Rattle.std.specs.Prelude.{◌≡◌, ◌+◌, true, false, Some, None, IfOk, replicate, slice_set};
 ghost use Rattle.publication.specs.Rule.{IsHome};
@@ -10,7 +10,7 @@ use publication::{Board, Load, Posted, Ticket};
 use std::process::Abort;
 use std::test::Fail;
 
-// The tickets of sessions 1 and 2.
+/// Returns the tickets of sessions 1 and 2.
 fn both(rt: &impl Abort, board: &Board, mut tickets: Vec<Ticket>) -> (Ticket, Ticket)
     requires { tickets.items ≡ new_tickets board.now.id 2 2 }
     ensures first { result.0 ≡ new_ticket board.now.id 2 1 }
@@ -21,7 +21,7 @@ fn both(rt: &impl Abort, board: &Board, mut tickets: Vec<Ticket>) -> (Ticket, Ti
     (first, second)
 }
 
-// The session posts a call, which is listed.
+/// Posts a call, and expects the session's record to be on the list.
 fn posts(rt: &impl Abort, board: &Board, ticket: &mut Ticket, call: Call)
     requires ours { IsOf board.now ticket.old }
     requires idle { (ticket.old.pending ≡ None) × (ticket.old.retired ≡ false) }
@@ -33,7 +33,7 @@ fn posts(rt: &impl Abort, board: &Board, ticket: &mut Ticket, call: Call)
     }
 }
 
-// The combiner serves the call of a record that it opened.
+/// Serves the call of a record that the combiner opened, and answers it.
 fn serve(
     board: &Board,
     ticket: &mut Ticket,
@@ -59,7 +59,7 @@ fn serve(
     Ok(reply)
 }
 
-// The combiner finds nothing to open in this record.
+/// Expects the combiner to find no call in this record.
 fn finds_nothing(rt: &impl Abort, board: &Board, ticket: &mut Ticket, whose: u16)
     requires ours { IsOf board.now ticket.old }
     requires has { ticket.old.has_book ≡ true }
@@ -69,7 +69,7 @@ fn finds_nothing(rt: &impl Abort, board: &Board, ticket: &mut Ticket, whose: u16
     assert!(rt; board.open(ticket, whose).is_none());
 }
 
-// The session takes this answer to its call, once.
+/// Expects the session to take this answer once.
 fn takes_once(rt: &impl Abort, board: &Board, ticket: &mut Ticket, place: u64, reply: Reply)
     requires ours { IsOf board.now ticket.old }
     ensures ours { IsOf board.now ticket.new }
@@ -78,7 +78,7 @@ fn takes_once(rt: &impl Abort, board: &Board, ticket: &mut Ticket, place: u64, r
     assert!(rt; board.take(ticket).is_none());
 }
 
-// The combiner opens the record of session 1 once, serves its call, and finds no more of it.
+/// Opens the record of session 1 as the combiner, serves its call, and expects no second call.
 fn serve_the_first(
     rt: &impl Abort,
     board: &Board,
@@ -104,6 +104,8 @@ fn serve_the_first(
     Ok(())
 }
 
+/// Session 1 posts a call, and session 2 seizes the board and answers it. Session 1 takes the answer, and can seize the board
+/// when session 2 has released it.
 #[test]
 fn a_combiner_answers_what_another_posted(rt: HostRuntime) -> Result<(), Fail> {
     let book = Book::new(rt.alloc(), 2)?;

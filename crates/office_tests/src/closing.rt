@@ -1,26 +1,31 @@
-//! What sessions learn of one another, and offices that are closed.
+//! The calls `hear`, `retire` and `close` of an office.
+
 ghost use Rattle.std.specs.Prelude.{◌≡◌, [], All, IfOk};
 ghost use Rattle.publication.specs.Boards.{new_tickets};
 ghost use Rattle.combining.specs.Sessions.{IsSessionOf, IsIdle};
 
-use crate::offices::{answer, ask, call, new_office, served_by};
+use crate::offices::{answer, call, call_alone, new_office, served_by};
 use combining::{CloseFault, Office, Posted, Session};
 use lock_desk::{Call, Reply};
 use std::alloc::{AllocError, Global};
 use std::process::Abort;
 use std::test::Fail;
 
-/// An office of two sessions, which stand apart from the vector that they came in.
+/// An office of two sessions, taken out of their vector.
 #[derive(Drop)]
-struct Apart {
+struct TakenApart {
+    /// The office.
     office: Office,
+    /// Session 1.
     first: Session,
+    /// Session 2.
     second: Session,
+    /// The empty vector, with room for both.
     room: Vec<Session>,
 }
 
-/// The sessions of a fresh office of two.
-fn taken_apart(rt: &impl Abort, office: Office, sessions: Vec<Session>) -> Apart
+/// Takes the sessions of a fresh office of two out of their vector.
+fn taken_apart(rt: &impl Abort, office: Office, sessions: Vec<Session>) -> TakenApart
     requires sessions { sessions.items ≡ new_tickets office.id 2 2 }
     requires ours { All (λ session. IsSessionOf office session × IsIdle session) sessions.items }
     ensures first { IsSessionOf result.office result.first × IsIdle result.first }
@@ -30,7 +35,7 @@ fn taken_apart(rt: &impl Abort, office: Office, sessions: Vec<Session>) -> Apart
     let mut room = sessions;
     let second = room.pop().expect(rt, "session 2");
     let first = room.pop().expect(rt, "session 1");
-    Apart {
+    TakenApart {
         office,
         first,
         second,
@@ -38,7 +43,7 @@ fn taken_apart(rt: &impl Abort, office: Office, sessions: Vec<Session>) -> Apart
     }
 }
 
-/// The session publishes that it begins, and its record is on the list.
+/// Publishes a begin, and expects the session's record to be on the list.
 fn publish_begin(rt: &impl Abort, office: &Office, session: &mut Session)
     requires ours { IsSessionOf office.now session.old × IsIdle session.old }
     ensures ours { IsSessionOf office.now session.new }
@@ -46,7 +51,7 @@ fn publish_begin(rt: &impl Abort, office: &Office, session: &mut Session)
     assert_eq!(rt; office.publish(session, Call::Begin), Posted::Listed);
 }
 
-/// The session collects that it began transaction 1, once.
+/// Expects the session to collect once that it began transaction 1.
 fn collect_begun(rt: &impl Abort, office: &Office, session: &mut Session)
     requires ours { IsSessionOf office.now session.old }
     ensures ours { IsSessionOf office.now session.new }
@@ -56,10 +61,11 @@ fn collect_begun(rt: &impl Abort, office: &Office, session: &mut Session)
     assert_eq!(rt; office.collect(session), None);
 }
 
+/// A call that was published before `hear` is served by the hearing session's next pass.
 #[test]
-fn what_a_session_heard_of_is_served(rt: HostRuntime) -> Result<(), Fail> {
+fn a_pass_serves_a_call_that_its_session_heard_of(rt: HostRuntime) -> Result<(), Fail> {
     let (office, sessions) = new_office(rt.alloc(), 2)?;
-    let Apart {
+    let TakenApart {
         office,
         mut first,
         mut second,
@@ -72,16 +78,16 @@ fn what_a_session_heard_of_is_served(rt: HostRuntime) -> Result<(), Fail> {
     Ok(())
 }
 
-/// The session begins a transaction, and collects this answer.
+/// Begins a transaction in the session, and expects this place and this number of the transaction.
 fn begin(rt: &impl Abort, office: &Office, session: &mut Session, place: u64, transaction: u64)
     requires ours { IsSessionOf office.now session.old × IsIdle session.old }
     ensures ours { IsSessionOf office.now session.new × IsIdle session.new }
 {
-    let began = ask(rt, office, session, Call::Begin);
+    let began = call_alone(rt, office, session, Call::Begin);
     assert_eq!(rt; began, answer(place, Reply::Began(transaction)));
 }
 
-/// Session 1 begins a transaction, and session 2 hears of it.
+/// Begins a transaction in session 1, and expects session 2 to have seen its entry after `hear`.
 fn hear_of_a_begin(rt: &impl Abort, office: &Office, first: &mut Session, second: &mut Session)
     requires first { IsSessionOf office.now first.old × IsIdle first.old }
     requires second { IsSessionOf office.now second.old × IsIdle second.old }
@@ -94,7 +100,7 @@ fn hear_of_a_begin(rt: &impl Abort, office: &Office, first: &mut Session, second
     assert!(rt; first.seen() == 1 && second.seen() == 1);
 }
 
-/// The session retires.
+/// Retires an idle session, and expects it to be retired and no longer idle.
 fn retire(rt: &impl Abort, office: &Office, session: &mut Session)
     requires ours { IsSessionOf office.now session.old × IsIdle session.old }
     ensures ours { IsSessionOf office.now session.new }
@@ -104,10 +110,11 @@ fn retire(rt: &impl Abort, office: &Office, session: &mut Session)
     assert!(rt; !session.is_idle() && session.is_retired());
 }
 
+/// After `hear` a session has seen the other's entries; its own next entry comes behind them.
 #[test]
-fn a_session_knows_what_it_hears(rt: HostRuntime) -> Result<(), Fail> {
+fn hear_hands_over_the_entries_that_the_other_has_seen(rt: HostRuntime) -> Result<(), Fail> {
     let (office, sessions) = new_office(rt.alloc(), 2)?;
-    let Apart {
+    let TakenApart {
         office,
         mut first,
         mut second,
@@ -121,7 +128,7 @@ fn a_session_knows_what_it_hears(rt: HostRuntime) -> Result<(), Fail> {
     Ok(())
 }
 
-/// Tries to close an office that has to refuse it with this fault. The office and its sessions come back as they were.
+/// Expects the close to be refused with this fault, and returns the office and its sessions unchanged.
 fn refused(
     rt: &impl Abort,
     office: Office,
@@ -139,7 +146,7 @@ fn refused(
     (office, sessions)
 }
 
-/// The number of entries of an office that is closed.
+/// Closes the office and returns the number of entries of its history.
 fn entries_of(rt: &impl Abort, office: Office, sessions: Vec<Session>) -> usize
     requires ours { All (IsSessionOf office) sessions.items }
 {
@@ -147,7 +154,7 @@ fn entries_of(rt: &impl Abort, office: Office, sessions: Vec<Session>) -> usize
     book.history().len()
 }
 
-/// The number of entries of an office of two sessions that is closed with them in either order.
+/// Closes an office of two sessions, given in this order, and returns the number of entries of its history.
 fn closed(
     rt: &impl Abort,
     office: Office,
@@ -164,15 +171,19 @@ fn closed(
     Ok(entries_of(rt, office, sessions))
 }
 
-/// An office of two sessions isn't closed while one of them is missing.
-fn missing(rt: &impl Abort, office: Office, sessions: Vec<Session>) -> Result<Apart, AllocError>
+/// Expects the close to be refused with `Missing` while session 2 is missing.
+fn missing(
+    rt: &impl Abort,
+    office: Office,
+    sessions: Vec<Session>,
+) -> Result<TakenApart, AllocError>
     requires sessions { sessions.items ≡ new_tickets office.id 2 2 }
     requires ours { All (λ session. IsSessionOf office session × IsIdle session) sessions.items }
     ensures first { IfOk result (λ all. IsSessionOf all.office all.first × IsIdle all.first) }
     ensures second { IfOk result (λ all. IsSessionOf all.office all.second × IsIdle all.second) }
     ensures room { IfOk result (λ all. all.room.items ≡ []) }
 {
-    let Apart {
+    let TakenApart {
         office,
         first,
         second,
@@ -181,7 +192,7 @@ fn missing(rt: &impl Abort, office: Office, sessions: Vec<Session>) -> Result<Ap
     room.push(first)?;
     let (office, mut room) = refused(rt, office, room, CloseFault::Missing);
     let first = room.pop().expect(rt, "session 1");
-    Ok(Apart {
+    Ok(TakenApart {
         office,
         first,
         second,
@@ -189,8 +200,8 @@ fn missing(rt: &impl Abort, office: Office, sessions: Vec<Session>) -> Result<Ap
     })
 }
 
-/// An office of two sessions isn't closed while one of them is pending.
-fn unsettled(rt: &impl Abort, all: Apart) -> Result<Apart, AllocError>
+/// Expects the close to be refused with `Unsettled` while a session's call is pending.
+fn unsettled(rt: &impl Abort, all: TakenApart) -> Result<TakenApart, AllocError>
     requires first { IsSessionOf all.office all.first }
     requires second { IsSessionOf all.office all.second }
     requires room { all.room.items ≡ [] }
@@ -198,7 +209,7 @@ fn unsettled(rt: &impl Abort, all: Apart) -> Result<Apart, AllocError>
     ensures second { IfOk result (λ back. IsSessionOf back.office back.second) }
     ensures room { IfOk result (λ back. back.room.items ≡ []) }
 {
-    let Apart {
+    let TakenApart {
         office,
         first,
         second,
@@ -210,7 +221,7 @@ fn unsettled(rt: &impl Abort, all: Apart) -> Result<Apart, AllocError>
     let second = room.pop().expect(rt, "session 2");
     let first = room.pop().expect(rt, "session 1");
     assert!(rt; first.number() == 1 && second.number() == 2);
-    Ok(Apart {
+    Ok(TakenApart {
         office,
         first,
         second,
@@ -218,13 +229,13 @@ fn unsettled(rt: &impl Abort, all: Apart) -> Result<Apart, AllocError>
     })
 }
 
-/// The session makes a pass that serves its begin, and the office is closed with its two sessions in either order.
-fn settled(rt: &impl Abort, all: Apart, turned: bool) -> Result<usize, AllocError>
+/// Serves the pending begin, and closes the office with its sessions in order, or in reverse order if `turned`.
+fn settled(rt: &impl Abort, all: TakenApart, turned: bool) -> Result<usize, AllocError>
     requires first { IsSessionOf all.office all.first }
     requires second { IsSessionOf all.office all.second }
     requires room { all.room.items ≡ [] }
 {
-    let Apart {
+    let TakenApart {
         office,
         mut first,
         second,
@@ -239,7 +250,8 @@ fn settled(rt: &impl Abort, all: Apart, turned: bool) -> Result<usize, AllocErro
     }
 }
 
-/// An office of two sessions isn't closed while one of them is missing or pending.
+/// Tries to close an office with a missing session, then with a pending call, and closes it at last. Returns the number of
+/// entries of its history.
 fn close_in_order(rt: &impl Abort, alloc: Global, turned: bool) -> Result<usize, Fail> {
     let (office, sessions) = new_office(alloc, 2)?;
     let mut all = missing(rt, office, sessions)?;
@@ -248,8 +260,12 @@ fn close_in_order(rt: &impl Abort, alloc: Global, turned: bool) -> Result<usize,
     Ok(settled(rt, all, turned)?)
 }
 
+/// A close without all sessions is `Missing`, and one with a pending call is `Unsettled`. Afterwards the close succeeds with
+/// the sessions in either order.
 #[test]
-fn an_office_closes_once_all_are_there_and_none_is_pending(rt: HostRuntime) -> Result<(), Fail> {
+fn an_office_closes_only_with_all_sessions_and_no_pending_call(
+    rt: HostRuntime,
+) -> Result<(), Fail> {
     assert_eq!(rt; CloseFault::Missing as u8, 1);
     assert_eq!(rt; CloseFault::Unsettled as u8, 2);
     assert_eq!(rt; close_in_order(&rt, rt.alloc(), false)?, 1);
@@ -257,8 +273,9 @@ fn an_office_closes_once_all_are_there_and_none_is_pending(rt: HostRuntime) -> R
     Ok(())
 }
 
+/// A dropped session keeps its office from being closed, however often it is tried.
 #[test]
-fn a_session_that_was_dropped_is_missing(rt: HostRuntime) -> Result<(), Fail> {
+fn an_office_does_not_close_without_a_dropped_session(rt: HostRuntime) -> Result<(), Fail> {
     let (office, mut sessions) = new_office(rt.alloc(), 2)?;
     drop(sessions.pop());
     let (office, sessions) = refused(&rt, office, sessions, CloseFault::Missing);
@@ -267,7 +284,7 @@ fn a_session_that_was_dropped_is_missing(rt: HostRuntime) -> Result<(), Fail> {
     Ok(())
 }
 
-/// Each session begins a transaction, and they come back in another order.
+/// Begins a transaction in each session, and returns the sessions in another order.
 fn begin_and_shuffle(
     alloc: Global,
     office: &Office,
@@ -290,6 +307,7 @@ fn begin_and_shuffle(
     Ok(shuffled)
 }
 
+/// The order of the sessions doesn't matter for a close.
 #[test]
 fn all_256_sessions_close_in_any_order(rt: HostRuntime) -> Result<(), Fail> {
     let (office, sessions) = Office::open(rt.alloc(), 256)?;

@@ -1,4 +1,5 @@
-//! Threads with sessions that hear one another at random.
+//! Threads with two sessions each, of which one hears the other at random.
+
 ghost use Rattle.std.specs.Prelude.{◌≡◌, true, All, IfOk};
 ghost use Rattle.combining.specs.Sessions.{IsSessionOf, IsIdle};
 
@@ -10,26 +11,29 @@ use std::process::Abort;
 use std::test::Fail;
 use std::thread;
 
-/// Two sessions that one thread has.
+/// The two sessions of a thread.
 #[derive(Drop)]
 struct Team {
+    /// The session with the lower number.
     first: Session,
+    /// The session with the higher number.
     second: Session,
 }
 
-/// What the sessions of a team were told.
+/// Counts over the answers of a team.
 #[derive(Drop)]
-struct Told {
-    // How many answers, and the sum of their places.
+struct Tally {
+    /// The number of answers.
     answers: u64,
+    /// The sum of the answers' places.
     places: u64,
-    // How often one session heard the other before it called, and how many of these answers stood behind what the other had
-    // seen.
+    /// The number of calls before which the session heard the other one.
     hears: u64,
+    /// The number of these calls whose place comes after all entries that the other session had seen.
     behind: u64,
 }
 
-/// The sessions, two by two.
+/// Returns up to eight pairs of sessions, from the end of the vector.
 fn teams_of(alloc: Global, office: &Office, sessions: Vec<Session>) -> Result<Vec<Team>, AllocError>
     requires ours { All (λ session. IsSessionOf office.now session × IsIdle session) sessions.items }
     ensures ours { IfOk result (λ teams. All (λ team. (IsSessionOf office.now team.first × IsIdle team.first) × IsSessionOf office.now team.second × IsIdle team.second) teams.items) }
@@ -48,13 +52,13 @@ fn teams_of(alloc: Global, office: &Office, sessions: Vec<Session>) -> Result<Ve
     Ok(teams)
 }
 
-/// One call of a session, which may hear the other first: false where it didn't come to an answer.
+/// Makes one call of a session, which hears the other one first if `hears`. Returns false if no answer came.
 fn call_once(
     office: &Office,
     session: &mut Session,
     other: &mut Session,
     hears: bool,
-    told: &mut Told,
+    tally: &mut Tally,
 ) -> bool
     requires ours { IsSessionOf office.now session.old × IsIdle session.old }
     requires other { IsSessionOf office.now other.old }
@@ -69,17 +73,17 @@ fn call_once(
     let Some(answer) = call(office, session, Call::Poll) else {
         return false;
     };
-    told.answers = told.answers.wrapping_add(1);
-    told.places = told.places.wrapping_add(answer.place);
+    tally.answers = tally.answers.wrapping_add(1);
+    tally.places = tally.places.wrapping_add(answer.place);
     if hears {
-        told.hears = told.hears.wrapping_add(1);
-        told.behind = told.behind.wrapping_add(u64::from(seen <= answer.place));
+        tally.hears = tally.hears.wrapping_add(1);
+        tally.behind = tally.behind.wrapping_add(u64::from(seen <= answer.place));
     }
     true
 }
 
-/// The sessions of a team call in a random order, and now and then one hears the other first.
-fn work(office: &Office, team: Team, calls: u64) -> Told
+/// Makes `calls` calls of the team's sessions in a random order; before a third of them the session hears the other one.
+fn work(office: &Office, team: Team, calls: u64) -> Tally
     requires first { IsSessionOf office.now team.first × IsIdle team.first }
     requires second { IsSessionOf office.now team.second × IsIdle team.second }
 {
@@ -88,7 +92,7 @@ fn work(office: &Office, team: Team, calls: u64) -> Told
         mut second,
     } = team;
     let mut random = Caller::polls(u64::from(first.number()));
-    let mut told = Told {
+    let mut tally = Tally {
         answers: 0,
         places: 0,
         hears: 0,
@@ -97,18 +101,20 @@ fn work(office: &Office, team: Team, calls: u64) -> Told
     for _call in 0..calls {
         let number = random.number();
         let hears = number % 3 == 0;
-        let is_told = if number % 2 == 0 {
-            call_once(office, &mut first, &mut second, hears, &mut told)
+        let is_answered = if number % 2 == 0 {
+            call_once(office, &mut first, &mut second, hears, &mut tally)
         } else {
-            call_once(office, &mut second, &mut first, hears, &mut told)
+            call_once(office, &mut second, &mut first, hears, &mut tally)
         };
-        if !is_told {
+        if !is_answered {
             break;
         }
     }
-    told
+    tally
 }
 
+/// The places of 4000 answers add up to the sum of 0 to 3999, and each call after a `hear` comes behind the entries that the
+/// other session had seen.
 #[test]
 fn eight_threads_hear(rt: HostRuntime) -> Result<(), Fail> {
     let (office, sessions) = Office::open(rt.alloc(), 16)?;
@@ -118,11 +124,11 @@ fn eight_threads_hear(rt: HostRuntime) -> Result<(), Fail> {
     let mut answers = 0u64;
     let mut places = 0u64;
     let mut hears = 0u64;
-    for told in all {
-        answers = answers.wrapping_add(told.answers);
-        places = places.wrapping_add(told.places);
-        hears = hears.wrapping_add(told.hears);
-        assert_eq!(rt; told.behind, told.hears);
+    for tally in all {
+        answers = answers.wrapping_add(tally.answers);
+        places = places.wrapping_add(tally.places);
+        hears = hears.wrapping_add(tally.hears);
+        assert_eq!(rt; tally.behind, tally.hears);
     }
     assert!(rt; answers == 4000 && places == 3999 * 2000 && hears > 1000);
     Ok(())

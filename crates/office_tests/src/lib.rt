@@ -1,8 +1,7 @@
-//! What boards and offices do, where no clause says it: examples by hand, each call once with success, and threads.
+//! Tests of boards and offices, for what no contract says: examples worked out by hand, each call once with success, and
+//! threads.
 #![tactic(auto)]
 
-#[cfg(test)]
-mod acts;
 #[cfg(test)]
 mod boards;
 #[cfg(test)]
@@ -13,3 +12,5 @@ mod hearing;
 mod listing;
 #[cfg(test)]
 mod offices;
+#[cfg(test)]
+mod steps;

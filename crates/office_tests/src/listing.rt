@@ -1,4 +1,4 @@
-//! The publication list: which call stands before which, as records come to the list and are taken off it.
+//! The publication list: the order in which a pass serves calls, as records are linked to the list and unlinked.
 
 ghost use Rattle.std.specs.Prelude.{◌≡◌, All, IfOk, IfSome};
 ghost use Rattle.publication.specs.Boards.{new_tickets};
@@ -10,11 +10,12 @@ use std::alloc::{AllocError, Global};
 use std::process::Abort;
 use std::test::Fail;
 
+/// Returns an answer.
 fn answer(place: u64, reply: Reply) -> Answer {
     Answer { place, reply }
 }
 
-/// The session publishes a call, and its record is on the list.
+/// Publishes a call, and expects the session's record to be on the list.
 fn publish(rt: &impl Abort, office: &Office, session: &mut Session, call: Call)
     requires ours { IsSessionOf office.now session.old × IsIdle session.old }
     ensures ours { IsSessionOf office.now session.new }
@@ -22,7 +23,7 @@ fn publish(rt: &impl Abort, office: &Office, session: &mut Session, call: Call)
     assert_eq!(rt; office.publish(session, call), Posted::Listed);
 }
 
-/// The session's own pass serves so many calls.
+/// Makes a pass, and expects it to serve this number of calls.
 fn pass(rt: &impl Abort, office: &Office, session: &mut Session, served: u32)
     requires ours { IsSessionOf office.now session.old }
     ensures ours { IsSessionOf office.now session.new }
@@ -34,7 +35,7 @@ fn pass(rt: &impl Abort, office: &Office, session: &mut Session, served: u32)
     assert_eq!(rt; office.serve(session), whole);
 }
 
-/// The session collects this answer.
+/// Expects the session to collect this answer.
 fn collect(rt: &impl Abort, office: &Office, session: &mut Session, place: u64, reply: Reply)
     requires ours { IsSessionOf office.now session.old }
     ensures ours { IsSessionOf office.now session.new × IsIdle session.new }
@@ -43,8 +44,8 @@ fn collect(rt: &impl Abort, office: &Office, session: &mut Session, place: u64, 
     assert_eq!(rt; found, answer(place, reply));
 }
 
-/// The session publishes a call, serves it alone, and collects this answer.
-fn ask(
+/// Publishes a call, serves it in a pass that serves no other, and expects this answer.
+fn call_alone(
     rt: &impl Abort,
     office: &Office,
     session: &mut Session,
@@ -60,13 +61,13 @@ fn ask(
     collect(rt, office, session, place, reply);
 }
 
-/// The session polls its transaction so many times, from this place of the history on.
+/// Polls `polls` times, and expects the places from `first` on.
 fn poll(rt: &impl Abort, office: &Office, session: &mut Session, first: u64, polls: u64)
     requires ours { IsSessionOf office.now session.old × IsIdle session.old }
     ensures ours { IsSessionOf office.now session.new × IsIdle session.new }
 {
     for polled in 0..polls {
-        ask(
+        call_alone(
             rt,
             office,
             session,
@@ -77,15 +78,18 @@ fn poll(rt: &impl Abort, office: &Office, session: &mut Session, first: u64, pol
     }
 }
 
-/// The sessions of an office of three.
+/// The three sessions of an office.
 #[derive(Drop)]
 struct Three {
+    /// Session 1.
     first: Session,
+    /// Session 2.
     second: Session,
+    /// Session 3.
     third: Session,
 }
 
-/// The sessions of an office, each of which has begun a transaction.
+/// Begins a transaction in each of three sessions, in order.
 fn three_begun(rt: &impl Abort, office: &Office, sessions: Vec<Session>) -> Three
     requires sessions { sessions.items ≡ new_tickets office.now.id 3 3 }
     requires ours { All (λ session. IsSessionOf office.now session × IsIdle session) sessions.items }
@@ -97,9 +101,9 @@ fn three_begun(rt: &impl Abort, office: &Office, sessions: Vec<Session>) -> Thre
     let mut third = sessions.pop().expect(rt, "session 3");
     let mut second = sessions.pop().expect(rt, "session 2");
     let mut first = sessions.pop().expect(rt, "session 1");
-    ask(rt, office, &mut first, Call::Begin, 0, Reply::Began(1));
-    ask(rt, office, &mut second, Call::Begin, 1, Reply::Began(2));
-    ask(rt, office, &mut third, Call::Begin, 2, Reply::Began(3));
+    call_alone(rt, office, &mut first, Call::Begin, 0, Reply::Began(1));
+    call_alone(rt, office, &mut second, Call::Begin, 1, Reply::Began(2));
+    call_alone(rt, office, &mut third, Call::Begin, 2, Reply::Began(3));
     Three {
         first,
         second,
@@ -107,15 +111,17 @@ fn three_begun(rt: &impl Abort, office: &Office, sessions: Vec<Session>) -> Thre
     }
 }
 
+/// Records 1 and 2 are unlinked after 128 passes, and record 1 is linked again by the next call: the record linked last is
+/// served first.
 #[test]
-fn idle_records_are_taken_off_the_list(rt: HostRuntime) -> Result<(), Fail> {
+fn idle_records_are_unlinked(rt: HostRuntime) -> Result<(), Fail> {
     let (office, sessions) = Office::open(rt.alloc(), 3)?;
     let Three {
         mut first,
         second: _second,
         mut third,
     } = three_begun(&rt, &office, sessions);
-    // passes 4 to 128: at the last one records 2 and 1 are taken off, 126 and 127 passes behind
+    // passes 4 to 128; the last one unlinks records 2 and 1, which were served 126 and 127 passes ago
     poll(&rt, &office, &mut third, 3, 125);
     publish(&rt, &office, &mut first, Call::Poll);
     publish(&rt, &office, &mut third, Call::Poll);
@@ -125,7 +131,7 @@ fn idle_records_are_taken_off_the_list(rt: HostRuntime) -> Result<(), Fail> {
     Ok(())
 }
 
-/// Both sessions poll, and a pass of the later one serves both, of which it collects its own answer.
+/// Polls in both sessions, serves both in a pass of session 3, and collects only its answer.
 fn leave_an_answer(rt: &impl Abort, office: &Office, second: &mut Session, third: &mut Session)
     requires second { IsSessionOf office.now second.old × IsIdle second.old }
     requires third { IsSessionOf office.now third.old × IsIdle third.old }
@@ -138,7 +144,7 @@ fn leave_an_answer(rt: &impl Abort, office: &Office, second: &mut Session, third
     collect(rt, office, third, 3, Reply::Clear);
 }
 
-/// All three poll, and a pass of session 3 serves them: record 1 was linked after the others.
+/// Polls in all three sessions, and expects a pass to serve record 1 first, which was linked last.
 fn poll_with_the_last_first(
     rt: &impl Abort,
     office: &Office,
@@ -159,6 +165,7 @@ fn poll_with_the_last_first(
     collect(rt, office, second, 131, Reply::Clear);
 }
 
+/// A record whose answer isn't collected keeps its place when unused records are unlinked.
 #[test]
 fn a_record_whose_answer_is_not_collected_stays_on_the_list(rt: HostRuntime) -> Result<(), Fail> {
     let (office, sessions) = Office::open(rt.alloc(), 3)?;
@@ -168,14 +175,14 @@ fn a_record_whose_answer_is_not_collected_stays_on_the_list(rt: HostRuntime) -> 
         mut third,
     } = three_begun(&rt, &office, sessions);
     leave_an_answer(&rt, &office, &mut second, &mut third);
-    // passes 5 to 128: at the last one record 1 is taken off, and record 2 is linked again
+    // passes 5 to 128; the last one unlinks record 1, and puts record 2 back in its place
     poll(&rt, &office, &mut third, 5, 124);
     collect(&rt, &office, &mut second, 4, Reply::Clear);
     poll_with_the_last_first(&rt, &office, &mut first, &mut second, &mut third);
     Ok(())
 }
 
-/// One round: each session polls once, without a transaction.
+/// Polls once in each session, without a transaction, from place `first` on.
 fn round(
     rt: &impl Abort,
     alloc: Global,
@@ -191,14 +198,14 @@ fn round(
     for session in sessions {
         let mut session = session;
         let refused = Reply::Refused(Why::NoTransaction);
-        ask(rt, office, &mut session, Call::Poll, place, refused);
+        call_alone(rt, office, &mut session, Call::Poll, place, refused);
         place = place.wrapping_add(1);
         back.push(session)?;
     }
     Ok(back)
 }
 
-/// So many rounds.
+/// Makes `count` rounds over 64 sessions.
 fn rounds(
     rt: &impl Abort,
     alloc: Global,
@@ -216,6 +223,7 @@ fn rounds(
     Ok(back)
 }
 
+/// Sessions that come and go on the list are served in every round, and the history has all their calls.
 #[test]
 fn sixty_four_sessions_poll_in_turn(rt: HostRuntime) -> Result<(), Fail> {
     let (office, sessions) = Office::open(rt.alloc(), 64)?;

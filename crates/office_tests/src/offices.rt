@@ -1,11 +1,12 @@
-//! What no clause says of an office: which calls a pass serves and in which order, and that one history has all answers,
-//! whatever the threads do. A call that finds no memory is made again, so that the tests without threads may also be run
-//! with each of their allocations refused in turn.
+//! What no contract says of an office: which calls a pass serves and in which order, and that one history has all answers of
+//! many threads. A call that is refused memory is made a second time, so that the tests without threads also pass if any one
+//! of their allocations is refused.
+
 ghost use Rattle.std.specs.Prelude.{◌≡◌, All, IfOk, IfSome};
 ghost use Rattle.publication.specs.Boards.{new_tickets};
 ghost use Rattle.combining.specs.Sessions.{IsSessionOf, IsIdle};
 
-use crate::acts::{Act, perform_in_office};
+use crate::steps::{Step, perform_in_office};
 use combining::{Answer, Office, OpenFault, Posted, Session, Turn};
 use lock_desk::{Book, Call, Mode, NoMemory, Reply, Resource, Why};
 use std::alloc::{AllocError, Global};
@@ -14,13 +15,16 @@ use std::test::Fail;
 use std::thread;
 use std::thread::Threads;
 
+/// The greatest number of tries for one answer.
 const TURNS: u64 = 1_000_000_000;
 
+/// Returns the database with this number.
 fn database(number: u32) -> Result<Resource, Fail> {
     let resource = Resource::from_numbers(&[number]).ok_or("no resource")?;
     Ok(resource)
 }
 
+/// Opens an office. Tries a second time if memory is refused.
 pub(crate) fn new_office(alloc: Global, sessions: u16) -> Result<(Office, Vec<Session>), OpenFault>
     ensures sessions { IfOk result (λ made. made.1.items ≡ new_tickets made.0.id sessions sessions) }
     ensures ready { IfOk result (λ made. All (λ session. IsSessionOf made.0 session × IsIdle session) made.1.items) }
@@ -31,7 +35,7 @@ pub(crate) fn new_office(alloc: Global, sessions: u16) -> Result<(Office, Vec<Se
     }
 }
 
-/// A pass, and once more where memory was refused for a call: how many calls it served.
+/// Makes a pass, and a second one if memory is refused for a call. Returns the number of served calls.
 pub(crate) fn served_by(rt: &impl Abort, office: &Office, session: &mut Session) -> u32
     requires ours { IsSessionOf office.now session.old }
     ensures ours { IsSessionOf office.now session.new }
@@ -59,7 +63,13 @@ pub(crate) fn served_by(rt: &impl Abort, office: &Office, session: &mut Session)
     }
 }
 
-pub(crate) fn ask(rt: &impl Abort, office: &Office, session: &mut Session, call: Call) -> Answer
+/// Publishes a call, serves it in a pass that serves no other, and returns its answer.
+pub(crate) fn call_alone(
+    rt: &impl Abort,
+    office: &Office,
+    session: &mut Session,
+    call: Call,
+) -> Answer
     requires ours { IsSessionOf office.now session.old × IsIdle session.old }
     ensures ours { IsSessionOf office.now session.new × IsIdle session.new }
 {
@@ -69,11 +79,12 @@ pub(crate) fn ask(rt: &impl Abort, office: &Office, session: &mut Session, call:
     office.collect(session).expect(rt, "an answer")
 }
 
+/// Returns an answer.
 pub(crate) fn answer(place: u64, reply: Reply) -> Answer {
     Answer { place, reply }
 }
 
-/// Wants the sessions to be numbered from 1 on, idle, and to know nothing of the history.
+/// Expects the sessions to be numbered from 1, idle, and to have seen no entry of the history.
 fn want_fresh(rt: &impl Abort, sessions: &[Session]) {
     for (at, session) in sessions.iter().enumerate() {
         assert_eq!(rt; usize::from(session.number()), at + 1);
@@ -81,6 +92,7 @@ fn want_fresh(rt: &impl Abort, sessions: &[Session]) {
     }
 }
 
+/// 0 and 257 sessions are refused, and 256 are opened.
 #[test]
 fn an_office_is_opened_for_1_to_256_sessions(rt: HostRuntime) -> Result<(), Fail> {
     assert_eq!(rt; OpenFault::NoSessions as u8, 1);
@@ -93,21 +105,22 @@ fn an_office_is_opened_for_1_to_256_sessions(rt: HostRuntime) -> Result<(), Fail
     Ok(())
 }
 
+/// Session 2's pass serves the call of session 1, and both have then seen its entry.
 #[test]
 fn the_combiner_serves_what_another_session_published(rt: HostRuntime) -> Result<(), Fail> {
-    let acts = [
-        (1, Act::Publishes(Call::Begin)),
-        (1, Act::Waits),
-        (2, Act::Serves(1)),
-        (1, Act::Collects(0, Reply::Began(1))),
-        (1, Act::Rests),
-        (1, Act::HasSeen(1)),
-        (2, Act::HasSeen(1)),
+    let steps = [
+        (1, Step::Publishes(Call::Begin)),
+        (1, Step::IsPending),
+        (2, Step::Serves(1)),
+        (1, Step::Collects(0, Reply::Began(1))),
+        (1, Step::IsIdle),
+        (1, Step::HasSeen(1)),
+        (2, Step::HasSeen(1)),
     ];
-    perform_in_office(&rt, rt.alloc(), 2, &acts)
+    perform_in_office(&rt, rt.alloc(), 2, &steps)
 }
 
-/// A pass that serves so many calls.
+/// The result of a pass that serves this number of calls and finds memory for all.
 fn pass(served: u32) -> Turn {
     Turn::Pass {
         served,
@@ -115,7 +128,7 @@ fn pass(served: u32) -> Turn {
     }
 }
 
-/// The session begins a transaction, and makes a pass: whether it was starved, and then there is no answer yet.
+/// Publishes a begin and makes a pass. Returns whether the pass was starved; there is no answer then.
 fn begin_is_starved(rt: &impl Abort, office: &Office, only: &mut Session) -> bool
     requires ours { IsSessionOf office.now only.old × IsIdle only.old }
     ensures ours { IsSessionOf office.now only.new }
@@ -134,7 +147,7 @@ fn begin_is_starved(rt: &impl Abort, office: &Office, only: &mut Session) -> boo
     false
 }
 
-/// The session collects that it began transaction 1, and a pass more has nothing to serve.
+/// Expects the answer that transaction 1 began, and nothing to serve in a further pass.
 fn collect_begun(rt: &impl Abort, office: &Office, only: &mut Session)
     requires ours { IsSessionOf office.now only.old }
 {
@@ -142,6 +155,8 @@ fn collect_begun(rt: &impl Abort, office: &Office, only: &mut Session)
     assert_eq!(rt; office.serve(only), pass(0));
 }
 
+/// A starved pass leaves the call pending, and the next pass serves it. Prints a line if the pass was starved, for the check
+/// that refuses each allocation in turn.
 #[test]
 fn a_call_that_found_no_memory_is_served_by_the_next_pass(rt: HostRuntime) -> Result<(), Fail> {
     let (office, mut sessions) = new_office(rt.alloc(), 1)?;
@@ -154,28 +169,30 @@ fn a_call_that_found_no_memory_is_served_by_the_next_pass(rt: HostRuntime) -> Re
     Ok(())
 }
 
+/// In one pass a commit is served before a lock that was published earlier, so that the lock is granted at once.
 #[test]
-fn locks_are_given_back_before_others_are_asked_for(rt: HostRuntime) -> Result<(), Fail> {
+fn a_pass_serves_a_commit_before_an_earlier_lock(rt: HostRuntime) -> Result<(), Fail> {
     let one = database(1)?;
-    let acts = [
-        (1, Act::Asks(Call::Begin, 0, Reply::Began(1))),
-        (2, Act::Asks(Call::Begin, 1, Reply::Began(2))),
-        (3, Act::Asks(Call::Begin, 2, Reply::Began(3))),
+    let steps = [
+        (1, Step::CallsAlone(Call::Begin, 0, Reply::Began(1))),
+        (2, Step::CallsAlone(Call::Begin, 1, Reply::Began(2))),
+        (3, Step::CallsAlone(Call::Begin, 2, Reply::Began(3))),
         (
             1,
-            Act::Asks(Call::Lock(one, Mode::X), 3, Reply::Granted(Mode::X)),
+            Step::CallsAlone(Call::Lock(one, Mode::X), 3, Reply::Granted(Mode::X)),
         ),
-        (2, Act::Publishes(Call::Lock(one, Mode::S))),
-        (1, Act::Publishes(Call::Commit)),
-        (3, Act::Serves(2)),
-        (1, Act::Collects(4, Reply::Committed(1))),
-        (2, Act::Collects(5, Reply::Granted(Mode::S))),
+        (2, Step::Publishes(Call::Lock(one, Mode::S))),
+        (1, Step::Publishes(Call::Commit)),
+        (3, Step::Serves(2)),
+        (1, Step::Collects(4, Reply::Committed(1))),
+        (2, Step::Collects(5, Reply::Granted(Mode::S))),
     ];
-    perform_in_office(&rt, rt.alloc(), 3, &acts)
+    perform_in_office(&rt, rt.alloc(), 3, &steps)
 }
 
-/// A pass serves this call of session 2, which holds a database, before those that stand before it on the list.
-fn gives_back_first(
+/// Expects a pass to serve the call `giver` of session 2, which holds the database, before calls that are ahead of it on the
+/// list.
+fn serves_freeing_call_first(
     rt: &impl Abort,
     alloc: Global,
     one: Resource,
@@ -183,56 +200,61 @@ fn gives_back_first(
     reply: Reply,
 ) -> Result<(), Fail> {
     let refused = Reply::Refused(Why::NoTransaction);
-    let acts = [
-        (1, Act::Asks(Call::Begin, 0, Reply::Began(1))),
-        (2, Act::Asks(Call::Begin, 1, Reply::Began(2))),
+    let steps = [
+        (1, Step::CallsAlone(Call::Begin, 0, Reply::Began(1))),
+        (2, Step::CallsAlone(Call::Begin, 1, Reply::Began(2))),
         (
             2,
-            Act::Asks(Call::Lock(one, Mode::X), 2, Reply::Granted(Mode::X)),
+            Step::CallsAlone(Call::Lock(one, Mode::X), 2, Reply::Granted(Mode::X)),
         ),
-        (1, Act::Publishes(Call::Lock(one, Mode::S))),
-        (2, Act::Publishes(giver)),
-        (3, Act::Publishes(Call::Poll)),
-        (4, Act::Publishes(Call::Commit)),
-        (3, Act::Serves(4)),
-        // the publication list is 4, 3, 2, 1
-        (4, Act::Collects(3, refused)),
-        (2, Act::Collects(4, reply)),
-        (3, Act::Collects(5, refused)),
-        (1, Act::Collects(6, Reply::Granted(Mode::S))),
+        (1, Step::Publishes(Call::Lock(one, Mode::S))),
+        (2, Step::Publishes(giver)),
+        (3, Step::Publishes(Call::Poll)),
+        (4, Step::Publishes(Call::Commit)),
+        (3, Step::Serves(4)),
+        // the publication list has records 4, 3, 2, 1; the pass serves commits, aborts and releases first
+        (4, Step::Collects(3, refused)),
+        (2, Step::Collects(4, reply)),
+        (3, Step::Collects(5, refused)),
+        (1, Step::Collects(6, Reply::Granted(Mode::S))),
     ];
-    perform_in_office(rt, alloc, 4, &acts)
+    perform_in_office(rt, alloc, 4, &steps)
 }
 
+/// Commits, aborts and releases are served before all other calls of the pass.
 #[test]
-fn a_pass_serves_what_gives_locks_back_first(rt: HostRuntime) -> Result<(), Fail> {
+fn a_pass_serves_calls_that_free_locks_first(rt: HostRuntime) -> Result<(), Fail> {
     let one = database(1)?;
     for (giver, reply) in [
         (Call::Commit, Reply::Committed(1)),
         (Call::Abort, Reply::Aborted(1)),
         (Call::Release(one), Reply::Released),
     ] {
-        gives_back_first(&rt, rt.alloc(), one, giver, reply)?;
+        serves_freeing_call_first(&rt, rt.alloc(), one, giver, reply)?;
     }
     Ok(())
 }
 
-/// What the sessions of a test with threads call.
+/// The calls of the sessions in a test with threads.
 #[derive(Clone, Copy)]
 enum Load {
+    /// Polls alone, without transactions.
     Polls,
+    /// Random calls: begins, locks, polls, commits and aborts.
     Transactions,
 }
 
-/// The calls of one session, by a sequence of numbers that its seed fixes.
+/// A generator of the calls of one session, by pseudorandom numbers.
 #[derive(Drop)]
 pub(crate) struct Caller {
+    /// The kind of calls.
     load: Load,
+    /// The state of the pseudorandom numbers.
     state: u64,
 }
 
 impl Caller {
-    /// One that polls alone.
+    /// Returns a generator of polls.
     pub(crate) fn polls(seed: u64) -> Caller {
         Caller {
             load: Load::Polls,
@@ -240,7 +262,7 @@ impl Caller {
         }
     }
 
-    /// A number below 2^31.
+    /// Returns the next pseudorandom number, below 2^31.
     pub(crate) fn number(&mut self) -> u64 {
         self.state = self
             .state
@@ -249,7 +271,7 @@ impl Caller {
         self.state >> 33
     }
 
-    /// The next call: polls alone, or begins, locks on three databases, polls, commits and aborts.
+    /// Returns the next call; locks are on three databases in X or S.
     fn next(&mut self) -> Option<Call> {
         let Load::Transactions = self.load else {
             return Some(Call::Poll);
@@ -275,12 +297,17 @@ impl Caller {
 /// A call with its answer.
 #[derive(Clone, Copy)]
 struct Answered {
+    /// The place of the call in the history.
     place: u64,
+    /// The session's number.
     session: u16,
+    /// The call.
     call: Call,
+    /// The reply.
     reply: Reply,
 }
 
+/// Returns a call with its answer.
 fn with_answer(session: u16, call: Call, answer: Answer) -> Answered {
     Answered {
         place: answer.place,
@@ -290,7 +317,7 @@ fn with_answer(session: u16, call: Call, answer: Answer) -> Answered {
     }
 }
 
-/// Publishes a call, and tries to serve and to collect until the answer is there.
+/// Publishes a call, and serves and collects until the answer is there. Returns `None` after `TURNS` tries.
 pub(crate) fn call(office: &Office, session: &mut Session, call: Call) -> Option<Answer>
     requires ours { IsSessionOf office.now session.old × IsIdle session.old }
     ensures ours { IsSessionOf office.now session.new }
@@ -308,7 +335,8 @@ pub(crate) fn call(office: &Office, session: &mut Session, call: Call) -> Option
     None
 }
 
-/// Makes as many calls, one after another. Fewer answers where one didn't come, or was refused memory.
+/// Makes `calls` calls, one after another, and returns them with their answers. Stops early if an answer doesn't come. Fails
+/// if memory is refused to the list.
 fn work(
     alloc: Global,
     office: &Office,
@@ -338,7 +366,7 @@ fn work(
     Ok(all)
 }
 
-/// The answers of all threads in the order of their places, each of which is there once.
+/// Returns the answers of all threads by place, and expects each place from 0 on once.
 fn in_order(
     rt: &impl Abort,
     alloc: Global,
@@ -357,8 +385,7 @@ fn in_order(
     Ok(all)
 }
 
-/// So many threads with a session each make as many calls: the answers in the order of their places, each of which is there
-/// once.
+/// Makes `calls` calls in each of `threads` threads with one session each, and returns all answers by place.
 fn history_of_threads<R: Threads + Abort + Sync>(
     rt: &R,
     alloc: Global,
@@ -376,7 +403,7 @@ fn history_of_threads<R: Threads + Abort + Sync>(
     Ok(in_order(rt, alloc, worked)?)
 }
 
-/// Wants each of so many polls to be refused.
+/// Expects this number of answers, each a refused poll.
 fn want_refused_polls(rt: &impl Abort, history: &[Answered], polls: usize) {
     assert_eq!(rt; history.len(), polls);
     for answered in history {
@@ -384,6 +411,7 @@ fn want_refused_polls(rt: &impl Abort, history: &[Answered], polls: usize) {
     }
 }
 
+/// 8,000 polls of eight threads get 8,000 places, each once.
 #[test]
 fn eight_threads_poll(rt: HostRuntime) -> Result<(), Fail> {
     let history = history_of_threads(&rt, rt.alloc(), 8, Load::Polls, 1000)?;
@@ -391,6 +419,7 @@ fn eight_threads_poll(rt: HostRuntime) -> Result<(), Fail> {
     Ok(())
 }
 
+/// 12,800 polls of 64 threads get 12,800 places, each once.
 #[test]
 fn sixty_four_threads_poll(rt: HostRuntime) -> Result<(), Fail> {
     let history = history_of_threads(&rt, rt.alloc(), 64, Load::Polls, 200)?;
@@ -398,15 +427,15 @@ fn sixty_four_threads_poll(rt: HostRuntime) -> Result<(), Fail> {
     Ok(())
 }
 
-/// What the book answers to a session that it has.
+/// Serves a call of one of the book's sessions.
 fn serve(rt: &impl Abort, book: &mut Book, session: u16, call: Call) -> Result<Reply, NoMemory> {
     assert!(rt; session >= 1);
     assert!(rt; session <= book.sessions());
     book.serve(session, call)
 }
 
-/// Wants the book to give the same replies.
-fn want_told_by(rt: &impl Abort, book: &mut Book, history: &[Answered]) -> Result<(), NoMemory> {
+/// Serves the calls by place in the book, and expects the replies that the threads got.
+fn want_replies_of(rt: &impl Abort, book: &mut Book, history: &[Answered]) -> Result<(), NoMemory> {
     for answered in history {
         let reply = serve(rt, book, answered.session, answered.call)?;
         assert_eq!(rt; reply, answered.reply);
@@ -414,20 +443,21 @@ fn want_told_by(rt: &impl Abort, book: &mut Book, history: &[Answered]) -> Resul
     Ok(())
 }
 
-/// Wants a fresh book to give the same replies.
-fn want_told_by_a_book(
+/// Serves the calls by place in a fresh book, and expects the replies that the threads got.
+fn want_replies_of_a_fresh_book(
     rt: &impl Abort,
     alloc: Global,
     history: &[Answered],
 ) -> Result<(), NoMemory> {
     let mut book = Book::new(alloc, 8)?;
-    want_told_by(rt, &mut book, history)
+    want_replies_of(rt, &mut book, history)
 }
 
+/// The answers of eight threads, in the order of their places, are those of one book that serves the calls in this order.
 #[test]
-fn eight_threads_are_told_what_one_book_tells(rt: HostRuntime) -> Result<(), Fail> {
+fn eight_threads_get_the_replies_of_one_book(rt: HostRuntime) -> Result<(), Fail> {
     let history = history_of_threads(&rt, rt.alloc(), 8, Load::Transactions, 1000)?;
     assert_eq!(rt; history.len(), 8000);
-    want_told_by_a_book(&rt, rt.alloc(), &history)?;
+    want_replies_of_a_fresh_book(&rt, rt.alloc(), &history)?;
     Ok(())
 }

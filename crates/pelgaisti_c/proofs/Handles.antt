@@ -1,20 +1,20 @@
--- Handles and workers, one after another.
+-- Lists of handles, shares and sessions.
 use Rattle.std.proofs.Common.{◌≡◌, ℕ, zero, suc, ◌+◌, ◌<◌, List, [], ◌∷◌, ◌++◌, length, map, drop, set, refl, sym, ap, ◌∙◌, arith}
 use Rattle.std.proofs.lemmas.List.{length-append}
 use Rattle.std.specs.Prelude.{Bool, true, false, ◌||◌, ◌==◌}
 use Rattle.atomic_table.specs.Seated.{TableId}
 use Rattle.publication.specs.Boards.{new_ticket, new_tickets}
-use Rattle.publication.specs.Views.{Known}
-use Rattle.pelgaisti_c.specs.Offices.{has_number}
+use Rattle.publication.specs.Views.{TicketView}
+use Rattle.pelgaisti_c.specs.inner.SessionNumbers.{has_number}
 
--- there are as many new sessions as were asked for
+-- the list of k new sessions has length k
 pub new_tickets_count : (id : TableId) (sessions k : ℕ) → length (new_tickets id sessions k) ≡ k
 new_tickets_count id sessions zero = refl
 new_tickets_count id sessions (suc k) =
     length-append (new_tickets id sessions k) (new_ticket id sessions (suc k) ∷ []) ∙ (ap (λ n. n + 1) (new_tickets_count id sessions k) ∙ omega arith)
 
--- a number is among some sessions and one more, where it is among the others, or is this one's
-pub has_number_last : (n : ℕ) (xs : List Known) (x : Known) → has_number n (xs ++ x ∷ []) ≡ has_number n xs || (x.number == n)
+-- a number is in a list with one more session if it is in the list or is the number of that session
+pub has_number_last : (n : ℕ) (xs : List TicketView) (x : TicketView) → has_number n (xs ++ x ∷ []) ≡ has_number n xs || (x.number == n)
 has_number_last n [] x = or_false (x.number == n)
   where
     or_false : (b : Bool) → b || false ≡ false || b
@@ -26,10 +26,10 @@ has_number_last n (y ∷ ys) x = ap (λ b. (y.number == n) || b) (has_number_las
     or_assoc true b c = refl
     or_assoc false b c = refl
 
--- the last of some workers goes into the handle at their end
-pub seat_next : {A B C : Type 0} (f : A → C) (g : B → C) (ws : List A) (w : A) (hs : List B) (h : B) → length ws < length hs → f w ≡ g h
+-- after the last share of a list is written to the handle at its index, the written part is one handle longer
+pub next_opened : {A B C : Type 0} (f : A → C) (g : B → C) (ws : List A) (w : A) (hs : List B) (h : B) → length ws < length hs → f w ≡ g h
     → map f ws ++ map g (drop (length ws) (set hs (length ws) h)) ≡ map f (ws ++ w ∷ []) ++ map g (drop (length (ws ++ w ∷ [])) hs)
-seat_next f g [] w [] h few is = absurd (omega (arith, few))
-seat_next f g [] w (y ∷ ys) h few is = ap (λ c. c ∷ map g ys) (sym is)
-seat_next f g (x ∷ xs) w [] h few is = absurd (omega (arith, few))
-seat_next f g (x ∷ xs) w (y ∷ ys) h few is = ap (λ l. f x ∷ l) (seat_next f g xs w ys h (omega (arith, few)) is)
+next_opened f g [] w [] h few is = absurd (omega (arith, few))
+next_opened f g [] w (y ∷ ys) h few is = ap (λ c. c ∷ map g ys) (sym is)
+next_opened f g (x ∷ xs) w [] h few is = absurd (omega (arith, few))
+next_opened f g (x ∷ xs) w (y ∷ ys) h few is = ap (λ l. f x ∷ l) (next_opened f g xs w ys h (omega (arith, few)) is)

@@ -1,4 +1,4 @@
--- What a handle holds: that there is a value, and that it may go to another thread.
+-- Facts about the value at a handle's pointer.
 use Rattle.std.proofs.Common.{◌≡◌, Option, Some, None, IsSome, refl}
 use base.Shift.{Keyless}
 use mir.Raw.{raw}
@@ -9,13 +9,15 @@ use denote.RawPtr.{Ptr}
 use Rattle.std.proofs.Crossing as heap
 use Rattle.std_alloc.proofs.SendSync.{lies}
 use Rattle.std.specs.declared.alloc.Global.{Global}
-use Rattle.pelgaisti_c.specs.Held.{box_at}
+use Rattle.std.specs.contracts.impls.GlobalAllocator.TheImpl.{ghosts}
+use Rattle.pelgaisti_c.specs.inner.Held.{box_at}
 
--- an option that is full has a value
+-- a full option has a value
 pub value_in : {X : Type 0} (o : Option X) → IsSome o → (x : X) × (o ≡ Some x)
 value_in None full = absurd (cc full)
 value_in (Some x) full = (x, refl)
 
-pub box_keyless : (R : RattleType) → IsSend R → (alloc : Global) (p : Ptr) (o : Option R.Denot) → Keyless (box_at R alloc p o)
+-- what a pointer owns may go to another thread if its type may
+pub box_keyless : (R : RattleType) → IsSend R → (alloc : Global) (p : Ptr) (o : Option R.Denot) → Keyless (box_at (ghosts.dealloc_token alloc) R p o)
 box_keyless R sent alloc p None = tt
 box_keyless R sent alloc p (Some x) = (lies R sent p x, heap.frees.frees alloc (raw (lone R.mir)) p)

@@ -1,8 +1,8 @@
--- Numbers are written into an array, one place after another.
+-- Writing numbers to an array, one element at a time.
 use Rattle.std.proofs.Common.{◌≡◌, ℕ, zero, suc, ◌<◌, List, [], ◌∷◌, length, get_or, set, refl, ap, arith}
 use Rattle.pelgaisti_c.specs.Calls.{written}
 
--- one place more
+-- writing the element at index k makes the written part one element longer
 pub next_written : {X Y : Type 0} (numbers : X → Y) (k : ℕ) (items : List X) (places : List Y) (d : X) → k < length items → k < length places
     → set (written numbers k items places) k (numbers (get_or items k d)) ≡ written numbers (suc k) items places
 next_written numbers k [] places d h l = absurd (omega (arith, h))

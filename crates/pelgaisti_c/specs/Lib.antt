@@ -1,6 +1,7 @@
-pub mod Held
-pub mod HeldWorkers
+-- what the exports speak of
 pub mod Numbers
 pub mod Calls
 pub mod Sessions
 pub mod Offices
+-- what only private items speak of
+pub mod inner

@@ -1,4 +1,4 @@
--- The numbers by which C tells calls and replies.
+-- Calls, replies and entries as the numbers of C's structs.
 use Rattle.std.specs.Prelude.{◌≡◌, ℕ, ◌-◌, ◌≤◌, ◌⊎◌, List, ◌++◌, length, take, replicate}
 use Rattle.lock_modes.specs.declared.Mode.{Mode}
 use Rattle.lock_modes.specs.Codes.{code_of}
@@ -17,32 +17,32 @@ use Rattle.pelgaisti_c.specs.declared.numbers.EntryNumbers.{EntryNumbers}
 use Rattle.pelgaisti_c.specs.declared.numbers.HolderNumbers.{HolderNumbers}
 use Rattle.pelgaisti_c.specs.declared.status.TheConstants.{NO_SUCH_OP, NO_SUCH_LEVEL, NO_SUCH_MODE}
 
--- Calls.
-
--- the ops, and those of them that name a resource, and a mode
+-- the number of a kind of call
 abbrev pub IsOp : ℕ → Type 0
 IsOp op = (1 ≤ op) × (op ≤ 7)
 
+-- a lock or a conversion, which have a mode
 abbrev pub HasMode : ℕ → Type 0
 HasMode op = (op ≡ 2) ⊎ (op ≡ 3)
 
+-- a lock, a conversion or a release, which have a resource
 abbrev pub HasResource : ℕ → Type 0
 HasResource op = (op ≡ 2) ⊎ ((op ≡ 3) ⊎ (op ≡ 5))
 
--- the levels of resources
+-- a level of the lock tree
 abbrev pub IsLevel : ℕ → Type 0
 IsLevel level = (1 ≤ level) × (level ≤ LEVELS)
 
--- the codes of modes
+-- the code of a mode
 abbrev pub IsModeCode : ℕ → Type 0
 IsModeCode code = (mode : Mode) × (code ≡ code_of mode)
 
--- the resource of the first numbers, as many as the level says
+-- the resource whose path is the first `level` numbers
 pub record IsPath (p : ResourceNumbers) (r : List ℕ) : Type 0 where
   pub level : IsLevel p.level
   pub front : r ≡ take p.level p.numbers
 
--- the call that the numbers stand for
+-- the call that the numbers encode
 abbrev pub IsCall : CallNumbers → Call → Type 0
 IsCall c Begin = c.op ≡ 1
 IsCall c (Lock r mode) = (c.op ≡ 2) × IsPath c.resource r × (c.mode ≡ code_of mode)
@@ -52,16 +52,14 @@ IsCall c (Release r) = (c.op ≡ 5) × IsPath c.resource r
 IsCall c Commit = c.op ≡ 6
 IsCall c Abort = c.op ≡ 7
 
--- why the numbers stand for no call: the first test that fails
+-- the status for numbers that encode no call: that of the first test that fails
 pub record IsCallFault (c : CallNumbers) (fault : ℕ) : Type 0 where
   pub known : (NO_SUCH_OP ≤ fault) × (fault ≤ NO_SUCH_MODE)
   pub op : fault ≡ NO_SUCH_OP → ¬ (IsOp c.op)
   pub level : fault ≡ NO_SUCH_LEVEL → HasResource c.op × ¬ (IsLevel c.resource.level)
   pub mode : fault ≡ NO_SUCH_MODE → HasMode c.op × IsLevel c.resource.level × ¬ (IsModeCode c.mode)
 
--- Replies.
-
--- the tests of a call, by their order
+-- the number of a refusal's reason, in the order of the tests
 abbrev pub why_of : Why → ℕ
 why_of AlreadyOpen = 1
 why_of NoTransaction = 2
@@ -73,6 +71,7 @@ why_of ParentNotHeld = 7
 why_of ChildHeld = 8
 why_of TooManyLocks = 9
 
+-- the number of a reply's kind
 abbrev pub kind_of : Reply → ℕ
 kind_of (Began n) = 1
 kind_of (Granted m) = 2
@@ -84,7 +83,7 @@ kind_of (Committed n) = 7
 kind_of (Aborted n) = 8
 kind_of (Refused w) = 9
 
--- the number of the transaction, the code of the mode that is held, how many locks were given back, or why
+-- the value of a reply: the transaction's number, the code of the mode held, the count of locks released, or the refusal's reason; otherwise 0
 abbrev pub value_of : Reply → ℕ
 value_of (Began n) = n
 value_of (Granted m) = code_of m
@@ -96,20 +95,19 @@ value_of (Committed n) = n
 value_of (Aborted n) = n
 value_of (Refused w) = why_of w
 
--- What is written.
-
--- the level, and the numbers with 0 in each place past them
+-- the numbers of a resource: its level, and its path padded with 0
 abbrev pub place_of : List ℕ → ResourceNumbers
 place_of r = record { level = length r; numbers = r ++ replicate (LEVELS - length r) 0 }
 
--- what a call without a resource has in its place
+-- the resource field of a call that has no resource
 abbrev pub nowhere : ResourceNumbers
 nowhere = record { level = 0; numbers = replicate LEVELS 0 }
 
+-- a call's struct
 abbrev pub call_numbers : ℕ → ℕ → ResourceNumbers → CallNumbers
 call_numbers op mode resource = record { op = op; mode = mode; resource = resource }
 
--- the numbers of a call: one without a mode has 0
+-- the numbers of a call; a call without a mode has mode 0
 abbrev pub numbers_of_call : Call → CallNumbers
 numbers_of_call Begin = call_numbers 1 0 nowhere
 numbers_of_call (Lock r mode) = call_numbers 2 (code_of mode) (place_of r)

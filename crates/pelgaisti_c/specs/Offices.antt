@@ -1,29 +1,24 @@
--- The sessions of an office, as C has them.
-use Rattle.std.specs.Prelude.{◌≡◌, ℕ, Bool, ◌==◌, [], ◌∷◌, ◌++◌, List, Some, All, map}
-use Rattle.std.specs.List.{list_any}
+-- The shares of an office, as handles hold them.
+use Rattle.std.specs.Prelude.{◌≡◌, ℕ, [], ◌∷◌, ◌++◌, List, Some, All, map}
 use Rattle.std.specs.Global.{Box}
-use Rattle.publication.specs.Views.{Placed, Known}
+use Rattle.publication.specs.Views.{BoardView, TicketView}
 use Rattle.publication.specs.Boards.{new_tickets}
-use Rattle.pelgaisti_c.specs.declared.worker.Worker.{Worker}
+use Rattle.pelgaisti_c.specs.declared.session_share.SessionShare.{SessionShare}
 use Rattle.pelgaisti_c.specs.declared.session_handle.SessionHandle.{SessionHandle}
 
--- one of these sessions has this number
-abbrev pub has_number : ℕ → List Known → Bool
-has_number number sessions = list_any (λ session. session.number == number) sessions
+-- the sessions of a share: those handed in to it, then its own
+abbrev pub all_of : SessionShare → List TicketView
+all_of share = share.handed.items ++ share.session ∷ []
 
--- the sessions of a worker: those that were handed in to it, and its own
-abbrev pub all_of : Worker → List Known
-all_of worker = worker.handed.items ++ worker.session ∷ []
+-- a share of this office with this mark, to which no session was handed in
+pub record IsOfOffice (office : BoardView) (mark : ℕ) (share : SessionShare) : Type 0 where
+  pub office_is : share.office.value ≡ office
+  pub mark_is : share.mark ≡ mark
+  pub handed : share.handed.items ≡ []
 
--- a worker of this office, which has this mark, to which no session was handed in
-pub record IsOfOffice (office : Placed) (mark : ℕ) (worker : Worker) : Type 0 where
-  pub office_is : worker.office.value ≡ office
-  pub mark_is : worker.mark ≡ mark
-  pub handed : worker.handed.items ≡ []
-
--- the handles hold the new sessions of this office, in order
-abbrev pub AreSessionsOf : Placed → ℕ → List SessionHandle → Type 0
-AreSessionsOf office mark handles = (workers : List (Box Worker))
-    × (map (λ handle. handle.held.worker) handles ≡ map (λ worker. Some worker.value) workers)
-    × (map (λ worker. worker.value.session) workers ≡ new_tickets office.id office.sessions office.sessions)
-    × All (λ worker. IsOfOffice office mark worker.value) workers
+-- the handles hold shares with the new sessions of this office, in the order of their numbers
+abbrev pub AreSessionsOf : BoardView → ℕ → List SessionHandle → Type 0
+AreSessionsOf office mark handles = (shares : List (Box SessionShare))
+    × (map (λ handle. handle.held.share) handles ≡ map (λ share. Some share.value) shares)
+    × (map (λ share. share.value.session) shares ≡ new_tickets office.id office.sessions office.sessions)
+    × All (λ share. IsOfOffice office mark share.value) shares

@@ -1,74 +1,74 @@
--- What a call of a session came to, as C is told.
+-- The outcomes of a session's calls, as the exports state them.
 use Rattle.std.specs.Prelude.{◌≡◌, ◌≢◌, ℕ, ◌<◌, ◌≤◌, ◌⊎◌, true, false, Option, Some, None, [], ◌∷◌, ◌++◌, length}
 use Rattle.lock_rules.specs.declared.calls.Call.{Call}
 use Rattle.lock_rules.specs.declared.calls.Reply.{Reply}
 use Rattle.lock_rules.specs.Legal.{calls_of}
 use Rattle.publication.specs.Boards.{heard_from, publishing, enlisted}
 use Rattle.publication.specs.Kinds.{longer, maxes}
-use Rattle.combining.specs.Sessions.{HasTried, HasNothingPending, IsPassed, IsCollected, IsPendingServed}
+use Rattle.combining.specs.Sessions.{MayHaveListed, HasNothingPending, IsPassed, IsCollected, IsPendingServed}
 use Rattle.pelgaisti_c.specs.declared.numbers.CallNumbers.{CallNumbers}
 use Rattle.pelgaisti_c.specs.declared.numbers.AnswerNumbers.{AnswerNumbers}
-use Rattle.pelgaisti_c.specs.declared.worker.Worker.{Worker}
+use Rattle.pelgaisti_c.specs.declared.session_share.SessionShare.{SessionShare}
 use Rattle.pelgaisti_c.specs.Numbers.{IsCall, numbers_of_reply}
 
--- the session stays one of the same office, with the same sessions handed in to it
-pub record IsSameOffice (before after : Worker) : Type 0 where
+-- the share keeps its office, the sessions handed in to it, and its mark
+pub record IsSameOffice (before after : SessionShare) : Type 0 where
   pub office : after.office ≡ before.office
   pub handed : after.handed.items ≡ before.handed.items
   pub sessions : after.sessions ≡ before.sessions
   pub mark : after.mark ≡ before.mark
 
--- the call that the numbers stand for is published, and the session is pending. 1: the call is listed, and the session has heard of all
--- its calls. 2: it isn't listed yet, which comes to no session that is alone in its office
-abbrev pub IsPublished : Worker → Worker → CallNumbers → ℕ → Type 0
+-- the call that the numbers encode is published and pending. 1: the session's record is listed, and the session counts all its calls as
+-- heard of. 2: the record is not listed yet, which happens only in an office with other sessions
+abbrev pub IsPublished : SessionShare → SessionShare → CallNumbers → ℕ → Type 0
 IsPublished before after asked posted = (call : Call) × IsCall asked call × (before.session.pending ≡ None) × (before.session.retired ≡ false)
     × (posted ≡ 1 → after.session ≡ enlisted (publishing before.session call))
     × (posted ≡ 2 → (after.session ≡ publishing before.session call) × (2 ≤ before.sessions))
     × IsSameOffice before after
 
--- another session had the book: nothing has changed, but that a pending call which wasn't listed may be listed now
-abbrev pub IsElsewhere : Worker → Worker → Type 0
-IsElsewhere before after = HasTried before.session after.session × (2 ≤ before.sessions) × IsSameOffice before after
+-- nothing has changed, except that the record of a pending call may have been listed; the office has other sessions
+abbrev pub IsElsewhere : SessionShare → SessionShare → Type 0
+IsElsewhere before after = MayHaveListed before.session after.session × (2 ≤ before.sessions) × IsSameOffice before after
 
--- a pass served so many calls. Where memory was refused for none, it served the session's own call, and each of which the session had heard
-abbrev pub IsTurn : Worker → Worker → ℕ → ℕ → Type 0
+-- a pass served this many calls; if memory was refused for none, the session's pending call is served, and each call that the session had heard of
+abbrev pub IsTurn : SessionShare → SessionShare → ℕ → ℕ → Type 0
 IsTurn before after served starved = IsPassed before.session after.session served × (starved ≤ 1)
     × (starved ≡ 0 → before.session.pending ≢ None → IsPendingServed after.session)
     × (starved ≡ 0 → (j : ℕ) → 0 < j → j ≤ before.sessions → heard_from before.session j ≤ length (calls_of j after.session.front))
     × IsSameOffice before after
 
--- the answer to the pending call is collected: the numbers are its place in the history and its reply there
-abbrev pub IsAnswered : Worker → Worker → AnswerNumbers → Type 0
+-- the answer to the pending call is collected: the index of its entry in the history, and the reply there
+abbrev pub IsAnswered : SessionShare → SessionShare → AnswerNumbers → Type 0
 IsAnswered before after answer = (reply : Reply) × (answer.reply ≡ numbers_of_reply reply)
     × IsCollected before.session after.session answer.place reply × IsSameOffice before after
 
--- the session knows all that the other knew
-abbrev pub IsHeard : Worker → Worker → Worker → Type 0
+-- the session knows what it knew before and what the other session knew
+abbrev pub IsHeard : SessionShare → SessionShare → SessionShare → Type 0
 IsHeard before other after = (after.session ≡ record before.session {
   front = longer before.session.front other.session.front;
   heard = maxes before.session.heard other.session.heard;
 }) × IsSameOffice before after
 
--- the session publishes no more
-abbrev pub IsRetired : Worker → Worker → Type 0
+-- the session, which had no pending call, has retired
+abbrev pub IsRetired : SessionShare → SessionShare → Type 0
 IsRetired before after = (before.session.pending ≡ None) × (before.session.retired ≡ false)
     × (after.session ≡ record before.session { retired = true }) × IsSameOffice before after
 
--- the worker is the same, but for room that it may have made
-pub record IsSameWorker (before after : Worker) : Type 0 where
+-- the share is unchanged, except for the capacity of its vector of sessions
+pub record IsSameShare (before after : SessionShare) : Type 0 where
   pub session : after.session ≡ before.session
   pub office : IsSameOffice before after
 
--- a handle holds what it held, but for room that may have been made
-abbrev pub IsKept : Option Worker → Option Worker → Type 0
-IsKept before after = (after ≡ before) ⊎ ((a : Worker) × (b : Worker) × (before ≡ Some a) × (after ≡ Some b) × IsSameWorker a b)
+-- a handle's share is unchanged, except for the capacity of its vector of sessions
+abbrev pub IsKept : Option SessionShare → Option SessionShare → Type 0
+IsKept before after = (after ≡ before) ⊎ ((a : SessionShare) × (b : SessionShare) × (before ≡ Some a) × (after ≡ Some b) × IsSameShare a b)
 
--- the session, of the same office and with nothing pending, was handed in, behind those that were before, and after those that were
--- handed in to it
-pub record IsHandedIn (worker before after : Worker) : Type 0 where
-  pub one_office : worker.mark ≡ before.mark
-  pub settled : HasNothingPending worker.session
-  pub handed : after.handed.items ≡ (before.handed.items ++ worker.handed.items) ++ worker.session ∷ []
+-- the session, which has the same mark and no pending call, is appended to the sessions handed in to the other one, after the sessions
+-- handed in to itself
+pub record IsHandedIn (share before after : SessionShare) : Type 0 where
+  pub one_office : share.mark ≡ before.mark
+  pub settled : HasNothingPending share.session
+  pub handed : after.handed.items ≡ (before.handed.items ++ share.handed.items) ++ share.session ∷ []
   pub session : after.session ≡ before.session
   pub office : after.office ≡ before.office
   pub sessions : after.sessions ≡ before.sessions

@@ -1,16 +1,16 @@
-//! The exports over a book.
+//! The exports over a book: the lock table for one thread.
 
 ghost use Rattle.std.specs.Prelude.{◌≡◌, ◌≢◌, ◌<◌, ◌≤◌, ◌↔◌, ◌⊎◌, ℕ, List, [], Some, None, length, drop, min};
 ghost use Rattle.lock_modes.specs.Codes.{code_of};
 ghost use Rattle.lock_rules.specs.Legal.{state_of};
 ghost use Rattle.lock_rules.specs.State.{held_mode, mode_or_nothing, holders};
 ghost use Rattle.lock_rules.specs.declared.calls.Call.{Call};
-ghost use Rattle.lock_desk.specs.Kept.{Told};
+ghost use Rattle.lock_desk.specs.BookView.{BookView};
 ghost use Rattle.pelgaisti_c.specs.Numbers.{IsCall, IsCallFault, IsLevel, IsPath, numbers_of_entry, numbers_of_holder};
 ghost use Rattle.pelgaisti_c.specs.Calls.{IsSession, IsServed, are_written};
 
+use crate::book_calls;
 use crate::book_handle::BookHandle;
-use crate::desk;
 use crate::numbers::{CallNumbers, EntryNumbers, HolderNumbers, ReplyNumbers, ResourceNumbers};
 use crate::status::{
     CLOSED, NO_MEMORY, NO_SUCH_COUNT, NO_SUCH_LEVEL, NO_SUCH_MODE, NO_SUCH_OP, NO_SUCH_SESSION, OK,
@@ -20,7 +20,7 @@ use lock_desk::Book;
 use lock_rules::MAX_SESSIONS;
 use std::alloc::Global;
 
-/// Opens the handle with an empty book for sessions 1 to `sessions`.
+/// Opens the handle with an empty book for sessions 1 to `sessions`. The handle must be closed.
 #[unsafe(no_mangle)]
 pub extern "C" fn pelgaisti_book_open(alloc: Global, book: &mut BookHandle, sessions: u32) -> u32
     ensures ok { result ≡ OK → (book.new.is_open ≡ 1) × (book.new.held.book ≡ Some (record { sessions = sessions; history = [] })) }
@@ -48,7 +48,7 @@ pub extern "C" fn pelgaisti_book_open(alloc: Global, book: &mut BookHandle, sess
     }
 }
 
-/// Closes the handle, and frees the book.
+/// Closes the handle and frees the book.
 #[unsafe(no_mangle)]
 pub extern "C" fn pelgaisti_book_close(alloc: Global, book: &mut BookHandle) -> u32
     ensures after { (book.new.is_open ≢ 1) × (book.new.held.book ≡ None) }
@@ -62,7 +62,7 @@ pub extern "C" fn pelgaisti_book_close(alloc: Global, book: &mut BookHandle) -> 
     }
 }
 
-/// Serves one call of the session.
+/// Serves the call of `session` that the numbers encode, and writes the reply.
 #[unsafe(no_mangle)]
 pub extern "C" fn pelgaisti_book_serve(
     alloc: Global,
@@ -71,25 +71,26 @@ pub extern "C" fn pelgaisti_book_serve(
     call: &CallNumbers,
     reply: &mut ReplyNumbers,
 ) -> u32
-    ensures served { result ≡ OK → (before after : Told) × (book.old.held.book ≡ Some before) × (book.new.held.book ≡ Some after)
+    ensures served { result ≡ OK → (before after : BookView) × (book.old.held.book ≡ Some before) × (book.new.held.book ≡ Some after)
         × IsSession before session × IsServed before after session call.now reply.new }
     ensures failed { result ≢ OK → (book.new.held.book ≡ book.old.held.book) × (reply.new ≡ reply.old) }
     ensures open { book.new.is_open ≡ book.old.is_open }
     ensures closed { result ≡ CLOSED ↔ (book.old.is_open ≢ 1) }
-    ensures session { result ≡ NO_SUCH_SESSION → (told : Told) × (book.old.held.book ≡ Some told) × ¬ (IsSession told session) }
-    ensures call { NO_SUCH_OP ≤ result → (told : Told) × (book.old.held.book ≡ Some told) × IsSession told session × IsCallFault call.now result }
-    ensures memory { result ≡ NO_MEMORY → (told : Told) × (book.old.held.book ≡ Some told) × IsSession told session × ((asked : Call) × IsCall call.now asked) }
+    ensures session { result ≡ NO_SUCH_SESSION → (view : BookView) × (book.old.held.book ≡ Some view) × ¬ (IsSession view session) }
+    ensures call { NO_SUCH_OP ≤ result → (view : BookView) × (book.old.held.book ≡ Some view) × IsSession view session × IsCallFault call.now result }
+    ensures memory { result ≡ NO_MEMORY → (view : BookView) × (book.old.held.book ≡ Some view) × IsSession view session × ((asked : Call) × IsCall call.now asked) }
     ensures statuses { result ≤ NO_SUCH_MODE }
 {
     let Some(mut boxed) = book.take(alloc) else {
         return CLOSED;
     };
-    let status = desk::serve(&mut boxed, session, call, reply);
+    let status = book_calls::serve(&mut boxed, session, call, reply);
     book.put(boxed);
     status
 }
 
-/// The mode that the session holds on the resource outright, NL where it holds none.
+/// Writes the code of the mode that `session` holds on the resource, or that of NL if it holds none. A waiting request
+/// does not count.
 #[unsafe(no_mangle)]
 pub extern "C" fn pelgaisti_book_held(
     alloc: Global,
@@ -98,24 +99,25 @@ pub extern "C" fn pelgaisti_book_held(
     resource: &ResourceNumbers,
     mode: &mut u32,
 ) -> u32
-    ensures ok { result ≡ OK → (told : Told) × (book.old.held.book ≡ Some told) × IsSession told session
-        × ((r : List ℕ) × IsPath resource.now r × (mode.new ≡ code_of (mode_or_nothing (held_mode (state_of told.history).table session r)))) }
+    ensures ok { result ≡ OK → (view : BookView) × (book.old.held.book ≡ Some view) × IsSession view session
+        × ((r : List ℕ) × IsPath resource.now r × (mode.new ≡ code_of (mode_or_nothing (held_mode (state_of view.history).table session r)))) }
     ensures failed { result ≢ OK → mode.new ≡ mode.old }
     ensures same { (book.new.is_open ≡ book.old.is_open) × (book.new.held.book ≡ book.old.held.book) }
     ensures closed { result ≡ CLOSED ↔ (book.old.is_open ≢ 1) }
-    ensures session { result ≡ NO_SUCH_SESSION → (told : Told) × (book.old.held.book ≡ Some told) × ¬ (IsSession told session) }
-    ensures level { result ≡ NO_SUCH_LEVEL → (told : Told) × (book.old.held.book ≡ Some told) × IsSession told session × ¬ (IsLevel resource.now.level) }
+    ensures session { result ≡ NO_SUCH_SESSION → (view : BookView) × (book.old.held.book ≡ Some view) × ¬ (IsSession view session) }
+    ensures level { result ≡ NO_SUCH_LEVEL → (view : BookView) × (book.old.held.book ≡ Some view) × IsSession view session × ¬ (IsLevel resource.now.level) }
     ensures statuses { (result ≡ OK) ⊎ ((result ≡ CLOSED) ⊎ ((result ≡ NO_SUCH_SESSION) ⊎ (result ≡ NO_SUCH_LEVEL))) }
 {
     let Some(boxed) = book.take(alloc) else {
         return CLOSED;
     };
-    let status = desk::held(&boxed, session, resource, mode);
+    let status = book_calls::held(&boxed, session, resource, mode);
     book.put(boxed);
     status
 }
 
-/// The holders of the resource by session number, as many as there is room for, and how many there are.
+/// Writes the holders of the resource in the order of session numbers, as many as `list` has room for, and the number
+/// of all holders to `count`.
 #[unsafe(no_mangle)]
 pub extern "C" fn pelgaisti_book_holders(
     alloc: Global,
@@ -124,8 +126,8 @@ pub extern "C" fn pelgaisti_book_holders(
     list: &mut [HolderNumbers],
     count: &mut usize,
 ) -> u32
-    ensures ok { result ≡ OK → (told : Told) × (book.old.held.book ≡ Some told) × ((r : List ℕ) × IsPath resource.now r
-        × (let all = holders r (state_of told.history).table.held in
+    ensures ok { result ≡ OK → (view : BookView) × (book.old.held.book ≡ Some view) × ((r : List ℕ) × IsPath resource.now r
+        × (let all = holders r (state_of view.history).table.held in
         (list.new ≡ are_written numbers_of_holder all list.old) × (count.new ≡ length all))) }
     ensures failed { result ≢ OK → (list.new ≡ list.old) × (count.new ≡ count.old) }
     ensures same { (book.new.is_open ≡ book.old.is_open) × (book.new.held.book ≡ book.old.held.book) }
@@ -137,19 +139,19 @@ pub extern "C" fn pelgaisti_book_holders(
     let Some(boxed) = book.take(alloc) else {
         return CLOSED;
     };
-    let status = desk::holders(alloc, &boxed, resource, list, count);
+    let status = book_calls::holders(alloc, &boxed, resource, list, count);
     book.put(boxed);
     status
 }
 
-/// How many calls were served.
+/// Writes the number of calls that the book has served.
 #[unsafe(no_mangle)]
 pub extern "C" fn pelgaisti_book_length(
     alloc: Global,
     book: &mut BookHandle,
     count: &mut u64,
 ) -> u32
-    ensures ok { result ≡ OK → (told : Told) × (book.old.held.book ≡ Some told) × (count.new ≡ length told.history) }
+    ensures ok { result ≡ OK → (view : BookView) × (book.old.held.book ≡ Some view) × (count.new ≡ length view.history) }
     ensures failed { result ≢ OK → count.new ≡ count.old }
     ensures same { (book.new.is_open ≡ book.old.is_open) × (book.new.held.book ≡ book.old.held.book) }
     ensures closed { result ≡ CLOSED ↔ (book.old.is_open ≢ 1) }
@@ -163,7 +165,8 @@ pub extern "C" fn pelgaisti_book_length(
     OK
 }
 
-/// The entries of the history from the place `first` on, as many as there is room for, and how many these are.
+/// Writes the history's entries from index `first` on, as many as `entries` has room for, and the number of entries
+/// written to `count`.
 #[unsafe(no_mangle)]
 pub extern "C" fn pelgaisti_book_history(
     alloc: Global,
@@ -172,7 +175,7 @@ pub extern "C" fn pelgaisti_book_history(
     entries: &mut [EntryNumbers],
     count: &mut usize,
 ) -> u32
-    ensures ok { result ≡ OK → (told : Told) × (book.old.held.book ≡ Some told) × (let rest = drop first told.history in
+    ensures ok { result ≡ OK → (view : BookView) × (book.old.held.book ≡ Some view) × (let rest = drop first view.history in
         (entries.new ≡ are_written numbers_of_entry rest entries.old) × (count.new ≡ min (length rest) (length entries.old))) }
     ensures failed { result ≢ OK → (entries.new ≡ entries.old) × (count.new ≡ count.old) }
     ensures same { (book.new.is_open ≡ book.old.is_open) × (book.new.held.book ≡ book.old.held.book) }
@@ -182,7 +185,9 @@ pub extern "C" fn pelgaisti_book_history(
     let Some(boxed) = book.take(alloc) else {
         return CLOSED;
     };
-    *count = desk::write_history(&boxed, first as usize, entries);
+    let history = boxed.history();
+    let start = usize::min(first as usize, history.len());
+    *count = book_calls::write_entries(&history[start..], entries);
     book.put(boxed);
     OK
 }

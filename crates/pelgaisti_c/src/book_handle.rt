@@ -1,16 +1,18 @@
-//! The handle of a book: whether it is open, and what it then holds.
+//! The handle by which C holds a book.
 
 ghost use Rattle.std.specs.Prelude.{◌≡◌, ◌≢◌, Some, None, IsSome, IfSome, IfNone};
 
 use crate::held_book::HeldBook;
+use crate::raw_box::RawBox;
 use lock_desk::Book;
 use std::alloc::Global;
 use std::mem;
 
-/// A book of C's. One whose bytes are all zero is closed.
+/// A book's handle in C's memory: `pelgaisti_book` of the header. A handle whose bytes are all zero is closed.
 #[repr(C)]
 #[derive(Drop)]
 pub struct BookHandle {
+    /// 1 if the handle is open. Any other number means closed.
     pub(crate) is_open: u32,
     pub(crate) held: HeldBook,
     ghost open: { is_open ≡ 1 → IsSome held.book },
@@ -18,16 +20,7 @@ pub struct BookHandle {
 }
 
 impl BookHandle {
-    fn closed(alloc: Global) -> BookHandle
-        ensures { (result.is_open ≡ 0) × (result.held.book ≡ None) }
-    {
-        BookHandle {
-            is_open: 0,
-            held: HeldBook::nothing(alloc),
-        }
-    }
-
-    /// Takes the book out of an open handle, which is closed then. `None` of a closed one.
+    /// Takes the book out of an open handle and leaves the handle closed. Returns `None` if the handle is closed.
     pub(crate) fn take(&mut self, alloc: Global) -> Option<Box<Book>>
         ensures some { IfSome result (λ book. self.old.held.book ≡ Some book.value) }
         ensures open { IfSome result (λ _. self.old.is_open ≡ 1) }
@@ -38,17 +31,21 @@ impl BookHandle {
         if self.is_open != 1 {
             return None;
         }
-        let BookHandle { is_open: _, held } = mem::replace(self, BookHandle::closed(alloc));
-        Some(held.into_box())
+        let closed = BookHandle {
+            is_open: 0,
+            held: HeldBook::from_raw_box(RawBox::nothing(alloc)),
+        };
+        let BookHandle { is_open: _, held } = mem::replace(self, closed);
+        Some(held.into_raw_box().into_box())
     }
 
-    /// Opens the handle with this book. What it held before is leaked, so it is to be closed.
+    /// Opens the handle with `book`. The handle should be closed: a book that it holds is leaked.
     pub(crate) fn put(&mut self, book: Box<Book>)
         ensures { (self.new.is_open ≡ 1) × (self.new.held.book ≡ Some book.value) }
     {
         *self = BookHandle {
             is_open: 1,
-            held: HeldBook::of(book),
+            held: HeldBook::from_raw_box(RawBox::of(book)),
         };
     }
 }

@@ -1,27 +1,21 @@
-//! What a handle holds of a book: a pointer that only the library follows.
+//! The pointer in a book's handle.
 
-ghost use Rattle.std.specs.Prelude.{◌≡◌, Option, Some, None, IsSome};
-ghost use Rattle.pelgaisti_c.specs.Held.{book_at, book_coded};
-ghost use Rattle.lock_desk.specs.Kept.{Told};
+ghost use Rattle.std.specs.Prelude.{◌≡◌, Option};
+ghost use Rattle.pelgaisti_c.specs.inner.Held.{book_at, book_coded};
+ghost use Rattle.lock_desk.specs.BookView.{BookView};
 
-use crate::parts::Parts;
+use crate::raw_box::{Opaque, RawBox};
 use lock_desk::Book;
 use std::alloc::Global;
 use std::marker::Model;
 
-/// What stands behind the pointer of a handle, as far as C knows. No value of it is made.
-#[repr(C)]
-pub struct Opaque {
-    nothing: u8,
-}
-
-/// The place of a book on the heap, or of none. One that is dropped is leaked.
+/// A `RawBox<Book, Global>` that may cross to C, where no generic struct may. To drop it leaks its book.
 #[repr(C)]
 #[derive(Drop)]
 pub struct HeldBook {
     at: *mut Opaque,
     alloc: Global,
-    pub ghost book: { Option Told } by { book_coded },
+    pub ghost book: { Option BookView } by { book_coded },
 }
 
 impl Model for HeldBook {
@@ -29,50 +23,26 @@ impl Model for HeldBook {
 }
 
 impl HeldBook {
-    fn from_parts(parts: Parts<Book, Global>) -> HeldBook
-        ensures { result.book ≡ Some parts.value }
+    /// Takes over the book of `raw`, if there is one.
+    pub(crate) fn from_raw_box(raw: RawBox<Book, Global>) -> HeldBook
+        ensures { result.book ≡ raw.value }
     {
-        let Parts { ptr, alloc } = parts;
+        let RawBox { at, alloc } = raw;
         HeldBook {
-            at: ptr as *mut Opaque,
+            at: at as *mut Opaque,
             alloc,
         }
     }
 
-    fn into_parts(self) -> Parts<Book, Global>
-        requires { IsSome self.book }
-        ensures { self.book ≡ Some result.value }
+    /// Gives up the book, if there is one, to a raw box.
+    pub(crate) fn into_raw_box(self) -> RawBox<Book, Global>
+        ensures { result.value ≡ self.book }
     {
         let HeldBook { at, alloc } = self;
-        Parts {
-            ptr: at as *mut Book,
+        RawBox {
+            at: at as *mut Book,
             alloc,
         }
-    }
-
-    /// No book.
-    pub(crate) fn nothing(alloc: Global) -> HeldBook
-        ensures { result.book ≡ None }
-    {
-        HeldBook {
-            at: std::ptr::null_mut(),
-            alloc,
-        }
-    }
-
-    /// This book.
-    pub(crate) fn of(book: Box<Book>) -> HeldBook
-        ensures { result.book ≡ Some book.value }
-    {
-        HeldBook::from_parts(Parts::of(book))
-    }
-
-    /// The book that is held.
-    pub(crate) fn into_box(self) -> Box<Book>
-        requires { IsSome self.book }
-        ensures { self.book ≡ Some result.value }
-    {
-        self.into_parts().into_box()
     }
 }
 

@@ -1,24 +1,25 @@
-//! The lock table for C: a book, and an office whose sessions' threads share it, by handles that are structs of the caller's.
+//! The lock manager for C: exports over books and over the sessions of offices, which C holds by handles in its own
+//! memory.
 //!
-//! Each export calls one call of `lock_desk` or `combining`, and states its clauses again. What the caller has to keep stands
-//! in `include/pelgaisti.h`.
+//! Each export makes one call of `lock_desk` or `combining` and states the clauses of that call again. The rules for
+//! callers in C are in `include/pelgaisti.h`.
 #![tactic(auto)]
 
 mod book;
+mod book_calls;
 mod book_handle;
-mod clerk;
-mod closing;
-mod desk;
-mod handing;
+mod close_exports;
+mod hand_in;
 mod held_book;
-mod held_worker;
+mod held_share;
 mod numbers;
 mod office;
-mod parts;
+mod raw_box;
 mod session;
+mod session_calls;
 mod session_handle;
+mod session_share;
 mod status;
-mod worker;
 
 pub use book_handle::BookHandle;
 pub use numbers::{

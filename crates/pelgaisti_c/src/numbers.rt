@@ -1,4 +1,4 @@
-//! Calls and replies as numbers: how they are read, and how they are written.
+//! Calls and replies in numbers: reading them from C's structs, and writing them there.
 
 ghost use Rattle.std.specs.Prelude.{◌≡◌, ◌≢◌, ◌<◌, ◌≤◌, ◌-◌, ◌++◌, ℕ, List, Some, None, Err, take, length, replicate, IsSome, IfSome, IfNone, IfOk, IfErr};
 ghost use Rattle.lock_modes.specs.Codes.{code_of};
@@ -9,7 +9,7 @@ use lock_modes::Mode;
 use lock_rules::{Call, Entry, Reply, Why};
 use lock_tree::{LEVELS, Resource};
 
-/// A node of the lock tree: the first `level` of the numbers, that of the top first.
+/// A node of the lock tree. The first `level` numbers are its path from the root.
 #[repr(C)]
 #[derive(Clone, Copy)]
 pub struct ResourceNumbers {
@@ -17,7 +17,7 @@ pub struct ResourceNumbers {
     pub numbers: [u32; LEVELS],
 }
 
-/// What a session asks.
+/// A call. `mode` and `resource` matter only if the call has a mode or a resource.
 #[repr(C)]
 #[derive(Clone, Copy)]
 pub struct CallNumbers {
@@ -26,7 +26,7 @@ pub struct CallNumbers {
     pub resource: ResourceNumbers,
 }
 
-/// What a session is told.
+/// A reply: its kind and the value that goes with the kind.
 #[repr(C)]
 #[derive(Clone, Copy)]
 pub struct ReplyNumbers {
@@ -34,7 +34,7 @@ pub struct ReplyNumbers {
     pub value: u64,
 }
 
-/// A session that holds a resource, in this mode.
+/// A holder of a resource: the session and the code of its mode.
 #[repr(C)]
 #[derive(Clone, Copy)]
 pub struct HolderNumbers {
@@ -42,7 +42,7 @@ pub struct HolderNumbers {
     pub mode: u32,
 }
 
-/// A call of a session, with its reply.
+/// An entry of the history: a call of a session and its reply.
 #[repr(C)]
 #[derive(Clone, Copy)]
 pub struct EntryNumbers {
@@ -51,7 +51,7 @@ pub struct EntryNumbers {
     pub reply: ReplyNumbers,
 }
 
-/// The answer to a call that was published, with the place of its entry in the history.
+/// The answer to a published call: the index of its entry in the history, and the reply.
 #[repr(C)]
 #[derive(Clone, Copy)]
 pub struct AnswerNumbers {
@@ -59,7 +59,7 @@ pub struct AnswerNumbers {
     pub reply: ReplyNumbers,
 }
 
-/// What a pass did: how many calls it served, and 1 where memory was refused for one, else 0.
+/// The result of a pass: the number of calls served, and 1 if memory was refused for a call, otherwise 0.
 #[repr(C)]
 #[derive(Clone, Copy)]
 pub struct PassNumbers {
@@ -67,12 +67,13 @@ pub struct PassNumbers {
     pub starved: u32,
 }
 
-// Of calls that name no resource.
+/// The resource field of calls that have no resource.
 const NOWHERE: ResourceNumbers = ResourceNumbers {
     level: 0,
     numbers: [0; LEVELS],
 };
 
+/// The resource with this path. Returns `None` if no resource has so many levels.
 fn resource_of(numbers: &[u32]) -> Option<Resource>
     ensures some { 1 ≤ length numbers.now → length numbers.now ≤ LEVELS → IsSome result }
     ensures value { IfSome result (λ r. r ≡ numbers.now) }
@@ -80,12 +81,12 @@ fn resource_of(numbers: &[u32]) -> Option<Resource>
     Resource::from_numbers(numbers)
 }
 
-/// The resource that the numbers stand for. `None` where no resource has this level.
+/// The resource that the numbers encode. Returns `None` if no resource has this level.
 pub(crate) fn read_resource(place: &ResourceNumbers) -> Option<Resource>
     ensures some { IfSome result (λ r. IsPath place.now r) }
     ensures none { IfNone result (¬ (IsLevel place.now.level)) }
 {
-    // A copy of each length by itself, since a copy of a length that isn't known costs a call.
+    // One arm for each length: a copy of constant length is inlined, a copy of variable length is a call.
     match place.level {
         1 => resource_of(&place.numbers[..1]),
         2 => resource_of(&place.numbers[..2]),
@@ -95,7 +96,7 @@ pub(crate) fn read_resource(place: &ResourceNumbers) -> Option<Resource>
     }
 }
 
-// The mode of this code. `None` where no mode has it.
+/// The mode with this code. Returns `None` if no mode has it.
 fn read_mode(code: u32) -> Option<Mode>
     ensures some { IfSome result (λ mode. code ≡ code_of mode) }
     ensures none { IfNone result (¬ (IsModeCode code)) }
@@ -106,7 +107,7 @@ fn read_mode(code: u32) -> Option<Mode>
     Mode::from_code(code as u8)
 }
 
-// What a lock and a conversion ask for.
+/// The resource and the mode of a lock or conversion. On failure returns the status of the first test that fails.
 fn read_wanted(asked: &CallNumbers) -> Result<(Resource, Mode), u32>
     ensures ok { IfOk result (λ wanted. IsPath asked.now.resource wanted.0 × (asked.now.mode ≡ code_of wanted.1)) }
     ensures level { IfErr result (λ fault. fault ≡ NO_SUCH_LEVEL → ¬ (IsLevel asked.now.resource.level)) }
@@ -121,7 +122,8 @@ fn read_wanted(asked: &CallNumbers) -> Result<(Resource, Mode), u32>
     Ok((resource, mode))
 }
 
-/// The call that the numbers stand for, or the status of the first test that they fail: of the op, the level, the mode.
+/// The call that the numbers encode. Tests the op, then the level, then the mode, and returns the status of the first
+/// test that fails.
 pub(crate) fn read_call(asked: &CallNumbers) -> Result<Call, u32>
     ensures ok { IfOk result (λ call. IsCall asked.now call) }
     ensures err { IfErr result (λ fault. IsCallFault asked.now fault) }
@@ -147,6 +149,7 @@ pub(crate) fn read_call(asked: &CallNumbers) -> Result<Call, u32>
     }
 }
 
+/// The numbers of a resource. Those past its level are 0.
 fn place_of(resource: &Resource) -> ResourceNumbers
     ensures { result ≡ place_of resource.now }
 {
@@ -159,6 +162,7 @@ fn place_of(resource: &Resource) -> ResourceNumbers
     }
 }
 
+/// The numbers of a call. A call without a mode has mode 0, a call without a resource has level 0.
 fn call_numbers(call: &Call) -> CallNumbers
     ensures { result ≡ numbers_of_call call.now }
 {
@@ -174,6 +178,7 @@ fn call_numbers(call: &Call) -> CallNumbers
     CallNumbers { op, mode, resource }
 }
 
+/// The number of a refusal's reason.
 fn why_number(why: Why) -> u64
     ensures { result ≡ why_of why }
 {

@@ -1,19 +1,19 @@
-//! The exports over an office.
+//! The export that opens an office.
 
 ghost use Rattle.std.specs.Prelude.{◌≡◌, ◌≢◌, ◌≤◌, ◌⊎◌, ◌↔◌, [], true, false, Some, None, All, Any, IfOk, length, map};
 ghost use Rattle.combining.specs.Sessions.{IsSessionOf, IsIdle};
-ghost use Rattle.publication.specs.Views.{Placed};
+ghost use Rattle.publication.specs.Views.{BoardView};
 ghost use Rattle.pelgaisti_c.specs.Offices.{IsOfOffice, AreSessionsOf};
 
 use crate::session_handle::SessionHandle;
+use crate::session_share::SessionShare;
 use crate::status::{NO_MEMORY, NO_SUCH_COUNT, OK, OPEN};
-use crate::worker::Worker;
 use combining::{Office, Session};
 use lock_rules::MAX_SESSIONS;
 use std::alloc::{AllocError, Global};
 use std::sync::Arc;
 
-// Whether one of the handles is open.
+/// Whether one of the handles is open.
 fn has_open(handles: &mut [SessionHandle]) -> bool
     ensures same { handles.new ≡ handles.old }
     ensures open { result ≡ true → Any (λ handle. handle.is_open ≡ 1) handles.old }
@@ -27,76 +27,76 @@ fn has_open(handles: &mut [SessionHandle]) -> bool
     false
 }
 
-// A worker for a session.
-fn worker_of(
+/// Makes the share of one session. `count` is the number of sessions of the office.
+fn share_of(
     alloc: Global,
     shared: &Arc<Office>,
     session: Session,
     count: u16,
     mark: u64,
-) -> Result<Box<Worker>, AllocError>
+) -> Result<Box<SessionShare>, AllocError>
     requires ours { IsSessionOf shared.now.value session × IsIdle session }
     requires count { count ≡ shared.now.value.sessions }
-    ensures session { IfOk result (λ worker. worker.value.session ≡ session) }
-    ensures office { IfOk result (λ worker. IsOfOffice shared.now.value mark worker.value) }
+    ensures session { IfOk result (λ share. share.value.session ≡ session) }
+    ensures office { IfOk result (λ share. IsOfOffice shared.now.value mark share.value) }
 {
     let office = shared.clone()?;
-    let worker = Worker {
+    let share = SessionShare {
         office,
         session,
         handed: Vec::new(alloc),
         sessions: count,
         mark,
     };
-    let boxed = Box::new(alloc, worker)?;
+    let boxed = Box::new(alloc, share)?;
     Ok(boxed)
 }
 
-// A worker for each session, in order.
-fn workers_of(
+/// Makes the share of each session, in their order.
+fn shares_of(
     alloc: Global,
     office: Office,
     sessions: Vec<Session>,
     count: u16,
     mark: u64,
-) -> Result<Vec<Box<Worker>>, AllocError>
+) -> Result<Vec<Box<SessionShare>>, AllocError>
     requires ours { All (λ session. IsSessionOf office session × IsIdle session) sessions.items }
     requires count { count ≡ office.sessions }
-    ensures sessions { IfOk result (λ workers. map (λ worker. worker.value.session) workers.items ≡ sessions.items) }
-    ensures office { IfOk result (λ workers. All (λ worker. IsOfOffice office mark worker.value) workers.items) }
+    ensures sessions { IfOk result (λ shares. map (λ share. share.value.session) shares.items ≡ sessions.items) }
+    ensures office { IfOk result (λ shares. All (λ share. IsOfOffice office mark share.value) shares.items) }
 {
     let shared = Arc::new(alloc, office)?;
     let mut made = Vec::with_capacity(alloc, sessions.len())?;
     for session in sessions {
-        let worker = worker_of(alloc, &shared, session, count, mark)?;
-        made.push(worker)?;
+        let share = share_of(alloc, &shared, session, count, mark)?;
+        made.push(share)?;
     }
     Ok(made)
 }
 
-// Opens the handles with these workers, in order.
-fn seat(handles: &mut [SessionHandle], workers: Vec<Box<Worker>>)
-    requires { length workers.items ≡ length handles.old }
-    ensures { map (λ handle. handle.held.worker) handles.new ≡ map (λ worker. Some worker.value) workers.items }
+/// Opens the handles with the shares, in their order. There are as many handles as shares.
+fn open_handles(handles: &mut [SessionHandle], shares: Vec<Box<SessionShare>>)
+    requires { length shares.items ≡ length handles.old }
+    ensures { map (λ handle. handle.held.share) handles.new ≡ map (λ share. Some share.value) shares.items }
 {
-    let mut workers = workers;
+    let mut shares = shares;
     for _left in 0..handles.len() {
-        let Some(worker) = workers.pop() else {
+        let Some(share) = shares.pop() else {
             unreachable!()
         };
-        handles[workers.len()].put(worker);
+        handles[shares.len()].put(share);
     }
 }
 
-/// Opens the handles, which are closed, as the sessions of a new office, in order. The caller keeps that no other office that
-/// is open has this mark.
+/// Opens the handles as the sessions of a new office, in their order. The handles must be closed. No other open office
+/// should have this mark.
 #[unsafe(no_mangle)]
 pub extern "C" fn pelgaisti_office_open(
     alloc: Global,
     sessions: &mut [SessionHandle],
     mark: u64,
 ) -> u32
-    ensures ok { result ≡ OK → (office : Placed) × (office.sessions ≡ length sessions.old) × AreSessionsOf office mark sessions.new }
+    ensures ok { result ≡ OK → (office : BoardView) × (office.sessions ≡ length sessions.old) × AreSessionsOf office mark sessions.new }
     ensures failed { result ≢ OK → sessions.new ≡ sessions.old }
     ensures count { result ≡ NO_SUCH_COUNT ↔ ¬ ((1 ≤ length sessions.old) × (length sessions.old ≤ MAX_SESSIONS)) }
     ensures open { result ≡ OPEN → Any (λ handle. handle.is_open ≡ 1) sessions.old }
@@ -113,9 +113,9 @@ pub extern "C" fn pelgaisti_office_open(
     let Ok((office, made)) = Office::open(alloc, count as u16) else {
         return NO_MEMORY;
     };
-    let Ok(workers) = workers_of(alloc, office, made, count as u16, mark) else {
+    let Ok(shares) = shares_of(alloc, office, made, count as u16, mark) else {
         return NO_MEMORY;
     };
-    seat(sessions, workers);
+    open_handles(sessions, shares);
     OK
 }

@@ -1,54 +1,51 @@
-//! The handle of a session: whether it is open, and what it then holds.
+//! The handle by which C holds a session.
 
 ghost use Rattle.std.specs.Prelude.{◌≡◌, ◌≢◌, Some, None, IsSome, IfSome, IfNone};
 
-use crate::held_worker::HeldWorker;
-use crate::worker::Worker;
+use crate::held_share::HeldShare;
+use crate::raw_box::RawBox;
+use crate::session_share::SessionShare;
 use std::alloc::Global;
 use std::mem;
 
-/// A session of C's. One whose bytes are all zero is closed.
+/// A session's handle in C's memory: `pelgaisti_session` of the header. A handle whose bytes are all zero is closed.
 #[repr(C)]
 #[derive(Drop)]
 pub struct SessionHandle {
+    /// 1 if the handle is open. Any other number means closed.
     pub(crate) is_open: u32,
-    pub(crate) held: HeldWorker,
-    ghost open: { is_open ≡ 1 → IsSome held.worker },
-    ghost closed: { is_open ≢ 1 → held.worker ≡ None },
+    pub(crate) held: HeldShare,
+    ghost open: { is_open ≡ 1 → IsSome held.share },
+    ghost closed: { is_open ≢ 1 → held.share ≡ None },
 }
 
 impl SessionHandle {
-    fn closed(alloc: Global) -> SessionHandle
-        ensures { (result.is_open ≡ 0) × (result.held.worker ≡ None) }
-    {
-        SessionHandle {
-            is_open: 0,
-            held: HeldWorker::nothing(alloc),
-        }
-    }
-
-    /// Takes the worker out of an open handle, which is closed then. `None` of a closed one.
-    pub(crate) fn take(&mut self, alloc: Global) -> Option<Box<Worker>>
-        ensures some { IfSome result (λ worker. self.old.held.worker ≡ Some worker.value) }
+    /// Takes the share out of an open handle and leaves the handle closed. Returns `None` if the handle is closed.
+    pub(crate) fn take(&mut self, alloc: Global) -> Option<Box<SessionShare>>
+        ensures some { IfSome result (λ share. self.old.held.share ≡ Some share.value) }
         ensures open { IfSome result (λ _. self.old.is_open ≡ 1) }
-        ensures taken { IfSome result (λ _. (self.new.is_open ≡ 0) × (self.new.held.worker ≡ None)) }
+        ensures taken { IfSome result (λ _. (self.new.is_open ≡ 0) × (self.new.held.share ≡ None)) }
         ensures none { IfNone result (self.new ≡ self.old) }
-        ensures closed { IfNone result ((self.old.is_open ≢ 1) × (self.old.held.worker ≡ None)) }
+        ensures closed { IfNone result ((self.old.is_open ≢ 1) × (self.old.held.share ≡ None)) }
     {
         if self.is_open != 1 {
             return None;
         }
-        let SessionHandle { is_open: _, held } = mem::replace(self, SessionHandle::closed(alloc));
-        Some(held.into_box())
+        let closed = SessionHandle {
+            is_open: 0,
+            held: HeldShare::from_raw_box(RawBox::nothing(alloc)),
+        };
+        let SessionHandle { is_open: _, held } = mem::replace(self, closed);
+        Some(held.into_raw_box().into_box())
     }
 
-    /// Opens the handle with this worker. What it held before is leaked, so it is to be closed.
-    pub(crate) fn put(&mut self, worker: Box<Worker>)
-        ensures { (self.new.is_open ≡ 1) × (self.new.held.worker ≡ Some worker.value) }
+    /// Opens the handle with `share`. The handle should be closed: a share that it holds is leaked.
+    pub(crate) fn put(&mut self, share: Box<SessionShare>)
+        ensures { (self.new.is_open ≡ 1) × (self.new.held.share ≡ Some share.value) }
     {
         *self = SessionHandle {
             is_open: 1,
-            held: HeldWorker::of(worker),
+            held: HeldShare::from_raw_box(RawBox::of(share)),
         };
     }
 }

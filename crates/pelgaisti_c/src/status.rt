@@ -1,19 +1,20 @@
-//! What a call came to, as numbers. Whatever isn't `OK` has written nothing, and has changed nothing but that after `ELSEWHERE` a call may be
-//! listed that wasn't.
+//! The statuses that exports return. A status other than `OK` means that nothing was written and nothing has changed,
+//! with two exceptions: `ELSEWHERE` may leave a pending call listed that was not, and `COPIED` closes the session's
+//! handle.
 
-/// The call was made.
+/// The call succeeded.
 pub const OK: u32 = 0;
 
-/// Memory was refused. The same call may be made again.
+/// Memory was refused. The caller may make the same call again.
 pub const NO_MEMORY: u32 = 1;
 
 /// The handle is closed.
 pub const CLOSED: u32 = 2;
 
-/// The book hasn't this session.
+/// The book has no session with this number.
 pub const NO_SUCH_SESSION: u32 = 3;
 
-/// No call has this number.
+/// No kind of call has this number.
 pub const NO_SUCH_OP: u32 = 4;
 
 /// No resource has this level.
@@ -22,32 +23,32 @@ pub const NO_SUCH_LEVEL: u32 = 5;
 /// No mode has this code.
 pub const NO_SUCH_MODE: u32 = 6;
 
-/// The handle is open already.
+/// The handle is already open.
 pub const OPEN: u32 = 7;
 
-/// No book and no office has so many sessions.
+/// The number of sessions is not in 1 to `MAX_SESSIONS`.
 pub const NO_SUCH_COUNT: u32 = 8;
 
-/// The session has a call pending.
+/// The session has a pending call.
 pub const PENDING: u32 = 9;
 
-/// The session has nothing pending.
+/// The session has no pending call.
 pub const NOTHING_PENDING: u32 = 10;
 
-/// The session's pending call has no answer yet.
+/// The session knows no answer to its pending call.
 pub const NOT_SERVED: u32 = 11;
 
-/// The session publishes no more.
+/// The session has retired.
 pub const RETIRED: u32 = 12;
 
-/// The lock table is with another session.
+/// Another session has the lock table.
 pub const ELSEWHERE: u32 = 13;
 
-/// The sessions are of different offices.
+/// The sessions have different marks, so they belong to different offices.
 pub const OTHER_OFFICE: u32 = 14;
 
-/// Not all sessions of the office are there.
+/// A session of the office was not handed in.
 pub const MISSING: u32 = 15;
 
-/// The office is still in use elsewhere, which is so only where a handle was copied.
+/// Another share of the office still exists, which means that a handle was copied.
 pub const COPIED: u32 = 16;

@@ -1,4 +1,5 @@
--- The tickets that are handed in: whether each session's is there once, whether all are settled, and what a closing seat keeps of them.
+-- The tickets handed in to close a board: whether each session's is there once, whether all are settled, and what the
+-- closing seat keeps.
 use Rattle.std.proofs.Common.{◌≡◌, ℕ, zero, suc, ◌+◌, ◌<◌, ◌≤◌, ◌↔◌, ◌||◌, ◌&&◌, ◌==◌, Bool, true, false, not, Option, Some, None, is_some, List, [], ◌∷◌, ◌++◌, length, map, get_or, refl, sym, ap, ◌∙◌, subst, arith}
 use Rattle.std.specs.Prelude.{All, Any, IsTrue}
 use Rattle.std.specs.List.{list_any, list_all}
@@ -9,20 +10,20 @@ use mathlib.Core.Logic.{dite}
 use native.Mathlib.Decide.{ℕ_discrete}
 use lib.ListN.{get_elem?}
 use Rattle.lock_rules.specs.declared.calls.Entry.{Entry}
-use Rattle.publication.specs.Views.{Pending, Known}
+use Rattle.publication.specs.Views.{Pending, TicketView}
 use Rattle.publication.specs.Boards.{IsEachOnce, IsSettled, AccountsFor}
-use Rattle.publication.specs.Closing.{is_settled, handed_by, WereHanded, AreEnded}
+use Rattle.publication.specs.inner.Closing.{is_settled, handed_by, WereHanded, AreEnded}
 
 -- lists
 
--- what holds of each element still does with one element more
+-- What holds of each element and of a new last one holds of the longer list.
 pub each_pushed : {A : Type 0} (P : ℕ → A → Type 0) (l : List A) (x : A) → ((k : ℕ) (y : A) → get_elem? l k ≡ opt.some y → P k y) → P (length l) x → (k : ℕ) (y : A) → get_elem? (l ++ x ∷ []) k ≡ opt.some y → P k y
 each_pushed P [] x all last zero y e = subst (P 0) (opt.some-injective x y e) last
 each_pushed P [] x all last (suc k) y e = absurd (opt.some-ne-none y (sym e))
 each_pushed P (z ∷ zs) x all last zero y e = all zero y e
 each_pushed P (z ∷ zs) x all last (suc k) y e = each_pushed (λ j. P (suc j)) zs x (λ j. all (suc j)) last k y e
 
--- an element at its place
+-- The element at an index below the length.
 pub stands_at : {A : Type 0} (l : List A) (k : ℕ) (d : A) → k < length l → get_elem? l k ≡ opt.some (get_or l k d)
 stands_at [] k d h = absurd (omega arith)
 stands_at (x ∷ xs) zero d h = refl
@@ -33,16 +34,17 @@ map_at f [] k a e = absurd (opt.some-ne-none a (sym e))
 map_at f (x ∷ xs) zero a e = ap (λ y. opt.some (f y)) (opt.some-injective x a e)
 map_at f (x ∷ xs) (suc k) a e = map_at f xs k a e
 
+-- Mapping over a list with one more element.
 pub map_push : {A B : Type 0} (f : A → B) (l : List A) (x : A) → map f (l ++ x ∷ []) ≡ map f l ++ f x ∷ []
 map_push f [] x = refl
 map_push f (y ∷ ys) x = ap (λ l. f y ∷ l) (map_push f ys x)
 
--- the element behind the first ones
+-- The element right behind a first part.
 pub at_middle : {A : Type 0} (xs : List A) (y : A) (zs : List A) → get_elem? (xs ++ y ∷ zs) (length xs) ≡ opt.some y
 at_middle [] y zs = refl
 at_middle (x ∷ xs) y zs = at_middle xs y zs
 
--- what holds of all holds of those before the last
+-- What holds of all elements holds of all but the last.
 pub all_before : {A : Type 0} (P : A → Type 0) (xs : List A) (x : A) → All P (xs ++ x ∷ []) → All P xs
 all_before P [] x all k d few = absurd (omega arith)
 all_before P (y ∷ ys) x all zero d few = all 0 d (omega arith)
@@ -60,23 +62,23 @@ same_number a b e = grind (arith, nat_tests)
 equal_numbers : (a b : ℕ) → a ≡ b → a == b ≡ true
 equal_numbers a b e = grind (arith, nat_tests)
 
--- a ticket of this number is among them
-abbrev pub has_number : ℕ → List Known → Bool
+-- A ticket with this number is in the list.
+abbrev pub has_number : ℕ → List TicketView → Bool
 has_number number ts = list_any (λ t. t.number == number) ts
 
--- tickets of the numbers 1 to n are among them
-abbrev pub has_numbers : ℕ → List Known → Bool
+-- Tickets with the numbers 1 to n are in the list.
+abbrev pub has_numbers : ℕ → List TicketView → Bool
 has_numbers zero ts = true
 has_numbers (suc n) ts = has_numbers n ts && has_number (suc n) ts
 
-number_found : (n : ℕ) (ts : List Known) → has_number n ts ≡ true → Any (λ t. t.number ≡ n) ts
+number_found : (n : ℕ) (ts : List TicketView) → has_number n ts ≡ true → Any (λ t. t.number ≡ n) ts
 number_found n [] e = absurd (cc e)
 number_found n (t ∷ ts) e = (elim (t.number == n) as (λ b. t.number == n ≡ b → b || has_number n ts ≡ true → Any (λ u. u.number ≡ n) (t ∷ ts)) [
   | true ↦ λ is _. (0, t, omega arith, refl, same_number t.number n is)
   | false ↦ λ _ more. let r = number_found n ts more in (suc r.0, r.1, omega (arith, r.2), r.3, r.4)
 ]) refl e
 
-number_there : (n : ℕ) (ts : List Known) (k : ℕ) (d : Known) → k < length ts → (get_or ts k d).number ≡ n → has_number n ts ≡ true
+number_there : (n : ℕ) (ts : List TicketView) (k : ℕ) (d : TicketView) → k < length ts → (get_or ts k d).number ≡ n → has_number n ts ≡ true
 number_there n [] k d few is = absurd (omega arith)
 number_there n (t ∷ ts) zero d few is = ap (λ (b : Bool). b || has_number n ts) (equal_numbers t.number n is)
 number_there n (t ∷ ts) (suc k) d few is = ap (λ (b : Bool). (t.number == n) || b) (number_there n ts k d (omega arith) is) ∙ or_true (t.number == n)
@@ -85,58 +87,61 @@ number_there n (t ∷ ts) (suc k) d few is = ap (λ (b : Bool). (t.number == n) 
     or_true true = refl
     or_true false = refl
 
-numbers_found : (n : ℕ) (ts : List Known) → has_numbers n ts ≡ true → (number : ℕ) → 0 < number → number ≤ n → Any (λ t. t.number ≡ number) ts
+numbers_found : (n : ℕ) (ts : List TicketView) → has_numbers n ts ≡ true → (number : ℕ) → 0 < number → number ≤ n → Any (λ t. t.number ≡ number) ts
 numbers_found zero ts e number some few = absurd (omega arith)
 numbers_found (suc n) ts e number some few = let t = both (has_numbers n ts) (has_number (suc n) ts) e in dite (ℕ_discrete number (suc n))
     (λ is. subst (λ (m : ℕ). Any (λ u. u.number ≡ m) ts) (sym is) (number_found (suc n) ts t.1))
     (λ ne. numbers_found n ts t.0 number some (omega arith))
 
-numbers_there : (n : ℕ) (ts : List Known) → ((number : ℕ) → 0 < number → number ≤ n → Any (λ t. t.number ≡ number) ts) → has_numbers n ts ≡ true
+numbers_there : (n : ℕ) (ts : List TicketView) → ((number : ℕ) → 0 < number → number ≤ n → Any (λ t. t.number ≡ number) ts) → has_numbers n ts ≡ true
 numbers_there zero ts all = refl
 numbers_there (suc n) ts all =
     let r = all (suc n) (omega arith) (omega arith) in
-    let last : has_number (suc n) ts ≡ true = number_there (suc n) ts r.0 r.1 r.2 (ap (λ (t : Known). t.number) r.3 ∙ r.4) in
+    let last : has_number (suc n) ts ≡ true = number_there (suc n) ts r.0 r.1 r.2 (ap (λ (t : TicketView). t.number) r.3 ∙ r.4) in
     let before : has_numbers n ts ≡ true = numbers_there n ts (λ number some few. all number some (omega arith)) in
     ap (λ (b : Bool). b && has_number (suc n) ts) before ∙ last
 
--- the test says whether each session's ticket is there once
-pub each_once_tells : (n : ℕ) (ts : List Known) (answer : Bool) → answer ≡ (length ts == n) && has_numbers n ts → IsTrue answer ↔ IsEachOnce n ts
+-- The test is true exactly if each session's ticket is there once.
+pub each_once_tells : (n : ℕ) (ts : List TicketView) (answer : Bool) → answer ≡ (length ts == n) && has_numbers n ts → IsTrue answer ↔ IsEachOnce n ts
 each_once_tells n ts answer is = (
   (λ yes. let t = both (length ts == n) (has_numbers n ts) (sym is ∙ yes) in record { as_many = same_number (length ts) n t.0; each = numbers_found n ts t.1 }),
   (λ all. is ∙ (ap (λ (b : Bool). b && has_numbers n ts) (equal_numbers (length ts) n all.as_many) ∙ numbers_there n ts all.each)),
 )
 
--- all are settled
+-- all tickets are settled
 
 nothing_waits : (p : Option Pending) → not (is_some p) ≡ true → p ≡ None
 nothing_waits None e = refl
 nothing_waits (Some p) e = absurd (cc e)
 
-settled_is : (t : Known) → is_settled t ≡ true → IsSettled t
+settled_is : (t : TicketView) → is_settled t ≡ true → IsSettled t
 settled_is t e = let r = both (not (is_some t.pending)) (not t.has_book) e in record { none = nothing_waits t.pending r.0; no_book = not-true t.has_book r.1 }
 
-is_settled_so : (t : Known) → IsSettled t → is_settled t ≡ true
+is_settled_so : (t : TicketView) → IsSettled t → is_settled t ≡ true
 is_settled_so t s = ap (λ (p : Option Pending). not (is_some p) && not t.has_book) s.none ∙ ap not s.no_book
 
-pub all_settled : (ts : List Known) → list_all is_settled ts ≡ true → All IsSettled ts
+-- If the test is true, all tickets are settled.
+pub all_settled : (ts : List TicketView) → list_all is_settled ts ≡ true → All IsSettled ts
 all_settled [] e k d few = absurd (omega arith)
 all_settled (t ∷ ts) e zero d few = settled_is t (both (is_settled t) (list_all is_settled ts) e).0
 all_settled (t ∷ ts) e (suc k) d few = all_settled ts (both (is_settled t) (list_all is_settled ts) e).1 k d (omega arith)
 
-settled_all : (ts : List Known) → All IsSettled ts → list_all is_settled ts ≡ true
+settled_all : (ts : List TicketView) → All IsSettled ts → list_all is_settled ts ≡ true
 settled_all [] all = refl
 settled_all (t ∷ ts) all = ap (λ (b : Bool). b && list_all is_settled ts) (is_settled_so t (all 0 t (omega arith))) ∙ settled_all ts (λ k d few. all (suc k) d (omega arith))
 
--- the test says whether all are
-pub settled_tells : (ts : List Known) (answer : Bool) → answer ≡ list_all is_settled ts → IsTrue answer ↔ All IsSettled ts
+-- The test is true exactly if all tickets are settled.
+pub settled_tells : (ts : List TicketView) (answer : Bool) → answer ≡ list_all is_settled ts → IsTrue answer ↔ All IsSettled ts
 settled_tells ts answer is = ((λ yes. all_settled ts (sym is ∙ yes)), λ all. is ∙ settled_all ts all)
 
--- what was kept of them
+-- what the closing seat kept of the tickets
 
-pub were_handed : (n : ℕ) (ts : List Known) → IsEachOnce n ts → WereHanded (n + 1) (map handed_by ts)
+-- With each session's ticket there once, each session was handed in.
+pub were_handed : (n : ℕ) (ts : List TicketView) → IsEachOnce n ts → WereHanded (n + 1) (map handed_by ts)
 were_handed n ts all i some few = let r = all.each i some (omega arith) in
-    (r.0, handed_by (get_or ts r.0 r.1), map_at handed_by ts r.0 (get_or ts r.0 r.1) (stands_at ts r.0 r.1 r.2), ap (λ (t : Known). t.number) r.3 ∙ r.4)
+    (r.0, handed_by (get_or ts r.0 r.1), map_at handed_by ts r.0 (get_or ts r.0 r.1) (stands_at ts r.0 r.1 r.2), ap (λ (t : TicketView). t.number) r.3 ∙ r.4)
 
-pub all_accounted : (h : List Entry) (ts : List Known) → AreEnded h (map handed_by ts) → All (AccountsFor h) ts
+-- If the history agrees with what was kept of the tickets, it agrees with the tickets.
+pub all_accounted : (h : List Entry) (ts : List TicketView) → AreEnded h (map handed_by ts) → All (AccountsFor h) ts
 all_accounted h ts all k d few =
     let e = all k (handed_by (get_or ts k d)) (map_at handed_by ts k (get_or ts k d) (stands_at ts k d few)) in record { front = e.begins; calls = e.calls }

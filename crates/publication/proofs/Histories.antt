@@ -9,9 +9,11 @@ use Rattle.lock_rules.proofs.Histories.{legal-front}
 use Rattle.lock_rules.proofs.SessionCalls.{calls_of-push}
 use Rattle.publication.specs.Views.{entry, answer}
 
+-- A front of a legal history is legal.
 pub legal-begins : (f h : List Entry) → IsPrefix f h → IsLegal h → IsLegal f
 legal-begins f h p legal = legal-front f p.0 (subst IsLegal (sym p.1) legal)
 
+-- A front is at most as long as the history.
 pub length-begins : (f h : List Entry) → IsPrefix f h → length f ≤ length h
 length-begins f h p = subst (λ (l : List Entry). length f ≤ length l) p.1 (longer f p.0)
   where
@@ -19,21 +21,24 @@ length-begins f h p = subst (λ (l : List Entry). length f ≤ length l) p.1 (lo
     longer [] r = omega arith
     longer (x ∷ xs) r = omega (arith, longer xs r)
 
--- one more entry
+-- a history with one more entry
 
+-- An entry of session i adds its call to the session's calls.
 pub calls-mine : (i : ℕ) (h : List Entry) (call : Call) (reply : Reply) → calls_of i (h ++ entry i call reply ∷ []) ≡ calls_of i h ++ answer (length h) call reply ∷ []
 calls-mine i h call reply = calls_of-push i h (entry i call reply) ∙ ap (λ (b : Bool). calls_of i h ++ cond b (answer (length h) call reply ∷ []) []) (eq-eqb i i refl)
 
+-- An entry of another session doesn't change the session's calls.
 pub calls-other : (i j : ℕ) (h : List Entry) (call : Call) (reply : Reply) → j ≢ i → calls_of i (h ++ entry j call reply ∷ []) ≡ calls_of i h
 calls-other i j h call reply ne = calls_of-push i h (entry j call reply)
     ∙ (ap (λ (b : Bool). calls_of i h ++ cond b (answer (length h) call reply ∷ []) []) (ne_eqb j i ne) ∙ append-nil (calls_of i h))
 
--- fronts
+-- fronts of a history
 
+-- The entry's call as answered at this place.
 abbrev at : ℕ → Entry → Answered
 at place e = answer place e.call e.reply
 
--- the last call of a session stands at or behind the first place
+-- The last call of a session has a place not below the first.
 place_late : (i k : ℕ) (h : List Entry) (cs : List Answered) (x : Answered) → calls_from i k h ≡ cs ++ x ∷ [] → k ≤ x.place
 place_late i k [] [] x e = absurd (cc e)
 place_late i k [] (c ∷ cs) x e = absurd (cc e)
@@ -55,7 +60,7 @@ calls_none i k (suc n) (x ∷ xs) e =
     (elim (eqb x.session i) as (λ b. cond b (at k x ∷ later) later ≡ [] → cond b (at k x ∷ later_cut) later_cut ≡ [])
     [ true ↦ λ is. absurd (cc is) | false ↦ calls_none i (k + 1) n xs ]) e
 
--- a front that has the last call of a session has all of them
+-- A front that has the last call of a session has all its calls.
 pub calls-cut : (i k n : ℕ) (h : List Entry) (cs : List Answered) (x : Answered) → calls_from i k h ≡ cs ++ x ∷ [] → x.place < k + n → calls_from i k (take n h) ≡ calls_from i k h
 calls-cut i k n [] cs x e small = absurd (elim cs as (λ ds. [] ≡ ds ++ x ∷ [] → ⊥) [ [] ↦ λ is. cc is | d ∷ ds ↦ λ is. cc is ] e)
 calls-cut i k zero (y ∷ ys) cs x e small = let late = place_late i k (y ∷ ys) cs x e in absurd (omega arith)
@@ -70,7 +75,7 @@ calls-cut i k (suc n) (y ∷ ys) cs x e small =
     ] in
     (elim (eqb y.session i) as (λ b. cond b (c ∷ later) later ≡ cs ++ x ∷ [] → cond b (c ∷ later_cut) later_cut ≡ cond b (c ∷ later) later) [ true ↦ here cs | false ↦ deep cs ]) e
 
--- a front has no more calls of a session
+-- A front has at most as many calls of a session as the whole history.
 calls_append : (i k : ℕ) (f r : List Entry) → length (calls_from i k f) ≤ length (calls_from i k (f ++ r))
 calls_append i k [] r = omega arith
 calls_append i k (x ∷ xs) r =
@@ -79,5 +84,6 @@ calls_append i k (x ∷ xs) r =
     let t = calls_append i (k + 1) xs r in
     elim (eqb x.session i) as (λ b. length (cond b (at k x ∷ later) later) ≤ length (cond b (at k x ∷ longer) longer)) [ true ↦ omega arith | false ↦ t ]
 
+-- A front of a history has at most as many calls of a session.
 pub calls-fewer : (i : ℕ) (f h : List Entry) → IsPrefix f h → length (calls_of i f) ≤ length (calls_of i h)
 calls-fewer i f h p = subst (λ (l : List Entry). length (calls_of i f) ≤ length (calls_of i l)) p.1 (calls_append i 0 f p.0)

@@ -1,33 +1,34 @@
--- The kinds of step: whose view changes, and which word. Beside them stand the looks, which change nothing and tell what a
--- lost exchange would.
+-- The kinds of step: each is one atomic step on one word, the slot that it takes or lays down, and the change of a
+-- view. A "look" is a plain load: it changes nothing, and tells what a lost exchange would tell.
 --
---   start           a new session's   its record's word is read; the slot leaves
---   post            the session's     its record, EMPTY or OUT to POSTED, by an exchange that tells which; the call goes into the slot
---   look at head    nobody's          the head word is read
---   link            the session's     its own link, to the head as seen
---   head exchange   the session's     the head word, from the head as seen to its number, by compare-exchange
---   look for reply  nobody's          its record's word is read
---   take            the session's     its record, SERVED to EMPTY or OUT, by compare-exchange; the reply leaves the slot
---   look at lock    nobody's          the lock word is read
---   seize           the combiner's    the lock word, FREE to its number, by compare-exchange; the book leaves its slot
---   release         the combiner's    the lock word, to FREE; the book goes into its slot
---   walk            the combiner's    the head word is read, and the whole list is known
---   walk on         nobody's          the link of a record on the list is read
---   unlink          the combiner's    the link of the record before, to the one behind the record unlinked
---   mark out        the combiner's    the unlinked record's word, EMPTY to OUT, by compare-exchange
---   relink          the combiner's    the link of the record before, to the unlinked record again
---   look at record  nobody's          a record's word is read
---   open            the combiner's    a record, POSTED to BUSY, by compare-exchange; the call leaves the slot
---   lay             the combiner's    that record's word is read; the slot goes home with nothing in it
---   pick            the combiner's    that record's word is read; the slot is taken again
---   answer          the combiner's    that record, BUSY to SERVED; the reply goes into the slot, and the entry joins the history
---   put back        the combiner's    that record, BUSY to POSTED; the call goes into the slot
---   cut             a new seat's      the lock word is read; the new seat has a copy of what another seat knows
---   join            the hearing one's the lock word is read; the seat that was cut is taken in, and ends
---   learn           the hearing one's the lock word is read; the longer of both fronts is known to be the history's
---   retire          the session's     its record, EMPTY or OUT to CLOSED
---   leave           the session's     its record's word is read; its slot goes home for good
---   gather          the closing one's the lock word is read; the seat of a session that left is taken in, and ends
+--   kind            whose view      the word, and the slot
+--   start           the session's   its record's state word is read; the session takes the slot
+--   post            the session's   its record, EMPTY or OUT to POSTED, by a swap; the call goes into the slot
+--   look at head    none            the head word is read
+--   link            the session's   its own link, to the head as seen
+--   enlist          the session's   the head word, from the head as seen to its number, by compare-exchange
+--   look for reply  none            its record's state word is read
+--   take            the session's   its record, SERVED to EMPTY or OUT, by compare-exchange; the reply leaves the slot
+--   look at lock    none            the lock word is read
+--   seize           the combiner's  the lock word, FREE to its number, by compare-exchange; the load leaves its slot
+--   release         the combiner's  the lock word, to FREE; the load goes into its slot
+--   walk            the combiner's  the head word is read, and the whole list is known
+--   walk on         none            the link of a record on the list is read
+--   unlink          the combiner's  the link of the record in front, to the one behind the unlinked record
+--   mark out        the combiner's  the unlinked record's state word, EMPTY to OUT, by compare-exchange
+--   relink          the combiner's  the link of the record in front, to the unlinked record again
+--   look at record  none            a record's state word is read
+--   open            the combiner's  a record, POSTED to BUSY, by compare-exchange; the call leaves the slot
+--   lay             the combiner's  that record's state word is read; the slot goes home empty
+--   pick            the combiner's  that record's state word is read; the slot is taken again
+--   answer          the combiner's  that record, BUSY to SERVED; the reply goes into the slot; the history grows
+--   put back        the combiner's  that record, BUSY to POSTED; the call goes into the slot
+--   split copy      a new seat's    the lock word is read; the new seat has a copy of what another seat knows
+--   join copy       the learner's   the lock word is read; the copy is joined into the seat, and ends
+--   learn           the learner's   the lock word is read; the longer of both fronts is known to begin the history
+--   retire          the session's   its record, EMPTY or OUT to CLOSED
+--   leave           the session's   its record's state word is read; its slot goes home for good
+--   gather          the closing's   the lock word is read; the seat of a session that left is joined into it, and ends
 use Rattle.std.specs.Prelude.{◌≡◌, ◌≢◌, ℕ, ◌+◌, ◌^◌, ◌<◌, ◌≤◌, max, nat_lt, ◌==◌, ◌||◌, cond, Bool, true, false, Option, Some, None, List, [], ◌∷◌, ◌++◌, length, slice_set, slice_index_or}
 use mathlib.Core.Option as opt
 use mathlib.Core.List.{IsPrefix}
@@ -46,340 +47,348 @@ use Rattle.publication.specs.Rule.{fresh, no_combiner, unwalked, apart, IsHome, 
 use Rattle.publication.specs.List.{IsOn, AreApart, head_of, behind, without, with_behind}
 use Rattle.publication.specs.declared.view.View.{View}
 use Rattle.publication.specs.declared.slot.Load.{Load}
-use Rattle.publication.specs.declared.slot.Held.{Held}
-use Rattle.publication.specs.declared.slot.Held.TheVariants.{Nothing, Asked, Replied, Home}
+use Rattle.publication.specs.declared.slot.SlotValue.{SlotValue}
+use Rattle.publication.specs.declared.slot.SlotValue.TheVariants.{Empty, PostedCall, ServedReply, LockTable}
 
--- a seat's view, and the slots that are out with it
+-- A seat's view, and the slots that the seat carries, each with its value.
 abbrev pub Seated : Type 0
-Seated = Me Held View
+Seated = Me SlotValue View
 
--- what is told of a step: by the seat before, the number found, and the seat after
-abbrev pub Tells : Type 1
-Tells = Seated → ℕ → Seated → Type 0
+-- What a step says of its seat before, the value that it found in the word (for a store, the value stored), and the
+-- seat after.
+abbrev pub Outcome : Type 1
+Outcome = Seated → ℕ → Seated → Type 0
 
--- what a kind of step tells, by the step's word and operands
+-- A kind of step: what a step of this kind says, given its word and operands.
 abbrev pub Kind : Type 1
-Kind = Step Held → Tells
+Kind = Step SlotValue → Outcome
 
--- a session that publishes, with what it waits for, what it has collected, and whether the call that it published last is listed
+-- What a session that can publish knows of its own calls.
 abbrev pub own : Option Pending → List Answered → Bool → Own
 own pending collected listed = record { started = true; retired = false; pending = pending; collected = collected; listed = listed }
 
--- what a combiner has
+-- The combiner's part of a view.
 abbrev pub combiner : Bool → List (Option Call) → ℕ → Combiner
 combiner has_book opened hand = record { has_book = has_book; opened = opened; hand = hand }
 
--- a session's step: its front, what it knows of its own calls, what it heard, and what it knows of the publication list
+-- The view after a step of the session itself.
 abbrev pub as_session : View → List Entry → Own → List ℕ → Listing → View
 as_session v front o heard l = record { number = v.number; slots = v.slots; made = v.made; front = front; own = o; combiner = v.combiner; heard = heard; listing = l; others = v.others }
 
--- a combiner's step: its front, what it has, and what it knows of the publication list
+-- The view after a step of the combiner.
 abbrev pub as_combiner : View → List Entry → Combiner → Listing → View
 as_combiner v front c l = record { number = v.number; slots = v.slots; made = v.made; front = front; own = v.own; combiner = c; heard = v.heard; listing = l; others = v.others }
 
--- a session isn't about to exchange the head
-abbrev pub idling : Listing → Listing
-idling l = record { aim = None; route = l.route; off = l.off; before = l.before }
+-- The listing once the exchange of the head word was tried, or isn't due: no head is noted.
+abbrev pub forget_head : Listing → Listing
+forget_head l = record { head_seen = None; route = l.route; off = l.off; before = l.before }
 
 -- Start.
 
--- the session has its record's slot
+-- The session owns its record's slot from now on.
 abbrev pub started : View → View
-started v = as_session v v.front (own None v.own.collected v.own.listed) v.heard (idling v.listing)
+started v = as_session v v.front (own None v.own.collected v.own.listed) v.heard (forget_head v.listing)
 
--- start: the slot has nothing in it
+-- Start: the session takes its record's slot, which is empty.
 abbrev pub starts : Kind
-starts st m found n = n ≡ (started m.0, (m.0.number, Nothing) ∷ m.1)
+starts st m found n = n ≡ (started m.0, (m.0.number, Empty) ∷ m.1)
 
 -- Post.
 
--- the call in the slot that was taken last
-abbrev pub asked : List (ℕ × Held) → Call
+-- The call in the slot taken last; `Poll` if none is there.
+abbrev pub asked : List (ℕ × SlotValue) → Call
 asked [] = Poll
-asked (x ∷ xs) = elim x.1 [ Nothing ↦ Poll | Asked call ↦ call | Replied place reply ↦ Poll | Home load ↦ Poll ]
+asked (x ∷ xs) = elim x.1 [ Empty ↦ Poll | PostedCall call ↦ call | ServedReply place reply ↦ Poll | LockTable load ↦ Poll ]
 
--- a session has heard of all its calls, of which one is pending
+-- The heard counts after the session counts its pending call as heard.
 abbrev pub heard_all : View → List ℕ
 heard_all v = slice_set v.heard v.number (length v.own.collected + 1)
 
--- the call is pending, the floor is the number of entries that are known, and where the record was on the list the call is listed, and
--- the session has heard of it
+-- The call is pending, with the number of known entries as its floor. If the record was on the list, the call is
+-- listed and heard.
 abbrev pub posting : View → Call → Bool → View
-posting v call listed = as_session v v.front (own (Some (asks call (length v.front))) v.own.collected listed) (cond listed (heard_all v) v.heard) (idling v.listing)
+posting v call listed = as_session v v.front (own (Some (asks call (length v.front))) v.own.collected listed) (cond listed (heard_all v) v.heard) (forget_head v.listing)
 
--- post: the call that is asked is the one in the slot, and it is listed where the record was EMPTY
+-- Post: the call in the slot is published. It is listed if the record was EMPTY.
 abbrev pub posts : Kind
 posts st m found n = n ≡ (posting m.0 (asked m.1) (found == EMPTY), rest m.1)
 
--- Enlist a record whose pending call isn't listed.
+-- Enlist a record: put it at the head of the publication list.
 
--- where the list isn't empty there is another session
+-- If the head word names a record, there is more than one session.
 abbrev pub HasAnother : ℕ → ℕ → Type 0
 HasAnother slots found = found ≢ END → 2 < slots
 
--- the look tells it
+-- Look at head: nothing changes.
 abbrev pub looks_at_head : Kind
 looks_at_head st m found n = (n ≡ m) × HasAnother st.slots found
 
--- the session is about to exchange this head
+-- The session notes the head that it wrote into its link.
 abbrev pub linking : View → ℕ → View
-linking v head = as_session v v.front v.own v.heard (record { aim = Some head; route = v.listing.route; off = v.listing.off; before = v.listing.before })
+linking v head = as_session v v.front v.own v.heard (record { head_seen = Some head; route = v.listing.route; off = v.listing.off; before = v.listing.before })
 
--- link: the head is what the session writes into its link
+-- Link: the session writes the head as seen into its own link.
 abbrev pub links : Kind
 links st m found n = n ≡ (linking m.0 st.first, m.1)
 
--- it has tried to
-abbrev pub unlinking : View → View
-unlinking v = as_session v v.front v.own v.heard (idling v.listing)
+-- The exchange of the head word was lost: no head is noted.
+abbrev pub losing_head : View → View
+losing_head v = as_session v v.front v.own v.heard (forget_head v.listing)
 
--- the pending call is listed, and the session has heard of it
+-- The exchange of the head word was won: the pending call is listed and heard.
 abbrev pub enlisting : View → View
-enlisting v = as_session v v.front (record { started = v.own.started; retired = v.own.retired; pending = v.own.pending; collected = v.own.collected; listed = true }) (heard_all v) (idling v.listing)
+enlisting v = as_session v v.front (record { started = v.own.started; retired = v.own.retired; pending = v.own.pending; collected = v.own.collected; listed = true }) (heard_all v) (forget_head v.listing)
 
--- head exchange: where the head is still the one seen the record is the first on the list
+-- Enlist: if the head word is still the head as seen, the record becomes the list's first; else the exchange is lost.
 abbrev pub enlists : Kind
-enlists st m found n = (found ≡ st.first → n ≡ (enlisting m.0, m.1)) × (found ≢ st.first → (n ≡ (unlinking m.0, m.1)) × HasAnother st.slots found)
+enlists st m found n = (found ≡ st.first → n ≡ (enlisting m.0, m.1)) × (found ≢ st.first → (n ≡ (losing_head m.0, m.1)) × HasAnother st.slots found)
 
 -- Look for the reply, and take it.
 
--- where a call is pending, the history that its session knows hasn't its entry
+-- If a call is pending, its entry isn't in the history that the session knows.
 abbrev pub IsUnanswered : View → Type 0
 IsUnanswered v = v.own.pending ≢ None → length (calls_of v.number v.front) ≤ length v.own.collected
 
--- the look tells it where the record isn't served
+-- Look for reply: nothing changes. If the record isn't SERVED, the pending call's entry isn't in the known history.
 abbrev pub looks_for_reply : Kind
 looks_for_reply st m found n = (n ≡ m) × (found ≢ SERVED → IsUnanswered m.0)
 
--- nothing is pending, and the answer is collected
+-- The pending call is collected with its reply and place, and nothing is pending.
 abbrev pub taking : View → List Entry → Call → ℕ → Reply → View
-taking v front call place reply = as_session v front (record { started = true; retired = v.own.retired; pending = None; collected = v.own.collected ++ answer place call reply ∷ []; listed = v.own.listed }) v.heard (idling v.listing)
+taking v front call place reply = as_session v front (record { started = true; retired = v.own.retired; pending = None; collected = v.own.collected ++ answer place call reply ∷ []; listed = v.own.listed }) v.heard (forget_head v.listing)
 
--- what a session that takes a reply learns: a legal front of the history, which begins with the one that it knew, and is as
--- long as the longer of that one and the one that ends with the call's entry; the entry is its call with this reply, at a
--- place not below the floor; and the session has then collected all its calls in that front
+-- What a session learns with a reply: a legal front of the history that continues the known one, and ends with the
+-- call's entry if that is later; the entry, its call with this reply, at a place not below the floor; and that the
+-- session has now collected all its calls in that front.
 pub record Took (number : ℕ) (known : List Entry) (collected : List Answered) (call : Call) (floor place : ℕ) (reply : Reply) (front : List Entry) : Type 0 where
   pub legal : IsLegal front
   pub short : length front < 2 ^ 64
+  -- The longer of two fronts of the history; the first if both are as long.
   pub longer : IsPrefix known front
   pub long : length front ≡ max (length known) (place + 1)
   pub stands : get_elem? front place ≡ opt.some (entry number call reply)
   pub late : floor ≤ place
   pub calls : calls_of number front ≡ collected ++ answer place call reply ∷ []
 
--- the pending call is answered with this reply at this place, and its slot, with what is held in it, is out with the session again
-abbrev pub HasTaken : Seated → Seated → Held → ℕ → Reply → Type 0
+-- The pending call was answered with this reply at this place, and the session carries the slot again, with this
+-- value in it.
+abbrev pub HasTaken : Seated → Seated → SlotValue → ℕ → Reply → Type 0
 HasTaken m n held place reply = (call : Call) × (floor : ℕ) × (front : List Entry) × (m.0.own.pending ≡ Some (asks call floor))
     × (n ≡ (taking m.0 front call place reply, (m.0.number, held) ∷ m.1))
     × Took m.0.number m.0.front m.0.own.collected call floor place reply front
 
--- take: where the record is served the answer is taken, else nothing changes
+-- Take: if the record is SERVED, the session takes the reply; else nothing changes.
 abbrev pub takes_reply : Kind
-takes_reply st m found n = (found ≡ SERVED → (place : ℕ) × (reply : Reply) × HasTaken m n (Replied place reply) place reply)
+takes_reply st m found n = (found ≡ SERVED → (place : ℕ) × (reply : Reply) × HasTaken m n (ServedReply place reply) place reply)
     × (found ≢ SERVED → (n ≡ m) × IsUnanswered m.0)
 
 -- Look at the lock word, and seize the book.
 
--- who hasn't the book isn't the only session
+-- If the session isn't the combiner, there is more than one session.
 abbrev pub HasOthers : ℕ → View → Type 0
 HasOthers slots v = v.combiner.has_book ≡ false → 2 < slots
 
--- the look tells it where somebody has the book
+-- Look at lock: nothing changes. If the lock word isn't FREE, and the session isn't the combiner, there is more than
+-- one session.
 abbrev pub looks_at_lock : Kind
 looks_at_lock st m found n = (n ≡ m) × (found ≢ FREE → HasOthers st.slots m.0)
 
--- it has the book, and knows the history that the book has
+-- The session is the combiner, and knows the whole history, which is the book's.
 abbrev pub seizing : View → List Entry → View
 seizing v front = as_combiner v front (combiner true v.combiner.opened 0) unwalked
 
--- what a session that seizes the book learns
+-- What a session learns when it becomes the combiner: it was not the combiner, the load is as it has to be at home,
+-- and the book's history is legal and continues the known front.
 pub record Seized (v : View) (slots : ℕ) (load : Load) : Type 0 where
   pub lacked : v.combiner.has_book ≡ false
   pub home : IsHome load.book.history slots load
   pub legal : IsLegal load.book.history
   pub longer : IsPrefix v.front load.book.history
 
--- seize: where the lock word is free the load leaves its slot, else nothing changes
+-- Seize: if the lock word is FREE, the session takes the load; else nothing changes.
 abbrev pub seizes : Kind
-seizes st m found n = (found ≡ FREE → (load : Box Load) × (n ≡ (seizing m.0 load.value.book.history, (0, Home load) ∷ m.1)) × Seized m.0 st.slots load.value)
+seizes st m found n = (found ≡ FREE → (load : Box Load) × (n ≡ (seizing m.0 load.value.book.history, (0, LockTable load) ∷ m.1)) × Seized m.0 st.slots load.value)
     × (found ≢ FREE → (n ≡ m) × HasOthers st.slots m.0)
 
 -- Release.
 
--- it has the book no more
+-- The session isn't the combiner any more.
 abbrev pub releasing : View → View
 releasing v = as_combiner v v.front (combiner false v.combiner.opened 0) unwalked
 
--- release: the load that goes home is the one in the slot
+-- Release: the load goes back into the lock's slot.
 abbrev pub releases : Kind
 releases st m found n = n ≡ (releasing m.0, rest m.1)
 
 -- Walk the publication list.
 
--- the route is what the walk meets
+-- The view with this route.
 abbrev pub routing : View → List ℕ → View
-routing v route = as_session v v.front v.own v.heard (record { aim = v.listing.aim; route = route; off = v.listing.off; before = v.listing.before })
+routing v route = as_session v v.front v.own v.heard (record { head_seen = v.listing.head_seen; route = route; off = v.listing.off; before = v.listing.before })
 
--- the records that a walk meets: each is a session's, and is met once
+-- Each record that the walk meets is a session's, and is met once.
 pub record IsRoute (slots : ℕ) (route : List ℕ) : Type 0 where
   pub apart : AreApart route
   pub within : (q : ℕ) → IsOn q route → (0 < q) × (q < slots)
 
--- a call that was heard of is in the history, or its session's record is met
+-- If the seat has heard of a call of session j that isn't in the known history, the walk meets record j.
 abbrev pub MeetsAll : ℕ → View → List ℕ → Type 0
 MeetsAll slots v route = (j : ℕ) → 0 < j → j < slots → length (calls_of j v.front) < heard_of v j → IsOn j route
 
--- walk: the head word names the first record of the route
+-- Walk: the head word names the first record of a route, which meets every record that it has to.
 abbrev pub walks : Kind
 walks st m found n = (route : List ℕ) × (n ≡ (routing m.0 route, m.1)) × (found ≡ head_of route) × IsRoute st.slots route × MeetsAll st.slots m.0 route
 
--- walk on: the link of a record that is met names the next
-abbrev pub walks_on_from : ℕ → ℕ → Tells
+-- Walk on from q: the link of q names the next record of the route.
+abbrev pub walks_on_from : ℕ → ℕ → Outcome
 walks_on_from slots q m found n = (n ≡ m) × (found ≡ head_of (behind q m.0.listing.route)) × IsRoute slots m.0.listing.route
 
--- it is the record whose link was read
+-- Walk on, from the record whose link is read.
 abbrev pub walks_on : Kind
 walks_on st = walks_on_from st.slots (session_of_word st.word)
 
--- Unlink a record, and mark it out or link it again.
+-- Unlink a record, and mark it OUT or link it again.
 
--- the record behind this one is off the list
-abbrev pub parting : View → ℕ → View
-parting v before = as_session v v.front v.own v.heard
-    (record { aim = v.listing.aim; route = without before v.listing.route; off = head_of (behind before v.listing.route); before = before })
+-- The record behind `before` is unlinked, and noted as `off`.
+abbrev pub bypassing : View → ℕ → View
+bypassing v before = as_session v v.front v.own v.heard
+    (record { head_seen = v.listing.head_seen; route = without before v.listing.route; off = head_of (behind before v.listing.route); before = before })
 
--- unlink: the link that is written names what follows the record that was behind
-abbrev pub unlinks_behind : ℕ → Tells
-unlinks_behind before m found n = n ≡ (parting m.0 before, m.1)
+-- Unlink the record behind `before`.
+abbrev pub unlinks_behind : ℕ → Outcome
+unlinks_behind before m found n = n ≡ (bypassing m.0 before, m.1)
 
--- it is the record whose link was written
+-- Unlink, behind the record whose link is written.
 abbrev pub unlinks : Kind
 unlinks st = unlinks_behind (session_of_word st.word)
 
--- no record is off the list but those that are marked out
-abbrev pub parted : View → View
-parted v = as_session v v.front v.own v.heard (record { aim = v.listing.aim; route = v.listing.route; off = 0; before = 0 })
+-- No record is noted as unlinked.
+abbrev pub none_unlinked : View → View
+none_unlinked v = as_session v v.front v.own v.heard (record { head_seen = v.listing.head_seen; route = v.listing.route; off = 0; before = 0 })
 
--- mark out: where the record was EMPTY, or is CLOSED, it is off the list for good, else nothing changes
+-- Mark out: if the record was EMPTY or CLOSED, it is off the list for good; else nothing changes.
 abbrev pub marks_out : Kind
-marks_out st m found n = (found ≡ EMPTY → n ≡ (parted m.0, m.1)) × (found ≡ CLOSED → n ≡ (parted m.0, m.1)) × (found ≢ EMPTY → found ≢ CLOSED → n ≡ m)
+marks_out st m found n = (found ≡ EMPTY → n ≡ (none_unlinked m.0, m.1)) × (found ≡ CLOSED → n ≡ (none_unlinked m.0, m.1)) × (found ≢ EMPTY → found ≢ CLOSED → n ≡ m)
 
--- the record that was unlinked is on the list again
-abbrev pub rejoining : View → View
-rejoining v = as_session v v.front v.own v.heard (record { aim = v.listing.aim; route = with_behind v.listing.before v.listing.off v.listing.route; off = 0; before = 0 })
+-- The unlinked record is on the list again, where it was.
+abbrev pub relinking : View → View
+relinking v = as_session v v.front v.own v.heard (record { head_seen = v.listing.head_seen; route = with_behind v.listing.before v.listing.off v.listing.route; off = 0; before = 0 })
 
--- relink: the link names it again
+-- Relink: the link in front names the unlinked record again.
 abbrev pub relinks : Kind
-relinks st m found n = n ≡ (rejoining m.0, m.1)
+relinks st m found n = n ≡ (relinking m.0, m.1)
 
 -- Look at a record, and open it.
 
--- the call of a record, where the combiner has opened it
+-- The call that the combiner has opened in record j, if it has.
 abbrev pub opened_in : View → ℕ → Option Call
 opened_in v j = slice_index_or v.combiner.opened j None
 
--- the calls of a session that were heard of are in the history, and so is one's own pending call, where the record isn't opened
+-- Unless record j is opened: the calls of session j that were heard of are in the known history, and so is the
+-- combiner's own pending call if j is its record.
 abbrev pub HasEntered : View → ℕ → Type 0
 HasEntered v j = opened_in v j ≡ None → (heard_of v j ≤ length (calls_of j v.front)) × (v.number ≡ j → v.own.pending ≢ None → length v.own.collected < length (calls_of j v.front))
 
--- the look tells it where no call is posted in the record
-abbrev pub looks_at : ℕ → Tells
+-- Look at record j: nothing changes. If no call is posted there, the calls of its session are entered.
+abbrev pub looks_at : ℕ → Outcome
 looks_at j m found n = (n ≡ m) × (found ≢ POSTED → HasEntered m.0 j)
 
--- it is the record whose word was read
+-- Look at the record whose state word is read.
 abbrev pub looks_at_record : Kind
 looks_at_record st = looks_at (session_of_word st.word)
 
--- record j is opened with this call, and its slot is in hand
+-- Record j is opened with this call, and its slot is in the combiner's hand.
 abbrev pub opening : View → ℕ → Call → View
 opening v j call = as_combiner v v.front (combiner true (slice_set v.combiner.opened j (Some call)) j) v.listing
 
--- what a combiner that opens a record learns: it has opened it, which it hadn't; of its session it had heard of at most one call
--- that isn't in the history; and of its own calls all but the one are in it
+-- What a combiner learns when it opens record j: it had not opened it before; of session j it had heard of at most
+-- one call that isn't in the history; and if the record is its own, it had collected all its calls in the history.
 pub record Opened (v : View) (j : ℕ) (call : Call) : Type 0 where
   pub lacked : opened_in v j ≡ None
   pub call_is : opened_in (opening v j call) j ≡ Some call
   pub heard : heard_of v j ≤ length (calls_of j v.front) + 1
   pub own : v.number ≡ j → length v.own.collected ≡ length (calls_of j v.front)
 
--- open: where a call is posted in the record it leaves the slot, else nothing changes
-abbrev pub opens_record : ℕ → Tells
-opens_record j m found n = (found ≡ POSTED → (call : Call) × (n ≡ (opening m.0 j call, (j, Asked call) ∷ m.1)) × Opened m.0 j call)
+-- Open record j: if a call is posted there, the combiner takes it; else nothing changes.
+abbrev pub opens_record : ℕ → Outcome
+opens_record j m found n = (found ≡ POSTED → (call : Call) × (n ≡ (opening m.0 j call, (j, PostedCall call) ∷ m.1)) × Opened m.0 j call)
     × (found ≢ POSTED → (n ≡ m) × HasEntered m.0 j)
 
--- it is the record whose word was exchanged
+-- Open the record whose state word is exchanged.
 abbrev pub opens : Kind
 opens st = opens_record (session_of_word st.word)
 
 -- Lay the slot of an opened record down, and pick it up again.
 
--- the slot of record j is in hand, or with 0 none
+-- The slot of record j is in the combiner's hand; with j = 0, none is.
 abbrev pub in_hand : View → ℕ → View
 in_hand v j = as_combiner v v.front (combiner true v.combiner.opened j) v.listing
 
--- lay: nothing is in hand
+-- Lay: the slot in hand goes home. A seat reaches only the slot that it took last, so the combiner lays each slot
+-- down at once.
 abbrev pub lays : Kind
 lays st m found n = n ≡ (in_hand m.0 0, rest m.1)
 
--- pick: the slot of record j is in hand, with nothing in it
-abbrev pub picks_slot : ℕ → Tells
-picks_slot j m found n = n ≡ (in_hand m.0 j, (j, Nothing) ∷ m.1)
+-- Pick record j's slot: it is in hand again, empty.
+abbrev pub picks_slot : ℕ → Outcome
+picks_slot j m found n = n ≡ (in_hand m.0 j, (j, Empty) ∷ m.1)
 
--- it is the record whose word was read
+-- Pick the slot of the record whose state word is read.
 abbrev pub picks : Kind
 picks st = picks_slot (session_of_word st.word)
 
 -- Answer the call of the record whose slot is in hand.
 
--- the call that is there, of which no use is made where none is
+-- The call, or `Poll` if there is none, a value that nothing relies on.
 abbrev pub called : Option Call → Call
 called None = Poll
 called (Some call) = call
 
--- the call of a record that is opened
+-- The call opened in record j.
 abbrev pub call_at : View → ℕ → Call
 call_at v j = called (opened_in v j)
 
--- the reply in the slot that was taken last
-abbrev pub replied : List (ℕ × Held) → Reply
+-- The reply in the slot taken last; `Clear` if none is there.
+abbrev pub replied : List (ℕ × SlotValue) → Reply
 replied [] = Clear
-replied (x ∷ xs) = elim x.1 [ Nothing ↦ Clear | Asked call ↦ Clear | Replied place reply ↦ reply | Home load ↦ Clear ]
+replied (x ∷ xs) = elim x.1 [ Empty ↦ Clear | PostedCall call ↦ Clear | ServedReply place reply ↦ reply | LockTable load ↦ Clear ]
 
--- the entry is the last that is known, and record j isn't opened any more
+-- The call's entry is the last of the known history, and record j isn't opened any more.
 abbrev pub answering : View → ℕ → Call → Reply → View
 answering v j call reply = as_combiner v (v.front ++ entry j call reply ∷ []) (combiner true (slice_set v.combiner.opened j None) 0) v.listing
 
--- answer: the reply is the one in the slot
+-- Answer: the call of the record in hand is answered with the reply in its slot.
 abbrev pub answers : Kind
 answers st m found n = n ≡ (answering m.0 m.0.combiner.hand (call_at m.0 m.0.combiner.hand) (replied m.1), rest m.1)
 
 -- Put back the call of the record whose slot is in hand.
 
--- record j isn't opened any more
+-- Record j isn't opened any more.
 abbrev pub putting_back : View → ℕ → View
 putting_back v j = as_combiner v v.front (combiner true (slice_set v.combiner.opened j None) 0) v.listing
 
--- put back: the history stays as it is
+-- Put back: the call of the record in hand is posted again, and the history stays as it is.
 abbrev pub puts_back : Kind
 puts_back st m found n = n ≡ (putting_back m.0 m.0.combiner.hand, rest m.1)
 
--- Hear what another seat knows: that seat is cut in two, the new seat is taken in, and a load after it tells what follows.
+-- Hear what another seat knows: a copy is split off that seat and joined into the hearing one, and a load then shows
+-- which front is the longer.
 
--- a seat's step by which it learns from another: its front, what it heard, and what it knows of others
+-- The view after a seat learned from another.
 abbrev pub as_hearer : View → List Entry → List ℕ → Others → View
 as_hearer v front heard others = record { number = v.number; slots = v.slots; made = v.made; front = front; own = v.own; combiner = v.combiner; heard = heard; listing = v.listing; others = others }
 
--- cut: the new seat has a copy of what this one knows of the history and of what is published
+-- A new seat that knows what this one does of the history and of what is published, and nothing else.
 abbrev pub copy_of : View → View
 copy_of v = record { number = 0; slots = 0; made = 0; front = v.front; own = fresh; combiner = no_combiner 0; heard = v.heard; listing = unwalked; others = apart true }
 
--- number by number the larger
+-- The larger element at each index.
 abbrev pub maxes : List ℕ → List ℕ → List ℕ
 maxes [] ys = ys
 maxes (x ∷ xs) [] = x ∷ xs
 maxes (x ∷ xs) (y ∷ ys) = max x y ∷ maxes xs ys
 
--- join: of each session the larger number of calls is heard, and the other's front is beside one's own
+-- The seat counts as heard the larger number for each session, and notes the other's front beside its own.
 abbrev pub joined : View → View → View
 joined v w = as_hearer v v.front (maxes v.heard w.heard) (record { all_made = v.others.all_made || w.others.all_made; beside = w.front; handed = v.others.handed })
 
@@ -387,12 +396,12 @@ joined v w = as_hearer v v.front (maxes v.heard w.heard) (record { all_made = v.
 abbrev pub longer : List Entry → List Entry → List Entry
 longer f g = cond (nat_lt (length f) (length g)) g f
 
--- the front is the longer of both
+-- The seat knows the longer of both fronts.
 abbrev pub learning : View → View
 learning v = as_hearer v (longer v.front v.others.beside) v.heard v.others
 
--- what a seat that took another in learns: both knew fronts of one history, which is legal; and nobody has heard of more calls
--- of this session than it has announced
+-- What a seat learns from another: the longer front is legal and continues both fronts, and nobody has heard of more
+-- calls of this session than it has announced.
 pub record Learned (v : View) : Type 0 where
   pub legal : IsLegal (longer v.front v.others.beside)
   pub short : length (longer v.front v.others.beside) < 2 ^ 64
@@ -400,38 +409,38 @@ pub record Learned (v : View) : Type 0 where
   pub theirs : IsPrefix v.others.beside (longer v.front v.others.beside)
   pub heard : heard_of v v.number ≤ announced v.own
 
--- learn: the load that follows a join
+-- Learn: the load that follows a join.
 abbrev pub learns : Kind
 learns st m found n = (n ≡ (learning m.0, m.1)) × Learned m.0
 
--- all three: the seat knows what the other knows
+-- All three steps: split copy, join copy, learn.
 abbrev pub hearing : View → View → View
 hearing v w = learning (joined v (copy_of w))
 
 -- Retire.
 
--- the session publishes no more
+-- The session publishes no more calls.
 abbrev pub retiring : View → View
-retiring v = as_session v v.front (record { started = true; retired = true; pending = None; collected = v.own.collected; listed = v.own.listed }) v.heard (idling v.listing)
+retiring v = as_session v v.front (record { started = true; retired = true; pending = None; collected = v.own.collected; listed = v.own.listed }) v.heard (forget_head v.listing)
 
--- retire: the slot stays with the session
+-- Retire: the record is CLOSED, and the session keeps its slot.
 abbrev pub retires : Kind
 retires st m found n = n ≡ (retiring m.0, m.1)
 
 -- Leave, and gather who left.
 
--- the session has its record's slot no more
+-- The session doesn't own its record's slot any more.
 abbrev pub leaving : View → View
-leaving v = as_session v v.front (record { started = false; retired = v.own.retired; pending = None; collected = v.own.collected; listed = v.own.listed }) v.heard (idling v.listing)
+leaving v = as_session v v.front (record { started = false; retired = v.own.retired; pending = None; collected = v.own.collected; listed = v.own.listed }) v.heard (forget_head v.listing)
 
--- leave: the slot that goes home has nothing in it
+-- Leave: the session's slot goes home, empty.
 abbrev pub leaves : Kind
 leaves st m found n = n ≡ (leaving m.0, rest m.1)
 
--- what a closing seat keeps of a session that is handed in
+-- What the closing seat keeps of a session that is handed in.
 abbrev pub handed_in : View → Handed
 handed_in w = record { number = w.number; collected = w.own.collected; front = w.front }
 
--- gather: the session is the last that was handed in
+-- The session is added to those that were handed in.
 abbrev pub gathered : View → View → View
 gathered v w = as_hearer v v.front v.heard (record { all_made = v.others.all_made; beside = v.others.beside; handed = v.others.handed ++ handed_in w ∷ [] })

@@ -1,5 +1,6 @@
--- The rule of the board's records, which holds between any two atomic steps. The lock has the number 0, and the record of session
--- i the number i; each has a word and a slot by its number. What holds of the publication list besides stands in specs/List.antt.
+-- The rule of the publication records, which holds between any two atomic steps. Number 0 is the lock's, number i is
+-- that of session i's record; each has a state word and a slot. A slot is a place for one value: the value is at home
+-- in the table, or out with the one seat that took it. List.antt has the rule of the publication list.
 use Rattle.std.specs.Prelude.{◌≡◌, ◌≢◌, ℕ, ◌+◌, ◌^◌, ◌<◌, ◌≤◌, ◌⊎◌, nat_le, ◌&&◌, Bool, true, false, cond, is_some, Some, None, List, [], ◌∷◌, ◌++◌, length, slice_index, slice_index_or, replicate, vec_len, vec_capacity}
 use mathlib.Core.Option as opt
 use mathlib.Core.List.{IsPrefix}
@@ -14,92 +15,94 @@ use Rattle.publication.specs.Words.{word_of, FREE, OUT, POSTED, BUSY, SERVED, CL
 use Rattle.publication.specs.Views.{Own, Combiner, Listing, Handed, Others, entry, answer, asks}
 use Rattle.publication.specs.declared.view.View.{View}
 use Rattle.publication.specs.declared.slot.Load.{Load}
-use Rattle.publication.specs.declared.slot.Held.{Held}
-use Rattle.publication.specs.declared.slot.Held.TheVariants.{Nothing, Asked, Replied, Home}
+use Rattle.publication.specs.declared.slot.SlotValue.{SlotValue}
+use Rattle.publication.specs.declared.slot.SlotValue.TheVariants.{Empty, PostedCall, ServedReply, LockTable}
 
--- What seats begin with.
+-- What seats know at first.
 
--- a session that isn't made yet
+-- A session that hasn't taken its first step: nothing published.
 abbrev pub fresh : Own
 fresh = record { started = false; retired = false; pending = None; collected = []; listed = false }
 
--- no book, and nothing opened
+-- A session that isn't the combiner, and has opened no record.
 abbrev pub no_combiner : ℕ → Combiner
 no_combiner slots = record { has_book = false; opened = replicate slots None; hand = 0 }
 
--- nothing is known of the publication list
+-- Nothing is known of the publication list.
 abbrev pub unwalked : Listing
-unwalked = record { aim = None; route = []; off = 0; before = 0 }
+unwalked = record { head_seen = None; route = []; off = 0; before = 0 }
 
--- nothing is known of others, but whether all sessions are made
+-- Nothing is known of other seats except whether all sessions are made.
 abbrev pub apart : Bool → Others
 apart all_made = record { all_made = all_made; beside = []; handed = [] }
 
--- the first seat, which makes the sessions: so many it has made
+-- The first seat, which makes the sessions, after it has made `made` of them.
 abbrev pub maker : ℕ → ℕ → View
 maker slots made = record { number = 0; slots = slots; made = made; front = []; own = fresh; combiner = no_combiner 0; heard = []; listing = unwalked; others = apart (nat_le slots (made + 1)) }
 
--- no seat is there
+-- The view of a seat that doesn't exist, or was joined into another.
 abbrev pub blank : View
 blank = record { number = 0; slots = 0; made = 0; front = []; own = fresh; combiner = no_combiner 0; heard = []; listing = unwalked; others = apart false }
 
--- the seat of a session that is just made
-abbrev pub newcomer : ℕ → ℕ → View
-newcomer slots number = record { number = number; slots = slots; made = 0; front = []; own = fresh; combiner = no_combiner slots; heard = replicate slots 0; listing = unwalked; others = apart false }
+-- The seat of a session that was just made.
+abbrev pub new_session : ℕ → ℕ → View
+new_session slots number = record { number = number; slots = slots; made = 0; front = []; own = fresh; combiner = no_combiner slots; heard = replicate slots 0; listing = unwalked; others = apart false }
 
--- Look-ups on the board.
+-- Parts of the board's state.
 
--- the board as plain data: its words, what is at home in its slots, and what its seats know
+-- The board as plain data: its words, the values at home in its slots, and the views of its seats.
 abbrev pub BoardState : Type 0
-BoardState = State Held View
+BoardState = State SlotValue View
 
--- the word with this number
+-- The lock word (i = 0), or the state word of record i.
 abbrev pub word : BoardState → ℕ → ℕ
 word s i = slice_index s.words (word_of i)
 
--- what is at home in the slot with this number, where it isn't out with a seat
-abbrev pub home : BoardState → ℕ → opt.Option Held
+-- The value at home in slot i; none while a seat has taken the slot.
+abbrev pub home : BoardState → ℕ → opt.Option SlotValue
 home s i = slice_index_or s.homes i opt.none
 
--- what the seat with this number knows; the seat of session i is seat i
+-- The view of seat k. Seat 0 makes the sessions, and seat i is session i's.
 abbrev pub seat : BoardState → ℕ → View
 seat s k = slice_index_or s.views k blank
 
--- what the session with this number knows of its own calls
+-- What session j knows of its own calls.
 abbrev pub own_at : List Own → ℕ → Own
 own_at owns j = slice_index_or owns j fresh
 
--- how many calls a session has announced: those that it has published, but for a pending one that isn't listed
+-- How many calls of a session other sessions may have heard of: all that it published, without a pending call that
+-- isn't listed.
 abbrev pub announced : Own → ℕ
 announced o = length o.collected + cond (is_some o.pending && o.listed) 1 0
 
--- how many calls of a session a seat knows to be published
+-- How many calls of session j the view's seat knows to be published.
 abbrev pub heard_of : View → ℕ → ℕ
 heard_of v j = slice_index v.heard j
 
--- How the record of session i may stand: by the history h, its word w, what is at home in its slot, and what its session knows of its own calls.
+-- The states of session i's record, given the history h, the record's state word w, the value at home in its slot, and
+-- what the session knows of its own calls.
 
-module _ (h : List Entry) (i w : ℕ) (slot : opt.Option Held) (own : Own) where
-  -- EMPTY or OUT: nothing is pending, all calls in the history are collected, and the slot is with the session, from its start
-  -- until it is handed in
+module _ (h : List Entry) (i w : ℕ) (slot : opt.Option SlotValue) (own : Own) where
+  -- EMPTY or OUT: no call is pending, and all calls of the session in the history are collected. The slot is out
+  -- while the session is `started`, else at home and empty.
   pub record IsVacant : Type 0 where
     pub is : (w ≡ EMPTY) ⊎ (w ≡ OUT)
     pub none : own.pending ≡ None
     pub out : own.started ≡ true → slot ≡ opt.none
-    pub laid : own.started ≡ false → slot ≡ opt.some Nothing
+    pub empty_slot : own.started ≡ false → slot ≡ opt.some Empty
     pub publishes : own.retired ≡ false
     pub calls : calls_of i h ≡ own.collected
 
-  -- POSTED: the slot has the pending call, which isn't in the history
+  -- POSTED: the slot holds the pending call, which isn't in the history.
   pub record IsPosted (call : Call) (floor : ℕ) : Type 0 where
     pub is : w ≡ POSTED
     pub some : own.pending ≡ Some (asks call floor)
-    pub asked : slot ≡ opt.some (Asked call)
+    pub asked : slot ≡ opt.some (PostedCall call)
     pub early : floor ≤ length h
     pub publishes : own.retired ≡ false
     pub calls : calls_of i h ≡ own.collected
 
-  -- BUSY: the combiner has the pending call, which isn't in the history
+  -- BUSY: the combiner has the pending call, which isn't in the history.
   pub record IsBusy (call : Call) (floor : ℕ) : Type 0 where
     pub is : w ≡ BUSY
     pub some : own.pending ≡ Some (asks call floor)
@@ -107,39 +110,39 @@ module _ (h : List Entry) (i w : ℕ) (slot : opt.Option Held) (own : Own) where
     pub publishes : own.retired ≡ false
     pub calls : calls_of i h ≡ own.collected
 
-  -- SERVED: the slot has place and reply of the pending call's entry, which is the last of this session, and the only one
-  -- that isn't collected
+  -- SERVED: the slot holds the reply and the place of the pending call's entry, which is the session's last entry in
+  -- the history and the only one not collected.
   pub record IsServed (call : Call) (floor place : ℕ) (reply : Reply) : Type 0 where
     pub is : w ≡ SERVED
     pub some : own.pending ≡ Some (asks call floor)
-    pub replied : slot ≡ opt.some (Replied place reply)
+    pub replied : slot ≡ opt.some (ServedReply place reply)
     pub stands : get_elem? h place ≡ opt.some (entry i call reply)
     pub late : floor ≤ place
     pub publishes : own.retired ≡ false
     pub calls : calls_of i h ≡ own.collected ++ answer place call reply ∷ []
 
-  -- CLOSED: nothing is pending, all calls in the history are collected, and the session publishes no more; the slot is with it
-  -- until it is handed in
+  -- CLOSED: the session publishes no more calls, none is pending, and all its calls in the history are collected. The
+  -- slot is out while the session is `started`, else at home and empty.
   pub record IsRetired : Type 0 where
     pub is : w ≡ CLOSED
     pub none : own.pending ≡ None
     pub out : own.started ≡ true → slot ≡ opt.none
-    pub laid : own.started ≡ false → slot ≡ opt.some Nothing
+    pub empty_slot : own.started ≡ false → slot ≡ opt.some Empty
     pub retired : own.retired ≡ true
     pub calls : calls_of i h ≡ own.collected
 
--- a record stands in one of these ways
-pub data Stands (h : List Entry) (i w : ℕ) (slot : opt.Option Held) (own : Own) : Type 0 where
-  vacant : IsVacant h i w slot own → Stands h i w slot own
-  posted : (call : Call) (floor : ℕ) → IsPosted h i w slot own call floor → Stands h i w slot own
-  busy : (call : Call) (floor : ℕ) → IsBusy h i w slot own call floor → Stands h i w slot own
-  served : (call : Call) (floor place : ℕ) (reply : Reply) → IsServed h i w slot own call floor place reply → Stands h i w slot own
-  retired : IsRetired h i w slot own → Stands h i w slot own
+-- Each record is in one of these states.
+pub data RecordState (h : List Entry) (i w : ℕ) (slot : opt.Option SlotValue) (own : Own) : Type 0 where
+  vacant : IsVacant h i w slot own → RecordState h i w slot own
+  posted : (call : Call) (floor : ℕ) → IsPosted h i w slot own call floor → RecordState h i w slot own
+  busy : (call : Call) (floor : ℕ) → IsBusy h i w slot own call floor → RecordState h i w slot own
+  served : (call : Call) (floor place : ℕ) (reply : Reply) → IsServed h i w slot own call floor place reply → RecordState h i w slot own
+  retired : IsRetired h i w slot own → RecordState h i w slot own
 
--- Where the book is, and what is opened.
+-- The book (the lock table with its history), and the opened records.
 
--- a load that may go home: the book has this history, and the board's sessions, of which there is one less than there are
--- slots; the row is empty, with room for one item a session; and there is an age for each session
+-- A load that may go back into the lock's slot: the book has this history and one session fewer than there are slots,
+-- the row is empty and has room for one item a session, and there is one age a session.
 pub record IsHome (h : List Entry) (slots : ℕ) (l : Load) : Type 0 where
   pub history : l.book.history ≡ h
   pub sessions : l.book.sessions + 1 ≡ slots
@@ -147,32 +150,32 @@ pub record IsHome (h : List Entry) (slots : ℕ) (l : Load) : Type 0 where
   pub room : l.book.sessions ≤ vec_capacity l.row
   pub ages : vec_len l.ages ≡ l.book.sessions
 
--- session k has the book: the lock word has its number, and it knows the whole history
+-- Session k is the combiner: the lock word is its number, and it knows the whole history.
 pub record HasBook (h : List Entry) (lock k : ℕ) (v : View) : Type 0 where
   pub lock_is : lock ≡ k
   pub session : 0 < k
   pub named : v.number ≡ k
   pub whole : v.front ≡ h
 
--- the combiner c has opened record j with this call: it has the book, the record is BUSY, its session waits for this call, and
--- the slot is in hand or at home with nothing in it
+-- The combiner has opened record j with this call: the record is BUSY, its session waits for this call, and the slot
+-- is in the combiner's hand, or at home and empty.
 pub record IsOpened (s : BoardState) (owns : List Own) (c : Combiner) (j : ℕ) (call : Call) : Type 0 where
   pub book : c.has_book ≡ true
   pub record_of : 0 < j
   pub is_busy : word s j ≡ BUSY
   pub call_of : (floor : ℕ) × ((own_at owns j).pending ≡ Some (asks call floor))
-  pub laid : c.hand ≢ j → home s j ≡ opt.some Nothing
+  pub empty_slot : c.hand ≢ j → home s j ≡ opt.some Empty
 
--- Who has which seat.
+-- Seats and sessions.
 
--- the seat k is that of session k, and knows what is its own
+-- Seat k is session k's, and its view has what the session knows of its own calls.
 pub record IsSession (slots : ℕ) (owns : List Own) (k : ℕ) (v : View) : Type 0 where
   pub own_is : v.own ≡ own_at owns k
   pub is : v.number ≡ k
   pub small : k < slots
   pub wide : length v.combiner.opened ≡ slots
 
--- the first seat is nobody's, and has made as many sessions as there are seats beside it, until all are made
+-- Seat 0 is no session's. It has made one session for each further seat, until all are made.
 pub record IsMaker (slots seats : ℕ) (v : View) : Type 0 where
   pub slots_are : v.slots ≡ slots
   pub number : v.number ≡ 0
@@ -181,10 +184,10 @@ pub record IsMaker (slots seats : ℕ) (v : View) : Type 0 where
   pub some_slot : 0 < slots
   pub made : v.made + 1 < slots → v.made + 1 ≡ seats
 
--- What a seat knows of others.
+-- What a seat knows of other seats.
 
--- a session that was handed in has no seat any more; it has nothing pending, has collected these answers, and the history begins
--- with what it knew
+-- A session that was handed in has no seat left and no call pending; it collected these answers, and the front that
+-- it knew begins the history.
 pub record IsHanded (h : List Entry) (s : BoardState) (slots : ℕ) (owns : List Own) (x : Handed) : Type 0 where
   pub some : 0 < x.number
   pub small : x.number < slots
@@ -194,54 +197,55 @@ pub record IsHanded (h : List Entry) (s : BoardState) (slots : ℕ) (owns : List
   pub collected : (own_at owns x.number).collected ≡ x.collected
   pub begins : IsPrefix x.front h
 
--- what a seat knows of others is so: where all sessions are said to be made there is a seat for each, the front of another
--- begins the history, and those that were handed in are
+-- What a seat knows of others is true: if it says that all sessions are made, there is a seat for each; the front
+-- learned from another seat begins the history; and each session that it says was handed in was.
 pub record AreTrue (h : List Entry) (s : BoardState) (slots : ℕ) (owns : List Own) (others : Others) : Type 0 where
   pub all_made : others.all_made ≡ true → slots ≤ length s.views
   pub beside : IsPrefix others.beside h
   pub handed : (p : ℕ) (x : Handed) → get_elem? others.handed p ≡ opt.some x → IsHanded h s slots owns x
 
--- The rule. While the book is out it may be ahead of the history, by calls that were performed and not answered yet; it comes
--- home with the history.
+-- The rule. While the combiner has the book, the book may be ahead of the history by calls that were performed and not
+-- answered yet. When the book goes home, its history is the board's.
 
+-- What holds of the lock word, the records, the slots and the views between any two atomic steps.
 pub record IsOrderly (s : BoardState) : Type 0 where
-  -- what was answered, oldest first
+  -- the entries of all answered calls, oldest first
   pub history : List Entry
-  -- how many slots there are: one for the lock, and one a session
+  -- the number of slots: one for the lock, and one a session
   pub slots : ℕ
-  -- what each session knows of its own calls, by its number
+  -- what each session knows of its own calls, by number
   pub owns : List Own
-  -- each reply is the one that the sequential lock manager gives there
+  -- each reply is the one that the sequential lock manager gives at its place
   pub legal : IsLegal history
-  -- places are u64
+  -- a place in the history fits into a u64
   pub short : length history < 2 ^ 64
-  -- the lock and each session have an own part, a word and a slot
+  -- the lock and each session have one element of `owns`, one state word and one slot
   pub owns_are : length owns ≡ slots
   pub words_are : length s.words ≡ word_of slots
   pub homes_are : length s.homes ≡ slots
-  -- the first seat makes the sessions
+  -- seat 0 makes the sessions
   pub makes : IsMaker slots (length s.views) (seat s 0)
   -- a session that isn't made yet has published nothing
   pub unmade : (j : ℕ) → length s.views ≤ j → own_at owns j ≡ fresh
-  -- a seat that has a number is that session's
+  -- a seat whose view names a session is that session's
   pub sessions : (k : ℕ) → (seat s k).number ≢ 0 → IsSession slots owns k (seat s k)
-  -- a session that waits for an answer has its seat
+  -- a session with a call pending still has its seat
   pub waits : (j : ℕ) → (own_at owns j).pending ≢ None → (seat s j).own ≡ own_at owns j
   -- every seat knows a front of the history
   pub fronts : (k : ℕ) → IsPrefix (seat s k).front history
-  -- nobody has heard of more calls of a session than that has announced
+  -- no seat has heard of more calls of a session than that session has announced
   pub heard : (k j : ℕ) → heard_of (seat s k) j ≤ announced (own_at owns j)
-  -- what a seat knows of others is so
+  -- what a seat knows of others is true
   pub others : (k : ℕ) → AreTrue history s slots owns (seat s k).others
-  -- every record stands as its word says
-  pub stands : (i : ℕ) → 0 < i → i < slots → Stands history i (word s i) (home s i) (own_at owns i)
-  -- who has the book has its number in the lock word
+  -- every record is in the state that its word names
+  pub stands : (i : ℕ) → 0 < i → i < slots → RecordState history i (word s i) (home s i) (own_at owns i)
+  -- the combiner's number is in the lock word
   pub books : (k : ℕ) → (seat s k).combiner.has_book ≡ true → HasBook history (word s 0) k (seat s k)
-  -- lock word FREE: the book is at home, with the history
-  pub free : word s 0 ≡ FREE → (b : Box Load) × (home s 0 ≡ opt.some (Home b)) × IsHome history slots b.value
-  -- lock word k: session k has the book
+  -- lock word FREE: the load is in the lock's slot, with the whole history
+  pub free : word s 0 ≡ FREE → (b : Box Load) × (home s 0 ≡ opt.some (LockTable b)) × IsHome history slots b.value
+  -- lock word k: session k is the combiner, and the lock's slot is out
   pub taken : word s 0 ≢ FREE → ((seat s (word s 0)).combiner.has_book ≡ true) × (word s 0 < slots) × (home s 0 ≡ opt.none)
-  -- what a combiner has opened is BUSY
+  -- a record that a combiner has opened is BUSY
   pub opens : (k j : ℕ) (call : Call) → get_elem? (seat s k).combiner.opened j ≡ opt.some (Some call) → IsOpened s owns (seat s k).combiner j call
-  -- what is BUSY was opened by the session that the lock word names
+  -- a record that is BUSY was opened by the session that the lock word names
   pub opened : (j : ℕ) → 0 < j → word s j ≡ BUSY → (call : Call) × (get_elem? (seat s (word s 0)).combiner.opened j ≡ opt.some (Some call))

@@ -1,4 +1,7 @@
--- What a seat at the board knows, and what contracts see of a board and of a ticket.
+-- What sessions know. A seat (a type of `atomic_table`) is the handle with which one thread takes atomic steps on the
+-- shared words. It carries the slots that it has taken out of the table, and it has a view: a ghost value that says
+-- what the seat's steps have shown. A view exists in proofs only and takes no memory. BoardView and TicketView are
+-- what contracts see of a board and of a ticket.
 use Rattle.std.specs.Prelude.{ℕ, Bool, List, Option}
 use Rattle.atomic_table.specs.Seated.{TableId}
 use Rattle.lock_rules.specs.declared.calls.Call.{Call}
@@ -6,80 +9,103 @@ use Rattle.lock_rules.specs.declared.calls.Reply.{Reply}
 use Rattle.lock_rules.specs.declared.calls.Entry.{Entry}
 use Rattle.lock_rules.specs.Legal.{Answered}
 
--- a call that was published and isn't collected yet, and how many entries of the history its session knew then
+-- A call that its session has published and not collected yet. `floor` is the number of history entries that the
+-- session knew when it published the call.
 pub record Pending : Type 0 where
   pub call : Call
   pub floor : ℕ
 
--- what a session knows of its own calls: whether it has its record's slot to publish with, which it takes at its start and lays
--- down as it is handed in; whether it publishes no more; the call that it waits for; the answers that it took, oldest first; and
--- whether the call that it published last is listed, so that passes visit its record
+-- What a session knows of its own calls.
 pub record Own : Type 0 where
+  -- its record's slot is the session's whenever no call is pending: from its first step until it is handed in to
+  -- close the board
   pub started : Bool
+  -- it publishes no more calls
   pub retired : Bool
+  -- the call that waits for its reply
   pub pending : Option Pending
+  -- the answers that it took, oldest first
   pub collected : List Answered
+  -- the call that it published last is listed, so a combiner's walk meets its record
   pub listed : Bool
 
--- what a combiner has: whether the book; at each record's number its call, where it is opened; the record whose slot is in
--- hand, or 0
+-- The combiner's part of a view.
 pub record Combiner : Type 0 where
+  -- the session is the combiner: it has the book (the lock table with its history)
   pub has_book : Bool
+  -- at each session's number, the call that the combiner has opened in that session's record
   pub opened : List (Option Call)
+  -- the number of the record whose slot the combiner has taken out of the table, or 0 for none
   pub hand : ℕ
 
--- what a seat knows of the publication list: the head that its session has written into its record's link, until it has tried the
--- exchange of the head word; the records on the list from the one that was its head at the last look of its walk there, first to last;
--- and the record that it has unlinked and neither marked out nor linked again, or 0, with the one behind which it stood
+-- What a seat knows of the publication list.
 pub record Listing : Type 0 where
-  pub aim : Option ℕ
+  -- the value of the head word that the session wrote into its own link, until it has tried the exchange of the head
+  -- word
+  pub head_seen : Option ℕ
+  -- the records that the combiner's walk meets, first to last: the list without the records linked at its head since
   pub route : List ℕ
+  -- the record that the combiner has unlinked and neither marked OUT nor linked again, or 0 for none
   pub off : ℕ
+  -- the record that was in front of `off`
   pub before : ℕ
 
--- a session that was handed in to be closed: its number, the answers that it took, oldest first, and the entries that it knew
+-- A session whose ticket was handed in to close the board.
 pub record Handed : Type 0 where
+  -- its number
   pub number : ℕ
+  -- the answers that it took, oldest first
   pub collected : List Answered
+  -- the front of the history that it knew
   pub front : List Entry
 
--- what a seat knows of others: whether all sessions are made; the entries that the seat knew which it took in last; and the
--- sessions that were handed in to it, in that order
+-- What a seat knows of the other seats.
 pub record Others : Type 0 where
+  -- all sessions are made
   pub all_made : Bool
+  -- the front of the history known to the seat that was joined into this one last
   pub beside : List Entry
+  -- the sessions whose seats were joined into this one to close the board, in that order
   pub handed : List Handed
 
--- what contracts see of a board: which table it is, and how many sessions it has
-pub record Placed : Type 0 where
+-- What contracts see of a board: which table it is, and its number of sessions.
+pub record BoardView : Type 0 where
   pub id : TableId
   pub sessions : ℕ
 
--- what contracts see of a ticket: of which board and session it is, the front of the history that it knows, the call that it
--- waits for, the answers that it took, how many calls of each session it knows to be published, whether it publishes no
--- more, whether it has the book, the call of each record that it has opened, whether the call that it published last is listed,
--- and the records that its walk of the publication list meets
-pub record Known : Type 0 where
+-- What contracts see of a ticket.
+pub record TicketView : Type 0 where
+  -- its board
   pub board : TableId
+  -- its session's number, from 1 on
   pub number : ℕ
+  -- the front of the history that the session knows
   pub front : List Entry
+  -- the call that waits for its reply
   pub pending : Option Pending
+  -- the answers that the session took, oldest first
   pub collected : List Answered
+  -- at each session's number, how many calls of that session are known to be published
   pub heard : List ℕ
+  -- the session publishes no more calls
   pub retired : Bool
+  -- the session is the combiner
   pub has_book : Bool
+  -- at each session's number, the call that this combiner has opened in that session's record
   pub opened : List (Option Call)
+  -- the call that the session published last is listed
   pub listed : Bool
+  -- the records that the walk of the publication list meets
   pub route : List ℕ
 
--- the entry of a session's call with its reply
+-- The history entry of a session's call with its reply.
 abbrev pub entry : ℕ → Call → Reply → Entry
 entry session call reply = record { session = session; call = call; reply = reply }
 
--- an answered call, with the place of its entry
+-- An answered call with the place of its entry in the history.
 abbrev pub answer : ℕ → Call → Reply → Answered
 answer place call reply = record { place = place; call = call; reply = reply }
 
--- a pending call of a session that knew this many entries
+-- A pending call, published when its session knew `floor` entries of the history.
 abbrev pub asks : Call → ℕ → Pending
 asks call floor = record { call = call; floor = floor }

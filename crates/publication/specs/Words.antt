@@ -1,47 +1,48 @@
--- The words of the board: where they lie, and what they say.
+-- The board's atomic words: where each word lies in the table, and what its values mean.
 use Rattle.std.specs.Prelude.{ℕ, ◌+◌, ◌*◌, ◌/◌}
 
--- where the lock word (number 0) or the word of a session's record lies: one word in eight, so that two of them lie 64 bytes
--- apart and share no line of the cache
+-- The index of the lock word (number 0) or of the state word of session `number`'s record. One record takes eight
+-- words of 8 bytes, so two records share no cache line of 64 bytes.
 abbrev pub word_of : ℕ → ℕ
 word_of number = number * 8
 
--- where the link of a record lies, beside its word; with the number 0, the head word of the publication list
+-- The index of a record's link word, next to its state word. With number 0 it is the index of the publication list's
+-- head word.
 abbrev pub link_of : ℕ → ℕ
 link_of number = number * 8 + 1
 
--- whose word or link lies there
+-- The session whose state word or link word has this index, or 0 for the lock word and the head word.
 abbrev pub session_of_word : ℕ → ℕ
 session_of_word at = at / 8
 
--- the lock word: nobody has the book; any other number is that of the session that has it
+-- Lock word: no session has the lock table. Any other value is the number of the session that has it.
 abbrev pub FREE : ℕ
 FREE = 0
 
--- a link or the head word: no record follows
+-- Head word or link word: no record follows.
 abbrev pub END : ℕ
 END = 65535
 
--- a record: its session has published nothing that it hasn't collected, and it isn't on the publication list
+-- State word of a record: its session has no call pending, and the record isn't on the publication list.
 abbrev pub OUT : ℕ
 OUT = 0
 
--- a record: a call is in its slot
+-- State word of a record: the slot holds a published call that no combiner has opened.
 abbrev pub POSTED : ℕ
 POSTED = 1
 
--- a record: the combiner has its call
+-- State word of a record: a combiner has opened the call.
 abbrev pub BUSY : ℕ
 BUSY = 2
 
--- a record: the reply is in its slot
+-- State word of a record: the slot holds the reply.
 abbrev pub SERVED : ℕ
 SERVED = 3
 
--- a record: its session publishes no more
+-- State word of a record: its session has retired and publishes no more calls.
 abbrev pub CLOSED : ℕ
 CLOSED = 4
 
--- a record: its session has published nothing that it hasn't collected, and it is on the publication list
+-- State word of a record: its session has no call pending, and the record is on the publication list.
 abbrev pub EMPTY : ℕ
 EMPTY = 5

@@ -4,19 +4,19 @@ ghost use Rattle.std.specs.Prelude.{◌≡◌, ◌≢◌, ◌+◌, ◌-◌, ◌<
 ghost use mathlib.Core.List.{IsPrefix};
 ghost use Rattle.atomic_table.specs.Table.{turned};
 ghost use Rattle.lock_rules.specs.Legal.{IsLegal, calls_of};
-ghost use Rattle.publication.specs.Tickets.{IsBoard};
+ghost use Rattle.publication.specs.inner.Tickets.{IsBoard};
 ghost use Rattle.publication.specs.Views.{entry, answer, asks};
-ghost use Rattle.publication.specs.Rule.{maker, newcomer};
+ghost use Rattle.publication.specs.Rule.{maker, new_session};
 ghost use Rattle.publication.specs.Kinds.{Took, longer, maxes};
 ghost use Rattle.publication.specs.Boards.{IsOf, heard_from, published_by, new_ticket, new_tickets, publishing, enlisted, IsEachOnce, IsSettled, AccountsFor};
-ghost use Rattle.publication.specs.Closing.{is_settled, handed_by, WereHanded, AreEnded};
+ghost use Rattle.publication.specs.inner.Closing.{is_settled, handed_by, WereHanded, AreEnded};
 
 mod combiner;
 
 use crate::closing::{CloseFault, are_settled, close_table, is_each_once};
-use crate::kinds::{Law, Start};
-use crate::new_board::{cut_all, laid};
-use crate::slot::{Held, Load};
+use crate::kinds::{BoardRule, Start};
+use crate::new_board::{initial_slots, split_all};
+use crate::slot::{Load, SlotValue};
 use crate::steps;
 use crate::steps::{Seat, Shared};
 use crate::view::View;
@@ -26,57 +26,66 @@ use lock_desk::{Book, Call, NoMemory, Reply};
 use std::alloc::{AllocError, Global};
 use std::marker::Model;
 
-/// How a call stands that was posted.
+/// Whether a posted call is listed.
 #[derive(Clone, Copy, Debug, PartialEq, Eq)]
 pub enum Posted {
-    /// Passes visit its record.
+    /// The record is on the publication list, so passes of every session visit it.
     Listed,
-    /// The exchange of the head was lost to another session. Passes of others don't visit the record until it is enlisted; a pass of its
-    /// own session does.
+    /// The record isn't on the publication list: another session won the exchange of the head word. Only passes of
+    /// its own session visit it, until `enlist` succeeds.
     Unlisted,
 }
 
-/// The lock word, a publication record for each session, and the lock table, which the combiner takes.
+/// The lock word, one publication record for each session, and the lock table, which the combiner takes.
 #[derive(Drop)]
 pub struct Board {
-    table: Table<Held, View, u16, Law, Global>,
+    /// The atomic words, the slots and the rule that they keep.
+    table: Table<SlotValue, View, u16, BoardRule, Global>,
+    /// The number of sessions.
     sessions: u16,
 }
 
 impl Model for Board {
-    ghost use Rattle.publication.specs.Views.{Placed};
+    ghost use Rattle.publication.specs.Views.{BoardView};
 
-    ghost Value = { Placed };
+    ghost Value = { BoardView };
 
-    ghost use Rattle.publication.specs.Inside.{placed_of, IsSized};
+    ghost use Rattle.publication.specs.inner.Inside.{board_view_of, IsSized};
 
-    ghost view = { placed_of };
+    ghost view = { board_view_of };
 
     ghost invariant = { IsSized };
 }
 
-/// A session's own token, with which it posts its calls and takes its replies, and what it knows.
+/// A session's handle: with it the session posts calls, takes replies and acts as the combiner.
 #[derive(Drop)]
 pub struct Ticket {
+    /// Its handle on the table's words and slots.
     seat: Seat,
+    /// The session's number, from 1 on.
     number: u16,
+    /// How many entries of the history it knows.
     seen: u64,
+    /// Whether it is the combiner.
     has_book: bool,
+    /// Whether it has a call pending.
     is_pending: bool,
+    /// Whether the call that it published last is listed.
     is_listed: bool,
+    /// Whether it publishes no more calls.
     is_retired: bool,
 }
 
 impl Model for Ticket {
-    ghost use Rattle.publication.specs.Views.{Known};
+    ghost use Rattle.publication.specs.Views.{TicketView};
 
-    ghost Value = { Known };
+    ghost Value = { TicketView };
 
-    ghost use Rattle.publication.specs.Inside.{known_of, IsKept};
+    ghost use Rattle.publication.specs.inner.Inside.{ticket_view_of, IsTicketState};
 
-    ghost view = { known_of };
+    ghost view = { ticket_view_of };
 
-    ghost invariant = { IsKept };
+    ghost invariant = { IsTicketState };
 }
 
 impl Ticket {
@@ -87,35 +96,35 @@ impl Ticket {
         self.number
     }
 
-    /// Whether it may post a call: it has nothing pending, and still publishes.
+    /// Whether the session may post a call: none is pending, and it hasn't retired.
     pub fn is_idle(&self) -> bool
         ensures { IsTrue result ↔ ((self.now.pending ≡ None) × (self.now.retired ≡ false)) }
     {
         !self.is_pending && !self.is_retired
     }
 
-    /// Whether it has retired, and publishes no more.
+    /// Whether the session has retired and publishes no more calls.
     pub fn is_retired(&self) -> bool
         ensures { result ≡ self.now.retired }
     {
         self.is_retired
     }
 
-    /// Whether it has a call pending that isn't listed.
+    /// Whether the session has a call pending that isn't listed.
     pub fn is_unlisted(&self) -> bool
         ensures { IsTrue result ↔ ((self.now.pending ≢ None) × (self.now.listed ≡ false)) }
     {
         self.is_pending && !self.is_listed
     }
 
-    /// Whether it has nothing pending, and isn't the combiner.
+    /// Whether the session has no call pending and isn't the combiner.
     pub(crate) fn is_settled(&self) -> bool
         ensures { result ≡ is_settled self.now }
     {
         !self.is_pending && !self.has_book
     }
 
-    /// How many entries of the history it knows, from the first on. The number never falls.
+    /// How many entries of the history the session knows, from the first on. The number never falls.
     pub fn seen(&self) -> u64
         ensures { result ≡ length self.now.front }
     {
@@ -123,7 +132,8 @@ impl Ticket {
     }
 }
 
-// The slot that was taken last goes behind the others, where the session has the book's too.
+/// Moves the slot taken last behind the others if `turns`. The combiner needs it to reach its record's slot, since it
+/// also carries the lock's slot.
 fn turn_if(seat: &mut Seat, turns: bool)
     ensures { (seat.new.table_id ≡ seat.old.table_id) × (seat.new.me ≡ (seat.old.me.0, cond turns (turned seat.old.me.1) seat.old.me.1)) }
 {
@@ -132,14 +142,14 @@ fn turn_if(seat: &mut Seat, turns: bool)
     }
 }
 
-// Makes the session of this number out of its seat, once all are made: it is told so by the first seat, and takes its record's
-// slot.
+/// Makes session `number` out of its new seat, once all sessions are made: the seat learns so from the first seat,
+/// and takes its record's slot.
 fn enrol(shared: &Shared, first: &mut Seat, seat: Seat, sessions: u16, number: u16) -> Ticket
     requires ours { (first.old.table_id ≡ shared.now.table_id) × (seat.table_id ≡ shared.now.table_id) }
     requires board { IsBoard shared.now.table_id }
     requires slots { shared.now.table_id.slots ≡ sessions + 1 }
     requires made { first.old.me ≡ (maker (sessions + 1) sessions, []) }
-    requires new { seat.me ≡ (newcomer (sessions + 1) number, []) }
+    requires new { seat.me ≡ (new_session (sessions + 1) number, []) }
     requires number { (0 < number) × (number ≤ sessions) }
     ensures ours { first.new.table_id ≡ first.old.table_id }
     ensures same { first.new.me ≡ first.old.me }
@@ -159,8 +169,8 @@ fn enrol(shared: &Shared, first: &mut Seat, seat: Seat, sessions: u16, number: u
     }
 }
 
-// Makes all sessions, in order. All seats are cut first: a seat that was cut in between would take a number that is a
-// session's.
+/// Makes all sessions, in order. All seats are split first: a seat takes the next free number when it is split,
+/// `enrol` splits copies too, and session i needs number i.
 fn enrol_all(
     alloc: Global,
     shared: &Shared,
@@ -174,7 +184,7 @@ fn enrol_all(
     requires made { first.old.me ≡ (maker (sessions + 1) 0, []) }
     ensures tickets { IfOk result (λ tickets. tickets.items ≡ new_tickets shared.now.table_id sessions sessions) }
 {
-    let seats = cut_all(alloc, shared, first, sessions)?;
+    let seats = split_all(alloc, shared, first, sessions)?;
     let mut tickets = Vec::new(alloc);
     let mut number = 0;
     for seat in seats {
@@ -185,7 +195,8 @@ fn enrol_all(
 }
 
 impl Board {
-    /// A board for the sessions of the book, and a ticket for each, by number. `NoMemory` where one of them found no room.
+    /// A board for the sessions of the book, and a ticket for each session, by number. Fails with `NoMemory` if
+    /// memory is refused.
     pub fn new(alloc: Global, book: Book) -> Result<(Board, Vec<Ticket>), NoMemory>
         requires empty { book.history ≡ [] }
         ensures sessions { IfOk result (λ made. made.0.sessions ≡ book.sessions) }
@@ -203,7 +214,7 @@ impl Board {
         let load = Box::new(alloc, load)?;
         let mut words = vec![in alloc; 0u64; (usize::from(sessions) + 1) * WORDS_APART]?;
         words[HEAD] = END;
-        let slots = laid(alloc, load, sessions)?;
+        let slots = initial_slots(alloc, load, sessions)?;
         let (table, mut first) = match Table::new(alloc, words.as_slice(), slots, &sessions) {
             Ok(made) => made,
             Err(Refused { slots: _ }) => return Err(AllocError),
@@ -212,22 +223,23 @@ impl Board {
         Ok((Board { table, sessions }, tickets))
     }
 
-    /// How many sessions the board has.
+    /// The number of sessions.
     pub fn sessions(&self) -> u16
         ensures { result ≡ self.now.sessions }
     {
         self.sessions
     }
 
-    // Posts the call, which is listed where the record was on the publication list.
-    fn post_call(&self, ticket: &mut Ticket, call: Call)
+    /// Publishes the call in the ticket's record. The call is listed at once if the record is on the publication
+    /// list.
+    fn publish_call(&self, ticket: &mut Ticket, call: Call)
         requires ours { IsOf self.now ticket.old }
         requires idle { (ticket.old.pending ≡ None) × (ticket.old.retired ≡ false) }
         ensures listed { ticket.new.listed ≡ true → ticket.new ≡ enlisted (publishing ticket.old call) }
         ensures unlisted { ticket.new.listed ≡ false → ticket.new ≡ publishing ticket.old call }
     {
         turn_if(&mut ticket.seat, ticket.has_book);
-        ticket.is_listed = steps::put_call(
+        ticket.is_listed = steps::publish_in_record(
             &self.table.shared,
             &mut ticket.seat,
             usize::from(ticket.number),
@@ -236,8 +248,8 @@ impl Board {
         ticket.is_pending = true;
     }
 
-    /// Publishes a call of the ticket's session, which waits for the answer from then on. `Unlisted` where the record wasn't on the
-    /// publication list and the exchange of its head was lost.
+    /// Publishes a call of the ticket's session; the call is pending from then on. Returns `Unlisted` if the record
+    /// wasn't on the publication list and the exchange of the head word was lost.
     pub fn post(&self, ticket: &mut Ticket, call: Call) -> Posted
         requires ours { IsOf self.now ticket.old }
         requires idle { (ticket.old.pending ≡ None) × (ticket.old.retired ≡ false) }
@@ -245,12 +257,12 @@ impl Board {
         ensures heard { result ≡ Posted.Listed → heard_from ticket.new ticket.new.number ≡ length ticket.new.collected + 1 }
         ensures unlisted { result ≡ Posted.Unlisted → (ticket.new ≡ publishing ticket.old call) × (1 < self.now.sessions) }
     {
-        self.post_call(ticket, call);
+        self.publish_call(ticket, call);
         self.enlist(ticket)
     }
 
-    /// One more try to have the pending call listed, so that passes visit its record: one exchange of the head of the publication list.
-    /// `Listed` at once where it is listed, `Unlisted` where the exchange was lost.
+    /// Tries once more to have the pending call listed: one exchange of the head word. Returns `Listed` at once if
+    /// the call is listed already, and `Unlisted` if the exchange was lost.
     pub fn enlist(&self, ticket: &mut Ticket) -> Posted
         requires ours { IsOf self.now ticket.old }
         requires pending { ticket.old.pending ≢ None }
@@ -275,8 +287,9 @@ impl Board {
         }
     }
 
-    /// Takes the reply to the call that is pending, with the place of its entry in the history, from 0 on: once, where it
-    /// was served. `None` where nothing is pending or it isn't served; then nothing was written.
+    /// Takes the reply to the pending call, with the place of its entry in the history, from 0 on. Each reply is
+    /// taken once. `None`, with nothing changed, means that the session isn't pending, or that its call isn't in what
+    /// the session knows of the history.
     pub fn take(&self, ticket: &mut Ticket) -> Option<(u64, Reply)>
         requires ours { IsOf self.now ticket.old }
         ensures some { IfSome result (λ r. (call : _) × (floor : _) × (ticket.old.pending ≡ Some (asks call floor))
@@ -289,7 +302,7 @@ impl Board {
         ensures none { IfNone result (ticket.new ≡ ticket.old) }
         ensures unanswered { IfNone result (ticket.old.pending ≢ None → length (calls_of ticket.old.number ticket.old.front) ≤ length ticket.old.collected) }
     {
-        let (place, reply) = steps::take_reply(
+        let (place, reply) = steps::collect_reply(
             &self.table.shared,
             &mut ticket.seat,
             usize::from(ticket.number),
@@ -301,8 +314,8 @@ impl Board {
         Some((place, reply))
     }
 
-    /// The first session learns what the second knows: the longer of their fronts of the history, and of each session the larger
-    /// number of calls that either had heard of. The second learns nothing.
+    /// Lets the session of `ticket` learn what `other` knows: the longer of their fronts of the history, and for each
+    /// session the larger number of calls that either has heard of. `other` learns nothing.
     pub fn hear(&self, ticket: &mut Ticket, other: &mut Ticket)
         requires ours { IsOf self.now ticket.old × IsOf self.now other.old }
         ensures other { other.new ≡ other.old }
@@ -318,7 +331,7 @@ impl Board {
         ticket.seen = u64::max(ticket.seen, other.seen);
     }
 
-    /// The session publishes no more, from now on.
+    /// Retires the session: it publishes no more calls.
     pub fn retire(&self, ticket: &mut Ticket)
         requires ours { IsOf self.now ticket.old }
         requires idle { (ticket.old.pending ≡ None) × (ticket.old.retired ≡ false) }
@@ -332,17 +345,17 @@ impl Board {
         ticket.is_retired = true;
     }
 
-    // A seat that knows what the ticket's does.
-    fn cut(&self, ticket: &mut Ticket) -> Seat
+    /// Splits off a seat that knows what the ticket's seat knows.
+    fn split_copy(&self, ticket: &mut Ticket) -> Seat
         requires ours { IsOf self.now ticket.old }
         ensures ticket { ticket.new ≡ ticket.old }
         ensures seat { (result.table_id ≡ self.now.id) × (result.me.0.others.handed ≡ []) }
     {
-        steps::cut_seat(&self.table.shared, &mut ticket.seat)
+        steps::split_copy(&self.table.shared, &mut ticket.seat)
     }
 
-    // Takes in the seat of one ticket.
-    fn take_in(&self, closing: &mut Seat, ticket: Ticket)
+    /// Joins the seat of one ticket into the closing seat.
+    fn join_ticket(&self, closing: &mut Seat, ticket: Ticket)
         requires ours { (closing.old.table_id ≡ self.now.id) × IsOf self.now ticket }
         requires settled { IsSettled ticket }
         ensures ours { closing.new.table_id ≡ closing.old.table_id }
@@ -360,19 +373,19 @@ impl Board {
         steps::gather_seat(&self.table.shared, closing, seat, usize::from(number));
     }
 
-    // Takes in the seats of these tickets, in order.
-    fn take_in_all(&self, closing: &mut Seat, tickets: Vec<Ticket>)
+    /// Joins the seats of these tickets into the closing seat, in order.
+    fn join_tickets(&self, closing: &mut Seat, tickets: Vec<Ticket>)
         requires ours { (closing.old.table_id ≡ self.now.id) × All (IsOf self.now) tickets.items }
         requires settled { All IsSettled tickets.items }
         ensures ours { closing.new.table_id ≡ closing.old.table_id }
         ensures handed { closing.new.me.0.others.handed ≡ closing.old.me.0.others.handed ++ map handed_by tickets.items }
     {
         for ticket in tickets {
-            self.take_in(closing, ticket);
+            self.join_ticket(closing, ticket);
         }
     }
 
-    // The book, once each session was taken in by the closing seat.
+    /// Ends the board and returns its book, after each session's seat was joined into the closing seat.
     fn finish(self, closing: Seat) -> Book
         requires ours { closing.table_id ≡ self.id }
         requires all { WereHanded (self.sessions + 1) closing.me.0.others.handed }
@@ -384,9 +397,11 @@ impl Board {
         close_table(table, closing)
     }
 
-    /// Closes the board: the book with the whole history, where the tickets are those of all its sessions, each once and in any
-    /// order, and all are settled. Otherwise everything comes back, the tickets in their order: `Missing` where one is missing or
-    /// there twice, else `Unsettled`. It takes no memory.
+    /// Closes the board and returns its book, with the whole history. Needs each session's ticket exactly once, in
+    /// any order, and all of them settled: no call pending, and not the combiner.
+    ///
+    /// Otherwise it returns the board and the tickets, in their order, with `Missing` if a ticket is missing or there
+    /// twice, else `Unsettled`. It takes no memory.
     pub fn gather(self, tickets: Vec<Ticket>) -> Result<Book, (CloseFault, Board, Vec<Ticket>)>
         requires ours { All (IsOf self) tickets.items }
         ensures all { IfOk result (λ _. IsEachOnce self.sessions tickets.items) }
@@ -408,9 +423,9 @@ impl Board {
         let Some(mut last) = tickets.pop() else {
             unreachable!()
         };
-        let mut closing = self.cut(&mut last);
-        self.take_in_all(&mut closing, tickets);
-        self.take_in(&mut closing, last);
+        let mut closing = self.split_copy(&mut last);
+        self.join_tickets(&mut closing, tickets);
+        self.join_ticket(&mut closing, last);
         Ok(self.finish(closing))
     }
 }

@@ -1,13 +1,13 @@
-// What a board that is closed asks of the tickets, and what it leaves.
+//! Which tickets close a board, and how the lock table comes out of it.
 ghost use Rattle.std.specs.Prelude.{◌≡◌, ◌+◌, ◌<◌, ◌==◌, ◌↔◌, IsTrue};
 ghost use Rattle.std.specs.List.{list_any, list_all};
 ghost use Rattle.lock_rules.specs.Legal.{IsLegal};
 ghost use Rattle.publication.specs.Boards.{IsEachOnce};
-ghost use Rattle.publication.specs.Closing.{is_settled, WereHanded, AreEnded};
+ghost use Rattle.publication.specs.inner.Closing.{is_settled, WereHanded, AreEnded};
 
 use crate::board::Ticket;
-use crate::kinds::Law;
-use crate::slot::{Held, Load};
+use crate::kinds::BoardRule;
+use crate::slot::{Load, SlotValue};
 use crate::steps::Seat;
 use crate::view::View;
 use atomic_table::Table;
@@ -18,7 +18,7 @@ use thiserror::Error;
 /// Why a board was not closed.
 #[derive(Clone, Copy, Debug, PartialEq, Eq, Error, Drop)]
 pub enum CloseFault {
-    /// The vector doesn't hold each session once.
+    /// The vector doesn't hold each session's ticket exactly once.
     #[error("a session is missing")]
     Missing = 1,
     /// A session has a call pending, or is the combiner.
@@ -26,14 +26,14 @@ pub enum CloseFault {
     Unsettled = 2,
 }
 
-// Whether a ticket of this number is among them.
+/// Whether a ticket with this number is in the slice.
 fn has_number(tickets: &[Ticket], number: u16) -> bool
     ensures { result ≡ list_any (λ ticket. ticket.number == number) tickets.now }
 {
     tickets.iter().any(|ticket| ticket.number() == number)
 }
 
-/// Whether the tickets are those of so many sessions, each once. Each number is looked for in turn, which takes no memory.
+/// Whether the slice holds one ticket for each of the sessions. It takes no memory: it looks for each number in turn.
 pub(crate) fn is_each_once(tickets: &[Ticket], sessions: u16) -> bool
     ensures { IsTrue result ↔ IsEachOnce sessions tickets.now }
 {
@@ -44,15 +44,18 @@ pub(crate) fn is_each_once(tickets: &[Ticket], sessions: u16) -> bool
     is_whole
 }
 
-/// Whether no ticket has anything pending, or the book.
+/// Whether no ticket has a call pending or is the combiner's.
 pub(crate) fn are_settled(tickets: &[Ticket]) -> bool
     ensures { result ≡ list_all is_settled tickets.now }
 {
     tickets.iter().all(|ticket| ticket.is_settled())
 }
 
-/// The book of a table whose sessions were all taken in by the closing seat.
-pub(crate) fn close_table(table: Table<Held, View, u16, Law, Global>, closing: Seat) -> Book
+/// Ends the table and returns its book. Needs a closing seat into which all sessions' seats were joined.
+pub(crate) fn close_table(
+    table: Table<SlotValue, View, u16, BoardRule, Global>,
+    closing: Seat,
+) -> Book
     requires ours { closing.table_id ≡ table.shared.table_id }
     requires some { 0 < table.shared.table_id.slots }
     requires all { WereHanded table.shared.table_id.slots closing.me.0.others.handed }
@@ -68,7 +71,7 @@ pub(crate) fn close_table(table: Table<Held, View, u16, Law, Global>, closing: S
         i += 1;
     }
     closed.free();
-    let Held::Home(load) = held else {
+    let SlotValue::LockTable(load) = held else {
         unreachable!()
     };
     let Load {

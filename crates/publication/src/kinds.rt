@@ -1,12 +1,15 @@
-// The rule of the table, and the kinds of its steps.
-use crate::slot::Held;
+//! The rule of the board's table, and the kinds of its atomic steps. Each kind names its definition in
+//! `specs/Kinds.antt`. A `Play` is a step on a word; a `Split` makes a new seat out of one, and a `Join` makes one
+//! seat of two.
+use crate::slot::SlotValue;
 use crate::view::View;
 use atomic_table::{Join, Play, Split, TableRule};
 
+/// The rule that every step keeps, and what the first seat knows.
 #[derive(Clone, Copy)]
-pub struct Law;
+pub struct BoardRule;
 
-impl TableRule<Held, View, u16> for Law {
+impl TableRule<SlotValue, View, u16> for BoardRule {
     ghost use Rattle.std.specs.Prelude.{◌+◌};
     ghost use Rattle.publication.specs.Rule.{maker};
     ghost use Rattle.publication.specs.List.{IsRuled};
@@ -16,190 +19,211 @@ impl TableRule<Held, View, u16> for Law {
     ghost first = { λ sessions. maker (sessions + 1) 0 };
 }
 
-// A session is made: the maker's seat is cut in two.
+/// The first seat makes one session: the new seat is split off it.
 pub struct Enrol;
 
 impl Split<View> for Enrol {
     ghost use Rattle.std.specs.Prelude.{◌+◌};
-    ghost use Rattle.publication.specs.Rule.{newcomer, maker};
+    ghost use Rattle.publication.specs.Rule.{new_session, maker};
 
     ghost left = { λ v. maker v.slots (v.made + 1) };
 
-    ghost right = { λ v. newcomer v.slots (v.made + 1) };
+    ghost right = { λ v. new_session v.slots (v.made + 1) };
 }
 
+/// A new session takes its record's slot.
 pub struct Start;
 
-impl Play<Held, View> for Start {
+impl Play<SlotValue, View> for Start {
     ghost use Rattle.publication.specs.Kinds.{starts};
 
     ghost then = { starts };
 }
 
+/// A session publishes the call in its slot.
 pub struct Post;
 
-impl Play<Held, View> for Post {
+impl Play<SlotValue, View> for Post {
     ghost use Rattle.publication.specs.Kinds.{posts};
 
     ghost then = { posts };
 }
 
+/// A session reads the head word.
 pub struct LookAtHead;
 
-impl Play<Held, View> for LookAtHead {
+impl Play<SlotValue, View> for LookAtHead {
     ghost use Rattle.publication.specs.Kinds.{looks_at_head};
 
     ghost then = { looks_at_head };
 }
 
+/// A session links its record to the head as seen.
 pub struct Link;
 
-impl Play<Held, View> for Link {
+impl Play<SlotValue, View> for Link {
     ghost use Rattle.publication.specs.Kinds.{links};
 
     ghost then = { links };
 }
 
+/// A session exchanges the head word, so that its record is the list's first.
 pub struct Enlist;
 
-impl Play<Held, View> for Enlist {
+impl Play<SlotValue, View> for Enlist {
     ghost use Rattle.publication.specs.Kinds.{enlists};
 
     ghost then = { enlists };
 }
 
+/// The combiner reads the head word; its walk begins.
 pub struct Walk;
 
-impl Play<Held, View> for Walk {
+impl Play<SlotValue, View> for Walk {
     ghost use Rattle.publication.specs.Kinds.{walks};
 
     ghost then = { walks };
 }
 
+/// The combiner reads the link of a record on its walk.
 pub struct WalkOn;
 
-impl Play<Held, View> for WalkOn {
+impl Play<SlotValue, View> for WalkOn {
     ghost use Rattle.publication.specs.Kinds.{walks_on};
 
     ghost then = { walks_on };
 }
 
+/// The combiner links a record past the one behind it.
 pub struct Unlink;
 
-impl Play<Held, View> for Unlink {
+impl Play<SlotValue, View> for Unlink {
     ghost use Rattle.publication.specs.Kinds.{unlinks};
 
     ghost then = { unlinks };
 }
 
+/// The combiner marks the unlinked record OUT.
 pub struct MarkOut;
 
-impl Play<Held, View> for MarkOut {
+impl Play<SlotValue, View> for MarkOut {
     ghost use Rattle.publication.specs.Kinds.{marks_out};
 
     ghost then = { marks_out };
 }
 
+/// The combiner links the unlinked record again.
 pub struct Relink;
 
-impl Play<Held, View> for Relink {
+impl Play<SlotValue, View> for Relink {
     ghost use Rattle.publication.specs.Kinds.{relinks};
 
     ghost then = { relinks };
 }
 
+/// A session reads its record's state word.
 pub struct LookForReply;
 
-impl Play<Held, View> for LookForReply {
+impl Play<SlotValue, View> for LookForReply {
     ghost use Rattle.publication.specs.Kinds.{looks_for_reply};
 
     ghost then = { looks_for_reply };
 }
 
+/// A session takes the reply out of its record.
 pub struct Take;
 
-impl Play<Held, View> for Take {
+impl Play<SlotValue, View> for Take {
     ghost use Rattle.publication.specs.Kinds.{takes_reply};
 
     ghost then = { takes_reply };
 }
 
+/// A session reads the lock word.
 pub struct LookAtLock;
 
-impl Play<Held, View> for LookAtLock {
+impl Play<SlotValue, View> for LookAtLock {
     ghost use Rattle.publication.specs.Kinds.{looks_at_lock};
 
     ghost then = { looks_at_lock };
 }
 
+/// A session tries to become the combiner.
 pub struct Seize;
 
-impl Play<Held, View> for Seize {
+impl Play<SlotValue, View> for Seize {
     ghost use Rattle.publication.specs.Kinds.{seizes};
 
     ghost then = { seizes };
 }
 
+/// The combiner frees the lock word.
 pub struct Release;
 
-impl Play<Held, View> for Release {
+impl Play<SlotValue, View> for Release {
     ghost use Rattle.publication.specs.Kinds.{releases};
 
     ghost then = { releases };
 }
 
+/// The combiner reads a record's state word.
 pub struct LookAtRecord;
 
-impl Play<Held, View> for LookAtRecord {
+impl Play<SlotValue, View> for LookAtRecord {
     ghost use Rattle.publication.specs.Kinds.{looks_at_record};
 
     ghost then = { looks_at_record };
 }
 
+/// The combiner opens a record in which a call is posted.
 pub struct Open;
 
-impl Play<Held, View> for Open {
+impl Play<SlotValue, View> for Open {
     ghost use Rattle.publication.specs.Kinds.{opens};
 
     ghost then = { opens };
 }
 
+/// The combiner lays the slot of an opened record down.
 pub struct Lay;
 
-impl Play<Held, View> for Lay {
+impl Play<SlotValue, View> for Lay {
     ghost use Rattle.publication.specs.Kinds.{lays};
 
     ghost then = { lays };
 }
 
+/// The combiner takes the slot of an opened record again.
 pub struct Pick;
 
-impl Play<Held, View> for Pick {
+impl Play<SlotValue, View> for Pick {
     ghost use Rattle.publication.specs.Kinds.{picks};
 
     ghost then = { picks };
 }
 
+/// The combiner answers an opened call.
 pub struct Answer;
 
-impl Play<Held, View> for Answer {
+impl Play<SlotValue, View> for Answer {
     ghost use Rattle.publication.specs.Kinds.{answers};
 
     ghost then = { answers };
 }
 
+/// The combiner posts an opened call again.
 pub struct PutBack;
 
-impl Play<Held, View> for PutBack {
+impl Play<SlotValue, View> for PutBack {
     ghost use Rattle.publication.specs.Kinds.{puts_back};
 
     ghost then = { puts_back };
 }
 
-// A copy of what a seat knows: the seat is cut in two.
-pub struct Cut;
+/// A copy of what a seat knows is split off it.
+pub struct SplitCopy;
 
-impl Split<View> for Cut {
+impl Split<View> for SplitCopy {
     ghost use Rattle.publication.specs.Kinds.{copy_of};
 
     ghost left = { λ v. v };
@@ -207,10 +231,10 @@ impl Split<View> for Cut {
     ghost right = { copy_of };
 }
 
-// A seat takes such a copy in.
-pub struct TakeIn;
+/// A seat takes in such a copy.
+pub struct JoinCopy;
 
-impl Join<View> for TakeIn {
+impl Join<View> for JoinCopy {
     ghost use Rattle.publication.specs.Rule.{blank};
     ghost use Rattle.publication.specs.Kinds.{joined};
 
@@ -219,31 +243,34 @@ impl Join<View> for TakeIn {
     ghost spent = { blank };
 }
 
+/// A seat learns which of two fronts of the history is the longer.
 pub struct Learn;
 
-impl Play<Held, View> for Learn {
+impl Play<SlotValue, View> for Learn {
     ghost use Rattle.publication.specs.Kinds.{learns};
 
     ghost then = { learns };
 }
 
+/// A session publishes no more calls.
 pub struct Retire;
 
-impl Play<Held, View> for Retire {
+impl Play<SlotValue, View> for Retire {
     ghost use Rattle.publication.specs.Kinds.{retires};
 
     ghost then = { retires };
 }
 
+/// A session that is handed in lays its record's slot down.
 pub struct Leave;
 
-impl Play<Held, View> for Leave {
+impl Play<SlotValue, View> for Leave {
     ghost use Rattle.publication.specs.Kinds.{leaves};
 
     ghost then = { leaves };
 }
 
-// A seat takes in that of a session that left.
+/// The closing seat takes in the seat of a session that left.
 pub struct Gather;
 
 impl Join<View> for Gather {

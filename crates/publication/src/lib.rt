@@ -1,10 +1,12 @@
-//! The board: a word that is the lock of the lock table, and for each session a publication record, a word, a link and a slot,
-//! where it publishes a call and finds the reply. Whoever wins the lock word is the combiner: it opens the records that
-//! others have posted, serves their calls on the lock table and answers them. The way is flat combining (Hendler, Incze,
-//! Shavit and Tzafrir 2010); the rule that holds between any two of its atomic steps is in `specs/Rule.antt` and,
-//! of the publication list, in `specs/List.antt`; the steps themselves are listed in `specs/Kinds.antt`.
+//! The board: a lock word for the lock table, and one publication record a session, through which sessions hand calls
+//! to the combiner and get the replies back. This is flat combining (Hendler, Incze, Shavit and Tzafrir 2010).
 //!
-//! This crate knows how calls and replies pass between sessions, and not how a call is served: that `lock_desk` does.
+//! A record is a state word, a link word and a slot. A session publishes a call in its slot. The session that wins
+//! the lock word is the combiner: it has the lock table, walks the publication list, opens the records in which calls
+//! are posted, and answers them. How a call is served is `lock_desk`'s concern, not this crate's.
+//!
+//! `specs/Rule.antt` and `specs/List.antt` state what holds between any two atomic steps, and `specs/Kinds.antt`
+//! lists the steps.
 #![tactic(auto)]
 
 mod board;

@@ -1,28 +1,32 @@
-// The slots and the seats of a new board.
+//! The slots and the seats of a new board.
 ghost use Rattle.std.specs.Prelude.{◌≡◌, ◌+◌, ◌∷◌, [], IfOk, length, replicate};
 ghost use Rattle.publication.specs.Rule.{maker};
-ghost use Rattle.publication.specs.Tickets.{IsBoard, AreNewcomers};
+ghost use Rattle.publication.specs.inner.Tickets.{IsBoard, AreNewSeats};
 
 use crate::kinds::Enrol;
-use crate::slot::{Held, Load};
+use crate::slot::{Load, SlotValue};
 use crate::steps::{Seat, Shared};
 use lock_desk::NoMemory;
 use std::alloc::Global;
 
-/// A slot for the load, and an empty one for each session.
-pub(crate) fn laid(alloc: Global, load: Box<Load>, sessions: u16) -> Result<Vec<Held>, NoMemory>
-    ensures { IfOk result (λ v. v.items ≡ Held.Home load ∷ replicate sessions Held.Nothing) }
+/// The slots of a new board: the load in the lock's slot, and an empty slot for each session.
+pub(crate) fn initial_slots(
+    alloc: Global,
+    load: Box<Load>,
+    sessions: u16,
+) -> Result<Vec<SlotValue>, NoMemory>
+    ensures { IfOk result (λ v. v.items ≡ SlotValue.LockTable load ∷ replicate sessions SlotValue.Empty) }
 {
     let mut slots = Vec::new(alloc);
-    slots.push(Held::Home(load))?;
+    slots.push(SlotValue::LockTable(load))?;
     for _session in 0..sessions {
-        slots.push(Held::Nothing)?;
+        slots.push(SlotValue::Empty)?;
     }
     Ok(slots)
 }
 
-/// Cuts a seat for each session off the first one, in order: seat i is that of session i.
-pub(crate) fn cut_all(
+/// Splits a seat for each session off the first seat, in order: seat i is session i's.
+pub(crate) fn split_all(
     alloc: Global,
     shared: &Shared,
     first: &mut Seat,
@@ -35,7 +39,7 @@ pub(crate) fn cut_all(
     requires made { first.old.me ≡ (maker (sessions + 1) 0, []) }
     ensures ours { IfOk result (λ _. first.new.table_id ≡ first.old.table_id) }
     ensures made { IfOk result (λ _. first.new.me ≡ (maker (sessions + 1) sessions, [])) }
-    ensures seats { IfOk result (λ seats. (length seats.items ≡ sessions) × AreNewcomers shared.now.table_id (sessions + 1) seats.items) }
+    ensures seats { IfOk result (λ seats. (length seats.items ≡ sessions) × AreNewSeats shared.now.table_id (sessions + 1) seats.items) }
 {
     let mut seats = Vec::new(alloc);
     for _made in 0..sessions {

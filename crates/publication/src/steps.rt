@@ -1,44 +1,49 @@
-// The moves of a seat at the board, each one step or a few, with what the seat carries before and after.
+//! The moves of a seat on the board: each takes one atomic step or a few, and its contract says what the seat knows
+//! and carries before and after.
 ghost use Rattle.std.specs.Prelude.{◌≡◌, ◌≢◌, ◌+◌, ◌^◌, ◌<◌, ◌∷◌, ◌++◌, [], true, false, Some, None, IfSome, IfNone, length, is_some};
 ghost use Rattle.atomic_table.specs.Table.{rest};
 ghost use Rattle.lock_rules.specs.Legal.{IsLegal};
 ghost use Rattle.publication.specs.Views.{entry};
 ghost use Rattle.publication.specs.Rule.{IsHome};
 ghost use Rattle.publication.specs.List.{IsOn, AreApart, head_of, first_of, behind, without};
-ghost use Rattle.publication.specs.Kinds.{IsUnanswered, HasOthers, HasAnother, HasEntered, opened_in, call_at, posting, enlisting, unlinking, routing, parting, parted, rejoining, IsRoute, MeetsAll, HasTaken, Seized, seizing, releasing, opening, Opened, in_hand, answering, putting_back, copy_of, joined, hearing, Learned, retiring, gathered};
-ghost use Rattle.publication.specs.Tickets.{IsBoard, IsAt, IsCombiner};
+ghost use Rattle.publication.specs.Kinds.{IsUnanswered, HasOthers, HasAnother, HasEntered, opened_in, call_at, posting, enlisting, losing_head, routing, bypassing, none_unlinked, relinking, IsRoute, MeetsAll, HasTaken, Seized, seizing, releasing, opening, Opened, in_hand, answering, putting_back, copy_of, joined, hearing, Learned, retiring, gathered};
+ghost use Rattle.publication.specs.inner.Tickets.{IsBoard, IsAt, IsCombiner};
 
 use crate::kinds::{
-    Answer, Cut, Enlist, Gather, Law, Lay, Learn, Leave, Link, LookAtHead, LookAtLock,
+    Answer, BoardRule, Enlist, Gather, JoinCopy, Lay, Learn, Leave, Link, LookAtHead, LookAtLock,
     LookAtRecord, LookForReply, MarkOut, Open, Pick, Post, PutBack, Release, Relink, Retire, Seize,
-    Take, TakeIn, Unlink, Walk, WalkOn,
+    SplitCopy, Take, Unlink, Walk, WalkOn,
 };
-use crate::slot::{Held, Load};
+use crate::slot::{Load, SlotValue};
 use crate::view::View;
 use crate::words::{BUSY, CLOSED, EMPTY, END, FREE, HEAD, OUT, POSTED, SERVED, WORDS_APART};
 use lock_desk::{Call, Reply};
 
-pub type Seat = atomic_table::Seat<Held, View>;
+/// The seat of a session, or of the first or the closing one: a handle with a ghost view, and the slots that it has
+/// taken.
+pub type Seat = atomic_table::Seat<SlotValue, View>;
 
-pub type Shared = atomic_table::Shared<Held, View, u16, Law>;
+/// The part of the table that all seats share.
+pub type Shared = atomic_table::Shared<SlotValue, View, u16, BoardRule>;
 
-/// A session posts a call in its own record, by one exchange that tells whether the record was on the publication list.
-pub(crate) fn put_call(shared: &Shared, seat: &mut Seat, at: usize, call: Call) -> bool
+/// Publishes a session's call in its own record, with one swap of the state word. Returns whether the record was on
+/// the publication list, so that the call is listed at once.
+pub(crate) fn publish_in_record(shared: &Shared, seat: &mut Seat, at: usize, call: Call) -> bool
     requires ours { seat.old.table_id ≡ shared.now.table_id }
     requires board { IsBoard shared.now.table_id }
     requires at { IsAt shared.now.table_id at }
     requires mine { seat.old.me.0.number ≡ at }
     requires idle { (is_some seat.old.me.0.own.pending ≡ false) × (seat.old.me.0.own.retired ≡ false) }
-    requires carried { seat.old.me.1 ≡ (at, Held.Nothing) ∷ rest seat.old.me.1 }
+    requires carried { seat.old.me.1 ≡ (at, SlotValue.Empty) ∷ rest seat.old.me.1 }
     ensures ours { seat.new.table_id ≡ seat.old.table_id }
     ensures step { seat.new.me ≡ (posting seat.old.me.0 call result, rest seat.old.me.1) }
 {
-    drop(shared.exchange(seat, at, Held::Asked(call)));
+    drop(shared.exchange(seat, at, SlotValue::PostedCall(call)));
     shared.swap::<Post>(seat, at * WORDS_APART, POSTED) == EMPTY
 }
 
-// The head word, as a session sees it whose record isn't on the publication list.
-fn seen_head(shared: &Shared, seat: &mut Seat, at: usize) -> u64
+/// Reads the head word, for a session whose record isn't on the publication list.
+fn look_at_head(shared: &Shared, seat: &mut Seat, at: usize) -> u64
     requires ours { seat.old.table_id ≡ shared.now.table_id }
     requires board { IsBoard shared.now.table_id }
     requires at { IsAt shared.now.table_id at }
@@ -51,8 +56,8 @@ fn seen_head(shared: &Shared, seat: &mut Seat, at: usize) -> u64
     shared.load::<LookAtHead>(seat, HEAD)
 }
 
-/// A session whose pending call isn't listed links its record to the head as seen, and tries one exchange of the head word: whether its
-/// record is the first on the publication list then.
+/// Tries once to put the session's record at the head of the publication list: links it to the head as seen, and
+/// exchanges the head word. Returns whether the exchange was won. Needs a pending call that isn't listed.
 pub(crate) fn enlist_record(shared: &Shared, seat: &mut Seat, at: usize) -> bool
     requires ours { seat.old.table_id ≡ shared.now.table_id }
     requires board { IsBoard shared.now.table_id }
@@ -61,14 +66,14 @@ pub(crate) fn enlist_record(shared: &Shared, seat: &mut Seat, at: usize) -> bool
     requires unlisted { (seat.old.me.0.own.pending ≢ None) × (seat.old.me.0.own.listed ≡ false) }
     ensures ours { seat.new.table_id ≡ seat.old.table_id }
     ensures won { result ≡ true → seat.new.me ≡ (enlisting seat.old.me.0, seat.old.me.1) }
-    ensures lost { result ≡ false → (seat.new.me ≡ (unlinking seat.old.me.0, seat.old.me.1)) × (2 < shared.now.table_id.slots) }
+    ensures lost { result ≡ false → (seat.new.me ≡ (losing_head seat.old.me.0, seat.old.me.1)) × (2 < shared.now.table_id.slots) }
 {
-    let head = seen_head(shared, seat, at);
+    let head = look_at_head(shared, seat, at);
     shared.store::<Link>(seat, at * WORDS_APART + HEAD, head);
     shared.compare_exchange::<Enlist>(seat, HEAD, head, at as u64) == head
 }
 
-// The record that the head word or a link names.
+/// The record that a head word or link word names; `None` for END.
 fn record_named(found: u64) -> Option<u16>
     requires { found < 65536 }
     ensures none { IfNone result (found ≡ 65535) }
@@ -80,7 +85,8 @@ fn record_named(found: u64) -> Option<u16>
     Some(found as u16)
 }
 
-/// A combiner looks at the head of the publication list, and knows the whole list then: its first record.
+/// Begins the combiner's walk: reads the head word, after which the whole list is known. Returns the list's first
+/// record.
 pub(crate) fn walk_from_head(shared: &Shared, seat: &mut Seat) -> Option<u16>
     requires ours { seat.old.table_id ≡ shared.now.table_id }
     requires board { IsBoard shared.now.table_id }
@@ -96,7 +102,7 @@ pub(crate) fn walk_from_head(shared: &Shared, seat: &mut Seat) -> Option<u16>
     record_named(found)
 }
 
-/// A combiner looks at the link of a record that its walk has met: the next record.
+/// Reads the link of a record that the combiner's walk has met. Returns the next record.
 pub(crate) fn walk_on(shared: &Shared, seat: &mut Seat, at: usize) -> Option<u16>
     requires ours { seat.old.table_id ≡ shared.now.table_id }
     requires board { IsBoard shared.now.table_id }
@@ -112,7 +118,7 @@ pub(crate) fn walk_on(shared: &Shared, seat: &mut Seat, at: usize) -> Option<u16
     record_named(found)
 }
 
-// Whether the session's own record is served. It writes nothing, so a session may look again and again.
+/// Whether the session's own record is SERVED. It is a plain load, so waiting for a reply writes nothing.
 fn is_served(shared: &Shared, seat: &mut Seat, at: usize) -> bool
     requires ours { seat.old.table_id ≡ shared.now.table_id }
     requires board { IsBoard shared.now.table_id }
@@ -125,37 +131,38 @@ fn is_served(shared: &Shared, seat: &mut Seat, at: usize) -> bool
     shared.load::<LookForReply>(seat, at * WORDS_APART) == SERVED
 }
 
-// A combiner links the record before past the one behind it, whose link is read first.
-fn part_record(shared: &Shared, seat: &mut Seat, before: usize, whose: usize)
+/// Links the record `before` past `whose`, the record behind it, whose link is read first.
+fn bypass_record(shared: &Shared, seat: &mut Seat, before: usize, whose: usize)
     requires ours { seat.old.table_id ≡ shared.now.table_id }
     requires board { IsBoard shared.now.table_id }
     requires mine { IsCombiner seat.old.me.0 × (seat.old.me.0.listing.off ≡ 0) }
     requires before { IsAt shared.now.table_id before × IsOn before seat.old.me.0.listing.route }
     requires whose { IsAt shared.now.table_id whose × (first_of (behind before seat.old.me.0.listing.route) ≡ Some whose) }
     ensures ours { seat.new.table_id ≡ seat.old.table_id }
-    ensures step { seat.new.me ≡ (parting seat.old.me.0 before, seat.old.me.1) }
+    ensures step { seat.new.me ≡ (bypassing seat.old.me.0 before, seat.old.me.1) }
     ensures apart { AreApart seat.old.me.0.listing.route }
 {
     let next = shared.load::<WalkOn>(seat, whose * WORDS_APART + HEAD);
     shared.store::<Unlink>(seat, before * WORDS_APART + HEAD, next);
 }
 
-// A combiner tries to mark the record out that it has unlinked. A record that is CLOSED stays off the list too.
+/// Tries to mark the unlinked record OUT. Returns whether it is off the list for good: it was EMPTY, or it is CLOSED
+/// and stays so.
 fn mark_out(shared: &Shared, seat: &mut Seat, whose: usize) -> bool
     requires ours { seat.old.table_id ≡ shared.now.table_id }
     requires board { IsBoard shared.now.table_id }
     requires mine { IsCombiner seat.old.me.0 × (seat.old.me.0.listing.off ≡ whose) }
     requires whose { IsAt shared.now.table_id whose }
     ensures ours { seat.new.table_id ≡ seat.old.table_id }
-    ensures out { result ≡ true → seat.new.me ≡ (parted seat.old.me.0, seat.old.me.1) }
+    ensures out { result ≡ true → seat.new.me ≡ (none_unlinked seat.old.me.0, seat.old.me.1) }
     ensures in_use { result ≡ false → seat.new.me ≡ seat.old.me }
 {
     let found = shared.compare_exchange::<MarkOut>(seat, whose * WORDS_APART, EMPTY, OUT);
     found == EMPTY || found == CLOSED
 }
 
-// A combiner links the record again that it has unlinked.
-fn rejoin_record(shared: &Shared, seat: &mut Seat, before: usize, whose: usize)
+/// Links the unlinked record again, where it was.
+fn relink_record(shared: &Shared, seat: &mut Seat, before: usize, whose: usize)
     requires ours { seat.old.table_id ≡ shared.now.table_id }
     requires board { IsBoard shared.now.table_id }
     requires mine { IsCombiner seat.old.me.0 }
@@ -163,14 +170,16 @@ fn rejoin_record(shared: &Shared, seat: &mut Seat, before: usize, whose: usize)
     requires before { IsAt shared.now.table_id before × IsOn before seat.old.me.0.listing.route }
     requires whose { IsAt shared.now.table_id whose }
     ensures ours { seat.new.table_id ≡ seat.old.table_id }
-    ensures step { seat.new.me ≡ (rejoining seat.old.me.0, seat.old.me.1) }
+    ensures step { seat.new.me ≡ (relinking seat.old.me.0, seat.old.me.1) }
 {
     shared.store::<Relink>(seat, before * WORDS_APART + HEAD, whose as u64);
 }
 
-/// A combiner takes a record off the publication list, which stands there behind another, where it is EMPTY or CLOSED. No post is
-/// lost: where that of its session comes before the exchange, the exchange fails and the record is linked again, and where it comes after,
-/// it finds the record OUT, and the session enlists it.
+/// Takes the record `whose` off the publication list if it is EMPTY or CLOSED, and returns whether it did. `before`
+/// is the record in front of it; the list's first record can't be taken off.
+///
+/// No post is lost. If the session posts before the exchange, the exchange fails and the record is linked again. If
+/// it posts afterwards, it finds the record OUT and enlists it.
 pub(crate) fn unlink_record(shared: &Shared, seat: &mut Seat, before: usize, whose: usize) -> bool
     requires ours { seat.old.table_id ≡ shared.now.table_id }
     requires board { IsBoard shared.now.table_id }
@@ -178,20 +187,20 @@ pub(crate) fn unlink_record(shared: &Shared, seat: &mut Seat, before: usize, who
     requires before { IsAt shared.now.table_id before × IsOn before seat.old.me.0.listing.route }
     requires whose { IsAt shared.now.table_id whose × (first_of (behind before seat.old.me.0.listing.route) ≡ Some whose) }
     ensures ours { seat.new.table_id ≡ seat.old.table_id }
-    ensures out { result ≡ true → seat.new.me ≡ (parted (parting seat.old.me.0 before), seat.old.me.1) }
-    ensures kept { result ≡ false → seat.new.me ≡ (parted seat.old.me.0, seat.old.me.1) }
+    ensures out { result ≡ true → seat.new.me ≡ (none_unlinked (bypassing seat.old.me.0 before), seat.old.me.1) }
+    ensures kept { result ≡ false → seat.new.me ≡ (none_unlinked seat.old.me.0, seat.old.me.1) }
 {
-    part_record(shared, seat, before, whose);
+    bypass_record(shared, seat, before, whose);
     if mark_out(shared, seat, whose) {
         return true;
     }
-    rejoin_record(shared, seat, before, whose);
+    relink_record(shared, seat, before, whose);
     false
 }
 
-/// A session takes the reply out of its own record, where it was served. The record is EMPTY then where the call was listed, and OUT
-/// where it wasn't.
-pub(crate) fn take_reply(
+/// Takes the reply out of the session's own record; `None` if the record isn't SERVED. The record is then EMPTY if
+/// the call was listed, else OUT.
+pub(crate) fn collect_reply(
     shared: &Shared,
     seat: &mut Seat,
     at: usize,
@@ -203,7 +212,7 @@ pub(crate) fn take_reply(
     requires mine { seat.old.me.0.number ≡ at }
     requires listed { seat.old.me.0.own.listed ≡ is_listed }
     ensures ours { seat.new.table_id ≡ seat.old.table_id }
-    ensures some { IfSome result (λ r. HasTaken seat.old.me seat.new.me Held.Nothing r.0 r.1) }
+    ensures some { IfSome result (λ r. HasTaken seat.old.me seat.new.me SlotValue.Empty r.0 r.1) }
     ensures none { IfNone result ((seat.new.me ≡ seat.old.me) × IsUnanswered seat.old.me.0) }
 {
     if !is_served(shared, seat, at) {
@@ -214,13 +223,13 @@ pub(crate) fn take_reply(
     if found != SERVED {
         return None;
     }
-    let Held::Replied(place, reply) = shared.exchange(seat, at, Held::Nothing) else {
+    let SlotValue::ServedReply(place, reply) = shared.exchange(seat, at, SlotValue::Empty) else {
         unreachable!()
     };
     Some((place, reply))
 }
 
-// Whether nobody has the book. It writes nothing.
+/// Whether the lock word is FREE. It is a plain load.
 fn is_free(shared: &Shared, seat: &mut Seat) -> bool
     requires ours { seat.old.table_id ≡ shared.now.table_id }
     requires board { IsBoard shared.now.table_id }
@@ -232,13 +241,13 @@ fn is_free(shared: &Shared, seat: &mut Seat) -> bool
     shared.load::<LookAtLock>(seat, 0) == FREE
 }
 
-/// A session tries to become the combiner, and has the load then.
-pub(crate) fn take_load(shared: &Shared, seat: &mut Seat, number: u64) -> Option<Box<Load>>
+/// Tries once to become the combiner, and takes the load. Writes the lock word only after a load found it FREE.
+pub(crate) fn seize_load(shared: &Shared, seat: &mut Seat, number: u64) -> Option<Box<Load>>
     requires ours { seat.old.table_id ≡ shared.now.table_id }
     requires board { IsBoard shared.now.table_id }
     requires mine { (seat.old.me.0.number ≡ number) × (0 < number) }
     ensures ours { seat.new.table_id ≡ seat.old.table_id }
-    ensures some { IfSome result (λ load. (seat.new.me ≡ (seizing seat.old.me.0 load.value.book.history, (0, Held.Nothing) ∷ seat.old.me.1))
+    ensures some { IfSome result (λ load. (seat.new.me ≡ (seizing seat.old.me.0 load.value.book.history, (0, SlotValue.Empty) ∷ seat.old.me.1))
         × Seized seat.old.me.0 shared.now.table_id.slots load.value) }
     ensures none { IfNone result ((seat.new.me ≡ seat.old.me) × HasOthers shared.now.table_id.slots seat.old.me.0) }
 {
@@ -249,30 +258,30 @@ pub(crate) fn take_load(shared: &Shared, seat: &mut Seat, number: u64) -> Option
     if found != FREE {
         return None;
     }
-    let Held::Home(load) = shared.exchange(seat, 0, Held::Nothing) else {
+    let SlotValue::LockTable(load) = shared.exchange(seat, 0, SlotValue::Empty) else {
         unreachable!()
     };
     Some(load)
 }
 
-/// A combiner that has opened no record any more gives the load back.
-pub(crate) fn give_load(shared: &Shared, seat: &mut Seat, load: Box<Load>)
+/// Gives the load back and frees the lock word. Needs a combiner with no record opened.
+pub(crate) fn release_load(shared: &Shared, seat: &mut Seat, load: Box<Load>)
     requires ours { seat.old.table_id ≡ shared.now.table_id }
     requires board { IsBoard shared.now.table_id }
     requires mine { (seat.old.me.0.number ≢ 0) × (seat.old.me.0.combiner.has_book ≡ true) }
     requires none { (j : _) → opened_in seat.old.me.0 j ≡ None }
     requires home { IsHome seat.old.me.0.front shared.now.table_id.slots load.value }
     requires whole { seat.old.me.0.listing.off ≡ 0 }
-    requires carried { seat.old.me.1 ≡ (0, Held.Nothing) ∷ rest seat.old.me.1 }
+    requires carried { seat.old.me.1 ≡ (0, SlotValue.Empty) ∷ rest seat.old.me.1 }
     ensures ours { seat.new.table_id ≡ seat.old.table_id }
     ensures step { seat.new.me ≡ (releasing seat.old.me.0, rest seat.old.me.1) }
 {
-    drop(shared.exchange(seat, 0, Held::Home(load)));
+    drop(shared.exchange(seat, 0, SlotValue::LockTable(load)));
     shared.store::<Release>(seat, 0, FREE);
 }
 
-#[tactic(auto, using(crate::proofs::Combiners::session_of_its_word))]
-// Whether a call is posted in the record. It writes nothing, so a pass over idle records leaves them to their sessions.
+/// Whether a call is posted in the record. It is a plain load, so a pass over idle records writes none of them.
+#[tactic(auto, using(crate::proofs::RecordKinds::session_of_its_word))]
 fn is_posted(shared: &Shared, seat: &mut Seat, at: usize) -> bool
     requires ours { seat.old.table_id ≡ shared.now.table_id }
     requires board { IsBoard shared.now.table_id }
@@ -285,9 +294,9 @@ fn is_posted(shared: &Shared, seat: &mut Seat, at: usize) -> bool
     shared.load::<LookAtRecord>(seat, at * WORDS_APART) == POSTED
 }
 
-#[tactic(auto, using(crate::proofs::Combiners::session_of_its_word))]
-/// A combiner opens a record, where a call is posted. The slot goes back at once, since only the slot that was taken last
-/// can be reached.
+/// Opens a record: takes the call that is posted there; `None` if there is none. The slot goes home at once, since a
+/// seat reaches only the slot that it took last.
+#[tactic(auto, using(crate::proofs::RecordKinds::session_of_its_word))]
 pub(crate) fn open_record(shared: &Shared, seat: &mut Seat, at: usize) -> Option<Call>
     requires ours { seat.old.table_id ≡ shared.now.table_id }
     requires board { IsBoard shared.now.table_id }
@@ -304,14 +313,14 @@ pub(crate) fn open_record(shared: &Shared, seat: &mut Seat, at: usize) -> Option
     if found != POSTED {
         return None;
     }
-    let Held::Asked(call) = shared.exchange(seat, at, Held::Nothing) else {
+    let SlotValue::PostedCall(call) = shared.exchange(seat, at, SlotValue::Empty) else {
         unreachable!()
     };
     shared.load::<Lay>(seat, at * WORDS_APART);
     Some(call)
 }
 
-/// A combiner answers a call that it opened; its entry joins the history.
+/// Answers a call that the combiner opened: the reply goes into the record, and the call's entry joins the history.
 pub(crate) fn answer_record(shared: &Shared, seat: &mut Seat, at: usize, place: u64, reply: Reply)
     requires ours { seat.old.table_id ≡ shared.now.table_id }
     requires board { IsBoard shared.now.table_id }
@@ -324,11 +333,11 @@ pub(crate) fn answer_record(shared: &Shared, seat: &mut Seat, at: usize, place: 
     ensures step { seat.new.me ≡ (answering seat.old.me.0 at (call_at seat.old.me.0 at) reply, seat.old.me.1) }
 {
     shared.load::<Pick>(seat, at * WORDS_APART);
-    drop(shared.exchange(seat, at, Held::Replied(place, reply)));
+    drop(shared.exchange(seat, at, SlotValue::ServedReply(place, reply)));
     shared.store::<Answer>(seat, at * WORDS_APART, SERVED);
 }
 
-/// A combiner puts a call back that it opened.
+/// Posts a call again that the combiner opened and hasn't performed.
 pub(crate) fn put_back_record(shared: &Shared, seat: &mut Seat, at: usize, call: Call)
     requires ours { seat.old.table_id ≡ shared.now.table_id }
     requires board { IsBoard shared.now.table_id }
@@ -339,12 +348,12 @@ pub(crate) fn put_back_record(shared: &Shared, seat: &mut Seat, at: usize, call:
     ensures step { seat.new.me ≡ (putting_back seat.old.me.0 at, seat.old.me.1) }
 {
     shared.load::<Pick>(seat, at * WORDS_APART);
-    drop(shared.exchange(seat, at, Held::Asked(call)));
+    drop(shared.exchange(seat, at, SlotValue::PostedCall(call)));
     shared.store::<PutBack>(seat, at * WORDS_APART, POSTED);
 }
 
-/// A new seat that knows what this one does.
-pub(crate) fn cut_seat(shared: &Shared, seat: &mut Seat) -> Seat
+/// Splits off a new seat that knows what this one knows of the history and of published calls.
+pub(crate) fn split_copy(shared: &Shared, seat: &mut Seat) -> Seat
     requires ours { seat.old.table_id ≡ shared.now.table_id }
     requires board { IsBoard shared.now.table_id }
     requires made { seat.old.me.0.others.all_made ≡ true }
@@ -352,11 +361,11 @@ pub(crate) fn cut_seat(shared: &Shared, seat: &mut Seat) -> Seat
     ensures same { seat.new.me ≡ seat.old.me }
     ensures copy { (result.table_id ≡ seat.old.table_id) × (result.me ≡ (copy_of seat.old.me.0, [])) }
 {
-    shared.split_seat::<Cut>(seat)
+    shared.split_seat::<SplitCopy>(seat)
 }
 
-/// A session learns what another seat knows. That seat is cut in two and the copy is taken in; a load after it tells that the
-/// longer of both fronts is the history's, and that both begin it.
+/// Lets a session learn what another seat knows: a copy is split off that seat and joined into the session's. A load
+/// afterwards shows that both fronts begin the history, so the longer one is a front of it.
 pub(crate) fn hear_seat(shared: &Shared, seat: &mut Seat, other: &mut Seat)
     requires ours { (seat.old.table_id ≡ shared.now.table_id) × (other.old.table_id ≡ shared.now.table_id) }
     requires board { IsBoard shared.now.table_id }
@@ -368,12 +377,12 @@ pub(crate) fn hear_seat(shared: &Shared, seat: &mut Seat, other: &mut Seat)
     ensures step { seat.new.me ≡ (hearing seat.old.me.0 other.old.me.0, seat.old.me.1) }
     ensures learned { Learned (joined seat.old.me.0 (copy_of other.old.me.0)) }
 {
-    let copy = cut_seat(shared, other);
-    shared.join_seat::<TakeIn>(seat, copy);
+    let copy = split_copy(shared, other);
+    shared.join_seat::<JoinCopy>(seat, copy);
     shared.load::<Learn>(seat, 0);
 }
 
-/// A session closes its own record, and publishes no more.
+/// Closes the session's own record: it publishes no more calls.
 pub(crate) fn retire_record(shared: &Shared, seat: &mut Seat, at: usize)
     requires ours { seat.old.table_id ≡ shared.now.table_id }
     requires board { IsBoard shared.now.table_id }
@@ -386,15 +395,15 @@ pub(crate) fn retire_record(shared: &Shared, seat: &mut Seat, at: usize)
     shared.store::<Retire>(seat, at * WORDS_APART, CLOSED);
 }
 
-/// The seat of a session that has nothing pending lays its record's slot down, since a seat that is taken in may carry none;
-/// then it is taken in, and ends.
+/// Joins the seat of a session into the closing one. The session lays its record's slot down first, because a seat
+/// that is joined may carry no slot. Needs a session with no call pending that isn't the combiner.
 pub(crate) fn gather_seat(shared: &Shared, seat: &mut Seat, other: Seat, at: usize)
     requires ours { (seat.old.table_id ≡ shared.now.table_id) × (other.table_id ≡ shared.now.table_id) }
     requires board { IsBoard shared.now.table_id }
     requires at { IsAt shared.now.table_id at }
     requires theirs { other.me.0.number ≡ at }
     requires settled { (is_some other.me.0.own.pending ≡ false) × (other.me.0.combiner.has_book ≡ false) }
-    requires carried { other.me.1 ≡ (at, Held.Nothing) ∷ [] }
+    requires carried { other.me.1 ≡ (at, SlotValue.Empty) ∷ [] }
     ensures ours { seat.new.table_id ≡ seat.old.table_id }
     ensures step { seat.new.me ≡ (gathered seat.old.me.0 other.me.0, seat.old.me.1) }
 {

@@ -1,29 +1,30 @@
-// What the words of the board say. The lock word is 0, or the number of the session that has the book.
+/// Lock word: no session has the lock table. Any other value is the number of the session that has it.
 pub const FREE: u64 = 0;
 
-// A record's words lie together, and those of two records in no line of the cache that they share.
+/// Words from one record to the next: 64 bytes, so that two records share no cache line.
 pub const WORDS_APART: usize = 8;
 
-// The link of a record lies one behind its word, and the head word of the publication list one behind the lock word.
+/// How far a record's link word lies behind its state word. The head word of the publication list lies as far behind
+/// the lock word, which is at index 0.
 pub const HEAD: usize = 1;
 
-// What the head word or a link says where no record follows.
+/// Head word or link word: no record follows.
 pub const END: u64 = 65535;
 
-// A publication record: nothing is published, and the record isn't on the list.
+/// State word of a record: no call is pending, and the record isn't on the publication list.
 pub const OUT: u64 = 0;
 
-// A call is in its slot.
+/// State word of a record: the slot holds a published call.
 pub const POSTED: u64 = 1;
 
-// The combiner has its call.
+/// State word of a record: the combiner has opened the call.
 pub const BUSY: u64 = 2;
 
-// The reply is in its slot.
+/// State word of a record: the slot holds the reply.
 pub const SERVED: u64 = 3;
 
-// Its session publishes no more.
+/// State word of a record: its session has retired.
 pub const CLOSED: u64 = 4;
 
-// Nothing is published, and the record is on the list.
+/// State word of a record: no call is pending, and the record is on the publication list.
 pub const EMPTY: u64 = 5;

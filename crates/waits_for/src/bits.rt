@@ -1,23 +1,24 @@
-//! A row of bits, in words of 64, and what is asked of one.
+//! Rows of bits, in words of 64.
 
 ghost use Rattle.std.specs.Prelude.{◌≡◌, ◌↔◌, ◌⊎◌, true, false, IsTrue, ℕ, ◌+◌, ◌-◌, ◌*◌, ◌/◌, ◌<◌, ◌≤◌, ◌&&◌, ◌||◌, not, ◌==◌, nat_le, nat_lt, IfSome, IfNone, EachIndex, slice_index, length};
 ghost use Rattle.std.specs.Simd.Lanes.{chunk};
 ghost use Rattle.mode_lanes.specs.Masks.{meets};
 ghost use Rattle.waits_for.specs.Pairs.{is_met};
-ghost use Rattle.waits_for.specs.Bits.{has_bit, words_for};
+ghost use Rattle.waits_for.specs.inner.Bits.{has_bit, words_for};
 
 use mode_lanes::any_common;
 
-/// A row of no more words than this is written word by word.
-const FEW: usize = 4;
+/// A row of at most this many words is cleared word by word.
+const FEW_WORDS: usize = 4;
 
-/// How many words a row has, with a bit for each session.
+/// The number of words of a row with a bit for each session.
 pub(crate) fn words_for(sessions: u16) -> usize
     ensures { result ≡ words_for sessions }
 {
     (sessions as usize + 63) / 64
 }
 
+/// Whether bit `k` is set.
 pub(crate) fn has(words: &[u64], k: usize) -> bool
     requires { k / 64 < length words.now }
     ensures { result ≡ has_bit words.now k }
@@ -25,6 +26,7 @@ pub(crate) fn has(words: &[u64], k: usize) -> bool
     (words[k / 64] >> (k % 64)) & 1 == 1
 }
 
+/// Sets bit `k`.
 pub(crate) fn set(words: &mut [u64], k: usize)
     requires { k / 64 < length words.old }
     ensures { (j : ℕ) → has_bit words.new j ≡ (has_bit words.old j || (j == k)) }
@@ -33,7 +35,7 @@ pub(crate) fn set(words: &mut [u64], k: usize)
     words[k / 64] = word | (1 << (k % 64));
 }
 
-/// Adds the bit of a number, at the bit `from` for the number 1, if its code has a bit of the mask; never the bit `own` from there.
+/// Sets bit `from + number - 1` if the code has a bit of the mask, unless this is bit `from + own`.
 #[inline(always)]
 fn set_if_met(words: &mut [u64], from: usize, own: usize, number: u16, code: u8, mask: u8)
     requires small { from < 4294967296 }
@@ -49,8 +51,8 @@ fn set_if_met(words: &mut [u64], from: usize, own: usize, number: u16, code: u8,
     }
 }
 
-/// Adds the bits of those numbers whose codes have a bit of the mask, at the bit `from` for the number 1, but not the bit `own`
-/// from there.
+/// Sets bit `from + n - 1` for each number n whose code has a bit of the mask, except bit `from + own`. `codes[k]`
+/// belongs to `numbers[k]`.
 pub(crate) fn set_met(
     words: &mut [u64],
     from: usize,
@@ -74,7 +76,7 @@ pub(crate) fn set_met(
     }
 }
 
-/// Takes one bit away.
+/// Clears bit `k`.
 pub(crate) fn unset(words: &mut [u64], k: usize)
     requires { k / 64 < length words.old }
     ensures { (j : ℕ) → has_bit words.new j ≡ (has_bit words.old j && not (j == k)) }
@@ -92,24 +94,25 @@ pub(crate) fn have_common(row: &[u64], other: &[u64]) -> bool
     any_common(row, other)
 }
 
-/// Takes away all bits of so many words, from one word on.
+/// Clears all bits of `count` words, beginning at word `from`.
 pub(crate) fn clear(words: &mut [u64], from: usize, count: usize)
     requires { from + count ≤ length words.old }
     ensures { (j : ℕ) → has_bit words.new j
         ≡ (has_bit words.old j && not (nat_le (64 * from) j && nat_lt j (64 * (from + count)))) }
 {
-    if count <= FEW {
+    if count <= FEW_WORDS {
         clear_few(words, from, count);
     } else {
         clear_many(words, from, count);
     }
 }
 
-/// The same, one word after another: LLVM makes a call of `memset` of a loop, which takes longer than so few words do.
+/// Clears at most `FEW_WORDS` words, one after another. LLVM turns a loop into a call of `memset`, which takes
+/// longer for so short a row.
 #[inline(always)]
 fn clear_few(words: &mut [u64], from: usize, count: usize)
     requires room { from + count ≤ length words.old }
-    requires few { count ≤ FEW }
+    requires few { count ≤ FEW_WORDS }
     ensures { (j : ℕ) → has_bit words.new j
         ≡ (has_bit words.old j && not (nat_le (64 * from) j && nat_lt j (64 * (from + count)))) }
 {
@@ -131,6 +134,7 @@ fn clear_few(words: &mut [u64], from: usize, count: usize)
     words[from + 3] = 0;
 }
 
+/// Clears any number of words, in a loop.
 fn clear_many(words: &mut [u64], from: usize, count: usize)
     requires { from + count ≤ length words.old }
     ensures { (j : ℕ) → has_bit words.new j
@@ -141,8 +145,9 @@ fn clear_many(words: &mut [u64], from: usize, count: usize)
     }
 }
 
-/// Adds the bits of so many words, from one word on, to as many others. Where the two overlap, those read aren't the first.
-pub(crate) fn unite_within(words: &mut [u64], from: usize, other: usize, count: usize)
+/// Adds the bits of the `count` words at word `other` to the `count` words at word `from`. If the two ranges
+/// overlap, `from` must not be behind `other`.
+pub(crate) fn or_within(words: &mut [u64], from: usize, other: usize, count: usize)
     requires room { from + count ≤ length words.old }
     requires room_too { other + count ≤ length words.old }
     requires apart { (from ≤ other) ⊎ (other + count ≤ from) }
@@ -155,7 +160,7 @@ pub(crate) fn unite_within(words: &mut [u64], from: usize, other: usize, count: 
     }
 }
 
-/// A bit that two rows have and a third one doesn't: the first one.
+/// A bit that is set in `row` and in `among`, but not in `known`. `None` if there is none.
 pub(crate) fn first_new(row: &[u64], among: &[u64], known: &[u64]) -> Option<usize>
     requires same { length among.now ≡ length row.now }
     requires same_too { length known.now ≡ length row.now }

@@ -1,7 +1,7 @@
-//! Who waits for whom, and who is on a circle of waits.
+//! The waits-for graph of sessions, and the search for its cycles, which are deadlocks.
 //!
-//! Sessions go by their positions: session number less 1. A [`Rows`] keeps the pairs (t, u) of which t
-//! waits for u, and answers by walks over them. [`Marks`] tell sessions apart that were met from those that were not. The crate
+//! A session is given by its position, which is its session number less 1. [`Rows`] holds the edges: pairs (t, u)
+//! such that t waits for u. Its queries search walks along these edges. [`Marks`] is a set of sessions. The crate
 //! knows nothing of locks or modes.
 #![tactic(auto)]
 
@@ -16,5 +16,5 @@ mod matrix;
 mod rows;
 mod search;
 
-/// The most sessions that a [`Rows`] is made for. This project's own limit.
+/// The largest number of sessions of a [`Rows`]. This project's own limit.
 pub const MAX_SESSIONS: u16 = 256;

@@ -1,4 +1,4 @@
-//! Marks of sessions, a bit for each.
+//! Sets of sessions, a bit for each session.
 
 ghost use Rattle.std.specs.Prelude.{◌≡◌, ℕ, ◌<◌, ◌||◌, not, ◌==◌, false, IfOk};
 ghost use Rattle.waits_for.specs.Marks.{is_marked};
@@ -8,19 +8,21 @@ use crate::bits::{clear, has, set, words_for};
 use std::alloc::Global;
 use std::marker::Model;
 
-/// Which sessions are marked. Contracts see the number of sessions and the marks, by `is_marked`.
+/// A set of sessions, which are called marked. Contracts see the number of sessions and the marks, by `is_marked`.
 ///
-/// Only [`Marks::new`] takes memory.
+/// Only [`Marks::new`] allocates memory.
 #[derive(Drop)]
 pub struct Marks {
+    /// The number of sessions.
     sessions: u16,
+    /// A bit for each session, in words of 64 bits.
     words: Vec<u64>,
 }
 
 impl Model for Marks {
     ghost use Rattle.std.specs.Prelude.{◌≡◌, length};
     ghost use Rattle.waits_for.specs.Marks.{Marking, marked_by};
-    ghost use Rattle.waits_for.specs.Bits.{has_bit, words_for};
+    ghost use Rattle.waits_for.specs.inner.Bits.{has_bit, words_for};
 
     ghost Value = { Marking };
 
@@ -30,7 +32,7 @@ impl Model for Marks {
 }
 
 impl Marks {
-    /// So many sessions, none of which is marked. `NoMemory` only where a growth was refused.
+    /// An empty set for `sessions` sessions. Fails only with `NoMemory`.
     pub fn new(alloc: Global, sessions: u16) -> Result<Marks, NoMemory>
         ensures sessions { IfOk result (λ marks. marks.sessions ≡ sessions) }
         ensures none { IfOk result (λ marks. (t : ℕ) → is_marked marks t ≡ false) }
@@ -39,7 +41,7 @@ impl Marks {
         Ok(Marks { sessions, words })
     }
 
-    /// Marks the session at position `t`, and tells whether it had no mark.
+    /// Marks the session at position `t`. Returns whether it was not marked before.
     pub fn mark(&mut self, t: usize) -> bool
         requires { t < self.old.sessions }
         ensures first { result ≡ not (is_marked self.old t) }
@@ -51,7 +53,7 @@ impl Marks {
         !had
     }
 
-    /// Takes all marks away.
+    /// Removes all marks.
     pub fn clear(&mut self)
         ensures sessions { self.new.sessions ≡ self.old.sessions }
         ensures none { (t : ℕ) → is_marked self.new t ≡ false }

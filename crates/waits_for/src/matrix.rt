@@ -1,25 +1,28 @@
-//! The pairs, kept as a matrix of bits.
+//! The edges of the waits-for graph, as a matrix of bits.
 
 ghost use Rattle.std.specs.Prelude.{◌≡◌, ℕ, ◌+◌, ◌*◌, ◌<◌, ◌≤◌, true, false, ◌&&◌, ◌||◌, not, ◌==◌, IfOk, EachIndex, slice_index, length};
-ghost use Rattle.waits_for.specs.Bits.{has_bit, words_for};
+ghost use Rattle.waits_for.specs.inner.Bits.{has_bit, words_for};
 ghost use Rattle.waits_for.specs.Pairs.{is_met, pairs_of, seen_by};
 
-use crate::bits::{clear, set, set_met, unite_within, words_for};
+use crate::bits::{clear, or_within, set, set_met, words_for};
 use std::alloc::{AllocError, Global};
 use std::marker::Model;
 
-/// A row of bits for each session, which says of each whether it waits for it. Rows are whole words, one behind another,
-/// and bits past the last session stay 0, so that kernels over rows see sessions alone.
+/// A row of bits for each session: bit u of row t is set if session t waits for session u. Each row is whole
+/// words, and the rows are one after another. Bits past the last session stay 0, so that kernels over rows see
+/// only sessions.
 #[derive(Drop)]
 pub struct Matrix {
+    /// The number of sessions.
     sessions: u16,
+    /// The rows, one after another, in words of 64 bits.
     words: Vec<u64>,
 }
 
 impl Model for Matrix {
     ghost use Rattle.std.specs.Prelude.{◌≡◌, ◌*◌, length};
     ghost use Rattle.waits_for.specs.Pairs.{Pairs, seen_by};
-    ghost use Rattle.waits_for.specs.Bits.{IsClearPast, marked_in, words_for};
+    ghost use Rattle.waits_for.specs.inner.Bits.{IsClearPast, marked_in, words_for};
 
     ghost Value = { Pairs };
 
@@ -31,6 +34,7 @@ impl Model for Matrix {
 }
 
 impl Matrix {
+    /// A matrix for `sessions` sessions without edges. Fails only if memory is refused.
     pub(crate) fn new(alloc: Global, sessions: u16) -> Result<Matrix, AllocError>
         ensures sessions { IfOk result (λ matrix. matrix.sessions ≡ sessions) }
         ensures no_pairs { IfOk result (λ matrix. (t u : ℕ) → pairs_of matrix t u ≡ false) }
@@ -39,6 +43,7 @@ impl Matrix {
         Ok(Matrix { sessions, words })
     }
 
+    /// The number of sessions.
     pub(crate) fn sessions(&self) -> u16
         ensures sessions { result ≡ self.now.sessions }
         ensures whole { self.now ≡ seen_by self.now.sessions (pairs_of self.now) }
@@ -46,7 +51,7 @@ impl Matrix {
         self.sessions
     }
 
-    /// The row of the session at position `t`: whom it waits for at once.
+    /// The row of the session at position `t`: the sessions that it waits for directly.
     pub(crate) fn row(&self, t: usize) -> &[u64]
         requires { t < self.now.sessions }
         ensures room { length result.now ≡ words_for self.now.sessions }
@@ -58,6 +63,7 @@ impl Matrix {
         &self.words[from..from + width]
     }
 
+    /// Adds the edge from position `t` to position `u`.
     pub(crate) fn set(&mut self, t: usize, u: usize)
         requires t_below { t < self.old.sessions }
         requires u_below { u < self.old.sessions }
@@ -69,7 +75,8 @@ impl Matrix {
         set(&mut self.words, place);
     }
 
-    /// The session at position `t` waits for the others whose codes have a bit of the mask.
+    /// Adds an edge from position `t` to each other session in `numbers` whose code has a bit of `mask`.
+    /// `codes[k]` belongs to session number `numbers[k]`.
     pub(crate) fn set_met(&mut self, t: usize, numbers: &[u16], codes: &[u8], mask: u8)
         requires t_below { t < self.old.sessions }
         requires a_code_each { length codes.now ≡ length numbers.now }
@@ -83,6 +90,7 @@ impl Matrix {
         set_met(&mut self.words, from, t, numbers, codes, mask);
     }
 
+    /// Removes all edges from position `t`.
     pub(crate) fn clear_row(&mut self, t: usize)
         requires { t < self.old.sessions }
         ensures sessions { self.new.sessions ≡ self.old.sessions }
@@ -93,7 +101,7 @@ impl Matrix {
         clear(&mut self.words, from, words_for(self.sessions));
     }
 
-    /// The session at position `t` waits for those too for whom the one at position `u` waits.
+    /// Adds an edge from position `t` to each session that the session at position `u` waits for directly.
     pub(crate) fn wait_as(&mut self, t: usize, u: usize)
         requires t_below { t < self.old.sessions }
         requires u_below { u < self.old.sessions }
@@ -103,11 +111,11 @@ impl Matrix {
     {
         let from = row_start(self.sessions, t);
         let other = row_start(self.sessions, u);
-        unite_within(&mut self.words, from, other, words_for(self.sessions));
+        or_within(&mut self.words, from, other, words_for(self.sessions));
     }
 }
 
-/// Where the words of a row begin.
+/// The index of the first word of row `t`.
 fn row_start(sessions: u16, t: usize) -> usize
     requires { t < sessions }
     ensures start { result ≡ t * words_for sessions }

@@ -1,4 +1,4 @@
-//! The rows: who waits for whom, and the questions about it.
+//! The waits-for graph, its updates and its queries.
 
 ghost use Rattle.std.specs.Prelude.{◌≡◌, ℕ, ◌<◌, ◌≤◌, ◌↔◌, ◌&&◌, ◌||◌, not, ◌==◌, false, true, IfOk, IfSome, IsSome, IsTrue, EachIndex, slice_index, length};
 ghost use Rattle.waits_for.specs.Pairs.{is_met, pairs_of};
@@ -11,26 +11,32 @@ use crate::{MAX_SESSIONS, NoMemory};
 use std::alloc::Global;
 use std::marker::Model;
 
-/// Which session waits for which. Contracts see the number of sessions and the pairs, by `pairs_of`.
+/// The waits-for graph: which session waits for which. Contracts see the number of sessions and the edges, by
+/// `pairs_of`.
 ///
-/// Only [`Rows::new`] takes memory. The three questions about walks take `&mut self` for the room that
-/// a search needs, and leave the pairs as they are.
+/// Only [`Rows::new`] allocates memory. The queries about walks take `&mut self` for their scratch rows, and leave
+/// the edges as they are.
 #[derive(Drop)]
 pub struct Rows {
+    /// The edges.
     matrix: Matrix,
-    // those who were given a pair since their rows were last emptied
+    /// The sessions that were given an edge since their row was last cleared. The rows of all others are empty.
     waiting: Vec<u64>,
+    /// Scratch: the sessions that a search has reached.
     reached: Vec<u64>,
-    looked_at: Vec<u64>,
+    /// Scratch: the sessions whose rows a search has added.
+    expanded: Vec<u64>,
+    /// Scratch: the sessions on a circle.
     circle: Vec<u64>,
+    /// Scratch: sessions in the order in which a search has added their rows.
     order: Vec<usize>,
 }
 
 impl Model for Rows {
     ghost use Rattle.std.specs.Prelude.{◌≡◌, length};
     ghost use Rattle.waits_for.specs.Pairs.{Pairs, pairs_of};
-    ghost use Rattle.waits_for.specs.Bits.{words_for};
-    ghost use Rattle.waits_for.specs.Search.{HasAllWaiting};
+    ghost use Rattle.waits_for.specs.inner.Bits.{words_for};
+    ghost use Rattle.waits_for.specs.inner.Search.{HasAllWaiting};
 
     ghost Value = { Pairs };
 
@@ -40,12 +46,12 @@ impl Model for Rows {
         (length r.waiting.items ≡ words_for r.matrix.sessions)
         × HasAllWaiting (pairs_of r.matrix) r.waiting.items
         × (length r.reached.items ≡ words_for r.matrix.sessions)
-        × (length r.looked_at.items ≡ words_for r.matrix.sessions)
+        × (length r.expanded.items ≡ words_for r.matrix.sessions)
         × (length r.circle.items ≡ words_for r.matrix.sessions) };
 }
 
 impl Rows {
-    /// Rows for so many sessions, none of which waits. `NoMemory` only where a growth was refused.
+    /// A graph of `sessions` sessions without edges. Fails only with `NoMemory`.
     pub fn new(alloc: Global, sessions: u16) -> Result<Rows, NoMemory>
         requires at_least_one { 1 ≤ sessions }
         requires at_most { sessions ≤ MAX_SESSIONS }
@@ -55,20 +61,20 @@ impl Rows {
         let matrix = Matrix::new(alloc, sessions)?;
         let waiting = vec![in alloc; 0; words_for(sessions)]?;
         let reached = vec![in alloc; 0; words_for(sessions)]?;
-        let looked_at = vec![in alloc; 0; words_for(sessions)]?;
+        let expanded = vec![in alloc; 0; words_for(sessions)]?;
         let circle = vec![in alloc; 0; words_for(sessions)]?;
         let order = vec![in alloc; 0; sessions as usize]?;
         Ok(Rows {
             matrix,
             waiting,
             reached,
-            looked_at,
+            expanded,
             circle,
             order,
         })
     }
 
-    /// How many sessions there are. Positions are below it.
+    /// The number of sessions. Positions are below it.
     pub fn sessions(&self) -> u16
         ensures sessions { result ≡ self.now.sessions }
         ensures within { (t u : ℕ) → pairs_of self.now t u ≡ true →
@@ -77,7 +83,7 @@ impl Rows {
         self.matrix.sessions()
     }
 
-    /// From now on the session at position `t` waits for the one at position `u`.
+    /// Adds an edge: the session at position `t` waits for the session at position `u`.
     pub fn set(&mut self, t: usize, u: usize)
         requires t_below { t < self.old.sessions }
         requires u_below { u < self.old.sessions }
@@ -89,8 +95,8 @@ impl Rows {
         set(&mut self.waiting, t);
     }
 
-    /// From now on the session at position `t` waits for those others whose codes have a bit of the mask, too. Codes stand beside
-    /// session numbers, each of which is a position and 1.
+    /// Adds an edge from the session at position `t` to each other session in `numbers` whose code has a bit of
+    /// `mask`. `codes[k]` belongs to session number `numbers[k]`; a session number is a position plus 1.
     pub fn set_met(&mut self, t: usize, numbers: &[u16], codes: &[u8], mask: u8)
         requires t_below { t < self.old.sessions }
         requires a_code_each { length codes.now ≡ length numbers.now }
@@ -104,7 +110,7 @@ impl Rows {
         set(&mut self.waiting, t);
     }
 
-    /// From now on the session at position `t` waits for nobody. Others may wait for it still.
+    /// Removes all edges from the session at position `t`: it waits for nobody. Edges to it stay.
     pub fn clear_row(&mut self, t: usize)
         requires { t < self.old.sessions }
         ensures sessions { self.new.sessions ≡ self.old.sessions }
@@ -115,7 +121,8 @@ impl Rows {
         unset(&mut self.waiting, t);
     }
 
-    /// From now on the session at position `t` waits for all for whom the one at position `u` waits at once too.
+    /// Adds an edge from the session at position `t` to each session that the session at position `u` waits for
+    /// directly.
     pub fn wait_as(&mut self, t: usize, u: usize)
         requires t_below { t < self.old.sessions }
         requires u_below { u < self.old.sessions }
@@ -127,7 +134,7 @@ impl Rows {
         set(&mut self.waiting, t);
     }
 
-    /// Whether the session at position `t` waits for the one at position `u` at once.
+    /// Whether the session at position `t` waits directly for the session at position `u`.
     pub fn waits(&self, t: usize, u: usize) -> bool
         requires t_below { t < self.now.sessions }
         requires u_below { u < self.now.sessions }
@@ -136,8 +143,8 @@ impl Rows {
         has(self.matrix.row(t), u)
     }
 
-    /// Whether the session at position `t` waits for the one at position `u`, at once or by way of
-    /// others. Nobody waits for itself but on a circle.
+    /// Whether the session at position `t` waits for the session at position `u`, directly or through others. A
+    /// session reaches itself only if it is on a cycle.
     pub fn reaches(&mut self, t: usize, u: usize) -> bool
         requires t_below { t < self.old.sessions }
         requires u_below { u < self.old.sessions }
@@ -149,13 +156,13 @@ impl Rows {
             &self.waiting,
             t,
             &mut self.reached,
-            &mut self.looked_at,
+            &mut self.expanded,
             &mut self.order,
         );
         has(&self.reached, u)
     }
 
-    /// Whether the session at position `t` waits for itself by way of others: it is in a deadlock.
+    /// Whether the session at position `t` is on a cycle, so in a deadlock.
     pub fn on_circle(&mut self, t: usize) -> bool
         requires { t < self.old.sessions }
         ensures circle { IsTrue result ↔ Reaches (pairs_of self.old) t t }
@@ -164,11 +171,12 @@ impl Rows {
         self.reaches(t, t)
     }
 
-    /// The victim that breaks a circle of `t`: of all that are on a circle with it the youngest, the
-    /// one of least position where two are of one age. `None` where `t` is on no circle.
+    /// The victim for a deadlock of the session at position `t`: the youngest of all sessions on a cycle with it,
+    /// and of two sessions of one age the one at the lesser position. `None` if that session is on no cycle.
     ///
-    /// Ages are transaction numbers, 0 for no transaction, so the greatest age is the youngest. That
-    /// the youngest is the victim is this project's own choice: it began last.
+    /// `ages[u]` is the number of the transaction of the session at position `u`, and 0 if it has none. The
+    /// greatest age is the youngest transaction, the last to begin. That the youngest is the victim is this
+    /// project's own choice.
     pub fn youngest_on_circle(&mut self, t: usize, ages: &[u64]) -> Option<usize>
         requires t_below { t < self.old.sessions }
         requires an_age_each { length ages.now ≡ self.old.sessions }
@@ -182,7 +190,7 @@ impl Rows {
             &self.waiting,
             t,
             &mut self.reached,
-            &mut self.looked_at,
+            &mut self.expanded,
             &mut self.circle,
             &mut self.order,
         ) {
@@ -192,8 +200,8 @@ impl Rows {
     }
 }
 
-/// Contracts see nothing of a [`Rows`] but its number of sessions and its pairs: where those of two
-/// are equal, the two are.
+/// Contracts see nothing of a [`Rows`] but its number of sessions and its edges: two graphs that are equal in both
+/// are equal.
 pub fn rows_are_their_pairs(a: &Rows, b: &Rows)
     requires sessions { a.now.sessions ≡ b.now.sessions }
     requires pairs { (t u : ℕ) → pairs_of a.now t u ≡ pairs_of b.now t u }

@@ -1,5 +1,5 @@
-//! What the combiner does on the board: it takes the lock table and gives it back, walks the publication list, and opens,
-//! answers and puts back the records that it meets.
+//! What the combiner does on the board: it takes the lock table and gives it back, walks the publication list, and
+//! opens, answers and puts back the records that it meets.
 
 ghost use Rattle.std.specs.Prelude.{◌≡◌, ◌≢◌, ◌+◌, ◌^◌, ◌<◌, ◌≤◌, ◌∷◌, ◌++◌, [], true, false, Some, None, IfSome, IfNone, length, slice_set};
 ghost use mathlib.Core.List.{IsPrefix};
@@ -16,8 +16,8 @@ use crate::steps;
 use lock_desk::{Call, Reply};
 
 impl Board {
-    /// One try to become the combiner, who has the lock table until it is released. `None` where somebody is; the lock word
-    /// is written only after a look found it free. The load comes and goes in the box in which it was made.
+    /// Tries once to become the combiner, which has the lock table until `release`. Returns `None` if the lock word
+    /// isn't free. It writes the lock word only after a load found it free. The load moves in and out in one box.
     pub fn seize(&self, ticket: &mut Ticket) -> Option<Box<Load>>
         requires ours { IsOf self.now ticket.old }
         ensures ticket { IfSome result (λ load. ticket.new ≡ record ticket.old {
@@ -33,7 +33,7 @@ impl Board {
         ensures number { IsNumber self.now ticket.old.number }
         ensures own { ticket.old.pending ≢ None → ticket.old.listed ≡ true → heard_from ticket.old ticket.old.number ≡ published_by ticket.old }
     {
-        let load = steps::take_load(
+        let load = steps::seize_load(
             &self.table.shared,
             &mut ticket.seat,
             u64::from(ticket.number),
@@ -43,7 +43,8 @@ impl Board {
         Some(load)
     }
 
-    /// The combiner gives the lock table back, with the history that the board has, and with nothing opened and an empty row.
+    /// Gives the lock table back and stops being the combiner. Needs the history that the board has, an empty row,
+    /// and no record opened.
     pub fn release(&self, ticket: &mut Ticket, load: Box<Load>)
         requires ours { IsOf self.now ticket.old }
         requires has { ticket.old.has_book ≡ true }
@@ -51,12 +52,13 @@ impl Board {
         requires home { IsHome ticket.old.front (self.now.sessions + 1) load.value }
         ensures ticket { ticket.new ≡ record ticket.old { has_book = false; route = [] } }
     {
-        steps::give_load(&self.table.shared, &mut ticket.seat, load);
+        steps::release_load(&self.table.shared, &mut ticket.seat, load);
         ticket.has_book = false;
     }
 
-    /// The combiner looks where its walk of the publication list goes on: at the head word, or at the link of a record that it has
-    /// met. `None` at the end mark. A walk that begins meets each record that is on the list then, once.
+    /// Takes one step of the combiner's walk along the publication list: from the head word, or from a record that
+    /// the walk has met. Returns the next record, or `None` at the end mark. A walk meets each record once that is on
+    /// the list as it begins.
     pub fn walk(&self, ticket: &mut Ticket, after: Option<u16>) -> Option<u16>
         requires ours { IsOf self.now ticket.old }
         requires has { ticket.old.has_book ≡ true }
@@ -73,9 +75,11 @@ impl Board {
         }
     }
 
-    /// The combiner takes a record off the publication list, which stands there behind another: it links that one past it, and then
-    /// tries to mark it out. Whether it is off the list: a record that isn't EMPTY, nor CLOSED, is linked again at once, so the list is as
-    /// it was. The first record can't be taken off.
+    /// Takes the record `whose` off the publication list and returns whether it did. `before` is the record in front
+    /// of it; the list's first record can't be taken off.
+    ///
+    /// The combiner links `before` past the record and tries to mark the record OUT. A record that isn't EMPTY or
+    /// CLOSED is linked again at once, and the list is as it was.
     pub fn unlink(&self, ticket: &mut Ticket, before: u16, whose: u16) -> bool
         requires ours { IsOf self.now ticket.old }
         requires has { ticket.old.has_book ≡ true }
@@ -92,8 +96,8 @@ impl Board {
         )
     }
 
-    /// The combiner opens the record of a session: the call that is posted there. `None` where none is; the record is
-    /// written only after a look found one.
+    /// Opens the record of a session: takes the call that is posted there; `None` if there is none. It writes the
+    /// record only after a load found a call posted.
     pub fn open(&self, ticket: &mut Ticket, whose: u16) -> Option<Call>
         requires ours { IsOf self.now ticket.old }
         requires has { ticket.old.has_book ≡ true }
@@ -111,7 +115,7 @@ impl Board {
         steps::open_record(&self.table.shared, &mut ticket.seat, usize::from(whose))
     }
 
-    /// The combiner answers a call that it opened. The call's entry joins the board's history as the last one.
+    /// Answers a call that the combiner opened. The call's entry becomes the last one of the board's history.
     pub fn answer(&self, ticket: &mut Ticket, whose: u16, reply: Reply)
         requires ours { IsOf self.now ticket.old }
         requires has { ticket.old.has_book ≡ true }
@@ -135,7 +139,7 @@ impl Board {
         ticket.seen = place + 1;
     }
 
-    /// The combiner puts a call back that it opened and hasn't performed. The call is posted again.
+    /// Posts a call again that the combiner opened and hasn't performed.
     pub fn put_back(&self, ticket: &mut Ticket, whose: u16, call: Call)
         requires ours { IsOf self.now ticket.old }
         requires has { ticket.old.has_book ≡ true }

@@ -1,7 +1,7 @@
 use Rattle.std.proofs.Common.{rules, take, refl}
 use Rattle.publication.proofs.Lists.{prefix_trans}
-use Rattle.combining.proofs.Heard.{answered, keeps-trans}
-use Rattle.combining.proofs.Performed.{answerable-at, answered-at}
+use Rattle.combining.proofs.CallsToServe.{answered, keeps-trans}
+use Rattle.combining.proofs.PerformedCalls.{answerable-at, answered-at}
 use Rattle.combining.proofs.pass.answer_row.Goals as goal
 
 pub unreachable-requires : goal.unreachable-requires

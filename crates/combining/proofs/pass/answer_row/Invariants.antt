@@ -1,6 +1,6 @@
 use Rattle.std.proofs.Common.{◌≡◌, ◌+◌, ◌<◌, ◌^◌, length, take, drop}
 use mathlib.Core.List.{IsPrefix}
-use Rattle.combining.specs.Passes.{AreOpened, KeepsCalls, IsSameSession, IsBookInHand}
+use Rattle.combining.specs.inner.Passes.{AreOpened, KeepsCalls, IsSameSession, IsBookInHand}
 use Rattle.combining.proofs.pass.answer_row.Given as goal
 
 abbrev pub invariant-loop-item : goal.invariant-loop-item

@@ -1,10 +1,10 @@
 use Rattle.std.proofs.Common.{◌≡◌, ◌+◌, ◌∙◌, ℕ, Option, List, sym, ap, subst, arith}
-use Rattle.publication.specs.Views.{Known}
+use Rattle.publication.specs.Views.{TicketView}
 use Rattle.publication.specs.List.{IsOn, first_of, behind}
 use Rattle.publication.specs.Kinds.{IsRoute}
-use Rattle.combining.specs.Passes.{AreOpened, KeepsCalls, HasVisitedOpened, IsSameSession, IsNext, HasMet}
-use Rattle.combining.proofs.Heard.{visited-later, keeps-trans}
-use Rattle.combining.proofs.Same.{same_session-trans}
+use Rattle.combining.specs.inner.Passes.{AreOpened, KeepsCalls, HasVisitedOpened, IsSameSession, IsNext, HasMet}
+use Rattle.combining.proofs.CallsToServe.{visited-later, keeps-trans}
+use Rattle.combining.proofs.SameSession.{same_session-trans}
 use Rattle.combining.proofs.Walks.{met-next, next-on, ahead-smaller}
 use Rattle.combining.proofs.pass.open_listed.Goals as goal
 
@@ -27,7 +27,7 @@ loop-next-smaller c =
     let w = c.walk-next-in-Some.ensures.next in
     let kept = c.open_record.ensures.session.2 in
     ahead-smaller c.loop-next.next c.walk-next-in-Some.result c.loop-next.session.route c.walk-next-in-Some.new.ticket.route c.in-Some.whose i.route.apart c.in-Some.is
-    (w.1 ∙ ap (λ (r : List ℕ). first_of (behind c.in-Some.whose r)) kept) (ap (λ (x : Known). x.route) w.0 ∙ kept)
+    (w.1 ∙ ap (λ (r : List ℕ). first_of (behind c.in-Some.whose r)) kept) (ap (λ (x : TicketView). x.route) w.0 ∙ kept)
 
 pub loop-next-preserved : goal.loop-next-preserved
 loop-next-preserved c =
@@ -46,15 +46,15 @@ loop-next-preserved c =
     let met : HasMet (first_of (behind q t.route)) u =
     met-next q t u i.route.apart kept (λ j. visited-later t u j e.calls e.session.0) e.met (subst (λ (m : Option ℕ). HasMet m t) c.in-Some.is i.met) in record {
       same = (
-        subst (λ (x : Known). IsSameSession before x) (sym same) (same_session-trans before t u i.same.0 e.session.0),
-        ap (λ (x : Known). x.front) same ∙ (e.session.1 ∙ i.same.1),
+        subst (λ (x : TicketView). IsSameSession before x) (sym same) (same_session-trans before t u i.same.0 e.session.0),
+        ap (λ (x : TicketView). x.front) same ∙ (e.session.1 ∙ i.same.1),
       );
-      route = subst (λ (r : List ℕ). IsRoute (n + 1) r) (sym (ap (λ (x : Known). x.route) same ∙ kept)) i.route;
-      next = subst (λ (m : Option ℕ). IsNext m v.route) (sym next) (subst (λ (r : List ℕ). IsNext (first_of (behind q t.route)) r) (sym (ap (λ (x : Known). x.route) same ∙ kept)) (next-on q t.route));
-      row = subst (λ (x : Known). AreOpened n x.opened c.open_record.new.row.items) (sym same) e.row;
+      route = subst (λ (r : List ℕ). IsRoute (n + 1) r) (sym (ap (λ (x : TicketView). x.route) same ∙ kept)) i.route;
+      next = subst (λ (m : Option ℕ). IsNext m v.route) (sym next) (subst (λ (r : List ℕ). IsNext (first_of (behind q t.route)) r) (sym (ap (λ (x : TicketView). x.route) same ∙ kept)) (next-on q t.route));
+      row = subst (λ (x : TicketView). AreOpened n x.opened c.open_record.new.row.items) (sym same) e.row;
       room = e.room;
-      calls = subst (λ (x : Known). KeepsCalls before x) (sym same) (keeps-trans before t u i.calls e.calls);
-      visited = subst (λ (x : Known). HasVisitedOpened x) (sym same) e.visited;
-      met = subst (λ (m : Option ℕ). HasMet m v) (sym next) (subst (λ (x : Known). HasMet (first_of (behind q t.route)) x) (sym same) met);
-      all = λ j some few more. subst (λ (r : List ℕ). IsOn j r) (sym (ap (λ (x : Known). x.route) same ∙ kept)) (i.all j some few more);
+      calls = subst (λ (x : TicketView). KeepsCalls before x) (sym same) (keeps-trans before t u i.calls e.calls);
+      visited = subst (λ (x : TicketView). HasVisitedOpened x) (sym same) e.visited;
+      met = subst (λ (m : Option ℕ). HasMet m v) (sym next) (subst (λ (x : TicketView). HasMet (first_of (behind q t.route)) x) (sym same) met);
+      all = λ j some few more. subst (λ (r : List ℕ). IsOn j r) (sym (ap (λ (x : TicketView). x.route) same ∙ kept)) (i.all j some few more);
     }

@@ -3,7 +3,7 @@ use Rattle.lock_rules.specs.Legal.{calls_of}
 use Rattle.publication.specs.Boards.{heard_from}
 use Rattle.publication.specs.List.{IsOn}
 use Rattle.publication.specs.Kinds.{IsRoute}
-use Rattle.combining.specs.Passes.{AreOpened, KeepsCalls, HasVisitedOpened, IsSameSession, ahead, IsNext, HasMet}
+use Rattle.combining.specs.inner.Passes.{AreOpened, KeepsCalls, HasVisitedOpened, IsSameSession, ahead, IsNext, HasMet}
 use Rattle.combining.proofs.pass.open_listed.Given as goal
 
 abbrev pub invariant-loop-next : goal.invariant-loop-next

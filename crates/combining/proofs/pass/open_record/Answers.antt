@@ -1,15 +1,15 @@
 use Rattle.std.proofs.Common.{rules, ◌≡◌, ◌<◌, ◌++◌, length, vec_len, vec_capacity, ◌∷◌, get_or, ℕ, List, Some, None, set, take, drop, sym, ap, ◌∙◌, subst, arith}
-use Rattle.lock_desk.specs.declared.batch.Item.{Item}
+use Rattle.lock_desk.specs.declared.book.Item.{Item}
 use Rattle.lock_desk.specs.Batches.{IsItemWithin}
-use Rattle.publication.specs.Views.{Known}
+use Rattle.publication.specs.Views.{TicketView}
 use Rattle.publication.specs.Boards.{opened_at}
-use Rattle.combining.specs.Passes.{AreOpened}
-use Rattle.combining.proofs.Opened.{Calls, opened-insert, opened-in_range}
-use Rattle.combining.proofs.Room.{row-room}
+use Rattle.combining.specs.inner.Passes.{AreOpened}
+use Rattle.combining.proofs.OpenedRow.{Calls, opened-insert, opened-in_range}
+use Rattle.combining.proofs.OpenedCount.{row-room}
 use Rattle.combining.proofs.pass.open_record.Goals as goal
 
--- the item of the record that is opened stands in the row, wherever it was put
-row-after : (n : ℕ) (t u : Known) (row : List Item) (place : ℕ) (i : Item) → IsItemWithin n i → opened_at t i.session ≡ None → AreOpened n t.opened row
+-- The row with the opened record's item, wherever it was inserted.
+row-after : (n : ℕ) (t u : TicketView) (row : List Item) (place : ℕ) (i : Item) → IsItemWithin n i → opened_at t i.session ≡ None → AreOpened n t.opened row
     → u.opened ≡ set t.opened i.session (Some i.call) → opened_at u i.session ≡ Some i.call → (after : List Item) → after ≡ take place row ++ i ∷ drop place row → AreOpened n u.opened after
 row-after n t u row place i within none all is shown after put =
     let few = opened-in_range t.opened i.session i.call (ap (λ (l : Calls). get_or l i.session None) (sym is) ∙ shown) in
@@ -19,12 +19,12 @@ row-after n t u row place i within none all is shown after put =
 pub returns-then-gives-2-clause-row : goal.returns-then-gives-2-clause-row
 returns-then-gives-2-clause-row c = let s = c.in-Some.ensures in
     row-after c.args.board.now.sessions c.args.session.now c.open.new.ticket c.args.row.now.items c.if-gives.place (record { session = c.args.whose; call = c.in-Some.call; reply = None })
-    (record { some = omega arith; within = omega (arith, c.requires.whose.few) }) s.lacked c.requires.row (ap (λ (t : Known). t.opened) s.ticket) s.opened c.insert.new.self.items (search rules)
+    (record { some = omega arith; within = omega (arith, c.requires.whose.few) }) s.lacked c.requires.row (ap (λ (t : TicketView). t.opened) s.ticket) s.opened c.insert.new.self.items (search rules)
 
 pub returns-else-gives-2-clause-row : goal.returns-else-gives-2-clause-row
 returns-else-gives-2-clause-row c = let s = c.in-Some.ensures in
     row-after c.args.board.now.sessions c.args.session.now c.open.new.ticket c.args.row.now.items c.if-gives.place (record { session = c.args.whose; call = c.in-Some.call; reply = None })
-    (record { some = omega arith; within = omega (arith, c.requires.whose.few) }) s.lacked c.requires.row (ap (λ (t : Known). t.opened) s.ticket) s.opened c.insert.new.self.items (search rules)
+    (record { some = omega arith; within = omega (arith, c.requires.whose.few) }) s.lacked c.requires.row (ap (λ (t : TicketView). t.opened) s.ticket) s.opened c.insert.new.self.items (search rules)
 
 pub unreachable-requires : goal.unreachable-requires
 unreachable-requires c =

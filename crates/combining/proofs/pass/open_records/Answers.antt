@@ -1,5 +1,5 @@
 use Rattle.std.proofs.Common.{rules, ◌≡◌, ◌≤◌, length, vec_len, arith}
-use Rattle.combining.proofs.Room.{row-few}
+use Rattle.combining.proofs.OpenedCount.{row-few}
 use Rattle.combining.proofs.pass.open_records.Goals as goal
 
 pub returns-clause-few : goal.returns-clause-few

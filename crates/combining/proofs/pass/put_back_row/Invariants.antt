@@ -1,5 +1,5 @@
 use Rattle.std.proofs.Common.{◌≡◌, drop}
-use Rattle.combining.specs.Passes.{AreOpened, IsSameSession}
+use Rattle.combining.specs.inner.Passes.{AreOpened, IsSameSession}
 use Rattle.combining.proofs.pass.put_back_row.Given as goal
 
 abbrev pub invariant-loop-item : goal.invariant-loop-item

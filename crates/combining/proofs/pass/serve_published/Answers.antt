@@ -1,11 +1,11 @@
 use Rattle.std.proofs.Common.{rules, ◌≡◌, ◌∙◌, ℕ, List, take, vec_len, sym, ap, subst}
 use Rattle.std.specs.Prelude.{All}
 use Rattle.lock_rules.specs.declared.calls.Entry.{Entry}
-use Rattle.lock_desk.specs.declared.batch.Item.{Item}
+use Rattle.lock_desk.specs.declared.book.Item.{Item}
 use Rattle.lock_desk.specs.Batches.{IsItemWithin}
-use Rattle.publication.specs.Views.{Known}
-use Rattle.combining.proofs.Same.{same_session-trans, same_session-none}
-use Rattle.combining.proofs.Cleaning.{first-within}
+use Rattle.publication.specs.Views.{TicketView}
+use Rattle.combining.proofs.SameSession.{same_session-trans, same_session-none}
+use Rattle.combining.proofs.CleanUpWalk.{first-within}
 use Rattle.combining.proofs.pass.serve_published.Goals as goal
 
 pub returns-clause-session : goal.returns-clause-session
@@ -19,8 +19,8 @@ returns-clause-session c =
     let done : after ≡ record before { front = after.front; route = after.route } =
     same_session-none before after (same_session-trans before served after performed c.put_back_row.ensures.session.0) c.requires.ours.2 c.put_back_row.ensures.none in
     let cleaned : last ≡ record after { route = last.route } = c.clean_up.ensures.session in
-    cleaned ∙ (ap (λ (t : Known). record t { route = last.route }) done
-    ∙ ap (λ (f : List Entry). record before { front = f; route = last.route }) (sym (ap (λ (t : Known). t.front) cleaned)))
+    cleaned ∙ (ap (λ (t : TicketView). record t { route = last.route }) done
+    ∙ ap (λ (f : List Entry). record before { front = f; route = last.route }) (sym (ap (λ (t : TicketView). t.front) cleaned)))
 
 pub note_served-requires : goal.note_served-requires
 note_served-requires c =

@@ -1,10 +1,10 @@
 use Rattle.std.proofs.Common.{rules, ◌≡◌, ◌++◌, ℕ, List, take, drop, length, refl, sym, subst}
 use Rattle.std.specs.Prelude.{All}
 use Rattle.lock_rules.specs.Legal.{state_of}
-use Rattle.lock_desk.specs.declared.batch.Item.{Item}
+use Rattle.lock_desk.specs.declared.book.Item.{Item}
 use Rattle.lock_desk.specs.Batches.{IsItemWithin}
-use Rattle.combining.proofs.Cleaning.{row-within}
-use Rattle.combining.proofs.Performed.{opened-performed}
+use Rattle.combining.proofs.CleanUpWalk.{row-within}
+use Rattle.combining.proofs.PerformedCalls.{opened-performed}
 use Rattle.combining.proofs.pass.serve_row.Goals as goal
 
 pub serve_batch-served-requires : goal.serve_batch-served-requires

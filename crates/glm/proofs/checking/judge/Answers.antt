@@ -1,6 +1,6 @@
 use Rattle.std.proofs.Common.{◌≡◌, ◌∙◌, true, rules, arith, ap}
-use Rattle.lock_desk.specs.Kept.{Told}
-use Rattle.glm.proofs.Judging.{within_at, right, one_more, first_wrong}
+use Rattle.lock_desk.specs.BookView.{BookView}
+use Rattle.glm.proofs.IsVerdict.{within_at, right, one_more, first_wrong}
 use Rattle.glm.proofs.checking.judge.Goals as goal
 
 pub serve-requires-clause-within : goal.serve-requires-clause-within
@@ -20,8 +20,8 @@ loop-place-preserved c =
     let same = c.is_same.ensures.0 yes in
     record {
       served = one_more c.args.entries.now c.loop-place.place c.index-entries-place.result c.in_ok-reply.reply c.loop-place.book.history c.serve.new.self.history c.loop-place-test.true c.index-entries-place.is
-          c.loop-place.invariant.served (ap (λ (b : Told). b.history) c.in_ok-reply.ensures.entry) same;
+          c.loop-place.invariant.served (ap (λ (b : BookView). b.history) c.in_ok-reply.ensures.entry) same;
       legal = right c.args.entries.now c.loop-place.place c.index-entries-place.result c.in_ok-reply.reply c.loop-place.book.history c.loop-place-test.true c.index-entries-place.is
           c.loop-place.invariant.served c.loop-place.invariant.legal c.in_ok-reply.ensures.reply same;
-      sessions = ap (λ (b : Told). b.sessions) c.in_ok-reply.ensures.entry ∙ c.loop-place.invariant.sessions;
+      sessions = ap (λ (b : BookView). b.sessions) c.in_ok-reply.ensures.entry ∙ c.loop-place.invariant.sessions;
     }

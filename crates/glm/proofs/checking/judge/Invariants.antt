@@ -2,7 +2,7 @@ use Rattle.std.proofs.Common.{◌≡◌, take}
 use Rattle.lock_rules.specs.Legal.{IsLegal}
 use Rattle.glm.proofs.checking.judge.Given as goal
 
--- the entries so far are legal, and are what the lock table has served
+-- the entries so far are legal and are the book's history
 abbrev pub invariant-loop-place : goal.invariant-loop-place
 invariant-loop-place l = record {
   served : l.book.history ≡ take l.place l.entries;

@@ -1,7 +1,7 @@
 use Rattle.std.proofs.Common.{rules}
 use Rattle.glm.proofs.commands.outcome_of.Goals as goal
 
--- Each is what the words ask for, and what the call that they ask for ensures.
+-- each outcome has what the words ask for and what the command's contract ensures
 pub returns-in-Ok-Some-Replay : goal.returns-in-Ok-Some-Replay
 returns-in-Ok-Some-Replay c c' =
     let done = c'.replay.ensures in
@@ -28,12 +28,12 @@ returns-in-Ok-Some-Run c c' =
 
 pub returns-in-Ok-Some-Check : goal.returns-in-Ok-Some-Check
 returns-in-Ok-Some-Check c c' =
-    let done = c'.tell_verdict.ensures in
+    let done = c'.write_verdict.ensures in
     record {
       sessions = c'.in-Ok-Some-Check.sessions;
       asked = search rules;
       kept = done.kept;
-      told = done.told;
+      written = done.written;
       faults = done.faults;
       checks = done.checks;
     }

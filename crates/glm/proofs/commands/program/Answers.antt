@@ -1,5 +1,5 @@
 use Rattle.glm.proofs.commands.program.Goals as goal
 
--- the status is that of what the words asked for
+-- the exit status is that of the outcome
 pub returns-clause-outcome : goal.returns-clause-outcome
 returns-clause-outcome c c' = (c'.outcome_of-outcome.result, c'.status.ensures, c'.outcome_of-outcome.ensures)

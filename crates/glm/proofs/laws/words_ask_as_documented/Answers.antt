@@ -11,12 +11,12 @@ use Rattle.lock_tree.specs.declared.numeral.NumeralFault.{NumeralFault}
 use Rattle.lock_tree.specs.declared.numeral.NumeralFault.TheVariants.{LeadingZero, NotANumber}
 use Rattle.lock_rules.specs.declared.calls.TheConstants.{MAX_SESSIONS}
 use Rattle.glm.specs.CommandLine.{AskNothing, IsRequest, faults_of, glm_command}
-use Rattle.glm.specs.declared.requests.TheConstants.{MAX_TURNS}
-use Rattle.glm.proofs.Asked.{no_such_sessions, sessions_text}
-use Rattle.glm.proofs.Options.{numeral_given}
+use Rattle.glm.specs.declared.args.TheConstants.{MAX_TURNS}
+use Rattle.glm.proofs.Ask.{no_such_sessions, sessions_text}
+use Rattle.glm.proofs.Gives.{numeral_given}
 use Rattle.glm.proofs.laws.words_ask_as_documented.Goals as goal
 
--- words with a fault that isn't help or the version ask for nothing
+-- words with an error other than help or the version ask for nothing
 faulty : (words : List Text) (kind : ErrorKind) (kinds : Kinds) → faults_of words ≡ kind ∷ kinds → kind ≢ DisplayHelp → kind ≢ DisplayVersion → AskNothing words
 faulty words kind kinds is other another = record {
   no_request = λ asked ask. let bad : kind ∷ kinds ≡ [] = sym is ∙ ask.whole in cc;
@@ -24,7 +24,7 @@ faulty words kind kinds is other another = record {
   no_version = λ version. let bad : kind ∷ kinds ≡ DisplayVersion ∷ [] = sym is ∙ version in another cc;
 }
 
--- so do words without a fault whose number of sessions isn't written as numbers are
+-- words without an error whose `--sessions` isn't read as a number ask for nothing
 unnumbered : (words : List Text) (found : Option (Text × List Row)) (text : Text) (fault : NumeralFault) → faults_of words ≡ []
     → subcommand_of glm_command words ≡ found → sessions_text found ≡ Some text → reading_of_numeral MAX_SESSIONS text ≡ Err fault → AskNothing words
 unnumbered words found text fault whole is given wrong = record {

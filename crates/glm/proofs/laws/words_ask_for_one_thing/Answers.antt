@@ -1,4 +1,4 @@
-use Rattle.glm.proofs.Asked.{one_request, one_replay}
+use Rattle.glm.proofs.Ask.{one_request, one_replay}
 use Rattle.glm.proofs.laws.words_ask_for_one_thing.Goals as goal
 
 pub returns-clause-one : goal.returns-clause-one

@@ -6,12 +6,12 @@ use Rattle.std.proofs.lemmas.Bool.{false≢true}
 use Rattle.std.proofs.KnownBytes.{Keeps-refl}
 use Rattle.glm.proofs.replaying.replay.Goals as goal
 
--- what a call that didn't fail ensures
+-- a call that didn't fail ensures what it ensures on success
 of_done : {T E : Type 0} (result : Result T E) (P : Type 0) → false ≡ is_err result → OnOk result P → P
 of_done (Ok x) P passed done = done
 of_done (Err e) P passed done = absurd (false≢true passed)
 
--- the count is that of the rows, whether the reader tells what it gives or not
+-- on success the count is the number of rows, for every reader
 pub returns-clause-served : goal.returns-clause-served
 returns-clause-served c c' =
     let rows = c'.in-Ok.rows.items in
@@ -29,7 +29,7 @@ returns-clause-served c c' =
       ),
     )
 
--- the same where the bytes are known; what both end in stands twice, since it speaks of the place where they end
+-- likewise if the bytes are known; the terms can't be shared, since they name the place where the function ends
 pub returns-clause-replays : goal.returns-clause-replays
 returns-clause-replays c c' bytes is =
     let rows = c'.in-Ok.rows.items in
@@ -47,14 +47,14 @@ returns-clause-replays c c' bytes is =
       ),
     )
 
--- a row that was refused is told, and nothing was written
+-- nothing is written if a row is refused
 pub returns-in-Err-clause-kept : goal.returns-in-Err-clause-kept
 returns-in-Err-clause-kept c c' other = Keeps-refl (c.W.Write.contents c'.args.output.now)
 
 pub returns-in-Err-clause-replays : goal.returns-in-Err-clause-replays
 returns-in-Err-clause-replays c c' bytes is = (c'.in-Err.ensures.answer bytes is, Keeps-refl (c.W.Write.contents c'.args.output.now))
 
--- nor where memory was refused
+-- nothing is written if memory is refused
 pub returns-in_default-clause-kept : goal.returns-in_default-clause-kept
 returns-in_default-clause-kept c c' other = Keeps-refl (c.W.Write.contents c'.args.output.now)
 

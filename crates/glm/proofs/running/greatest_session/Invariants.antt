@@ -2,7 +2,7 @@ use Rattle.std.proofs.Common.{◌<◌, ◌≤◌, take}
 use Rattle.std.specs.List.{All}
 use Rattle.glm.proofs.running.greatest_session.Given as goal
 
--- no row so far has a greater session
+-- no row so far has a greater session number
 abbrev pub invariant-loop-row : goal.invariant-loop-row
 invariant-loop-row l = record {
   some : 0 < l.greatest;

@@ -1,4 +1,4 @@
-use Rattle.glm.proofs.Closed.{all_ours, closes, run_of_closed, sessions_new}
+use Rattle.glm.proofs.IsRunOf.{all_ours, closes, run_of_closed, sessions_new}
 use Rattle.glm.proofs.running.performed.Goals as goal
 
 pub perform_all-requires-after_bounds : goal.perform_all-requires-after_bounds

@@ -3,7 +3,7 @@ use Rattle.std.specs.List.{All}
 use Rattle.std.specs.Vec.Iter.{into_iter_items}
 use Rattle.std.proofs.lemmas.List.{map-append}
 use Rattle.std.proofs.lemmas.List.Elements.{All-head, All-push, All-rest, All-same}
-use Rattle.publication.specs.Views.{Known}
+use Rattle.publication.specs.Views.{TicketView}
 use Rattle.glm.specs.Workers.{IsPerformed, IsStart, number_of_start, numbers_of}
 use Rattle.glm.proofs.threads.perform_within.Goals as goal
 
@@ -12,7 +12,7 @@ loop-start-preserved g c =
     let office = c.args.office.now in
     let rows = c.args.rows.now in
     let inv = c.loop-start.invariant in
-    let back = c.take_back-told.ensures in
+    let back = c.append_finished-reason.ensures in
     let start = c.in-Some.start in
     let before = into_iter_items c.loop-start.start-iterator in
     let left = into_iter_items c.next.new.self in
@@ -24,7 +24,7 @@ loop-start-preserved g c =
       numbers = λ none.
           let work = c.join.ensures office rows is_start (back none).1 in
           ap numbers_of (back none).2
-          ∙ map-append (λ (s : Known). s.number) c.loop-start.done.items (c.join.result.session ∷ [])
+          ∙ map-append (λ (s : TicketView). s.number) c.loop-start.done.items (c.join.result.session ∷ [])
           ∙ ap₂ (λ (xs ys : List ℕ). xs ++ ys) (inv.numbers (back none).0) (ap (λ (n : ℕ). n ∷ []) work.0)
           ∙ sym (map-append number_of_start c.loop-start.yielded (start ∷ []));
       performed = λ none.

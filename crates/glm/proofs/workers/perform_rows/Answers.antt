@@ -10,10 +10,11 @@ use Rattle.glm.specs.Workers.{Calls}
 use Rattle.glm.proofs.workers.perform_rows.Goals as goal
 use Rattle.glm.proofs.workers.perform_rows.Goals.{then-row-number+in_ok-perform, else-row-number}
 
+-- the calls of the rows
 abbrev calls_in : List TraceRow → List Call
 calls_in rows = map (λ (row : TraceRow). row.call) rows
 
--- the calls of a session among one row more, which is its own or another's
+-- a row of the session adds its call
 one_more : (i k : ℕ) (row : TraceRow) (rows : List TraceRow) → k < length rows → row ≡ get_or rows k row → row.session ≡ i
     → calls_of_rows i (take (k + 1) rows) ≡ calls_of_rows i (take k rows) ++ row.call ∷ []
 one_more i k row rows below is own =
@@ -25,6 +26,7 @@ one_more i k row rows below is own =
     ∙ map-append (λ (r : TraceRow). r.call) before (at ∷ [])
     ∙ ap (λ (r : TraceRow). calls_in before ++ r.call ∷ []) (sym is)
 
+-- a row of another session adds no call
 no_more : (i k : ℕ) (row : TraceRow) (rows : List TraceRow) → k < length rows → row ≡ get_or rows k row → row.session ≢ i
     → calls_of_rows i (take (k + 1) rows) ≡ calls_of_rows i (take k rows)
 no_more i k row rows below is other =
@@ -35,9 +37,11 @@ no_more i k row rows below is other =
     ∙ ap (λ (b : Bool). calls_in (before ++ cond b (at ∷ []) [])) (ne_eqb at.session i others)
     ∙ ap calls_in (append-nil before)
 
+-- the calls of a session that collected these answers and has none pending
 abbrev collected_by : ℕ → List Call → Calls
 collected_by number calls = record { number = number; pending = None; collected = calls }
 
+-- the calls of a session after one more answer
 abbrev with_call : Call → Calls → Calls
 with_call call known = record known { collected = known.collected ++ call ∷ [] }
 

@@ -2,7 +2,7 @@ use Rattle.std.proofs.Common.{◌≡◌, ◌≤◌, take, None}
 use Rattle.glm.specs.Calls.{calls_of_rows}
 use Rattle.glm.proofs.workers.perform_rows.Given as goal
 
--- the rows of the session so far are performed, and no others
+-- the session performed its rows so far, and no others
 abbrev pub invariant-loop-row : goal.invariant-loop-row
 invariant-loop-row g l = record {
   ours : g.S.Service.is_of l.service l.session;

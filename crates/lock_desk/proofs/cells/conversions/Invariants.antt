@@ -1,6 +1,6 @@
 use Rattle.std.proofs.Common.{◌≡◌, ◌++◌, take, drop}
 use Rattle.lock_desk.specs.declared.cells.SessionMode.{SessionMode}
-use Rattle.lock_desk.specs.Cells.{behind_conversions}
+use Rattle.lock_desk.specs.inner.Cells.{behind_conversions}
 use Rattle.lock_desk.proofs.cells.conversions.Given as goal
 
 abbrev pub invariant-loop-index : goal.invariant-loop-index

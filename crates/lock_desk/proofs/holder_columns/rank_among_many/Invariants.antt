@@ -1,5 +1,5 @@
 use Rattle.std.proofs.Common.{◌≤◌, ◌-◌, length}
-use Rattle.lock_desk.specs.Columns.{AreBelow, AreNotBelow}
+use Rattle.lock_desk.specs.inner.Columns.{AreBelow, AreNotBelow}
 use Rattle.lock_desk.proofs.holder_columns.rank_among_many.Given as goal
 
 abbrev pub invariant-loop-low : goal.invariant-loop-low

@@ -3,8 +3,8 @@ use Rattle.std.proofs.lemmas.List.{append_assoc, map-append, take_all}
 use Rattle.lock_modes.specs.declared.Mode.{Mode}
 use Rattle.lock_modes.specs.Codes.{mode_of_code}
 use Rattle.lock_desk.specs.declared.cells.SessionMode.{SessionMode}
-use Rattle.lock_desk.specs.Cells.{pair_of}
-use Rattle.lock_desk.specs.Columns.{side_by_side}
+use Rattle.lock_desk.specs.inner.Cells.{pair_of}
+use Rattle.lock_desk.specs.inner.Columns.{side_by_side}
 use Rattle.lock_desk.proofs.Columns.{side-next, side-long}
 use Rattle.lock_desk.proofs.holder_columns.write_list.Goals as goal
 

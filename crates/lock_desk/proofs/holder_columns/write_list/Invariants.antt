@@ -1,6 +1,6 @@
 use Rattle.std.proofs.Common.{◌≡◌, ◌≤◌, ◌+◌, ◌++◌, length, map, take, vec_len, vec_capacity}
-use Rattle.lock_desk.specs.Cells.{pair_of}
-use Rattle.lock_desk.specs.Columns.{side_by_side}
+use Rattle.lock_desk.specs.inner.Cells.{pair_of}
+use Rattle.lock_desk.specs.inner.Columns.{side_by_side}
 use Rattle.lock_desk.proofs.holder_columns.write_list.Given as goal
 
 abbrev pub invariant-loop-index : goal.invariant-loop-index

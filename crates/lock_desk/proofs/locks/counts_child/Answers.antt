@@ -1,6 +1,6 @@
 use Rattle.std.proofs.Common.{◌<◌, length, sym, ◌∙◌, ap, arith}
 use Rattle.std.specs.Map.{keys_of}
-use Rattle.lock_desk.specs.ChildCounts.{children_of}
+use Rattle.lock_desk.specs.inner.ChildCounts.{children_of}
 use Rattle.lock_desk.proofs.ChildCounts.{counted-tells, none-under}
 use Rattle.lock_desk.proofs.LockLists.{entry-within, entry-key, entry-value, keys-long, key-is, not-found}
 use Rattle.lock_desk.proofs.locks.counts_child.Goals as goal

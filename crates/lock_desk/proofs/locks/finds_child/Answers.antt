@@ -1,7 +1,7 @@
 use Rattle.std.proofs.Common.{◌+◌, Bool, ◌||◌, [], drop, sym, ◌∙◌, ap, arith}
 use Rattle.std.specs.Map.{keys_of}
 use Rattle.std.proofs.lemmas.Option.{slice_get-get_or}
-use Rattle.lock_desk.specs.ChildCounts.{has_child}
+use Rattle.lock_desk.specs.inner.ChildCounts.{has_child}
 use Rattle.lock_desk.proofs.LockLists.{child-further}
 use Rattle.lock_desk.proofs.locks.finds_child.Goals as goal
 use Rattle.lock_desk.proofs.locks.finds_child.Goals.{in-Some+else-is_child, in_default}

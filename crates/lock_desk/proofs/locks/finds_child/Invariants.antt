@@ -1,6 +1,6 @@
 use Rattle.std.proofs.Common.{◌≡◌, drop}
 use Rattle.indexmap.specs.IndexMap.{keys}
-use Rattle.lock_desk.specs.ChildCounts.{has_child}
+use Rattle.lock_desk.specs.inner.ChildCounts.{has_child}
 use Rattle.lock_desk.proofs.locks.finds_child.Given as goal
 
 abbrev pub invariant-loop-place : goal.invariant-loop-place

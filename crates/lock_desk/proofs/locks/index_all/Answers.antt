@@ -1,7 +1,7 @@
 use Rattle.std.proofs.Common.{◌+◌, List, ℕ, ◌∷◌, drop, sym, ◌∙◌, ap, subst}
 use Rattle.std.specs.Map.{keys_of}
 use Rattle.std.proofs.lemmas.List.{drop_more}
-use Rattle.lock_desk.specs.Cells.{AreApart}
+use Rattle.lock_desk.specs.inner.Cells.{AreApart}
 use Rattle.lock_desk.proofs.LockLists.{apart-parts, before-none}
 use Rattle.lock_desk.proofs.locks.index_all.Goals as goal
 

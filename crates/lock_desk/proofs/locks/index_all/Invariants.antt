@@ -1,6 +1,6 @@
 use Rattle.std.proofs.Common.{◌≡◌, ◌+◌, ◌≤◌, ◌++◌, drop}
 use Rattle.indexmap.specs.IndexMap.{keys, values, spare}
-use Rattle.lock_desk.specs.ChildCounts.{AreUnder, DoCount}
+use Rattle.lock_desk.specs.inner.ChildCounts.{AreUnder, DoCount}
 use Rattle.lock_desk.proofs.locks.index_all.Given as goal
 
 abbrev pub invariant-loop-index : goal.invariant-loop-index

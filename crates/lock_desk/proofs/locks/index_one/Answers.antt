@@ -1,8 +1,8 @@
 use Rattle.std.proofs.Common.{◌≡◌, ◌++◌, ◌∷◌, [], List, ℕ, length, sym, ◌∙◌, ap, subst, arith}
 use Rattle.std.specs.Map.{keys_of, values_of}
 use Rattle.indexmap.proofs.CallerLemmas.{insert_entry-new}
-use Rattle.lock_desk.specs.Cells.{has_path}
-use Rattle.lock_desk.specs.ChildCounts.{DoCount}
+use Rattle.lock_desk.specs.inner.Cells.{has_path}
+use Rattle.lock_desk.specs.inner.ChildCounts.{DoCount}
 use Rattle.lock_desk.proofs.Results.{from-ok}
 use Rattle.lock_desk.proofs.ChildCounts.{pushed-counts}
 use Rattle.lock_desk.proofs.LockLists.{keys-push, values-push, keys-long, values-long, new-found}

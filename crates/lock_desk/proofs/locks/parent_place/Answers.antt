@@ -1,7 +1,7 @@
 use Rattle.std.proofs.Common.{◌≡◌, ◌<◌, length, get_or, [], refl, sym, ◌∙◌, ap, arith}
 use Rattle.std.specs.Map.{keys_of}
 use Rattle.lock_tree.specs.Paths.{parent_of}
-use Rattle.lock_desk.specs.Cells.{has_path}
+use Rattle.lock_desk.specs.inner.Cells.{has_path}
 use Rattle.lock_desk.proofs.ChildCounts.{child-only, none-parent}
 use Rattle.lock_desk.proofs.LockLists.{entry-within, entry-key, keys-long, key-is, not-found}
 use Rattle.lock_desk.proofs.locks.parent_place.Goals as goal

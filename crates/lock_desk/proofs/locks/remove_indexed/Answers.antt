@@ -1,13 +1,13 @@
 use Rattle.std.proofs.Common.{◌≡◌, ◌+◌, ◌<◌, List, ℕ, [], cond, length, get_or, sym, ◌∙◌, ap, subst, arith}
 use Rattle.std.specs.Map.{keys_of, values_of}
 use Rattle.std.specs.List.{swap_remove}
-use Rattle.lock_desk.specs.ChildCounts.{is_child, has_child, DoCount}
+use Rattle.lock_desk.specs.inner.ChildCounts.{is_child, has_child, DoCount}
 use Rattle.lock_desk.proofs.ChildCounts.{left-counts}
 use Rattle.lock_desk.proofs.LockLists.{keys-long, values-long, swap-any, swapped}
 use Rattle.lock_desk.proofs.locks.remove_indexed.Goals as goal
 
-pub returns-then-not-stand-clause-keys : goal.returns-then-not-stand-clause-keys
-returns-then-not-stand-clause-keys c =
+pub returns-then-not-counts_valid-clause-keys : goal.returns-then-not-counts_valid-clause-keys
+returns-then-not-counts_valid-clause-keys c =
     (swapped c.swap_remove_index-removed.result c.args.indexed.now.entries c.swap_remove_index-removed.new.self.entries c.args.place c.requires.within c.swap_remove_index-removed.ensures.entry c.swap_remove_index-removed.ensures.entries).keys
 
 pub returns-clause-keys : goal.returns-clause-keys

@@ -1,7 +1,7 @@
 use Rattle.std.proofs.Common.{ℕ, ◌+◌, Bool, ◌||◌, List, [], ◌∷◌, drop, ◌∙◌, ap, sym}
 use Rattle.std.proofs.lemmas.List.{get_or_default, drop_more, drop_all}
 use Rattle.lock_rules.proofs.Lists.{same_path-true}
-use Rattle.lock_desk.specs.Cells.{has_path}
+use Rattle.lock_desk.specs.inner.Cells.{has_path}
 use Rattle.lock_desk.proofs.locks.search.Goals as goal
 
 pub returns-then-is_same-clause-at : goal.returns-then-is_same-clause-at

@@ -1,5 +1,5 @@
 use Rattle.std.proofs.Common.{◌≡◌, drop}
-use Rattle.lock_desk.specs.Cells.{has_path}
+use Rattle.lock_desk.specs.inner.Cells.{has_path}
 use Rattle.lock_desk.proofs.locks.search.Given as goal
 
 abbrev pub invariant-loop-index : goal.invariant-loop-index

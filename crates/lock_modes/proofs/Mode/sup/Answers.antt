@@ -1,4 +1,4 @@
--- By the table: IX and S are the only two modes of which neither is at or above the other.
+-- By the table: only of IX and S is neither at or above the other.
 use Rattle.std.proofs.Common.{rules}
 use Rattle.lock_modes.proofs.Order.{sup_least}
 use Rattle.lock_modes.proofs.Mode.sup.Goals as goal

@@ -4,6 +4,7 @@ use Rattle.std.proofs.lemmas.Str.{is_utf8-from_IsUtf8, IsUtf8-from_is_utf8}
 use Rattle.std.specs.Str.{is_utf8, IsUtf8}
 use Rattle.lock_trace.proofs.fields.text_in.Goals as goal
 
+-- Bytes that cannot be UTF-8 fail the test for UTF-8.
 not_text : (bs : List ℕ) → (IsUtf8 bs → ⊥) → is_utf8 bs ≡ false
 not_text bs never = elim (cases_Bool (is_utf8 bs)) [ inl is ↦ absurd (never (IsUtf8-from_is_utf8 bs is)) | inr e ↦ e ]
 

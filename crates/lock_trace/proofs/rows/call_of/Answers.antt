@@ -9,10 +9,12 @@ use Rattle.lock_trace.specs.Fields.{resource_in}
 use Rattle.lock_trace.specs.Rows.{call_in}
 use Rattle.lock_trace.proofs.rows.call_of.Goals as goal
 
+-- A release with an empty mode field is read as the release of its resource.
 without_mode : (o : Op) (r m : List ℕ) (x : Result (List ℕ) TraceKind) (resource : List ℕ) (none : Bool)
     → o ≡ op.Release → x ≡ resource_in r → x ≡ Ok resource → none ≡ (length m == 0) → none ≡ true → Ok (call.Release resource) ≡ call_in o r m
 without_mode o r m x resource none is read was empty holds = rw (is, ← read, was, ← empty, holds) refl
 
+-- A release with a mode has the fault Extra.
 with_mode : (o : Op) (r m : List ℕ) (x : Result (List ℕ) TraceKind) (resource : List ℕ) (none : Bool)
     → o ≡ op.Release → x ≡ resource_in r → x ≡ Ok resource → none ≡ (length m == 0) → none ≡ false → Err kind.Extra ≡ call_in o r m
 with_mode o r m x resource none is read was empty fails = rw (is, ← read, was, ← empty, fails) refl

@@ -2,7 +2,7 @@ use Rattle.std.proofs.Common.{◌≡◌, ◌+◌, ◌*◌, ◌<◌, ◌≤◌, �
 use Rattle.lock_tree.specs.Text.{text_of}
 use Rattle.lock_trace.proofs.writing.put_resource.Given as goal
 
--- the numbers above this level have been written
+-- The numbers of the levels before this one are written, each in at most 21 bytes.
 abbrev pub invariant-loop-level : goal.invariant-loop-level
 invariant-loop-level l = record {
   some : 0 < l.level;

@@ -2,7 +2,7 @@ use Rattle.std.proofs.Common.{◌∙◌, sym, arith}
 use Rattle.std.specs.Prelude.{bit_or}
 use Rattle.std.proofs.lemmas.Simd.{length-chunk, length-zip2}
 use lib.Lanes.{chunk}
-use Rattle.mode_lanes.proofs.Unions.{union-chunk, union-rest, whole_rest, fold-or}
+use Rattle.mode_lanes.proofs.Unions.{union-chunk, union-tail, whole_rest, fold-or}
 use Rattle.mode_lanes.proofs.columns.union.Goals as goal
 
 pub loop-at-preserved : goal.loop-at-preserved
@@ -17,4 +17,4 @@ loop-at-preserved c =
     }
 
 pub returns : goal.returns
-returns c = rw (fold-or 0 c.loop-at.all) (rw c.loop-at.invariant.union (rw c.union_of_rest.ensures (rw (whole_rest c.args.column.now c.loop-at.at) (union-rest c.args.column.now c.loop-at.at))))
+returns c = rw (fold-or 0 c.loop-at.all) (rw c.loop-at.invariant.union (rw c.union_of_tail.ensures (rw (whole_rest c.args.column.now c.loop-at.at) (union-tail c.args.column.now c.loop-at.at))))

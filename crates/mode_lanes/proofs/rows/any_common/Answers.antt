@@ -2,7 +2,7 @@ use Rattle.std.proofs.Common.{sym, ◌∙◌, arith}
 use Rattle.std.specs.Prelude.{bit_and, bit_or}
 use Rattle.std.proofs.lemmas.Simd.{length-chunk, length-zip2}
 use lib.Lanes.{chunk, zip2}
-use Rattle.mode_lanes.proofs.Unions.{common-chunk, common-some, fold-or, union-rest, whole_rest, zip2-drop}
+use Rattle.mode_lanes.proofs.Unions.{common-chunk, common-some, fold-or, union-tail, whole_rest, zip2-drop}
 use Rattle.mode_lanes.proofs.rows.any_common.Goals as goal
 
 pub loop-at-preserved : goal.loop-at-preserved
@@ -24,4 +24,4 @@ returns c =
     let row = c.args.row.now in
     let other = c.args.other.now in
     let at = c.loop-at.at in
-    common-some row other c.requires _ (rw (fold-or 0 c.loop-at.common) (rw c.loop-at.invariant.common (rw c.common_in_rest-rest.ensures (rw (whole_rest row at) (rw (whole_rest other at) (rw (zip2-drop bit_and at row other) (union-rest (zip2 bit_and row other) at)))))))
+    common-some row other c.requires _ (rw (fold-or 0 c.loop-at.common) (rw c.loop-at.invariant.common (rw c.common_in_tail-tail.ensures (rw (whole_rest row at) (rw (whole_rest other at) (rw (zip2-drop bit_and at row other) (union-tail (zip2 bit_and row other) at)))))))

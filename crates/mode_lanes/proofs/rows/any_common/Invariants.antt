@@ -4,7 +4,7 @@ use lib.Lanes.{zip2}
 use Rattle.mode_lanes.specs.Masks.{union_of}
 use Rattle.mode_lanes.proofs.rows.any_common.Given as goal
 
--- the lanes have the bits that the words so far have in common
+-- The union of the lanes is the union of the common bits of the words below `at`.
 abbrev pub invariant-loop-at : goal.invariant-loop-at
 invariant-loop-at l = record {
   within : l.at ≤ length l.other;
@@ -12,5 +12,6 @@ invariant-loop-at l = record {
   common : union_of l.common ≡ union_of (take l.at (zip2 bit_and l.row l.other));
 }
 
+-- The words that are left get fewer.
 abbrev pub decreases-loop-at : goal.decreases-loop-at
 decreases-loop-at l = length l.other - l.at

@@ -1,5 +1,6 @@
 use Rattle.combining.specs.Sessions.{IsSessionOf}
 use Rattle.office_tests.proofs.offices.call.Given as goal
 
+-- the session belongs to the office
 abbrev pub invariant-loop-turn : goal.invariant-loop-turn
 invariant-loop-turn l = IsSessionOf l.office l.session

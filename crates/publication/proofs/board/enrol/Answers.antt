@@ -2,17 +2,17 @@ use Rattle.std.proofs.Common.{rules, ◌≡◌, ◌∙◌, ◌+◌, [], refl, sy
 use mathlib.Core.Option as opt
 use Rattle.atomic_table.specs.Table.{Allows, step}
 use Rattle.publication.specs.Words.{word_of}
-use Rattle.publication.specs.Rule.{maker, newcomer}
+use Rattle.publication.specs.Rule.{maker, new_session}
 use Rattle.publication.specs.List.{IsRuled}
 use Rattle.publication.specs.Kinds.{Seated, starts, hearing}
 use Rattle.publication.specs.declared.view.View.{View}
-use Rattle.publication.proofs.Sessions.{start_kept}
+use Rattle.publication.proofs.SessionKinds.{start_kept}
 use Rattle.publication.proofs.board.enrol.Goals as goal
 
 pub load-requires : goal.load-requires
 load-requires c = let n = c.args.sessions in let number = c.args.number in let slots = c.args.shared.now.table_id.slots in let id = c.hear_seat.new.seat.id in
-    let v : View = hearing (newcomer (n + 1) number) (maker (n + 1) n) in
-    let after : c.hear_seat.new.seat.me ≡ (v, []) = c.hear_seat.ensures.step ∙ (ap (λ (m : Seated). (hearing m.0 c.args.first.now.me.0, m.1)) c.requires.new ∙ ap (λ (m : Seated). (hearing (newcomer (n + 1) number) m.0, [])) c.requires.made) in (
+    let v : View = hearing (new_session (n + 1) number) (maker (n + 1) n) in
+    let after : c.hear_seat.new.seat.me ≡ (v, []) = c.hear_seat.ensures.step ∙ (ap (λ (m : Seated). (hearing m.0 c.args.first.now.me.0, m.1)) c.requires.new ∙ ap (λ (m : Seated). (hearing (new_session (n + 1) number) m.0, [])) c.requires.made) in (
       search rules,
       search rules,
       rw c.from.ensures (subst (λ (m : Seated). Allows IsRuled slots id m (word_of number) (λ y. y) (starts (step slots (word_of number) 0 0 opt.none) m)) (sym after)

@@ -1,39 +1,39 @@
 use Rattle.std.proofs.Common.{rules, ◌≡◌, ◌∙◌, List, length, sym}
 use Rattle.std.specs.Slots.{slots_items}
 use mathlib.Core.Option as opt
-use Rattle.publication.specs.declared.slot.Held.{Held}
-use Rattle.publication.specs.declared.slot.Held.TheVariants.{Home}
-use Rattle.publication.proofs.Ending.{ended, last_load}
+use Rattle.publication.specs.declared.slot.SlotValue.{SlotValue}
+use Rattle.publication.specs.declared.slot.SlotValue.TheVariants.{LockTable}
+use Rattle.publication.proofs.Closed.{ended, last_load}
 use Rattle.publication.proofs.closing.close_table.Goals as goal
 
 pub unreachable-requires : goal.unreachable-requires
 unreachable-requires c =
     let closed = c.close_with-closed in
-    let xs : List Held = slots_items closed.result.slots in
+    let xs : List SlotValue = slots_items closed.result.slots in
     let long : length xs ≡ c.args.table.shared.table_id.slots = search rules in
     let t = ended _ xs c.args.closing.id c.args.table.shared.table_id.slots c.args.closing.me.0 closed.ensures.values.2 long c.requires.all in
-    c.in_default.not-Home t.0 (opt.some-injective c.take-held.result (Home t.0) (sym c.take-held.ensures.value ∙ t.1))
+    c.in_default.not-LockTable t.0 (opt.some-injective c.take-held.result (LockTable t.0) (sym c.take-held.ensures.value ∙ t.1))
 
 pub returns-clause-sessions : goal.returns-clause-sessions
 returns-clause-sessions c =
     let closed = c.close_with-closed in
-    let xs : List Held = slots_items closed.result.slots in
+    let xs : List SlotValue = slots_items closed.result.slots in
     let long : length xs ≡ c.args.table.shared.table_id.slots = search rules in
     (last_load _ xs c.args.closing.id c.args.table.shared.table_id.slots c.args.closing.me.0 closed.ensures.values.2 long c.requires.all
-    c.take-held.result c.take-held.ensures.value c.in-Home.load c.in-Home.is c.into_inner-book.result c.into_inner-book.ensures).home.sessions
+    c.take-held.result c.take-held.ensures.value c.in-LockTable.load c.in-LockTable.is c.into_inner-book.result c.into_inner-book.ensures).home.sessions
 
 pub returns-clause-legal : goal.returns-clause-legal
 returns-clause-legal c =
     let closed = c.close_with-closed in
-    let xs : List Held = slots_items closed.result.slots in
+    let xs : List SlotValue = slots_items closed.result.slots in
     let long : length xs ≡ c.args.table.shared.table_id.slots = search rules in
     (last_load _ xs c.args.closing.id c.args.table.shared.table_id.slots c.args.closing.me.0 closed.ensures.values.2 long c.requires.all
-    c.take-held.result c.take-held.ensures.value c.in-Home.load c.in-Home.is c.into_inner-book.result c.into_inner-book.ensures).legal
+    c.take-held.result c.take-held.ensures.value c.in-LockTable.load c.in-LockTable.is c.into_inner-book.result c.into_inner-book.ensures).legal
 
 pub returns-clause-ends : goal.returns-clause-ends
 returns-clause-ends c =
     let closed = c.close_with-closed in
-    let xs : List Held = slots_items closed.result.slots in
+    let xs : List SlotValue = slots_items closed.result.slots in
     let long : length xs ≡ c.args.table.shared.table_id.slots = search rules in
     (last_load _ xs c.args.closing.id c.args.table.shared.table_id.slots c.args.closing.me.0 closed.ensures.values.2 long c.requires.all
-    c.take-held.result c.take-held.ensures.value c.in-Home.load c.in-Home.is c.into_inner-book.result c.into_inner-book.ensures).ends
+    c.take-held.result c.take-held.ensures.value c.in-LockTable.load c.in-LockTable.is c.into_inner-book.result c.into_inner-book.ensures).ends

@@ -4,9 +4,9 @@ use Rattle.atomic_table.specs.Table.{Allows, step, rest}
 use Rattle.publication.specs.Words.{word_of, SERVED}
 use Rattle.publication.specs.List.{IsRuled}
 use Rattle.publication.specs.Kinds.{Seated, answers, call_at, replied, in_hand, answering}
-use Rattle.publication.specs.declared.slot.Held.{Held}
-use Rattle.publication.specs.declared.slot.Held.TheVariants.{Replied}
-use Rattle.publication.proofs.Combiners.{in_hand_with, pick_kept, answer_kept}
+use Rattle.publication.specs.declared.slot.SlotValue.{SlotValue}
+use Rattle.publication.specs.declared.slot.SlotValue.TheVariants.{ServedReply}
+use Rattle.publication.proofs.RecordKinds.{in_hand_with, pick_kept, answer_kept}
 use Rattle.publication.proofs.Lists.{there_at}
 use Rattle.publication.proofs.steps.answer_record.Goals as goal
 
@@ -24,7 +24,7 @@ store-requires c =
     let at = c.args.at in
     let slots = c.args.shared.now.table_id.slots in
     let id = c.exchange.new.seat.id in
-    let held : Held = Replied c.args.place c.args.reply in
+    let held : SlotValue = ServedReply c.args.place c.args.reply in
     let there = there_at m.0.combiner.opened at (call_at m.0 at) c.requires.opened in
     let after = in_hand_with at m c.load.new.seat.me c.exchange.new.seat.me held c.load.ensures.2 c.exchange.ensures.3 in (
       search rules,
@@ -38,6 +38,6 @@ pub returns-clause-step : goal.returns-clause-step
 returns-clause-step c =
     let m = c.args.seat.now.me in
     let at = c.args.at in
-    let held : Held = Replied c.args.place c.args.reply in
+    let held : SlotValue = ServedReply c.args.place c.args.reply in
     let after = in_hand_with at m c.load.new.seat.me c.exchange.new.seat.me held c.load.ensures.2 c.exchange.ensures.3 in
     c.store.ensures.2 ∙ ap (λ (x : Seated). (answering x.0 x.0.combiner.hand (call_at x.0 x.0.combiner.hand) (replied x.1), rest x.1)) after

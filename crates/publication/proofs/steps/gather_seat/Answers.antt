@@ -5,22 +5,22 @@ use Rattle.publication.specs.Words.{word_of}
 use Rattle.publication.specs.Rule.{blank}
 use Rattle.publication.specs.List.{IsRuled}
 use Rattle.publication.specs.Kinds.{Seated, leaving, leaves, gathered}
-use Rattle.publication.specs.declared.slot.Held.{Held}
-use Rattle.publication.proofs.Sessions.{leave_kept}
-use Rattle.publication.proofs.Meets.{gathers}
+use Rattle.publication.specs.declared.slot.SlotValue.{SlotValue}
+use Rattle.publication.proofs.SessionKinds.{leave_kept}
+use Rattle.publication.proofs.SplitsAndJoins.{gathers}
 use Rattle.publication.proofs.steps.gather_seat.Goals as goal
 
 pub load-requires : goal.load-requires
 load-requires c = let m = c.args.other.me in let at = c.args.at in let n = c.args.shared.now.table_id.slots in let id = c.args.other.id in (
   search rules,
   search rules,
-  subst (λ (l : List (ℕ × Held)). Allows IsRuled n id (m.0, l) (word_of at) (λ y. y) (leaves (step n (word_of at) 0 0 opt.none) (m.0, l))) (sym c.requires.carried)
+  subst (λ (l : List (ℕ × SlotValue)). Allows IsRuled n id (m.0, l) (word_of at) (λ y. y) (leaves (step n (word_of at) 0 0 opt.none) (m.0, l))) (sym c.requires.carried)
       (leave_kept n id at m.0 [] c.requires.theirs c.requires.at.some c.requires.settled.0),
 )
 
 pub join_seat-requires : goal.join_seat-requires
 join_seat-requires c = let v = c.args.seat.now.me.0 in let w = c.args.other.me.0 in let id = c.load.new.seat.id in
-    let after : c.load.new.seat.me ≡ (leaving w, []) = c.load.ensures.2 ∙ ap (λ (l : List (ℕ × Held)). (leaving w, rest l)) c.requires.carried in
+    let after : c.load.new.seat.me ≡ (leaving w, []) = c.load.ensures.2 ∙ ap (λ (l : List (ℕ × SlotValue)). (leaving w, rest l)) c.requires.carried in
     let named : w.number ≢ 0 = λ e. omega (arith, c.requires.theirs, c.requires.at.some) in (
       search rules,
       search rules,

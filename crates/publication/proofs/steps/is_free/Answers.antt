@@ -1,5 +1,5 @@
 use Rattle.std.proofs.Common.{rules, refl, arith}
-use Rattle.publication.proofs.Locks.{look_at_lock_kept}
+use Rattle.publication.proofs.LockKinds.{look_at_lock_kept}
 use Rattle.publication.proofs.steps.is_free.Goals as goal
 
 pub load-requires : goal.load-requires

@@ -1,5 +1,5 @@
 use Rattle.std.proofs.Common.{rules}
-use Rattle.publication.proofs.Combiners.{look_at_record_kept}
+use Rattle.publication.proofs.RecordKinds.{look_at_record_kept}
 use Rattle.publication.proofs.steps.is_posted.Goals as goal
 
 pub load-requires : goal.load-requires

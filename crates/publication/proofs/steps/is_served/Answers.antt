@@ -1,5 +1,5 @@
 use Rattle.std.proofs.Common.{rules}
-use Rattle.publication.proofs.Sessions.{look_kept}
+use Rattle.publication.proofs.SessionKinds.{look_kept}
 use Rattle.publication.proofs.steps.is_served.Goals as goal
 
 pub load-requires : goal.load-requires

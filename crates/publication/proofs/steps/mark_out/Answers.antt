@@ -1,5 +1,5 @@
 use Rattle.std.proofs.Common.{rules}
-use Rattle.publication.proofs.Unlinking.{mark_kept}
+use Rattle.publication.proofs.UnlinkKinds.{mark_kept}
 use Rattle.publication.proofs.steps.mark_out.Goals as goal
 
 pub compare_exchange-found-requires : goal.compare_exchange-found-requires

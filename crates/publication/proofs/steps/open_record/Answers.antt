@@ -4,10 +4,10 @@ use Rattle.atomic_table.specs.Table.{Allows, step, rest}
 use Rattle.publication.specs.Words.{word_of}
 use Rattle.publication.specs.List.{IsRuled}
 use Rattle.publication.specs.Kinds.{Seated, opens_record, lays, opening}
-use Rattle.publication.specs.Tickets.{IsCombiner}
-use Rattle.publication.specs.declared.slot.Held.{Held}
-use Rattle.publication.specs.declared.slot.Held.TheVariants.{Nothing, Asked}
-use Rattle.publication.proofs.Combiners.{session_of_its_word, open_kept, lay_kept}
+use Rattle.publication.specs.inner.Tickets.{IsCombiner}
+use Rattle.publication.specs.declared.slot.SlotValue.{SlotValue}
+use Rattle.publication.specs.declared.slot.SlotValue.TheVariants.{Empty, PostedCall}
+use Rattle.publication.proofs.RecordKinds.{session_of_its_word, open_kept, lay_kept}
 use Rattle.publication.proofs.Lists.{there_at}
 use Rattle.publication.proofs.steps.open_record.Goals as goal
 
@@ -23,9 +23,9 @@ exchange-requires c =
     let found = c.compare_exchange-found.result in
     let after = c.compare_exchange-found.new.seat.me in
     let t = (subst (λ (k : ℕ). opens_record k m found after) (session_of_its_word c.args.at) c.compare_exchange-found.ensures.2).0 (search rules) in
-    let held : Held = Asked t.0 in
+    let held : SlotValue = PostedCall t.0 in
     let out : after.1 ≡ (c.args.at, held) ∷ m.1 = ap (λ (x : Seated). x.1) t.1 in
-    (search rules, (held, out ∙ ap (λ (l : List (ℕ × Held)). (c.args.at, held) ∷ rest l) (sym out)))
+    (search rules, (held, out ∙ ap (λ (l : List (ℕ × SlotValue)). (c.args.at, held) ∷ rest l) (sym out)))
 
 pub load-requires : goal.load-requires
 load-requires c =
@@ -35,7 +35,7 @@ load-requires c =
     let mine : IsCombiner m.0 = rw c.is_posted.ensures.same c.requires.mine in
     let t = (subst (λ (k : ℕ). opens_record k m c.compare_exchange-found.result c.compare_exchange-found.new.seat.me) (session_of_its_word at) c.compare_exchange-found.ensures.2).0 (search rules) in
     let v = opening m.0 at t.0 in
-    let after : c.exchange.new.seat.me ≡ (v, (at, Nothing) ∷ m.1) = c.exchange.ensures.3 ∙ ap (λ (x : Seated). (x.0, (at, Nothing) ∷ rest x.1)) t.1 in (
+    let after : c.exchange.new.seat.me ≡ (v, (at, Empty) ∷ m.1) = c.exchange.ensures.3 ∙ ap (λ (x : Seated). (x.0, (at, Empty) ∷ rest x.1)) t.1 in (
       search rules,
       search rules,
       subst (λ (x : Seated). Allows IsRuled slots c.exchange.new.seat.id x (word_of at) (λ y. y) (lays (step slots (word_of at) 0 0 opt.none) x)) (sym after)

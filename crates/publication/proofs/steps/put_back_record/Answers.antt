@@ -4,9 +4,9 @@ use Rattle.atomic_table.specs.Table.{Allows, step}
 use Rattle.publication.specs.Words.{word_of, POSTED}
 use Rattle.publication.specs.List.{IsRuled}
 use Rattle.publication.specs.Kinds.{Seated, puts_back, in_hand}
-use Rattle.publication.specs.declared.slot.Held.{Held}
-use Rattle.publication.specs.declared.slot.Held.TheVariants.{Asked}
-use Rattle.publication.proofs.Combiners.{in_hand_with, pick_kept, put_back_kept}
+use Rattle.publication.specs.declared.slot.SlotValue.{SlotValue}
+use Rattle.publication.specs.declared.slot.SlotValue.TheVariants.{PostedCall}
+use Rattle.publication.proofs.RecordKinds.{in_hand_with, pick_kept, put_back_kept}
 use Rattle.publication.proofs.Lists.{there_at}
 use Rattle.publication.proofs.steps.put_back_record.Goals as goal
 
@@ -18,14 +18,14 @@ load-requires c =
     let there = there_at m.0.combiner.opened at c.args.call c.requires.opened in
     (search rules, search rules, pick_kept c.args.shared.now.table_id.slots c.args.seat.now.id m.0 mine.session mine.book at c.requires.at.some c.requires.at.there c.args.call there m.1 mine.empty)
 
--- the names are those of `answer_record`, and the goals are each function's own
+-- The names are the same as for `answer_record`; the goals differ.
 pub store-requires : goal.store-requires
 store-requires c =
     let m = c.args.seat.now.me in
     let at = c.args.at in
     let slots = c.args.shared.now.table_id.slots in
     let id = c.exchange.new.seat.id in
-    let held : Held = Asked c.args.call in
+    let held : SlotValue = PostedCall c.args.call in
     let there = there_at m.0.combiner.opened at c.args.call c.requires.opened in
     let after = in_hand_with at m c.load.new.seat.me c.exchange.new.seat.me held c.load.ensures.2 c.exchange.ensures.3 in (
       search rules,

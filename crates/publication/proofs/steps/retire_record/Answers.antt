@@ -1,5 +1,5 @@
 use Rattle.std.proofs.Common.{rules}
-use Rattle.publication.proofs.Sessions.{retire_kept}
+use Rattle.publication.proofs.SessionKinds.{retire_kept}
 use Rattle.publication.proofs.steps.retire_record.Goals as goal
 
 pub store-requires : goal.store-requires

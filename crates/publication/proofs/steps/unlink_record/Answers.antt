@@ -1,40 +1,40 @@
 use Rattle.std.proofs.Common.{rules, ◌≡◌, ◌∷◌, ◌∙◌, ℕ, Some, List, inl, refl, sym, ap, subst}
 use Rattle.publication.specs.List.{IsOn, AreApart, head_of, without, with_behind, behind}
-use Rattle.publication.specs.Kinds.{Seated, parting, rejoining}
-use Rattle.publication.specs.Tickets.{IsCombiner}
-use Rattle.publication.proofs.Chains.{on_right, splits, apart_front, rejoins}
+use Rattle.publication.specs.Kinds.{Seated, bypassing, relinking}
+use Rattle.publication.specs.inner.Tickets.{IsCombiner}
+use Rattle.publication.proofs.Chains.{on_right, splits, apart_front, inserts}
 use Rattle.publication.proofs.steps.unlink_record.Goals as goal
 
--- a record that was unlinked and is linked again leaves the route as it was
+-- A record that is unlinked and linked again leaves the route as it was.
 same_route : (b w : ℕ) (route : List ℕ) → AreApart route → IsOn b route → Rattle.publication.specs.List.first_of (behind b route) ≡ Some w → with_behind b (head_of (behind b route)) (without b route) ≡ route
 same_route b w route apart on next =
     let t = splits b w route on next in
     let whose : head_of (behind b route) ≡ w = ap head_of t.behind_is in
     let off = apart_front t.front (w ∷ t.rest) b (subst AreApart t.is apart) in
-    ap (λ (k : ℕ). with_behind b k (without b route)) whose ∙ (ap (λ (r : List ℕ). with_behind b w r) t.without_is ∙ (rejoins b w t.front t.rest off ∙ sym t.is))
+    ap (λ (k : ℕ). with_behind b k (without b route)) whose ∙ (ap (λ (r : List ℕ). with_behind b w r) t.without_is ∙ (inserts b w t.front t.rest off ∙ sym t.is))
 
 pub mark_out-requires-clause-mine : goal.mark_out-requires-clause-mine
 mark_out-requires-clause-mine c =
     let v = c.args.seat.now.me.0 in
     let t = splits c.args.before c.args.whose v.listing.route c.requires.before.1 c.requires.whose.1 in
-    let me = c.part_record.ensures.step in (
+    let me = c.bypass_record.ensures.step in (
       subst (λ (x : Seated). IsCombiner x.0) (sym me) (record { session = c.requires.mine.0.session; book = c.requires.mine.0.book; empty = c.requires.mine.0.empty }),
       ap (λ (x : Seated). x.0.listing.off) me ∙ ap head_of t.behind_is,
     )
 
-pub rejoin_record-requires-clause-off : goal.rejoin_record-requires-clause-off
-rejoin_record-requires-clause-off c =
+pub relink_record-requires-clause-off : goal.relink_record-requires-clause-off
+relink_record-requires-clause-off c =
     let v = c.args.seat.now.me.0 in
     let t = splits c.args.before c.args.whose v.listing.route c.requires.before.1 c.requires.whose.1 in
-    let me = c.mark_out.ensures.in_use (search rules) ∙ c.part_record.ensures.step in
+    let me = c.mark_out.ensures.in_use (search rules) ∙ c.bypass_record.ensures.step in
     (ap (λ (x : Seated). x.0.listing.off) me ∙ ap head_of t.behind_is, ap (λ (x : Seated). x.0.listing.before) me)
 
-pub rejoin_record-requires-clause-before : goal.rejoin_record-requires-clause-before
-rejoin_record-requires-clause-before c =
+pub relink_record-requires-clause-before : goal.relink_record-requires-clause-before
+relink_record-requires-clause-before c =
     let v = c.args.seat.now.me.0 in
     let b = c.args.before in
     let t = splits b c.args.whose v.listing.route c.requires.before.1 c.requires.whose.1 in
-    let me = c.mark_out.ensures.in_use (search rules) ∙ c.part_record.ensures.step in
+    let me = c.mark_out.ensures.in_use (search rules) ∙ c.bypass_record.ensures.step in
     let route = ap (λ (x : Seated). x.0.listing.route) me ∙ t.without_is in
     (c.requires.before.0, subst (λ (r : List ℕ). IsOn b r) (sym route) (on_right b t.front (b ∷ t.rest) (inl refl)))
 
@@ -42,7 +42,7 @@ pub returns-clause-kept : goal.returns-clause-kept
 returns-clause-kept c =
     let v = c.args.seat.now.me.0 in
     let more = c.args.seat.now.me.1 in
-    let me = c.mark_out.ensures.in_use (search rules) ∙ c.part_record.ensures.step in λ _.
-    c.rejoin_record.ensures.step ∙ (ap (λ (x : Seated). (rejoining x.0, x.1)) me
-    ∙ ap (λ (r : List ℕ). (Rattle.publication.specs.Kinds.as_session v v.front v.own v.heard (record { aim = v.listing.aim; route = r; off = 0; before = 0 }), more))
-    (same_route c.args.before c.args.whose v.listing.route c.part_record.ensures.apart c.requires.before.1 c.requires.whose.1))
+    let me = c.mark_out.ensures.in_use (search rules) ∙ c.bypass_record.ensures.step in λ _.
+    c.relink_record.ensures.step ∙ (ap (λ (x : Seated). (relinking x.0, x.1)) me
+    ∙ ap (λ (r : List ℕ). (Rattle.publication.specs.Kinds.as_session v v.front v.own v.heard (record { head_seen = v.listing.head_seen; route = r; off = 0; before = 0 }), more))
+    (same_route c.args.before c.args.whose v.listing.route c.bypass_record.ensures.apart c.requires.before.1 c.requires.whose.1))

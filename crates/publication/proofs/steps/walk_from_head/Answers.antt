@@ -1,7 +1,7 @@
 use Rattle.std.proofs.Common.{rules, ◌≡◌, ℕ, List, sym, ap, subst}
 use Rattle.publication.specs.Kinds.{Seated}
 use Rattle.publication.specs.List.{first_of}
-use Rattle.publication.proofs.Enlisting.{walk_kept}
+use Rattle.publication.proofs.ListKinds.{walk_kept}
 use Rattle.publication.proofs.Routes.{named_first, named_few}
 use Rattle.publication.proofs.steps.walk_from_head.Goals as goal
 

@@ -1,6 +1,6 @@
 use Rattle.std.proofs.Common.{rules, ℕ, subst}
 use Rattle.publication.specs.Kinds.{walks_on_from}
-use Rattle.publication.proofs.Enlisting.{walk_on_kept, session_of_its_link}
+use Rattle.publication.proofs.ListKinds.{walk_on_kept, session_of_its_link}
 use Rattle.publication.proofs.Routes.{named_first, named_few, route_behind}
 use Rattle.publication.specs.List.{behind}
 use Rattle.publication.proofs.steps.walk_on.Goals as goal

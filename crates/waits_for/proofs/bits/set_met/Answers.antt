@@ -2,7 +2,7 @@ use Rattle.std.proofs.Common.{◌+◌, ◌-◌, not, ◌&&◌, ◌||◌, eqb, le
 use Rattle.std.proofs.lemmas.List.{take_all}
 use Rattle.mode_lanes.specs.Masks.{meets}
 use Rattle.waits_for.specs.Pairs.{is_met}
-use Rattle.waits_for.specs.Bits.{has_bit}
+use Rattle.waits_for.specs.inner.Bits.{has_bit}
 use Rattle.waits_for.proofs.NumbersMet.{met-next, bits-next}
 use Rattle.waits_for.proofs.bits.set_met.Goals as goal
 

@@ -1,9 +1,9 @@
 use Rattle.std.proofs.Common.{◌≡◌, ℕ, ◌-◌, not, ◌&&◌, ◌||◌, eqb, leb, length, take}
 use Rattle.waits_for.specs.Pairs.{is_met}
-use Rattle.waits_for.specs.Bits.{has_bit}
+use Rattle.waits_for.specs.inner.Bits.{has_bit}
 use Rattle.waits_for.proofs.bits.set_met.Given as goal
 
--- so far the bits of the first numbers came
+-- The bits of the numbers before this index are set as the codes say.
 abbrev pub invariant-loop-index : goal.invariant-loop-index
 invariant-loop-index l = record {
   room : length l.words ≡ length l.fn.words;

@@ -1,16 +1,16 @@
 use Rattle.std.proofs.Common.{rules, List, subst}
 use Rattle.std.specs.Prelude.{All}
-use Rattle.lock_desk.specs.Kept.{IsEntryWithin}
-use Rattle.publication.specs.Views.{Placed, Known}
+use Rattle.lock_desk.specs.BookView.{IsEntryWithin}
+use Rattle.publication.specs.Views.{BoardView, TicketView}
 use Rattle.publication.specs.Boards.{IsEachOnce, IsSettled, AccountsFor}
 use Rattle.combining.specs.Closed.{IsClosed}
-use Rattle.combining.proofs.Counting.{counted}
-use Rattle.combining.proofs.Handing.{none_pending}
+use Rattle.combining.proofs.AnswerCount.{counted}
+use Rattle.combining.proofs.PendingSessions.{none_pending}
 use Rattle.combining.proofs.office.Office.close.Goals as goal
 
 pub returns-in-Ok-clause-ok : goal.returns-in-Ok-clause-ok
 returns-in-Ok-clause-ok c =
-    let ts : List Known = c.args.sessions.items in
+    let ts : List TicketView = c.args.sessions.items in
     let n = c.self.inside.board.sessions in
     let book = c.in-Ok.book in
     let all : IsEachOnce n ts = c.in-Ok.ensures.all in
@@ -26,4 +26,4 @@ returns-in-Ok-clause-ok c =
       within = within;
       count = counted n ts book.history all within accounts;
     } in
-    subst (λ (office : Placed). IsClosed office ts book) c.self.view_is closed
+    subst (λ (office : BoardView). IsClosed office ts book) c.self.view_is closed

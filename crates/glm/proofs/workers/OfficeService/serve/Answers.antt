@@ -1,4 +1,4 @@
-use Rattle.glm.proofs.Passes.{calls-passed, publishes-passed}
+use Rattle.glm.proofs.IsPassed.{calls-passed, publishes-passed}
 use Rattle.glm.proofs.workers.OfficeService.serve.Goals as goal
 
 pub returns-in-Pass-clause-ours : goal.returns-in-Pass-clause-ours

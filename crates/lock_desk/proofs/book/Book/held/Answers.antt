@@ -1,7 +1,7 @@
 use Rattle.std.proofs.Common.{◌∙◌, ap}
 use Rattle.lock_rules.specs.State.{held_mode}
 use Rattle.lock_rules.specs.Legal.{state_of}
-use Rattle.lock_desk.specs.Kept.{Told}
+use Rattle.lock_desk.specs.BookView.{BookView}
 use Rattle.lock_desk.proofs.Simulation.{mode-shown}
 use Rattle.lock_desk.proofs.book.Book.held.Goals as goal
 
@@ -9,5 +9,5 @@ pub returns : goal.returns
 returns c =
     let k = c.self.invariant in
     c.held.ensures
-    ∙ (mode-shown c.self.inside.desk (state_of c.self.inside.history.items) c.args.session c.args.resource k.shows
-    ∙ ap (λ (t : Told). held_mode (state_of t.history).table c.args.session c.args.resource) c.self.view_is)
+    ∙ (mode-shown c.self.inside.lock_table (state_of c.self.inside.history.items) c.args.session c.args.resource k.shows
+    ∙ ap (λ (t : BookView). held_mode (state_of t.history).table c.args.session c.args.resource) c.self.view_is)

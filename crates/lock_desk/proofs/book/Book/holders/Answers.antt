@@ -1,7 +1,7 @@
 use Rattle.std.proofs.Common.{◌∙◌, ap}
 use Rattle.lock_rules.specs.State.{holders}
 use Rattle.lock_rules.specs.Legal.{state_of}
-use Rattle.lock_desk.specs.Kept.{Told}
+use Rattle.lock_desk.specs.BookView.{BookView}
 use Rattle.lock_desk.proofs.Results.{to-ok}
 use Rattle.lock_desk.proofs.Simulation.{holders-shown}
 use Rattle.lock_desk.proofs.book.Book.holders.Goals as goal
@@ -10,5 +10,5 @@ pub returns-clause-ok : goal.returns-clause-ok
 returns-clause-ok c =
     let k = c.self.invariant in
     to-ok c.holders.result _ _ c.holders.ensures.ok (λ e. e
-    ∙ (holders-shown c.self.inside.desk (state_of c.self.inside.history.items) c.args.resource k.shows
-    ∙ ap (λ (t : Told). holders c.args.resource (state_of t.history).table.held) c.self.view_is))
+    ∙ (holders-shown c.self.inside.lock_table (state_of c.self.inside.history.items) c.args.resource k.shows
+    ∙ ap (λ (t : BookView). holders c.args.resource (state_of t.history).table.held) c.self.view_is))

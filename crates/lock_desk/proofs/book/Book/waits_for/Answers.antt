@@ -2,8 +2,8 @@ use Rattle.std.proofs.Common.{◌∙◌, ap}
 use Rattle.lock_rules.specs.Waits.{waits_for}
 use Rattle.lock_rules.specs.Legal.{state_of}
 use Rattle.lock_rules.proofs.Steps.{state-lawful}
-use Rattle.lock_desk.specs.Kept.{Told}
-use Rattle.lock_desk.proofs.RowsOfTheDesk.{written-blocks}
+use Rattle.lock_desk.specs.BookView.{BookView}
+use Rattle.lock_desk.proofs.RowsOfTheTable.{written-blocks}
 use Rattle.lock_desk.proofs.WaitsOfTheState.{pairs-shown}
 use Rattle.lock_desk.proofs.book.Book.waits_for.Goals as goal
 
@@ -14,6 +14,6 @@ returns c =
     let s = c.args.session in
     let u = c.args.other in
     c.waits_for.ensures
-    ∙ (written-blocks c.self.inside.desk k.whole k.ready s u
-    ∙ (pairs-shown c.self.inside.desk (state_of es) k.whole (state-lawful es).sound k.shows s u
-    ∙ ap (λ (t : Told). waits_for (state_of t.history).table s u) c.self.view_is))
+    ∙ (written-blocks c.self.inside.lock_table k.whole k.ready s u
+    ∙ (pairs-shown c.self.inside.lock_table (state_of es) k.whole (state-lawful es).sound k.shows s u
+    ∙ ap (λ (t : BookView). waits_for (state_of t.history).table s u) c.self.view_is))

@@ -1,8 +1,8 @@
 use Rattle.std.proofs.Common.{◌∙◌, sym, ap, arith, subst, Option}
 use Rattle.lock_desk.specs.declared.cells.Cell.{Cell}
-use Rattle.lock_desk.specs.Tables.{in_use}
-use Rattle.lock_desk.specs.Cells.{View, Table, view_in, cell_view, has_session, view_after_asking, can_grant}
-use Rattle.lock_desk.specs.Finding.{IsOfSessions, DoFollow}
+use Rattle.lock_desk.specs.inner.Tables.{in_use}
+use Rattle.lock_desk.specs.inner.Cells.{View, Table, view_in, cell_view, has_session, view_after_asking, can_grant}
+use Rattle.lock_desk.specs.inner.Blocking.{IsOfSessions, DoFollow}
 use Rattle.lock_desk.proofs.Results.{on-err-from}
 use Rattle.lock_desk.proofs.SessionsInRange.{numbered-asked}
 use Rattle.lock_desk.proofs.CellTable.{kept-at}
@@ -11,7 +11,7 @@ use Rattle.lock_desk.proofs.cell_table.CellTable.ask.Goals as goal
 
 pub index_mut-cell-requires : goal.index_mut-cell-requires
 index_mut-cell-requires c =
-    let rs = in_use c.self.inside.resources.keys c.self.inside.newcomer in
+    let rs = in_use c.self.inside.resources.keys c.self.inside.has_provisional in
     let e = ap (λ (t : Table). t.entries) c.self.view_is in
     omega (arith, cell-within rs c.self.inside.cells.items c.args.self.now.entries e c.args.resource c.args.place c.in-Some.place c.in-Some.is c.requires.place, c.self.inside.cells.ok.0)
 
@@ -19,7 +19,7 @@ pub ask-requires-clause-kept : goal.ask-requires-clause-kept
 ask-requires-clause-kept c =
     let cs = c.args.self.now.entries in
     let r = c.args.resource in
-    let rs = in_use c.self.inside.resources.keys c.self.inside.newcomer in
+    let rs = in_use c.self.inside.resources.keys c.self.inside.has_provisional in
     let xs = c.self.inside.cells.items in
     let e = ap (λ (t : Table). t.entries) c.self.view_is in
     let x = c.index_mut-cell.result.now in
@@ -29,7 +29,7 @@ pub ask-requires-clause-idle : goal.ask-requires-clause-idle
 ask-requires-clause-idle c =
     let cs = c.args.self.now.entries in
     let r = c.args.resource in
-    let rs = in_use c.self.inside.resources.keys c.self.inside.newcomer in
+    let rs = in_use c.self.inside.resources.keys c.self.inside.has_provisional in
     let xs = c.self.inside.cells.items in
     let e = ap (λ (t : Table). t.entries) c.self.view_is in
     let x = c.index_mut-cell.result.now in
@@ -38,20 +38,20 @@ ask-requires-clause-idle c =
 pub invariant_of-self : goal.invariant_of-self
 invariant_of-self c = record {
   long = long-still _ _ c.in-Some.place c.ask.new.self c.self.invariant.long;
-  idle = idle-still _ _ c.in-Some.place c.ask.new.self (resource-within (in_use c.self.inside.resources.keys c.self.inside.newcomer) c.self.inside.cells.items c.args.self.now.entries (ap (λ (t : Table). t.entries) c.self.view_is) c.args.resource c.args.place c.in-Some.place c.in-Some.is c.requires.place) c.self.invariant.idle;
+  idle = idle-still _ _ c.in-Some.place c.ask.new.self (resource-within (in_use c.self.inside.resources.keys c.self.inside.has_provisional) c.self.inside.cells.items c.args.self.now.entries (ap (λ (t : Table). t.entries) c.self.view_is) c.args.resource c.args.place c.in-Some.place c.in-Some.is c.requires.place) c.self.invariant.idle;
 }
 
 pub invariant_of-self-in-Some : goal.invariant_of-self-in-Some
 invariant_of-self-in-Some c = record {
   long = long-still _ _ c.in-Some.place c.ask.new.self c.self.invariant.long;
-  idle = idle-still _ _ c.in-Some.place c.ask.new.self (resource-within (in_use c.self.inside.resources.keys c.self.inside.newcomer) c.self.inside.cells.items c.args.self.now.entries (ap (λ (t : Table). t.entries) c.self.view_is) c.args.resource c.args.place c.in-Some.place c.in-Some.is c.requires.place) c.self.invariant.idle;
+  idle = idle-still _ _ c.in-Some.place c.ask.new.self (resource-within (in_use c.self.inside.resources.keys c.self.inside.has_provisional) c.self.inside.cells.items c.args.self.now.entries (ap (λ (t : Table). t.entries) c.self.view_is) c.args.resource c.args.place c.in-Some.place c.in-Some.is c.requires.place) c.self.invariant.idle;
 }
 
-pub follow_request-requires-clause-within : goal.follow_request-requires-clause-within
-follow_request-requires-clause-within c =
+pub update_rows-requires-clause-within : goal.update_rows-requires-clause-within
+update_rows-requires-clause-within c =
     let cs = c.args.self.now.entries in
     let r = c.args.resource in
-    let rs = in_use c.self.inside.resources.keys c.self.inside.newcomer in
+    let rs = in_use c.self.inside.resources.keys c.self.inside.has_provisional in
     let xs = c.self.inside.cells.items in
     let e = ap (λ (t : Table). t.entries) c.self.view_is in
     let x = c.index_mut-cell.result.now in
@@ -62,7 +62,7 @@ pub returns-in_ok-status-in-Some-clause-granted : goal.returns-in_ok-status-in-S
 returns-in_ok-status-in-Some-clause-granted c =
     let cs = c.args.self.now.entries in
     let r = c.args.resource in
-    let rs = in_use c.self.inside.resources.keys c.self.inside.newcomer in
+    let rs = in_use c.self.inside.resources.keys c.self.inside.has_provisional in
     let xs = c.self.inside.cells.items in
     let e = ap (λ (t : Table). t.entries) c.self.view_is in
     let x = c.index_mut-cell.result.now in
@@ -73,18 +73,18 @@ pub returns-in_ok-status-in-Some-clause-ok : goal.returns-in_ok-status-in-Some-c
 returns-in_ok-status-in-Some-clause-ok c =
     let cs = c.args.self.now.entries in
     let r = c.args.resource in
-    let rs = in_use c.self.inside.resources.keys c.self.inside.newcomer in
+    let rs = in_use c.self.inside.resources.keys c.self.inside.has_provisional in
     let xs = c.self.inside.cells.items in
     let e = ap (λ (t : Table). t.entries) c.self.view_is in
     let x = c.index_mut-cell.result.now in
     let t = there rs xs cs e r c.args.place c.in-Some.place c.in-Some.is c.requires.place x c.index_mut-cell.ensures.value in
-    wrote-kept rs xs cs e r c.args.place c.in-Some.place c.in-Some.is c.requires.place x c.index_mut-cell.ensures.value c.ask.new.self (apart-in_use _ c.same_path_is_equality.ensures.code c.self.inside.resources.keys c.self.inside.newcomer c.len-len.ensures.unique) c.self.invariant.long _ c.requires.kept c.ask.ensures.kept (c.in_ok-status-in-Some.ensures.view ∙ ap (λ (o : Option Cell). view_after_asking c.args.asker (view_in o)) t)
+    wrote-kept rs xs cs e r c.args.place c.in-Some.place c.in-Some.is c.requires.place x c.index_mut-cell.ensures.value c.ask.new.self (apart-in_use _ c.same_path_is_equality.ensures.code c.self.inside.resources.keys c.self.inside.has_provisional c.len-len.ensures.unique) c.self.invariant.long _ c.requires.kept c.ask.ensures.kept (c.in_ok-status-in-Some.ensures.view ∙ ap (λ (o : Option Cell). view_after_asking c.args.asker (view_in o)) t)
 
-pub follow_request-requires-clause-asked : goal.follow_request-requires-clause-asked
-follow_request-requires-clause-asked c =
+pub update_rows-requires-clause-asked : goal.update_rows-requires-clause-asked
+update_rows-requires-clause-asked c =
     let cs = c.args.self.now.entries in
     let r = c.args.resource in
-    let rs = in_use c.self.inside.resources.keys c.self.inside.newcomer in
+    let rs = in_use c.self.inside.resources.keys c.self.inside.has_provisional in
     let xs = c.self.inside.cells.items in
     let e = ap (λ (t : Table). t.entries) c.self.view_is in
     let x = c.index_mut-cell.result.now in
@@ -101,22 +101,22 @@ pub returns-in_ok-status-in-Some-clause-rows : goal.returns-in_ok-status-in-Some
 returns-in_ok-status-in-Some-clause-rows c =
     let cs = c.args.self.now.entries in
     let r = c.args.resource in
-    let rs = in_use c.self.inside.resources.keys c.self.inside.newcomer in
+    let rs = in_use c.self.inside.resources.keys c.self.inside.has_provisional in
     let xs = c.self.inside.cells.items in
     let e = ap (λ (t : Table). t.entries) c.self.view_is in
     let x = c.index_mut-cell.result.now in
     let t = there rs xs cs e r c.args.place c.in-Some.place c.in-Some.is c.requires.place x c.index_mut-cell.ensures.value in
     let asked = c.in_ok-status-in-Some.ensures.view ∙ ap (λ (o : Option Cell). view_after_asking c.args.asker (view_in o)) t in
     let granted = c.in_ok-status-in-Some.ensures.granted ∙ ap (λ (o : Option Cell). can_grant c.args.asker (view_in o)) t in
-    subst (λ (v : View). DoFollow (cell_view r cs) v c.args.waits.now c.follow_request.new.waits) asked (c.follow_request.ensures (record { before = cell_view r cs; written = c.requires.written; idle = c.requires.idle; granted_is = granted; after = asked }))
+    subst (λ (v : View). DoFollow (cell_view r cs) v c.args.waits.now c.update_rows.new.waits) asked (c.update_rows.ensures (record { before = cell_view r cs; written = c.requires.written; idle = c.requires.idle; granted_is = granted; after = asked }))
 
 pub returns-in_err-status-in-Some-clause-err : goal.returns-in_err-status-in-Some-clause-err
 returns-in_err-status-in-Some-clause-err c =
     let cs = c.args.self.now.entries in
     let r = c.args.resource in
-    let rs = in_use c.self.inside.resources.keys c.self.inside.newcomer in
+    let rs = in_use c.self.inside.resources.keys c.self.inside.has_provisional in
     let xs = c.self.inside.cells.items in
     let e = ap (λ (t : Table). t.entries) c.self.view_is in
     let x = c.index_mut-cell.result.now in
     let t = there rs xs cs e r c.args.place c.in-Some.place c.in-Some.is c.requires.place x c.index_mut-cell.ensures.value in
-    on-err-from c.from_residual.result (wrote-kept rs xs cs e r c.args.place c.in-Some.place c.in-Some.is c.requires.place x c.index_mut-cell.ensures.value c.ask.new.self (apart-in_use _ c.same_path_is_equality.ensures.code c.self.inside.resources.keys c.self.inside.newcomer c.len-len.ensures.unique) c.self.invariant.long _ c.requires.kept c.ask.ensures.kept (c.in_err-status-in-Some.ensures.err ∙ ap view_in t))
+    on-err-from c.from_residual.result (wrote-kept rs xs cs e r c.args.place c.in-Some.place c.in-Some.is c.requires.place x c.index_mut-cell.ensures.value c.ask.new.self (apart-in_use _ c.same_path_is_equality.ensures.code c.self.inside.resources.keys c.self.inside.has_provisional c.len-len.ensures.unique) c.self.invariant.long _ c.requires.kept c.ask.ensures.kept (c.in_err-status-in-Some.ensures.err ∙ ap view_in t))

@@ -2,10 +2,10 @@ use Rattle.std.proofs.Common.{◌+◌, ◌∙◌, ap, arith, sym, subst, refl, l
 use Rattle.std.proofs.lemmas.Bool.{not-true, not-false}
 use Rattle.waits_for.specs.Pairs.{pairs_of}
 use Rattle.lock_tree.specs.Paths.{same_path}
-use Rattle.lock_desk.specs.Tables.{in_use}
-use Rattle.lock_desk.specs.Cells.{View, Table, view_of, view_in, is_busy}
-use Rattle.lock_desk.specs.Finding.{IsOfSessions}
-use Rattle.lock_desk.specs.Lockers.{standings_of, DoAgree}
+use Rattle.lock_desk.specs.inner.Tables.{in_use}
+use Rattle.lock_desk.specs.inner.Cells.{View, Table, view_of, view_in, is_busy}
+use Rattle.lock_desk.specs.inner.Blocking.{IsOfSessions}
+use Rattle.lock_desk.specs.inner.Lockers.{standings_of, DoAgree}
 use Rattle.lock_desk.proofs.CellTable.{kept-at, idle-view}
 use Rattle.lock_desk.proofs.CellGivesUp.{view-left, view-promoted, once-there, free-kept, free-idle, agree-there}
 use Rattle.lock_desk.proofs.Places.{length-beside, apart-in_use, cell-within, resource-within, long-still, idle-still, there, written-cell, written-entry, wrote}
@@ -15,15 +15,15 @@ use Rattle.lock_desk.proofs.cell_table.CellTable.free_at.Goals as goal
 
 pub index_mut-cell-requires : goal.index_mut-cell-requires
 index_mut-cell-requires c =
-    let rs = in_use c.self.inside.resources.keys c.self.inside.newcomer in
+    let rs = in_use c.self.inside.resources.keys c.self.inside.has_provisional in
     let e = ap (λ (t : Table). t.entries) c.self.view_is in
     omega (arith, cell-within rs c.self.inside.cells.items c.args.self.now.entries e c.args.resource c.args.place c.in-Some.place c.in-Some.is c.requires.place, c.self.inside.cells.ok.0)
 
-pub clear_queue-requires : goal.clear_queue-requires
-clear_queue-requires c =
+pub clear_queue_rows-requires : goal.clear_queue_rows-requires
+clear_queue_rows-requires c =
     let cs = c.args.self.now.entries in
     let r = c.args.resource in
-    let rs = in_use c.self.inside.resources.keys c.self.inside.newcomer in
+    let rs = in_use c.self.inside.resources.keys c.self.inside.has_provisional in
     let xs = c.self.inside.cells.items in
     let e = ap (λ (t : Table). t.entries) c.self.view_is in
     let x = c.index_mut-cell.result.now in
@@ -34,7 +34,7 @@ pub give_up-requires-clause-rising : goal.give_up-requires-clause-rising
 give_up-requires-clause-rising c =
     let cs = c.args.self.now.entries in
     let r = c.args.resource in
-    let rs = in_use c.self.inside.resources.keys c.self.inside.newcomer in
+    let rs = in_use c.self.inside.resources.keys c.self.inside.has_provisional in
     let xs = c.self.inside.cells.items in
     let e = ap (λ (t : Table). t.entries) c.self.view_is in
     let x = c.index_mut-cell.result.now in
@@ -45,7 +45,7 @@ pub give_up-requires-clause-room : goal.give_up-requires-clause-room
 give_up-requires-clause-room c =
     let cs = c.args.self.now.entries in
     let r = c.args.resource in
-    let rs = in_use c.self.inside.resources.keys c.self.inside.newcomer in
+    let rs = in_use c.self.inside.resources.keys c.self.inside.has_provisional in
     let xs = c.self.inside.cells.items in
     let e = ap (λ (t : Table). t.entries) c.self.view_is in
     let x = c.index_mut-cell.result.now in
@@ -56,35 +56,35 @@ pub promote-requires-clause-once : goal.promote-requires-clause-once
 promote-requires-clause-once c =
     let cs = c.args.self.now.entries in
     let r = c.args.resource in
-    let rs = in_use c.self.inside.resources.keys c.self.inside.newcomer in
+    let rs = in_use c.self.inside.resources.keys c.self.inside.has_provisional in
     let xs = c.self.inside.cells.items in
     let e = ap (λ (t : Table). t.entries) c.self.view_is in
     let x = c.index_mut-cell.result.now in
     let t = there rs xs cs e r c.args.place c.in-Some.place c.in-Some.is c.requires.place x c.index_mut-cell.ensures.value in
-    once-there c.args.part r c.args.session cs x c.give_up.new.self t c.give_up.ensures.view (kept-at r cs x c.requires.cells t).once
+    once-there c.args.claim r c.args.session cs x c.give_up.new.self t c.give_up.ensures.view (kept-at r cs x c.requires.cells t).once
 
 pub promote-requires-clause-agree : goal.promote-requires-clause-agree
 promote-requires-clause-agree c =
     let cs = c.args.self.now.entries in
     let r = c.args.resource in
-    let rs = in_use c.self.inside.resources.keys c.self.inside.newcomer in
+    let rs = in_use c.self.inside.resources.keys c.self.inside.has_provisional in
     let xs = c.self.inside.cells.items in
     let e = ap (λ (t : Table). t.entries) c.self.view_is in
     let x = c.index_mut-cell.result.now in
     let t = there rs xs cs e r c.args.place c.in-Some.place c.in-Some.is c.requires.place x c.index_mut-cell.ensures.value in
-    let v = view-left c.args.part r c.args.session cs x c.give_up.new.self t c.give_up.ensures.view in
+    let v = view-left c.args.claim r c.args.session cs x c.give_up.new.self t c.give_up.ensures.view in
     subst (λ (w : View). DoAgree r w (standings_of c.args.lockers.now.items)) (sym v) c.requires.agree
 
 pub invariant_of-self-else-is_idle : goal.invariant_of-self-else-is_idle
 invariant_of-self-else-is_idle c = record {
   long = long-still _ _ c.in-Some.place c.promote.new.cell c.self.invariant.long;
-  idle = idle-still _ _ c.in-Some.place c.promote.new.cell (resource-within (in_use c.self.inside.resources.keys c.self.inside.newcomer) c.self.inside.cells.items c.args.self.now.entries (ap (λ (t : Table). t.entries) c.self.view_is) c.args.resource c.args.place c.in-Some.place c.in-Some.is c.requires.place) c.self.invariant.idle;
+  idle = idle-still _ _ c.in-Some.place c.promote.new.cell (resource-within (in_use c.self.inside.resources.keys c.self.inside.has_provisional) c.self.inside.cells.items c.args.self.now.entries (ap (λ (t : Table). t.entries) c.self.view_is) c.args.resource c.args.place c.in-Some.place c.in-Some.is c.requires.place) c.self.invariant.idle;
 }
 
 pub vacate-requires-clause-within : goal.vacate-requires-clause-within
 vacate-requires-clause-within c =
     let cs = c.args.self.now.entries in
-    let rs = in_use c.self.inside.resources.keys c.self.inside.newcomer in
+    let rs = in_use c.self.inside.resources.keys c.self.inside.has_provisional in
     let xs = c.self.inside.cells.items in
     let e = ap (λ (t : Table). t.entries) c.self.view_is in
     let new = c.promote.new.cell in
@@ -95,7 +95,7 @@ pub vacate-requires-clause-idle : goal.vacate-requires-clause-idle
 vacate-requires-clause-idle c = λ q y h.
     let cs = c.args.self.now.entries in
     let r = c.args.resource in
-    let rs = in_use c.self.inside.resources.keys c.self.inside.newcomer in
+    let rs = in_use c.self.inside.resources.keys c.self.inside.has_provisional in
     let xs = c.self.inside.cells.items in
     let e = ap (λ (t : Table). t.entries) c.self.view_is in
     let x = c.index_mut-cell.result.now in
@@ -106,96 +106,96 @@ pub returns-then-is_idle-clause-cells : goal.returns-then-is_idle-clause-cells
 returns-then-is_idle-clause-cells c =
     let cs = c.args.self.now.entries in
     let r = c.args.resource in
-    let rs = in_use c.self.inside.resources.keys c.self.inside.newcomer in
+    let rs = in_use c.self.inside.resources.keys c.self.inside.has_provisional in
     let xs = c.self.inside.cells.items in
     let e = ap (λ (t : Table). t.entries) c.self.view_is in
     let x = c.index_mut-cell.result.now in
     let t = there rs xs cs e r c.args.place c.in-Some.place c.in-Some.is c.requires.place x c.index_mut-cell.ensures.value in
     let new = c.promote.new.cell in
-    free-idle c.args.part r c.args.session cs x c.give_up.new.self t c.give_up.ensures.view
+    free-idle c.args.claim r c.args.session cs x c.give_up.new.self t c.give_up.ensures.view
     new c.promote.ensures.view same_path (λ a b. refl) c.requires.cells c.vacate.new.self.entries _ (not-true (is_busy (view_of new)) (sym c.is_idle.ensures ∙ c.if-is_idle.true))
-    (wrote rs xs cs e r c.args.place c.in-Some.place c.in-Some.is c.requires.place x c.index_mut-cell.ensures.value new (apart-in_use _ c.same_path_is_equality.ensures.code c.self.inside.resources.keys c.self.inside.newcomer c.len-len.ensures.unique) c.self.invariant.long) (c.vacate.ensures.gone r new (written-entry rs xs cs e r c.args.place c.in-Some.place c.in-Some.is c.requires.place x c.index_mut-cell.ensures.value new))
+    (wrote rs xs cs e r c.args.place c.in-Some.place c.in-Some.is c.requires.place x c.index_mut-cell.ensures.value new (apart-in_use _ c.same_path_is_equality.ensures.code c.self.inside.resources.keys c.self.inside.has_provisional c.len-len.ensures.unique) c.self.invariant.long) (c.vacate.ensures.gone r new (written-entry rs xs cs e r c.args.place c.in-Some.place c.in-Some.is c.requires.place x c.index_mut-cell.ensures.value new))
 
 pub returns-then-is_idle-clause-agree : goal.returns-then-is_idle-clause-agree
 returns-then-is_idle-clause-agree c =
     let cs = c.args.self.now.entries in
     let r = c.args.resource in
-    let rs = in_use c.self.inside.resources.keys c.self.inside.newcomer in
+    let rs = in_use c.self.inside.resources.keys c.self.inside.has_provisional in
     let xs = c.self.inside.cells.items in
     let e = ap (λ (t : Table). t.entries) c.self.view_is in
     let x = c.index_mut-cell.result.now in
     let t = there rs xs cs e r c.args.place c.in-Some.place c.in-Some.is c.requires.place x c.index_mut-cell.ensures.value in
-    agree-there c.args.part r c.args.session cs x c.give_up.new.self t c.give_up.ensures.view c.promote.new.cell c.promote.ensures.view _ c.promote.ensures.agree
+    agree-there c.args.claim r c.args.session cs x c.give_up.new.self t c.give_up.ensures.view c.promote.new.cell c.promote.ensures.view _ c.promote.ensures.agree
 
 pub returns-else-is_idle-clause-cells : goal.returns-else-is_idle-clause-cells
 returns-else-is_idle-clause-cells c =
     let cs = c.args.self.now.entries in
     let r = c.args.resource in
-    let rs = in_use c.self.inside.resources.keys c.self.inside.newcomer in
+    let rs = in_use c.self.inside.resources.keys c.self.inside.has_provisional in
     let xs = c.self.inside.cells.items in
     let e = ap (λ (t : Table). t.entries) c.self.view_is in
     let x = c.index_mut-cell.result.now in
     let t = there rs xs cs e r c.args.place c.in-Some.place c.in-Some.is c.requires.place x c.index_mut-cell.ensures.value in
     let new = c.promote.new.cell in
-    free-kept c.args.part r c.args.session cs x c.give_up.new.self t c.give_up.ensures.view
+    free-kept c.args.claim r c.args.session cs x c.give_up.new.self t c.give_up.ensures.view
     new c.promote.ensures.view same_path (λ a b. refl) c.requires.cells _ c.promote.ensures.room c.promote.ensures.once (not-false (is_busy (view_of new)) (sym c.is_idle.ensures ∙ c.if-is_idle.false))
-    (wrote rs xs cs e r c.args.place c.in-Some.place c.in-Some.is c.requires.place x c.index_mut-cell.ensures.value new (apart-in_use _ c.same_path_is_equality.ensures.code c.self.inside.resources.keys c.self.inside.newcomer c.len-len.ensures.unique) c.self.invariant.long)
+    (wrote rs xs cs e r c.args.place c.in-Some.place c.in-Some.is c.requires.place x c.index_mut-cell.ensures.value new (apart-in_use _ c.same_path_is_equality.ensures.code c.self.inside.resources.keys c.self.inside.has_provisional c.len-len.ensures.unique) c.self.invariant.long)
 
 pub returns-else-is_idle-clause-agree : goal.returns-else-is_idle-clause-agree
 returns-else-is_idle-clause-agree c =
     let cs = c.args.self.now.entries in
     let r = c.args.resource in
-    let rs = in_use c.self.inside.resources.keys c.self.inside.newcomer in
+    let rs = in_use c.self.inside.resources.keys c.self.inside.has_provisional in
     let xs = c.self.inside.cells.items in
     let e = ap (λ (t : Table). t.entries) c.self.view_is in
     let x = c.index_mut-cell.result.now in
     let t = there rs xs cs e r c.args.place c.in-Some.place c.in-Some.is c.requires.place x c.index_mut-cell.ensures.value in
-    agree-there c.args.part r c.args.session cs x c.give_up.new.self t c.give_up.ensures.view c.promote.new.cell c.promote.ensures.view _ c.promote.ensures.agree
+    agree-there c.args.claim r c.args.session cs x c.give_up.new.self t c.give_up.ensures.view c.promote.new.cell c.promote.ensures.view _ c.promote.ensures.agree
 
-pub write_queue-requires-clause-within : goal.write_queue-requires-clause-within
-write_queue-requires-clause-within c =
-    let long = c.clear_queue.ensures.sessions in
-    numbered-agree c.clear_queue.new.waits.rows.sessions c.promote.new.lockers.items (omega (arith, long, c.requires.long, c.promote.ensures.len, c.promote.new.lockers.ok.0)) c.args.resource (view_of c.promote.new.cell) c.promote.ensures.agree c.promote.ensures.once
+pub write_queue_rows-requires-clause-within : goal.write_queue_rows-requires-clause-within
+write_queue_rows-requires-clause-within c =
+    let long = c.clear_queue_rows.ensures.sessions in
+    numbered-agree c.clear_queue_rows.new.waits.rows.sessions c.promote.new.lockers.items (omega (arith, long, c.requires.long, c.promote.ensures.len, c.promote.new.lockers.ok.0)) c.args.resource (view_of c.promote.new.cell) c.promote.ensures.agree c.promote.ensures.once
 
-pub write_queue-requires-clause-once : goal.write_queue-requires-clause-once
-write_queue-requires-clause-once c = c.promote.ensures.once.once
+pub write_queue_rows-requires-clause-once : goal.write_queue_rows-requires-clause-once
+write_queue_rows-requires-clause-once c = c.promote.ensures.once.once
 
-pub write_queue-requires-clause-empty : goal.write_queue-requires-clause-empty
-write_queue-requires-clause-empty c = λ a b h.
+pub write_queue_rows-requires-clause-empty : goal.write_queue_rows-requires-clause-empty
+write_queue_rows-requires-clause-empty c = λ a b h.
     let cs = c.args.self.now.entries in
     let r = c.args.resource in
-    let rs = in_use c.self.inside.resources.keys c.self.inside.newcomer in
+    let rs = in_use c.self.inside.resources.keys c.self.inside.has_provisional in
     let xs = c.self.inside.cells.items in
     let e = ap (λ (t : Table). t.entries) c.self.view_is in
     let x = c.index_mut-cell.result.now in
     let t = there rs xs cs e r c.args.place c.in-Some.place c.in-Some.is c.requires.place x c.index_mut-cell.ensures.value in
-    let after = view-promoted c.args.part r c.args.session cs x c.give_up.new.self t c.give_up.ensures.view c.promote.new.cell c.promote.ensures.view in
-    emptied-still c.args.part c.args.session (a + 1) _ _ _ (ap view_in t) after h (pairs_of c.args.waits.now.rows a b) (c.clear_queue.ensures.pairs a b)
+    let after = view-promoted c.args.claim r c.args.session cs x c.give_up.new.self t c.give_up.ensures.view c.promote.new.cell c.promote.ensures.view in
+    emptied-still c.args.claim c.args.session (a + 1) _ _ _ (ap view_in t) after h (pairs_of c.args.waits.now.rows a b) (c.clear_queue_rows.ensures.pairs a b)
 
 pub returns-then-is_idle-clause-rows : goal.returns-then-is_idle-clause-rows
 returns-then-is_idle-clause-rows c =
     let cs = c.args.self.now.entries in
     let r = c.args.resource in
-    let rs = in_use c.self.inside.resources.keys c.self.inside.newcomer in
+    let rs = in_use c.self.inside.resources.keys c.self.inside.has_provisional in
     let xs = c.self.inside.cells.items in
     let e = ap (λ (t : Table). t.entries) c.self.view_is in
     let x = c.index_mut-cell.result.now in
     let t = there rs xs cs e r c.args.place c.in-Some.place c.in-Some.is c.requires.place x c.index_mut-cell.ensures.value in
-    let cleared = c.clear_queue.ensures in
-    let wrote = c.write_queue.ensures in
-    follows-freed _ (view_of x) _ (view_of c.promote.new.cell) c.args.waits.now c.clear_queue.new.waits c.write_queue.new.waits (ap view_in t)
-    (view-promoted c.args.part r c.args.session cs x c.give_up.new.self t c.give_up.ensures.view c.promote.new.cell c.promote.ensures.view) cleared.sessions wrote.sessions cleared.numbers wrote.numbers cleared.pairs wrote.pairs
+    let cleared = c.clear_queue_rows.ensures in
+    let wrote = c.write_queue_rows.ensures in
+    follows-freed _ (view_of x) _ (view_of c.promote.new.cell) c.args.waits.now c.clear_queue_rows.new.waits c.write_queue_rows.new.waits (ap view_in t)
+    (view-promoted c.args.claim r c.args.session cs x c.give_up.new.self t c.give_up.ensures.view c.promote.new.cell c.promote.ensures.view) cleared.sessions wrote.sessions cleared.numbers wrote.numbers cleared.pairs wrote.pairs
 
 pub returns-else-is_idle-clause-rows : goal.returns-else-is_idle-clause-rows
 returns-else-is_idle-clause-rows c =
     let cs = c.args.self.now.entries in
     let r = c.args.resource in
-    let rs = in_use c.self.inside.resources.keys c.self.inside.newcomer in
+    let rs = in_use c.self.inside.resources.keys c.self.inside.has_provisional in
     let xs = c.self.inside.cells.items in
     let e = ap (λ (t : Table). t.entries) c.self.view_is in
     let x = c.index_mut-cell.result.now in
     let t = there rs xs cs e r c.args.place c.in-Some.place c.in-Some.is c.requires.place x c.index_mut-cell.ensures.value in
-    let cleared = c.clear_queue.ensures in
-    let wrote = c.write_queue.ensures in
-    follows-freed _ (view_of x) _ (view_of c.promote.new.cell) c.args.waits.now c.clear_queue.new.waits c.write_queue.new.waits (ap view_in t)
-    (view-promoted c.args.part r c.args.session cs x c.give_up.new.self t c.give_up.ensures.view c.promote.new.cell c.promote.ensures.view) cleared.sessions wrote.sessions cleared.numbers wrote.numbers cleared.pairs wrote.pairs
+    let cleared = c.clear_queue_rows.ensures in
+    let wrote = c.write_queue_rows.ensures in
+    follows-freed _ (view_of x) _ (view_of c.promote.new.cell) c.args.waits.now c.clear_queue_rows.new.waits c.write_queue_rows.new.waits (ap view_in t)
+    (view-promoted c.args.claim r c.args.session cs x c.give_up.new.self t c.give_up.ensures.view c.promote.new.cell c.promote.ensures.view) cleared.sessions wrote.sessions cleared.numbers wrote.numbers cleared.pairs wrote.pairs

@@ -1,7 +1,7 @@
 use Rattle.std.proofs.Common.{Option, Some, refl, ap, ◌∙◌, arith}
 use Rattle.lock_desk.specs.declared.cells.Cell.{Cell}
-use Rattle.lock_desk.specs.Tables.{in_use}
-use Rattle.lock_desk.specs.Cells.{Table, view_in, is_nobody}
+use Rattle.lock_desk.specs.inner.Tables.{in_use}
+use Rattle.lock_desk.specs.inner.Cells.{Table, view_in, is_nobody}
 use Rattle.lock_desk.proofs.Results.{to-ok}
 use Rattle.lock_desk.proofs.CellTable.{kept-at}
 use Rattle.lock_desk.proofs.Places.{apart-in_use, cell-within, resource-within, long-still, idle-still, there, wrote-kept, still-at, room-written}
@@ -9,38 +9,38 @@ use Rattle.lock_desk.proofs.cell_table.CellTable.make_room_at.Goals as goal
 
 pub index_mut-cell-requires : goal.index_mut-cell-requires
 index_mut-cell-requires c =
-    let rs = in_use c.self.inside.resources.keys c.self.inside.newcomer in
+    let rs = in_use c.self.inside.resources.keys c.self.inside.has_provisional in
     let e = ap (λ (t : Table). t.entries) c.self.view_is in
     omega (arith, cell-within rs c.self.inside.cells.items c.args.self.now.entries e c.args.resource (Some c.args.place) c.args.place refl c.requires.place, c.self.inside.cells.ok.0)
 
 pub make_room-requires-clause-kept : goal.make_room-requires-clause-kept
 make_room-requires-clause-kept c =
     kept-at c.args.resource c.args.self.now.entries c.index_mut-cell.result.now c.requires.kept
-    (there (in_use c.self.inside.resources.keys c.self.inside.newcomer) c.self.inside.cells.items c.args.self.now.entries (ap (λ (t : Table). t.entries) c.self.view_is) c.args.resource (Some c.args.place) c.args.place refl c.requires.place c.index_mut-cell.result.now c.index_mut-cell.ensures.value)
+    (there (in_use c.self.inside.resources.keys c.self.inside.has_provisional) c.self.inside.cells.items c.args.self.now.entries (ap (λ (t : Table). t.entries) c.self.view_is) c.args.resource (Some c.args.place) c.args.place refl c.requires.place c.index_mut-cell.result.now c.index_mut-cell.ensures.value)
 
 pub make_room-requires-clause-quiet : goal.make_room-requires-clause-quiet
 make_room-requires-clause-quiet c =
     ap (λ (o : Option Cell). is_nobody (view_in o).waiting)
-    (there (in_use c.self.inside.resources.keys c.self.inside.newcomer) c.self.inside.cells.items c.args.self.now.entries (ap (λ (t : Table). t.entries) c.self.view_is) c.args.resource (Some c.args.place) c.args.place refl c.requires.place c.index_mut-cell.result.now c.index_mut-cell.ensures.value)
+    (there (in_use c.self.inside.resources.keys c.self.inside.has_provisional) c.self.inside.cells.items c.args.self.now.entries (ap (λ (t : Table). t.entries) c.self.view_is) c.args.resource (Some c.args.place) c.args.place refl c.requires.place c.index_mut-cell.result.now c.index_mut-cell.ensures.value)
     ∙ c.requires.quiet
 
 pub invariant_of-self : goal.invariant_of-self
 invariant_of-self c = record {
   long = long-still _ _ c.args.place c.make_room.new.self c.self.invariant.long;
-  idle = idle-still _ _ c.args.place c.make_room.new.self (resource-within (in_use c.self.inside.resources.keys c.self.inside.newcomer) c.self.inside.cells.items c.args.self.now.entries (ap (λ (t : Table). t.entries) c.self.view_is) c.args.resource (Some c.args.place) c.args.place refl c.requires.place) c.self.invariant.idle;
+  idle = idle-still _ _ c.args.place c.make_room.new.self (resource-within (in_use c.self.inside.resources.keys c.self.inside.has_provisional) c.self.inside.cells.items c.args.self.now.entries (ap (λ (t : Table). t.entries) c.self.view_is) c.args.resource (Some c.args.place) c.args.place refl c.requires.place) c.self.invariant.idle;
 }
 
 pub returns-clause-same : goal.returns-clause-same
 returns-clause-same c =
-    let t = there (in_use c.self.inside.resources.keys c.self.inside.newcomer) c.self.inside.cells.items c.args.self.now.entries (ap (λ (t : Table). t.entries) c.self.view_is) c.args.resource (Some c.args.place) c.args.place refl c.requires.place c.index_mut-cell.result.now c.index_mut-cell.ensures.value in
-    wrote-kept (in_use c.self.inside.resources.keys c.self.inside.newcomer) c.self.inside.cells.items c.args.self.now.entries (ap (λ (t : Table). t.entries) c.self.view_is) c.args.resource (Some c.args.place) c.args.place refl c.requires.place c.index_mut-cell.result.now c.index_mut-cell.ensures.value c.make_room.new.self
-    (apart-in_use _ c.same_path_is_equality.ensures.code c.self.inside.resources.keys c.self.inside.newcomer c.len-len.ensures.unique) c.self.invariant.long _ c.requires.kept c.make_room.ensures.kept (c.make_room.ensures.view ∙ ap view_in t)
+    let t = there (in_use c.self.inside.resources.keys c.self.inside.has_provisional) c.self.inside.cells.items c.args.self.now.entries (ap (λ (t : Table). t.entries) c.self.view_is) c.args.resource (Some c.args.place) c.args.place refl c.requires.place c.index_mut-cell.result.now c.index_mut-cell.ensures.value in
+    wrote-kept (in_use c.self.inside.resources.keys c.self.inside.has_provisional) c.self.inside.cells.items c.args.self.now.entries (ap (λ (t : Table). t.entries) c.self.view_is) c.args.resource (Some c.args.place) c.args.place refl c.requires.place c.index_mut-cell.result.now c.index_mut-cell.ensures.value c.make_room.new.self
+    (apart-in_use _ c.same_path_is_equality.ensures.code c.self.inside.resources.keys c.self.inside.has_provisional c.len-len.ensures.unique) c.self.invariant.long _ c.requires.kept c.make_room.ensures.kept (c.make_room.ensures.view ∙ ap view_in t)
 
 pub returns-clause-place : goal.returns-clause-place
 returns-clause-place c =
-    still-at (in_use c.self.inside.resources.keys c.self.inside.newcomer) c.self.inside.cells.items c.args.self.now.entries (ap (λ (t : Table). t.entries) c.self.view_is) c.args.resource (Some c.args.place) c.args.place refl c.requires.place c.index_mut-cell.result.now c.index_mut-cell.ensures.value c.make_room.new.self
-    (apart-in_use _ c.same_path_is_equality.ensures.code c.self.inside.resources.keys c.self.inside.newcomer c.len-len.ensures.unique) c.self.invariant.long
+    still-at (in_use c.self.inside.resources.keys c.self.inside.has_provisional) c.self.inside.cells.items c.args.self.now.entries (ap (λ (t : Table). t.entries) c.self.view_is) c.args.resource (Some c.args.place) c.args.place refl c.requires.place c.index_mut-cell.result.now c.index_mut-cell.ensures.value c.make_room.new.self
+    (apart-in_use _ c.same_path_is_equality.ensures.code c.self.inside.resources.keys c.self.inside.has_provisional c.len-len.ensures.unique) c.self.invariant.long
 
 pub returns-clause-room : goal.returns-clause-room
 returns-clause-room c = to-ok c.make_room.result _ _ c.make_room.ensures.room
-    (room-written (in_use c.self.inside.resources.keys c.self.inside.newcomer) c.self.inside.cells.items c.args.self.now.entries (ap (λ (t : Table). t.entries) c.self.view_is) c.args.resource (Some c.args.place) c.args.place refl c.requires.place c.index_mut-cell.result.now c.index_mut-cell.ensures.value c.make_room.new.self c.args.more)
+    (room-written (in_use c.self.inside.resources.keys c.self.inside.has_provisional) c.self.inside.cells.items c.args.self.now.entries (ap (λ (t : Table). t.entries) c.self.view_is) c.args.resource (Some c.args.place) c.args.place refl c.requires.place c.index_mut-cell.result.now c.index_mut-cell.ensures.value c.make_room.new.self c.args.more)

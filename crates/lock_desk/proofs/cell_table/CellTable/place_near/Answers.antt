@@ -1,13 +1,13 @@
 use Rattle.std.proofs.Common.{◌<◌, ◌∙◌, sym, ap, subst, length, arith}
-use Rattle.lock_desk.specs.Tables.{in_use}
-use Rattle.lock_desk.specs.Cells.{Table, IsCellAt}
+use Rattle.lock_desk.specs.inner.Tables.{in_use}
+use Rattle.lock_desk.specs.inner.Cells.{Table, IsCellAt}
 use Rattle.lock_desk.proofs.Places.{length-beside, apart-in_use, in_use-at, found-place}
 use Rattle.lock_desk.proofs.cell_table.CellTable.place_near.Goals as goal
 
 pub returns-then-is_at : goal.returns-then-is_at
 returns-then-is_at c =
     let rs = c.self.inside.resources.keys in
-    let b = c.self.inside.newcomer in
+    let b = c.self.inside.has_provisional in
     let xs = c.self.inside.cells.items in
     let count = sym (ap (λ (t : Table). length t.entries) c.self.view_is) ∙ length-beside (in_use rs b) xs c.self.invariant.long in
     let lt : c.args.likely < length (in_use rs b) = omega (arith, c.if-likely-len.true, c.len.ensures, count) in

@@ -1,13 +1,13 @@
 use Rattle.std.proofs.Common.{◌≡◌, ◌<◌, ◌∙◌, sym, ap, subst, length, arith, Some, None}
-use Rattle.lock_desk.specs.Tables.{in_use}
-use Rattle.lock_desk.specs.Cells.{Table, cell_at, IsPlace}
+use Rattle.lock_desk.specs.inner.Tables.{in_use}
+use Rattle.lock_desk.specs.inner.Cells.{Table, cell_at, IsPlace}
 use Rattle.lock_desk.proofs.Places.{length-beside, apart-in_use, absent, in_use-at, unnamed, named-at, unused-there, found-place}
 use Rattle.lock_desk.proofs.cell_table.CellTable.place_of.Goals as goal
 
 pub returns-in-Some : goal.returns-in-Some
 returns-in-Some c =
     let rs = c.self.inside.resources.keys in
-    let b = c.self.inside.newcomer in
+    let b = c.self.inside.has_provisional in
     let xs = c.self.inside.cells.items in
     let eq-is = c.same_path_is_equality.ensures.code in
     let count = sym (ap (λ (t : Table). length t.entries) c.self.view_is) ∙ length-beside (in_use rs b) xs c.self.invariant.long in
@@ -18,7 +18,7 @@ returns-in-Some c =
 pub returns-in_default : goal.returns-in_default
 returns-in_default c =
     let rs = c.self.inside.resources.keys in
-    let b = c.self.inside.newcomer in
+    let b = c.self.inside.has_provisional in
     let xs = c.self.inside.cells.items in
     let eq-is = c.same_path_is_equality.ensures.code in
     let count = sym (ap (λ (t : Table). length t.entries) c.self.view_is) ∙ length-beside (in_use rs b) xs c.self.invariant.long in
@@ -28,6 +28,6 @@ returns-in_default c =
 pub returns-in_default-2 : goal.returns-in_default-2
 returns-in_default-2 c =
     let rs = c.self.inside.resources.keys in
-    let b = c.self.inside.newcomer in
+    let b = c.self.inside.has_provisional in
     subst (λ (t : Table). cell_at c.args.resource t.entries ≡ None) c.self.view_is
     (absent c.args.resource (in_use rs b) c.self.inside.cells.items c.self.invariant.long (unnamed _ c.same_path_is_equality.ensures.code c.args.resource rs b c.in_default.ensures.found))

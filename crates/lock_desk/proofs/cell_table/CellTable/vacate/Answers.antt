@@ -4,26 +4,26 @@ use Rattle.std.specs.List.{IsDistinct, swap_remove}
 use Rattle.std.specs.Option.{IfSome}
 use Rattle.lock_tree.specs.Paths.{same_path}
 use Rattle.lock_desk.specs.declared.cells.Cell.{Cell}
-use Rattle.lock_desk.specs.Tables.{in_use}
-use Rattle.lock_desk.specs.Cells.{Table, cell_at, view_of}
+use Rattle.lock_desk.specs.inner.Tables.{in_use}
+use Rattle.lock_desk.specs.inner.Cells.{Table, cell_at, view_of}
 use Rattle.lock_desk.proofs.Places.{length-beside, apart-in_use, gone-there, idle-swapped, fewer, still}
 use Rattle.lock_desk.proofs.cell_table.CellTable.vacate.Goals as goal
 
 pub swap-requires-clause-i_in_bounds : goal.swap-requires-clause-i_in_bounds
 swap-requires-clause-i_in_bounds c =
-    let rs = in_use c.self.inside.resources.keys c.self.inside.newcomer in
+    let rs = in_use c.self.inside.resources.keys c.self.inside.has_provisional in
     let count = sym (ap (λ (t : Table). length t.entries) c.self.view_is) ∙ length-beside rs c.self.inside.cells.items c.self.invariant.long in
     omega (arith, c.requires.within, count, c.self.invariant.long, c.self.inside.cells.ok.0)
 
 pub invariant_of-self : goal.invariant_of-self
 invariant_of-self c =
-    let rs = in_use c.self.inside.resources.keys c.self.inside.newcomer in
+    let rs = in_use c.self.inside.resources.keys c.self.inside.has_provisional in
     let xs = c.self.inside.cells.items in
     let e = ap (λ (t : Table). t.entries) c.self.view_is in
     let count = sym (ap (λ (t : Table). length t.entries) c.self.view_is) ∙ length-beside rs xs c.self.invariant.long in
     let lt : c.args.place < length rs = omega (arith, c.requires.within, count) in
-    let fewer-left = fewer rs c.args.place lt c.forget.new.resources.keys c.swap_remove_index-gone.new.self.keys c.forget.new.newcomer c.forget.ensures.keys c.forget.ensures.none _ c.swap_remove_index-gone.ensures.key c.swap_remove_index-gone.ensures.keys in
-    let last = ap (λ n. n - 1) (c.len-last.ensures.len ∙ ap length c.forget.ensures.keys) in
+    let fewer-left = fewer rs c.args.place lt c.drop_provisional.new.resources.keys c.swap_remove_index-gone.new.self.keys c.drop_provisional.new.has_provisional c.drop_provisional.ensures.keys c.drop_provisional.ensures.none _ c.swap_remove_index-gone.ensures.key c.swap_remove_index-gone.ensures.keys in
+    let last = ap (λ n. n - 1) (c.len-last.ensures.len ∙ ap length c.drop_provisional.ensures.keys) in
     let swapped = c.swap.ensures.items ∙ ap (swap xs c.args.place) last in
     record {
       long = omega (arith, fewer-left, ap length swapped, length-swap xs c.args.place (length rs - 1), c.self.invariant.long);
@@ -32,16 +32,16 @@ invariant_of-self c =
 
 pub returns : goal.returns
 returns c =
-    let rs = in_use c.self.inside.resources.keys c.self.inside.newcomer in
+    let rs = in_use c.self.inside.resources.keys c.self.inside.has_provisional in
     let xs = c.self.inside.cells.items in
     let e = ap (λ (t : Table). t.entries) c.self.view_is in
     let count = sym (ap (λ (t : Table). length t.entries) c.self.view_is) ∙ length-beside rs xs c.self.invariant.long in
     let lt : c.args.place < length rs = omega (arith, c.requires.within, count) in
-    let last = ap (λ n. n - 1) (c.len-last.ensures.len ∙ ap length c.forget.ensures.keys) in
+    let last = ap (λ n. n - 1) (c.len-last.ensures.len ∙ ap length c.drop_provisional.ensures.keys) in
     let swapped = c.swap.ensures.items ∙ ap (swap xs c.args.place) last in
-    let apart = subst (IsDistinct same_path) c.forget.ensures.keys (apart-in_use _ c.same_path_is_equality.ensures.code c.forget.new.resources.keys false c.len-last.ensures.unique) in
-    let out = c.swap_remove_index-gone.ensures.key ∙ ap (λ (ks : List (List ℕ)). slice_get ks c.args.place) c.forget.ensures.keys in
-    let after = subst (λ (ks : List (List ℕ)). IfSome c.swap_remove_index-gone.result (λ k. c.swap_remove_index-gone.new.self.keys ≡ swap_remove ks c.args.place k)) c.forget.ensures.keys c.swap_remove_index-gone.ensures.keys in
+    let apart = subst (IsDistinct same_path) c.drop_provisional.ensures.keys (apart-in_use _ c.same_path_is_equality.ensures.code c.drop_provisional.new.resources.keys false c.len-last.ensures.unique) in
+    let out = c.swap_remove_index-gone.ensures.key ∙ ap (λ (ks : List (List ℕ)). slice_get ks c.args.place) c.drop_provisional.ensures.keys in
+    let after = subst (λ (ks : List (List ℕ)). IfSome c.swap_remove_index-gone.result (λ k. c.swap_remove_index-gone.new.self.keys ≡ swap_remove ks c.args.place k)) c.drop_provisional.ensures.keys c.swap_remove_index-gone.ensures.keys in
     record {
-      gone = λ r x at q. ap (cell_at q) (still c.swap_remove_index-gone.new.self.keys c.forget.new.newcomer c.swap.new.self.items c.forget.ensures.none) ∙ gone-there rs xs c.args.self.now.entries e c.self.invariant.long c.args.place lt apart c.swap_remove_index-gone.new.self.keys c.swap.new.self.items c.swap_remove_index-gone.result out after swapped r x at q;
+      gone = λ r x at q. ap (cell_at q) (still c.swap_remove_index-gone.new.self.keys c.drop_provisional.new.has_provisional c.swap.new.self.items c.drop_provisional.ensures.none) ∙ gone-there rs xs c.args.self.now.entries e c.self.invariant.long c.args.place lt apart c.swap_remove_index-gone.new.self.keys c.swap.new.self.items c.swap_remove_index-gone.result out after swapped r x at q;
     }

@@ -1,5 +1,5 @@
 use Rattle.std.proofs.Common.{ap, sym, ◌∙◌}
-use Rattle.lock_desk.specs.Cells.{go_with}
+use Rattle.lock_desk.specs.inner.Cells.{go_with}
 use Rattle.lock_desk.proofs.Rising.{fits-go}
 use Rattle.lock_desk.proofs.cells.Cell.admit.Goals as goal
 

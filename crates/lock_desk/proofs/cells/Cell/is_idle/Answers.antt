@@ -1,11 +1,11 @@
 use Rattle.std.proofs.Common.{◌≡◌, ◌∙◌, ◌&&◌, ℕ, Bool, true, false, not, eqb, List, [], ◌∷◌, length, ap, sym, refl, arith}
 use Rattle.std.specs.Prelude.{◌==◌}
 use Rattle.std.proofs.lemmas.Bool.Decides.{nat_tests}
-use Rattle.lock_desk.specs.Cells.{view_of, is_nobody}
+use Rattle.lock_desk.specs.inner.Cells.{view_of, is_nobody}
 use Rattle.lock_desk.specs.declared.cells.SessionMode.{SessionMode}
 use Rattle.lock_desk.proofs.cells.Cell.is_idle.Goals as goal
 
--- nobody is among none
+-- a list is empty exactly if its length is 0
 none-there : (cs : List SessionMode) → is_nobody cs ≡ eqb (length cs) 0
 none-there [] = refl
 none-there (c ∷ cs) = grind (arith, nat_tests)

@@ -2,7 +2,7 @@ use Rattle.std.proofs.Common.{◌≡◌, ◌+◌, ◌<◌, length, Bool, true, c
 use Rattle.std.proofs.lemmas.List.{drop_more}
 use Rattle.lock_modes.specs.declared.Mode.{Mode}
 use Rattle.lock_desk.specs.declared.cells.SessionMode.{SessionMode}
-use Rattle.lock_desk.specs.Cells.{fits_among, go_with, next_grant}
+use Rattle.lock_desk.specs.inner.Cells.{fits_among, go_with, next_grant}
 use Rattle.lock_desk.proofs.Rising.{go-fits}
 use Rattle.lock_desk.proofs.cells.Cell.next_grant.Goals as goal
 

@@ -2,8 +2,8 @@ use Rattle.std.proofs.Common.{◌≡◌, suc, ◌+◌, ◌-◌, Bool, true, fals
 use Rattle.std.specs.List.{list_any}
 use Rattle.std.proofs.lemmas.List.{take_all, length-drop}
 use Rattle.mode_lanes.specs.Masks.{meets}
-use Rattle.lock_desk.specs.Cells.{go_with}
-use Rattle.lock_desk.specs.Holders.{IsOwn, IsBetween, IsPlaceOf}
+use Rattle.lock_desk.specs.inner.Cells.{go_with}
+use Rattle.lock_desk.specs.inner.Holders.{IsOwn, IsBetween, IsPlaceOf}
 use Rattle.lock_desk.proofs.Columns.{columns-of, meets-goes, goes-before, goes-behind}
 use Rattle.lock_desk.proofs.Rising.{fits-own, fits-between}
 use Rattle.lock_desk.proofs.holder_columns.Columns.fits.Goals as goal

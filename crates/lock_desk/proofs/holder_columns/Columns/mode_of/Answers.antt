@@ -4,8 +4,8 @@ use Rattle.lock_modes.specs.declared.Mode.TheVariants.{NL}
 use Rattle.lock_modes.specs.Codes.{mode_of_code}
 use Rattle.lock_modes.proofs.Codes.{mode_of_code-code}
 use Rattle.lock_desk.specs.declared.cells.SessionMode.{SessionMode}
-use Rattle.lock_desk.specs.Columns.{code_at}
-use Rattle.lock_desk.specs.Holders.{IsOwn}
+use Rattle.lock_desk.specs.inner.Columns.{code_at}
+use Rattle.lock_desk.specs.inner.Holders.{IsOwn}
 use Rattle.lock_desk.proofs.Rising.{mode-own, mode-between}
 use Rattle.lock_desk.proofs.Columns.{columns-of, reads}
 use Rattle.lock_desk.proofs.holder_columns.Columns.mode_of.Goals as goal

@@ -1,6 +1,6 @@
 use Rattle.std.proofs.Common.{◌≡◌, length, ap, sym, ◌∙◌, subst, arith}
 use Rattle.std.proofs.lemmas.List.{get_or_default}
-use Rattle.lock_desk.specs.Columns.{DoRise, AreBelow, AreNotBelow}
+use Rattle.lock_desk.specs.inner.Columns.{DoRise, AreBelow, AreNotBelow}
 use Rattle.lock_desk.proofs.Columns.{columns-of, do-rise, is-own, is-between}
 use Rattle.lock_desk.proofs.holder_columns.Columns.place_of.Goals as goal
 

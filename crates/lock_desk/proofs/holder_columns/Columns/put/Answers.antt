@@ -1,6 +1,6 @@
 use Rattle.std.proofs.Common.{slice_set, subst}
-use Rattle.lock_desk.specs.Cells.{with_holder}
-use Rattle.lock_desk.specs.Holders.{IsOwn, IsBetween, IsPlaceOf}
+use Rattle.lock_desk.specs.inner.Cells.{with_holder}
+use Rattle.lock_desk.specs.inner.Holders.{IsOwn, IsBetween, IsPlaceOf}
 use Rattle.lock_desk.proofs.Rising.{length-with}
 use Rattle.lock_desk.proofs.Columns.{AreOf, beside-as, are-columns, columns-of, set-in, insert-in}
 use Rattle.lock_desk.proofs.holder_columns.Columns.put.Goals as goal

@@ -1,17 +1,13 @@
-use Rattle.std.proofs.Common.{◌∷◌, [], length, length-append, arith, ap}
-use Rattle.lock_desk.specs.Lockers.{locks_to_come}
+use Rattle.std.proofs.Common.{◌∷◌, [], length, length-append, ap, arith}
+use Rattle.lock_desk.specs.inner.Requests.{locks_to_come}
 use Rattle.lock_desk.proofs.LockerStandings.{apart-push}
 use Rattle.lock_desk.proofs.lockers.Locker.hold.Goals as goal
 
-pub returns-clause-kept : goal.returns-clause-kept
-returns-clause-kept c =
+pub invariant_of-self-clause-apart : goal.invariant_of-self-clause-apart
+invariant_of-self-clause-apart c = rw c.push.ensures (apart-push c.args.self.now.held.items c.args.resource c.args.self.now.apart c.requires.new)
+
+pub invariant_of-self-clause-few : goal.invariant_of-self-clause-few
+invariant_of-self-clause-few c =
     let none = ap locks_to_come c.requires.idle in
     let long = ap length c.push.ensures in
-    let more = length-append c.args.self.now.held.items (c.args.resource ∷ []) in
-    record {
-      under = rw c.requires.idle tt;
-      apart = rw c.push.ensures (apart-push c.args.self.now.held.items c.args.resource c.requires.kept.apart c.requires.new);
-      kind = rw c.requires.idle tt;
-      room = omega (arith, none);
-      few = omega (arith, c.requires.few, none, long, more);
-    }
+    omega (arith, c.requires.few, none, long, length-append c.args.self.now.held.items (c.args.resource ∷ []))

@@ -1,6 +1,6 @@
 use Rattle.std.proofs.Common.{subst, arith}
 use Rattle.indexmap.specs.IndexMap.{keys}
-use Rattle.lock_desk.specs.ChildCounts.{AreUnder}
+use Rattle.lock_desk.specs.inner.ChildCounts.{AreUnder}
 use Rattle.lock_desk.proofs.LockLists.{under-pop}
 use Rattle.lock_desk.proofs.locks.Locks.pop.Goals as goal
 
@@ -10,9 +10,9 @@ invariant_of-self c =
     record {
       room = omega (arith, c.in-Some.ensures.len, c.self.invariant.room);
       listed = omega (arith, c.in-Some.ensures.capacity, c.self.invariant.listed);
-      noted = omega (arith, c.recall-likely.ensures.capacity, c.self.invariant.noted);
+      noted = omega (arith, c.pop_hint-likely.ensures.capacity, c.self.invariant.noted);
       indexable = c.self.invariant.indexable;
-      beside = omega (arith, c.in-Some.ensures.len, c.recall-likely.ensures.len, c.self.invariant.beside);
+      beside = omega (arith, c.in-Some.ensures.len, c.pop_hint-likely.ensures.len, c.self.invariant.beside);
       counted = c.self.invariant.counted;
       under = λ st. under-pop (keys a.indexed) c.pop.new.self.items c.in-Some.resource (subst (AreUnder (keys a.indexed)) c.in-Some.ensures.items (c.self.invariant.under st));
     }

@@ -1,6 +1,6 @@
 use Rattle.std.proofs.Common.{ap, sym, subst, arith}
 use Rattle.indexmap.specs.IndexMap.{keys}
-use Rattle.lock_desk.specs.ChildCounts.{LockList, IsUnder}
+use Rattle.lock_desk.specs.inner.ChildCounts.{LockList, IsUnder}
 use Rattle.lock_desk.proofs.LockLists.{under-push}
 use Rattle.lock_desk.proofs.locks.Locks.push.Goals as goal
 

@@ -1,7 +1,7 @@
 use Rattle.std.proofs.Common.{◌≡◌, ◌<◌, ◌++◌, ◌||◌, List, ℕ, [], length, get_or, sym, ◌∙◌, ap, subst, arith}
 use Rattle.indexmap.specs.IndexMap.{keys}
-use Rattle.lock_desk.specs.Cells.{has_path, AreApart}
-use Rattle.lock_desk.specs.ChildCounts.{LockList, has_child}
+use Rattle.lock_desk.specs.inner.Cells.{has_path, AreApart}
+use Rattle.lock_desk.specs.inner.ChildCounts.{LockList, has_child}
 use Rattle.lock_desk.proofs.LockLists.{apart-parts, has_path-append, recent-gone, recent-others, recent-apart, recent-under, indexed-gone, indexed-others, indexed-apart, indexed-under, entry-within, entry-key, keys-long, key-is, not-found}
 use Rattle.lock_desk.proofs.locks.Locks.remove.Goals as goal
 

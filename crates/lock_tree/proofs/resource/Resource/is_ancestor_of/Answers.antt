@@ -8,5 +8,5 @@ returns c =
     let own = c.args.self.now in
     let other = c.args.other.now in
     let front = ancestor-front own other c.numbers-numbers.ensures.resource.some in
-    let is : c.is_front.result ≡ is_ancestor own other = rw (c.is_front.ensures, c.numbers-numbers.ensures.value, c.numbers-others.ensures.value) (sym front) in
+    let is : c.is_proper_prefix.result ≡ is_ancestor own other = rw (c.is_proper_prefix.ensures, c.numbers-numbers.ensures.value, c.numbers-others.ensures.value) (sym front) in
     record { value = is; relation = rw is (ancestor_tests own other) }

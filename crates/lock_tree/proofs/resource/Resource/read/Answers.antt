@@ -1,6 +1,6 @@
 use Rattle.std.proofs.Common.{arith, ◌∙◌, sym, ap, ◌+◌, Option, set, take}
 use Rattle.lock_tree.specs.declared.path_fault.PathFault.{PathFault}
-use Rattle.lock_tree.specs.Text.{first_piece}
+use Rattle.lock_tree.specs.inner.Pieces.{first_piece}
 use Rattle.lock_tree.specs.Numerals.{ok_unless}
 use Rattle.lock_tree.proofs.ByPiece.{IsKept, at_start, one_more, next_piece_is, after_slash_is, read_last, at_end, padded, too_deep}
 use Rattle.lock_tree.proofs.resource.Resource.read.Goals as goal

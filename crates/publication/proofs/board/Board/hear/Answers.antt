@@ -1,9 +1,9 @@
 use Rattle.std.proofs.Common.{rules, ◌≡◌, ◌||◌, ◌≤◌, ℕ, Bool, true, cond, max, get_or, sym, ap, ◌∙◌, subst, arith}
 use Rattle.publication.specs.Rule.{announced}
 use Rattle.publication.specs.Kinds.{Seated, maxes}
-use Rattle.publication.proofs.Records.{announced_both, announced_few}
-use Rattle.publication.specs.Tickets.{IsBetweenCalls}
-use Rattle.publication.proofs.Longer.{longer-length, maxes-at, maxes-wide}
+use Rattle.publication.proofs.RecordStates.{announced_both, announced_few}
+use Rattle.publication.specs.inner.Tickets.{IsBetweenCalls}
+use Rattle.publication.proofs.LongerFronts.{longer-length, maxes-at, maxes-wide}
 use Rattle.publication.proofs.board.Board.hear.Goals as goal
 
 pub invariant_of-ticket : goal.invariant_of-ticket
@@ -25,7 +25,7 @@ invariant_of-ticket c = let a = c.ticket.inside in let b = c.other.inside in let
             listed = t.listed;
             heard_few = omega (arith, at_most, announced_few v.own, ap (λ (x : Bool). cond {A = ℕ} x 1 0) t.pending);
             heard = λ p q. omega (arith, at_most, announced_both v.own (t.pending ∙ p) (t.listed ∙ q), maxes-at v.heard w.heard n, t.heard p q);
-            no_aim = t.no_aim;
+            no_head_seen = t.no_head_seen;
             whole = t.whole;
             routed = t.routed;
             wide = omega (arith, t.wide, wider);

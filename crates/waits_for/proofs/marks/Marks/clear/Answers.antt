@@ -1,6 +1,6 @@
 use Rattle.std.proofs.Common.{◌≡◌, ℕ, List, ◌++◌, length, drop, take, ap, ◌∙◌, arith}
 use Rattle.std.proofs.lemmas.List.{take_at}
-use Rattle.waits_for.specs.Bits.{has_bit}
+use Rattle.waits_for.specs.inner.Bits.{has_bit}
 use Rattle.waits_for.specs.Marks.{is_marked, marked_by}
 use Rattle.waits_for.proofs.BitRows.{bit-all_cleared}
 use Rattle.waits_for.proofs.MarkBits.{marked-none}

@@ -1,6 +1,6 @@
 use Rattle.std.proofs.Common.{◌≡◌, ℕ, ◌<◌, ◌||◌, not, eqb, List, ◌++◌, length, drop, take, sym, ap, ◌∙◌, arith}
 use Rattle.std.proofs.lemmas.List.{take_at}
-use Rattle.waits_for.specs.Bits.{has_bit}
+use Rattle.waits_for.specs.inner.Bits.{has_bit}
 use Rattle.waits_for.specs.Marks.{Marking, is_marked, marked_by}
 use Rattle.waits_for.proofs.MarkBits.{marked-here, marked-more}
 use Rattle.waits_for.proofs.marks.Marks.mark.Goals as goal

@@ -1,5 +1,5 @@
 use Rattle.std.proofs.Common.{◌≡◌, ◌+◌, ◌-◌, ◌<◌, arith}
-use Rattle.waits_for.specs.Bits.{words_for}
+use Rattle.waits_for.specs.inner.Bits.{words_for}
 use Rattle.waits_for.proofs.Places.{pairs_of-row, seen-sessions}
 use Rattle.waits_for.proofs.matrix.Matrix.row.Goals as goal
 

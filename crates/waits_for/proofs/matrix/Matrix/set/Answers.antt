@@ -1,7 +1,7 @@
 use Rattle.std.proofs.Common.{◌≡◌, ℕ, ◌+◌, ◌*◌, ◌<◌, ◌||◌, eqb, List, ◌++◌, length, drop, take, ap, ◌∙◌, arith}
 use Rattle.std.proofs.lemmas.List.{take_at}
 use Rattle.waits_for.specs.Pairs.{pairs_of, seen_by}
-use Rattle.waits_for.specs.Bits.{words_for, has_bit, marked_in}
+use Rattle.waits_for.specs.inner.Bits.{words_for, has_bit, marked_in}
 use Rattle.waits_for.proofs.Places.{pairs_of-set, bit-pair, one-within, past-more, seen-sessions}
 use Rattle.waits_for.proofs.matrix.Matrix.set.Goals as goal
 

@@ -2,12 +2,12 @@ use Rattle.std.proofs.Common.{◌≡◌, ℕ, ◌+◌, ◌-◌, ◌*◌, ◌<◌
 use Rattle.std.proofs.lemmas.Bool.{and_parts}
 use Rattle.std.proofs.lemmas.List.{take_at}
 use Rattle.waits_for.specs.Pairs.{is_met, pairs_of, seen_by}
-use Rattle.waits_for.specs.Bits.{words_for, has_bit, marked_in}
+use Rattle.waits_for.specs.inner.Bits.{words_for, has_bit, marked_in}
 use Rattle.waits_for.proofs.NumbersMet.{met-within}
 use Rattle.waits_for.proofs.Places.{pairs_of-came, bit-came, past-more, seen-sessions}
 use Rattle.waits_for.proofs.matrix.Matrix.set_met.Goals as goal
 
--- those that come are sessions
+-- The sessions that are added are at positions below the number of sessions.
 others-within : (t mask m : ℕ) (ns cs : List ℕ) → ((k : ℕ) → k < length ns → (1 ≤ get_or ns k 0) × (get_or ns k 0 ≤ m)) → (u : ℕ) → (not (eqb u t) && is_met mask u ns cs) ≡ true → u < m
 others-within t mask m ns cs all u h = met-within mask m ns cs (λ k lt. (all k lt).1) u (and_parts (not (eqb u t)) (is_met mask u ns cs) h).1
 

@@ -9,7 +9,7 @@ invariant_of-result c =
       omega (arith, m, c.in_ok-waiting.ensures.len, c.words_for.ensures),
       λ t u h. absurd (false≢true (sym (none t u) ∙ h)),
       omega (arith, m, c.in_ok-reached.ensures.len, c.words_for-2.ensures),
-      omega (arith, m, c.in_ok-looked_at.ensures.len, c.words_for-3.ensures),
+      omega (arith, m, c.in_ok-expanded.ensures.len, c.words_for-3.ensures),
       omega (arith, m, c.in_ok-circle.ensures.len, c.words_for-4.ensures),
     )
 

@@ -1,6 +1,6 @@
 use Rattle.std.proofs.Common.{◌≡◌, length, drop, ◌∙◌}
 use Rattle.std.proofs.lemmas.List.{take_at}
-use Rattle.waits_for.specs.Bits.{has_bit}
+use Rattle.waits_for.specs.inner.Bits.{has_bit}
 use Rattle.waits_for.proofs.rows.Rows.reaches.Goals as goal
 
 pub returns-clause-walk : goal.returns-clause-walk

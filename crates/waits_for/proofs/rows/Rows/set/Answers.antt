@@ -1,12 +1,12 @@
 use Rattle.std.proofs.Common.{◌≡◌, ℕ, inl, inr, ◌||◌, ◌&&◌, eqb, Bool, List, ◌++◌, length, drop, take, ap, ◌∙◌, sym}
 use Rattle.std.proofs.lemmas.Bool.{or_cases, or_left, or_right, and_parts}
 use Rattle.std.proofs.lemmas.List.{take_at}
-use Rattle.waits_for.specs.Bits.{words_for, has_bit}
+use Rattle.waits_for.specs.inner.Bits.{words_for, has_bit}
 use Rattle.waits_for.specs.Pairs.{pairs_of}
-use Rattle.waits_for.specs.Search.{HasAllWaiting}
+use Rattle.waits_for.specs.inner.Search.{HasAllWaiting}
 use Rattle.waits_for.proofs.rows.Rows.set.Goals as goal
 
--- with one pair more, and its first session marked as one that waits, all that wait are marked
+-- If the edge from t to u is added and t is marked as waiting, every session that waits for a session is marked.
 waiting-more : (old new : ℕ → ℕ → Bool) (w v : List ℕ) (t u : ℕ) → HasAllWaiting old w → ((a b : ℕ) → new a b ≡ (old a b || (eqb a t && eqb b u))) → ((j : ℕ) → has_bit v j ≡ (has_bit w j || eqb j t)) → HasAllWaiting new v
 waiting-more old new w v t u all more one a b h = one a ∙ elim (or_cases (old a b) (eqb a t && eqb b u) (sym (more a b) ∙ h)) [
   | inl was ↦ or_left (has_bit w a) (eqb a t) (all a b was)

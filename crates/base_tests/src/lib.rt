@@ -1,0 +1,18 @@
+//! Tests of the public calls of the crates below the lock table, for what no contract says: examples worked out by hand, and
+//! each call once with success.
+#![tactic(auto)]
+
+#[cfg(test)]
+mod histories;
+#[cfg(test)]
+mod lanes;
+#[cfg(test)]
+mod modes;
+#[cfg(test)]
+mod resources;
+#[cfg(test)]
+mod rules;
+#[cfg(test)]
+mod traces;
+#[cfg(test)]
+mod waits;

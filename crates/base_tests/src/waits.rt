@@ -1,0 +1,130 @@
+//! The waits-for rows of `waits_for`: reachability, cycles, and the youngest session on a cycle.
+
+ghost use Rattle.std.specs.Prelude.{◌≡◌, ◌<◌, ◌≤◌, IfOk, length};
+
+use std::alloc::Global;
+use std::process::Abort;
+use std::test::Fail;
+use waits_for::{MAX_SESSIONS, Rows};
+
+/// Returns a different age for each position, rising, so that the last position is the youngest.
+fn rising_ages() -> [u64; 256]
+    ensures { length result ≡ 256 }
+{
+    let mut ages = [0; 256];
+    for (position, age) in ages.iter_mut().enumerate() {
+        *age = position as u64 + 1;
+    }
+    ages
+}
+
+/// Returns the rows of 130 sessions with four edges: a cycle of three sessions, and an edge from its youngest session to a
+/// session that doesn't wait.
+fn four_edges(alloc: Global) -> Result<Rows, Fail>
+    ensures { IfOk result (λ rows. rows.sessions ≡ 130) }
+{
+    let mut rows = Rows::new(alloc, 130)?;
+    rows.set(0, 64);
+    rows.set(64, 128);
+    rows.set(128, 0);
+    rows.set(128, 129);
+    Ok(rows)
+}
+
+/// Expects the cycle, and one session that it reaches outside it.
+fn want_one_cycle(rt: &impl Abort, rows: &mut Rows)
+    requires { rows.old.sessions ≡ 130 }
+    ensures { rows.new.sessions ≡ 130 }
+{
+    assert_eq!(rt; rows.sessions(), 130);
+    assert!(rt; rows.reaches(0, 0));
+    assert!(rt; rows.reaches(0, 129));
+    assert!(rt; !rows.reaches(129, 0));
+    assert!(rt; rows.on_circle(0));
+    assert!(rt; !rows.on_circle(129));
+}
+
+/// Expects the youngest session on the cycle by these ages, position 0 if all ages are equal, and none off the cycle.
+fn want_youngest(rt: &impl Abort, rows: &mut Rows, ages: &[u64])
+    requires sessions { rows.old.sessions ≡ 130 }
+    requires ages { length ages.now ≡ 130 }
+    ensures { rows.new.sessions ≡ 130 }
+{
+    assert_eq!(rt; rows.youngest_on_circle(0, ages), Some(128));
+    assert_eq!(rt; rows.youngest_on_circle(0, &[7; 130]), Some(0));
+    assert_eq!(rt; rows.youngest_on_circle(129, ages), None);
+}
+
+/// A cycle across the words of a row is found, and is gone when one row is cleared.
+#[test]
+fn a_cycle_of_three_among_130_sessions(rt: HostRuntime) -> Result<(), Fail> {
+    let mut rows = four_edges(rt.alloc())?;
+    want_one_cycle(&rt, &mut rows);
+    let ages = rising_ages();
+    let ages = &ages[..rows.sessions() as usize];
+    want_youngest(&rt, &mut rows, ages);
+    rows.clear_row(64);
+    assert_eq!(rt; rows.youngest_on_circle(0, ages), None);
+    Ok(())
+}
+
+/// Expects a chain of edges from position 0 to `last`, and no cycle.
+fn want_chain(rt: &impl Abort, rows: &mut Rows, last: usize)
+    requires { last < rows.old.sessions }
+    ensures { rows.new.sessions ≡ rows.old.sessions }
+{
+    assert!(rt; rows.reaches(0, last), "{last}");
+    assert!(rt; !rows.reaches(last, 0), "{last}");
+    assert!(rt; !rows.on_circle(0), "{last}");
+}
+
+/// Adds the edge that closes the chain to a cycle, and expects `last` to be the youngest on it.
+fn want_closed(rt: &impl Abort, rows: &mut Rows, ages: &[u64], last: usize)
+    requires last { last < rows.old.sessions }
+    requires ages { length ages.now ≡ rows.old.sessions }
+    ensures { rows.new.sessions ≡ rows.old.sessions }
+{
+    rows.set(last, 0);
+    assert!(rt; rows.reaches(last, 0), "{last}");
+    assert!(rt; rows.on_circle(last), "{last}");
+    assert_eq!(rt; rows.youngest_on_circle(0, ages), Some(last), "{last}");
+}
+
+/// Builds a chain of `members` sessions, closes it to a cycle, and opens the cycle again.
+fn closes_a_chain(rt: &impl Abort, alloc: Global, members: u16) -> Result<(), Fail>
+    requires two { 2 ≤ members }
+    requires few { members ≤ MAX_SESSIONS }
+{
+    let ages = rising_ages();
+    let ages = &ages[..members as usize];
+    let last = members as usize - 1;
+    let mut rows = Rows::new(alloc, members)?;
+    for t in 0..last {
+        rows.set(t, t + 1);
+    }
+    want_chain(rt, &mut rows, last);
+    want_closed(rt, &mut rows, ages, last);
+    rows.clear_row(last);
+    assert_eq!(rt; rows.youngest_on_circle(0, ages), None, "{members}");
+    Ok(())
+}
+
+/// Cycles of all sessions, around the length of a word and at the greatest number of sessions.
+#[test]
+fn cycles_of_2_to_256_sessions(rt: HostRuntime) -> Result<(), Fail> {
+    closes_a_chain(&rt, rt.alloc(), 2)?;
+    closes_a_chain(&rt, rt.alloc(), 64)?;
+    closes_a_chain(&rt, rt.alloc(), 65)?;
+    closes_a_chain(&rt, rt.alloc(), MAX_SESSIONS)
+}
+
+/// An edge from a session to itself is a cycle.
+#[test]
+fn a_session_that_waits_for_itself_is_on_a_cycle(rt: HostRuntime) -> Result<(), Fail> {
+    let mut rows = Rows::new(rt.alloc(), 1)?;
+    assert!(rt; !rows.on_circle(0));
+    rows.set(0, 0);
+    assert!(rt; rows.on_circle(0));
+    assert_eq!(rt; rows.youngest_on_circle(0, &[0]), Some(0));
+    Ok(())
+}

@@ -1,0 +1,115 @@
+-- The request of a parsed command, from its options up to the words: at most one, and when there is none.
+use Rattle.std.proofs.Common.{rules, arith, ap, ap₂, refl, subst, sym, ◌≡◌, ◌≢◌, ◌∙◌, ◌<◌, ◌≤◌, ◌^◌, ℕ, List, [], Option, Some, None, codes}
+use Rattle.std.specs.Prelude.{Ok, Err, IfSome, IfNone, decimal}
+use Rattle.std.proofs.lemmas.Fmt.{decimal_injective}
+use Rattle.clap.specs.Simple.{subcommand_of}
+use Rattle.clap.specs.Walk.{Row, Text, first_of}
+use Rattle.lock_tree.specs.Numerals.{reading_of_numeral}
+use Rattle.lock_tree.specs.declared.numeral.NumeralFault.{NumeralFault}
+use Rattle.glm.proofs.Gives.{numeral_not_given}
+use Rattle.lock_rules.specs.declared.calls.TheConstants.{MAX_SESSIONS}
+use Rattle.glm.specs.declared.args.TheConstants.{MAX_TURNS}
+use Rattle.glm.specs.declared.args.Request.{Request}
+use Rattle.glm.specs.declared.args.Request.TheVariants as request
+use Rattle.glm.specs.CommandLine.{Ask, Gives, IsRequest, IsRequestIn, faults_of, glm_command}
+
+-- no request is in the options if they give no number of sessions
+pub no_sessions : (name : Text) (rows : List Row) → ((n : ℕ) → ¬ Gives (codes "sessions") MAX_SESSIONS rows n)
+    → (asked : Request) → ¬ IsRequest (Some (name, rows)) asked
+no_sessions name rows none (request.Replay n) is = none n is.1
+no_sessions name rows none (request.Run n t) is = none n is.1
+no_sessions name rows none (request.Check n) is = none n is.1
+
+-- no request is in the options of `run` if they give no number of turns
+pub no_turns : (name : Text) (rows : List Row) → name ≡ codes "run" → ((n : ℕ) → ¬ Gives (codes "turns") MAX_TURNS rows n)
+    → (asked : Request) → ¬ IsRequest (Some (name, rows)) asked
+no_turns name rows run none (request.Replay n) is = let bad : codes "run" ≡ codes "replay" = sym run ∙ is.0 in cc
+no_turns name rows run none (request.Run n t) is = none t is.2
+no_turns name rows run none (request.Check n) is = let bad : codes "run" ≡ codes "check" = sym run ∙ is.0 in cc
+
+-- no request has a name other than `replay`, `run` and `check`
+pub no_name : (name : Text) (rows : List Row) → name ≢ codes "replay" → name ≢ codes "run" → name ≢ codes "check"
+    → (asked : Request) → ¬ IsRequest (Some (name, rows)) asked
+no_name name rows replay run check (request.Replay n) is = replay is.0
+no_name name rows replay run check (request.Run n t) is = run is.0
+no_name name rows replay run check (request.Check n) is = check is.0
+
+-- the text of the option `--sessions` of the command that was found
+abbrev pub sessions_text : Option (Text × List Row) → Option Text
+sessions_text None = None
+sessions_text (Some found) = first_of (codes "sessions") found.1
+
+-- no request is in a command whose `--sessions` isn't read as a number
+pub no_such_sessions : (found : Option (Text × List Row)) (text : Text) (fault : NumeralFault) → sessions_text found ≡ Some text
+    → reading_of_numeral MAX_SESSIONS text ≡ Err fault → (asked : Request) → ¬ IsRequest found asked
+no_such_sessions None text fault is wrong asked h = h
+no_such_sessions (Some found) text fault is wrong asked h =
+    no_sessions found.0 found.1 (numeral_not_given _ text MAX_SESSIONS found.1 (omega arith) is (λ m read some. let bad : Ok m ≡ Err fault = sym read ∙ wrong in cc)) asked h
+
+-- an option gives at most one number
+pub gives-one : (option : Text) (greatest : ℕ) (rows : List Row) (m n : ℕ) → greatest < 2 ^ 64
+    → Gives option greatest rows m → Gives option greatest rows n → m ≡ n
+gives-one option greatest rows m n lt a b =
+    let same : Some (decimal m) ≡ Some (decimal n) = sym a.given ∙ b.given in
+    let text : decimal m ≡ decimal n = cc in
+    decimal_injective m n (omega (arith, a.few, lt)) (omega (arith, b.few, lt)) text
+
+-- `--sessions` gives at most one number
+sessions-one : (rows : List Row) (m n : ℕ) → Gives (codes "sessions") MAX_SESSIONS rows m → Gives (codes "sessions") MAX_SESSIONS rows n → m ≡ n
+sessions-one rows m n = gives-one _ _ rows m n (omega arith)
+
+-- `--turns` gives at most one number
+turns-one : (rows : List Row) (m n : ℕ) → Gives (codes "turns") MAX_TURNS rows m → Gives (codes "turns") MAX_TURNS rows n → m ≡ n
+turns-one rows m n = gives-one _ _ rows m n (omega arith)
+
+-- a name with its options is at most one request
+one-in : (name : Text) (rows : List Row) (r q : Request) → IsRequestIn name rows r → IsRequestIn name rows q → r ≡ q
+one-in name rows (request.Replay m) (request.Replay n) a b = ap (λ k. request.Replay k) (sessions-one rows m n a.1 b.1)
+one-in name rows (request.Replay m) (request.Run n t) a b = let bad : codes "replay" ≡ codes "run" = sym a.0 ∙ b.0 in cc
+one-in name rows (request.Replay m) (request.Check n) a b = let bad : codes "replay" ≡ codes "check" = sym a.0 ∙ b.0 in cc
+one-in name rows (request.Run m u) (request.Replay n) a b = let bad : codes "run" ≡ codes "replay" = sym a.0 ∙ b.0 in cc
+one-in name rows (request.Run m u) (request.Run n t) a b =
+    ap₂ (λ k l. request.Run k l) (sessions-one rows m n a.1 b.1) (turns-one rows u t a.2 b.2)
+one-in name rows (request.Run m u) (request.Check n) a b = let bad : codes "run" ≡ codes "check" = sym a.0 ∙ b.0 in cc
+one-in name rows (request.Check m) (request.Replay n) a b = let bad : codes "check" ≡ codes "replay" = sym a.0 ∙ b.0 in cc
+one-in name rows (request.Check m) (request.Run n t) a b = let bad : codes "check" ≡ codes "run" = sym a.0 ∙ b.0 in cc
+one-in name rows (request.Check m) (request.Check n) a b = ap (λ k. request.Check k) (sessions-one rows m n a.1 b.1)
+
+-- a command that was found is at most one request
+pub one_request : (found : Option (Text × List Row)) (r q : Request) → IsRequest found r → IsRequest found q → r ≡ q
+one_request None r q a b = absurd a
+one_request (Some found) r q a b = one-in found.0 found.1 r q a b
+
+-- a command that was found is a replay of at most one number of sessions
+pub one_replay : (found : Option (Text × List Row)) (m n : ℕ) → IsRequest found (request.Replay m) → IsRequest found (request.Replay n) → m ≡ n
+one_replay None m n a b = absurd a
+one_replay (Some found) m n a b = sessions-one found.1 m n a.1 b.1
+
+-- a request in the name and options is a request in the parsed command
+pub requests_moved : (found : Option (Text × List Row)) (name : Text) (rows : List Row) (r : Option Request) → found ≡ Some (name, rows)
+    → IfSome r (IsRequest (Some (name, rows))) → IfSome r (IsRequest found)
+requests_moved found name rows r is h = subst (λ (f : Option (Text × List Row)). IfSome r (IsRequest f)) (sym is) h
+
+-- no request in the name and options means no request in the parsed command
+pub no_requests_moved : (found : Option (Text × List Row)) (name : Text) (rows : List Row) (r : Option Request) → found ≡ Some (name, rows)
+    → IfNone r ((asked : Request) → ¬ IsRequest (Some (name, rows)) asked) → IfNone r ((asked : Request) → ¬ IsRequest found asked)
+no_requests_moved found name rows r is h = subst (λ (f : Option (Text × List Row)). IfNone r ((asked : Request) → ¬ IsRequest f asked)) (sym is) h
+
+-- no request is in words without a command
+pub no_command : (found : Option (Text × List Row)) → found ≡ None → (asked : Request) → ¬ IsRequest found asked
+no_command None is asked h = h
+no_command (Some p) is asked h = cc
+
+-- words without an error ask for the request of their command
+pub words_ask : (words : List Text) (found : Option (Text × List Row)) (r : Option Request) → faults_of words ≡ [] → found ≡ subcommand_of glm_command words
+    → IfSome r (IsRequest found) → IfSome r (Ask words)
+words_ask words found None whole is h = search rules
+words_ask words found (Some asked) whole is h =
+    record { whole = whole; request_is = subst (λ (f : Option (Text × List Row)). IsRequest f asked) is h }
+
+-- words ask for nothing if no request is in their command
+pub words_ask_nothing : (words : List Text) (found : Option (Text × List Row)) (r : Option Request) → found ≡ subcommand_of glm_command words
+    → IfNone r ((asked : Request) → ¬ IsRequest found asked) → IfNone r ((asked : Request) → ¬ Ask words asked)
+words_ask_nothing words found (Some asked) is h = search rules
+words_ask_nothing words found None is h =
+    λ asked ask. h asked (subst (λ (f : Option (Text × List Row)). IsRequest f asked) (sym is) ask.request_is)

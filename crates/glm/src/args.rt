@@ -1,0 +1,215 @@
+//! The command-line arguments: the parser's commands and options, and the command that the words ask for.
+
+ghost use Rattle.std.specs.Prelude.{◌≡◌, ◌<◌, ◌≤◌, ℕ, false, List, Some, None, codes, option_map, IfOk, IfSome, IfNone};
+ghost use Rattle.clap.specs.Kinds.{FailsBy};
+ghost use Rattle.clap.specs.Matches.{found_of};
+ghost use Rattle.clap.specs.Simple.{app_of, subcommand_of, subcommand_rows_of, with_rule};
+ghost use Rattle.clap.specs.Values.{kind_of};
+ghost use Rattle.clap.specs.Walk.{first_of, rows_of, rule_of, texts};
+ghost use Rattle.clap.specs.declared.builder.command.Command.TheViews.{out-Command as fields_of};
+ghost use Rattle.lock_rules.specs.declared.calls.TheConstants.{MAX_SESSIONS};
+ghost use Rattle.glm.specs.declared.args.Request.{Request as RequestValue};
+ghost use Rattle.glm.specs.CommandLine.{Ask, Gives, IsRequest, command_for_sessions, faults_of, glm_command, sessions_option, turns_option};
+
+use crate::texts::{ABOUT_CHECK, ABOUT_REPLAY, ABOUT_RUN, STATUSES, VERSION};
+use clap::{Arg, ArgMatches, Command, Error, value_parser};
+use lock_rules::MAX_SESSIONS;
+use lock_tree::parse_numeral;
+use std::alloc::{AllocError, Global};
+
+/// The greatest value of `--turns`: tries for the answer to one call.
+pub const MAX_TURNS: u32 = 1_000_000_000;
+
+/// A command that the words ask for, with its numbers.
+#[derive(Clone, Copy, Debug, Drop, PartialEq, Eq)]
+pub(crate) enum Request {
+    /// Replay a trace; holds the number of sessions.
+    Replay(u16),
+    /// Run a trace on threads; holds the number of sessions, and the greatest number of tries for each answer.
+    Run(u16, u32),
+    /// Check a history; holds the number of sessions.
+    Check(u16),
+}
+
+/// Defines the option `--sessions N`, which every command has.
+fn sessions_arg<'a>(alloc: Global) -> Arg<'a>
+    ensures rule { rule_of result ≡ sessions_option }
+    ensures own { result.global ≡ false }
+{
+    Arg::new(alloc, "sessions")
+        .long("sessions")
+        .value_name("N")
+        .help("How many sessions there are, 1 to 256")
+        .value_parser(value_parser!(u32).range(1..=i64::from(MAX_SESSIONS)))
+        .default_value("256")
+}
+
+/// Defines the option `--turns T`, which `run` has.
+fn turns_arg<'a>(alloc: Global) -> Arg<'a>
+    ensures rule { rule_of result ≡ turns_option }
+    ensures own { result.global ≡ false }
+{
+    Arg::new(alloc, "turns")
+        .long("turns")
+        .value_name("T")
+        .help("How often a session tries for one answer at most, 1 to 1000000000")
+        .value_parser(value_parser!(u32).range(1..=i64::from(MAX_TURNS)))
+        .default_value("1000000000")
+}
+
+/// Defines a command with the option `--sessions`. `about` is its line in the list of commands, and `long_about` the
+/// beginning of its own help. Fails if memory is refused.
+fn command_of<'a>(
+    alloc: Global,
+    name: &'a str,
+    about: &'a str,
+    long_about: &'a str,
+) -> Result<Command<'a>, AllocError>
+    ensures app { IfOk result (λ command. app_of command ≡ command_for_sessions name.now) }
+    ensures own { IfOk result (λ command. (fields_of command).has_globals ≡ false) }
+{
+    Command::new(alloc, name)
+        .about(about)
+        .long_about(long_about)
+        .after_help(STATUSES)
+        .arg(sessions_arg(alloc))
+}
+
+/// Defines the command `run`. Fails if memory is refused.
+fn run_command<'a>(alloc: Global) -> Result<Command<'a>, AllocError>
+    ensures app { IfOk result (λ command. app_of command ≡ with_rule (command_for_sessions (codes "run")) turns_option) }
+    ensures own { IfOk result (λ command. (fields_of command).has_globals ≡ false) }
+{
+    let run = command_of(
+        alloc,
+        "run",
+        "Performs a trace from standard input on threads, one for each session, and writes the history",
+        ABOUT_RUN,
+    )?;
+    run.arg(turns_arg(alloc))
+}
+
+/// Defines the program's commands and their options. Fails if memory is refused.
+fn commands<'a>(alloc: Global) -> Result<Command<'a>, AllocError>
+    ensures { IfOk result (λ command. app_of command ≡ glm_command) }
+{
+    let replay = command_of(
+        alloc,
+        "replay",
+        "Serves a trace from standard input on one thread and writes its history",
+        ABOUT_REPLAY,
+    )?;
+    let run = run_command(alloc)?;
+    let check = command_of(
+        alloc,
+        "check",
+        "Says whether a history from standard input is legal",
+        ABOUT_CHECK,
+    )?;
+    Command::new(alloc, "glm")
+        .about("Granular locks for databases")
+        .version(VERSION)
+        .after_help(STATUSES)
+        .subcommand_required(true)
+        .subcommand(replay)?
+        .subcommand(run)?
+        .subcommand(check)
+}
+
+/// Parses the words by the program's commands. Fails as the parser does, for help and the version too.
+fn parse<'a>(alloc: Global, words: &'a [&'a str]) -> Result<ArgMatches<'a>, Error>
+    ensures fails { FailsBy (faults_of (texts words.entry.now)) result }
+    ensures rows { IfOk result (λ matches. subcommand_rows_of matches ≡ subcommand_of glm_command (texts words.entry.now)) }
+{
+    commands(alloc)?.try_get_matches_from(words)
+}
+
+/// Returns the name of the command in the matches and the matches of its options, or `None` if there is no command.
+fn found_command<'m, 'a>(matches: &'m ArgMatches<'a>) -> Option<(&'a str, &'m ArgMatches<'a>)>
+    ensures some { IfSome result (λ found. subcommand_rows_of matches.now ≡ Some (found.0.now, rows_of (found_of found.1.now))) }
+    ensures none { IfNone result (subcommand_rows_of matches.now ≡ None) }
+{
+    matches.subcommand()
+}
+
+/// Returns the text of an option, or `None` if the option has none.
+fn option_text<'a>(given: &ArgMatches<'a>, option: &str) -> Option<&'a str>
+    ensures { option_map (λ text. text.now) result ≡ first_of option.now (rows_of (found_of given.now)) }
+{
+    given.get_str(option)
+}
+
+/// Returns the number of an option, if it is between 1 and `greatest` and written in digits without a leading zero.
+fn option_number(given: &ArgMatches, option: &str, greatest: u32) -> Option<u32>
+    ensures some { IfSome result (Gives option.now greatest (rows_of (found_of given.now))) }
+    ensures none { IfNone result ((number : ℕ) → ¬ (Gives option.now greatest (rows_of (found_of given.now)) number)) }
+{
+    let Some(text) = option_text(given, option) else {
+        return None;
+    };
+    match parse_numeral(text.as_bytes(), u64::from(greatest)) {
+        // the parser has already tested the range, but takes a sign and leading zeros
+        Ok(number) if 0 < number => Some(number as u32),
+        _ => None,
+    }
+}
+
+/// Returns the number of sessions of a command, or `None` if it isn't a valid number.
+fn option_sessions(given: &ArgMatches) -> Option<u16>
+    ensures some { IfSome result (Gives (codes "sessions") MAX_SESSIONS (rows_of (found_of given.now))) }
+    ensures none { IfNone result ((number : ℕ) → ¬ (Gives (codes "sessions") MAX_SESSIONS (rows_of (found_of given.now)) number)) }
+{
+    match option_number(given, "sessions", MAX_SESSIONS as u32) {
+        Some(sessions) => Some(sessions as u16),
+        None => None,
+    }
+}
+
+/// Returns the request of the command `name` with the options `given`, or `None` if there is no such command or a number
+/// isn't valid.
+#[tactic(auto, using(crate::proofs::Ask::no_sessions, crate::proofs::Ask::no_turns, crate::proofs::Ask::no_name))]
+fn request_named(name: &str, given: &ArgMatches) -> Option<Request>
+    ensures some { IfSome result (IsRequest (Some (name.now, rows_of (found_of given.now)))) }
+    ensures none { IfNone result ((asked : RequestValue) → ¬ (IsRequest (Some (name.now, rows_of (found_of given.now))) asked)) }
+{
+    let Some(sessions) = option_sessions(given) else {
+        return None;
+    };
+    if name == "replay" {
+        return Some(Request::Replay(sessions));
+    }
+    if name == "run" {
+        let Some(turns) = option_number(given, "turns", MAX_TURNS) else {
+            return None;
+        };
+        return Some(Request::Run(sessions, turns));
+    }
+    if name == "check" {
+        return Some(Request::Check(sessions));
+    }
+    None
+}
+
+/// Returns the request in the matches, or `None` if there is no command or a number isn't valid.
+#[tactic(auto, using(crate::proofs::Ask::requests_moved, crate::proofs::Ask::no_requests_moved, crate::proofs::Ask::no_command))]
+fn found_request(matches: &ArgMatches) -> Option<Request>
+    ensures some { IfSome result (IsRequest (subcommand_rows_of matches.now)) }
+    ensures none { IfNone result ((asked : RequestValue) → ¬ (IsRequest (subcommand_rows_of matches.now) asked)) }
+{
+    match found_command(matches) {
+        Some((name, given)) => request_named(name, given),
+        None => None,
+    }
+}
+
+/// Parses the words. Returns the request, or `None` if the words ask for no command with valid numbers. The error is the
+/// parser's; help and the version are among its errors.
+#[tactic(auto, using(crate::proofs::Ask::words_ask, crate::proofs::Ask::words_ask_nothing))]
+pub(crate) fn request_of<'a>(alloc: Global, words: &'a [&'a str]) -> Result<Option<Request>, Error>
+    ensures fails { FailsBy (faults_of (texts words.entry.now)) result }
+    ensures some { IfOk result (λ asked. IfSome asked (Ask (texts words.entry.now))) }
+    ensures none { IfOk result (λ asked. IfNone asked ((request : RequestValue) → ¬ (Ask (texts words.entry.now) request))) }
+{
+    let matches = parse(alloc, words)?;
+    Ok(found_request(&matches))
+}

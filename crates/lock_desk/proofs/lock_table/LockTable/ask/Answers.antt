@@ -1,0 +1,39 @@
+use Rattle.std.proofs.Common.{◌+◌, ◌∙◌, Bool, false, inl, inr, vec_len, ap, arith, subst}
+use Rattle.std.proofs.lemmas.Bool.{cases_Bool}
+use Rattle.lock_rules.specs.Step.{target_of, is_held}
+use Rattle.lock_desk.specs.inner.Cells.{is_granted}
+use Rattle.lock_desk.specs.inner.Changes.{mode_held, HasAsked}
+use Rattle.lock_desk.proofs.AfterStep.{first_state}
+use Rattle.lock_desk.proofs.Simulation.{granted-answer, waits-shown_first, waits-sound, waits-numbered, waits-answer}
+use Rattle.lock_desk.proofs.FewRequests.{few-waits}
+use Rattle.lock_desk.proofs.lock_table.LockTable.ask.Goals as goal
+
+pub returns-in-Granted-clause-ask : goal.returns-in-Granted-clause-ask
+returns-in-Granted-clause-ask c = λ st i j h.
+    let d = c.args.self.now in
+    let s = c.args.session in
+    let r = c.args.resource in
+    let m = c.target_of-target.result in
+    granted-answer d c.request.new.self st s r c.args.mode m c.requires.whole i h c.requires.may (c.target_of-target.ensures ∙ ap (λ o. target_of o c.args.mode) c.requires.held)
+    (λ y. (c.in_ok-request.ensures.held y).1)
+    (λ n. subst (λ (b : Bool). HasAsked s r c.target_of-target.result b c.args.self.now c.request.new.self) (ap is_granted c.in-Granted.is) (c.in_ok-request.ensures.asked n))
+
+pub returns-in-Waiting-clause-ask : goal.returns-in-Waiting-clause-ask
+returns-in-Waiting-clause-ask c = λ st i j h.
+    let d = c.args.self.now in
+    let s = c.args.session in
+    let r = c.args.resource in
+    let m = c.target_of-target.result in
+    let target = c.target_of-target.ensures ∙ ap (λ o. target_of o c.args.mode) c.requires.held in
+    elim (cases_Bool (is_held (mode_held c.args.self.now c.args.session c.args.resource) c.target_of-target.result)) [
+      | inl y ↦ absurd (let a = (c.in_ok-request.ensures.held y).0 in let b = ap is_granted c.in-Waiting.is in cc)
+      | inr n ↦
+          let k = subst (λ (b : Bool). HasAsked c.args.session c.args.resource c.target_of-target.result b c.args.self.now c.request.new.self) (ap is_granted c.in-Waiting.is) (c.in_ok-request.ensures.asked n) in
+          let sound = waits-sound d c.request.new.self st s r c.args.mode m c.requires.whole i h c.requires.may target n k in
+          let first = waits-shown_first d c.request.new.self st s r c.args.mode m c.requires.whole i h c.requires.may target n k in
+          let numbered = waits-numbered d c.request.new.self st s r c.args.mode m c.requires.whole i h c.requires.may target n k j in
+          let long = c.requires.ready.long in
+          let few = few-waits c.request.new.self (first_state st s r m false) c.request.ensures.kept.whole sound first c.args.self.now.waits.rows.sessions (omega (arith, long, c.request.ensures.kept.lockers, c.request.new.self.lockers.ok.0)) in
+          waits-answer d c.request.new.self st s r c.args.mode m c.requires.whole i h c.requires.may target n k (vec_len c.request.new.self.lockers + 1) c.resolve_deadlocks.new.self
+          (omega (arith, few, long, c.request.ensures.kept.lockers)) c.resolve_deadlocks.ensures.whole (c.resolve_deadlocks.ensures.settled (first_state st s r m false) sound numbered first) c.standing_reply.result c.standing_reply.ensures
+    ]

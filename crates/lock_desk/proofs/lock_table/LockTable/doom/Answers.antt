@@ -1,0 +1,42 @@
+use Rattle.std.proofs.Common.{ap, rules, refl, arith}
+use Rattle.std.specs.Vec.{with_item}
+use Rattle.lock_desk.specs.declared.lockers.Locker.{Locker}
+use Rattle.lock_desk.specs.declared.lock_table.LockTable.{LockTable}
+use Rattle.lock_rules.specs.Waits.{doom}
+use Rattle.lock_desk.specs.inner.Lockers.{standing_of}
+use Rattle.lock_desk.proofs.Asking.{within}
+use Rattle.lock_desk.proofs.BeginAndEnd.{told-whole, transaction-each, has-doomed, doomed-each}
+use Rattle.lock_desk.proofs.RowsOfTheTable.{ready-doomed}
+use Rattle.lock_desk.proofs.lock_table.LockTable.doom.Goals as goal
+
+pub returns-clause-doomed : goal.returns-clause-doomed
+returns-clause-doomed c =
+    let f = c.cancel.new.self in
+    let s = c.args.session in
+    let locker = c.index_mut-locker.result.now in
+    let new = c.doom.new.self in
+    let is = c.doom.ensures in
+    let e : LockTable = record { count = f.count; lockers = with_item f.lockers c.position_of.result new; cells = f.cells; waits = f.waits } in
+    let lt = within f s c.position_of.ensures c.requires.some (omega (arith, c.requires.within, c.cancel.ensures.kept.lockers)) in
+    let at = c.index_mut-locker.ensures.value in
+    has-doomed s c.args.self.now f e c.cancel.ensures.cancelled refl (λ q. refl)
+    (doomed-each f s locker (doom locker.transaction) lt at refl e (transaction-each f s (doom locker.transaction) locker new e c.cancel.ensures.kept.whole lt at (ap standing_of is) (ap (λ (x : Locker). x.held) is) (ap (λ (x : Locker). x.wanted) is) refl refl))
+
+pub returns-clause-kept : goal.returns-clause-kept
+returns-clause-kept c =
+    let f = c.cancel.new.self in
+    let s = c.args.session in
+    let locker = c.index_mut-locker.result.now in
+    let new = c.doom.new.self in
+    let is = c.doom.ensures in
+    let e : LockTable = record { count = f.count; lockers = with_item f.lockers c.position_of.result new; cells = f.cells; waits = f.waits } in
+    let kept = c.cancel.ensures.kept in
+    let lt = within f s c.position_of.ensures c.requires.some (omega (arith, c.requires.within, kept.lockers)) in
+    let at = c.index_mut-locker.ensures.value in
+    let whole = told-whole f s (doom locker.transaction) locker new e kept.whole lt at (ap standing_of is) (ap (λ (x : Locker). x.held) is) (ap (λ (x : Locker). x.wanted) is) refl refl in
+    record {
+      whole = whole;
+      lockers = search rules;
+      ready = ready-doomed f e s kept.whole whole (λ q. refl) (search rules)
+          (doomed-each f s locker (doom locker.transaction) lt at refl e (transaction-each f s (doom locker.transaction) locker new e kept.whole lt at (ap standing_of is) (ap (λ (x : Locker). x.held) is) (ap (λ (x : Locker). x.wanted) is) refl refl)) refl kept.ready;
+    }

@@ -1,0 +1,46 @@
+use Rattle.std.proofs.Common.{ap, rules, refl, None, arith}
+use Rattle.std.specs.Vec.{with_item}
+use Rattle.lock_desk.specs.declared.lockers.Locker.{Locker}
+use Rattle.lock_desk.specs.declared.lock_table.LockTable.{LockTable}
+use Rattle.lock_desk.specs.inner.Lockers.{standing_of}
+use Rattle.lock_desk.proofs.Asking.{within}
+use Rattle.lock_desk.proofs.BeginAndEnd.{few-at, told-whole, transaction-each, has-ended}
+use Rattle.lock_desk.proofs.RowsOfTheTable.{ready-numbered}
+use Rattle.lock_desk.proofs.lock_table.LockTable.end.Goals as goal
+
+pub returns-clause-few : goal.returns-clause-few
+returns-clause-few c = omega (arith, few-at c.args.self.now.lockers.items c.args.session, c.give_back_all-locks.ensures.locks)
+
+pub returns-clause-ended : goal.returns-clause-ended
+returns-clause-ended c =
+    let f = c.give_back_all-locks.new.self in
+    let s = c.args.session in
+    let locker = c.index_mut-locker.result.now in
+    let new = c.end.new.self in
+    let is = c.end.ensures in
+    let e : LockTable = record { count = f.count; lockers = with_item f.lockers c.position_of.result new; cells = f.cells; waits = c.set_number.new.waits } in
+    let lt = within f s c.position_of.ensures c.requires.some (omega (arith, c.requires.within, c.give_back_all-locks.ensures.kept.lockers)) in
+    let at = c.index_mut-locker.ensures.value in
+    let w = c.give_back_all-locks.ensures.kept.whole in
+    has-ended s c.args.self.now f e c.requires.whole c.requires.idle c.give_back_all-locks.ensures.back c.give_back_all-locks.ensures.none refl (λ q. refl)
+    (transaction-each f s None locker new e w lt at (ap standing_of is) (ap (λ (x : Locker). x.held) is) (ap (λ (x : Locker). x.wanted) is) refl refl)
+
+pub returns-clause-kept : goal.returns-clause-kept
+returns-clause-kept c =
+    let f = c.give_back_all-locks.new.self in
+    let s = c.args.session in
+    let locker = c.index_mut-locker.result.now in
+    let new = c.end.new.self in
+    let is = c.end.ensures in
+    let e : LockTable = record { count = f.count; lockers = with_item f.lockers c.position_of.result new; cells = f.cells; waits = c.set_number.new.waits } in
+    let kept = c.give_back_all-locks.ensures.kept in
+    let lt = within f s c.position_of.ensures c.requires.some (omega (arith, c.requires.within, kept.lockers)) in
+    let at = c.index_mut-locker.ensures.value in
+    let number = c.set_number.ensures in
+    let whole = told-whole f s None locker new e kept.whole lt at (ap standing_of is) (ap (λ (x : Locker). x.held) is) (ap (λ (x : Locker). x.wanted) is) refl refl in
+    record {
+      whole = whole;
+      lockers = search rules;
+      ready = ready-numbered f e s 0 None refl kept.whole whole (λ q. refl) (search rules) (transaction-each f s None locker new e kept.whole lt at (ap standing_of is) (ap (λ (x : Locker). x.held) is) (ap (λ (x : Locker). x.wanted) is) refl refl)
+          number.rows number.len number.numbers kept.ready;
+    }

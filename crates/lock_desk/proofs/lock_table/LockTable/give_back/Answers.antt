@@ -1,0 +1,22 @@
+use Rattle.std.proofs.Common.{rules, arith, refl}
+use Rattle.lock_desk.proofs.Asking.{within}
+use Rattle.lock_desk.proofs.GivingAllBack.{back-agree, back-gives, back-keeps}
+use Rattle.lock_desk.proofs.SessionsInRange.{numbered-whole}
+use Rattle.lock_desk.proofs.lock_table.LockTable.give_back.Goals as goal
+
+pub free_at-requires-clause-agree : goal.free_at-requires-clause-agree
+free_at-requires-clause-agree c = back-agree c.args.self.now c.args.session c.in-Some.last.resource c.index_mut-locker.result.now c.release_last.new.self c.requires.whole (within c.args.self.now c.args.session c.position_of.ensures c.requires.some c.requires.within) c.index_mut-locker.ensures.value c.in-Some.ensures.some c.in-Some.ensures.transaction c.in-Some.ensures.wanted c.requires.idle
+
+pub returns-in-Some-clause-back : goal.returns-in-Some-clause-back
+returns-in-Some-clause-back c =
+    back-gives c.args.self.now c.args.session c.in-Some.last.resource c.index_mut-locker.result.now c.release_last.new.self c.requires.whole (within c.args.self.now c.args.session c.position_of.ensures c.requires.some c.requires.within) c.index_mut-locker.ensures.value c.in-Some.ensures.some c.in-Some.ensures.transaction c.in-Some.ensures.wanted c.requires.idle
+    _ refl c.free_at.ensures.cells c.free_at.ensures.agree c.free_at.ensures.granted
+
+pub returns-in-Some-clause-kept : goal.returns-in-Some-clause-kept
+returns-in-Some-clause-kept c =
+    back-keeps c.args.self.now c.args.session c.in-Some.last.resource c.index_mut-locker.result.now c.release_last.new.self c.requires.whole (within c.args.self.now c.args.session c.position_of.ensures c.requires.some c.requires.within) c.index_mut-locker.ensures.value c.in-Some.ensures.some c.in-Some.ensures.transaction c.in-Some.ensures.wanted c.requires.idle
+    _ refl c.free_at.ensures.cells c.free_at.ensures.agree c.free_at.ensures.granted
+    (search rules) c.free_at.ensures.rows c.requires.ready
+
+pub free_at-requires-clause-within : goal.free_at-requires-clause-within
+free_at-requires-clause-within c = numbered-whole c.args.self.now c.args.self.now.waits.rows.sessions (omega (arith, c.requires.ready.long, c.args.self.now.lockers.ok.0)) c.requires.whole c.in-Some.last.resource

@@ -1,0 +1,27 @@
+use Rattle.std.proofs.Common.{refl, sym, ap, arith, length, length-append, [], ◌∷◌}
+use Rattle.lock_desk.specs.inner.Lockers.{Standing}
+use Rattle.lock_desk.specs.inner.Changes.{standing}
+use Rattle.lock_desk.proofs.GivingAllBack.{back-none, back-more}
+use Rattle.lock_desk.proofs.Agreement.{keeps-on}
+use Rattle.lock_desk.proofs.lock_table.LockTable.give_back_all.Goals as goal
+
+pub loop-lock-init : goal.loop-lock-init
+loop-lock-init c =
+    let d = c.args.self.now in
+    let long = ap (λ (x : Standing). length x.held) (sym c.locker-locker.ensures) in
+    record {
+      back = back-none c.args.session c.args.self.now c.requires.whole c.requires.idle;
+      kept = record { whole = c.requires.whole; lockers = refl; ready = c.requires.ready };
+      left = omega (arith, c.locks-locks.ensures, long);
+    }
+
+pub loop-lock-preserved : goal.loop-lock-preserved
+loop-lock-preserved c =
+    let k = c.loop-lock.invariant in
+    let g = c.give_back.ensures.back in
+    let held = ap length g.held in
+    record {
+      back = back-more c.args.session c.args.self.now c.loop-lock.self c.give_back.new.self k.kept.whole k.back g;
+      kept = keeps-on k.kept c.give_back.ensures.kept;
+      left = omega (arith, k.left, held, length-append (standing c.args.session c.give_back.new.self).held (g.resource ∷ []));
+    }

@@ -1,0 +1,17 @@
+use Rattle.std.proofs.Common.{◌≡◌, ◌+◌, vec_len}
+use Rattle.lock_rules.specs.State.{State}
+use Rattle.lock_rules.specs.Sound.{IsNumbered, IsSound}
+use Rattle.lock_desk.specs.inner.Changes.{IsWhole}
+use Rattle.lock_desk.specs.inner.Ready.{IsReadyTable}
+use Rattle.lock_desk.specs.inner.Shows.{Shows}
+use Rattle.lock_desk.proofs.VictimRounds.{IsRound}
+use Rattle.lock_desk.proofs.lock_table.LockTable.resolve_deadlocks.Given as goal
+
+abbrev pub invariant-loop-round : goal.invariant-loop-round
+invariant-loop-round l = record {
+  whole : IsWhole l.self;
+  ready : IsReadyTable l.self;
+  count : l.self.count ≡ l.initial.self.count;
+  len : vec_len l.self.lockers ≡ vec_len l.initial.self.lockers;
+  rounds : (st : State) → IsSound st.table → IsNumbered st → Shows l.initial.self st → IsRound (vec_len l.initial.self.lockers + 1) l._round l.session st l.self;
+}

@@ -1,0 +1,9 @@
+use Rattle.lock_desk.proofs.Results.{on-err}
+use Rattle.lock_desk.proofs.Simulation.{same-shown}
+use Rattle.lock_desk.proofs.lock_table.LockTable.serve.Goals as goal
+
+pub returns-in-Lock-clause-err : goal.returns-in-Lock-clause-err
+returns-in-Lock-clause-err c = λ st h. on-err c.serve_lock.result _ _ c.serve_lock.ensures.err (λ k. same-shown c.args.self.now c.serve_lock.new.self st k h)
+
+pub returns-in-Convert-clause-err : goal.returns-in-Convert-clause-err
+returns-in-Convert-clause-err c = λ st h. on-err c.serve_convert.result _ _ c.serve_convert.ensures.err (λ k. same-shown c.args.self.now c.serve_convert.new.self st k h)

@@ -1,0 +1,17 @@
+use Rattle.std.proofs.Common.{◌≡◌, ◌+◌, ◌-◌, ◌≤◌, vec_len, vec_capacity, List}
+use Rattle.std.specs.List.{All}
+use Rattle.lock_rules.specs.declared.calls.Entry.{Entry}
+use Rattle.lock_desk.specs.declared.book.Item.{Item}
+use Rattle.lock_desk.specs.Batches.{IsItemWithin}
+use Rattle.lock_desk.specs.inner.Runs.{IsGranting, AreKept, AreServed}
+use Rattle.lock_desk.proofs.lock_table.runs.grant_items.Given as goal
+
+abbrev pub invariant-loop-index : goal.invariant-loop-index
+invariant-loop-index l = record {
+  within : All (IsItemWithin (vec_len l.table.lockers)) l.items;
+  granting : IsGranting l.table l.items l.index l.run;
+  kept : AreKept l.table l.history.items;
+  lockers : vec_len l.table.lockers ≡ vec_len l.initial.table.lockers;
+  room : vec_len l.history + (l.run.upto - l.index) ≤ vec_capacity l.history;
+  served : (batch : List Item) (start : List Entry) → AreServed l.from batch start l.initial.history.items l.initial.items → AreServed l.index batch start l.history.items l.items;
+}

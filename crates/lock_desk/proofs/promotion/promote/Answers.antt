@@ -1,0 +1,59 @@
+use Rattle.std.proofs.Common.{◌≡◌, suc, vec_len, drop, ◌∙◌, arith, ap, sym, refl}
+use Rattle.lock_desk.specs.inner.Lockers.{standings_of}
+use Rattle.lock_desk.proofs.ResourceViews.{both, next-passed, next-within, promoted-next, once-next}
+use Rattle.lock_desk.proofs.Promotions.{grant-some, grant-within, grant-waits_locker, grant-agree, grant-same}
+use Rattle.lock_desk.proofs.promotion.promote.Goals as goal
+
+pub admit-shared-requires-clause-rising : goal.admit-shared-requires-clause-rising
+admit-shared-requires-clause-rising c = c.loop-next.invariant.once.rising
+
+pub admit-shared-requires-clause-room : goal.admit-shared-requires-clause-room
+admit-shared-requires-clause-room c =
+    let w = next-within c.loop-next.cell.holders.items c.loop-next.cell.waiting.items c.loop-next.granted c.in-Some.next (sym c.in-Some.is ∙ c.next_grant.ensures) in
+    omega (arith, w, c.loop-next.invariant.room, c.loop-next.cell.waiting.ok.0)
+
+pub admit-shared-requires-clause-fits : goal.admit-shared-requires-clause-fits
+admit-shared-requires-clause-fits c = (next-passed c.loop-next.cell.holders.items c.loop-next.cell.waiting.items c.loop-next.granted c.in-Some.next _ (sym c.in-Some.is ∙ c.next_grant.ensures) refl).fits
+
+pub position_of-requires : goal.position_of-requires
+position_of-requires c =
+    let n = next-passed c.loop-next.cell.holders.items c.loop-next.cell.waiting.items c.loop-next.granted c.in-Some.next c.admit-shared.new.self.holders.items (sym c.in-Some.is ∙ c.next_grant.ensures) c.admit-shared.ensures.holders in
+    grant-some c.args.resource _ _ c.in-Some.next c.loop-next.lockers.items n c.loop-next.invariant.agree c.loop-next.invariant.once
+
+pub index_mut-locker-requires : goal.index_mut-locker-requires
+index_mut-locker-requires c =
+    let n = next-passed c.loop-next.cell.holders.items c.loop-next.cell.waiting.items c.loop-next.granted c.in-Some.next c.admit-shared.new.self.holders.items (sym c.in-Some.is ∙ c.next_grant.ensures) c.admit-shared.ensures.holders in
+    let next : suc c.position_of.result ≡ c.in-Some.next.session = omega (arith, grant-some c.args.resource _ _ c.in-Some.next c.loop-next.lockers.items n c.loop-next.invariant.agree c.loop-next.invariant.once, c.position_of.ensures) in
+    omega (arith, (grant-within c.args.resource _ _ c.in-Some.next c.loop-next.lockers.items n c.loop-next.invariant.agree next).within, c.loop-next.lockers.ok.0)
+
+pub grant-requires : goal.grant-requires
+grant-requires c =
+    let n = next-passed c.loop-next.cell.holders.items c.loop-next.cell.waiting.items c.loop-next.granted c.in-Some.next c.admit-shared.new.self.holders.items (sym c.in-Some.is ∙ c.next_grant.ensures) c.admit-shared.ensures.holders in
+    let next : suc c.position_of.result ≡ c.in-Some.next.session = omega (arith, grant-some c.args.resource _ _ c.in-Some.next c.loop-next.lockers.items n c.loop-next.invariant.agree c.loop-next.invariant.once, c.position_of.ensures) in
+    grant-waits_locker c.args.resource _ _ c.in-Some.next c.loop-next.lockers.items n c.loop-next.invariant.agree c.index_mut-locker.result.now next c.index_mut-locker.ensures.value
+
+pub loop-next-preserved : goal.loop-next-preserved
+loop-next-preserved c =
+    let k = c.loop-next.invariant in
+    let r = c.args.resource in
+    let hs = c.loop-next.cell.holders.items in
+    let ws = c.loop-next.cell.waiting.items in
+    let v = both hs (drop c.loop-next.granted ws) in
+    let lockers = c.loop-next.lockers.items in
+    let is = sym c.in-Some.is ∙ c.next_grant.ensures in
+    let within = next-within hs ws c.loop-next.granted c.in-Some.next is in
+    let n = next-passed hs ws c.loop-next.granted c.in-Some.next c.admit-shared.new.self.holders.items is c.admit-shared.ensures.holders in
+    let next : suc c.position_of.result ≡ c.in-Some.next.session = omega (arith, grant-some r v _ c.in-Some.next lockers n k.agree k.once, c.position_of.ensures) in
+    let agree = grant-agree r v _ c.in-Some.next lockers n k.agree c.index_mut-locker.result.now next c.index_mut-locker.ensures.value c.grant.new.self r c.grant.ensures refl k.once in
+    let same = c.admit-shared.ensures.waiting in
+    let len = ap (λ w. vec_len w) same in
+    record {
+      view = rw same (promoted-next v c.in-Some.next _ n ∙ k.view);
+      passed = omega (arith, within, len, c.loop-next.cell.waiting.ok.0);
+      room = omega (arith, k.room, len, c.admit-shared.ensures.len, c.admit-shared.ensures.capacity);
+      shared = c.admit-shared.ensures.shared;
+      once = rw same (once-next v c.in-Some.next _ n k.once);
+      agree = rw same agree;
+      changed = grant-same r v _ c.in-Some.next lockers n k.agree c.index_mut-locker.result.now next c.index_mut-locker.ensures.value c.grant.new.self r c.grant.ensures refl (standings_of c.args.lockers.now.items) k.changed;
+      len = k.len;
+    }

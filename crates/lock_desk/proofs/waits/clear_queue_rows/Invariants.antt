@@ -1,0 +1,11 @@
+use Rattle.std.proofs.Common.{◌≡◌, ℕ, ◌+◌, ◌&&◌, not, take}
+use Rattle.waits_for.specs.Pairs.{pairs_of}
+use Rattle.lock_desk.specs.inner.Cells.{has_session, view_of}
+use Rattle.lock_desk.proofs.waits.clear_queue_rows.Given as goal
+
+abbrev pub invariant-loop-request : goal.invariant-loop-request
+invariant-loop-request l = record {
+  sessions : l.waits.rows.sessions ≡ l.initial.waits.rows.sessions;
+  pairs : (a b : ℕ) → pairs_of l.waits.rows a b ≡ (pairs_of l.initial.waits.rows a b && not (has_session (a + 1) (take l.request-index (view_of l.cell).waiting)));
+  numbers : l.waits.numbers ≡ l.initial.waits.numbers;
+}

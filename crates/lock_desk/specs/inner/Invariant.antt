@@ -1,0 +1,28 @@
+-- Internal to this crate, cited by no public contract: the invariant of a book.
+use Rattle.std.specs.Prelude.{◌≡◌, ◌≤◌, length, vec_len}
+use Rattle.std.specs.List.{All}
+use Rattle.waits_for.specs.declared.TheConstants.{MAX_SESSIONS}
+use Rattle.lock_rules.specs.Legal.{state_of, IsLegal}
+use Rattle.lock_desk.specs.BookView.{BookView, IsEntryWithin}
+use Rattle.lock_desk.specs.inner.Changes.{IsWhole}
+use Rattle.lock_desk.specs.inner.Ready.{IsReadyTable}
+use Rattle.lock_desk.specs.inner.Shows.{Shows}
+use Rattle.lock_desk.specs.declared.book.Book.TheInside.{Inside}
+
+-- what contracts see of a book: its number of sessions and its history
+abbrev pub book_view_of : Inside → BookView
+book_view_of a = record { sessions = a.sessions; history = a.history.items }
+
+-- the history is legal, the lock table represents the state that the history leads to, and there is a locker and a mark
+-- for each session
+pub record IsKept (a : Inside) : Type 0 where
+  pub some : 1 ≤ a.sessions
+  pub few : a.sessions ≤ MAX_SESSIONS
+  pub legal : IsLegal a.history.items
+  pub within : All (IsEntryWithin a.sessions) a.history.items
+  pub shows : Shows a.lock_table (state_of a.history.items)
+  pub whole : IsWhole a.lock_table
+  pub ready : IsReadyTable a.lock_table
+  pub lockers : vec_len a.lock_table.lockers ≡ a.sessions
+  pub counted : a.lock_table.count ≤ length a.history.items
+  pub marked : a.marks.sessions ≡ a.sessions

@@ -1,0 +1,350 @@
+//! The lock table: all cells, all lockers and the waits-for graph, and the operations that change them together.
+
+ghost use Rattle.std.specs.Prelude.{◌≡◌, ℕ, ◌+◌, ◌-◌, ◌<◌, ◌≤◌, ◌&&◌, nat_le, List, None, is_some, if◌then◌else◌, map, length, IfOk, OnOk, OnErr, vec_len};
+ghost use Rattle.waits_for.specs.Pairs.{pairs_of};
+ghost use Rattle.lock_rules.specs.declared.calls.Reply.TheVariants.{Waiting, Deadlock};
+ghost use Rattle.lock_rules.specs.State.{State, empty, doomed_in};
+ghost use Rattle.lock_rules.specs.Waits.{after_victims};
+ghost use Rattle.lock_rules.specs.Sound.{IsNumbered, IsSound};
+ghost use Rattle.lock_desk.specs.inner.Cells.{pair_of, IsPlace};
+ghost use Rattle.lock_desk.specs.declared.cells.Claim.TheVariants as claim;
+ghost use Rattle.lock_desk.specs.inner.ChildCounts.{has_child};
+ghost use Rattle.lock_desk.specs.inner.Lockers.{standing_of};
+ghost use Rattle.lock_desk.specs.inner.Changes.{view_at, standing, IsWhole, DoesKeep, mode_held, CanRelease, HasFreed, HasGivenBack, HasGivenBackAll, HasCancelled, HasDoomed, HasBegun, HasEnded};
+ghost use Rattle.lock_desk.specs.inner.Ready.{IsReadyTable};
+ghost use Rattle.lock_desk.specs.inner.Shows.{Shows};
+
+mod calls;
+mod grants;
+mod refusals;
+mod requests;
+pub(crate) mod runs;
+
+use crate::cell_table::CellTable;
+use crate::cells::Claim;
+use crate::lockers::Locker;
+use crate::positions::position_of;
+use crate::waits::{Waits, has_edge, new_waits, set_number, victim};
+use lock_modes::Mode;
+use lock_rules::{MAX_LOCKS, MAX_SESSIONS, Reply};
+use lock_tree::Resource;
+use std::alloc::{AllocError, Global};
+
+/// The lock table: a cell for each resource that is held or waited for, a locker for each session, and the waits-for
+/// graph.
+///
+/// Between two operations, cells and lockers agree on who holds what and who waits for what, and the waits-for graph
+/// is the one that they determine.
+#[derive(Drop)]
+pub struct LockTable {
+    /// How many transactions have begun: the number of the newest one.
+    count: u64,
+    /// The locker of session `s` is at index `s - 1`.
+    lockers: Vec<Locker>,
+    /// The cells, by resource.
+    cells: CellTable,
+    /// The waits-for graph, and the number of each open transaction.
+    waits: Waits,
+}
+
+impl LockTable {
+    /// A table with a locker for each session, no transaction and no lock. Fails if memory is refused.
+    pub(crate) fn new(alloc: Global, sessions: u16) -> Result<LockTable, AllocError>
+        requires some { 1 ≤ sessions }
+        requires few { sessions ≤ MAX_SESSIONS }
+        ensures shows { IfOk result (λ lock_table. Shows lock_table empty) }
+        ensures whole { IfOk result IsWhole }
+        ensures ready { IfOk result IsReadyTable }
+        ensures lockers { IfOk result (λ lock_table. vec_len lock_table.lockers ≡ sessions) }
+    {
+        let waits = new_waits(alloc, sessions)?;
+        let mut lockers = Vec::new(alloc);
+        for _locker in 0..sessions {
+            lockers.push(Locker::new(alloc))?;
+        }
+        Ok(LockTable {
+            count: 0,
+            lockers,
+            cells: CellTable::new(alloc),
+            waits,
+        })
+    }
+
+    /// The locker of `session`.
+    pub(crate) fn locker(&self, session: u16) -> &Locker
+        requires some { 1 ≤ session }
+        requires within { session ≤ vec_len self.now.lockers }
+        ensures { standing_of result.now ≡ standing session self.now }
+    {
+        &self.lockers[position_of(session)]
+    }
+
+    /// The mode in which `session` holds a lock on `resource` itself.
+    pub(crate) fn held(&self, session: u16, resource: Resource) -> Option<Mode>
+        ensures { result ≡ mode_held self.now session resource }
+    {
+        match self.cells.cell_of(resource) {
+            Some(cell) => cell.mode_held(session),
+            None => None,
+        }
+    }
+
+    /// Whether `session` waits for `other` directly. False if there is no such session.
+    pub(crate) fn waits_for(&self, session: u16, other: u16) -> bool
+        ensures { result ≡ (nat_le 1 session && (nat_le 1 other && pairs_of self.now.waits.rows (session - 1) (other - 1))) }
+    {
+        has_edge(&self.waits, session, other)
+    }
+
+    /// The place of the cell of `parent`, the parent of `resource`. Looks first at the place that the session's
+    /// locker remembers.
+    pub(crate) fn parent_place(
+        &self,
+        session: u16,
+        resource: Resource,
+        parent: Resource,
+    ) -> Option<usize>
+        requires some { 1 ≤ session }
+        requires within { session ≤ vec_len self.now.lockers }
+        ensures { IsPlace parent self.now.cells.entries result }
+    {
+        let locker = &self.lockers[position_of(session)];
+        let likely = locker.likely_parent(resource);
+        self.cells.place_near(likely, parent)
+    }
+
+    /// Replaces the contents of `list` by the holders of `resource`, by session number. Leaves `list` unchanged if
+    /// memory is refused.
+    pub(crate) fn holders(
+        &self,
+        resource: Resource,
+        list: &mut Vec<(u16, Mode)>,
+    ) -> Result<(), AllocError>
+        ensures ok { OnOk result (list.new.items ≡ map pair_of (view_at resource self.now).holders) }
+        ensures err { OnErr result (list.new.items ≡ list.old.items) }
+    {
+        match self.cells.cell_of(resource) {
+            Some(cell) => cell.list_holders(list),
+            None => {
+                list.clear();
+                Ok(())
+            }
+        }
+    }
+
+    /// Whether `session` holds a child of `resource`.
+    pub(crate) fn holds_child(&self, session: u16, resource: Resource) -> bool
+        requires some { 1 ≤ session }
+        requires within { session ≤ vec_len self.now.lockers }
+        ensures { result ≡ has_child resource (standing session self.now).held }
+    {
+        let locker = &self.lockers[position_of(session)];
+        locker.holds_child(resource)
+    }
+
+    /// Releases the lock of `session` on `resource`, and promotes the queue of `resource`.
+    ///
+    /// `place` is the place of the cell. The session must hold the lock, hold no child of `resource`, and not wait.
+    fn release(&mut self, session: u16, place: Option<usize>, resource: Resource)
+        requires some { 1 ≤ session }
+        requires within { session ≤ vec_len self.old.lockers }
+        requires whole { IsWhole self.old }
+        requires ready { IsReadyTable self.old }
+        requires place { IsPlace resource self.old.cells.entries place }
+        requires can { CanRelease session resource self.old }
+        ensures freed { HasFreed claim.Lock session resource self.old self.new }
+        ensures kept { DoesKeep self.old self.new }
+    {
+        let locker = &mut self.lockers[position_of(session)];
+        locker.release(resource);
+        self.cells.free_at(
+            &mut self.lockers,
+            &mut self.waits,
+            session,
+            place,
+            resource,
+            Claim::Lock,
+        );
+    }
+
+    /// Releases the last lock in the session's list, and promotes the queue of its resource. The session must hold a
+    /// lock and not wait.
+    fn give_back(&mut self, session: u16)
+        requires some { 1 ≤ session }
+        requires within { session ≤ vec_len self.old.lockers }
+        requires whole { IsWhole self.old }
+        requires ready { IsReadyTable self.old }
+        requires idle { (standing session self.old).wanted ≡ None }
+        requires holds { 0 < length (standing session self.old).held }
+        ensures back { HasGivenBack session self.old self.new }
+        ensures kept { DoesKeep self.old self.new }
+    {
+        let locker = &mut self.lockers[position_of(session)];
+        if let Some(last) = locker.release_last() {
+            let place = self.cells.place_near(last.likely, last.resource);
+            self.cells.free_at(
+                &mut self.lockers,
+                &mut self.waits,
+                session,
+                place,
+                last.resource,
+                Claim::Lock,
+            );
+        }
+    }
+
+    /// Releases all locks of `session`, the last one first, and returns how many they were. The session must not
+    /// wait.
+    fn give_back_all(&mut self, session: u16) -> usize
+        requires some { 1 ≤ session }
+        requires within { session ≤ vec_len self.old.lockers }
+        requires whole { IsWhole self.old }
+        requires ready { IsReadyTable self.old }
+        requires idle { (standing session self.old).wanted ≡ None }
+        ensures locks { result ≡ length (standing session self.old).held }
+        ensures none { length (standing session self.new).held ≡ 0 }
+        ensures back { HasGivenBackAll session self.old self.new }
+        ensures kept { DoesKeep self.old self.new }
+    {
+        let locker = self.locker(session);
+        let locks = locker.locks();
+        for _lock in 0..locks {
+            self.give_back(session);
+        }
+        locks
+    }
+
+    /// Begins a transaction of `session`, and returns its number, which is the next one.
+    fn begin(&mut self, session: u16) -> u64
+        requires some { 1 ≤ session }
+        requires within { session ≤ vec_len self.old.lockers }
+        requires whole { IsWhole self.old }
+        requires ready { IsReadyTable self.old }
+        requires room { self.old.count < 18446744073709551615 }
+        ensures number { result ≡ self.old.count + 1 }
+        ensures begun { HasBegun session self.old self.new }
+        ensures kept { DoesKeep self.old self.new }
+    {
+        self.count += 1;
+        let locker = &mut self.lockers[position_of(session)];
+        locker.begin(self.count);
+        set_number(&mut self.waits, session, self.count);
+        self.count
+    }
+
+    /// Removes the request of `session`, if it waits, and promotes the queue that the request was in.
+    fn cancel(&mut self, session: u16)
+        requires some { 1 ≤ session }
+        requires within { session ≤ vec_len self.old.lockers }
+        requires whole { IsWhole self.old }
+        requires ready { IsReadyTable self.old }
+        ensures cancelled { HasCancelled session self.old self.new }
+        ensures kept { DoesKeep self.old self.new }
+    {
+        let locker = &mut self.lockers[position_of(session)];
+        if let Some(resource) = locker.cancel() {
+            let place = self.cells.place_of(resource);
+            self.cells.free_at(
+                &mut self.lockers,
+                &mut self.waits,
+                session,
+                place,
+                resource,
+                Claim::Request,
+            );
+        }
+    }
+
+    /// Ends the transaction of `session`, releases all its locks, and returns how many they were. The session must
+    /// not wait.
+    fn end(&mut self, session: u16) -> usize
+        requires some { 1 ≤ session }
+        requires within { session ≤ vec_len self.old.lockers }
+        requires whole { IsWhole self.old }
+        requires ready { IsReadyTable self.old }
+        requires idle { (standing session self.old).wanted ≡ None }
+        ensures locks { result ≡ length (standing session self.old).held }
+        ensures few { result ≤ MAX_LOCKS }
+        ensures ended { HasEnded session self.old self.new }
+        ensures kept { DoesKeep self.old self.new }
+    {
+        let locks = self.give_back_all(session);
+        let locker = &mut self.lockers[position_of(session)];
+        locker.end();
+        set_number(&mut self.waits, session, 0);
+        locks
+    }
+
+    /// Aborts the transaction of `session`: removes its waiting request, releases all its locks, and returns how
+    /// many they were.
+    fn abort(&mut self, session: u16) -> usize
+        requires some { 1 ≤ session }
+        requires within { session ≤ vec_len self.old.lockers }
+        requires whole { IsWhole self.old }
+        requires ready { IsReadyTable self.old }
+        ensures locks { result ≡ length (standing session self.old).held }
+        ensures few { result ≤ MAX_LOCKS }
+        ensures ended { HasEnded session self.old self.new }
+        ensures kept { DoesKeep self.old self.new }
+    {
+        self.cancel(session);
+        self.end(session)
+    }
+
+    /// Makes the transaction of `session` a deadlock's victim: removes its waiting request, and marks it doomed. It
+    /// keeps its locks.
+    fn doom(&mut self, session: u16)
+        requires some { 1 ≤ session }
+        requires within { session ≤ vec_len self.old.lockers }
+        requires whole { IsWhole self.old }
+        requires ready { IsReadyTable self.old }
+        ensures doomed { HasDoomed session self.old self.new }
+        ensures kept { DoesKeep self.old self.new }
+    {
+        self.cancel(session);
+        let locker = &mut self.lockers[position_of(session)];
+        locker.doom();
+    }
+
+    /// Dooms victims until `session` is on no cycle of the waits-for graph.
+    ///
+    /// Each victim is the youngest transaction on a cycle with `session`. A victim waited before and doesn't wait
+    /// any more, so there are at most as many victims as sessions, and the last round finds no cycle.
+    fn resolve_deadlocks(&mut self, session: u16)
+        requires some { 1 ≤ session }
+        requires within { session ≤ vec_len self.old.lockers }
+        requires whole { IsWhole self.old }
+        requires ready { IsReadyTable self.old }
+        ensures settled { (st : State) → IsSound st.table → IsNumbered st → Shows self.old st
+            → Shows self.new (after_victims (vec_len self.old.lockers + 1) session st) }
+        ensures whole { IsWhole self.new }
+        ensures ready { IsReadyTable self.new }
+        ensures count { self.new.count ≡ self.old.count }
+        ensures len { vec_len self.new.lockers ≡ vec_len self.old.lockers }
+    {
+        for _round in 0..self.lockers.len() + 1 {
+            let Some(chosen) = victim(&mut self.waits, session) else {
+                return;
+            };
+            self.doom(chosen);
+        }
+    }
+
+    /// The reply on the state of the session's transaction: `Deadlock` if it is a victim, `Waiting` if its request
+    /// waits, and else `otherwise`.
+    fn standing_reply(&self, session: u16, otherwise: Reply) -> Reply
+        requires some { 1 ≤ session }
+        requires within { session ≤ vec_len self.now.lockers }
+        ensures { let x = standing session self.now in result ≡ (if doomed_in x.transaction then Deadlock
+            else (if is_some x.wanted then Waiting else otherwise)) }
+    {
+        let locker = self.locker(session);
+        if locker.is_doomed() {
+            return Reply::Deadlock;
+        }
+        if locker.is_waiting() {
+            return Reply::Waiting;
+        }
+        otherwise
+    }
+}

@@ -1,0 +1,220 @@
+//! The calls of the lock table, each of them one step of the sequential lock manager: its tests, and its effect if no
+//! test fails.
+
+ghost use Rattle.std.specs.Prelude.{◌≡◌, ◌+◌, ◌<◌, ◌≤◌, IfOk, OnErr, vec_len};
+ghost use Rattle.lock_rules.specs.declared.calls.Call.TheVariants.{Begin, Lock, Convert, Poll, Release, Commit, Abort};
+ghost use Rattle.lock_rules.specs.State.{State};
+ghost use Rattle.lock_rules.specs.Step.{step};
+ghost use Rattle.lock_rules.specs.Sound.{IsNumbered, IsSound};
+ghost use Rattle.lock_desk.specs.inner.Cells.{IsPlace};
+ghost use Rattle.lock_desk.specs.inner.Changes.{IsWhole, DoesKeep, IsSameSeen};
+ghost use Rattle.lock_desk.specs.inner.Ready.{IsReadyTable};
+ghost use Rattle.lock_desk.specs.inner.Shows.{Shows, DoesAnswer};
+
+use crate::lock_table::LockTable;
+use crate::positions::position_of;
+use lock_modes::Mode;
+use lock_rules::{Call, Reply, Why};
+use lock_tree::Resource;
+use std::alloc::AllocError;
+
+impl LockTable {
+    /// The place of the cell of `resource`, if it has one. If not, and without taking memory, enters the resource as
+    /// a key that a grant can use without another look-up.
+    fn find_or_insert_key(&mut self, resource: Resource) -> Option<usize>
+        ensures place { IsPlace resource self.old.cells.entries result }
+        ensures same { self.new ≡ self.old }
+    {
+        self.cells.find_or_insert_key(resource)
+    }
+
+    /// Prepares the locker of `session` for a release: a long list of locks gets an index. Nothing that contracts
+    /// see changes.
+    fn index(&mut self, session: u16)
+        requires some { 1 ≤ session }
+        requires within { session ≤ vec_len self.old.lockers }
+        requires whole { IsWhole self.old }
+        requires ready { IsReadyTable self.old }
+        ensures same { IsSameSeen self.old self.new }
+        ensures kept { DoesKeep self.old self.new }
+    {
+        let locker = &mut self.lockers[position_of(session)];
+        locker.index();
+    }
+
+    /// Begins a transaction. Refused if the session has one.
+    fn serve_begin(&mut self, session: u16) -> Reply
+        requires some { 1 ≤ session }
+        requires within { session ≤ vec_len self.old.lockers }
+        requires whole { IsWhole self.old }
+        requires ready { IsReadyTable self.old }
+        requires room { self.old.count < 18446744073709551615 }
+        ensures step { (st : State) → IsSound st.table → IsNumbered st → Shows self.old st
+            → DoesAnswer (step st session Begin) self.new result }
+        ensures count { self.new.count ≤ self.old.count + 1 }
+        ensures kept { DoesKeep self.old self.new }
+    {
+        if self.locker(session).is_open() {
+            return Reply::Refused(Why::AlreadyOpen);
+        }
+        Reply::Began(self.begin(session))
+    }
+
+    /// Requests a lock on `resource`, in the least mode at or above `mode` and what the session holds there. If
+    /// memory is refused, nothing that contracts see changes.
+    fn serve_lock(
+        &mut self,
+        session: u16,
+        resource: Resource,
+        mode: Mode,
+    ) -> Result<Reply, AllocError>
+        requires some { 1 ≤ session }
+        requires within { session ≤ vec_len self.old.lockers }
+        requires whole { IsWhole self.old }
+        requires ready { IsReadyTable self.old }
+        ensures step { (st : State) → IsSound st.table → IsNumbered st → Shows self.old st
+            → IfOk result (DoesAnswer (step st session (Lock resource mode)) self.new) }
+        ensures err { OnErr result (IsSameSeen self.old self.new) }
+        ensures count { self.new.count ≤ self.old.count + 1 }
+        ensures kept { DoesKeep self.old self.new }
+    {
+        if let Some(why) = self.idle_refusal(session) {
+            return Ok(Reply::Refused(why));
+        }
+        let place = self.find_or_insert_key(resource);
+        let held = self.cells.mode_at(place, session);
+        if let Some(why) = self.lock_refusal(session, held, resource, mode) {
+            return Ok(Reply::Refused(why));
+        }
+        self.ask(session, place, resource, held, mode)
+    }
+
+    /// Requests the conversion of a lock on `resource`, to the least mode at or above `mode` and what the session
+    /// holds there. If memory is refused, nothing that contracts see changes.
+    fn serve_convert(
+        &mut self,
+        session: u16,
+        resource: Resource,
+        mode: Mode,
+    ) -> Result<Reply, AllocError>
+        requires some { 1 ≤ session }
+        requires within { session ≤ vec_len self.old.lockers }
+        requires whole { IsWhole self.old }
+        requires ready { IsReadyTable self.old }
+        ensures step { (st : State) → IsSound st.table → IsNumbered st → Shows self.old st
+            → IfOk result (DoesAnswer (step st session (Convert resource mode)) self.new) }
+        ensures err { OnErr result (IsSameSeen self.old self.new) }
+        ensures count { self.new.count ≤ self.old.count + 1 }
+        ensures kept { DoesKeep self.old self.new }
+    {
+        if let Some(why) = self.idle_refusal(session) {
+            return Ok(Reply::Refused(why));
+        }
+        let place = self.cells.place_of(resource);
+        let held = self.cells.mode_at(place, session);
+        if let Some(why) = self.convert_refusal(session, held, resource, mode) {
+            return Ok(Reply::Refused(why));
+        }
+        self.ask(session, place, resource, held, mode)
+    }
+
+    /// Reports whether the session's transaction waits or is a deadlock's victim.
+    fn serve_poll(&mut self, session: u16) -> Reply
+        requires some { 1 ≤ session }
+        requires within { session ≤ vec_len self.old.lockers }
+        requires whole { IsWhole self.old }
+        requires ready { IsReadyTable self.old }
+        ensures step { (st : State) → IsSound st.table → IsNumbered st → Shows self.old st
+            → DoesAnswer (step st session Poll) self.new result }
+        ensures count { self.new.count ≤ self.old.count + 1 }
+        ensures kept { DoesKeep self.old self.new }
+    {
+        if let Some(why) = self.open_refusal(session) {
+            return Reply::Refused(why);
+        }
+        self.standing_reply(session, Reply::Clear)
+    }
+
+    /// Releases a lock before the end of the transaction.
+    fn serve_release(&mut self, session: u16, resource: Resource) -> Reply
+        requires some { 1 ≤ session }
+        requires within { session ≤ vec_len self.old.lockers }
+        requires whole { IsWhole self.old }
+        requires ready { IsReadyTable self.old }
+        ensures step { (st : State) → IsSound st.table → IsNumbered st → Shows self.old st
+            → DoesAnswer (step st session (Release resource)) self.new result }
+        ensures count { self.new.count ≤ self.old.count + 1 }
+        ensures kept { DoesKeep self.old self.new }
+    {
+        self.index(session);
+        if let Some(why) = self.idle_refusal(session) {
+            return Reply::Refused(why);
+        }
+        let place = self.cells.place_of(resource);
+        if let Some(why) = self.release_refusal(session, place, resource) {
+            return Reply::Refused(why);
+        }
+        self.release(session, place, resource);
+        Reply::Released
+    }
+
+    /// Commits the transaction, and replies how many locks it held.
+    fn serve_commit(&mut self, session: u16) -> Reply
+        requires some { 1 ≤ session }
+        requires within { session ≤ vec_len self.old.lockers }
+        requires whole { IsWhole self.old }
+        requires ready { IsReadyTable self.old }
+        ensures step { (st : State) → IsSound st.table → IsNumbered st → Shows self.old st
+            → DoesAnswer (step st session Commit) self.new result }
+        ensures count { self.new.count ≤ self.old.count + 1 }
+        ensures kept { DoesKeep self.old self.new }
+    {
+        if let Some(why) = self.idle_refusal(session) {
+            return Reply::Refused(why);
+        }
+        Reply::Committed(self.end(session) as u32)
+    }
+
+    /// Aborts the transaction, and replies how many locks it held.
+    fn serve_abort(&mut self, session: u16) -> Reply
+        requires some { 1 ≤ session }
+        requires within { session ≤ vec_len self.old.lockers }
+        requires whole { IsWhole self.old }
+        requires ready { IsReadyTable self.old }
+        ensures step { (st : State) → IsSound st.table → IsNumbered st → Shows self.old st
+            → DoesAnswer (step st session Abort) self.new result }
+        ensures count { self.new.count ≤ self.old.count + 1 }
+        ensures kept { DoesKeep self.old self.new }
+    {
+        if let Some(why) = self.open_refusal(session) {
+            return Reply::Refused(why);
+        }
+        Reply::Aborted(self.abort(session) as u32)
+    }
+
+    /// Serves one call of `session`. If memory is refused, nothing that contracts see changes.
+    pub(crate) fn serve(&mut self, session: u16, call: Call) -> Result<Reply, AllocError>
+        requires some { 1 ≤ session }
+        requires within { session ≤ vec_len self.old.lockers }
+        requires whole { IsWhole self.old }
+        requires ready { IsReadyTable self.old }
+        requires room { self.old.count < 18446744073709551615 }
+        ensures step { (st : State) → IsSound st.table → IsNumbered st → Shows self.old st
+            → IfOk result (DoesAnswer (step st session call) self.new) }
+        ensures err { (st : State) → Shows self.old st → OnErr result (Shows self.new st) }
+        ensures count { self.new.count ≤ self.old.count + 1 }
+        ensures whole { IsWhole self.new }
+        ensures ready { IsReadyTable self.new }
+        ensures len { vec_len self.new.lockers ≡ vec_len self.old.lockers }
+    {
+        match call {
+            Call::Begin => Ok(self.serve_begin(session)),
+            Call::Lock(resource, mode) => self.serve_lock(session, resource, mode),
+            Call::Convert(resource, mode) => self.serve_convert(session, resource, mode),
+            Call::Poll => Ok(self.serve_poll(session)),
+            Call::Release(resource) => Ok(self.serve_release(session, resource)),
+            Call::Commit => Ok(self.serve_commit(session)),
+            Call::Abort => Ok(self.serve_abort(session)),
+        }
+    }
+}

@@ -1,0 +1,163 @@
+//! Requests for a lock or a conversion: granted at once, or queued; a deadlock that the wait closes is resolved.
+
+ghost use Rattle.std.specs.Prelude.{◌≡◌, ◌≤◌, true, false, if◌then◌else◌, IfOk, OnErr, vec_len};
+ghost use Rattle.lock_rules.specs.State.{State, held_mode};
+ghost use Rattle.lock_rules.specs.Step.{target_of, is_held, ask};
+ghost use Rattle.lock_rules.specs.Sound.{IsNumbered, IsSound};
+ghost use Rattle.lock_desk.specs.inner.Cells.{is_granted, IsPlace};
+ghost use Rattle.lock_desk.specs.inner.Changes.{IsWhole, DoesKeep, mode_held, IsSameSeen, CanAsk, MayAsk, CanLock, CanConvert, HasAsked};
+ghost use Rattle.lock_desk.specs.inner.Ready.{IsReadyTable};
+ghost use Rattle.lock_desk.specs.inner.Shows.{Shows, DoesAnswer};
+
+use crate::cells::{RequestStatus, SessionMode};
+use crate::lock_table::LockTable;
+use crate::lock_table::refusals::target_of;
+use crate::lockers::Request;
+use crate::positions::position_of;
+use lock_modes::Mode;
+use lock_rules::Reply;
+use lock_tree::Resource;
+use std::alloc::AllocError;
+
+impl LockTable {
+    /// Requests a lock on a resource that the session does not hold. If memory is refused, nothing that contracts
+    /// see changes.
+    fn lock(
+        &mut self,
+        session: u16,
+        place: Option<usize>,
+        resource: Resource,
+        mode: Mode,
+    ) -> Result<RequestStatus, AllocError>
+        requires some { 1 ≤ session }
+        requires within { session ≤ vec_len self.old.lockers }
+        requires whole { IsWhole self.old }
+        requires ready { IsReadyTable self.old }
+        requires place { IsPlace resource self.old.cells.entries place }
+        requires can { CanLock session resource self.old }
+        ensures asked { IfOk result (λ status. HasAsked session resource mode (is_granted status) self.old self.new) }
+        ensures err { OnErr result (IsSameSeen self.old self.new) }
+        ensures kept { DoesKeep self.old self.new }
+    {
+        let position = position_of(session);
+        let locker = &mut self.lockers[position];
+        locker.make_room()?;
+        let status = self.cells.ask(
+            place,
+            resource,
+            SessionMode { session, mode },
+            &mut self.waits,
+        )?;
+        let newest = self.cells.place_or_last(place);
+        let locker = &mut self.lockers[position];
+        match status {
+            RequestStatus::Granted => locker.hold(resource, newest),
+            RequestStatus::Waiting => locker.wait_for(Request::Fresh(resource)),
+        }
+        Ok(status)
+    }
+
+    /// Requests a higher mode on a resource that the session holds. If memory is refused, nothing that contracts see
+    /// changes.
+    fn convert(
+        &mut self,
+        session: u16,
+        place: Option<usize>,
+        resource: Resource,
+        mode: Mode,
+    ) -> Result<RequestStatus, AllocError>
+        requires some { 1 ≤ session }
+        requires within { session ≤ vec_len self.old.lockers }
+        requires whole { IsWhole self.old }
+        requires ready { IsReadyTable self.old }
+        requires place { IsPlace resource self.old.cells.entries place }
+        requires can { CanConvert session resource self.old }
+        ensures asked { IfOk result (λ status. HasAsked session resource mode (is_granted status) self.old self.new) }
+        ensures err { OnErr result (IsSameSeen self.old self.new) }
+        ensures kept { DoesKeep self.old self.new }
+    {
+        let status = self.cells.ask(
+            place,
+            resource,
+            SessionMode { session, mode },
+            &mut self.waits,
+        )?;
+        match status {
+            RequestStatus::Granted => {}
+            RequestStatus::Waiting => {
+                let locker = &mut self.lockers[position_of(session)];
+                locker.wait_for(Request::Conversion(resource));
+            }
+        }
+        Ok(status)
+    }
+
+    /// Requests the mode `target`: nothing to do if `held` covers it, else a conversion or a lock. `held` is what
+    /// the session holds on `resource`.
+    fn request(
+        &mut self,
+        session: u16,
+        place: Option<usize>,
+        resource: Resource,
+        held: Option<Mode>,
+        target: Mode,
+    ) -> Result<RequestStatus, AllocError>
+        requires some { 1 ≤ session }
+        requires within { session ≤ vec_len self.old.lockers }
+        requires mode { held ≡ mode_held self.old session resource }
+        requires whole { IsWhole self.old }
+        requires ready { IsReadyTable self.old }
+        requires place { IsPlace resource self.old.cells.entries place }
+        requires can { CanAsk session resource self.old }
+        ensures held { is_held (mode_held self.old session resource) target ≡ true
+            → IfOk result (λ status. (is_granted status ≡ true) × IsSameSeen self.old self.new) }
+        ensures asked { is_held (mode_held self.old session resource) target ≡ false
+            → IfOk result (λ status. HasAsked session resource target (is_granted status) self.old self.new) }
+        ensures err { OnErr result (IsSameSeen self.old self.new) }
+        ensures kept { DoesKeep self.old self.new }
+    {
+        match held {
+            Some(held) if held.covers(target) => Ok(RequestStatus::Granted),
+            Some(_) => self.convert(session, place, resource, target),
+            None => self.lock(session, place, resource, target),
+        }
+    }
+
+    /// Requests `resource` in the least mode at or above `mode` and `held`, and returns the reply.
+    ///
+    /// If the request waits, resolves the deadlocks that it closes. So the reply can be `Deadlock`, or `Granted` if
+    /// the end of a victim's request has freed the resource.
+    pub(super) fn ask(
+        &mut self,
+        session: u16,
+        place: Option<usize>,
+        resource: Resource,
+        held: Option<Mode>,
+        mode: Mode,
+    ) -> Result<Reply, AllocError>
+        requires some { 1 ≤ session }
+        requires within { session ≤ vec_len self.old.lockers }
+        requires whole { IsWhole self.old }
+        requires ready { IsReadyTable self.old }
+        requires place { IsPlace resource self.old.cells.entries place }
+        requires held { held ≡ mode_held self.old session resource }
+        requires may { MayAsk session resource mode self.old }
+        ensures ask { (st : State) → IsSound st.table → IsNumbered st → Shows self.old st
+            → let held = held_mode st.table session resource in
+            IfOk result (DoesAnswer (ask st session resource (target_of held mode)) self.new) }
+        ensures err { OnErr result (IsSameSeen self.old self.new) }
+        ensures count { self.new.count ≡ self.old.count }
+        ensures whole { IsWhole self.new }
+        ensures ready { IsReadyTable self.new }
+        ensures len { vec_len self.new.lockers ≡ vec_len self.old.lockers }
+    {
+        let target = target_of(held, mode);
+        match self.request(session, place, resource, held, target)? {
+            RequestStatus::Granted => Ok(Reply::Granted(target)),
+            RequestStatus::Waiting => {
+                self.resolve_deadlocks(session);
+                Ok(self.standing_reply(session, Reply::Granted(target)))
+            }
+        }
+    }
+}

@@ -1,7 +1,0 @@
-use Rattle.std.proofs.Common.{take, arith}
-use Rattle.lock_trace.proofs.LineSteps.{hundreds_written}
-use Rattle.lock_trace.proofs.line.put_short.Goals as goal
-
-pub returns-clause-text : goal.returns-clause-text
-returns-clause-text c =
-    hundreds_written (take c.args.at c.args.line.now) _ _ c.args.number c.if-number-lt100.false (omega (arith, c.requires.four)) c.put_small-next.ensures.text c.put_two.ensures.text

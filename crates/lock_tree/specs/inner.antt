@@ -1,0 +1,2 @@
+pub mod NumeralScan
+pub mod Pieces

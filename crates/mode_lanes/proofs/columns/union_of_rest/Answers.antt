@@ -1,6 +1,0 @@
-use Rattle.std.proofs.Common.{sym, arith}
-use Rattle.mode_lanes.proofs.Unions.{union-item}
-use Rattle.mode_lanes.proofs.columns.union_of_rest.Goals as goal
-
-pub loop-byte-preserved : goal.loop-byte-preserved
-loop-byte-preserved c = let i = c.loop-byte.byte-index in rw c.loop-byte.invariant (sym (union-item c.args.rest.now i (omega arith)))

@@ -1,0 +1,7 @@
+use Rattle.std.specs.Prelude.{All}
+use Rattle.combining.specs.Sessions.{IsSessionOf}
+use Rattle.office_tests.proofs.steps.perform.Given as goal
+
+-- the sessions belong to the office
+abbrev pub invariant-loop-session : goal.invariant-loop-session
+invariant-loop-session g l = All (IsSessionOf l.office) l.sessions.items

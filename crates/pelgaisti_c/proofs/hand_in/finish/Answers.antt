@@ -1,0 +1,16 @@
+use Rattle.std.proofs.Common.{◌∷◌, [], ◌++◌, List, sym, subst, arith}
+use Rattle.std.specs.Prelude.{All}
+use Rattle.std.proofs.lemmas.List.Elements.{All-append, All-cons}
+use Rattle.publication.specs.Views.{TicketView}
+use Rattle.combining.specs.Sessions.{HasNothingPending}
+use Rattle.pelgaisti_c.proofs.hand_in.finish.Goals as goal
+
+pub unreachable-requires-in-Err-Unsettled-default-default : goal.unreachable-requires-in-Err-Unsettled-default-default
+unreachable-requires-in-Err-Unsettled-default-default c =
+    let refused = c.in-Err-Unsettled-default-default in
+    let handed = c.args.share.handed.items in
+    let s = c.args.share.session in
+    let none : All HasNothingPending [] = λ k d few. absurd (omega (arith, few)) in
+    let theirs : All HasNothingPending handed = λ k d few. (c.args.share.theirs k d few).1 in
+    let all : All HasNothingPending (handed ++ s ∷ []) = All-append HasNothingPending handed (s ∷ []) theirs (All-cons HasNothingPending s [] c.requires.settled none) in
+    (refused.ensures.unsettled refused.field-0-0-is).1 (subst (λ (l : List TicketView). All HasNothingPending l) (sym c.push_reserved.ensures.items) all)

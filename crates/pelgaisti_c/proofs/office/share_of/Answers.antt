@@ -1,0 +1,17 @@
+use Rattle.std.proofs.Common.{rules, ◌≡◌, [], List, sym, ap, ◌∙◌, subst, arith}
+use Rattle.std.specs.Prelude.{All}
+use Rattle.publication.specs.Views.{BoardView, TicketView}
+use Rattle.combining.specs.Sessions.{IsSessionOf, HasNothingPending}
+use Rattle.pelgaisti_c.proofs.office.share_of.Goals as goal
+
+pub invariant_of-share : goal.invariant_of-share
+invariant_of-share c =
+    let same : c.in_ok-office.office.value ≡ c.args.shared.now.value = search rules in
+    let P : TicketView → Type 0 = λ one. IsSessionOf c.in_ok-office.office.value one × HasNothingPending one in
+    let none : c.new.result.items ≡ [] = search rules in
+    let none_handed : All P [] = λ k d few. absurd (omega (arith, few)) in
+    record {
+      ours = subst (λ (o : BoardView). IsSessionOf o c.args.session) (sym same) c.requires.ours.0;
+      theirs = subst (λ (l : List TicketView). All P l) (sym none) none_handed;
+      count = c.requires.count ∙ ap (λ (o : BoardView). o.sessions) (sym same);
+    }

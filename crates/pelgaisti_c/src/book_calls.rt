@@ -1,0 +1,129 @@
+//! The calls of a book in numbers, on the book that a handle holds.
+
+ghost use Rattle.std.specs.Prelude.{◌≡◌, ◌≢◌, ◌≤◌, ◌⊎◌, ℕ, List, IfSome, IfNone, length, min};
+ghost use Rattle.lock_modes.specs.Codes.{code_of};
+ghost use Rattle.lock_rules.specs.Legal.{state_of};
+ghost use Rattle.lock_rules.specs.State.{held_mode, mode_or_nothing, holders};
+ghost use Rattle.lock_rules.specs.declared.calls.Call.{Call as CallValue};
+ghost use Rattle.pelgaisti_c.specs.Numbers.{IsCall, IsCallFault, IsLevel, IsPath, numbers_of_entry, numbers_of_holder};
+ghost use Rattle.pelgaisti_c.specs.Calls.{IsSession, IsServed, are_written};
+
+use crate::numbers::{
+    CallNumbers, EntryNumbers, HolderNumbers, ReplyNumbers, ResourceNumbers, entry_numbers,
+    holder_numbers, read_call, read_resource, reply_numbers,
+};
+use crate::status::{NO_MEMORY, NO_SUCH_LEVEL, NO_SUCH_MODE, NO_SUCH_OP, NO_SUCH_SESSION, OK};
+use lock_desk::{Book, Entry, Mode};
+use std::alloc::Global;
+
+/// The session number as the book takes it. Returns `None` if the book has no such session.
+fn session_of(book: &Book, session: u32) -> Option<u16>
+    ensures some { IfSome result (λ number. (number ≡ session) × IsSession book.now session) }
+    ensures none { IfNone result (¬ (IsSession book.now session)) }
+{
+    if session == 0 || session > u32::from(book.sessions()) {
+        return None;
+    }
+    Some(session as u16)
+}
+
+/// Serves the call that the numbers encode.
+pub(crate) fn serve(
+    book: &mut Book,
+    session: u32,
+    asked: &CallNumbers,
+    reply: &mut ReplyNumbers,
+) -> u32
+    ensures served { result ≡ OK → IsSession book.old session × IsServed book.old book.new session asked.now reply.new }
+    ensures failed { result ≢ OK → (book.new ≡ book.old) × (reply.new ≡ reply.old) }
+    ensures session { result ≡ NO_SUCH_SESSION → ¬ (IsSession book.old session) }
+    ensures call { NO_SUCH_OP ≤ result → IsSession book.old session × IsCallFault asked.now result }
+    ensures memory { result ≡ NO_MEMORY → IsSession book.old session × ((call : CallValue) × IsCall asked.now call) }
+    ensures statuses { (result ≤ NO_MEMORY) ⊎ ((NO_SUCH_SESSION ≤ result) × (result ≤ NO_SUCH_MODE)) }
+{
+    let Some(number) = session_of(book, session) else {
+        return NO_SUCH_SESSION;
+    };
+    let call = match read_call(asked) {
+        Ok(call) => call,
+        Err(fault) => return fault,
+    };
+    match book.serve(number, call) {
+        Ok(outcome) => {
+            *reply = reply_numbers(outcome);
+            OK
+        }
+        Err(_) => NO_MEMORY,
+    }
+}
+
+/// Writes the code of the mode that the session holds on the resource, or that of NL if it holds none.
+pub(crate) fn held(book: &Book, session: u32, place: &ResourceNumbers, mode: &mut u32) -> u32
+    ensures ok { result ≡ OK → IsSession book.now session
+        × ((r : List ℕ) × IsPath place.now r × (mode.new ≡ code_of (mode_or_nothing (held_mode (state_of book.now.history).table session r)))) }
+    ensures failed { result ≢ OK → mode.new ≡ mode.old }
+    ensures session { result ≡ NO_SUCH_SESSION → ¬ (IsSession book.now session) }
+    ensures level { result ≡ NO_SUCH_LEVEL → IsSession book.now session × ¬ (IsLevel place.now.level) }
+    ensures statuses { (result ≡ OK) ⊎ ((result ≡ NO_SUCH_SESSION) ⊎ (result ≡ NO_SUCH_LEVEL)) }
+{
+    let Some(number) = session_of(book, session) else {
+        return NO_SUCH_SESSION;
+    };
+    let Some(resource) = read_resource(place) else {
+        return NO_SUCH_LEVEL;
+    };
+    *mode = match book.held(number, resource) {
+        Some(held) => u32::from(held.code()),
+        None => 0,
+    };
+    OK
+}
+
+/// Writes the numbers of the first holders, as many as `list` has room for.
+fn write_holders(found: &[(u16, Mode)], list: &mut [HolderNumbers])
+    ensures { list.new ≡ are_written numbers_of_holder found.now list.old }
+{
+    let count = usize::min(found.len(), list.len());
+    for k in 0..count {
+        list[k] = holder_numbers(&found[k]);
+    }
+}
+
+/// Writes the holders of the resource, as many as `list` has room for, and the number of all holders to `count`.
+pub(crate) fn holders(
+    alloc: Global,
+    book: &Book,
+    place: &ResourceNumbers,
+    list: &mut [HolderNumbers],
+    count: &mut usize,
+) -> u32
+    ensures ok { result ≡ OK → (r : List ℕ) × IsPath place.now r × (let all = holders r (state_of book.now.history).table.held in
+        (list.new ≡ are_written numbers_of_holder all list.old) × (count.new ≡ length all)) }
+    ensures failed { result ≢ OK → (list.new ≡ list.old) × (count.new ≡ count.old) }
+    ensures level { result ≡ NO_SUCH_LEVEL → ¬ (IsLevel place.now.level) }
+    ensures memory { result ≡ NO_MEMORY → IsLevel place.now.level }
+    ensures statuses { (result ≡ OK) ⊎ ((result ≡ NO_MEMORY) ⊎ (result ≡ NO_SUCH_LEVEL)) }
+{
+    let Some(resource) = read_resource(place) else {
+        return NO_SUCH_LEVEL;
+    };
+    let mut found = Vec::new(alloc);
+    if book.holders(resource, &mut found).is_err() {
+        return NO_MEMORY;
+    }
+    write_holders(found.as_slice(), list);
+    *count = found.len();
+    OK
+}
+
+/// Writes the numbers of the first entries, as many as `places` has room for. Returns the number of entries written.
+pub(crate) fn write_entries(entries: &[Entry], places: &mut [EntryNumbers]) -> usize
+    ensures count { result ≡ min (length entries.now) (length places.old) }
+    ensures entries { places.new ≡ are_written numbers_of_entry entries.now places.old }
+{
+    let count = usize::min(entries.len(), places.len());
+    for k in 0..count {
+        places[k] = entry_numbers(&entries[k]);
+    }
+    count
+}

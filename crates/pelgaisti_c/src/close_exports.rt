@@ -1,0 +1,98 @@
+//! The exports that close an office.
+
+ghost use Rattle.std.specs.Prelude.{◌≡◌, ◌≢◌, ◌≤◌, ◌⊎◌, ◌↔◌, Some, None};
+ghost use Rattle.lock_desk.specs.BookView.{BookView};
+ghost use Rattle.publication.specs.Boards.{IsEachOnce};
+ghost use Rattle.combining.specs.Closed.{IsClosed};
+ghost use Rattle.combining.specs.Sessions.{HasNothingPending};
+ghost use Rattle.pelgaisti_c.specs.Offices.{all_of};
+ghost use Rattle.pelgaisti_c.specs.Sessions.{IsKept, IsHandedIn};
+ghost use Rattle.pelgaisti_c.specs.declared.session_share.SessionShare.{SessionShare as ShareValue};
+
+use crate::book_handle::BookHandle;
+use crate::hand_in;
+use crate::session_handle::SessionHandle;
+use crate::status::{CLOSED, COPIED, MISSING, NO_MEMORY, OK, OPEN, OTHER_OFFICE, PENDING};
+use std::alloc::Global;
+
+/// Hands the session, with all sessions that were handed in to it, in to the session `to` of its office, and closes its
+/// handle. Needs that open handles with the same mark belong to the same office.
+#[unsafe(no_mangle)]
+pub extern "C" fn pelgaisti_session_hand_in(
+    alloc: Global,
+    session: &mut SessionHandle,
+    to: &mut SessionHandle,
+) -> u32
+    requires one_office { (a b : ShareValue) → session.old.held.share ≡ Some a → to.old.held.share ≡ Some b → a.mark ≡ b.mark → a.office.value ≡ b.office.value }
+    ensures ok { result ≡ OK → (share before after : ShareValue) × (session.old.held.share ≡ Some share) × (to.old.held.share ≡ Some before) × (to.new.held.share ≡ Some after)
+        × IsHandedIn share before after }
+    ensures handed { result ≡ OK → session.new.held.share ≡ None }
+    ensures same { result ≢ OK → IsKept session.old.held.share session.new.held.share × IsKept to.old.held.share to.new.held.share }
+    ensures open { result ≢ OK → (session.new.is_open ≡ session.old.is_open) × (to.new.is_open ≡ to.old.is_open) }
+    ensures closed { result ≡ CLOSED ↔ ((session.old.is_open ≢ 1) ⊎ (to.old.is_open ≢ 1)) }
+    ensures other_office { result ≡ OTHER_OFFICE → (a b : ShareValue) × (session.old.held.share ≡ Some a) × (to.old.held.share ≡ Some b) × (a.mark ≢ b.mark) }
+    ensures pending { result ≡ PENDING → (a b : ShareValue) × (session.old.held.share ≡ Some a) × (to.old.held.share ≡ Some b) × (a.mark ≡ b.mark) × (a.session.pending ≢ None) }
+    ensures memory { result ≡ NO_MEMORY → (a b : ShareValue) × (session.old.held.share ≡ Some a) × (to.old.held.share ≡ Some b) × (a.mark ≡ b.mark) × HasNothingPending a.session }
+    ensures statuses { (result ≤ CLOSED) ⊎ ((result ≡ OTHER_OFFICE) ⊎ (result ≡ PENDING)) }
+{
+    if session.is_open != 1 || to.is_open != 1 {
+        return CLOSED;
+    }
+    let Some(share) = session.take(alloc) else {
+        return CLOSED;
+    };
+    let Some(mut other) = to.take(alloc) else {
+        session.put(share);
+        return CLOSED;
+    };
+    match hand_in::hand_in(share, &mut other) {
+        Ok(()) => {
+            to.put(other);
+            OK
+        }
+        Err((fault, share)) => {
+            session.put(share);
+            to.put(other);
+            fault
+        }
+    }
+}
+
+/// Closes the office of the session, to which all other sessions were handed in. Closes the session's handle, and opens
+/// `book` with the lock table and the whole history.
+#[unsafe(no_mangle)]
+pub extern "C" fn pelgaisti_office_close(
+    alloc: Global,
+    session: &mut SessionHandle,
+    book: &mut BookHandle,
+) -> u32
+    ensures ok { result ≡ OK → (share : ShareValue) × (view : BookView) × (session.old.held.share ≡ Some share) × (book.new.held.book ≡ Some view)
+        × IsClosed share.office.value (all_of share) view }
+    ensures done { (result ≡ OK) ⊎ (result ≡ COPIED) → session.new.held.share ≡ None }
+    ensures book { result ≢ OK → book.new ≡ book.old }
+    ensures same { result ≢ OK → result ≢ COPIED → (session.new.is_open ≡ session.old.is_open) × IsKept session.old.held.share session.new.held.share }
+    ensures open { result ≡ OPEN ↔ (book.old.is_open ≡ 1) }
+    ensures closed { result ≡ CLOSED ↔ ((book.old.is_open ≢ 1) × (session.old.is_open ≢ 1)) }
+    ensures missing { result ≡ MISSING → (share : ShareValue) × (session.old.held.share ≡ Some share) × ¬ (IsEachOnce share.sessions (all_of share)) }
+    ensures pending { result ≡ PENDING → (share : ShareValue) × (session.old.held.share ≡ Some share) × IsEachOnce share.sessions (all_of share) × (share.session.pending ≢ None) }
+    ensures whole { (result ≡ NO_MEMORY) ⊎ (result ≡ COPIED) → (share : ShareValue) × (session.old.held.share ≡ Some share) × IsEachOnce share.sessions (all_of share) × HasNothingPending share.session }
+    ensures statuses { (result ≤ CLOSED) ⊎ ((result ≡ OPEN) ⊎ ((result ≡ MISSING) ⊎ ((result ≡ PENDING) ⊎ (result ≡ COPIED)))) }
+{
+    if book.is_open == 1 {
+        return OPEN;
+    }
+    let Some(share) = session.take(alloc) else {
+        return CLOSED;
+    };
+    match hand_in::close(alloc, share) {
+        Ok(made) => {
+            book.put(made);
+            OK
+        }
+        Err((fault, Some(share))) => {
+            session.put(share);
+            fault
+        }
+        Err((fault, None)) => fault,
+    }
+}

@@ -1,0 +1,145 @@
+//! The calls of a session in numbers, on the share that a handle holds.
+
+ghost use Rattle.std.specs.Prelude.{◌≡◌, ◌≢◌, ◌<◌, ◌≤◌, ◌⊎◌, true, None, length};
+ghost use Rattle.combining.specs.Sessions.{IsPassed, IsPendingServed};
+ghost use Rattle.lock_rules.specs.Legal.{calls_of};
+ghost use Rattle.publication.specs.Boards.{heard_from};
+ghost use Rattle.lock_rules.specs.declared.calls.Call.{Call as CallValue};
+ghost use Rattle.pelgaisti_c.specs.Numbers.{IsCall, IsCallFault};
+ghost use Rattle.pelgaisti_c.specs.Sessions.{IsSameOffice, IsPublished, IsElsewhere, IsAnswered, IsHeard, IsRetired};
+
+use crate::numbers::{AnswerNumbers, CallNumbers, PassNumbers, read_call, reply_numbers};
+use crate::session_share::SessionShare;
+use crate::status::{
+    ELSEWHERE, NO_SUCH_MODE, NO_SUCH_OP, NOT_SERVED, NOTHING_PENDING, OK, OTHER_OFFICE, PENDING,
+    RETIRED,
+};
+use combining::{Posted, Turn};
+
+/// The session's record is on the publication list.
+const LISTED: u32 = 1;
+
+/// The session's record is not on the publication list yet. Only passes of the session visit it.
+const UNLISTED: u32 = 2;
+
+/// The number of `posted`.
+fn posted_number(posted: Posted) -> u32
+    ensures some { (LISTED ≤ result) × (result ≤ UNLISTED) }
+    ensures listed { result ≡ LISTED → posted ≡ Posted.Listed }
+    ensures unlisted { result ≡ UNLISTED → posted ≡ Posted.Unlisted }
+{
+    match posted {
+        Posted::Listed => LISTED,
+        Posted::Unlisted => UNLISTED,
+    }
+}
+
+/// Publishes the call that the numbers encode.
+pub(crate) fn publish(share: &mut SessionShare, asked: &CallNumbers, posted: &mut u32) -> u32
+    ensures ok { result ≡ OK → IsPublished share.old share.new asked.now posted.new }
+    ensures posted { result ≡ OK → (LISTED ≤ posted.new) × (posted.new ≤ UNLISTED) }
+    ensures failed { result ≢ OK → (share.new ≡ share.old) × (posted.new ≡ posted.old) }
+    ensures call { NO_SUCH_OP ≤ result → result ≤ NO_SUCH_MODE → IsCallFault asked.now result }
+    ensures retired { result ≡ RETIRED → (share.old.session.retired ≡ true) × ((call : CallValue) × IsCall asked.now call) }
+    ensures pending { result ≡ PENDING → (share.old.session.pending ≢ None) × ((call : CallValue) × IsCall asked.now call) }
+    ensures statuses { (result ≡ OK) ⊎ ((result ≡ RETIRED) ⊎ ((result ≡ PENDING) ⊎ ((NO_SUCH_OP ≤ result) × (result ≤ NO_SUCH_MODE)))) }
+{
+    let call = match read_call(asked) {
+        Ok(call) => call,
+        Err(fault) => return fault,
+    };
+    if share.session.is_retired() {
+        return RETIRED;
+    }
+    if !share.session.is_idle() {
+        return PENDING;
+    }
+    *posted = posted_number(share.office.publish(&mut share.session, call));
+    OK
+}
+
+/// Tries once to become the combiner, and makes a pass if that succeeds.
+pub(crate) fn serve(share: &mut SessionShare, pass: &mut PassNumbers) -> u32
+    ensures passed { result ≡ OK → IsPassed share.old.session share.new.session pass.new.served }
+    ensures starved { result ≡ OK → pass.new.starved ≤ 1 }
+    ensures own { result ≡ OK → pass.new.starved ≡ 0 → share.old.session.pending ≢ None → IsPendingServed share.new.session }
+    ensures heard { (j : _) → result ≡ OK → pass.new.starved ≡ 0 → 0 < j → j ≤ share.old.sessions
+        → heard_from share.old.session j ≤ length (calls_of j share.new.session.front) }
+    ensures same { IsSameOffice share.old share.new }
+    ensures failed { result ≢ OK → pass.new ≡ pass.old }
+    ensures elsewhere { result ≡ ELSEWHERE → IsElsewhere share.old share.new }
+    ensures statuses { (result ≡ OK) ⊎ (result ≡ ELSEWHERE) }
+{
+    match share.office.serve(&mut share.session) {
+        Turn::Elsewhere => ELSEWHERE,
+        Turn::Pass {
+            served,
+            starved: true,
+        } => {
+            *pass = PassNumbers { served, starved: 1 };
+            OK
+        }
+        Turn::Pass {
+            served,
+            starved: false,
+        } => {
+            *pass = PassNumbers { served, starved: 0 };
+            OK
+        }
+    }
+}
+
+/// Takes the answer to the pending call.
+pub(crate) fn collect(share: &mut SessionShare, answer: &mut AnswerNumbers) -> u32
+    ensures ok { result ≡ OK → IsAnswered share.old share.new answer.new }
+    ensures failed { result ≢ OK → (share.new ≡ share.old) × (answer.new ≡ answer.old) }
+    ensures nothing { result ≡ NOTHING_PENDING → share.old.session.pending ≡ None }
+    ensures late { result ≡ NOT_SERVED → (share.old.session.pending ≢ None) × ¬ (IsPendingServed share.old.session) }
+    ensures statuses { (result ≡ OK) ⊎ ((result ≡ NOTHING_PENDING) ⊎ (result ≡ NOT_SERVED)) }
+{
+    if share.session.is_idle() || share.session.is_retired() {
+        return NOTHING_PENDING;
+    }
+    match share.office.collect(&mut share.session) {
+        Some(found) => {
+            *answer = AnswerNumbers {
+                place: found.place,
+                reply: reply_numbers(found.reply),
+            };
+            OK
+        }
+        None => NOT_SERVED,
+    }
+}
+
+/// Retires the session.
+pub(crate) fn retire(share: &mut SessionShare) -> u32
+    ensures ok { result ≡ OK → IsRetired share.old share.new }
+    ensures failed { result ≢ OK → share.new ≡ share.old }
+    ensures retired { result ≡ RETIRED → share.old.session.retired ≡ true }
+    ensures pending { result ≡ PENDING → share.old.session.pending ≢ None }
+    ensures statuses { (result ≡ OK) ⊎ ((result ≡ RETIRED) ⊎ (result ≡ PENDING)) }
+{
+    if share.session.is_retired() {
+        return RETIRED;
+    }
+    if !share.session.is_idle() {
+        return PENDING;
+    }
+    share.office.retire(&mut share.session);
+    OK
+}
+
+/// Makes what `other` knows of the history known to `share`.
+pub(crate) fn hear(share: &mut SessionShare, other: &mut SessionShare) -> u32
+    requires one_office { share.old.mark ≡ other.old.mark → share.old.office.value ≡ other.old.office.value }
+    ensures ok { result ≡ OK → (share.old.mark ≡ other.old.mark) × IsHeard share.old other.old share.new }
+    ensures failed { result ≢ OK → (result ≡ OTHER_OFFICE) × (share.old.mark ≢ other.old.mark) × (share.new ≡ share.old) }
+    ensures other { other.new ≡ other.old }
+{
+    if share.mark != other.mark {
+        return OTHER_OFFICE;
+    }
+    share.office.hear(&mut share.session, &mut other.session);
+    OK
+}

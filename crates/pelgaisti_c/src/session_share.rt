@@ -1,0 +1,25 @@
+//! What a session's handle holds.
+
+ghost use Rattle.std.specs.Prelude.{◌≡◌, All};
+ghost use Rattle.combining.specs.Sessions.{IsSessionOf, HasNothingPending};
+
+use combining::{Office, Session};
+use std::sync::Arc;
+
+/// A session and its share of the office.
+#[derive(Drop)]
+pub struct SessionShare {
+    /// The office, which all shares of its sessions own together.
+    pub(crate) office: Arc<Office>,
+    /// The handle's session.
+    pub(crate) session: Session,
+    /// The sessions that were handed in to this one.
+    pub(crate) handed: Vec<Session>,
+    /// The number of sessions of the office.
+    pub(crate) sessions: u16,
+    /// The caller's number for the office. The caller gives no two open offices the same.
+    pub(crate) mark: u64,
+    ghost ours: { IsSessionOf office.value session },
+    ghost theirs: { All (λ one. IsSessionOf office.value one × HasNothingPending one) handed.items },
+    ghost count: { sessions ≡ office.value.sessions },
+}

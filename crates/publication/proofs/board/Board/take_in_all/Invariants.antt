@@ -1,6 +1,0 @@
-use Rattle.std.proofs.Common.{◌≡◌, ◌++◌, map}
-use Rattle.publication.specs.Closing.{handed_by}
-use Rattle.publication.proofs.board.Board.take_in_all.Given as goal
-
-abbrev pub invariant-loop-ticket : goal.invariant-loop-ticket
-invariant-loop-ticket l = (l.closing.table_id ≡ l.initial.closing.table_id) × (l.closing.me.0.others.handed ≡ l.initial.closing.me.0.others.handed ++ map handed_by l.yielded)

@@ -1,0 +1,3 @@
+pub mod Tickets
+pub mod Closing
+pub mod Inside

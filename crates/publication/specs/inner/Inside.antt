@@ -1,0 +1,37 @@
+-- How the private fields of a board and of a ticket give what contracts see, and the invariants of both types.
+use Rattle.std.specs.Prelude.{◌≡◌, ◌+◌, ◌<◌}
+use Rattle.publication.specs.Views.{BoardView, TicketView}
+use Rattle.publication.specs.inner.Tickets.{IsBoard, IsBetweenCalls}
+use Rattle.publication.specs.declared.board.Board.TheInside.{Inside as BoardInside}
+use Rattle.publication.specs.declared.board.Ticket.TheInside.{Inside as TicketInside}
+
+-- What contracts see of the board.
+abbrev pub board_view_of : BoardInside → BoardView
+board_view_of b = record { id = b.table.shared.table_id; sessions = b.sessions }
+
+-- The table has a record and a slot for the lock and for each session, and there is at least one session.
+pub record IsSized (b : BoardInside) : Type 0 where
+  pub board : IsBoard b.table.shared.table_id
+  pub slots : b.table.shared.table_id.slots ≡ b.sessions + 1
+  pub some : 0 < b.sessions
+
+-- What contracts see of the ticket.
+abbrev pub ticket_view_of : TicketInside → TicketView
+ticket_view_of t = record {
+  board = t.seat.table_id;
+  number = t.number;
+  front = t.seat.me.0.front;
+  pending = t.seat.me.0.own.pending;
+  collected = t.seat.me.0.own.collected;
+  heard = t.seat.me.0.heard;
+  retired = t.is_retired;
+  has_book = t.has_book;
+  opened = t.seat.me.0.combiner.opened;
+  listed = t.is_listed;
+  route = t.seat.me.0.listing.route;
+}
+
+-- The ticket's number is one of the board's sessions, and its seat is in the state that its fields record.
+pub record IsTicketState (t : TicketInside) : Type 0 where
+  pub small : t.number < t.seat.table_id.slots
+  pub settled : IsBetweenCalls t.seat.me t.number t.seen t.has_book t.is_pending t.is_listed t.is_retired

@@ -1,0 +1,17 @@
+use Rattle.std.proofs.Common.{◌≡◌, ℕ, true, length}
+use Rattle.waits_for.specs.Pairs.{pairs_of}
+use Rattle.waits_for.specs.Walks.{Reaches}
+use Rattle.waits_for.specs.inner.Bits.{has_bit, words_for, unset_below}
+use Rattle.waits_for.proofs.search.find_reaching.Given as goal
+
+-- All members of the set reach t, and t is a member.
+abbrev pub invariant-loop : goal.invariant-loop
+invariant-loop l = record {
+  room : length l.reaching ≡ words_for l.matrix.sessions;
+  own : has_bit l.reaching l.t ≡ true;
+  lead : (u : ℕ) → has_bit l.reaching u ≡ true → Reaches (pairs_of l.matrix) u l.t;
+}
+
+-- Each pass but the last adds a session.
+abbrev pub decreases-loop : goal.decreases-loop
+decreases-loop l = unset_below l.matrix.sessions l.reaching

@@ -1,0 +1,25 @@
+-- Rows of bits, in words of 64. Only private contracts cite these definitions.
+use Rattle.std.specs.Prelude.{◌≡◌, ℕ, ◌+◌, ◌*◌, ◌/◌, ◌%◌, ◌<◌, ◌≤◌, Bool, false, ◌&&◌, ◌==◌, if◌then◌else◌, nat_lt, zero, suc, List, slice_index}
+use Rattle.std.specs.Int.{bit_at}
+
+-- Bit k is set in a row of words.
+abbrev pub has_bit : List ℕ → ℕ → Bool
+has_bit words k = bit_at (slice_index words (k / 64)) (k % 64) == 1
+
+-- The number of words of a row with a bit for each of n sessions.
+abbrev pub words_for : ℕ → ℕ
+words_for n = (n + 63) / 64
+
+-- Bit u of row t is set, in rows for n sessions, one after another; false unless t and u are positions of
+-- sessions.
+abbrev pub marked_in : ℕ → List ℕ → ℕ → ℕ → Bool
+marked_in n words t u = nat_lt t n && (nat_lt u n && has_bit words (t * (64 * words_for n) + u))
+
+-- In the rows for n sessions no bit past the last session is set.
+abbrev pub IsClearPast : ℕ → List ℕ → Type 0
+IsClearPast n words = (t u : ℕ) → t < n → n ≤ u → u < 64 * words_for n → has_bit words (t * (64 * words_for n) + u) ≡ false
+
+-- The number of the first n bits that are not set.
+abbrev pub unset_below : ℕ → List ℕ → ℕ
+unset_below zero words = 0
+unset_below (suc n) words = (if has_bit words n then 0 else 1) + unset_below n words

@@ -1,0 +1,35 @@
+-- The steps of a search in the waits-for graph. Only private contracts cite these definitions.
+use Rattle.std.specs.Prelude.{◌≡◌, ℕ, ◌<◌, ◌≤◌, Bool, true, false, if◌then◌else◌, nat_le, List, Option, Some, None, length, slice_index}
+use Rattle.waits_for.specs.inner.Bits.{has_bit}
+use Rattle.waits_for.specs.Walks.{Reaches}
+
+-- Every session that waits for a session is in the set.
+abbrev pub HasAllWaiting : (ℕ → ℕ → Bool) → List ℕ → Type 0
+HasAllWaiting pairs set = (t u : ℕ) → pairs t u ≡ true → has_bit set t ≡ true
+
+-- Every reached session with an edge to a member of the set is a member.
+abbrev pub IsClosedBack : (ℕ → ℕ → Bool) → List ℕ → List ℕ → Type 0
+IsClosedBack pairs reached set = (u v : ℕ) → has_bit reached u ≡ true → pairs u v ≡ true → has_bit set v ≡ true → has_bit set u ≡ true
+
+-- The set has kept its members, and its new members reach every session that all old members reach.
+pub record AddsPredecessors (pairs : ℕ → ℕ → Bool) (old new : List ℕ) : Type 0 where
+  pub room : length new ≡ length old
+  pub kept : (u : ℕ) → has_bit old u ≡ true → has_bit new u ≡ true
+  pub lead : (t : ℕ) → ((u : ℕ) → has_bit old u ≡ true → Reaches pairs u t) → (u : ℕ) → has_bit new u ≡ true → Reaches pairs u t
+
+-- Of the positions below n that pass the test, v has the greatest age, and is the least with that age.
+pub record IsBest (test : ℕ → Bool) (ages : List ℕ) (n v : ℕ) : Type 0 where
+  pub below : v < n
+  pub passes : test v ≡ true
+  pub greatest : (u : ℕ) → u < n → test u ≡ true → slice_index ages u ≤ slice_index ages v
+  pub least : (u : ℕ) → u < n → test u ≡ true → slice_index ages u ≡ slice_index ages v → v ≤ u
+
+-- The best position below n that passes the test, or `None` if none passes.
+abbrev pub IsBestBelow : (ℕ → Bool) → List ℕ → ℕ → Option ℕ → Type 0
+IsBestBelow test ages n None = (u : ℕ) → u < n → test u ≡ false
+IsBestBelow test ages n (Some v) = IsBest test ages n v
+
+-- The best position so far if it is at least as young as u, otherwise u.
+abbrev pub younger : List ℕ → Option ℕ → ℕ → ℕ
+younger ages None u = u
+younger ages (Some v) u = if nat_le (slice_index ages u) (slice_index ages v) then v else u
