@@ -1,6 +1,6 @@
 //! The tables of the lock modes, typed by hand, independent of the code and of its definitions.
 
-use lock_modes::Mode;
+use lock_modes::{MODES, Mode};
 use std::mem::size_of;
 use std::process::Abort;
 
@@ -10,29 +10,27 @@ const YES: bool = true;
 /// The two modes conflict.
 const NO: bool = false;
 
-/// All modes, in the order of their codes.
-const MODES: [Mode; 6] = [Mode::NL, Mode::IS, Mode::IX, Mode::S, Mode::SIX, Mode::X];
-
 /// Expects this code, conflict mask and parent need of a mode.
-fn want_row(rt: &impl Abort, mode: Mode, code: u8, mask: u8, need: Mode) {
+fn want_row(rt: &impl Abort, mode: Mode, (code, mask, need): (u8, u8, Mode)) {
     assert_eq!(rt; mode.code(), code, "the code of {mode:?}");
     assert_eq!(rt; mode.conflict_mask(), mask, "the mask of {mode:?}");
     assert_eq!(rt; mode.parent_need(), need, "the need of {mode:?}");
 }
 
-/// The code, the conflict mask and the parent need of each mode.
+/// The code, the conflict mask and the parent need of each mode, in the order of `MODES`.
 #[test]
 fn codes_conflict_masks_and_parent_needs(rt: HostRuntime) {
     let rows = [
-        (Mode::NL, 0, 0, Mode::NL),
-        (Mode::IS, 1, 8, Mode::IS),
-        (Mode::IX, 3, 4, Mode::IX),
-        (Mode::S, 5, 2, Mode::IS),
-        (Mode::SIX, 7, 6, Mode::IX),
-        (Mode::X, 15, 1, Mode::IX),
+        (0, 0, Mode::NL),
+        (1, 8, Mode::IS),
+        (3, 4, Mode::IX),
+        (5, 2, Mode::IS),
+        (7, 6, Mode::IX),
+        (15, 1, Mode::IX),
     ];
-    for (mode, code, mask, need) in rows {
-        want_row(&rt, mode, code, mask, need);
+    assert_eq!(rt; rows.len(), MODES.len());
+    for (mode, row) in MODES.into_iter().zip(rows) {
+        want_row(&rt, mode, row);
     }
 }
 
@@ -47,18 +45,19 @@ fn want_compatible(rt: &impl Abort, asked: Mode, row: [bool; 6]) {
     }
 }
 
-/// The compatibility matrix, with the requested mode first and the granted modes in the order of `MODES`.
+/// The compatibility matrix: a row for each requested mode, with the granted modes, both in the order of `MODES`.
 #[test]
 fn compatibility_matrix(rt: HostRuntime) {
     let table = [
-        (Mode::NL, [YES, YES, YES, YES, YES, YES]),
-        (Mode::IS, [YES, YES, YES, YES, YES, NO]),
-        (Mode::IX, [YES, YES, YES, NO, NO, NO]),
-        (Mode::S, [YES, YES, NO, YES, NO, NO]),
-        (Mode::SIX, [YES, YES, NO, NO, NO, NO]),
-        (Mode::X, [YES, NO, NO, NO, NO, NO]),
+        [YES, YES, YES, YES, YES, YES],
+        [YES, YES, YES, YES, YES, NO],
+        [YES, YES, YES, NO, NO, NO],
+        [YES, YES, NO, YES, NO, NO],
+        [YES, YES, NO, NO, NO, NO],
+        [YES, NO, NO, NO, NO, NO],
     ];
-    for (asked, row) in table {
+    assert_eq!(rt; table.len(), MODES.len());
+    for (asked, row) in MODES.into_iter().zip(table) {
         want_compatible(&rt, asked, row);
     }
 }
@@ -71,19 +70,21 @@ fn want_bounds(rt: &impl Abort, mode: Mode, row: [Mode; 6]) {
     }
 }
 
-/// The least upper bound of each pair of modes; a mode covers another if their bound is the mode itself.
+/// The least upper bound of each pair of modes, both in the order of `MODES`; a mode covers another if their bound is the
+/// mode itself.
 #[test]
 fn least_upper_bounds(rt: HostRuntime) {
     use Mode::{IS, IX, NL, S, SIX, X};
     let table = [
-        (NL, [NL, IS, IX, S, SIX, X]),
-        (IS, [IS, IS, IX, S, SIX, X]),
-        (IX, [IX, IX, IX, SIX, SIX, X]),
-        (S, [S, S, SIX, S, SIX, X]),
-        (SIX, [SIX, SIX, SIX, SIX, SIX, X]),
-        (X, [X, X, X, X, X, X]),
+        [NL, IS, IX, S, SIX, X],
+        [IS, IS, IX, S, SIX, X],
+        [IX, IX, IX, SIX, SIX, X],
+        [S, S, SIX, S, SIX, X],
+        [SIX, SIX, SIX, SIX, SIX, X],
+        [X, X, X, X, X, X],
     ];
-    for (mode, row) in table {
+    assert_eq!(rt; table.len(), MODES.len());
+    for (mode, row) in MODES.into_iter().zip(table) {
         want_bounds(&rt, mode, row);
     }
 }
@@ -97,7 +98,9 @@ fn want_name(rt: &impl Abort, mode: Mode, name: &str) {
 /// Each name is read as its mode, and other texts as none.
 #[test]
 fn names_are_printed_and_parsed(rt: HostRuntime) {
-    for (mode, name) in MODES.into_iter().zip(["NL", "IS", "IX", "S", "SIX", "X"]) {
+    let names = ["NL", "IS", "IX", "S", "SIX", "X"];
+    assert_eq!(rt; names.len(), MODES.len());
+    for (mode, name) in MODES.into_iter().zip(names) {
         want_name(&rt, mode, name);
     }
     for text in [

@@ -1,20 +1,70 @@
-//! The numbers of the refusals, the limits, and that each law of `lock_rules` can be cited.
+//! The numbers of operations, kinds of replies and refusals, the limits, and that each law of `lock_rules` can be cited.
 
 use lock_modes::Mode;
-use lock_rules::{Call, Entry, MAX_LOCKS, MAX_SESSIONS, Reply, Why, laws};
+use lock_rules::{
+    Call, Entry, MAX_LOCKS, MAX_SESSIONS, OPS, Op, REFUSALS, REPLY_KINDS, Reply, ReplyKind, Why,
+    laws,
+};
+use std::process::Abort;
 
-/// The number of each refusal, which the interfaces pass on.
+/// Expects this number of an operation, and the operation for this number.
+fn want_op(rt: &impl Abort, op: Op, number: u32) {
+    assert_eq!(rt; op.number(), number, "{op:?}");
+    assert_eq!(rt; Op::from_number(number), Some(op), "{number}");
+}
+
+/// The numbers of the operations, which the library for C passes on; no other number is of an operation.
 #[test]
-fn refusals_have_their_numbers(rt: HostRuntime) {
-    assert_eq!(rt; Why::AlreadyOpen as u8, 1);
-    assert_eq!(rt; Why::NoTransaction as u8, 2);
-    assert_eq!(rt; Why::IsWaiting as u8, 3);
-    assert_eq!(rt; Why::IsDoomed as u8, 4);
-    assert_eq!(rt; Why::NothingAsked as u8, 5);
-    assert_eq!(rt; Why::NotHeld as u8, 6);
-    assert_eq!(rt; Why::ParentNotHeld as u8, 7);
-    assert_eq!(rt; Why::ChildHeld as u8, 8);
-    assert_eq!(rt; Why::TooManyLocks as u8, 9);
+fn operations_have_their_numbers(rt: HostRuntime) {
+    assert_eq!(rt; OPS.len(), 7);
+    for (op, number) in OPS.into_iter().zip(1..8) {
+        want_op(&rt, op, number);
+    }
+    assert_eq!(rt; Op::from_number(0), None);
+    assert_eq!(rt; Op::from_number(8), None);
+    assert_eq!(rt; Call::Abort.op(), Op::Abort);
+}
+
+/// Expects this number of a kind of replies.
+fn want_kind(rt: &impl Abort, kind: ReplyKind, number: u32) {
+    assert_eq!(rt; kind.number(), number, "{kind:?}");
+}
+
+/// The numbers of the kinds of replies, which the library for C passes on.
+#[test]
+fn kinds_of_replies_have_their_numbers(rt: HostRuntime) {
+    assert_eq!(rt; REPLY_KINDS.len(), 9);
+    for (kind, number) in REPLY_KINDS.into_iter().zip(1..10) {
+        want_kind(&rt, kind, number);
+    }
+    assert_eq!(rt; Reply::Refused(Why::ChildHeld).kind(), ReplyKind::Refused);
+}
+
+/// Expects this name and this number of a refusal, and the refusal for this name.
+fn want_refusal(rt: &impl Abort, why: Why, name: &str, number: u32) {
+    assert_eq!(rt; why.name(), name);
+    assert_eq!(rt; why.number(), number, "{name}");
+    assert_eq!(rt; Why::parse(name), Some(why), "{name}");
+}
+
+/// The name and the number of each refusal, which the interfaces pass on.
+#[test]
+fn refusals_have_their_names_and_numbers(rt: HostRuntime) {
+    let rows = [
+        ("AlreadyOpen", 1),
+        ("NoTransaction", 2),
+        ("IsWaiting", 3),
+        ("IsDoomed", 4),
+        ("NothingAsked", 5),
+        ("NotHeld", 6),
+        ("ParentNotHeld", 7),
+        ("ChildHeld", 8),
+        ("TooManyLocks", 9),
+    ];
+    assert_eq!(rt; rows.len(), REFUSALS.len());
+    for (why, (name, number)) in REFUSALS.into_iter().zip(rows) {
+        want_refusal(&rt, why, name, number);
+    }
 }
 
 /// 256 sessions, and 4096 locks of a transaction.
@@ -46,6 +96,8 @@ fn laws_can_be_cited() {
     laws::calls_are_in_order();
     laws::refusals_keep_the_state();
     laws::refusals_mean_what_they_say();
+    laws::tests_are_made_by_number();
+    laws::limits_are_as_documented();
     laws::begins_open_one_transaction();
     laws::polls_tell_how_sessions_stand();
     laws::grants_change_one_lock();
@@ -74,5 +126,6 @@ fn laws_can_be_cited() {
     laws::victims_are_determined();
     laws::victims_keep_their_locks();
     laws::states_are_lawful();
+    laws::kinds_are_listed_once();
     laws::examples_are_legal();
 }

@@ -5,7 +5,7 @@ ghost use Rattle.std.specs.Prelude.{◌≡◌, ◌<◌, ◌≤◌, IfOk, length}
 use std::alloc::Global;
 use std::process::Abort;
 use std::test::Fail;
-use waits_for::{MAX_SESSIONS, Rows};
+use waits_for::{MAX_SESSIONS, NoMemory, Rows};
 
 /// Returns a different age for each position, rising, so that the last position is the youngest.
 fn rising_ages() -> [u64; 256]
@@ -126,5 +126,25 @@ fn a_session_that_waits_for_itself_is_on_a_cycle(rt: HostRuntime) -> Result<(), 
     rows.set(0, 0);
     assert!(rt; rows.on_circle(0));
     assert_eq!(rt; rows.youngest_on_circle(0, &[0]), Some(0));
+    Ok(())
+}
+
+/// Makes rows of 256 sessions, a second time if memory is refused. Returns whether it was.
+fn made_rows(alloc: Global) -> Result<(Rows, bool), NoMemory> {
+    match Rows::new(alloc, MAX_SESSIONS) {
+        Ok(rows) => Ok((rows, false)),
+        Err(NoMemory) => Ok((Rows::new(alloc, MAX_SESSIONS)?, true)),
+    }
+}
+
+/// Each allocation of new rows may be refused, and the next try makes the rows. Prints a line if one was, for the check that
+/// refuses each allocation in turn. Nothing else allocates here.
+#[test]
+fn refused_rows_are_made_at_the_second_try(rt: HostRuntime) -> Result<(), Fail> {
+    let (rows, was_refused) = made_rows(rt.alloc())?;
+    assert_eq!(rt; rows.sessions(), 256);
+    if was_refused {
+        println!(&rt; "refused")?;
+    }
     Ok(())
 }

@@ -4,3 +4,4 @@ pub mod Codes
 pub mod Order
 pub mod Columns
 pub mod Needs
+pub mod Names

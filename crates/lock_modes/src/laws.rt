@@ -1,12 +1,21 @@
 //! The laws of all modes. Each is the contract of a function with an empty body.
 
-ghost use Rattle.std.specs.Prelude.{◌≡◌, ◌≢◌, ◌≤◌, ◌↔◌, List, true, All, Any, bit_and};
+ghost use Rattle.std.specs.Prelude.{◌≡◌, ◌≢◌, ◌≤◌, ◌↔◌, List, true, All, Any, Contains, map, bit_and};
+ghost use Rattle.std.specs.List.Sorted.{IsStrictlyIncreasing};
 ghost use Rattle.std.specs.Ordering.{nat_cmp};
 ghost use Rattle.lock_modes.specs.contracts.ModeOrd.TheImpl.{ghosts as derived};
 ghost use Rattle.lock_modes.specs.declared.Mode.{Mode as ModeValue};
 ghost use Rattle.lock_modes.specs.Order.{IsAtOrBelow, at_or_below, IsLeastUpperBound, sup_of, need_of};
 ghost use Rattle.lock_modes.specs.Compatibility.{IsCompatible, are_compatible};
 ghost use Rattle.lock_modes.specs.Codes.{code_of, mask_of, union_of};
+
+use crate::MODES;
+
+/// `MODES` has every mode, and by rising code, so each once.
+pub fn modes_are_listed_once()
+    ensures every { (m : ModeValue) → Contains MODES m }
+    ensures rising { IsStrictlyIncreasing (map code_of MODES) }
+{}
 
 /// Each table that computes agrees with its relation. Every two modes have exactly one least upper bound.
 pub fn tables_agree()

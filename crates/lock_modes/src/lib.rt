@@ -27,6 +27,9 @@ pub enum Mode {
     X,
 }
 
+/// All modes, each once, by rising code.
+pub const MODES: [Mode; 6] = [Mode::NL, Mode::IS, Mode::IX, Mode::S, Mode::SIX, Mode::X];
+
 impl Mode {
     /// The mode as bits, for columns that are scanned as bytes. The bitwise or of two codes is the code of their least
     /// upper bound. The codes are this project's own choice.
@@ -156,14 +159,11 @@ impl Mode {
     pub fn parse(text: &str) -> Option<Mode>
         ensures { (m : ModeValue) → (result ≡ Some m) ↔ (text.now ≡ name_of m) }
     {
-        match text {
-            "NL" => Some(Mode::NL),
-            "IS" => Some(Mode::IS),
-            "IX" => Some(Mode::IX),
-            "S" => Some(Mode::S),
-            "SIX" => Some(Mode::SIX),
-            "X" => Some(Mode::X),
-            _ => None,
+        for mode in MODES {
+            if text == mode.name() {
+                return Some(mode);
+            }
         }
+        None
     }
 }

@@ -11,11 +11,14 @@ use Rattle.lock_rules.proofs.Access.{access-compatible}
 use Rattle.lock_rules.proofs.Steps.{state-lawful}
 use Rattle.lock_rules.proofs.Idle.{state-idle}
 use Rattle.lock_rules.proofs.Owners.{state-numbered, owners-open}
+use Rattle.lock_rules.proofs.Fronts.{promotion-longest}
+use Rattle.lock_rules.proofs.Waiting.{waits-tell}
 use Rattle.lock_rules.proofs.States.{fit-tells, holders-compatible}
 use Rattle.lock_rules.proofs.Victims.{determined}
 use Rattle.lock_rules.proofs.Doomed.{keep-theirs, doom-promotes}
 use Rattle.lock_rules.proofs.Requests.{lock-asks, convert-asks, lock-converts, lock-holds, convert-holds}
-use Rattle.lock_rules.proofs.Refusals.{refusals-meant, others-accepted, abort-needs, commit-accepted}
+use Rattle.lock_rules.proofs.Refusals.{refused-first, refused-keeps, refusals-meant, others-accepted, abort-needs, commit-accepted}
+use Rattle.lock_rules.proofs.RefusalOrder.{tests-give, refusals-lowest, conversions-unbounded}
 use Rattle.lock_rules.proofs.Sessions.{begin-opens, poll-tells}
 use Rattle.lock_rules.proofs.Taken.{release-one, commit-all, abort-all}
 
@@ -33,6 +36,8 @@ lawful es = let i = state-lawful es in record {
   requests_under_parents = λ s q h. stands-under (state_of es).table s q.resource q.mode (i.sound.asked_under s q h);
   children_held = children-held (state_of es) i.sound;
   access_compatible = access-compatible (state_of es) i.sound;
+  promotions_longest = promotion-longest (state_of es).table;
+  waits_exact = waits-tell (state_of es).table;
   no_circle = λ s c. i.no_circle s c.others c.walk;
   doomed_wait_for_nothing = state-idle es;
   owners_open = owners-open (state_of es) (state-numbered es);
@@ -41,8 +46,13 @@ lawful es = let i = state-lawful es in record {
   victims_determined = determined (state_of es) (state-numbered es);
   victims_keep_their_locks = keep-theirs (state_of es) i.sound.once;
   dooms_promote = doom-promotes (state_of es);
+  refusals_exact = refused-first (state_of es);
+  refusals_keep = refused-keeps (state_of es);
   refusals_meant = refusals-meant (state_of es) (locks-bounded es);
   others_accepted = others-accepted (state_of es) (locks-bounded es);
+  tests_give_refusals = tests-give (state_of es);
+  refusals_lowest = refusals-lowest (state_of es) (locks-bounded es);
+  conversions_unbounded = conversions-unbounded (state_of es) (locks-bounded es);
   abort_needs_transaction = abort-needs (state_of es) (locks-bounded es);
   clear_commit_accepted = commit-accepted (state_of es) (locks-bounded es);
   begin_opens = begin-opens (state_of es);

@@ -27,9 +27,11 @@ pub mod States
 pub mod Requests
 pub mod Sessions
 pub mod Refusals
+pub mod RefusalOrder
 pub mod DoomsStand
 pub mod RequestsStand
 pub mod Lawful
 pub mod WrongReplies
 pub mod Worked
 pub mod RefusalNames
+pub mod OpNumbers

@@ -17,7 +17,7 @@ use Rattle.lock_rules.specs.declared.calls.Why.TheVariants.{NoTransaction, IsWai
 use Rattle.lock_rules.specs.declared.calls.TheConstants.{MAX_LOCKS}
 use Rattle.lock_rules.specs.State.{Claim, Table, State, mode_in, held_mode, mode_or_nothing, claims_of, is_open, is_waiting, is_doomed}
 use Rattle.lock_rules.specs.Step.{is_nothing, target_of, lacks_parent, holds_child, tests, first_failing, after_asking, act, outcome_of, step}
-use Rattle.lock_rules.specs.Laws.{HasTransaction, AreLocksBounded}
+use Rattle.lock_rules.specs.Laws.{HasTransaction, AreLocksBounded, DoesRefusalKeep}
 use Rattle.lock_rules.specs.Effects.{IsTarget}
 use Rattle.lock_rules.specs.Refusals.{LacksParent, HoldsBelow, Fails, refusals_of, AreRefusalsMeant, AreOthersAccepted, DoesAbortNeedTransaction, IsClearCommitAccepted}
 use Rattle.lock_rules.proofs.Lists.{same_path-refl}
@@ -214,8 +214,17 @@ outcome-refused (Some w) st s c why e = same w why e
     same : (a b : Why) → Refused a ≡ Refused b → Some a ≡ Some b
     same a b f = cc
 
+-- a refusal changes nothing
+outcome-keeps : (o : Option Why) (st : State) (s : ℕ) (c : Call) (why : Why) → (outcome_of o st s c).reply ≡ Refused why → (outcome_of o st s c).state ≡ st
+outcome-keeps None st s c why e = absurd (act-answers st s c why e)
+outcome-keeps (Some w) st s c why e = refl
+
+-- a refused call changes nothing
+pub refused-keeps : (st : State) → DoesRefusalKeep st
+refused-keeps st s c why = outcome-keeps (first_failing (tests st s c)) st s c why
+
 -- a call is refused for a reason exactly if that is its first test that fails
-refused-first : (st : State) (s : ℕ) (c : Call) (why : Why) → ((step st s c).reply ≡ Refused why) ↔ (first_failing (tests st s c) ≡ Some why)
+pub refused-first : (st : State) (s : ℕ) (c : Call) (why : Why) → ((step st s c).reply ≡ Refused why) ↔ (first_failing (tests st s c) ≡ Some why)
 refused-first st s c why = (outcome-refused (first_failing (tests st s c)) st s c why, λ e. ap (λ (o : Option Why). (outcome_of o st s c).reply) e)
 
 -- the laws

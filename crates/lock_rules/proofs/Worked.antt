@@ -1,7 +1,7 @@
 -- Each history worked by hand is legal: the prover serves its calls and compares the replies.
 use Rattle.std.proofs.Common.{refl}
 use Rattle.lock_rules.specs.Legal.{IsLegal}
-use Rattle.lock_rules.specs.Examples.{queue_in_order, promotion_stops, readers_together, promotion_in_order, intentions, refusals, down_the_tree, up_the_tree, release_promotes, release_of_one, asks_again, conversion_first, conversion_at_once, conversion_under_parent, abort_while_waiting, readers_that_convert, youngest_of_two, victim_in_the_way, conversions_that_meet, circle_through_the_queue, two_victims, begin_beside_others, polls, release_above_another, commit_of_four}
+use Rattle.lock_rules.specs.Examples.{queue_in_order, promotion_stops, readers_together, promotion_in_order, intentions, refusals, down_the_tree, up_the_tree, release_promotes, release_of_one, asks_again, conversion_first, conversion_at_once, conversion_under_parent, abort_while_waiting, readers_that_convert, youngest_of_two, victim_in_the_way, conversions_that_meet, circle_through_the_queue, two_victims, begin_beside_others, polls, release_above_another, commit_of_four, conversion_to_the_upper_bound, conversion_needs_more_of_the_parent, parents_on_each_level, releases_promote_one_after_another, begins_again, polls_again, circle_of_five, three_victims, beside_the_circle}
 use Rattle.lock_rules.proofs.Histories.{legal-served}
 
 pub legal-queue_in_order : IsLegal queue_in_order
@@ -78,3 +78,30 @@ legal-release_above_another = legal-served release_above_another refl
 
 pub legal-commit_of_four : IsLegal commit_of_four
 legal-commit_of_four = legal-served commit_of_four refl
+
+pub legal-conversion_to_the_upper_bound : IsLegal conversion_to_the_upper_bound
+legal-conversion_to_the_upper_bound = legal-served conversion_to_the_upper_bound refl
+
+pub legal-conversion_needs_more_of_the_parent : IsLegal conversion_needs_more_of_the_parent
+legal-conversion_needs_more_of_the_parent = legal-served conversion_needs_more_of_the_parent refl
+
+pub legal-parents_on_each_level : IsLegal parents_on_each_level
+legal-parents_on_each_level = legal-served parents_on_each_level refl
+
+pub legal-releases_promote_one_after_another : IsLegal releases_promote_one_after_another
+legal-releases_promote_one_after_another = legal-served releases_promote_one_after_another refl
+
+pub legal-begins_again : IsLegal begins_again
+legal-begins_again = legal-served begins_again refl
+
+pub legal-polls_again : IsLegal polls_again
+legal-polls_again = legal-served polls_again refl
+
+pub legal-circle_of_five : IsLegal circle_of_five
+legal-circle_of_five = legal-served circle_of_five refl
+
+pub legal-three_victims : IsLegal three_victims
+legal-three_victims = legal-served three_victims refl
+
+pub legal-beside_the_circle : IsLegal beside_the_circle
+legal-beside_the_circle = legal-served beside_the_circle refl

@@ -357,3 +357,153 @@ commit_of_four =
     ∷ entry 1 (Lock (database 3) IS) (Granted IS)
     ∷ entry 1 Commit (Committed 4)
     ∷ []
+
+-- A Convert gets the least mode at or above the mode held and the mode asked: S over IX gives SIX.
+abbrev pub conversion_to_the_upper_bound : List Entry
+conversion_to_the_upper_bound =
+    entry 1 Begin (Began 1)
+    ∷ entry 1 (Lock (database 1) IX) (Granted IX)
+    ∷ entry 1 (Convert (database 1) S) (Granted SIX)
+    ∷ entry 1 (Convert (database 1) IS) (Granted SIX)
+    ∷ entry 1 Commit (Committed 1)
+    ∷ []
+
+-- A conversion whose target is SIX needs IX of the parent. The refused conversion changes nothing.
+abbrev pub conversion_needs_more_of_the_parent : List Entry
+conversion_needs_more_of_the_parent =
+    entry 1 Begin (Began 1)
+    ∷ entry 1 (Lock (database 1) IS) (Granted IS)
+    ∷ entry 1 (Lock (1 ∷ 1 ∷ []) IS) (Granted IS)
+    ∷ entry 1 (Convert (1 ∷ 1 ∷ []) S) (Granted S)
+    ∷ entry 1 (Convert (1 ∷ 1 ∷ []) IX) (Refused ParentNotHeld)
+    ∷ entry 1 (Lock (1 ∷ 1 ∷ []) IX) (Refused ParentNotHeld)
+    ∷ entry 1 (Convert (database 1) IX) (Granted IX)
+    ∷ entry 1 (Convert (1 ∷ 1 ∷ []) IX) (Granted SIX)
+    ∷ entry 1 Abort (Aborted 2)
+    ∷ []
+
+-- On each level a lock needs its own parent, in what its mode needs. Locks further up, or in another tree, are not enough.
+abbrev pub parents_on_each_level : List Entry
+parents_on_each_level =
+    entry 1 Begin (Began 1)
+    ∷ entry 1 (Lock (database 1) IX) (Granted IX)
+    ∷ entry 1 (Lock (5 ∷ 2 ∷ []) IS) (Refused ParentNotHeld)
+    ∷ entry 1 (Lock (1 ∷ 2 ∷ 3 ∷ []) IS) (Refused ParentNotHeld)
+    ∷ entry 1 (Lock (1 ∷ 2 ∷ []) IS) (Granted IS)
+    ∷ entry 1 (Lock (1 ∷ 2 ∷ 3 ∷ []) IX) (Refused ParentNotHeld)
+    ∷ entry 1 (Lock (1 ∷ 2 ∷ 3 ∷ []) IS) (Granted IS)
+    ∷ entry 1 (Lock (1 ∷ 2 ∷ 3 ∷ 4 ∷ []) X) (Refused ParentNotHeld)
+    ∷ entry 1 (Lock (1 ∷ 2 ∷ 3 ∷ 4 ∷ []) S) (Granted S)
+    ∷ entry 1 (Release (1 ∷ 2 ∷ [])) (Refused ChildHeld)
+    ∷ entry 1 Commit (Committed 4)
+    ∷ []
+
+-- Each release of a file promotes its queue, up to the first request that doesn't fit.
+abbrev pub releases_promote_one_after_another : List Entry
+releases_promote_one_after_another =
+    entry 1 Begin (Began 1) ∷ entry 2 Begin (Began 2) ∷ entry 3 Begin (Began 3)
+    ∷ entry 1 (Lock (database 1) IX) (Granted IX)
+    ∷ entry 2 (Lock (database 1) IS) (Granted IS)
+    ∷ entry 3 (Lock (database 1) IX) (Granted IX)
+    ∷ entry 1 (Lock (1 ∷ 1 ∷ []) X) (Granted X)
+    ∷ entry 2 (Lock (1 ∷ 1 ∷ []) S) Waiting
+    ∷ entry 3 (Lock (1 ∷ 1 ∷ []) X) Waiting
+    ∷ entry 1 (Release (1 ∷ 1 ∷ [])) Released
+    ∷ entry 2 Poll Clear
+    ∷ entry 3 Poll Waiting
+    ∷ entry 2 (Release (1 ∷ 1 ∷ [])) Released
+    ∷ entry 3 Poll Clear
+    ∷ entry 1 Commit (Committed 1)
+    ∷ entry 3 Commit (Committed 2)
+    ∷ []
+
+-- A begin is refused if a transaction is open, whether or not it waits. It takes no number and ends nothing.
+abbrev pub begins_again : List Entry
+begins_again =
+    entry 1 Begin (Began 1) ∷ entry 2 Begin (Began 2)
+    ∷ entry 1 (Lock (database 1) S) (Granted S)
+    ∷ entry 2 (Lock (database 1) X) Waiting
+    ∷ entry 1 Begin (Refused AlreadyOpen)
+    ∷ entry 2 Begin (Refused AlreadyOpen)
+    ∷ entry 2 Poll Waiting
+    ∷ entry 3 Begin (Began 3)
+    ∷ entry 1 Commit (Committed 1)
+    ∷ entry 2 Commit (Committed 1)
+    ∷ entry 1 Begin (Began 4)
+    ∷ []
+
+-- Polls change nothing: a request waits on, a doom is reported at each poll, and locks are kept.
+abbrev pub polls_again : List Entry
+polls_again =
+    entry 1 Begin (Began 1) ∷ entry 2 Begin (Began 2) ∷ entry 3 Begin (Began 3)
+    ∷ entry 1 (Lock (database 1) S) (Granted S)
+    ∷ entry 2 (Lock (database 1) S) (Granted S)
+    ∷ entry 1 (Lock (database 1) X) Waiting
+    ∷ entry 3 (Lock (database 1) X) Waiting
+    ∷ entry 1 Poll Waiting ∷ entry 1 Poll Waiting
+    ∷ entry 2 (Lock (database 1) X) Deadlock
+    ∷ entry 2 Poll Deadlock ∷ entry 2 Poll Deadlock
+    ∷ entry 2 Abort (Aborted 1)
+    ∷ entry 1 Poll Clear ∷ entry 1 Poll Clear
+    ∷ entry 3 Poll Waiting
+    ∷ entry 1 Commit (Committed 1)
+    ∷ entry 3 Poll Clear
+    ∷ []
+
+-- A cycle of five sessions: each waits for the next, and 5, the asker, for 1. The youngest transaction is that of session 2.
+abbrev pub circle_of_five : List Entry
+circle_of_five =
+    entry 1 Begin (Began 1) ∷ entry 3 Begin (Began 2) ∷ entry 4 Begin (Began 3) ∷ entry 5 Begin (Began 4) ∷ entry 2 Begin (Began 5)
+    ∷ entry 1 (Lock (database 1) X) (Granted X)
+    ∷ entry 2 (Lock (database 2) X) (Granted X)
+    ∷ entry 3 (Lock (database 3) X) (Granted X)
+    ∷ entry 4 (Lock (database 4) X) (Granted X)
+    ∷ entry 5 (Lock (database 5) X) (Granted X)
+    ∷ entry 1 (Lock (database 2) S) Waiting
+    ∷ entry 2 (Lock (database 3) S) Waiting
+    ∷ entry 3 (Lock (database 4) S) Waiting
+    ∷ entry 4 (Lock (database 5) S) Waiting
+    ∷ entry 5 (Lock (database 1) S) Waiting
+    ∷ entry 2 Poll Deadlock
+    ∷ entry 3 Poll Waiting
+    ∷ entry 2 Abort (Aborted 1)
+    ∷ entry 1 Poll Clear
+    ∷ entry 5 Poll Waiting
+    ∷ []
+
+-- The asker is on a cycle with each of the three readers of database 2. Its call makes three victims.
+abbrev pub three_victims : List Entry
+three_victims =
+    entry 1 Begin (Began 1) ∷ entry 2 Begin (Began 2) ∷ entry 3 Begin (Began 3) ∷ entry 4 Begin (Began 4)
+    ∷ entry 1 (Lock (database 1) X) (Granted X)
+    ∷ entry 2 (Lock (database 2) S) (Granted S)
+    ∷ entry 3 (Lock (database 2) S) (Granted S)
+    ∷ entry 4 (Lock (database 2) S) (Granted S)
+    ∷ entry 2 (Lock (database 1) S) Waiting
+    ∷ entry 3 (Lock (database 1) S) Waiting
+    ∷ entry 4 (Lock (database 1) S) Waiting
+    ∷ entry 1 (Lock (database 2) X) Waiting
+    ∷ entry 4 Poll Deadlock ∷ entry 3 Poll Deadlock ∷ entry 2 Poll Deadlock
+    ∷ entry 2 Abort (Aborted 1) ∷ entry 3 Abort (Aborted 1)
+    ∷ entry 1 Poll Waiting
+    ∷ entry 4 Abort (Aborted 1)
+    ∷ entry 1 Poll Clear
+    ∷ []
+
+-- Only a session on a cycle with the asker becomes a victim, here 2: not the younger 3, for which the asker waits, and not
+-- the younger 4, which waits for the asker. Session 3 waits for 5, which waits for nobody; nobody waits for 4.
+abbrev pub beside_the_circle : List Entry
+beside_the_circle =
+    entry 1 Begin (Began 1) ∷ entry 2 Begin (Began 2) ∷ entry 3 Begin (Began 3) ∷ entry 4 Begin (Began 4) ∷ entry 5 Begin (Began 5)
+    ∷ entry 1 (Lock (database 1) X) (Granted X)
+    ∷ entry 2 (Lock (database 2) S) (Granted S)
+    ∷ entry 3 (Lock (database 2) S) (Granted S)
+    ∷ entry 5 (Lock (database 3) X) (Granted X)
+    ∷ entry 2 (Lock (database 1) S) Waiting
+    ∷ entry 3 (Lock (database 3) S) Waiting
+    ∷ entry 4 (Lock (database 1) S) Waiting
+    ∷ entry 1 (Lock (database 2) X) Waiting
+    ∷ entry 2 Poll Deadlock
+    ∷ entry 3 Poll Waiting
+    ∷ entry 4 Poll Waiting
+    ∷ []

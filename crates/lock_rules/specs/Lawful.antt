@@ -1,8 +1,8 @@
 -- All laws of a state that a history leads to: of its table, of its transactions, and of the calls made in it, refused or not.
 use Rattle.lock_rules.specs.State.{State}
-use Rattle.lock_rules.specs.Laws.{AreHoldersListed, AreLocksOnce, IsOneRequestEach, AreLocksBounded, IsFitExact, AreHoldersCompatible, DoesNobodyWaitNeedlessly, AreLocksUnderParents, AreRequestsUnderParents, AreChildrenHeld, IsAccessCompatible, HasNoCircle, DoDoomedWaitForNothing, AreOwnersOpen, AreNumbersDistinct, AreNumbersCounted, AreVictimsDetermined}
+use Rattle.lock_rules.specs.Laws.{AreHoldersListed, AreLocksOnce, IsOneRequestEach, AreLocksBounded, IsFitExact, AreHoldersCompatible, DoesNobodyWaitNeedlessly, AreLocksUnderParents, AreRequestsUnderParents, AreChildrenHeld, IsAccessCompatible, IsRefusalExact, DoesRefusalKeep, DoesPromotionGrantLongest, AreWaitsExact, HasNoCircle, DoDoomedWaitForNothing, AreOwnersOpen, AreNumbersDistinct, AreNumbersCounted, AreVictimsDetermined}
 use Rattle.lock_rules.specs.Effects.{DoesBeginOpen, DoesPollReport, DoVictimsKeepTheirLocks, DoesDoomPromote, IsLockAnswered, IsConvertAnswered, IsLockOfHeldConvert, IsGrantedHeld, IsConversionHeld, DoesReleaseTakeOneLock, DoesCommitTakeAllLocks, DoesAbortTakeAllLocks}
-use Rattle.lock_rules.specs.Refusals.{AreRefusalsMeant, AreOthersAccepted, DoesAbortNeedTransaction, IsClearCommitAccepted}
+use Rattle.lock_rules.specs.Refusals.{AreRefusalsMeant, AreOthersAccepted, DoTestsGiveRefusals, AreRefusalsLowest, AreConversionsUnbounded, DoesAbortNeedTransaction, IsClearCommitAccepted}
 
 -- all laws of a state hold
 pub record IsLawfulState (st : State) : Type 0 where
@@ -17,6 +17,8 @@ pub record IsLawfulState (st : State) : Type 0 where
   pub requests_under_parents : AreRequestsUnderParents st
   pub children_held : AreChildrenHeld st
   pub access_compatible : IsAccessCompatible st
+  pub promotions_longest : DoesPromotionGrantLongest st.table
+  pub waits_exact : AreWaitsExact st.table
   pub no_circle : HasNoCircle st
   pub doomed_wait_for_nothing : DoDoomedWaitForNothing st
   pub owners_open : AreOwnersOpen st
@@ -25,8 +27,13 @@ pub record IsLawfulState (st : State) : Type 0 where
   pub victims_determined : AreVictimsDetermined st
   pub victims_keep_their_locks : DoVictimsKeepTheirLocks st
   pub dooms_promote : DoesDoomPromote st
+  pub refusals_exact : IsRefusalExact st
+  pub refusals_keep : DoesRefusalKeep st
   pub refusals_meant : AreRefusalsMeant st
   pub others_accepted : AreOthersAccepted st
+  pub tests_give_refusals : DoTestsGiveRefusals st
+  pub refusals_lowest : AreRefusalsLowest st
+  pub conversions_unbounded : AreConversionsUnbounded st
   pub abort_needs_transaction : DoesAbortNeedTransaction st
   pub clear_commit_accepted : IsClearCommitAccepted st
   pub begin_opens : DoesBeginOpen st

@@ -115,7 +115,7 @@ abbrev pub IsFitExact : State → Type 0
 IsFitExact st = (s : ℕ) (r : List ℕ) (m : Mode) →
     (fits st.table s r m ≡ true) ↔ ((u : ℕ) (k : Mode) → u ≢ s → held_mode st.table u r ≡ Some k → IsCompatible m k)
 
--- the two modes are compatible in at least one order; the table of modes is symmetric, so today in both
+-- the two modes are compatible in at least one order; a law of lock_modes says that compatibility is symmetric, so in both
 abbrev pub GoTogether : Mode → Mode → Type 0
 GoTogether a b = IsCompatible a b ⊎ IsCompatible b a
 

@@ -10,3 +10,4 @@ pub mod Refusals
 pub mod Lawful
 pub mod Examples
 pub mod Names
+pub mod Kinds

@@ -1,5 +1,5 @@
--- What each refusal means, as relations, beside the tests of Step that compute.
-use Rattle.std.specs.Prelude.{◌≡◌, ℕ, ◌↔◌, true, List, [], ◌∷◌, ◌++◌, length, None, Some, All}
+-- What each refusal means, as relations, beside the tests of Step that compute, and the order of the tests.
+use Rattle.std.specs.Prelude.{◌≡◌, ◌≢◌, ℕ, ◌<◌, ◌≤◌, ◌↔◌, true, List, [], ◌∷◌, ◌++◌, length, map, None, Some, All, Contains}
 use Rattle.lock_modes.specs.declared.Mode.{Mode}
 use Rattle.lock_modes.specs.declared.Mode.TheVariants.{NL}
 use Rattle.lock_modes.specs.Order.{need_of}
@@ -11,7 +11,8 @@ use Rattle.lock_rules.specs.declared.calls.Why.{Why}
 use Rattle.lock_rules.specs.declared.calls.Why.TheVariants.{AlreadyOpen, NoTransaction, IsWaiting, IsDoomed, NothingAsked, NotHeld, ParentNotHeld, ChildHeld, TooManyLocks}
 use Rattle.lock_rules.specs.declared.calls.TheConstants.{MAX_LOCKS}
 use Rattle.lock_rules.specs.State.{Table, State, held_mode, claims_of}
-use Rattle.lock_rules.specs.Step.{step}
+use Rattle.lock_rules.specs.Step.{tests, step}
+use Rattle.lock_rules.specs.Kinds.{number_of_why}
 use Rattle.lock_rules.specs.Laws.{HoldsAtLeast, HasTransaction, HasDoomedTransaction, HasRequest}
 use Rattle.lock_rules.specs.Effects.{IsNotRefused, IsTarget}
 
@@ -27,7 +28,7 @@ HoldsBelow t s r = (x : List ℕ) × (k : Mode) × (is_ancestor r x ≡ true) ×
 abbrev pub HoldsMaxLocks : Table → ℕ → List ℕ → Type 0
 HoldsMaxLocks t s r = (held_mode t s r ≡ None) × (length (claims_of s t.held) ≡ MAX_LOCKS)
 
--- what each refusal says of the session and its call; false if the call has no such test
+-- what each refusal says of the session and its call; which refusals a call can get is in refusals_of
 abbrev pub Fails : State → ℕ → Call → Why → Type 0
 Fails st s c AlreadyOpen = HasTransaction st s
 Fails st s c NoTransaction = HasTransaction st s → ⊥
@@ -72,3 +73,32 @@ DoesAbortNeedTransaction st = (s : ℕ) (why : Why) → ((step st s Abort).reply
 -- a commit is never refused if the session has a transaction, doesn't wait and isn't doomed
 abbrev pub IsClearCommitAccepted : State → Type 0
 IsClearCommitAccepted st = (s : ℕ) → HasTransaction st s → (HasRequest st s → ⊥) → (HasDoomedTransaction st s → ⊥) → IsNotRefused st s Commit
+
+-- a request for a resource that the session holds is never refused with TooManyLocks
+abbrev pub AreConversionsUnbounded : State → Type 0
+AreConversionsUnbounded st = (s : ℕ) (r : List ℕ) (m k : Mode) → held_mode st.table s r ≡ Some k →
+    ((step st s (Lock r m)).reply ≢ Refused TooManyLocks) × ((step st s (Convert r m)).reply ≢ Refused TooManyLocks)
+
+-- the order of the tests
+
+-- the numbers of these refusals rise
+abbrev pub AreNumbersRising : List Why → Type 0
+AreNumbersRising [] = Unit {0}
+AreNumbersRising (v ∷ []) = Unit {0}
+AreNumbersRising (v ∷ w ∷ rest) = (number_of_why v < number_of_why w) × AreNumbersRising (w ∷ rest)
+
+-- the tests of a call, one after another, give the refusals that the call can get
+abbrev pub DoTestsGiveRefusals : State → Type 0
+DoTestsGiveRefusals st = (s : ℕ) (c : Call) → map (λ t. t.1) (tests st s c) ≡ refusals_of c
+
+-- the call has this test, and it fails
+abbrev pub IsFailingTest : State → ℕ → Call → Why → Type 0
+IsFailingTest st s c why = Contains (refusals_of c) why × Fails st s c why
+
+-- of the call's tests that fail, this one has the lowest number
+abbrev pub IsLowestToFail : State → ℕ → Call → Why → Type 0
+IsLowestToFail st s c why = IsFailingTest st s c why × ((w : Why) → IsFailingTest st s c w → number_of_why why ≤ number_of_why w)
+
+-- a call is refused for a reason exactly if, of its tests that fail, that of the reason has the lowest number
+abbrev pub AreRefusalsLowest : State → Type 0
+AreRefusalsLowest st = (s : ℕ) (c : Call) (why : Why) → ((step st s c).reply ≡ Refused why) ↔ IsLowestToFail st s c why

@@ -42,7 +42,7 @@ pub struct Transaction {
 }
 
 /// The reason of a refusal. A call's tests are made in the order of these numbers, and the first that fails gives the
-/// reply. Number 10 is retired.
+/// reply, as `laws::tests_are_made_by_number` says. Number 10 is retired.
 #[derive(Clone, Copy, Debug, PartialEq, Eq, Hash)]
 pub enum Why {
     /// The session has an open transaction already.
@@ -61,7 +61,7 @@ pub enum Why {
     ParentNotHeld = 7,
     /// The session holds a lock on a descendant of the resource.
     ChildHeld = 8,
-    /// The request would be one lock more than `MAX_LOCKS`.
+    /// The request would be one lock more than `MAX_LOCKS`. A conversion adds no lock.
     TooManyLocks = 9,
 }
 
@@ -75,7 +75,8 @@ pub enum Reply {
     /// The session's request waits.
     Waiting,
     /// The transaction was chosen as a deadlock victim. Its request is cancelled, it keeps its locks, and it can only
-    /// abort. A session that waited when it was chosen learns this by a poll.
+    /// abort. A session that waited when it was chosen learns this by a poll, or from a lock, conversion, release or
+    /// commit, which is refused with `Why::IsDoomed`.
     Deadlock,
     /// The session has a transaction, no waiting request, and isn't doomed.
     Clear,

@@ -1,22 +1,30 @@
 //! The laws of the locking rules. Each is the contract of a function with an empty body; another crate cites a law by
 //! calling its function.
 
-ghost use Rattle.std.specs.Prelude.{◌≡◌, ℕ, ◌↔◌, List, [], ◌∷◌, ◌++◌, length, Contains, if◌then◌else◌, ◌==◌};
+ghost use Rattle.std.specs.Prelude.{◌≡◌, ℕ, ◌↔◌, List, [], ◌∷◌, ◌++◌, length, map, Contains, if◌then◌else◌, ◌==◌};
+ghost use Rattle.std.specs.List.{range_with_len};
 ghost use Rattle.lock_modes.specs.declared.Mode.{Mode as ModeValue};
-ghost use Rattle.lock_modes.specs.declared.Mode.TheVariants.{IS, IX, S, X};
+ghost use Rattle.lock_modes.specs.declared.Mode.TheVariants.{IS, IX, S, SIX, X};
 ghost use Rattle.lock_rules.specs.declared.calls.Call.{Call as CallValue};
 ghost use Rattle.lock_rules.specs.declared.calls.Entry.{Entry as EntryValue};
 ghost use Rattle.lock_rules.specs.declared.calls.Reply.TheVariants.{Began, Granted, Waiting, Deadlock, Clear, Released, Committed, Aborted, Refused};
+ghost use Rattle.lock_rules.specs.declared.calls.Why.{Why as WhyValue};
 ghost use Rattle.lock_rules.specs.declared.calls.Why.TheVariants.{IsWaiting, NothingAsked, NotHeld, ParentNotHeld, ChildHeld, TooManyLocks};
+ghost use Rattle.lock_rules.specs.declared.calls.TheConstants.{MAX_LOCKS, MAX_SESSIONS};
+ghost use Rattle.lock_rules.specs.declared.kinds.Op.{Op as OpValue};
+ghost use Rattle.lock_rules.specs.declared.kinds.ReplyKind.{ReplyKind as KindValue};
+ghost use Rattle.lock_rules.specs.Kinds.{number_of_op, number_of_kind, number_of_why};
 ghost use Rattle.lock_rules.specs.State.{State, Table, empty};
 ghost use Rattle.lock_rules.specs.Queue.{after_grant};
 ghost use Rattle.lock_rules.specs.Step.{step};
 ghost use Rattle.lock_rules.specs.Legal.{Answered, IsLegal, state_of, asked_in, calls_of};
 ghost use Rattle.lock_rules.specs.Laws.{AreRepliesOfSteps, IsEntryOf, ArePlacesRising, IsRefusalExact, DoesRefusalKeep, IsGrantOf, DoesPromotionGrantLongest, IsFitExact, AreHoldersCompatible, DoesNobodyWaitNeedlessly, AreLocksUnderParents, AreRequestsUnderParents, AreChildrenHeld, IsAccessCompatible, DoesGrantStand, DoesDoomStand, DoesRequestStand, AreOwnersOpen, AreNumbersDistinct, AreNumbersCounted, AreWaitsExact, HasNoCircle, DoDoomedWaitForNothing, AreVictimsDetermined, AreHoldersListed, AreLocksOnce, IsOneRequestEach, AreLocksBounded};
 ghost use Rattle.lock_rules.specs.Effects.{DoesBeginOpen, DoesPollReport, IsLockAnswered, IsConvertAnswered, IsLockOfHeldConvert, IsGrantedHeld, IsConversionHeld, DoVictimsKeepTheirLocks, DoesDoomPromote, DoesReleaseTakeOneLock, DoesCommitTakeAllLocks, DoesAbortTakeAllLocks};
-ghost use Rattle.lock_rules.specs.Refusals.{AreRefusalsMeant, AreOthersAccepted, DoesAbortNeedTransaction, IsClearCommitAccepted};
+ghost use Rattle.lock_rules.specs.Refusals.{refusals_of, AreRefusalsMeant, AreOthersAccepted, AreNumbersRising, DoTestsGiveRefusals, AreRefusalsLowest, AreConversionsUnbounded, DoesAbortNeedTransaction, IsClearCommitAccepted};
 ghost use Rattle.lock_rules.specs.Lawful.{IsLawfulState};
-ghost use Rattle.lock_rules.specs.Examples.{with_reply, queue_in_order, promotion_stops, readers_together, promotion_in_order, intentions, refusals, down_the_tree, up_the_tree, release_promotes, release_of_one, asks_again, conversion_first, conversion_at_once, conversion_under_parent, abort_while_waiting, readers_that_convert, youngest_of_two, victim_in_the_way, conversions_that_meet, circle_through_the_queue, two_victims, begin_beside_others, polls, release_above_another, commit_of_four};
+ghost use Rattle.lock_rules.specs.Examples.{with_reply, queue_in_order, promotion_stops, readers_together, promotion_in_order, intentions, refusals, down_the_tree, up_the_tree, release_promotes, release_of_one, asks_again, conversion_first, conversion_at_once, conversion_under_parent, abort_while_waiting, readers_that_convert, youngest_of_two, victim_in_the_way, conversions_that_meet, circle_through_the_queue, two_victims, begin_beside_others, polls, release_above_another, commit_of_four, conversion_to_the_upper_bound, conversion_needs_more_of_the_parent, parents_on_each_level, releases_promote_one_after_another, begins_again, polls_again, circle_of_five, three_victims, beside_the_circle};
+
+use crate::kinds::{OPS, REFUSALS, REPLY_KINDS};
 
 /// A history is legal exactly if each reply is the one that `step` gives in the state after the entries before it. So
 /// every front of a legal history is legal.
@@ -58,13 +66,24 @@ pub fn refusals_keep_the_state()
 {}
 
 /// Each refusal means what `Fails` says of it: a call is refused exactly if one of them fails, with the refusal of the
-/// first that does. An abort is refused only if the session has no transaction. A commit is never refused if the
-/// session has a transaction, doesn't wait and isn't doomed.
+/// first that does. A request for a resource that the session holds is never refused for too many locks. An abort is
+/// refused only if the session has no transaction. A commit is never refused if the session has a transaction, doesn't
+/// wait and isn't doomed.
 pub fn refusals_mean_what_they_say()
     ensures meant { (history : List EntryValue) → AreRefusalsMeant (state_of history) }
     ensures others { (history : List EntryValue) → AreOthersAccepted (state_of history) }
+    ensures conversion { (history : List EntryValue) → AreConversionsUnbounded (state_of history) }
     ensures abort { (history : List EntryValue) → DoesAbortNeedTransaction (state_of history) }
     ensures commit { (history : List EntryValue) → IsClearCommitAccepted (state_of history) }
+{}
+
+/// The tests of a call are made in the order of their refusals' numbers: the numbers of the refusals that a call can get
+/// rise, and its tests give these refusals one after another. So a call is refused for a reason exactly if, of its tests
+/// that fail, that of the reason has the lowest number.
+pub fn tests_are_made_by_number()
+    ensures rising { (call : CallValue) → AreNumbersRising (refusals_of call) }
+    ensures tests { (st : State) → DoTestsGiveRefusals st }
+    ensures lowest { (history : List EntryValue) → AreRefusalsLowest (state_of history) }
 {}
 
 /// A begin that isn't refused opens a transaction, not doomed, whose number is one more than the count so far. No lock,
@@ -127,9 +146,15 @@ pub fn sessions_have_one_request()
     ensures { (history : List EntryValue) → IsOneRequestEach (state_of history) }
 {}
 
-/// No session holds more than `MAX_LOCKS` locks.
+/// No session holds more than `MAX_LOCKS` locks, that is 4096, as `limits_are_as_documented` says.
 pub fn locks_are_few()
     ensures { (history : List EntryValue) → AreLocksBounded (state_of history) }
+{}
+
+/// The greatest number of locks of a session is 4096, and the greatest number of sessions is 256.
+pub fn limits_are_as_documented()
+    ensures locks { MAX_LOCKS ≡ 4096 }
+    ensures sessions { MAX_SESSIONS ≡ 256 }
 {}
 
 /// A mode fits exactly if it is compatible with the mode of each other session that holds the resource.
@@ -234,9 +259,21 @@ pub fn victims_keep_their_locks()
     ensures promotion { (st : State) → DoesDoomPromote st }
 {}
 
-/// Every state that a history leads to is lawful: all laws of states hold in it, and those of the calls made in it.
+/// Every state that a history leads to is lawful: all laws of tables and states hold in it, and those of the calls made
+/// in it.
 pub fn states_are_lawful()
     ensures { (history : List EntryValue) → IsLawfulState (state_of history) }
+{}
+
+/// `OPS`, `REPLY_KINDS` and `REFUSALS` have every operation, every kind of replies and every refusal, each once, in the
+/// order of their numbers, which go from 1 on.
+pub fn kinds_are_listed_once()
+    ensures ops { (op : OpValue) → Contains OPS op }
+    ensures op_numbers { map number_of_op OPS ≡ range_with_len 1 7 }
+    ensures kinds { (kind : KindValue) → Contains REPLY_KINDS kind }
+    ensures kind_numbers { map number_of_kind REPLY_KINDS ≡ range_with_len 1 9 }
+    ensures refusals { (why : WhyValue) → Contains REFUSALS why }
+    ensures refusal_numbers { map number_of_why REFUSALS ≡ range_with_len 1 9 }
 {}
 
 /// Histories worked by hand are legal, and with a wrong reply they are not.
@@ -331,4 +368,30 @@ pub fn examples_are_legal()
     ensures commit_of_four { IsLegal commit_of_four }
     ensures four_locks_refused { IsLegal (with_reply 5 (Refused TooManyLocks) commit_of_four) → ⊥ }
     ensures four_locks_counted_as_three { IsLegal (with_reply 5 (Committed 3) commit_of_four) → ⊥ }
+    ensures conversion_to_the_upper_bound { IsLegal conversion_to_the_upper_bound }
+    ensures mode_asked_for_the_upper_bound { IsLegal (with_reply 2 (Granted S) conversion_to_the_upper_bound) → ⊥ }
+    ensures conversion_needs_more_of_the_parent { IsLegal conversion_needs_more_of_the_parent }
+    ensures parent_not_tested_by_the_target { IsLegal (with_reply 4 (Granted SIX) conversion_needs_more_of_the_parent) → ⊥ }
+    ensures parents_on_each_level { IsLegal parents_on_each_level }
+    ensures parent_in_another_tree { IsLegal (with_reply 2 (Granted IS) parents_on_each_level) → ⊥ }
+    ensures grandparent_in_ix_for_parent_in_is { IsLegal (with_reply 5 (Granted IX) parents_on_each_level) → ⊥ }
+    ensures page_in_is_for_a_record_in_x { IsLegal (with_reply 7 (Granted X) parents_on_each_level) → ⊥ }
+    ensures releases_promote_one_after_another { IsLegal releases_promote_one_after_another }
+    ensures release_promotes_nobody { IsLegal (with_reply 10 Waiting releases_promote_one_after_another) → ⊥ }
+    ensures release_promotes_past_the_first { IsLegal (with_reply 11 Clear releases_promote_one_after_another) → ⊥ }
+    ensures begins_again { IsLegal begins_again }
+    ensures begun_twice { IsLegal (with_reply 4 (Began 3) begins_again) → ⊥ }
+    ensures begin_tested_for_waiting { IsLegal (with_reply 5 (Refused IsWaiting) begins_again) → ⊥ }
+    ensures refused_begins_take_numbers { IsLegal (with_reply 7 (Began 5) begins_again) → ⊥ }
+    ensures polls_again { IsLegal polls_again }
+    ensures doom_reported_once { IsLegal (with_reply 11 Clear polls_again) → ⊥ }
+    ensures poll_ends_a_wait { IsLegal (with_reply 8 Clear polls_again) → ⊥ }
+    ensures circle_of_five { IsLegal circle_of_five }
+    ensures asker_of_five_doomed { IsLegal (with_reply 14 Deadlock circle_of_five) → ⊥ }
+    ensures circle_of_five_left { IsLegal (with_reply 15 Waiting circle_of_five) → ⊥ }
+    ensures three_victims { IsLegal three_victims }
+    ensures two_victims_only { IsLegal (with_reply 14 Waiting three_victims) → ⊥ }
+    ensures beside_the_circle { IsLegal beside_the_circle }
+    ensures younger_one_that_is_only_reached { IsLegal (with_reply 14 Deadlock beside_the_circle) → ⊥ }
+    ensures younger_one_that_only_leads_to_the_asker { IsLegal (with_reply 15 Deadlock beside_the_circle) → ⊥ }
 {}

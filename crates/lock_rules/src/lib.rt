@@ -2,7 +2,9 @@
 #![tactic(auto)]
 
 mod calls;
+mod kinds;
 pub mod laws;
 mod names;
 
 pub use calls::{Call, Entry, MAX_LOCKS, MAX_SESSIONS, Reply, Transaction, Why};
+pub use kinds::{OPS, Op, REFUSALS, REPLY_KINDS, ReplyKind};

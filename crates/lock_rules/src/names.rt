@@ -5,19 +5,7 @@ ghost use Rattle.lock_rules.specs.declared.calls.Why.{Why as WhyValue};
 ghost use Rattle.lock_rules.specs.Names.{name_of_why};
 
 use crate::calls::Why;
-
-/// All refusals, in the order of their numbers.
-const REFUSALS: [Why; 9] = [
-    Why::AlreadyOpen,
-    Why::NoTransaction,
-    Why::IsWaiting,
-    Why::IsDoomed,
-    Why::NothingAsked,
-    Why::NotHeld,
-    Why::ParentNotHeld,
-    Why::ChildHeld,
-    Why::TooManyLocks,
-];
+use crate::kinds::REFUSALS;
 
 impl Why {
     /// Returns the name that histories and messages write.

@@ -10,11 +10,12 @@ use Rattle.lock_rules.specs.declared.calls.Reply.TheVariants as reply
 use Rattle.lock_rules.specs.declared.calls.Entry.{Entry}
 use Rattle.lock_trace.specs.declared.faults.TraceKind.{TraceKind}
 use Rattle.lock_trace.specs.declared.faults.TraceKind.TheVariants as kind
-use Rattle.lock_trace.specs.declared.words.ReplyWord.{ReplyWord}
-use Rattle.lock_trace.specs.declared.words.ReplyWord.TheVariants as words
+use Rattle.lock_rules.specs.declared.kinds.ReplyKind.{ReplyKind}
+use Rattle.lock_rules.specs.declared.kinds.ReplyKind.TheVariants as reply_kind
 use Rattle.lock_trace.specs.declared.rows.TraceRow.{TraceRow}
-use Rattle.lock_trace.specs.Words.{word_of_reply, reply_word_of}
-use Rattle.lock_trace.specs.Fields.{place_in, reply_word_in, or_value, number_in, granted_in, mode_in, why_in, max_u64, max_u32}
+use Rattle.lock_rules.specs.Kinds.{kind_of_reply}
+use Rattle.lock_trace.specs.Words.{word_of_reply}
+use Rattle.lock_trace.specs.Fields.{place_in, reply_kind_in, or_value, number_in, granted_in, mode_in, why_in, max_u64, max_u32}
 use Rattle.lock_trace.specs.Rows.{fields_of_row, row_in, ◌>>=◌}
 use Rattle.lock_trace.specs.Tests.{field_of}
 use Rattle.lock_trace.specs.Entries.{IsReply, IsEntry, value_in, reply_in, with_reply, entry_in, entry_of}
@@ -75,11 +76,11 @@ same_reply a b e = cc
 -- The two fields are the word and the value of the reply, whose numbers are in range.
 record AreReplyFields (w v : List ℕ) (r : Reply) : Type 0 where
   reply : IsReply r
-  word : w ≡ word_of_reply (reply_word_of r)
+  word : w ≡ word_of_reply (kind_of_reply r)
   value : v ≡ value_field r
 
 -- If a reply without a value is read, the value field was empty; by cases.
-without_cases : (w v : List ℕ) (a r : Reply) (b : Bool) → IsReply a → w ≡ word_of_reply (reply_word_of a) → [] ≡ value_field a → (length v == 0) ≡ b → (if not b then Err kind.Value else ok_reply a) ≡ ok_reply r → AreReplyFields w v r
+without_cases : (w v : List ℕ) (a r : Reply) (b : Bool) → IsReply a → w ≡ word_of_reply (kind_of_reply a) → [] ≡ value_field a → (length v == 0) ≡ b → (if not b then Err kind.Value else ok_reply a) ≡ ok_reply r → AreReplyFields w v r
 without_cases w v a r true is word none no_v e = subst (AreReplyFields w v) (same_reply a r e) (record { reply = is; word = word; value = empty v no_v ∙ none })
 without_cases w v a r false is word none no_v e = absurd cc
 
@@ -108,38 +109,38 @@ few_32 : max_u32 < 2 ^ 64
 few_32 = omega arith
 
 -- If the value of a kind of reply is read, the fields are the word and the value of the reply.
-read_value : (t : ReplyWord) (w v : List ℕ) (r : Reply) → w ≡ word_of_reply t → value_in t v ≡ Ok r → AreReplyFields w v r
-read_value words.Began w v r word e =
+read_value : (t : ReplyKind) (w v : List ℕ) (r : Reply) → w ≡ word_of_reply t → value_in t v ≡ Ok r → AreReplyFields w v r
+read_value reply_kind.Began w v r word e =
     let (n, read, is) = bind_ok (number_in max_u64 v) (λ n. ok_reply (reply.Began n)) r e in
     let of = number_is max_u64 n v few_64 read in
     subst (AreReplyFields w v) (same_reply (reply.Began n) r is) (record { reply = below_64 n of.0; word = word; value = of.1 })
-read_value words.Granted w v r word e =
+read_value reply_kind.Granted w v r word e =
     let (m, read, is) = bind_ok (granted_in v) (λ m. ok_reply (reply.Granted m)) r e in
     subst (AreReplyFields w v) (same_reply (reply.Granted m) r is) (record { reply = tt; word = word; value = granted_is m v read })
-read_value words.Waiting w v r word e = without_cases w v reply.Waiting r (length v == 0) tt word refl refl e
-read_value words.Deadlock w v r word e = without_cases w v reply.Deadlock r (length v == 0) tt word refl refl e
-read_value words.Clear w v r word e = without_cases w v reply.Clear r (length v == 0) tt word refl refl e
-read_value words.Released w v r word e = without_cases w v reply.Released r (length v == 0) tt word refl refl e
-read_value words.Committed w v r word e =
+read_value reply_kind.Waiting w v r word e = without_cases w v reply.Waiting r (length v == 0) tt word refl refl e
+read_value reply_kind.Deadlock w v r word e = without_cases w v reply.Deadlock r (length v == 0) tt word refl refl e
+read_value reply_kind.Clear w v r word e = without_cases w v reply.Clear r (length v == 0) tt word refl refl e
+read_value reply_kind.Released w v r word e = without_cases w v reply.Released r (length v == 0) tt word refl refl e
+read_value reply_kind.Committed w v r word e =
     let (n, read, is) = bind_ok (number_in max_u32 v) (λ n. ok_reply (reply.Committed n)) r e in
     let of = number_is max_u32 n v few_32 read in
     subst (AreReplyFields w v) (same_reply (reply.Committed n) r is) (record { reply = below_32 n of.0; word = word; value = of.1 })
-read_value words.Aborted w v r word e =
+read_value reply_kind.Aborted w v r word e =
     let (n, read, is) = bind_ok (number_in max_u32 v) (λ n. ok_reply (reply.Aborted n)) r e in
     let of = number_is max_u32 n v few_32 read in
     subst (AreReplyFields w v) (same_reply (reply.Aborted n) r is) (record { reply = below_32 n of.0; word = word; value = of.1 })
-read_value words.Refused w v r word e =
+read_value reply_kind.Refused w v r word e =
     let (why, read, is) = bind_ok (why_in v) (λ why. ok_reply (reply.Refused why)) r e in
     subst (AreReplyFields w v) (same_reply (reply.Refused why) r is) (record { reply = tt; word = word; value = why_is v why read })
 
 -- If a reply is read, the fields are its word and its value.
 read_reply : (w v : List ℕ) (r : Reply) → reply_in w v ≡ Ok r → AreReplyFields w v r
 read_reply w v r e =
-    let (t, read, then_value) = bind_ok (reply_word_in w) (λ t. value_in t v) r e in
+    let (t, read, then_value) = bind_ok (reply_kind_in w) (λ t. value_in t v) r e in
     read_value t w v r (reply_word_is w t read) then_value
 
 -- The word and the value of a reply are read as that reply.
-pub reply_back : (r : Reply) → IsReply r → reply_in (word_of_reply (reply_word_of r)) (value_field r) ≡ Ok r
+pub reply_back : (r : Reply) → IsReply r → reply_in (word_of_reply (kind_of_reply r)) (value_field r) ≡ Ok r
 reply_back (reply.Began n) is = rw (number_back max_u64 n few_64 (within_64 n is)) refl
 reply_back (reply.Granted m) is = rw (granted_back m) refl
 reply_back reply.Waiting is = refl
@@ -157,7 +158,7 @@ both w v w' v' e f = rw (e, f) refl
 -- The two fields of a reply are read as that reply.
 parts_back : (w v : List ℕ) (r : Reply) → IsReply r → (w ∷ v ∷ []) ≡ fields_of_reply r → reply_in w v ≡ Ok r
 parts_back w v r is e =
-    let word : w ≡ word_of_reply (reply_word_of r) = cc in
+    let word : w ≡ word_of_reply (kind_of_reply r) = cc in
     let value : v ≡ value_field r = cc in
     rw (word, value) (reply_back r is)
 

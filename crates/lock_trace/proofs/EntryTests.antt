@@ -10,10 +10,12 @@ use Rattle.lock_rules.specs.declared.calls.Entry.{Entry}
 use Rattle.lock_rules.specs.Names.{name_of_why}
 use Rattle.lock_trace.specs.declared.faults.TraceKind.{TraceKind}
 use Rattle.lock_trace.specs.declared.faults.TraceKind.TheVariants as kind
-use Rattle.lock_trace.specs.declared.words.ReplyWord.{ReplyWord}
-use Rattle.lock_trace.specs.declared.words.ReplyWord.TheVariants as words
-use Rattle.lock_trace.specs.Words.{word_of_reply, reply_words}
-use Rattle.lock_trace.specs.Fields.{place_in, reply_word_in, or_value, number_in, granted_in, mode_in, why_in, modes, whys, max_u64, max_u32}
+use Rattle.lock_rules.specs.declared.kinds.ReplyKind.{ReplyKind}
+use Rattle.lock_rules.specs.declared.kinds.ReplyKind.TheVariants as reply_kind
+use Rattle.lock_modes.specs.declared.TheConstants.{MODES}
+use Rattle.lock_rules.specs.declared.kinds.TheConstants.{REPLY_KINDS, REFUSALS}
+use Rattle.lock_trace.specs.Words.{word_of_reply}
+use Rattle.lock_trace.specs.Fields.{place_in, reply_kind_in, or_value, number_in, granted_in, mode_in, why_in, max_u64, max_u32}
 use Rattle.lock_trace.specs.Rows.{row_in, ◌>>=◌}
 use Rattle.lock_trace.specs.Entries.{IsEntry, value_in, reply_in, with_reply, entry_in, entry_of}
 use Rattle.lock_trace.specs.Histories.{fields_of_entry}
@@ -49,16 +51,16 @@ none_agrees r true = passes r
 none_agrees r false = fails
 
 -- The test of a value's form agrees with the reading of the value, for each kind of reply.
-form_agrees : (t : ReplyWord) (v : List ℕ) → Agree kind.Value (has_form_of t v) (value_in t v)
-form_agrees words.Began v = made_agrees kind.Value (is_numeral max_u64 v) (number_in max_u64 v) (λ n. reply.Began n) (number_agrees max_u64 v)
-form_agrees words.Granted v = made_agrees kind.Value (is_mode v) (granted_in v) (λ m. reply.Granted m) (or_agrees kind.Mode (is_mode v) (mode_in v) (named_agrees name_of kind.Mode modes v))
-form_agrees words.Waiting v = none_agrees reply.Waiting (length v == 0)
-form_agrees words.Deadlock v = none_agrees reply.Deadlock (length v == 0)
-form_agrees words.Clear v = none_agrees reply.Clear (length v == 0)
-form_agrees words.Released v = none_agrees reply.Released (length v == 0)
-form_agrees words.Committed v = made_agrees kind.Value (is_numeral max_u32 v) (number_in max_u32 v) (λ n. reply.Committed n) (number_agrees max_u32 v)
-form_agrees words.Aborted v = made_agrees kind.Value (is_numeral max_u32 v) (number_in max_u32 v) (λ n. reply.Aborted n) (number_agrees max_u32 v)
-form_agrees words.Refused v = made_agrees kind.Value (is_why v) (why_in v) (λ w. reply.Refused w) (named_agrees name_of_why kind.Value whys v)
+form_agrees : (t : ReplyKind) (v : List ℕ) → Agree kind.Value (has_form_of t v) (value_in t v)
+form_agrees reply_kind.Began v = made_agrees kind.Value (is_numeral max_u64 v) (number_in max_u64 v) (λ n. reply.Began n) (number_agrees max_u64 v)
+form_agrees reply_kind.Granted v = made_agrees kind.Value (is_mode v) (granted_in v) (λ m. reply.Granted m) (or_agrees kind.Mode (is_mode v) (mode_in v) (named_agrees name_of kind.Mode MODES v))
+form_agrees reply_kind.Waiting v = none_agrees reply.Waiting (length v == 0)
+form_agrees reply_kind.Deadlock v = none_agrees reply.Deadlock (length v == 0)
+form_agrees reply_kind.Clear v = none_agrees reply.Clear (length v == 0)
+form_agrees reply_kind.Released v = none_agrees reply.Released (length v == 0)
+form_agrees reply_kind.Committed v = made_agrees kind.Value (is_numeral max_u32 v) (number_in max_u32 v) (λ n. reply.Committed n) (number_agrees max_u32 v)
+form_agrees reply_kind.Aborted v = made_agrees kind.Value (is_numeral max_u32 v) (number_in max_u32 v) (λ n. reply.Aborted n) (number_agrees max_u32 v)
+form_agrees reply_kind.Refused v = made_agrees kind.Value (is_why v) (why_in v) (λ w. reply.Refused w) (named_agrees name_of_why kind.Value REFUSALS v)
 
 -- `b || false` is `b`.
 or_false : (b : Bool) → (b || false) ≡ b
@@ -66,16 +68,16 @@ or_false true = refl
 or_false false = refl
 
 -- A value field with the word of a kind of reply is tested by the form of that kind.
-value_is : (t : ReplyWord) (v : List ℕ) → is_value (word_of_reply t) v ≡ has_form_of t v
-value_is words.Began v = or_false (is_numeral max_u64 v)
-value_is words.Granted v = or_false (is_mode v)
-value_is words.Waiting v = or_false (length v == 0)
-value_is words.Deadlock v = or_false (length v == 0)
-value_is words.Clear v = or_false (length v == 0)
-value_is words.Released v = or_false (length v == 0)
-value_is words.Committed v = or_false (is_numeral max_u32 v)
-value_is words.Aborted v = or_false (is_numeral max_u32 v)
-value_is words.Refused v = or_false (is_why v)
+value_is : (t : ReplyKind) (v : List ℕ) → is_value (word_of_reply t) v ≡ has_form_of t v
+value_is reply_kind.Began v = or_false (is_numeral max_u64 v)
+value_is reply_kind.Granted v = or_false (is_mode v)
+value_is reply_kind.Waiting v = or_false (length v == 0)
+value_is reply_kind.Deadlock v = or_false (length v == 0)
+value_is reply_kind.Clear v = or_false (length v == 0)
+value_is reply_kind.Released v = or_false (length v == 0)
+value_is reply_kind.Committed v = or_false (is_numeral max_u32 v)
+value_is reply_kind.Aborted v = or_false (is_numeral max_u32 v)
+value_is reply_kind.Refused v = or_false (is_why v)
 
 -- A reading that agrees with its only test has the fault of that test.
 one_test : {A : Type 0} (k : TraceKind) (b : Bool) (x : Result A TraceKind) → Agree k b x → fault_in x ≡ first_failing ((not b, k) ∷ [])
@@ -85,7 +87,7 @@ one_test k _ _ fails = refl
 -- Reading a reply fails with the first of its tests that fails.
 reply_fault : (w v : List ℕ) → fault_in (reply_in w v) ≡ first_failing (tests_of_reply w v)
 reply_fault w v =
-    then_tests kind.Reply (is_reply_word w) (reply_word_in w) (λ t. value_in t v) ((not (is_value w v), kind.Value) ∷ []) (named_agrees word_of_reply kind.Reply reply_words w)
+    then_tests kind.Reply (is_reply_word w) (reply_kind_in w) (λ t. value_in t v) ((not (is_value w v), kind.Value) ∷ []) (named_agrees word_of_reply kind.Reply REPLY_KINDS w)
     (λ t read.
     one_test kind.Value (has_form_of t v) (value_in t v) (form_agrees t v)
     ∙ ap (λ (b : Bool). first_failing ((not b, kind.Value) ∷ [])) (sym (value_is t v) ∙ ap (λ (x : List ℕ). is_value x v) (sym (reply_word_is w t read))))

@@ -1,6 +1,6 @@
 -- The fast path reads what the formats read: the bytes passed so far are the text of the numbers read so far.
-use Rattle.std.proofs.Common.{◌≡◌, ℕ, ◌+◌, ◌-◌, ◌*◌, ◌^◌, ◌<◌, ◌≤◌, ◌↔◌, List, [], ◌∷◌, ◌++◌, length, take, take_all, set, get_or, Option, Some, None, Ok, refl, ap, sym, subst, ◌∙◌, inl, inr, eq-zero-or-pos, append_assoc, arith}
-use Rattle.std.specs.Prelude.{decimal, IsSome, IfSome}
+use Rattle.std.proofs.Common.{◌≡◌, ℕ, ◌+◌, ◌-◌, ◌*◌, ◌^◌, ◌<◌, ◌≤◌, List, [], ◌∷◌, ◌++◌, length, take, take_all, set, get_or, Option, Some, None, Ok, refl, ap, sym, ◌∙◌, inl, inr, eq-zero-or-pos, append_assoc, arith}
+use Rattle.std.specs.Prelude.{decimal, IfSome}
 use Rattle.std.proofs.lemmas.List.{append-nil, take_more, take_more_set}
 use Rattle.std.proofs.lemmas.Fmt.{decimal_digit}
 use Rattle.lock_tree.specs.Paths.{IsResource}
@@ -85,14 +85,14 @@ number_ends field numbers level start end number deep all so_far text =
     ∙ sym (ap text_of (take_more_set numbers level number deep) ∙ last_number (take level numbers) number)
 
 -- A resource made of the numbers whose path is the field is what the field is read as.
-made_of_text : (field ns : List ℕ) (found : Option (List ℕ)) → field ≡ text_of ns → (IsSome found ↔ IsResource ns) → IfSome found (λ r. r ≡ ns) → IfSome found (λ r. resource_in field ≡ Ok r)
+made_of_text : (field ns : List ℕ) (found : Option (List ℕ)) → field ≡ text_of ns → IfSome found IsResource → IfSome found (λ r. r ≡ ns) → IfSome found (λ r. resource_in field ≡ Ok r)
 made_of_text field ns None text is value = tt
-made_of_text field ns (Some r) text is value = (resource_iff r field).1 (subst IsResource (sym value) (is.0 refl), text ∙ ap text_of (sym value))
+made_of_text field ns (Some r) text is value = (resource_iff r field).1 (is, text ∙ ap text_of (sym value))
 
 -- At the end of the field, the resource made of the numbers read is what the field is read as.
 pub resource_made : (field numbers : List ℕ) (level start end number : ℕ) (found : Option (List ℕ)) → level < length numbers → end ≡ length field
     → take start field ≡ slash_terminated (take level numbers) → take end field ≡ take start field ++ decimal number
-    → (IsSome found ↔ IsResource (take (level + 1) (set numbers level number))) → IfSome found (λ r. r ≡ take (level + 1) (set numbers level number))
+    → IfSome found IsResource → IfSome found (λ r. r ≡ take (level + 1) (set numbers level number))
     → IfSome found (λ r. resource_in field ≡ Ok r)
 resource_made field numbers level start end number found deep all so_far text is value =
     made_of_text field (take (level + 1) (set numbers level number)) found (number_ends field numbers level start end number deep all so_far text) is value

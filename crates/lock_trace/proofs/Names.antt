@@ -1,4 +1,4 @@
--- Operations, modes, reply words and refusals are found by their names, and no other field finds one.
+-- Operations, modes, kinds of replies and refusals are found by their names, and no other field finds one.
 use Rattle.std.proofs.Common.{◌≡◌, ℕ, Bool, true, false, List, [], ◌∷◌, length, drop, drop-cons, get_or, add-one, ◌+◌, Result, Ok, Err, refl, sym, ap, ◌∙◌, arith}
 use Rattle.std.specs.Prelude.{if◌then◌else◌, bytes_eq, nat_lt, ◌<◌}
 use Rattle.std.specs.List.{list_all}
@@ -16,10 +16,12 @@ use Rattle.lock_rules.specs.declared.calls.Why.TheVariants as why
 use Rattle.lock_rules.specs.Names.{name_of_why}
 use Rattle.lock_trace.specs.declared.faults.TraceKind.{TraceKind}
 use Rattle.lock_trace.specs.declared.faults.TraceKind.TheVariants as kind
-use Rattle.lock_trace.specs.declared.words.Op.{Op}
-use Rattle.lock_trace.specs.declared.words.ReplyWord.{ReplyWord}
-use Rattle.lock_trace.specs.Words.{word_of, ops, word_of_reply, reply_words}
-use Rattle.lock_trace.specs.Fields.{find_named, modes, op_in, mode_in, reply_word_in, whys, why_in}
+use Rattle.lock_rules.specs.declared.kinds.Op.{Op}
+use Rattle.lock_rules.specs.declared.kinds.ReplyKind.{ReplyKind}
+use Rattle.lock_modes.specs.declared.TheConstants.{MODES}
+use Rattle.lock_rules.specs.declared.kinds.TheConstants.{OPS, REPLY_KINDS, REFUSALS}
+use Rattle.lock_trace.specs.Words.{word_of, word_of_reply}
+use Rattle.lock_trace.specs.Fields.{find_named, op_in, mode_in, reply_kind_in, why_in}
 
 -- The field is the name of no item.
 abbrev pub Misses : {A : Type 0} → (A → List ℕ) → List A → List ℕ → Type 0
@@ -59,11 +61,11 @@ named_ok {A} name fault (y ∷ ys) bs x e = cases (bytes_eq bs (name y)) refl (n
 
 -- The field of an operation is its word.
 pub op_is : (bs : List ℕ) (o : Op) → op_in bs ≡ Ok o → bs ≡ word_of o
-op_is bs o e = named_ok word_of kind.Op ops bs o e
+op_is bs o e = named_ok word_of kind.Op OPS bs o e
 
 -- The field of a mode is its name.
 pub mode_is : (bs : List ℕ) (m : Mode) → mode_in bs ≡ Ok m → bs ≡ name_of m
-mode_is bs m e = named_ok name_of kind.Mode modes bs m e
+mode_is bs m e = named_ok name_of kind.Mode MODES bs m e
 
 -- The name of a mode finds that mode.
 pub mode_by_name : (m : Mode) (bs : List ℕ) → bs ≡ name_of m → mode_in bs ≡ Ok m
@@ -99,19 +101,19 @@ mode_text X = is_text _ refl
 
 -- A field that is no mode's name has the fault Mode.
 pub no_mode : (bs : List ℕ) → ((m : Mode) → bs ≡ name_of m → ⊥) → mode_in bs ≡ Err kind.Mode
-no_mode bs none = named_none name_of kind.Mode modes bs (none NL, (none IS, (none IX, (none S, (none SIX, (none X, tt))))))
+no_mode bs none = named_none name_of kind.Mode MODES bs (none NL, (none IS, (none IX, (none S, (none SIX, (none X, tt))))))
 
 -- A field that is not UTF-8 has the fault Mode.
 pub no_text_no_mode : (bs : List ℕ) → is_utf8 bs ≡ false → mode_in bs ≡ Err kind.Mode
 no_text_no_mode bs not = no_mode bs (λ m e. let is : is_utf8 bs ≡ true = ap is_utf8 e ∙ mode_text m in let bad : true ≡ false = sym is ∙ not in cc)
 
 -- The field of a kind of reply is its word.
-pub reply_word_is : (bs : List ℕ) (w : ReplyWord) → reply_word_in bs ≡ Ok w → bs ≡ word_of_reply w
-reply_word_is bs w e = named_ok word_of_reply kind.Reply reply_words bs w e
+pub reply_word_is : (bs : List ℕ) (w : ReplyKind) → reply_kind_in bs ≡ Ok w → bs ≡ word_of_reply w
+reply_word_is bs w e = named_ok word_of_reply kind.Reply REPLY_KINDS bs w e
 
 -- The field of a reason of a refusal is its name.
 pub why_is : (bs : List ℕ) (w : Why) → why_in bs ≡ Ok w → bs ≡ name_of_why w
-why_is bs w e = named_ok name_of_why kind.Value whys bs w e
+why_is bs w e = named_ok name_of_why kind.Value REFUSALS bs w e
 
 -- The name of a reason of a refusal finds that reason.
 pub why_by_name : (w : Why) (bs : List ℕ) → bs ≡ name_of_why w → why_in bs ≡ Ok w
@@ -140,7 +142,7 @@ why_text why.TooManyLocks = is_text _ refl
 -- A field that is no reason's name has the fault Value.
 pub no_why : (bs : List ℕ) → ((w : Why) → bs ≡ name_of_why w → ⊥) → why_in bs ≡ Err kind.Value
 no_why bs none =
-    named_none name_of_why kind.Value whys bs
+    named_none name_of_why kind.Value REFUSALS bs
     (none why.AlreadyOpen, (none why.NoTransaction, (none why.IsWaiting, (none why.IsDoomed, (none why.NothingAsked, (none why.NotHeld, (none why.ParentNotHeld, (none why.ChildHeld, (none why.TooManyLocks, tt)))))))))
 
 -- A field that is not UTF-8 has the fault Value, as a reason of a refusal.

@@ -9,8 +9,8 @@ use Rattle.lock_rules.specs.declared.calls.Call.{Call}
 use Rattle.lock_rules.specs.declared.calls.Call.TheVariants as call
 use Rattle.lock_trace.specs.declared.faults.TraceKind.{TraceKind}
 use Rattle.lock_trace.specs.declared.faults.TraceKind.TheVariants as kind
-use Rattle.lock_trace.specs.declared.words.Op.{Op}
-use Rattle.lock_trace.specs.declared.words.Op.TheVariants as op
+use Rattle.lock_rules.specs.declared.kinds.Op.{Op}
+use Rattle.lock_rules.specs.declared.kinds.Op.TheVariants as op
 use Rattle.lock_trace.specs.declared.rows.TraceRow.{TraceRow}
 use Rattle.lock_trace.specs.Words.{word_of}
 use Rattle.lock_trace.specs.Fields.{session_in, op_in, resource_in, mode_in}

@@ -14,11 +14,14 @@ use Rattle.lock_rules.specs.declared.calls.Call.{Call}
 use Rattle.lock_rules.specs.declared.calls.Call.TheVariants as call
 use Rattle.lock_trace.specs.declared.faults.TraceKind.{TraceKind}
 use Rattle.lock_trace.specs.declared.faults.TraceKind.TheVariants as kind
-use Rattle.lock_trace.specs.declared.words.Op.{Op}
-use Rattle.lock_trace.specs.declared.words.Op.TheVariants as op
+use Rattle.lock_rules.specs.declared.kinds.Op.{Op}
+use Rattle.lock_rules.specs.declared.kinds.Op.TheVariants as op
 use Rattle.lock_trace.specs.declared.rows.TraceRow.{TraceRow}
-use Rattle.lock_trace.specs.Words.{word_of, ops, ops_with_resource, ops_with_mode}
-use Rattle.lock_trace.specs.Fields.{find_named, modes, above_zero, session_in, op_in, mode_in, resource_in, or_path}
+use Rattle.lock_modes.specs.declared.TheConstants.{MODES}
+use Rattle.lock_rules.specs.declared.kinds.TheConstants.{OPS}
+use Rattle.lock_rules.specs.Kinds.{ops_with_resource, ops_with_mode}
+use Rattle.lock_trace.specs.Words.{word_of}
+use Rattle.lock_trace.specs.Fields.{find_named, above_zero, session_in, op_in, mode_in, resource_in, or_path}
 use Rattle.lock_trace.specs.Tests.{is_session, is_word_of, is_resource, path_fault_of, is_mode, is_extra, tests_of_fields, tests_of_row, first_failing}
 use Rattle.lock_trace.specs.Rows.{IsRow, fields_of_row, ◌>>=◌, resource_and_mode_in, call_in, row_in, row_of}
 use Rattle.lock_trace.proofs.Names.{op_is}
@@ -105,7 +108,7 @@ extra_fault false c = refl
 both_fault : (r m : List ℕ) → fault_in (resource_and_mode_in r m) ≡ first_failing ((not (is_resource r), kind.Path (path_fault_of r)) ∷ (not (is_mode m), kind.Mode) ∷ (false, kind.Extra) ∷ [])
 both_fault r m =
     then_tests (kind.Path (path_fault_of r)) (is_resource r) (resource_in r) (λ resource. mode_in m >>= (λ mode. Ok (resource, mode))) ((not (is_mode m), kind.Mode) ∷ (false, kind.Extra) ∷ []) (resource_agrees r)
-    (λ resource read. then_tests kind.Mode (is_mode m) (mode_in m) (λ mode. Ok (resource, mode)) ((false, kind.Extra) ∷ []) (named_agrees name_of kind.Mode modes m) (λ mode read_m. refl))
+    (λ resource read. then_tests kind.Mode (is_mode m) (mode_in m) (λ mode. Ok (resource, mode)) ((false, kind.Extra) ∷ []) (named_agrees name_of kind.Mode MODES m) (λ mode read_m. refl))
 
 -- Reading a call fails with the first of its operation's tests that fails.
 call_fault : (o : Op) (r m : List ℕ) → fault_in (call_in o r m) ≡ first_failing (tests_after (word_of o) r m)
@@ -128,9 +131,9 @@ row_by s c = record { session = s; call = c }
 -- Reading four fields fails with the first of their tests that fails.
 pub fields_fault : (n : ℕ) (s o r m : List ℕ) → fault_in (row_in n s o r m) ≡ first_failing (tests_of_fields n s o r m)
 fields_fault n s o r m =
-    then_tests kind.Session (is_session n s) (session_in n s) (λ session. op_in o >>= (λ asked. call_in asked r m >>= (λ made. Ok (row_by session made)))) ((not (is_word_of ops o), kind.Op) ∷ tests_after o r m) (session_agrees n s)
+    then_tests kind.Session (is_session n s) (session_in n s) (λ session. op_in o >>= (λ asked. call_in asked r m >>= (λ made. Ok (row_by session made)))) ((not (is_word_of OPS o), kind.Op) ∷ tests_after o r m) (session_agrees n s)
     (λ session read_s.
-    then_tests kind.Op (is_word_of ops o) (op_in o) (λ asked. call_in asked r m >>= (λ made. Ok (row_by session made))) (tests_after o r m) (named_agrees word_of kind.Op ops o)
+    then_tests kind.Op (is_word_of OPS o) (op_in o) (λ asked. call_in asked r m >>= (λ made. Ok (row_by session made))) (tests_after o r m) (named_agrees word_of kind.Op OPS o)
     (λ asked read_o.
     fault_after (call_in asked r m) (row_by session) ∙ call_fault asked r m
     ∙ ap (λ (w : List ℕ). first_failing (tests_after w r m)) (sym (op_is o asked read_o))))

@@ -6,9 +6,9 @@ use Rattle.lock_rules.specs.declared.calls.Entry.{Entry}
 use Rattle.lock_trace.specs.declared.faults.TraceKind.{TraceKind}
 use Rattle.lock_trace.specs.declared.faults.TraceKind.TheVariants as kind
 use Rattle.lock_trace.specs.declared.rows.TraceRow.{TraceRow}
-use Rattle.lock_trace.specs.declared.words.ReplyWord.{ReplyWord}
-use Rattle.lock_trace.specs.declared.words.ReplyWord.TheVariants as words
-use Rattle.lock_trace.specs.Fields.{place_in, reply_word_in, number_in, granted_in, why_in, max_u64, max_u32}
+use Rattle.lock_rules.specs.declared.kinds.ReplyKind.{ReplyKind}
+use Rattle.lock_rules.specs.declared.kinds.ReplyKind.TheVariants as reply_kind
+use Rattle.lock_trace.specs.Fields.{place_in, reply_kind_in, number_in, granted_in, why_in, max_u64, max_u32}
 use Rattle.lock_trace.specs.Rows.{◌>>=◌, HasResources, row_in}
 
 -- The numbers of a reply are in range: 64 bits for a transaction number, 32 bits for a count of locks.
@@ -36,31 +36,31 @@ abbrev pub without_value : Reply → List ℕ → Result Reply TraceKind
 without_value r v = if not (length v == 0) then Err kind.Value else Ok r
 
 -- The reply of a kind and a value field, or the fault Value.
-abbrev pub value_in : ReplyWord → List ℕ → Result Reply TraceKind
-value_in words.Began v = do
+abbrev pub value_in : ReplyKind → List ℕ → Result Reply TraceKind
+value_in reply_kind.Began v = do
   number ← number_in max_u64 v
   Ok (reply.Began number)
-value_in words.Granted v = do
+value_in reply_kind.Granted v = do
   mode ← granted_in v
   Ok (reply.Granted mode)
-value_in words.Waiting v = without_value reply.Waiting v
-value_in words.Deadlock v = without_value reply.Deadlock v
-value_in words.Clear v = without_value reply.Clear v
-value_in words.Released v = without_value reply.Released v
-value_in words.Committed v = do
+value_in reply_kind.Waiting v = without_value reply.Waiting v
+value_in reply_kind.Deadlock v = without_value reply.Deadlock v
+value_in reply_kind.Clear v = without_value reply.Clear v
+value_in reply_kind.Released v = without_value reply.Released v
+value_in reply_kind.Committed v = do
   locks ← number_in max_u32 v
   Ok (reply.Committed locks)
-value_in words.Aborted v = do
+value_in reply_kind.Aborted v = do
   locks ← number_in max_u32 v
   Ok (reply.Aborted locks)
-value_in words.Refused v = do
+value_in reply_kind.Refused v = do
   why ← why_in v
   Ok (reply.Refused why)
 
 -- The reply of a reply field and a value field, or the first fault.
 abbrev pub reply_in : List ℕ → List ℕ → Result Reply TraceKind
 reply_in w v = do
-  word ← reply_word_in w
+  word ← reply_kind_in w
   value_in word v
 
 -- The entry of a trace row and a reply.

@@ -2,11 +2,13 @@
 use Rattle.std.specs.Prelude.{◌≡◌, ◌==◌, ◌<◌, ◌≤◌, ℕ, if◌then◌else◌, List, [], ◌∷◌, Result, Ok, Err, bytes_eq, decimal}
 use Rattle.std.specs.Str.{is_utf8}
 use Rattle.lock_modes.specs.declared.Mode.{Mode}
-use Rattle.lock_modes.specs.declared.Mode.TheVariants.{NL, IS, IX, S, SIX, X}
+use Rattle.lock_modes.specs.declared.TheConstants.{MODES}
 use Rattle.lock_modes.specs.Codes.{name_of}
 use Rattle.lock_rules.specs.declared.calls.Why.{Why}
-use Rattle.lock_rules.specs.declared.calls.Why.TheVariants.{AlreadyOpen, NoTransaction, IsWaiting, IsDoomed, NothingAsked, NotHeld, ParentNotHeld, ChildHeld, TooManyLocks}
 use Rattle.lock_rules.specs.Names.{name_of_why}
+use Rattle.lock_rules.specs.declared.kinds.Op.{Op}
+use Rattle.lock_rules.specs.declared.kinds.ReplyKind.{ReplyKind}
+use Rattle.lock_rules.specs.declared.kinds.TheConstants.{OPS, REPLY_KINDS, REFUSALS}
 use Rattle.lock_tree.specs.declared.path_fault.PathFault.{PathFault}
 use Rattle.lock_tree.specs.declared.path_fault.PathFault.TheVariants as path
 use Rattle.lock_tree.specs.Readings.{reading_of}
@@ -14,9 +16,7 @@ use Rattle.lock_tree.specs.Numerals.{reading_of_numeral}
 use Rattle.lock_tree.specs.declared.numeral.NumeralFault.{NumeralFault}
 use Rattle.lock_trace.specs.declared.faults.TraceKind.{TraceKind}
 use Rattle.lock_trace.specs.declared.faults.TraceKind.TheVariants as kind
-use Rattle.lock_trace.specs.declared.words.Op.{Op}
-use Rattle.lock_trace.specs.declared.words.ReplyWord.{ReplyWord}
-use Rattle.lock_trace.specs.Words.{word_of, ops, word_of_reply, reply_words}
+use Rattle.lock_trace.specs.Words.{word_of, word_of_reply}
 
 -- A session number that was parsed: 0 is a fault, as is a parse fault.
 abbrev pub above_zero : Result ℕ NumeralFault → Result ℕ TraceKind
@@ -33,10 +33,6 @@ pub record IsSessionText (n s : ℕ) (field : List ℕ) : Type 0 where
   pub last : s ≤ n
   pub text : field ≡ decimal s
 
--- All modes, each once.
-abbrev pub modes : List Mode
-modes = NL ∷ IS ∷ IX ∷ S ∷ SIX ∷ X ∷ []
-
 -- The first item whose name is the field, or the fault if there is none.
 abbrev pub find_named : {A : Type 0} → (A → List ℕ) → TraceKind → List A → List ℕ → Result A TraceKind
 find_named name fault [] bs = Err fault
@@ -44,11 +40,11 @@ find_named name fault (x ∷ xs) bs = if bytes_eq bs (name x) then Ok x else fin
 
 -- The operation of a field, by its word.
 abbrev pub op_in : List ℕ → Result Op TraceKind
-op_in bs = find_named word_of kind.Op ops bs
+op_in bs = find_named word_of kind.Op OPS bs
 
 -- The mode of a field, by its name.
 abbrev pub mode_in : List ℕ → Result Mode TraceKind
-mode_in bs = find_named name_of kind.Mode modes bs
+mode_in bs = find_named name_of kind.Mode MODES bs
 
 -- A resource, or the path fault as the fault of a row.
 abbrev pub or_path : Result (List ℕ) PathFault → Result (List ℕ) TraceKind
@@ -64,8 +60,8 @@ abbrev pub place_in : ℕ → List ℕ → Result (Unit {0}) TraceKind
 place_in place bs = if bytes_eq bs (decimal place) then Ok tt else Err kind.Place
 
 -- The kind of reply of a field, by its word.
-abbrev pub reply_word_in : List ℕ → Result ReplyWord TraceKind
-reply_word_in bs = find_named word_of_reply kind.Reply reply_words bs
+abbrev pub reply_kind_in : List ℕ → Result ReplyKind TraceKind
+reply_kind_in bs = find_named word_of_reply kind.Reply REPLY_KINDS bs
 
 -- What was read, or the fault Value for any fault.
 abbrev pub or_value : {A F : Type 0} → Result A F → Result A TraceKind
@@ -88,10 +84,6 @@ number_in most bs = or_value (reading_of_numeral most bs)
 abbrev pub granted_in : List ℕ → Result Mode TraceKind
 granted_in bs = or_value (mode_in bs)
 
--- All reasons of a refusal, each once.
-abbrev pub whys : List Why
-whys = AlreadyOpen ∷ NoTransaction ∷ IsWaiting ∷ IsDoomed ∷ NothingAsked ∷ NotHeld ∷ ParentNotHeld ∷ ChildHeld ∷ TooManyLocks ∷ []
-
 -- The reason of a refusal in a value field, by its name.
 abbrev pub why_in : List ℕ → Result Why TraceKind
-why_in bs = find_named name_of_why kind.Value whys bs
+why_in bs = find_named name_of_why kind.Value REFUSALS bs

@@ -5,8 +5,9 @@ use Rattle.lock_rules.specs.declared.calls.Reply.{Reply}
 use Rattle.lock_rules.specs.declared.calls.Reply.TheVariants as reply
 use Rattle.lock_rules.specs.declared.calls.Entry.{Entry}
 use Rattle.lock_rules.specs.Names.{name_of_why}
+use Rattle.lock_rules.specs.Kinds.{kind_of_reply}
 use Rattle.lock_trace.specs.declared.rows.TraceRow.{TraceRow}
-use Rattle.lock_trace.specs.Words.{word_of_reply, reply_word_of}
+use Rattle.lock_trace.specs.Words.{word_of_reply}
 use Rattle.lock_trace.specs.Rows.{HasResources, fields_of_row}
 use Rattle.lock_trace.specs.Files.{fields_from}
 
@@ -24,7 +25,7 @@ value_field (reply.Refused w) = name_of_why w
 
 -- The fields of a reply: its word and its value.
 abbrev pub fields_of_reply : Reply → List (List ℕ)
-fields_of_reply r = word_of_reply (reply_word_of r) ∷ value_field r ∷ []
+fields_of_reply r = word_of_reply (kind_of_reply r) ∷ value_field r ∷ []
 
 -- The trace row of an entry: its session and its call.
 abbrev pub row_of_entry : Entry → TraceRow

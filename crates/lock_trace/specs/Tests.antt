@@ -2,6 +2,7 @@
 use Rattle.std.specs.Prelude.{ℕ, Bool, not, ◌&&◌, ◌||◌, ◌==◌, if◌then◌else◌, List, [], ◌∷◌, ◌++◌, length, slice_index_or, Option, Some, None, is_some, unwrap_or, bytes_eq, decimal}
 use Rattle.std.specs.List.{list_any}
 use Rattle.std.specs.Str.{is_utf8}
+use Rattle.lock_modes.specs.declared.TheConstants.{MODES}
 use Rattle.lock_modes.specs.Codes.{name_of}
 use Rattle.lock_tree.specs.declared.path_fault.PathFault.{PathFault}
 use Rattle.lock_tree.specs.declared.path_fault.PathFault.TheVariants as path
@@ -10,11 +11,13 @@ use Rattle.lock_tree.specs.Numerals.{number_of, fault_of_numeral}
 use Rattle.lock_rules.specs.Names.{name_of_why}
 use Rattle.lock_trace.specs.declared.faults.TraceKind.{TraceKind}
 use Rattle.lock_trace.specs.declared.faults.TraceKind.TheVariants as kind
-use Rattle.lock_trace.specs.declared.words.Op.{Op}
-use Rattle.lock_trace.specs.declared.words.ReplyWord.{ReplyWord}
-use Rattle.lock_trace.specs.declared.words.ReplyWord.TheVariants as words
-use Rattle.lock_trace.specs.Words.{word_of, ops, ops_with_resource, ops_with_mode, word_of_reply, reply_words}
-use Rattle.lock_trace.specs.Fields.{modes, whys, max_u64, max_u32}
+use Rattle.lock_rules.specs.declared.kinds.TheConstants.{OPS, REPLY_KINDS, REFUSALS}
+use Rattle.lock_rules.specs.Kinds.{ops_with_resource, ops_with_mode}
+use Rattle.lock_rules.specs.declared.kinds.Op.{Op}
+use Rattle.lock_rules.specs.declared.kinds.ReplyKind.{ReplyKind}
+use Rattle.lock_rules.specs.declared.kinds.ReplyKind.TheVariants as reply_kind
+use Rattle.lock_trace.specs.Words.{word_of, word_of_reply}
+use Rattle.lock_trace.specs.Fields.{max_u64, max_u32}
 
 -- The field is the decimal text of a number of at most `most`.
 abbrev pub is_numeral : ℕ → List ℕ → Bool
@@ -38,7 +41,7 @@ path_fault_of field = if is_utf8 field then unwrap_or (fault_of field) path.NotA
 
 -- The field is the name of a mode.
 abbrev pub is_mode : List ℕ → Bool
-is_mode field = list_any (λ m. bytes_eq field (name_of m)) modes
+is_mode field = list_any (λ m. bytes_eq field (name_of m)) MODES
 
 -- The operation does not take this field, and the field is not empty.
 abbrev pub is_extra : List Op → List ℕ → List ℕ → Bool
@@ -48,7 +51,7 @@ is_extra takers op field = not (is_word_of takers op) && not (length field == 0)
 abbrev pub tests_of_fields : ℕ → List ℕ → List ℕ → List ℕ → List ℕ → List (Bool × TraceKind)
 tests_of_fields n session op resource mode =
     (not (is_session n session), kind.Session)
-    ∷ (not (is_word_of ops op), kind.Op)
+    ∷ (not (is_word_of OPS op), kind.Op)
     ∷ (is_word_of ops_with_resource op && not (is_resource resource), kind.Path (path_fault_of resource))
     ∷ (is_word_of ops_with_mode op && not (is_mode mode), kind.Mode)
     ∷ (is_extra ops_with_resource op resource || is_extra ops_with_mode op mode, kind.Extra)
@@ -66,27 +69,27 @@ tests_of_row n fields =
 
 -- The field is the word of a reply.
 abbrev pub is_reply_word : List ℕ → Bool
-is_reply_word field = list_any (λ r. bytes_eq field (word_of_reply r)) reply_words
+is_reply_word field = list_any (λ r. bytes_eq field (word_of_reply r)) REPLY_KINDS
 
 -- The field is the name of a reason of a refusal.
 abbrev pub is_why : List ℕ → Bool
-is_why field = list_any (λ w. bytes_eq field (name_of_why w)) whys
+is_why field = list_any (λ w. bytes_eq field (name_of_why w)) REFUSALS
 
 -- The value field has the form that replies of this kind take.
-abbrev pub has_form_of : ReplyWord → List ℕ → Bool
-has_form_of words.Began value = is_numeral max_u64 value
-has_form_of words.Granted value = is_mode value
-has_form_of words.Waiting value = length value == 0
-has_form_of words.Deadlock value = length value == 0
-has_form_of words.Clear value = length value == 0
-has_form_of words.Released value = length value == 0
-has_form_of words.Committed value = is_numeral max_u32 value
-has_form_of words.Aborted value = is_numeral max_u32 value
-has_form_of words.Refused value = is_why value
+abbrev pub has_form_of : ReplyKind → List ℕ → Bool
+has_form_of reply_kind.Began value = is_numeral max_u64 value
+has_form_of reply_kind.Granted value = is_mode value
+has_form_of reply_kind.Waiting value = length value == 0
+has_form_of reply_kind.Deadlock value = length value == 0
+has_form_of reply_kind.Clear value = length value == 0
+has_form_of reply_kind.Released value = length value == 0
+has_form_of reply_kind.Committed value = is_numeral max_u32 value
+has_form_of reply_kind.Aborted value = is_numeral max_u32 value
+has_form_of reply_kind.Refused value = is_why value
 
 -- The value field has the form that the reply with this word takes.
 abbrev pub is_value : List ℕ → List ℕ → Bool
-is_value word value = list_any (λ r. bytes_eq word (word_of_reply r) && has_form_of r value) reply_words
+is_value word value = list_any (λ r. bytes_eq word (word_of_reply r) && has_form_of r value) REPLY_KINDS
 
 -- The tests of the reply and value fields, in order.
 abbrev pub tests_of_reply : List ℕ → List ℕ → List (Bool × TraceKind)

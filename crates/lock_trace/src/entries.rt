@@ -6,12 +6,11 @@ ghost use Rattle.lock_trace.specs.Tests.{field_of};
 ghost use Rattle.lock_trace.specs.Entries.{without_value, value_in, reply_in, entry_in};
 
 use crate::faults::TraceKind;
-use crate::fields::{check_place, count_of, granted_of, number_of, reply_word_of, why_of};
+use crate::fields::{check_place, count_of, granted_of, number_of, reply_kind_of, why_of};
 use crate::row::{Row, field_at};
 use crate::rows::{TraceRow, read_row};
-use crate::words::ReplyWord;
 use csv::ByteRecord;
-use lock_rules::{Entry, Reply};
+use lock_rules::{Entry, Reply, ReplyKind};
 
 /// Returns `reply`, which takes no value. Fails with `Value` unless the value field is empty.
 fn reply_without_value(reply: Reply, value: &[u8]) -> Result<Reply, TraceKind>
@@ -23,32 +22,32 @@ fn reply_without_value(reply: Reply, value: &[u8]) -> Result<Reply, TraceKind>
     Ok(reply)
 }
 
-/// The reply with this word; `value` is its value field. Fails with `Value`.
-fn reply_of_word(word: ReplyWord, value: &[u8]) -> Result<Reply, TraceKind>
-    ensures { result ≡ value_in word value.now }
+/// The reply of this kind; `value` is its value field. Fails with `Value`.
+fn reply_of_kind(kind: ReplyKind, value: &[u8]) -> Result<Reply, TraceKind>
+    ensures { result ≡ value_in kind value.now }
 {
-    match word {
-        ReplyWord::Began => {
+    match kind {
+        ReplyKind::Began => {
             let number = number_of(value, u64::MAX)?;
             Ok(Reply::Began(number))
         }
-        ReplyWord::Granted => {
+        ReplyKind::Granted => {
             let mode = granted_of(value)?;
             Ok(Reply::Granted(mode))
         }
-        ReplyWord::Waiting => reply_without_value(Reply::Waiting, value),
-        ReplyWord::Deadlock => reply_without_value(Reply::Deadlock, value),
-        ReplyWord::Clear => reply_without_value(Reply::Clear, value),
-        ReplyWord::Released => reply_without_value(Reply::Released, value),
-        ReplyWord::Committed => {
+        ReplyKind::Waiting => reply_without_value(Reply::Waiting, value),
+        ReplyKind::Deadlock => reply_without_value(Reply::Deadlock, value),
+        ReplyKind::Clear => reply_without_value(Reply::Clear, value),
+        ReplyKind::Released => reply_without_value(Reply::Released, value),
+        ReplyKind::Committed => {
             let locks = count_of(value)?;
             Ok(Reply::Committed(locks))
         }
-        ReplyWord::Aborted => {
+        ReplyKind::Aborted => {
             let locks = count_of(value)?;
             Ok(Reply::Aborted(locks))
         }
-        ReplyWord::Refused => {
+        ReplyKind::Refused => {
             let why = why_of(value)?;
             Ok(Reply::Refused(why))
         }
@@ -60,8 +59,8 @@ fn reply_of_word(word: ReplyWord, value: &[u8]) -> Result<Reply, TraceKind>
 fn reply_of(word: &[u8], value: &[u8]) -> Result<Reply, TraceKind>
     ensures { result ≡ reply_in word.now value.now }
 {
-    let word = reply_word_of(word)?;
-    reply_of_word(word, value)
+    let kind = reply_kind_of(word)?;
+    reply_of_kind(kind, value)
 }
 
 /// Reads the entry at index `place` of a history from a record of seven fields. Tests the fields from left to

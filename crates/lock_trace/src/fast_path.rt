@@ -2,8 +2,7 @@
 //! pass, so UTF-8 needs no test. A field that is declined here is read again by the slow path, which finds its
 //! fault.
 
-ghost use Rattle.std.specs.Prelude.{◌≡◌, ◌↔◌, ◌+◌, ◌<◌, ◌≤◌, ◌++◌, length, take, IsSome, IfSome, Ok, decimal};
-ghost use Rattle.lock_tree.specs.Paths.{IsResource};
+ghost use Rattle.std.specs.Prelude.{◌≡◌, ◌≤◌, ◌++◌, length, take, IfSome, Ok, decimal};
 ghost use Rattle.lock_trace.specs.Fields.{resource_in};
 
 use lock_tree::{LEVELS, Resource};
@@ -54,23 +53,6 @@ pub(crate) fn fast_number(field: &[u8]) -> Option<u32>
     Some(number)
 }
 
-/// The resource with the numbers of the levels 0 to `level`; `None` if they are no resource. Each length has an
-/// arm of its own, because a copy of constant length takes a move or two, and a copy of any other length takes a
-/// call.
-#[inline(always)]
-fn resource_to(numbers: &[u32; LEVELS], level: usize) -> Option<Resource>
-    requires { level < LEVELS }
-    ensures found { IsSome result ↔ IsResource (take (level + 1) numbers.now) }
-    ensures value { IfSome result (λ resource. resource ≡ take (level + 1) numbers.now) }
-{
-    match level {
-        0 => Resource::from_numbers(&numbers[..1]),
-        1 => Resource::from_numbers(&numbers[..2]),
-        2 => Resource::from_numbers(&numbers[..3]),
-        _ => Resource::from_numbers(&numbers[..4]),
-    }
-}
-
 /// The resource whose text is the whole field. Returns `None` if the field is faulty or has a number above
 /// 4294967289.
 pub(crate) fn fast_resource(field: &[u8]) -> Option<Resource>
@@ -82,7 +64,7 @@ pub(crate) fn fast_resource(field: &[u8]) -> Option<Resource>
         let (number, end) = number_from(field, start)?;
         numbers[level] = number;
         if end == field.len() {
-            return resource_to(&numbers, level);
+            return Resource::from_prefix(&numbers, level + 1);
         }
         if field[end] != b'/' {
             return None;

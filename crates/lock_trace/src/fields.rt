@@ -3,19 +3,16 @@
 ghost use Rattle.std.specs.Prelude.{◌≡◌, ◌<◌, ◌≤◌, Bool, true, false, IfOk, IfSome, IfNone};
 ghost use Rattle.std.specs.Str.{is_utf8};
 ghost use Rattle.lock_tree.specs.Readings.{reading_of};
-ghost use Rattle.lock_trace.specs.Fields.{session_in, op_in, resource_in, mode_in, place_in, reply_word_in, number_in, granted_in, why_in, max_u32};
+ghost use Rattle.lock_trace.specs.Fields.{session_in, op_in, resource_in, mode_in, place_in, reply_kind_in, number_in, granted_in, why_in, max_u32};
 
 use crate::fast_path::{fast_number, fast_resource};
 use crate::faults::TraceKind;
-use crate::words::{OPS, Op, REPLY_WORDS, ReplyWord};
+use crate::words::{op_word, reply_word};
 use itoa::Buffer;
-use lock_modes::Mode;
-use lock_rules::Why;
+use lock_modes::{MODES, Mode};
+use lock_rules::{OPS, Op, REPLY_KINDS, ReplyKind, Why};
 use lock_tree::{PathFault, Resource, parse_numeral};
 use std::str;
-
-/// All modes, each once.
-const MODES: [Mode; 6] = [Mode::NL, Mode::IS, Mode::IX, Mode::S, Mode::SIX, Mode::X];
 
 /// Reads a session number from any field. Fails with `Session` unless the field is the decimal text of a number
 /// from 1 to `sessions`.
@@ -50,7 +47,7 @@ pub(crate) fn op_of(field: &[u8]) -> Result<Op, TraceKind>
     ensures { result ≡ op_in field.now }
 {
     for op in OPS {
-        if field == op.word().as_bytes() {
+        if field == op_word(op).as_bytes() {
             return Ok(op);
         }
     }
@@ -123,13 +120,13 @@ pub(crate) fn check_place(field: &[u8], place: u64) -> Result<(), TraceKind>
     Ok(())
 }
 
-/// The reply word that is the field. Fails with `Reply` if there is none.
-pub(crate) fn reply_word_of(field: &[u8]) -> Result<ReplyWord, TraceKind>
-    ensures { result ≡ reply_word_in field.now }
+/// The kind of replies whose word is the field. Fails with `Reply` if there is none.
+pub(crate) fn reply_kind_of(field: &[u8]) -> Result<ReplyKind, TraceKind>
+    ensures { result ≡ reply_kind_in field.now }
 {
-    for word in REPLY_WORDS {
-        if field == word.word().as_bytes() {
-            return Ok(word);
+    for kind in REPLY_KINDS {
+        if field == reply_word(kind).as_bytes() {
+            return Ok(kind);
         }
     }
     Err(TraceKind::Reply)

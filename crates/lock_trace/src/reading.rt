@@ -18,7 +18,7 @@ use crate::row::Row;
 use crate::rows::TraceRow;
 use csv::{ByteRecord, Error, ErrorKind, Reader, ReaderBuilder};
 use lock_rules::Entry;
-use std::alloc::Global;
+use std::alloc::{AllocError, Global};
 use std::io::Read;
 
 /// The bytes that the record has room for at first. The record grows if a row is longer.
@@ -39,16 +39,12 @@ fn record_reader<R: Read>(alloc: Global, input: R) -> Reader<R>
         .from_reader(alloc, input)
 }
 
-/// A record with room for a row of common length, or without room if memory is refused. The csv reader takes in at
-/// once as many bytes of a row as the record has room for, so a record that starts small is filled in several
-/// pieces.
-fn sized_record(alloc: Global) -> ByteRecord
-    ensures { fields_of result ≡ [] }
+/// A record with room for a row of common length. The csv reader takes in at once as many bytes of a row as the record
+/// has room for, so a record that starts small is filled in several pieces.
+fn sized_record(alloc: Global) -> Result<ByteRecord, AllocError>
+    ensures { IfOk result (λ row. fields_of row ≡ []) }
 {
-    match ByteRecord::with_capacity(alloc, RECORD_BYTES, RECORD_FIELDS) {
-        Ok(record) => record,
-        Err(_) => ByteRecord::new(alloc),
-    }
+    ByteRecord::with_capacity(alloc, RECORD_BYTES, RECORD_FIELDS)
 }
 
 /// The fault of a failed read: `Device` or `NoMemory`. The csv reader refuses no record for its length or its
@@ -117,7 +113,10 @@ fn read_rows<R: Read + Drop, T: Row>(
         → AnswersWith (T.is sessions) T.records (records_of bytes) (rows_from (T.read sessions) 0 (records_of bytes)) result }
 {
     let mut reader = record_reader(alloc, input);
-    let mut row = sized_record(alloc);
+    let Ok(mut row) = sized_record(alloc) else {
+        let kind = TraceKind::NoMemory;
+        return Err(TraceFault { row: 1, kind });
+    };
     let mut rows = Vec::new(alloc);
     for _ in 0..u64::MAX {
         let place = rows.len() as u64;

@@ -6,10 +6,9 @@ ghost use Rattle.lock_trace.specs.Rows.{without_fields, resource_and_mode_in, ca
 use crate::faults::TraceKind;
 use crate::fields::{mode_of, op_of, resource_of, session_of};
 use crate::row::{Row, field_at};
-use crate::words::Op;
 use csv::ByteRecord;
 use lock_modes::Mode;
-use lock_rules::Call;
+use lock_rules::{Call, Op};
 use lock_tree::Resource;
 
 /// One row of a trace: a call of a session. Rows are in the order in which the calls are made.

@@ -2,7 +2,8 @@
 
 ghost use Rattle.std.specs.Prelude.{◌≡◌, ◌≤◌, ◌++◌, [], ◌∷◌, take};
 ghost use Rattle.lock_modes.specs.Codes.{name_of};
-ghost use Rattle.lock_trace.specs.Words.{word_of, op_of_call, word_of_reply, reply_word_of};
+ghost use Rattle.lock_rules.specs.Kinds.{op_of_call, kind_of_reply};
+ghost use Rattle.lock_trace.specs.Words.{word_of, word_of_reply};
 
 use crate::line::TOKEN_BYTES;
 use lock_modes::Mode;
@@ -44,7 +45,7 @@ pub(crate) fn mode_token(mode: Mode) -> (&'static [u8; 16], usize)
 /// The word of the reply between commas, padded to 16 bytes, and its length with the commas.
 #[inline(always)]
 pub(crate) fn reply_token(reply: &Reply) -> (&'static [u8; 16], usize)
-    ensures text { take result.1 result.0.now ≡ 44 ∷ (word_of_reply (reply_word_of reply.now) ++ 44 ∷ []) }
+    ensures text { take result.1 result.0.now ≡ 44 ∷ (word_of_reply (kind_of_reply reply.now) ++ 44 ∷ []) }
     ensures few { result.1 ≤ 11 }
 {
     match reply {

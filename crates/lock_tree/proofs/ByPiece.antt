@@ -1,17 +1,16 @@
 -- The reader of a resource, piece by piece.
-use Rattle.std.proofs.Common.{◌≡◌, ℕ, ◌+◌, ◌-◌, ◌<◌, ◌≤◌, ◌^◌, false, List, [], ◌∷◌, ◌++◌, length, map, take, drop, set, replicate, refl, sym, ap, ◌∙◌, arith, Option, Some, None, Result, Ok, Err, subst}
+use Rattle.std.proofs.Common.{◌≡◌, ℕ, ◌+◌, ◌-◌, ◌<◌, ◌≤◌, false, List, [], ◌∷◌, ◌++◌, length, map, take, drop, set, replicate, refl, sym, ap, ◌∙◌, arith, Option, Some, None, Result, Ok, Err, subst}
 use Rattle.std.specs.Prelude.{count_by}
-use Rattle.std.specs.List.{All, after_first, position_or_len}
+use Rattle.std.specs.List.{after_first, position_or_len}
 use Rattle.std.specs.Option.{option_or}
 use Rattle.std.specs.Result.{result_unwrap_or, result_err}
-use Rattle.std.proofs.lemmas.List.{length-set, length-take, take_all, take_more_set, take_rest, drop-set-lt, drop-drop, drop-replicate, append_assoc, append-nil}
-use Rattle.std.proofs.lemmas.List.Elements.{All-from_get_or, All-replicate, All-set}
+use Rattle.std.proofs.lemmas.List.{length-set, length-take, take_all, take_more_set, take_rest, drop-drop, append_assoc, append-nil}
+use Rattle.std.proofs.lemmas.List.Elements.{All-from_get_or}
 use Rattle.std.proofs.lemmas.List.Sums.{fails_before_first}
 use Rattle.std.proofs.lemmas.List.Splits.{slice_split_none, slice_split_first, length-slice_split}
 use Rattle.lock_tree.specs.declared.levels.TheConstants.{LEVELS}
 use Rattle.lock_tree.specs.declared.path_fault.PathFault.{PathFault}
 use Rattle.lock_tree.specs.declared.path_fault.PathFault.TheVariants.{TooDeep}
-use Rattle.lock_tree.specs.Fields.{ArePadded}
 use Rattle.lock_tree.specs.Text.{is_slash, pieces_of}
 use Rattle.lock_tree.specs.inner.Pieces.{first_piece, reading_of_piece}
 use Rattle.lock_tree.specs.Numerals.{number_of, ok_unless}
@@ -19,25 +18,20 @@ use Rattle.lock_tree.specs.Faults.{fault_of_piece, first_fault, fault_of}
 use Rattle.lock_tree.specs.Readings.{numbers_in, reading_of}
 use Rattle.lock_tree.proofs.Texts.{fault_deep, fault_in_piece}
 
--- what the reader knows after `level` pieces, with the pieces `left` to come: the numbers so far, padded with 0, and
--- the first fault
+-- what the reader knows after `level` pieces, with the pieces `left` to come: the numbers so far, and the first fault
 pub record IsReadTo (bytes : List ℕ) (level : ℕ) (numbers : List ℕ) (fault : Option PathFault) (left : List (List ℕ)) : Type 0 where
   pub first : first_fault (pieces_of bytes) ≡ option_or fault (first_fault left)
   pub values : fault ≡ None → numbers_in bytes ≡ take level numbers ++ map number_of left
-  pub zeros : drop level numbers ≡ replicate (LEVELS - level) 0
   pub full : length numbers ≡ LEVELS
   pub count : count_by is_slash bytes + 1 ≡ level + length left
-  pub small : All (λ n. n < 2 ^ 32) numbers
 
 -- it holds before the first piece
 pub at_start : (bytes : List ℕ) → IsReadTo bytes 0 (replicate LEVELS 0) None (pieces_of bytes)
 at_start bytes = record {
   first = refl;
   values = λ e. refl;
-  zeros = refl;
   full = refl;
   count = sym (length-slice_split is_slash bytes) ∙ omega arith;
-  small = All-replicate (λ n. n < 2 ^ 32) LEVELS 0 (omega arith);
 }
 
 -- the first of three faults, in either grouping
@@ -49,7 +43,6 @@ either (Some f) b c = refl
 pub record IsKept (piece : List ℕ) (fault : Option PathFault) (number : Result ℕ PathFault) (value : ℕ) (err after : Option PathFault) : Type 0 where
   pub number_is : number ≡ reading_of_piece piece
   pub value_is : value ≡ result_unwrap_or number 0
-  pub small : value < 2 ^ 32
   pub err_is : err ≡ result_err number
   pub after_is : after ≡ option_or fault err
 
@@ -78,10 +71,8 @@ one_more bytes level numbers fault left p ps number value err after is_left lt k
           let parts = neither fault (fault_of_piece p) (number_of p) (sym first ∙ none) in
           let value_is : value ≡ number_of p = kept.value_is ∙ ap (λ (x : Result ℕ PathFault). result_unwrap_or x 0) kept.number_is ∙ parts.1 in
           h.values parts.0 ∙ rw (take_more_set numbers level value room, value_is) (sym (append_assoc (take level numbers) (number_of p ∷ []) (map number_of ps)));
-      zeros = drop-set-lt (level + 1) numbers level value (omega arith) ∙ sym (drop-drop 1 level numbers) ∙ ap (drop 1) h.zeros ∙ drop-replicate 1 (LEVELS - level) 0 ∙ ap (λ (k : ℕ). replicate k 0) (omega arith);
       full = length-set numbers level value ∙ h.full;
       count = h.count ∙ omega arith;
-      small = All-set (λ n. n < 2 ^ 32) numbers level value kept.small h.small;
     }
 
 -- the pieces of a text with a `/` are its first piece and those behind the `/`
@@ -121,10 +112,6 @@ at_end bytes level numbers fault le h =
     cases : (f : Option PathFault) → fault_of bytes ≡ option_or f None → (f ≡ None → numbers_in bytes ≡ take level numbers ++ []) → ok_unless f (take level numbers) ≡ reading_of bytes
     cases None same values = rw same (ap (λ (ns : List ℕ). Ok ns) (sym (values refl ∙ append-nil (take level numbers))))
     cases (Some g) same values = rw same refl
-
--- the numbers so far, with their count, are the fields of a resource
-pub padded : (bytes : List ℕ) (level : ℕ) (numbers : List ℕ) (fault : Option PathFault) (left : List (List ℕ)) → 0 < level → level ≤ LEVELS → IsReadTo bytes level numbers fault left → ArePadded (record { numbers = numbers; level = level })
-padded bytes level numbers fault left some few h = record { rest = h.zeros; full = h.full; some = some; few = few; small = h.small }
 
 -- if there are pieces left after LEVELS pieces, the text is too deep
 pub too_deep : (bytes : List ℕ) (level : ℕ) (numbers : List ℕ) (fault : Option PathFault) (rest : List ℕ) → LEVELS ≤ level → IsReadTo bytes level numbers fault (pieces_of rest) → Err TooDeep ≡ reading_of bytes

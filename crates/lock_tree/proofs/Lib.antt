@@ -7,3 +7,4 @@ pub mod PaddedEquality
 pub mod Ancestors
 pub mod Parents
 pub mod HashWrites
+pub mod Prefixes

@@ -1,6 +1,6 @@
 //! A resource: the path of numbers from the top of the lock tree down to a node.
 
-ghost use Rattle.std.specs.Prelude.{◌≡◌, ◌<◌, ◌↔◌, ℕ, List, Some, Ok, Err, true, length, IsTrue, IsSome, IfSome};
+ghost use Rattle.std.specs.Prelude.{◌≡◌, ◌<◌, ◌≤◌, ◌↔◌, ℕ, List, Some, Ok, Err, true, length, take, IsTrue, IsSome, IfSome};
 ghost use Rattle.lock_tree.specs.Paths.{IsResource, IsAncestor, is_ancestor, is_proper_prefix, has_parent, parent_of};
 ghost use Rattle.lock_tree.specs.Text.{text_of};
 ghost use Rattle.lock_tree.specs.Faults.{fault_of};
@@ -73,10 +73,7 @@ impl Resource {
             if length == rest.len() {
                 return match fault {
                     Some(fault) => Err(fault),
-                    None => Ok(Resource {
-                        numbers,
-                        level: level as u32 + 1,
-                    }),
+                    None => Ok(Resource::prefix(&numbers, level + 1)),
                 };
             }
             let after = &rest[length..];
@@ -85,20 +82,51 @@ impl Resource {
         Err(PathFault::TooDeep)
     }
 
+    /// The resource with the first `level` of these numbers.
+    ///
+    /// The loop goes over all numbers, so that it compiles to moves and masks of vectors; a copy of `level` numbers would
+    /// be a call.
+    #[inline(always)]
+    fn prefix(numbers: &[u32; LEVELS], level: usize) -> Resource
+        requires some { 0 < level }
+        requires few { level ≤ LEVELS }
+        ensures { result ≡ take level numbers.now }
+    {
+        let numbers = *numbers;
+        let mut padded = [0; LEVELS];
+        for k in 0..LEVELS {
+            padded[k] = if k < level { numbers[k] } else { 0 };
+        }
+        Resource {
+            numbers: padded,
+            level: level as u32,
+        }
+    }
+
+    /// Returns the resource with the first `level` of these numbers. `None` unless `level` is from 1 to `LEVELS`.
+    #[inline]
+    pub fn from_prefix(numbers: &[u32; LEVELS], level: usize) -> Option<Resource>
+        ensures found { IsSome result ↔ ((0 < level) × (level ≤ LEVELS)) }
+        ensures value { IfSome result (λ resource. resource ≡ take level numbers.now) }
+        ensures resource { IfSome result IsResource }
+    {
+        if level == 0 || level > LEVELS {
+            return None;
+        }
+        Some(Resource::prefix(numbers, level))
+    }
+
     /// Returns the resource with these numbers. `None` if there are no numbers, or more than `LEVELS`.
     pub fn from_numbers(numbers: &[u32]) -> Option<Resource>
         ensures found { IsSome result ↔ IsResource numbers.now }
         ensures value { IfSome result (λ resource. resource ≡ numbers.now) }
     {
-        if numbers.is_empty() || numbers.len() > LEVELS {
+        if numbers.len() > LEVELS {
             return None;
         }
         let mut padded = [0; LEVELS];
         padded[..numbers.len()].copy_from_slice(numbers);
-        Some(Resource {
-            numbers: padded,
-            level: numbers.len() as u32,
-        })
+        Resource::from_prefix(&padded, numbers.len())
     }
 
     /// The level of the resource: 1 for a database, 2 for a file, 3 for a page, 4 for a record.

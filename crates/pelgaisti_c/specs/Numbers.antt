@@ -1,15 +1,16 @@
 -- Calls, replies and entries as the numbers of C's structs.
-use Rattle.std.specs.Prelude.{◌≡◌, ℕ, ◌-◌, ◌≤◌, ◌⊎◌, List, ◌++◌, length, take, replicate}
+use Rattle.std.specs.Prelude.{◌≡◌, ℕ, ◌-◌, ◌≤◌, ◌⊎◌, List, [], ◌∷◌, ◌++◌, length, take, replicate}
 use Rattle.lock_modes.specs.declared.Mode.{Mode}
 use Rattle.lock_modes.specs.Codes.{code_of}
 use Rattle.lock_tree.specs.declared.levels.TheConstants.{LEVELS}
 use Rattle.lock_rules.specs.declared.calls.Call.{Call}
-use Rattle.lock_rules.specs.declared.calls.Call.TheVariants.{Begin, Lock, Convert, Poll, Release, Commit, Abort}
+use Rattle.lock_rules.specs.declared.calls.Call.TheVariants as call
 use Rattle.lock_rules.specs.declared.calls.Reply.{Reply}
-use Rattle.lock_rules.specs.declared.calls.Reply.TheVariants.{Began, Granted, Waiting, Deadlock, Clear, Released, Committed, Aborted, Refused}
-use Rattle.lock_rules.specs.declared.calls.Why.{Why}
-use Rattle.lock_rules.specs.declared.calls.Why.TheVariants.{AlreadyOpen, NoTransaction, IsWaiting, IsDoomed, NothingAsked, NotHeld, ParentNotHeld, ChildHeld, TooManyLocks}
+use Rattle.lock_rules.specs.declared.calls.Reply.TheVariants as reply
 use Rattle.lock_rules.specs.declared.calls.Entry.{Entry}
+use Rattle.lock_rules.specs.declared.kinds.Op.{Op}
+use Rattle.lock_rules.specs.declared.kinds.Op.TheVariants.{Begin, Lock, Convert, Poll, Release, Commit, Abort}
+use Rattle.lock_rules.specs.Kinds.{op_of_call, ops_with_resource, ops_with_mode, number_of_op, kind_of_reply, number_of_kind, number_of_why}
 use Rattle.pelgaisti_c.specs.declared.numbers.ResourceNumbers.{ResourceNumbers}
 use Rattle.pelgaisti_c.specs.declared.numbers.CallNumbers.{CallNumbers}
 use Rattle.pelgaisti_c.specs.declared.numbers.ReplyNumbers.{ReplyNumbers}
@@ -17,17 +18,14 @@ use Rattle.pelgaisti_c.specs.declared.numbers.EntryNumbers.{EntryNumbers}
 use Rattle.pelgaisti_c.specs.declared.numbers.HolderNumbers.{HolderNumbers}
 use Rattle.pelgaisti_c.specs.declared.status.TheConstants.{NO_SUCH_OP, NO_SUCH_LEVEL, NO_SUCH_MODE}
 
--- the number of a kind of call
+-- the number of an operation
 abbrev pub IsOp : ℕ → Type 0
-IsOp op = (1 ≤ op) × (op ≤ 7)
+IsOp number = (o : Op) × (number ≡ number_of_op o)
 
--- a lock or a conversion, which have a mode
-abbrev pub HasMode : ℕ → Type 0
-HasMode op = (op ≡ 2) ⊎ (op ≡ 3)
-
--- a lock, a conversion or a release, which have a resource
-abbrev pub HasResource : ℕ → Type 0
-HasResource op = (op ≡ 2) ⊎ ((op ≡ 3) ⊎ (op ≡ 5))
+-- the number of one of these operations
+abbrev pub IsOneOf : List Op → ℕ → Type 0
+IsOneOf [] number = ⊥
+IsOneOf (o ∷ os) number = (number ≡ number_of_op o) ⊎ IsOneOf os number
 
 -- a level of the lock tree
 abbrev pub IsLevel : ℕ → Type 0
@@ -44,56 +42,32 @@ pub record IsPath (p : ResourceNumbers) (r : List ℕ) : Type 0 where
 
 -- the call that the numbers encode
 abbrev pub IsCall : CallNumbers → Call → Type 0
-IsCall c Begin = c.op ≡ 1
-IsCall c (Lock r mode) = (c.op ≡ 2) × IsPath c.resource r × (c.mode ≡ code_of mode)
-IsCall c (Convert r mode) = (c.op ≡ 3) × IsPath c.resource r × (c.mode ≡ code_of mode)
-IsCall c Poll = c.op ≡ 4
-IsCall c (Release r) = (c.op ≡ 5) × IsPath c.resource r
-IsCall c Commit = c.op ≡ 6
-IsCall c Abort = c.op ≡ 7
+IsCall c call.Begin = c.op ≡ number_of_op Begin
+IsCall c (call.Lock r mode) = (c.op ≡ number_of_op Lock) × IsPath c.resource r × (c.mode ≡ code_of mode)
+IsCall c (call.Convert r mode) = (c.op ≡ number_of_op Convert) × IsPath c.resource r × (c.mode ≡ code_of mode)
+IsCall c call.Poll = c.op ≡ number_of_op Poll
+IsCall c (call.Release r) = (c.op ≡ number_of_op Release) × IsPath c.resource r
+IsCall c call.Commit = c.op ≡ number_of_op Commit
+IsCall c call.Abort = c.op ≡ number_of_op Abort
 
 -- the status for numbers that encode no call: that of the first test that fails
 pub record IsCallFault (c : CallNumbers) (fault : ℕ) : Type 0 where
   pub known : (NO_SUCH_OP ≤ fault) × (fault ≤ NO_SUCH_MODE)
   pub op : fault ≡ NO_SUCH_OP → ¬ (IsOp c.op)
-  pub level : fault ≡ NO_SUCH_LEVEL → HasResource c.op × ¬ (IsLevel c.resource.level)
-  pub mode : fault ≡ NO_SUCH_MODE → HasMode c.op × IsLevel c.resource.level × ¬ (IsModeCode c.mode)
+  pub level : fault ≡ NO_SUCH_LEVEL → IsOneOf ops_with_resource c.op × ¬ (IsLevel c.resource.level)
+  pub mode : fault ≡ NO_SUCH_MODE → IsOneOf ops_with_mode c.op × IsLevel c.resource.level × ¬ (IsModeCode c.mode)
 
--- the number of a refusal's reason, in the order of the tests
-abbrev pub why_of : Why → ℕ
-why_of AlreadyOpen = 1
-why_of NoTransaction = 2
-why_of IsWaiting = 3
-why_of IsDoomed = 4
-why_of NothingAsked = 5
-why_of NotHeld = 6
-why_of ParentNotHeld = 7
-why_of ChildHeld = 8
-why_of TooManyLocks = 9
-
--- the number of a reply's kind
-abbrev pub kind_of : Reply → ℕ
-kind_of (Began n) = 1
-kind_of (Granted m) = 2
-kind_of Waiting = 3
-kind_of Deadlock = 4
-kind_of Clear = 5
-kind_of Released = 6
-kind_of (Committed n) = 7
-kind_of (Aborted n) = 8
-kind_of (Refused w) = 9
-
--- the value of a reply: the transaction's number, the code of the mode held, the count of locks released, or the refusal's reason; otherwise 0
+-- the value of a reply: the transaction's number, the code of the mode held, the count of locks released, or the refusal's number; otherwise 0
 abbrev pub value_of : Reply → ℕ
-value_of (Began n) = n
-value_of (Granted m) = code_of m
-value_of Waiting = 0
-value_of Deadlock = 0
-value_of Clear = 0
-value_of Released = 0
-value_of (Committed n) = n
-value_of (Aborted n) = n
-value_of (Refused w) = why_of w
+value_of (reply.Began n) = n
+value_of (reply.Granted m) = code_of m
+value_of reply.Waiting = 0
+value_of reply.Deadlock = 0
+value_of reply.Clear = 0
+value_of reply.Released = 0
+value_of (reply.Committed n) = n
+value_of (reply.Aborted n) = n
+value_of (reply.Refused w) = number_of_why w
 
 -- the numbers of a resource: its level, and its path padded with 0
 abbrev pub place_of : List ℕ → ResourceNumbers
@@ -103,23 +77,33 @@ place_of r = record { level = length r; numbers = r ++ replicate (LEVELS - lengt
 abbrev pub nowhere : ResourceNumbers
 nowhere = record { level = 0; numbers = replicate LEVELS 0 }
 
--- a call's struct
-abbrev pub call_numbers : ℕ → ℕ → ResourceNumbers → CallNumbers
-call_numbers op mode resource = record { op = op; mode = mode; resource = resource }
+-- the code of the mode that a call asks for, 0 if it has none
+abbrev pub mode_of_call : Call → ℕ
+mode_of_call call.Begin = 0
+mode_of_call (call.Lock r mode) = code_of mode
+mode_of_call (call.Convert r mode) = code_of mode
+mode_of_call call.Poll = 0
+mode_of_call (call.Release r) = 0
+mode_of_call call.Commit = 0
+mode_of_call call.Abort = 0
+
+-- the resource that a call names, or none
+abbrev pub place_of_call : Call → ResourceNumbers
+place_of_call call.Begin = nowhere
+place_of_call (call.Lock r mode) = place_of r
+place_of_call (call.Convert r mode) = place_of r
+place_of_call call.Poll = nowhere
+place_of_call (call.Release r) = place_of r
+place_of_call call.Commit = nowhere
+place_of_call call.Abort = nowhere
 
 -- the numbers of a call; a call without a mode has mode 0
 abbrev pub numbers_of_call : Call → CallNumbers
-numbers_of_call Begin = call_numbers 1 0 nowhere
-numbers_of_call (Lock r mode) = call_numbers 2 (code_of mode) (place_of r)
-numbers_of_call (Convert r mode) = call_numbers 3 (code_of mode) (place_of r)
-numbers_of_call Poll = call_numbers 4 0 nowhere
-numbers_of_call (Release r) = call_numbers 5 0 (place_of r)
-numbers_of_call Commit = call_numbers 6 0 nowhere
-numbers_of_call Abort = call_numbers 7 0 nowhere
+numbers_of_call c = record { op = number_of_op (op_of_call c); mode = mode_of_call c; resource = place_of_call c }
 
--- the numbers of a reply
+-- the numbers of a reply: its kind's number, and its value
 abbrev pub numbers_of_reply : Reply → ReplyNumbers
-numbers_of_reply reply = record { kind = kind_of reply; value = value_of reply }
+numbers_of_reply r = record { kind = number_of_kind (kind_of_reply r); value = value_of r }
 
 -- the numbers of an entry
 abbrev pub numbers_of_entry : Entry → EntryNumbers

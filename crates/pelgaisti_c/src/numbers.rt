@@ -1,12 +1,13 @@
 //! Calls and replies in numbers: reading them from C's structs, and writing them there.
 
-ghost use Rattle.std.specs.Prelude.{◌≡◌, ◌≢◌, ◌<◌, ◌≤◌, ◌-◌, ◌++◌, ℕ, List, Some, None, Err, take, length, replicate, IsSome, IfSome, IfNone, IfOk, IfErr};
+ghost use Rattle.std.specs.Prelude.{◌≡◌, ◌≢◌, IfSome, IfNone, IfOk, IfErr};
 ghost use Rattle.lock_modes.specs.Codes.{code_of};
-ghost use Rattle.pelgaisti_c.specs.Numbers.{IsOp, HasMode, HasResource, IsLevel, IsModeCode, IsPath, IsCall, IsCallFault, why_of, place_of, numbers_of_call, numbers_of_reply, numbers_of_entry, numbers_of_holder};
+ghost use Rattle.lock_rules.specs.Kinds.{number_of_op};
+ghost use Rattle.pelgaisti_c.specs.Numbers.{IsOp, IsLevel, IsModeCode, IsPath, IsCall, IsCallFault, value_of, place_of, numbers_of_call, numbers_of_reply, numbers_of_entry, numbers_of_holder};
 
 use crate::status::{NO_SUCH_LEVEL, NO_SUCH_MODE, NO_SUCH_OP};
 use lock_modes::Mode;
-use lock_rules::{Call, Entry, Reply, Why};
+use lock_rules::{Call, Entry, Op, Reply};
 use lock_tree::{LEVELS, Resource};
 
 /// A node of the lock tree. The first `level` numbers are its path from the root.
@@ -73,27 +74,12 @@ const NOWHERE: ResourceNumbers = ResourceNumbers {
     numbers: [0; LEVELS],
 };
 
-/// The resource with this path. Returns `None` if no resource has so many levels.
-fn resource_of(numbers: &[u32]) -> Option<Resource>
-    ensures some { 1 ≤ length numbers.now → length numbers.now ≤ LEVELS → IsSome result }
-    ensures value { IfSome result (λ r. r ≡ numbers.now) }
-{
-    Resource::from_numbers(numbers)
-}
-
 /// The resource that the numbers encode. Returns `None` if no resource has this level.
 pub(crate) fn read_resource(place: &ResourceNumbers) -> Option<Resource>
     ensures some { IfSome result (λ r. IsPath place.now r) }
     ensures none { IfNone result (¬ (IsLevel place.now.level)) }
 {
-    // One arm for each length: a copy of constant length is inlined, a copy of variable length is a call.
-    match place.level {
-        1 => resource_of(&place.numbers[..1]),
-        2 => resource_of(&place.numbers[..2]),
-        3 => resource_of(&place.numbers[..3]),
-        4 => resource_of(&place.numbers[..4]),
-        _ => None,
-    }
+    Resource::from_prefix(&place.numbers, place.level as usize)
 }
 
 /// The mode with this code. Returns `None` if no mode has it.
@@ -122,30 +108,40 @@ fn read_wanted(asked: &CallNumbers) -> Result<(Resource, Mode), u32>
     Ok((resource, mode))
 }
 
+/// The operation with this number. Returns `None` if no operation has it.
+fn read_op(number: u32) -> Option<Op>
+    ensures some { IfSome result (λ op. number ≡ number_of_op op) }
+    ensures none { IfNone result (¬ (IsOp number)) }
+{
+    Op::from_number(number)
+}
+
 /// The call that the numbers encode. Tests the op, then the level, then the mode, and returns the status of the first
 /// test that fails.
 pub(crate) fn read_call(asked: &CallNumbers) -> Result<Call, u32>
     ensures ok { IfOk result (λ call. IsCall asked.now call) }
     ensures err { IfErr result (λ fault. IsCallFault asked.now fault) }
 {
-    match asked.op {
-        1 => Ok(Call::Begin),
-        2 => {
+    let Some(op) = read_op(asked.op) else {
+        return Err(NO_SUCH_OP);
+    };
+    match op {
+        Op::Begin => Ok(Call::Begin),
+        Op::Lock => {
             let (resource, mode) = read_wanted(asked)?;
             Ok(Call::Lock(resource, mode))
         }
-        3 => {
+        Op::Convert => {
             let (resource, mode) = read_wanted(asked)?;
             Ok(Call::Convert(resource, mode))
         }
-        4 => Ok(Call::Poll),
-        5 => match read_resource(&asked.resource) {
+        Op::Poll => Ok(Call::Poll),
+        Op::Release => match read_resource(&asked.resource) {
             Some(resource) => Ok(Call::Release(resource)),
             None => Err(NO_SUCH_LEVEL),
         },
-        6 => Ok(Call::Commit),
-        7 => Ok(Call::Abort),
-        _ => Err(NO_SUCH_OP),
+        Op::Commit => Ok(Call::Commit),
+        Op::Abort => Ok(Call::Abort),
     }
 }
 
@@ -166,32 +162,28 @@ fn place_of(resource: &Resource) -> ResourceNumbers
 fn call_numbers(call: &Call) -> CallNumbers
     ensures { result ≡ numbers_of_call call.now }
 {
-    let (op, mode, resource) = match *call {
-        Call::Begin => (1, 0, NOWHERE),
-        Call::Lock(resource, mode) => (2, u32::from(mode.code()), place_of(&resource)),
-        Call::Convert(resource, mode) => (3, u32::from(mode.code()), place_of(&resource)),
-        Call::Poll => (4, 0, NOWHERE),
-        Call::Release(resource) => (5, 0, place_of(&resource)),
-        Call::Commit => (6, 0, NOWHERE),
-        Call::Abort => (7, 0, NOWHERE),
+    let op = call.op().number();
+    let (mode, resource) = match *call {
+        Call::Lock(resource, mode) | Call::Convert(resource, mode) => {
+            (u32::from(mode.code()), place_of(&resource))
+        }
+        Call::Release(resource) => (0, place_of(&resource)),
+        Call::Begin | Call::Poll | Call::Commit | Call::Abort => (0, NOWHERE),
     };
     CallNumbers { op, mode, resource }
 }
 
-/// The number of a refusal's reason.
-fn why_number(why: Why) -> u64
-    ensures { result ≡ why_of why }
+/// The value of a reply, 0 if its kind has none.
+fn value_of(reply: &Reply) -> u64
+    ensures { result ≡ value_of reply.now }
 {
-    match why {
-        Why::AlreadyOpen => 1,
-        Why::NoTransaction => 2,
-        Why::IsWaiting => 3,
-        Why::IsDoomed => 4,
-        Why::NothingAsked => 5,
-        Why::NotHeld => 6,
-        Why::ParentNotHeld => 7,
-        Why::ChildHeld => 8,
-        Why::TooManyLocks => 9,
+    match *reply {
+        Reply::Began(number) => number,
+        Reply::Granted(mode) => u64::from(mode.code()),
+        Reply::Committed(count) => u64::from(count),
+        Reply::Aborted(count) => u64::from(count),
+        Reply::Refused(why) => u64::from(why.number()),
+        Reply::Waiting | Reply::Deadlock | Reply::Clear | Reply::Released => 0,
     }
 }
 
@@ -199,18 +191,10 @@ fn why_number(why: Why) -> u64
 pub(crate) fn reply_numbers(reply: Reply) -> ReplyNumbers
     ensures { result ≡ numbers_of_reply reply }
 {
-    let (kind, value) = match reply {
-        Reply::Began(number) => (1, number),
-        Reply::Granted(mode) => (2, u64::from(mode.code())),
-        Reply::Waiting => (3, 0),
-        Reply::Deadlock => (4, 0),
-        Reply::Clear => (5, 0),
-        Reply::Released => (6, 0),
-        Reply::Committed(count) => (7, u64::from(count)),
-        Reply::Aborted(count) => (8, u64::from(count)),
-        Reply::Refused(why) => (9, why_number(why)),
-    };
-    ReplyNumbers { kind, value }
+    ReplyNumbers {
+        kind: reply.kind().number(),
+        value: value_of(&reply),
+    }
 }
 
 /// The numbers of an entry.

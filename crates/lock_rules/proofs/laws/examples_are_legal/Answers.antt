@@ -1,9 +1,9 @@
 use Rattle.std.proofs.Common.{refl}
-use Rattle.lock_modes.specs.declared.Mode.TheVariants.{IS, IX, S, X}
+use Rattle.lock_modes.specs.declared.Mode.TheVariants.{IS, IX, S, SIX, X}
 use Rattle.lock_rules.specs.declared.calls.Reply.TheVariants.{Began, Granted, Waiting, Deadlock, Clear, Released, Committed, Aborted, Refused}
 use Rattle.lock_rules.specs.declared.calls.Why.TheVariants.{IsWaiting, NothingAsked, NotHeld, ParentNotHeld, ChildHeld, TooManyLocks}
-use Rattle.lock_rules.specs.Examples.{queue_in_order, promotion_stops, readers_together, promotion_in_order, intentions, refusals, down_the_tree, up_the_tree, release_promotes, release_of_one, asks_again, conversion_first, conversion_at_once, conversion_under_parent, abort_while_waiting, readers_that_convert, youngest_of_two, victim_in_the_way, conversions_that_meet, circle_through_the_queue, two_victims, begin_beside_others, polls, release_above_another, commit_of_four}
-use Rattle.lock_rules.proofs.Worked.{legal-queue_in_order, legal-promotion_stops, legal-readers_together, legal-promotion_in_order, legal-intentions, legal-refusals, legal-down_the_tree, legal-up_the_tree, legal-release_promotes, legal-release_of_one, legal-asks_again, legal-conversion_first, legal-conversion_at_once, legal-conversion_under_parent, legal-abort_while_waiting, legal-readers_that_convert, legal-youngest_of_two, legal-victim_in_the_way, legal-conversions_that_meet, legal-circle_through_the_queue, legal-two_victims, legal-begin_beside_others, legal-polls, legal-release_above_another, legal-commit_of_four}
+use Rattle.lock_rules.specs.Examples.{queue_in_order, promotion_stops, readers_together, promotion_in_order, intentions, refusals, down_the_tree, up_the_tree, release_promotes, release_of_one, asks_again, conversion_first, conversion_at_once, conversion_under_parent, abort_while_waiting, readers_that_convert, youngest_of_two, victim_in_the_way, conversions_that_meet, circle_through_the_queue, two_victims, begin_beside_others, polls, release_above_another, commit_of_four, conversion_to_the_upper_bound, conversion_needs_more_of_the_parent, parents_on_each_level, releases_promote_one_after_another, begins_again, polls_again, circle_of_five, three_victims, beside_the_circle}
+use Rattle.lock_rules.proofs.Worked.{legal-queue_in_order, legal-promotion_stops, legal-readers_together, legal-promotion_in_order, legal-intentions, legal-refusals, legal-down_the_tree, legal-up_the_tree, legal-release_promotes, legal-release_of_one, legal-asks_again, legal-conversion_first, legal-conversion_at_once, legal-conversion_under_parent, legal-abort_while_waiting, legal-readers_that_convert, legal-youngest_of_two, legal-victim_in_the_way, legal-conversions_that_meet, legal-circle_through_the_queue, legal-two_victims, legal-begin_beside_others, legal-polls, legal-release_above_another, legal-commit_of_four, legal-conversion_to_the_upper_bound, legal-conversion_needs_more_of_the_parent, legal-parents_on_each_level, legal-releases_promote_one_after_another, legal-begins_again, legal-polls_again, legal-circle_of_five, legal-three_victims, legal-beside_the_circle}
 use Rattle.lock_rules.proofs.WrongReplies.{wrong}
 use Rattle.lock_rules.proofs.laws.examples_are_legal.Goals as goal
 
@@ -276,3 +276,81 @@ returns-clause-four_locks_refused c = wrong 5 (Refused TooManyLocks) commit_of_f
 
 pub returns-clause-four_locks_counted_as_three : goal.returns-clause-four_locks_counted_as_three
 returns-clause-four_locks_counted_as_three c = wrong 5 (Committed 3) commit_of_four refl legal-commit_of_four
+
+pub returns-clause-conversion_to_the_upper_bound : goal.returns-clause-conversion_to_the_upper_bound
+returns-clause-conversion_to_the_upper_bound c = legal-conversion_to_the_upper_bound
+
+pub returns-clause-mode_asked_for_the_upper_bound : goal.returns-clause-mode_asked_for_the_upper_bound
+returns-clause-mode_asked_for_the_upper_bound c = wrong 2 (Granted S) conversion_to_the_upper_bound refl legal-conversion_to_the_upper_bound
+
+pub returns-clause-conversion_needs_more_of_the_parent : goal.returns-clause-conversion_needs_more_of_the_parent
+returns-clause-conversion_needs_more_of_the_parent c = legal-conversion_needs_more_of_the_parent
+
+pub returns-clause-parent_not_tested_by_the_target : goal.returns-clause-parent_not_tested_by_the_target
+returns-clause-parent_not_tested_by_the_target c = wrong 4 (Granted SIX) conversion_needs_more_of_the_parent refl legal-conversion_needs_more_of_the_parent
+
+pub returns-clause-parents_on_each_level : goal.returns-clause-parents_on_each_level
+returns-clause-parents_on_each_level c = legal-parents_on_each_level
+
+pub returns-clause-parent_in_another_tree : goal.returns-clause-parent_in_another_tree
+returns-clause-parent_in_another_tree c = wrong 2 (Granted IS) parents_on_each_level refl legal-parents_on_each_level
+
+pub returns-clause-grandparent_in_ix_for_parent_in_is : goal.returns-clause-grandparent_in_ix_for_parent_in_is
+returns-clause-grandparent_in_ix_for_parent_in_is c = wrong 5 (Granted IX) parents_on_each_level refl legal-parents_on_each_level
+
+pub returns-clause-page_in_is_for_a_record_in_x : goal.returns-clause-page_in_is_for_a_record_in_x
+returns-clause-page_in_is_for_a_record_in_x c = wrong 7 (Granted X) parents_on_each_level refl legal-parents_on_each_level
+
+pub returns-clause-releases_promote_one_after_another : goal.returns-clause-releases_promote_one_after_another
+returns-clause-releases_promote_one_after_another c = legal-releases_promote_one_after_another
+
+pub returns-clause-release_promotes_nobody : goal.returns-clause-release_promotes_nobody
+returns-clause-release_promotes_nobody c = wrong 10 Waiting releases_promote_one_after_another refl legal-releases_promote_one_after_another
+
+pub returns-clause-release_promotes_past_the_first : goal.returns-clause-release_promotes_past_the_first
+returns-clause-release_promotes_past_the_first c = wrong 11 Clear releases_promote_one_after_another refl legal-releases_promote_one_after_another
+
+pub returns-clause-begins_again : goal.returns-clause-begins_again
+returns-clause-begins_again c = legal-begins_again
+
+pub returns-clause-begun_twice : goal.returns-clause-begun_twice
+returns-clause-begun_twice c = wrong 4 (Began 3) begins_again refl legal-begins_again
+
+pub returns-clause-begin_tested_for_waiting : goal.returns-clause-begin_tested_for_waiting
+returns-clause-begin_tested_for_waiting c = wrong 5 (Refused IsWaiting) begins_again refl legal-begins_again
+
+pub returns-clause-refused_begins_take_numbers : goal.returns-clause-refused_begins_take_numbers
+returns-clause-refused_begins_take_numbers c = wrong 7 (Began 5) begins_again refl legal-begins_again
+
+pub returns-clause-polls_again : goal.returns-clause-polls_again
+returns-clause-polls_again c = legal-polls_again
+
+pub returns-clause-doom_reported_once : goal.returns-clause-doom_reported_once
+returns-clause-doom_reported_once c = wrong 11 Clear polls_again refl legal-polls_again
+
+pub returns-clause-poll_ends_a_wait : goal.returns-clause-poll_ends_a_wait
+returns-clause-poll_ends_a_wait c = wrong 8 Clear polls_again refl legal-polls_again
+
+pub returns-clause-circle_of_five : goal.returns-clause-circle_of_five
+returns-clause-circle_of_five c = legal-circle_of_five
+
+pub returns-clause-asker_of_five_doomed : goal.returns-clause-asker_of_five_doomed
+returns-clause-asker_of_five_doomed c = wrong 14 Deadlock circle_of_five refl legal-circle_of_five
+
+pub returns-clause-circle_of_five_left : goal.returns-clause-circle_of_five_left
+returns-clause-circle_of_five_left c = wrong 15 Waiting circle_of_five refl legal-circle_of_five
+
+pub returns-clause-three_victims : goal.returns-clause-three_victims
+returns-clause-three_victims c = legal-three_victims
+
+pub returns-clause-two_victims_only : goal.returns-clause-two_victims_only
+returns-clause-two_victims_only c = wrong 14 Waiting three_victims refl legal-three_victims
+
+pub returns-clause-beside_the_circle : goal.returns-clause-beside_the_circle
+returns-clause-beside_the_circle c = legal-beside_the_circle
+
+pub returns-clause-younger_one_that_is_only_reached : goal.returns-clause-younger_one_that_is_only_reached
+returns-clause-younger_one_that_is_only_reached c = wrong 14 Deadlock beside_the_circle refl legal-beside_the_circle
+
+pub returns-clause-younger_one_that_only_leads_to_the_asker : goal.returns-clause-younger_one_that_only_leads_to_the_asker
+returns-clause-younger_one_that_only_leads_to_the_asker c = wrong 15 Deadlock beside_the_circle refl legal-beside_the_circle

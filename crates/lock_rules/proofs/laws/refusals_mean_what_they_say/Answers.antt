@@ -7,6 +7,9 @@ returns-clause-meant c = λ es. (lawful es).refusals_meant
 pub returns-clause-others : goal.returns-clause-others
 returns-clause-others c = λ es. (lawful es).others_accepted
 
+pub returns-clause-conversion : goal.returns-clause-conversion
+returns-clause-conversion c = λ es. (lawful es).conversions_unbounded
+
 pub returns-clause-abort : goal.returns-clause-abort
 returns-clause-abort c = λ es. (lawful es).abort_needs_transaction
 

@@ -6,7 +6,7 @@ pub returns-then-end-field : goal.returns-then-end-field
 returns-then-end-field c =
     let l = c.loop-level in
     let deep : l.level < length l.numbers = omega (arith, l.invariant.long, c.loop-level-test.true) in
-    resource_made c.args.field.now l.numbers l.level l.start c.in_ok-number.end c.in_ok-number.number c.resource_to.result deep c.if-end-field.true l.invariant.read c.in_ok-number.ensures.text c.resource_to.ensures.found c.resource_to.ensures.value
+    resource_made c.args.field.now l.numbers l.level l.start c.in_ok-number.end c.in_ok-number.number c.from_prefix.result deep c.if-end-field.true l.invariant.read c.in_ok-number.ensures.text c.from_prefix.ensures.resource c.from_prefix.ensures.value
 
 pub loop-level-preserved : goal.loop-level-preserved
 loop-level-preserved c =

@@ -1,9 +1,23 @@
-use Rattle.std.proofs.Common.{◌≡◌, rules, true, [], length, arith}
+use Rattle.std.proofs.Common.{◌≡◌, ℕ, List, ◌++◌, rules, true, [], length, arith, sym, ap}
 use Rattle.std.specs.Result.{is_ok}
-use Rattle.std.proofs.lemmas.List.Elements.{All-push}
+use Rattle.std.proofs.lemmas.List.Elements.{All-nil, All-push}
 use Rattle.lock_trace.specs.Records.{records_on, records_of}
 use Rattle.lock_trace.proofs.FileSteps.{one_more_row, all_rows, tells}
 use Rattle.lock_trace.proofs.reading.read_rows.Goals as goal
+
+pub returns-in_default-clause-answer : goal.returns-in_default-clause-answer
+returns-in_default-clause-answer g c bytes known = record {
+  text = λ not. absurd cc;
+  machine = λ is. (
+    records_of bytes,
+    record {
+      front = [];
+      are_rows = All-nil (g.T.Row.is c.args.sessions);
+      records_are = sym (ap (λ (rs : List (List (List ℕ))). rs ++ records_of bytes) (c.requires.format.records []));
+      number = omega arith;
+    },
+  );
+}
 
 pub returns-in-Ok-None-clause-answer : goal.returns-in-Ok-None-clause-answer
 returns-in-Ok-None-clause-answer g c bytes known =

@@ -3,8 +3,8 @@ use Rattle.std.specs.Prelude.{◌==◌}
 use Rattle.lock_rules.specs.declared.calls.Call.TheVariants as call
 use Rattle.lock_trace.specs.declared.faults.TraceKind.{TraceKind}
 use Rattle.lock_trace.specs.declared.faults.TraceKind.TheVariants as kind
-use Rattle.lock_trace.specs.declared.words.Op.{Op}
-use Rattle.lock_trace.specs.declared.words.Op.TheVariants as op
+use Rattle.lock_rules.specs.declared.kinds.Op.{Op}
+use Rattle.lock_rules.specs.declared.kinds.Op.TheVariants as op
 use Rattle.lock_trace.specs.Fields.{resource_in}
 use Rattle.lock_trace.specs.Rows.{call_in}
 use Rattle.lock_trace.proofs.rows.call_of.Goals as goal

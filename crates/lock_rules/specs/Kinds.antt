@@ -1,0 +1,76 @@
+-- The kinds of calls, of replies and of refusals, by their numbers.
+use Rattle.std.specs.Prelude.{ℕ, List, [], ◌∷◌}
+use Rattle.lock_rules.specs.declared.calls.Call.{Call}
+use Rattle.lock_rules.specs.declared.calls.Call.TheVariants as call
+use Rattle.lock_rules.specs.declared.calls.Reply.{Reply}
+use Rattle.lock_rules.specs.declared.calls.Reply.TheVariants as reply
+use Rattle.lock_rules.specs.declared.calls.Why.{Why}
+use Rattle.lock_rules.specs.declared.calls.Why.TheVariants as why
+use Rattle.lock_rules.specs.declared.kinds.Op.{Op}
+use Rattle.lock_rules.specs.declared.kinds.Op.TheVariants as op
+use Rattle.lock_rules.specs.declared.kinds.ReplyKind.{ReplyKind}
+use Rattle.lock_rules.specs.declared.kinds.ReplyKind.TheVariants as kind
+
+-- the operation of a call
+abbrev pub op_of_call : Call → Op
+op_of_call call.Begin = op.Begin
+op_of_call (call.Lock r m) = op.Lock
+op_of_call (call.Convert r m) = op.Convert
+op_of_call call.Poll = op.Poll
+op_of_call (call.Release r) = op.Release
+op_of_call call.Commit = op.Commit
+op_of_call call.Abort = op.Abort
+
+-- the operations that take a resource
+abbrev pub ops_with_resource : List Op
+ops_with_resource = op.Lock ∷ op.Convert ∷ op.Release ∷ []
+
+-- the operations that take a mode
+abbrev pub ops_with_mode : List Op
+ops_with_mode = op.Lock ∷ op.Convert ∷ []
+
+-- the number of an operation
+abbrev pub number_of_op : Op → ℕ
+number_of_op op.Begin = 1
+number_of_op op.Lock = 2
+number_of_op op.Convert = 3
+number_of_op op.Poll = 4
+number_of_op op.Release = 5
+number_of_op op.Commit = 6
+number_of_op op.Abort = 7
+
+-- the kind of a reply
+abbrev pub kind_of_reply : Reply → ReplyKind
+kind_of_reply (reply.Began n) = kind.Began
+kind_of_reply (reply.Granted m) = kind.Granted
+kind_of_reply reply.Waiting = kind.Waiting
+kind_of_reply reply.Deadlock = kind.Deadlock
+kind_of_reply reply.Clear = kind.Clear
+kind_of_reply reply.Released = kind.Released
+kind_of_reply (reply.Committed n) = kind.Committed
+kind_of_reply (reply.Aborted n) = kind.Aborted
+kind_of_reply (reply.Refused w) = kind.Refused
+
+-- the number of a kind of replies
+abbrev pub number_of_kind : ReplyKind → ℕ
+number_of_kind kind.Began = 1
+number_of_kind kind.Granted = 2
+number_of_kind kind.Waiting = 3
+number_of_kind kind.Deadlock = 4
+number_of_kind kind.Clear = 5
+number_of_kind kind.Released = 6
+number_of_kind kind.Committed = 7
+number_of_kind kind.Aborted = 8
+number_of_kind kind.Refused = 9
+
+-- the number of a refusal, by which the tests of a call are ordered; number 10 is retired
+abbrev pub number_of_why : Why → ℕ
+number_of_why why.AlreadyOpen = 1
+number_of_why why.NoTransaction = 2
+number_of_why why.IsWaiting = 3
+number_of_why why.IsDoomed = 4
+number_of_why why.NothingAsked = 5
+number_of_why why.NotHeld = 6
+number_of_why why.ParentNotHeld = 7
+number_of_why why.ChildHeld = 8
+number_of_why why.TooManyLocks = 9

@@ -1,9 +1,0 @@
-use Rattle.std.proofs.Common.{◌∙◌, sym}
-use Rattle.lock_trace.specs.declared.faults.TraceKind.TheVariants as kind
-use Rattle.lock_trace.specs.Words.{word_of_reply}
-use Rattle.lock_trace.proofs.Names.{passed_over}
-use Rattle.lock_trace.proofs.fields.reply_word_of.Goals as goal
-
-pub loop-word-preserved : goal.loop-word-preserved
-loop-word-preserved c =
-    passed_over word_of_reply kind.Reply _ c.loop-word.word-index _ c.args.field.now c.as_bytes.result.now _ c.loop-word-test.true (c.as_bytes.ensures.value ∙ c.word.ensures) (sym c.eq.ensures ∙ c.if-eq.false) c.loop-word.invariant
