@@ -11,7 +11,7 @@ use std::process::Abort;
 use std::test::Fail;
 
 /// Returns an item of a batch, without a reply.
-fn item(session: u16, call: Call) -> Item {
+pub(crate) fn item(session: u16, call: Call) -> Item {
     Item {
         session,
         call,
@@ -20,7 +20,7 @@ fn item(session: u16, call: Call) -> Item {
 }
 
 /// Returns an empty vector with room for `count` items. Tries a second time if memory is refused.
-fn room_for(alloc: Global, count: usize) -> Result<Vec<Item>, NoMemory> {
+pub(crate) fn room_for(alloc: Global, count: usize) -> Result<Vec<Item>, NoMemory> {
     match Vec::with_capacity(alloc, count) {
         Ok(items) => Ok(items),
         Err(_) => Vec::with_capacity(alloc, count),
@@ -28,7 +28,7 @@ fn room_for(alloc: Global, count: usize) -> Result<Vec<Item>, NoMemory> {
 }
 
 /// Whether the session of each item is from 1 to `sessions`.
-fn is_within(items: &[Item], sessions: u16) -> bool
+pub(crate) fn is_within(items: &[Item], sessions: u16) -> bool
     ensures { result ≡ true → All (IsItemWithin sessions) items.now }
 {
     for item in items {

@@ -30,7 +30,7 @@ pub(crate) fn new_book(rt: &impl Abort, alloc: Global, sessions: u16) -> Result<
 }
 
 /// Serves a call of one of the book's sessions.
-fn serve_once(
+pub(crate) fn serve_once(
     rt: &impl Abort,
     book: &mut Book,
     session: u16,
@@ -60,7 +60,11 @@ pub(crate) fn serve(
 }
 
 /// Serves the calls of the entries, and expects their replies.
-fn serve_all(rt: &impl Abort, book: &mut Book, entries: &[Entry]) -> Result<(), NoMemory> {
+pub(crate) fn serve_all(
+    rt: &impl Abort,
+    book: &mut Book,
+    entries: &[Entry],
+) -> Result<(), NoMemory> {
     for entry in entries {
         let reply = serve(rt, book, entry.session, entry.call)?;
         assert_eq!(rt; reply, entry.reply);
@@ -85,7 +89,12 @@ pub(crate) fn wanted(alloc: Global, text: &str) -> Result<Vec<Entry>, TraceFault
 }
 
 /// Serves the calls of a history on a new book of `sessions` sessions, and expects its replies and this history.
-fn serve_text(rt: &impl Abort, alloc: Global, sessions: u16, text: &str) -> Result<Book, Fail> {
+pub(crate) fn serve_text(
+    rt: &impl Abort,
+    alloc: Global,
+    sessions: u16,
+    text: &str,
+) -> Result<Book, Fail> {
     let entries = wanted(alloc, text)?;
     let mut book = new_book(rt, alloc, sessions)?;
     serve_all(rt, &mut book, &entries)?;

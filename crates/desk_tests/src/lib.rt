@@ -1,5 +1,5 @@
-//! Tests of the lock table, for what no contract says: examples worked out by hand, each call once with success, long queues,
-//! and random calls compared with a model.
+//! Tests of the lock table, for what no contract says: examples worked out by hand, each call once with success, calls that are
+//! refused memory, long queues, and random calls compared with a model.
 #![tactic(auto)]
 
 #[cfg(test)]
@@ -8,5 +8,9 @@ mod batches;
 mod books;
 #[cfg(test)]
 mod queues;
+#[cfg(test)]
+mod refusals;
+#[cfg(test)]
+mod refused_batches;
 #[cfg(test)]
 mod waits_for_model;

@@ -1,19 +1,20 @@
 -- The locks of a session as two lists: the indexed locks and the recent ones.
-use Rattle.std.proofs.Common.{◌≡◌, ℕ, zero, suc, ◌+◌, ◌-◌, ◌<◌, ◌≤◌, Bool, true, false, cond, ◌||◌, List, [], ◌∷◌, ◌++◌, length, length-append, get_or, set, take, drop, slice_get, unwrap_or, Option, None, Some, IfSome, refl, sym, ◌∙◌, ap, arith, subst, inl, inr}
+use Rattle.std.proofs.Common.{◌≡◌, ℕ, zero, suc, ◌-◌, ◌<◌, ◌≤◌, Bool, true, false, cond, ◌||◌, List, [], ◌∷◌, ◌++◌, length, length-append, get_or, set, take, drop, slice_get, unwrap_or, Option, None, Some, IfSome, refl, sym, ◌∙◌, ap, arith, subst, inl, inr}
 use Rattle.std.specs.Map.{keys_of, values_of, lookup, lookup_key}
 use Rattle.std.proofs.lemmas.Map.Made.{lookup_key_passes}
 use Rattle.std.proofs.lemmas.Option.{slice_get_within, slice_get-get_or}
-use Rattle.std.specs.List.{remove, swap_remove}
+use Rattle.std.specs.List.{list_any, remove, swap_remove}
 use Rattle.std.proofs.lemmas.Bool.{and_from, or_parts, or_right}
-use Rattle.std.proofs.lemmas.List.{append_assoc, append-nil, get_or_default}
+use Rattle.std.proofs.lemmas.List.{append_assoc, append-nil, get_or_default, map-append}
 use Rattle.std.proofs.lemmas.List.Folds.{list_any-append}
-use Rattle.indexmap.proofs.SetLemmas.{map-swap_remove}
+use Rattle.indexmap.proofs.SetLemmas.{map-remove, map-swap_remove}
 use Rattle.indexmap.specs.IndexMap.{set_value_at}
 use Rattle.std.proofs.Math.Bool.{or-false}
 use Rattle.lock_tree.specs.Paths.{same_path, parent_of, has_parent}
 use Rattle.lock_rules.proofs.Lists.{same_path-refl, same_path-true, same_path_tells}
 use Rattle.lock_desk.specs.inner.Cells.{has_path, AreApart}
-use Rattle.lock_desk.specs.inner.ChildCounts.{is_child, has_child, IsUnder, AreUnder}
+use Rattle.lock_desk.specs.declared.locks.HeldLock.{HeldLock}
+use Rattle.lock_desk.specs.inner.ChildCounts.{is_child, has_child, IsUnder, AreUnder, resources_of, IsWithout}
 use Rattle.lock_desk.proofs.LockerStandings.{has_path-push, same_path-swap}
 use Rattle.lock_desk.proofs.ChildCounts as counts
 
@@ -118,25 +119,40 @@ module _ (rs qs : List (List ℕ)) (i : ℕ) (lt : i < length qs) (q : List ℕ)
   left-is : rs ++ remove qs i ≡ (rs ++ f) ++ b
   left-is = sym (append_assoc rs f b)
 
-  pub recent-gone : AreApart (rs ++ qs) → has_path q (rs ++ remove qs i) ≡ false
-  recent-gone a = ap (has_path q) left-is ∙ one-gone (rs ++ f) b q (subst AreApart all-is a)
-
-  pub recent-others : (p : List ℕ) → same_path q p ≡ false → has_path p (rs ++ remove qs i) ≡ has_path p (rs ++ qs)
-  recent-others p n = ap (has_path p) left-is ∙ (one-others (rs ++ f) b q p n ∙ sym (ap (has_path p) all-is))
-
-  pub recent-apart : AreApart (rs ++ qs) → AreApart (rs ++ remove qs i)
-  recent-apart a = subst AreApart (sym left-is) (one-apart (rs ++ f) b q (subst AreApart all-is a))
-
-  pub recent-few : length (rs ++ remove qs i) ≤ length (rs ++ qs)
-  recent-few =
+  few-left : length (rs ++ remove qs i) ≤ length (rs ++ qs)
+  few-left =
       let m = ap length left-is in
       let n = ap length all-is in
       omega (arith, m, n, length-append (rs ++ f) b, length-append (rs ++ f) (q ∷ b))
+
+  pub recent-left : AreApart (rs ++ qs) → IsWithout q (rs ++ qs) (rs ++ remove qs i)
+  recent-left a = record {
+    gone = ap (has_path q) left-is ∙ one-gone (rs ++ f) b q (subst AreApart all-is a);
+    others = λ p n. ap (has_path p) left-is ∙ (one-others (rs ++ f) b q p n ∙ sym (ap (has_path p) all-is));
+    apart = subst AreApart (sym left-is) (one-apart (rs ++ f) b q (subst AreApart all-is a));
+    few = few-left;
+  }
 
   pub recent-under : has_child q (rs ++ qs) ≡ false → AreUnder rs qs → AreUnder rs (remove qs i)
   recent-under n u =
       let k = or_parts (has_child q (rs ++ f)) (has_child q (q ∷ b)) (sym (has_child-append q (rs ++ f) (q ∷ b)) ∙ (sym (ap (has_child q) all-is) ∙ n)) in
       one-under q rs f b (or_parts (is_child q q) (has_child q b) k.1).1 (subst (AreUnder rs) is u)
+
+-- the resources of held locks
+
+pub resources-push : (ls ms : List HeldLock) (l : HeldLock) → ms ≡ ls ++ l ∷ [] → resources_of ms ≡ resources_of ls ++ l.resource ∷ []
+resources-push ls ms l e = ap resources_of e ∙ map-append (λ x. x.resource) ls (l ∷ [])
+
+pub resources-remove : (ls ms : List HeldLock) (i : ℕ) → ms ≡ remove ls i → resources_of ms ≡ remove (resources_of ls) i
+resources-remove ls ms i e = ap resources_of e ∙ map-remove (λ x. x.resource) ls i
+
+pub resources-long : (ls : List HeldLock) → length (resources_of ls) ≡ length ls
+resources-long [] = refl
+resources-long (l ∷ ls) = ap suc (resources-long ls)
+
+pub any-child : (r : List ℕ) (ls : List HeldLock) → list_any (λ (l : HeldLock). is_child r l.resource) ls ≡ has_child r (resources_of ls)
+any-child r [] = refl
+any-child r (l ∷ ls) = ap (λ (b : Bool). is_child r l.resource || b) (any-child r ls)
 
 -- entries of the index
 
@@ -188,15 +204,6 @@ pub entry-value : (es : List (List ℕ × ℕ)) (i : ℕ) (k : List ℕ) (n : �
 entry-value [] i k n e = absurd (cc)
 entry-value (x ∷ es) zero k n e = ap (λ (o : Option (List ℕ × ℕ)). (unwrap_or o (k, n)).1) e
 entry-value (x ∷ es) (suc i) k n e = entry-value es i k n e
-
-entry-drop : (es : List (List ℕ × ℕ)) (i : ℕ) (k : List ℕ) (n : ℕ) → slice_get es i ≡ Some (k, n) → drop i (keys_of es) ≡ k ∷ drop (suc i) (keys_of es)
-entry-drop [] i k n e = absurd (cc)
-entry-drop (x ∷ es) zero k n e = ap (λ (o : Option (List ℕ × ℕ)). (unwrap_or o (k, n)).0 ∷ keys_of es) e
-entry-drop (x ∷ es) (suc i) k n e = entry-drop es i k n e
-
--- the walk over the keys, after one more key
-pub child-further : (r : List ℕ) (es : List (List ℕ × ℕ)) (i : ℕ) (k : List ℕ) (n : ℕ) → slice_get es i ≡ Some (k, n) → has_child r (drop i (keys_of es)) ≡ (is_child r k || has_child r (drop (i + 1) (keys_of es)))
-child-further r es i k n e = let s : suc i ≡ i + 1 = omega arith in ap (has_child r) (entry-drop es i k n e) ∙ ap (λ (j : ℕ). is_child r k || has_child r (drop j (keys_of es))) s
 
 module _ (eq : List ℕ → List ℕ → Bool) (same : (a b : List ℕ) → eq a b ≡ same_path a b) where
   pub tests : eq ≡ same_path
@@ -255,30 +262,26 @@ module _ (ks qs : List (List ℕ)) (p : ℕ) (lt : p < length ks) (q : List ℕ)
   own-gone : has_path q (swap_remove ks p []) ≡ false
   own-gone = ap (has_path q) same-left ∙ (ap (λ (x : List ℕ). has_path x (swap_remove ks p (get_or ks p []))) (sym at) ∙ counts.left-gone ks [] [] p lt first-apart)
 
-  pub indexed-has : (x : List ℕ) → same_path q x ≡ false → has_path x (swap_remove ks p []) ≡ has_path x ks
+  indexed-has : (x : List ℕ) → same_path q x ≡ false → has_path x (swap_remove ks p []) ≡ has_path x ks
   indexed-has x n = ap (has_path x) same-left ∙ counts.left-has ks [] [] p lt first-apart x (ap (λ (y : List ℕ). same_path y x) at ∙ n)
 
-  pub indexed-gone : has_path q (swap_remove ks p [] ++ qs) ≡ false
-  indexed-gone = has_path-append q (swap_remove ks p []) qs ∙ (λ i. own-gone i || none i)
-
-  pub indexed-others : (x : List ℕ) → same_path q x ≡ false → has_path x (swap_remove ks p [] ++ qs) ≡ has_path x (ks ++ qs)
-  indexed-others x n = has_path-append x (swap_remove ks p []) qs ∙ (ap (λ (b : Bool). b || has_path x qs) (indexed-has x n) ∙ sym (has_path-append x ks qs))
-
-  pub indexed-apart : AreApart (swap_remove ks p [] ++ qs)
-  indexed-apart =
-      apart-join (swap_remove ks p []) qs (subst AreApart (sym same-left) (counts.left-apart ks [] [] p lt first-apart)) (apart-parts ks qs a).second
-      (λ x h. elim (same_path_tells q x) [
-        | inl e ↦ subst (λ (y : List ℕ). has_path y qs ≡ false) e.1 none
-        | inr n ↦ (apart-parts ks qs a).none x (sym (indexed-has x n) ∙ h)
-      ])
-
-  pub indexed-few : length (swap_remove ks p [] ++ qs) ≤ length (ks ++ qs)
-  indexed-few =
+  few-left-indexed : length (swap_remove ks p [] ++ qs) ≤ length (ks ++ qs)
+  few-left-indexed =
       let e = ap length same-left in
       omega (arith, e, counts.left-long ks [] [] p lt first-apart, length-append (swap_remove ks p []) qs, length-append ks qs)
 
+  pub indexed-left : IsWithout q (ks ++ qs) (swap_remove ks p [] ++ qs)
+  indexed-left = record {
+    gone = has_path-append q (swap_remove ks p []) qs ∙ (λ i. own-gone i || none i);
+    others = λ x n. has_path-append x (swap_remove ks p []) qs ∙ (ap (λ (b : Bool). b || has_path x qs) (indexed-has x n) ∙ sym (has_path-append x ks qs));
+    apart =
+        apart-join (swap_remove ks p []) qs (subst AreApart (sym same-left) (counts.left-apart ks [] [] p lt first-apart)) (apart-parts ks qs a).second
+        (λ x h. elim (same_path_tells q x) [
+          | inl e ↦ subst (λ (y : List ℕ). has_path y qs ≡ false) e.1 none
+          | inr n ↦ (apart-parts ks qs a).none x (sym (indexed-has x n) ∙ h)
+        ]);
+    few = few-left-indexed;
+  }
+
   pub indexed-under : has_child q (ks ++ qs) ≡ false → AreUnder ks qs → AreUnder (swap_remove ks p []) qs
   indexed-under n u = under-less q ks (swap_remove ks p []) qs indexed-has (or_parts (has_child q ks) (has_child q qs) (sym (has_child-append q ks qs) ∙ n)).1 u
-
-  pub indexed-childless : has_child q (ks ++ qs) ≡ false → has_child q ks ≡ false
-  indexed-childless n = (or_parts (has_child q ks) (has_child q qs) (sym (has_child-append q ks qs) ∙ n)).0

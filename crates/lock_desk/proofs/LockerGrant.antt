@@ -9,7 +9,7 @@ use Rattle.lock_desk.specs.inner.Cells.{has_path, AreApart}
 use Rattle.lock_desk.specs.inner.ChildCounts.{IsUnder}
 use Rattle.lock_desk.specs.inner.Requests.{resource_asked, is_fresh, wanted_in, IsOfKind, IsComingUnder}
 use Rattle.lock_desk.specs.inner.Lockers.{is_wanted, with_path}
-use Rattle.lock_desk.specs.declared.locks.LastLock.{LastLock}
+use Rattle.lock_desk.specs.declared.locks.HeldLock.{HeldLock}
 use Rattle.lock_desk.proofs.LockerStandings.{apart-pop}
 
 module _ (r : List ℕ) (locker : Locker) (waits : is_wanted r (wanted_in locker.wanted) ≡ true) where
@@ -41,12 +41,12 @@ module _ (r : List ℕ) (locker : Locker) (waits : is_wanted r (wanted_in locker
 -- the last lock is removed
 
 -- no resource is there twice among the remaining locks
-pub left-apart : (o : Option LastLock) (old new : List (List ℕ)) → IfSome o (λ last. old ≡ new ++ last.resource ∷ []) → IfNone o (new ≡ []) → AreApart old → AreApart new
+pub left-apart : (o : Option HeldLock) (old new : List (List ℕ)) → IfSome o (λ last. old ≡ new ++ last.resource ∷ []) → IfNone o (new ≡ []) → AreApart old → AreApart new
 left-apart None old new popped none a = subst AreApart (sym none) tt
 left-apart (Some last) old new popped none a = (apart-pop new last.resource (subst AreApart popped a)).0
 
 -- the remaining locks are no more than before
-pub left-few : (o : Option LastLock) (old new : List (List ℕ)) → IfSome o (λ last. old ≡ new ++ last.resource ∷ []) → IfNone o (new ≡ []) → length new ≤ length old
+pub left-few : (o : Option HeldLock) (old new : List (List ℕ)) → IfSome o (λ last. old ≡ new ++ last.resource ∷ []) → IfNone o (new ≡ []) → length new ≤ length old
 left-few None old new popped none = let n = ap length none in omega (arith, n)
 left-few (Some last) old new popped none =
     let long = ap length popped in

@@ -9,7 +9,7 @@ ghost use Rattle.lock_desk.specs.inner.Cells.{has_path, AreApart, AreApart-prop}
 ghost use Rattle.lock_desk.specs.inner.ChildCounts.{has_child, IsUnder};
 ghost use Rattle.lock_desk.specs.inner.Requests.{resource_asked, is_fresh, wanted_in, locks_to_come, IsOfKind, IsOfKind-prop, IsComingUnder, IsComingUnder-prop};
 
-use crate::locks::{LastLock, Locks};
+use crate::locks::{HeldLock, Locks};
 use lock_rules::{MAX_LOCKS, Transaction};
 use lock_tree::Resource;
 use std::alloc::{AllocError, Global};
@@ -284,7 +284,7 @@ impl Locker {
     }
 
     /// Removes the last lock of the list, and returns it; `None` if there was no lock. The session must not wait.
-    pub(crate) fn release_last(&mut self) -> Option<LastLock>
+    pub(crate) fn release_last(&mut self) -> Option<HeldLock>
         requires idle { self.old.wanted ≡ None }
         ensures some { IfSome result (λ last. self.old.held.items ≡ self.new.held.items ++ last.resource ∷ []) }
         ensures none { IfNone result (self.old.held.items ≡ []) }

@@ -4,7 +4,7 @@ ghost use Rattle.std.specs.Prelude.{◌≡◌, ℕ, ◌+◌, ◌-◌, ◌<◌, �
 ghost use Rattle.indexmap.specs.IndexMap.{keys, values, index_map_len, spare};
 ghost use Rattle.lock_tree.specs.Paths.{same_path};
 ghost use Rattle.lock_desk.specs.inner.Cells.{has_path, AreApart};
-ghost use Rattle.lock_desk.specs.inner.ChildCounts.{is_child, has_child, IsUnder, AreUnder, DoCount};
+ghost use Rattle.lock_desk.specs.inner.ChildCounts.{is_child, has_child, IsUnder, AreUnder, DoCount, resources_of, IsWithout};
 
 use crate::cells::is_same;
 use indexmap::IndexMap;
@@ -27,23 +27,21 @@ pub struct Locks {
     /// The locks that were indexed, each with the number of its children in the index, while `counts_valid`.
     indexed: IndexMap<Resource, u32>,
     /// The locks granted since.
-    recent: Vec<Resource>,
-    /// For each recent lock, the place of its cell when it was granted: a guess, which the cell table tests.
-    places: Vec<usize>,
-    /// `recent` may hold up to this many entries without growing anything: both lists have memory for them, and the
-    /// index has room for all of them. So a release takes no memory.
+    recent: Vec<HeldLock>,
+    /// `recent` may hold up to this many locks without growing anything: it has memory for them, and the index has room
+    /// for all of them. So a release takes no memory.
     reserved: usize,
     /// Whether the counts of the index are right. They aren't kept while all locks are given back, from the last to the
     /// first, and are right again once no lock is left.
     counts_valid: bool,
 }
 
-/// The last lock of a list.
+/// A lock that a session holds.
 #[derive(Clone, Copy, Debug, PartialEq, Eq)]
-pub struct LastLock {
-    /// The resource that was held.
+pub struct HeldLock {
+    /// The resource.
     pub(crate) resource: Resource,
-    /// The likely place of its cell: a guess.
+    /// The place of its cell when the lock was granted: a guess, which the cell table tests.
     pub(crate) likely: usize,
 }
 
@@ -59,17 +57,6 @@ impl Model for Locks {
     ghost invariant = { AreIndexed };
 }
 
-/// Pops the newest place hint; 0 if there is none.
-fn pop_hint(places: &mut Vec<usize>) -> usize
-    ensures len { vec_len places.new ≡ vec_len places.old - 1 }
-    ensures capacity { vec_capacity places.new ≡ vec_capacity places.old }
-{
-    match places.pop() {
-        Some(place) => place,
-        None => 0,
-    }
-}
-
 /// Whether `other` is a child of `resource`.
 fn is_child(resource: Resource, other: Resource) -> bool
     ensures { result ≡ is_child resource other }
@@ -81,20 +68,21 @@ fn is_child(resource: Resource, other: Resource) -> bool
 }
 
 /// Whether the list has a child of `resource`.
-fn has_child(list: &[Resource], resource: Resource) -> bool
-    ensures { result ≡ has_child resource list.now }
+fn has_child(list: &[HeldLock], resource: Resource) -> bool
+    ensures { result ≡ has_child resource (resources_of list.now) }
 {
-    list.iter().any(|one| is_child(resource, *one))
+    list.iter().any(|lock| is_child(resource, lock.resource))
 }
 
 /// The index of `resource` in the list, if it is there.
-fn search(list: &[Resource], resource: Resource) -> Option<usize>
+fn search(list: &[HeldLock], resource: Resource) -> Option<usize>
     ensures within { IfSome result (λ i. i < length list.now) }
-    ensures at { IfSome result (λ i. slice_index_or list.now i [] ≡ resource) }
-    ensures none { IfNone result (has_path resource list.now ≡ false) }
+    ensures at { IfSome result (λ i. slice_index_or (resources_of list.now) i [] ≡ resource) }
+    ensures none { IfNone result (has_path resource (resources_of list.now) ≡ false) }
 {
     for index in 0..list.len() {
-        if is_same(list[index], resource) {
+        let lock = list[index];
+        if is_same(lock.resource, resource) {
             return Some(index);
         }
     }
@@ -135,18 +123,20 @@ fn raise_parent(indexed: &mut IndexMap<Resource, u32>, resource: Resource)
     }
 }
 
-/// Subtracts 1 from the count of the parent of `resource`, if the parent is indexed. `resource` must be indexed.
+/// Subtracts 1 from the count of the parent of `resource`, if the parent is indexed. `resource` must be indexed. A count
+/// that isn't right may be 0, and stays.
 fn lower_parent(indexed: &mut IndexMap<Resource, u32>, resource: Resource)
-    requires counted { DoCount (keys indexed.old) (values indexed.old) }
     requires apart { AreApart (keys indexed.old) }
     requires there { has_path resource (keys indexed.old) ≡ true }
     ensures keys { keys indexed.new ≡ keys indexed.old }
-    ensures counts { (i : ℕ) → i < index_map_len indexed.old → slice_index_or (values indexed.new) i 0
+    ensures counts { DoCount (keys indexed.old) (values indexed.old)
+        → (i : ℕ) → i < index_map_len indexed.old → slice_index_or (values indexed.new) i 0
         + (if is_child (slice_index_or (keys indexed.old) i []) resource then 1 else 0) ≡ slice_index_or (values indexed.old) i 0 }
     ensures spare { spare indexed.new ≡ spare indexed.old }
 {
     if let Some(parent) = parent_place(indexed, resource) {
-        indexed[parent] -= 1;
+        let count = &mut indexed[parent];
+        *count = count.saturating_sub(1);
     }
 }
 
@@ -168,25 +158,15 @@ fn index_one(indexed: &mut IndexMap<Resource, u32>, resource: Resource)
 }
 
 /// Removes `resource`, which has no children, from its place in the index. The last key moves to that place.
-fn remove_indexed(
-    indexed: &mut IndexMap<Resource, u32>,
-    counts_valid: bool,
-    place: usize,
-    resource: Resource,
-)
+fn remove_indexed(indexed: &mut IndexMap<Resource, u32>, place: usize, resource: Resource)
     requires within { place < index_map_len indexed.old }
     requires at { slice_index_or (keys indexed.old) place [] ≡ resource }
-    requires counted { counts_valid ≡ true → DoCount (keys indexed.old) (values indexed.old) }
     requires apart { AreApart (keys indexed.old) }
     requires childless { has_child resource (keys indexed.old) ≡ false }
     ensures keys { keys indexed.new ≡ swap_remove (keys indexed.old) place [] }
-    ensures counted { counts_valid ≡ true → DoCount (keys indexed.new) (values indexed.new) }
+    ensures counted { DoCount (keys indexed.old) (values indexed.old) → DoCount (keys indexed.new) (values indexed.new) }
     ensures spare { spare indexed.old ≤ spare indexed.new }
 {
-    if !counts_valid {
-        let _removed = indexed.swap_remove_index(place);
-        return;
-    }
     lower_parent(indexed, resource);
     let _removed = indexed.swap_remove_index(place);
 }
@@ -203,34 +183,20 @@ fn counts_child(indexed: &IndexMap<Resource, u32>, resource: Resource) -> bool
     }
 }
 
-/// Whether the index has a child of `resource`, by a look at each key.
-fn finds_child(indexed: &IndexMap<Resource, u32>, resource: Resource) -> bool
-    ensures { result ≡ has_child resource (keys indexed.now) }
-{
-    for place in 0..indexed.len() {
-        if let Some((key, _)) = indexed.get_index(place) {
-            if is_child(resource, *key) {
-                return true;
-            }
-        }
-    }
-    false
-}
-
-/// Adds these resources to the index, in their order. Each parent comes before its children.
-fn index_all(indexed: &mut IndexMap<Resource, u32>, recent: &[Resource])
+/// Adds these locks to the index, in their order. Each parent comes before its children.
+fn index_all(indexed: &mut IndexMap<Resource, u32>, recent: &[HeldLock])
     requires counted { DoCount (keys indexed.old) (values indexed.old) }
-    requires apart { AreApart (keys indexed.old ++ recent.now) }
-    requires under { AreUnder (keys indexed.old) recent.now }
-    requires few { length (keys indexed.old ++ recent.now) ≤ MAX_LOCKS }
+    requires apart { AreApart (keys indexed.old ++ resources_of recent.now) }
+    requires under { AreUnder (keys indexed.old) (resources_of recent.now) }
+    requires few { length (keys indexed.old ++ resources_of recent.now) ≤ MAX_LOCKS }
     requires room { length recent.now ≤ spare indexed.old }
-    ensures keys { keys indexed.new ≡ keys indexed.old ++ recent.now }
+    ensures keys { keys indexed.new ≡ keys indexed.old ++ resources_of recent.now }
     ensures counted { DoCount (keys indexed.new) (values indexed.new) }
     ensures spare { spare indexed.old ≤ spare indexed.new + length recent.now }
 {
     for index in 0..recent.len() {
-        let resource = recent[index];
-        index_one(indexed, resource);
+        let lock = recent[index];
+        index_one(indexed, lock.resource);
     }
 }
 
@@ -242,7 +208,6 @@ impl Locks {
         Locks {
             indexed: IndexMap::new(alloc),
             recent: Vec::new(alloc),
-            places: Vec::new(alloc),
             reserved: 0,
             counts_valid: true,
         }
@@ -263,10 +228,10 @@ impl Locks {
             return true;
         }
         if self.counts_valid {
-            counts_child(&self.indexed, resource)
-        } else {
-            finds_child(&self.indexed, resource)
+            return counts_child(&self.indexed, resource);
         }
+        let keys = self.indexed.keys().as_slice();
+        keys.iter().any(|key| is_child(resource, *key))
     }
 
     /// Makes room for one more lock.
@@ -281,18 +246,16 @@ impl Locks {
         self.grow()
     }
 
-    /// Grows the lists and the index, and notes for how many locks they have memory now. A full list about doubles.
+    /// Grows the list and the index, and notes for how many locks they have memory now. A full list about doubles.
     #[inline(never)]
     fn grow(&mut self) -> Result<(), AllocError>
         ensures room { OnOk result (0 < self.new.room) }
         ensures items { self.new.items ≡ self.old.items }
     {
         self.recent.reserve(1)?;
-        self.places.reserve(1)?;
         self.indexed.reserve(self.recent.len() + 1)?;
-        let listed = self.recent.capacity().min(self.places.capacity());
         let indexable = self.indexed.capacity() - self.indexed.len();
-        self.reserved = listed.min(indexable);
+        self.reserved = self.recent.capacity().min(indexable);
         Ok(())
     }
 
@@ -302,23 +265,27 @@ impl Locks {
         requires room { 0 < self.old.room }
         ensures { self.new.items ≡ self.old.items ++ resource ∷ [] }
     {
-        self.recent.push_reserved(resource);
-        self.places.push_reserved(place);
+        self.recent.push_reserved(HeldLock {
+            resource,
+            likely: place,
+        });
     }
 
     /// Removes the last lock, and returns it; `None` if there was none. Stops keeping the counts of the index.
-    pub(crate) fn pop(&mut self) -> Option<LastLock>
+    pub(crate) fn pop(&mut self) -> Option<HeldLock>
         ensures some { IfSome result (λ last. self.old.items ≡ self.new.items ++ last.resource ∷ []) }
         ensures none { IfNone result (self.old.items ≡ []) }
         ensures empty { IfNone result (self.new.items ≡ []) }
     {
-        let likely = pop_hint(&mut self.places);
-        if let Some(resource) = self.recent.pop() {
-            return Some(LastLock { resource, likely });
+        if let Some(last) = self.recent.pop() {
+            return Some(last);
         }
         let (resource, _) = self.indexed.pop()?;
         self.counts_valid = self.indexed.is_empty();
-        Some(LastLock { resource, likely })
+        Some(HeldLock {
+            resource,
+            likely: 0,
+        })
     }
 
     /// Moves the recent locks into the index, if they are more than `SHORT` and the counts are valid.
@@ -332,7 +299,6 @@ impl Locks {
             index_all(&mut self.indexed, &self.recent);
             self.reserved -= self.recent.len();
             self.recent.clear();
-            self.places.clear();
         }
     }
 
@@ -340,19 +306,15 @@ impl Locks {
     pub(crate) fn remove(&mut self, resource: Resource)
         requires apart { AreApart self.old.items }
         requires childless { has_child resource self.old.items ≡ false }
-        ensures gone { has_path resource self.new.items ≡ false }
-        ensures others { (q : List ℕ) → same_path resource q ≡ false → has_path q self.new.items ≡ has_path q self.old.items }
-        ensures apart { AreApart self.new.items }
-        ensures len { length self.new.items ≤ length self.old.items }
+        ensures { IsWithout resource self.old.items self.new.items }
     {
         if let Some(place) = search(&self.recent, resource) {
             let _removed = self.recent.remove(place);
-            let _struck = self.places.remove(place);
             return;
         }
         same_path_is_equality();
         if let Some((place, _, _)) = self.indexed.get_full(&resource) {
-            remove_indexed(&mut self.indexed, self.counts_valid, place, resource);
+            remove_indexed(&mut self.indexed, place, resource);
         }
     }
 }

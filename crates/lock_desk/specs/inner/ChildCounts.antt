@@ -1,8 +1,9 @@
 -- Internal to this crate, cited by no public contract: how many children of each of its locks a session holds.
-use Rattle.std.specs.Prelude.{◌≡◌, ℕ, ◌+◌, ◌<◌, Bool, true, ◌&&◌, if◌then◌else◌, List, [], ◌∷◌, ◌++◌, length, slice_index_or}
+use Rattle.std.specs.Prelude.{◌≡◌, ℕ, ◌+◌, ◌<◌, ◌≤◌, Bool, true, false, ◌&&◌, if◌then◌else◌, List, [], ◌∷◌, ◌++◌, map, length, slice_index_or}
 use Rattle.std.specs.List.{list_any}
 use Rattle.lock_tree.specs.Paths.{same_path, parent_of, has_parent}
-use Rattle.lock_desk.specs.inner.Cells.{has_path}
+use Rattle.lock_desk.specs.declared.locks.HeldLock.{HeldLock}
+use Rattle.lock_desk.specs.inner.Cells.{has_path, AreApart}
 
 -- `q` is a child of `r`
 abbrev pub is_child : List ℕ → List ℕ → Bool
@@ -35,3 +36,14 @@ AreUnder rs (q ∷ qs) = IsUnder rs q × AreUnder (rs ++ q ∷ []) qs
 pub record LockList : Type 0 where
   pub items : List (List ℕ)
   pub room : ℕ
+
+-- the resources of the locks
+abbrev pub resources_of : List HeldLock → List (List ℕ)
+resources_of ls = map (λ l. l.resource) ls
+
+-- `new` has the resources of `old` without `r`, none of them twice
+pub record IsWithout (r : List ℕ) (old new : List (List ℕ)) : Type 0 where
+  pub gone : has_path r new ≡ false
+  pub others : (q : List ℕ) → same_path r q ≡ false → has_path q new ≡ has_path q old
+  pub apart : AreApart new
+  pub few : length new ≤ length old

@@ -6,10 +6,6 @@ use Rattle.lock_desk.proofs.ChildCounts.{left-counts}
 use Rattle.lock_desk.proofs.LockLists.{keys-long, values-long, swap-any, swapped}
 use Rattle.lock_desk.proofs.locks.remove_indexed.Goals as goal
 
-pub returns-then-not-counts_valid-clause-keys : goal.returns-then-not-counts_valid-clause-keys
-returns-then-not-counts_valid-clause-keys c =
-    (swapped c.swap_remove_index-removed.result c.args.indexed.now.entries c.swap_remove_index-removed.new.self.entries c.args.place c.requires.within c.swap_remove_index-removed.ensures.entry c.swap_remove_index-removed.ensures.entries).keys
-
 pub returns-clause-keys : goal.returns-clause-keys
 returns-clause-keys c =
     let old = c.args.indexed.now.entries in
@@ -17,24 +13,24 @@ returns-clause-keys c =
     let p = c.args.place in
     let same = ap (λ (xs : List (List ℕ)). length xs) c.lower_parent.ensures.keys in
     let lt : p < length mid = omega (arith, c.requires.within, same, keys-long old, keys-long mid) in
-    (swapped c.swap_remove_index-removed-2.result mid c.swap_remove_index-removed-2.new.self.entries p lt c.swap_remove_index-removed-2.ensures.entry c.swap_remove_index-removed-2.ensures.entries).keys
+    (swapped c.swap_remove_index-removed.result mid c.swap_remove_index-removed.new.self.entries p lt c.swap_remove_index-removed.ensures.entry c.swap_remove_index-removed.ensures.entries).keys
     ∙ ap (λ (xs : List (List ℕ)). swap_remove xs p []) c.lower_parent.ensures.keys
 
 pub returns-clause-counted : goal.returns-clause-counted
 returns-clause-counted c = λ st.
     let old = c.args.indexed.now.entries in
     let mid = c.lower_parent.new.indexed.entries in
-    let new = c.swap_remove_index-removed-2.new.self.entries in
+    let new = c.swap_remove_index-removed.new.self.entries in
     let p = c.args.place in
     let rs = keys_of old in
     let same = ap (λ (xs : List (List ℕ)). length xs) c.lower_parent.ensures.keys in
     let lt : p < length mid = omega (arith, c.requires.within, same, keys-long old, keys-long mid) in
     let within : p < length rs = omega (arith, c.requires.within, keys-long old) in
-    let s = swapped c.swap_remove_index-removed-2.result mid new p lt c.swap_remove_index-removed-2.ensures.entry c.swap_remove_index-removed-2.ensures.entries in
+    let s = swapped c.swap_remove_index-removed.result mid new p lt c.swap_remove_index-removed.ensures.entry c.swap_remove_index-removed.ensures.entries in
     let gone = get_or rs p [] in
     let keys : keys_of new ≡ swap_remove rs p gone = s.keys ∙ (ap (λ (xs : List (List ℕ)). swap_remove xs p []) c.lower_parent.ensures.keys ∙ swap-any rs p [] gone (omega (arith, within))) in
     let down : (i : ℕ) → i < length rs → get_or (values_of mid) i 0 + cond (is_child (get_or rs i []) gone) 1 0 ≡ get_or (values_of old) i 0
-    = λ i l. ap {B = ℕ} (λ (x : List ℕ). get_or (values_of mid) i 0 + cond (is_child (get_or rs i []) x) 1 0) c.requires.at ∙ c.lower_parent.ensures.counts i (omega (arith, l, keys-long old)) in
-    let d = left-counts rs (values_of old) (values_of mid) p within c.requires.apart (c.requires.counted st) (ap (λ (x : List ℕ). has_child x rs) c.requires.at ∙ c.requires.childless)
+    = λ i l. ap {B = ℕ} (λ (x : List ℕ). get_or (values_of mid) i 0 + cond (is_child (get_or rs i []) x) 1 0) c.requires.at ∙ c.lower_parent.ensures.counts st i (omega (arith, l, keys-long old)) in
+    let d = left-counts rs (values_of old) (values_of mid) p within c.requires.apart st (ap (λ (x : List ℕ). has_child x rs) c.requires.at ∙ c.requires.childless)
     (omega (arith, same, keys-long old, keys-long mid, values-long mid)) down 0 in
     subst (λ (xs : List (List ℕ)). DoCount xs (values_of new)) (sym keys) (subst (λ (ns : List ℕ). DoCount (swap_remove rs p gone) ns) (sym s.values) d)

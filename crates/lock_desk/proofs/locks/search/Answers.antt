@@ -1,22 +1,26 @@
-use Rattle.std.proofs.Common.{ℕ, ◌+◌, Bool, ◌||◌, List, [], ◌∷◌, drop, ◌∙◌, ap, sym}
-use Rattle.std.proofs.lemmas.List.{get_or_default, drop_more, drop_all}
+use Rattle.std.proofs.Common.{◌+◌, Bool, ◌||◌, List, [], ◌∷◌, drop, ◌∙◌, ap, sym}
+use Rattle.std.proofs.lemmas.List.{get_or-map, drop_more, drop_all}
 use Rattle.lock_rules.proofs.Lists.{same_path-true}
+use Rattle.lock_desk.specs.declared.locks.HeldLock.{HeldLock}
 use Rattle.lock_desk.specs.inner.Cells.{has_path}
+use Rattle.lock_desk.specs.inner.ChildCounts.{resources_of}
 use Rattle.lock_desk.proofs.locks.search.Goals as goal
 
 pub returns-then-is_same-clause-at : goal.returns-then-is_same-clause-at
 returns-then-is_same-clause-at c =
-    get_or_default c.args.list.now c.loop-index.index [] c.index-list-index.result c.loop-index-test.true
-    ∙ (sym c.index-list-index.is ∙ same_path-true c.index-list-index.result c.args.resource (sym c.is_same.ensures ∙ c.if-is_same.true))
+    let xs = c.args.list.now in
+    let l = c.index-list-index.result in
+    get_or-map (λ (x : HeldLock). x.resource) xs c.loop-index.index l [] c.loop-index-test.true
+    ∙ (ap (λ (x : HeldLock). x.resource) (sym c.index-list-index.is) ∙ same_path-true l.resource c.args.resource (sym c.is_same.ensures ∙ c.if-is_same.true))
 
 pub loop-index-preserved : goal.loop-index-preserved
 loop-index-preserved c =
     let xs = c.args.list.now in
     let i = c.loop-index.index in
-    let x = c.index-list-index.result in
+    let l = c.index-list-index.result in
     c.loop-index.invariant
-    ∙ (ap (has_path c.args.resource) (drop_more xs i x c.loop-index-test.true ∙ ap (λ (y : List ℕ). y ∷ drop (i + 1) xs) (sym c.index-list-index.is))
-    ∙ ap (λ (b : Bool). b || has_path c.args.resource (drop (i + 1) xs)) (sym c.is_same.ensures ∙ c.if-is_same.false))
+    ∙ (ap (λ (ys : List HeldLock). has_path c.args.resource (resources_of ys)) (drop_more xs i l c.loop-index-test.true ∙ ap (λ (y : HeldLock). y ∷ drop (i + 1) xs) (sym c.index-list-index.is))
+    ∙ ap (λ (b : Bool). b || has_path c.args.resource (resources_of (drop (i + 1) xs))) (sym c.is_same.ensures ∙ c.if-is_same.false))
 
 pub returns-clause-none : goal.returns-clause-none
-returns-clause-none c = c.loop-index.invariant ∙ ap (has_path c.args.resource) (drop_all c.loop-index.index c.args.list.now c.loop-index-test.false)
+returns-clause-none c = c.loop-index.invariant ∙ ap (λ (ys : List HeldLock). has_path c.args.resource (resources_of ys)) (drop_all c.loop-index.index c.args.list.now c.loop-index-test.false)

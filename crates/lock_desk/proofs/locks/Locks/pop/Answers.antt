@@ -1,7 +1,8 @@
-use Rattle.std.proofs.Common.{subst, arith}
+use Rattle.std.proofs.Common.{ℕ, List, [], ◌∷◌, ◌++◌, sym, ◌∙◌, ap, subst, arith}
+use Rattle.std.proofs.lemmas.List.{append_assoc}
 use Rattle.indexmap.specs.IndexMap.{keys}
-use Rattle.lock_desk.specs.inner.ChildCounts.{AreUnder}
-use Rattle.lock_desk.proofs.LockLists.{under-pop}
+use Rattle.lock_desk.specs.inner.ChildCounts.{LockList, AreUnder, resources_of}
+use Rattle.lock_desk.proofs.LockLists.{under-pop, resources-push}
 use Rattle.lock_desk.proofs.locks.Locks.pop.Goals as goal
 
 pub invariant_of-self : goal.invariant_of-self
@@ -10,9 +11,15 @@ invariant_of-self c =
     record {
       room = omega (arith, c.in-Some.ensures.len, c.self.invariant.room);
       listed = omega (arith, c.in-Some.ensures.capacity, c.self.invariant.listed);
-      noted = omega (arith, c.pop_hint-likely.ensures.capacity, c.self.invariant.noted);
       indexable = c.self.invariant.indexable;
-      beside = omega (arith, c.in-Some.ensures.len, c.pop_hint-likely.ensures.len, c.self.invariant.beside);
       counted = c.self.invariant.counted;
-      under = λ st. under-pop (keys a.indexed) c.pop.new.self.items c.in-Some.resource (subst (AreUnder (keys a.indexed)) c.in-Some.ensures.items (c.self.invariant.under st));
+      under = λ st. under-pop (keys a.indexed) (resources_of c.pop.new.self.items) c.in-Some.last.resource (subst (AreUnder (keys a.indexed)) (resources-push c.pop.new.self.items a.recent.items c.in-Some.last c.in-Some.ensures.items) (c.self.invariant.under st));
     }
+
+pub returns-in-Some-clause-some : goal.returns-in-Some-clause-some
+returns-in-Some-clause-some c =
+    let a = c.self.inside in
+    let e = ap (λ (v : LockList). v.items) c.self.view_is in
+    let news = c.pop.new.self.items in
+    let r = c.in-Some.last.resource in
+    sym e ∙ (ap (λ (xs : List (List ℕ)). keys a.indexed ++ xs) (resources-push news a.recent.items c.in-Some.last c.in-Some.ensures.items) ∙ sym (append_assoc (keys a.indexed) (resources_of news) (r ∷ [])))

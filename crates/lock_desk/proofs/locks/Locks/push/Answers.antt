@@ -1,7 +1,8 @@
-use Rattle.std.proofs.Common.{ap, sym, subst, arith}
+use Rattle.std.proofs.Common.{ℕ, List, [], ◌∷◌, ◌++◌, ◌∙◌, ap, sym, subst, arith}
+use Rattle.std.proofs.lemmas.List.{append_assoc}
 use Rattle.indexmap.specs.IndexMap.{keys}
-use Rattle.lock_desk.specs.inner.ChildCounts.{LockList, IsUnder}
-use Rattle.lock_desk.proofs.LockLists.{under-push}
+use Rattle.lock_desk.specs.inner.ChildCounts.{LockList, IsUnder, resources_of}
+use Rattle.lock_desk.proofs.LockLists.{under-push, resources-push}
 use Rattle.lock_desk.proofs.locks.Locks.push.Goals as goal
 
 pub invariant_of-self : goal.invariant_of-self
@@ -11,9 +12,15 @@ invariant_of-self c =
     record {
       room = omega (arith, room, c.requires.room, c.push_reserved.ensures.len, c.self.invariant.room);
       listed = omega (arith, c.push_reserved.ensures.capacity, c.self.invariant.listed);
-      noted = omega (arith, c.push_reserved-2.ensures.capacity, c.self.invariant.noted);
       indexable = c.self.invariant.indexable;
-      beside = omega (arith, c.push_reserved.ensures.len, c.push_reserved-2.ensures.len, c.self.invariant.beside);
       counted = c.self.invariant.counted;
-      under = λ st. rw c.push_reserved.ensures.items (under-push (keys a.indexed) a.recent.items c.args.resource (c.self.invariant.under st) (subst (λ (v : LockList). IsUnder v.items c.args.resource) (sym c.self.view_is) c.requires.under));
+      under = λ st. rw (resources-push a.recent.items _ _ c.push_reserved.ensures.items) (under-push (keys a.indexed) (resources_of a.recent.items) c.args.resource (c.self.invariant.under st) (subst (λ (v : LockList). IsUnder v.items c.args.resource) (sym c.self.view_is) c.requires.under));
     }
+
+pub returns : goal.returns
+returns c =
+    let a = c.self.inside in
+    let e = ap (λ (v : LockList). v.items) c.self.view_is in
+    let r = c.args.resource in
+    ap (λ (xs : List (List ℕ)). keys a.indexed ++ xs) (resources-push a.recent.items _ _ c.push_reserved.ensures.items)
+    ∙ (sym (append_assoc (keys a.indexed) (resources_of a.recent.items) (r ∷ [])) ∙ ap (λ (xs : List (List ℕ)). xs ++ r ∷ []) e)
