@@ -1,5 +1,5 @@
 -- The walk of a clean-up comes nearer to the end of the list with each record.
-use Rattle.std.proofs.Common.{◌≡◌, inl, inr, ℕ, zero, suc, ◌+◌, ◌<◌, Bool, cond, Some, None, List, [], ◌∷◌, ◌++◌, length, take, set, refl, sym, ap, ◌∙◌, subst, arith, eq-eqb, ne_eqb}
+use Rattle.std.proofs.Common.{◌≡◌, ◌⊎◌, inl, inr, ⊎_elim, ℕ, zero, suc, ◌+◌, ◌<◌, ◌==◌, Bool, true, false, cond, Some, None, List, [], ◌∷◌, ◌++◌, length, take, drop, set, refl, sym, ap, ◌∙◌, subst, arith, eq-eqb, ne_eqb}
 use Rattle.std.specs.Prelude.{All}
 use Rattle.lock_desk.specs.declared.book.Item.{Item}
 use Rattle.lock_desk.specs.Batches.{IsItemWithin}
@@ -7,9 +7,10 @@ use Rattle.publication.specs.Views.{BoardView}
 use Rattle.publication.specs.Boards.{IsNumber}
 use Rattle.publication.specs.List.{IsOn, AreApart, first_of, behind, without}
 use Rattle.publication.specs.Kinds.{IsRoute}
-use Rattle.publication.proofs.Chains.{on_right, splits, apart_front}
+use Rattle.publication.proofs.Chains.{on_right, splits, apart_front, drop_two}
 use Rattle.publication.proofs.Routes.{on_behind}
 use Rattle.combining.specs.inner.Passes.{AreOpened}
+use Rattle.combining.specs.inner.Ages.{IsUnused, IsCleaned}
 use Rattle.combining.proofs.OpenedRow.{Calls}
 
 behind-here : (q : ℕ) (xs ys : List ℕ) → (IsOn q xs → ⊥) → behind q (xs ++ q ∷ ys) ≡ ys
@@ -72,3 +73,28 @@ first-number board w (x ∷ xs) r e =
     let y : x ≡ w = cc z in
     let on : IsOn w (x ∷ xs) = inl (sym y) in
     let t = r.within w on in (record { some = t.0; few = omega (arith, t.1) }, on)
+
+-- Taking off the record behind `b` leaves all others on the list.
+pub off-left : (b w : ℕ) (route : List ℕ) → IsOn b route → first_of (behind b route) ≡ Some w → (j : ℕ) → IsOn j route → IsOn j (without b route) ⊎ (j ≡ w)
+off-left b w route on next j there =
+    let t = splits b w route on next in
+    subst (λ (r : List ℕ). IsOn j r ⊎ (j ≡ w)) (sym t.without_is) (drop_two j t.front t.rest b w (subst (λ (r : List ℕ). IsOn j r) t.is there))
+
+-- It leaves the first record first.
+pub off-first : (b : ℕ) (route : List ℕ) → first_of (without b route) ≡ first_of route
+off-first b [] = refl
+off-first b (x ∷ xs) = by_test (b == x)
+  where
+    by_test : (t : Bool) → first_of (cond t (x ∷ drop 1 xs) (x ∷ without b xs)) ≡ Some x
+    by_test true = refl
+    by_test false = refl
+
+-- A clean-up that takes off one unused record more.
+pub cleaned-more : (ages : List ℕ) (passes w : ℕ) (unused : Bool) (from before after : List ℕ) → IsCleaned ages passes from before → first_of after ≡ first_of before
+    → ((j : ℕ) → IsOn j before → IsOn j after ⊎ ((j ≡ w) × (unused ≡ true))) → (unused ≡ true → IsUnused ages passes w) → IsCleaned ages passes from after
+cleaned-more ages passes w unused from before after cleaned first left is = record {
+  first = first ∙ cleaned.first;
+  left = λ j on. ⊎_elim
+      (λ there. ⊎_elim (λ still. inl still) (λ off. inr (subst (λ (n : ℕ). IsUnused ages passes n) (sym off.0) (is off.1))) (left j there))
+      (λ unused. inr unused) (cleaned.left j on);
+}

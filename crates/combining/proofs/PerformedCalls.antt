@@ -1,8 +1,8 @@
 -- Calls that were performed on the book and not answered yet.
-use Rattle.std.proofs.Common.{◌≡◌, ℕ, zero, suc, ◌+◌, ◌<◌, ◌≤◌, Some, None, List, [], ◌∷◌, ◌++◌, length, map, get_or, set, take, drop, refl, sym, ap, ◌∙◌, subst, arith, append_assoc, length-append}
+use Rattle.std.proofs.Common.{◌≡◌, ℕ, zero, suc, ◌+◌, ◌-◌, ◌<◌, ◌≤◌, Some, None, List, [], ◌∷◌, ◌++◌, length, map, get_or, set, take, drop, refl, sym, ap, ◌∙◌, subst, arith, append_assoc, length-append}
 use mathlib.Core.List.{IsPrefix}
-use Rattle.std.proofs.lemmas.List.{get_or-take, length-take-le}
-use Rattle.std.proofs.Math.Seq.{drop-cons, take-append_seam}
+use Rattle.std.proofs.lemmas.List.{append-nil, get_or-take, length-take-le}
+use Rattle.std.proofs.Math.Seq.{drop-cons, take-append_seam, drop-append_seam}
 use Rattle.lock_rules.specs.declared.calls.Reply.{Reply}
 use Rattle.lock_rules.specs.declared.calls.Entry.{Entry}
 use Rattle.lock_rules.specs.State.{State}
@@ -16,6 +16,7 @@ use Rattle.publication.specs.Views.{TicketView, entry}
 use Rattle.publication.specs.Boards.{asked_at}
 use Rattle.publication.specs.Kinds.{called}
 use Rattle.combining.specs.inner.Passes.{AreOpened, KeepsCalls, IsBookInHand}
+use Rattle.combining.specs.inner.Ages.{sessions_of, sessions_since, noted}
 use Rattle.combining.proofs.CallsToServe.{answered, calls-answer}
 use Rattle.combining.proofs.OpenedRow.{Calls}
 
@@ -42,7 +43,7 @@ opened-performed n l st k len row cells items after all same performed long read
     subst (λ (is : List Item). AreOpened n l is) (sym (whole ∙ (performed ∙ ap (λ (is : List Item). items_after st k is) same))) (opened-after n l row k st all)
 
 -- The rest of a row from index k on begins with item k.
-drop-next : (row : List Item) (k : ℕ) (i : Item) → k < length row → i ≡ get_or row k i → drop k row ≡ i ∷ drop (k + 1) row
+pub drop-next : (row : List Item) (k : ℕ) (i : Item) → k < length row → i ≡ get_or row k i → drop k row ≡ i ∷ drop (k + 1) row
 drop-next row k i few here = drop-cons row k i few ∙ (ap (λ (x : Item). x ∷ drop (suc k) row) (sym here) ∙ ap (λ (m : ℕ). i ∷ drop m row) (let one : suc k ≡ k + 1 = omega arith in one))
 
 -- A performed call can be answered: its item has a reply, the history with its entry is legal,
@@ -113,3 +114,28 @@ answered-at n book t u row served k i reply most few here told legal h all is =
       count = ap (λ (es : List Entry). length es) known ∙ length-append t.front (told_entry ∷ []);
       calls = subst (λ (x : TicketView). KeepsCalls t x) (sym is) (calls-answer t i.session reply i.call opened.1);
     }
+
+-- No entries stand for no items.
+no-entries : (es : List Entry) → [] ≡ map item_of es → es ≡ []
+no-entries [] p = refl
+no-entries (e ∷ es) p = absurd (cc p)
+
+-- Items made of entries are of the entries' sessions.
+sessions-same : (es : List Entry) → map (λ (e : Entry). e.session) es ≡ sessions_of (map item_of es)
+sessions-same [] = refl
+sessions-same (e ∷ es) = ap (λ (js : List ℕ). e.session ∷ js) (sessions-same es)
+
+-- Once all performed calls are answered, the entries that the known history gained are of their sessions, in order.
+pub all-entered : (n : ℕ) (book : BookView) (t u : TicketView) (row : List Item) → IsBookInHand n book t row → IsBookInHand n book u []
+    → sessions_since (length t.front) u.front ≡ sessions_of row
+all-entered n book t u row before after =
+    let none = no-entries after.entries after.performed in
+    let whole : u.front ≡ t.front ++ before.entries = sym (after.history ∙ (ap (λ (es : List Entry). u.front ++ es) none ∙ append-nil u.front)) ∙ before.history in
+    let gained : drop (length t.front) u.front ≡ before.entries = ap (λ (f : List Entry). drop (length t.front) f) whole ∙ drop-append_seam t.front before.entries in
+    ap (λ (es : List Entry). map (λ (e : Entry). e.session) es) gained ∙ (sessions-same before.entries ∙ ap sessions_of (sym before.performed))
+
+-- Noting the age of the session at index k leaves those behind it to be noted.
+pub noted-next : (ages after : List ℕ) (passes : ℕ) (row : List Item) (k : ℕ) (i : Item) → k < length row → i ≡ get_or row k i → after ≡ set ages (i.session - 1) passes
+    → noted after (sessions_of (drop (k + 1) row)) passes ≡ noted ages (sessions_of (drop k row)) passes
+noted-next ages after passes row k i few here is =
+    ap (λ (l : List ℕ). noted l (sessions_of (drop (k + 1) row)) passes) is ∙ sym (ap (λ (r : List Item). noted ages (sessions_of r) passes) (drop-next row k i few here))

@@ -1,11 +1,12 @@
 //! The ages of publication records, and the clean-up: a record that no pass has served for a while is taken off the
 //! publication list.
 
-ghost use Rattle.std.specs.Prelude.{◌≡◌, ◌≤◌, ◌<◌, ◌+◌, true, Some, length, vec_len, All};
+ghost use Rattle.std.specs.Prelude.{◌≡◌, ◌≢◌, ◌≤◌, ◌<◌, ◌+◌, ◌%◌, ◌⊎◌, ◌↔◌, true, false, Some, IsTrue, length, vec_len, All};
 ghost use Rattle.lock_desk.specs.Batches.{IsItemWithin};
 ghost use Rattle.publication.specs.Boards.{IsOf, IsNumber};
 ghost use Rattle.publication.specs.List.{IsOn, first_of, behind};
 ghost use Rattle.publication.specs.Kinds.{IsRoute};
+ghost use Rattle.combining.specs.inner.Ages.{sessions_of, noted, IsUnused, IsCleaned};
 
 use lock_desk::Item;
 use publication::{Board, Ticket};
@@ -14,10 +15,11 @@ use publication::{Board, Ticket};
 /// `PASSES_KEPT` passes ago.
 const PASSES_KEPT: u64 = 64;
 
-/// Sets the age of each session that a pass served to the number of that pass.
+/// Sets the age of each session that a pass served to the number of that pass. The other ages stay.
 pub(crate) fn note_served(ages: &mut Vec<u64>, served: &[Item], passes: u64)
     requires within { All (IsItemWithin (vec_len ages.old)) served.now }
-    ensures ages { vec_len ages.new ≡ vec_len ages.old }
+    ensures ages { ages.new.items ≡ noted ages.old.items (sessions_of served.now) passes }
+    ensures len { vec_len ages.new ≡ vec_len ages.old }
 {
     for item in served {
         ages[usize::from(item.session) - 1] = passes;
@@ -27,6 +29,7 @@ pub(crate) fn note_served(ages: &mut Vec<u64>, served: &[Item], passes: u64)
 /// Whether record `whose` was last served more than `PASSES_KEPT` passes ago.
 fn is_unused(ages: &[u64], whose: u16, passes: u64) -> bool
     requires whose { (0 < whose) × (whose ≤ length ages.now) }
+    ensures { IsTrue result ↔ IsUnused ages.now passes whose }
 {
     ages[usize::from(whose) - 1].saturating_add(PASSES_KEPT) < passes
 }
@@ -45,6 +48,9 @@ fn unlink_if_unused(
     requires whose { IsNumber board.now whose × (first_of (behind before session.old.route) ≡ Some whose) }
     requires route { IsRoute (board.now.sessions + 1) session.old.route }
     ensures session { session.new ≡ record session.old { route = session.new.route } }
+    ensures in_use { unused ≡ false → session.new ≡ session.old }
+    ensures first { first_of session.new.route ≡ first_of session.old.route }
+    ensures left { (j : _) → IsOn j session.old.route → IsOn j session.new.route ⊎ ((j ≡ whose) × (unused ≡ true)) }
     ensures on { IsNumber board.now result × IsOn result session.new.route }
     ensures shorter { length (behind result session.new.route) < length (behind before session.old.route) }
 {
@@ -54,19 +60,16 @@ fn unlink_if_unused(
     whose
 }
 
-/// Every `PASSES_KEPT` passes, walks the publication list once and takes off each unused record except the first,
-/// which can't be taken off.
-pub(crate) fn clean_up(board: &Board, session: &mut Ticket, ages: &[u64], passes: u64)
+/// Walks on from the first record of the publication list, and takes off each unused record behind it.
+fn unlink_unused(board: &Board, session: &mut Ticket, first: u16, ages: &[u64], passes: u64)
     requires ours { IsOf board.now session.old × (session.old.has_book ≡ true) }
     requires ages { length ages.now ≡ board.now.sessions }
+    requires route { IsRoute (board.now.sessions + 1) session.old.route }
+    requires first { first_of session.old.route ≡ Some first }
     ensures session { session.new ≡ record session.old { route = session.new.route } }
+    ensures route { IsRoute (board.now.sessions + 1) session.new.route }
+    ensures left { IsCleaned ages.now passes session.old.route session.new.route }
 {
-    if passes % PASSES_KEPT != 0 {
-        return;
-    }
-    let Some(first) = board.walk(session, None) else {
-        return;
-    };
     let mut before = first;
     let mut next = board.walk(session, Some(before));
     while let Some(whose) = next {
@@ -74,4 +77,22 @@ pub(crate) fn clean_up(board: &Board, session: &mut Ticket, ages: &[u64], passes
         before = unlink_if_unused(board, session, before, whose, unused);
         next = board.walk(session, Some(before));
     }
+}
+
+/// Every `PASSES_KEPT` passes, walks the publication list once and takes off each unused record except the first,
+/// which can't be taken off.
+pub(crate) fn clean_up(board: &Board, session: &mut Ticket, ages: &[u64], passes: u64)
+    requires ours { IsOf board.now session.old × (session.old.has_book ≡ true) }
+    requires ages { length ages.now ≡ board.now.sessions }
+    ensures session { session.new ≡ record session.old { route = session.new.route } }
+    ensures not_due { passes % 64 ≢ 0 → session.new ≡ session.old }
+    ensures due { passes % 64 ≡ 0 → IsRoute (board.now.sessions + 1) session.new.route }
+{
+    if passes % PASSES_KEPT != 0 {
+        return;
+    }
+    let Some(first) = board.walk(session, None) else {
+        return;
+    };
+    unlink_unused(board, session, first, ages, passes);
 }

@@ -11,4 +11,4 @@ mod office;
 mod pass;
 
 pub use office::{Answer, Office, OpenFault, Turn};
-pub use publication::{CloseFault, Posted, Ticket as Session};
+pub use publication::{CloseFault, Knowledge, Posted, Ticket as Session};

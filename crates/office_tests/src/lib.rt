@@ -3,14 +3,23 @@
 #![tactic(auto)]
 
 #[cfg(test)]
+mod ages;
+#[cfg(test)]
 mod boards;
 #[cfg(test)]
 mod closing;
+#[cfg(test)]
+mod dropping;
 #[cfg(test)]
 mod hearing;
 #[cfg(test)]
 mod listing;
 #[cfg(test)]
 mod offices;
+pub mod own_office;
+#[cfg(test)]
+mod refusals;
 #[cfg(test)]
 mod steps;
+#[cfg(test)]
+mod threads;

@@ -1,9 +1,9 @@
 //! Steps of the sessions of an office, as lists that one loop performs and checks.
 
-ghost use Rattle.std.specs.Prelude.{All};
-ghost use Rattle.combining.specs.Sessions.{IsSessionOf};
+ghost use Rattle.std.specs.Prelude.{◌<◌, All, length};
+ghost use Rattle.combining.specs.Sessions.{IsSessionOf, IsIdle};
 
-use crate::offices::{answer, call_alone, new_office, served_by};
+use crate::offices::{answer, new_office, served_in_all};
 use combining::{Office, Posted, Session};
 use lock_desk::{Call, Reply};
 use std::alloc::Global;
@@ -21,12 +21,19 @@ pub(crate) enum Step {
     Collects(u64, Reply),
     /// Publishes this call, serves it in a pass that serves no other, and collects the answer with this place and this reply.
     CallsAlone(Call, u64, Reply),
+    /// Polls in an open transaction, each time in a pass that serves no other call. The first poll has the first of these
+    /// places, and the last poll has the place before the second one.
+    PollsAlone(u64, u64),
     /// Checks that there is no answer, and that the session's call is pending.
     IsPending,
     /// Checks that there is no answer, and that the session may publish.
     IsIdle,
     /// Checks the number of entries of the history that the session has seen.
     HasSeen(u64),
+    /// Retires.
+    Retires,
+    /// Is dropped, whether or not a call is pending.
+    IsDropped,
 }
 
 /// Publishes a call of an idle session, and expects its record to be on the list.
@@ -38,20 +45,47 @@ fn publish(rt: &impl Abort, office: &Office, session: &mut Session, call: Call)
     assert_eq!(rt; office.publish(session, call), Posted::Listed);
 }
 
-/// Publishes a call of an idle session, serves and collects it, and expects this answer.
-fn want_call_alone(
+/// Publishes a call of an idle session, serves and collects it, and expects this answer. Adds a starved pass to `starved`.
+fn call_alone(
     rt: &impl Abort,
     office: &Office,
     session: &mut Session,
     call: Call,
     place: u64,
     reply: Reply,
+    starved: &mut u32,
 )
     requires ours { IsSessionOf office.now session.old }
     ensures ours { IsSessionOf office.now session.new }
 {
-    assert!(rt; session.is_idle());
-    assert_eq!(rt; call_alone(rt, office, session, call), answer(place, reply));
+    publish(rt, office, session, call);
+    assert_eq!(rt; served_in_all(rt, office, session, starved), 1);
+    assert_eq!(rt; office.collect(session), Some(answer(place, reply)));
+}
+
+/// Polls at each place from `first` up to the one before `end`. Adds starved passes to `starved`.
+fn poll_alone(
+    rt: &impl Abort,
+    office: &Office,
+    session: &mut Session,
+    first: u64,
+    end: u64,
+    starved: &mut u32,
+)
+    requires ours { IsSessionOf office.now session.old }
+    ensures ours { IsSessionOf office.now session.new }
+{
+    for place in first..end {
+        call_alone(
+            rt,
+            office,
+            session,
+            Call::Poll,
+            place,
+            Reply::Clear,
+            starved,
+        );
+    }
 }
 
 /// Expects no answer, and the session to be idle or not.
@@ -63,41 +97,91 @@ fn find_nothing(rt: &impl Abort, office: &Office, session: &mut Session, idle: b
     assert_eq!(rt; session.is_idle(), idle);
 }
 
-/// Performs one step of a session.
-fn perform_step(rt: &impl Abort, office: &Office, session: &mut Session, step: Step)
+/// Retires an idle session.
+fn retire(rt: &impl Abort, office: &Office, session: &mut Session)
+    requires ours { IsSessionOf office.now session.old }
+    ensures ours { IsSessionOf office.now session.new }
+{
+    assert!(rt; session.is_idle());
+    office.retire(session);
+}
+
+/// Performs one step of a session that stays. Adds starved passes to `starved`.
+fn perform_step(
+    rt: &impl Abort,
+    office: &Office,
+    session: &mut Session,
+    step: Step,
+    starved: &mut u32,
+)
     requires ours { IsSessionOf office.now session.old }
     ensures ours { IsSessionOf office.now session.new }
 {
     match step {
         Step::Publishes(call) => publish(rt, office, session, call),
-        Step::Serves(served) => assert_eq!(rt; served_by(rt, office, session), served),
+        Step::Serves(served) => {
+            assert_eq!(rt; served_in_all(rt, office, session, starved), served);
+        }
         Step::Collects(place, reply) => {
             assert_eq!(rt; office.collect(session), Some(answer(place, reply)));
         }
-        Step::CallsAlone(call, place, reply) => want_call_alone(
-            rt, office, session, call, place, reply,
+        Step::CallsAlone(call, place, reply) => call_alone(
+            rt, office, session, call, place, reply, starved,
         ),
+        Step::PollsAlone(first, end) => poll_alone(rt, office, session, first, end, starved),
         Step::IsPending => find_nothing(rt, office, session, false),
         Step::IsIdle => find_nothing(rt, office, session, true),
         Step::HasSeen(entries) => assert_eq!(rt; session.seen(), entries),
+        Step::Retires => retire(rt, office, session),
+        Step::IsDropped => panic!(rt; "the session is gone"),
     }
 }
 
-/// Performs the steps in order, each by the session with its number, counted from 1.
+/// Returns the index of the session with this number.
+fn index_of(rt: &impl Abort, sessions: &[Session], number: u16) -> usize
+    ensures { result < length sessions.now }
+{
+    let index = sessions
+        .iter()
+        .position(|session| session.number() == number);
+    index.expect(rt, "the session is there")
+}
+
+/// Performs one step of the session with this number. Adds starved passes to `starved`.
+fn perform_one(
+    rt: &impl Abort,
+    office: &Office,
+    sessions: &mut Vec<Session>,
+    number: u16,
+    step: Step,
+    starved: &mut u32,
+)
+    requires ours { All (IsSessionOf office.now) sessions.old.items }
+    ensures ours { All (IsSessionOf office.now) sessions.new.items }
+{
+    let at = index_of(rt, sessions.as_slice(), number);
+    if let Step::IsDropped = step {
+        drop(sessions.remove(at));
+        return;
+    }
+    perform_step(rt, office, &mut sessions[at], step, starved);
+}
+
+/// Performs the steps in order, each by the session with its number. Returns the number of starved passes.
 pub(crate) fn perform(
     rt: &impl Abort,
     office: &Office,
     sessions: &mut Vec<Session>,
     steps: &[(u16, Step)],
-)
+) -> u32
     requires ours { All (IsSessionOf office.now) sessions.old.items }
     ensures ours { All (IsSessionOf office.now) sessions.new.items }
 {
+    let mut starved = 0;
     for (session, step) in steps {
-        assert!(rt; 1 <= *session && usize::from(*session) <= sessions.len());
-        let at = usize::from(*session) - 1;
-        perform_step(rt, office, &mut sessions[at], *step);
+        perform_one(rt, office, sessions, *session, *step, &mut starved);
     }
+    starved
 }
 
 /// Performs the steps in order in a fresh office of `sessions` sessions. Fails if the office can't be opened.
@@ -108,6 +192,6 @@ pub(crate) fn perform_in_office(
     steps: &[(u16, Step)],
 ) -> Result<(), Fail> {
     let (office, mut sessions) = new_office(alloc, sessions)?;
-    perform(rt, &office, &mut sessions, steps);
+    let _starved = perform(rt, &office, &mut sessions, steps);
     Ok(())
 }

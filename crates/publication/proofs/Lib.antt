@@ -20,3 +20,11 @@ pub mod SplitsAndJoins
 pub mod Learning
 pub mod Closed
 pub mod Gathering
+pub mod ToldIsHeld
+pub mod ToldTogether
+pub mod HoldsAsTold
+pub mod CarriedSlots
+pub mod BoardHistory
+pub mod HistorySteps
+pub mod SessionsGoOn
+pub mod RealTime

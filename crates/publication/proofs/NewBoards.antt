@@ -51,7 +51,8 @@ module _ (n : ℕ) (load : Box Load) (ready : IsHome [] (n + 1) load.value) wher
   each : (P : View → Type 0) → P first → P blank → (k : ℕ) → P (seat laid_out k)
   each = first_seats first
 
-  words_zero : (i : ℕ) → word laid_out i ≡ 0
+  -- Each state word is 0.
+  pub words_zero : (i : ℕ) → word laid_out i ≡ 0
   words_zero i = get_or-set_other (replicate (word_of (n + 1)) 0) 1 (word_of i) END 0 (λ e. omega (arith, e)) ∙ same_all (word_of (n + 1)) (word_of i) 0
 
   vacant_first : (i : ℕ) → IsVacant [] i OUT (opt.some Empty) fresh

@@ -98,6 +98,15 @@ pub record TicketView : Type 0 where
   -- the records that the walk of the publication list meets
   pub route : List ℕ
 
+-- What contracts see of a session's knowledge that travels apart from its ticket.
+pub record KnowledgeView : Type 0 where
+  -- the board
+  pub board : TableId
+  -- the front of the history that the session knew
+  pub front : List Entry
+  -- at each session's number, how many calls of that session were known to be published
+  pub heard : List ℕ
+
 -- The history entry of a session's call with its reply.
 abbrev pub entry : ℕ → Call → Reply → Entry
 entry session call reply = record { session = session; call = call; reply = reply }

@@ -7,11 +7,12 @@ ghost use Rattle.lock_rules.specs.Legal.{IsLegal, calls_of};
 ghost use Rattle.publication.specs.inner.Tickets.{IsBoard};
 ghost use Rattle.publication.specs.Views.{entry, answer, asks};
 ghost use Rattle.publication.specs.Rule.{maker, new_session};
-ghost use Rattle.publication.specs.Kinds.{Took, longer, maxes};
+ghost use Rattle.publication.specs.Kinds.{Took};
 ghost use Rattle.publication.specs.Boards.{IsOf, heard_from, published_by, new_ticket, new_tickets, publishing, enlisted, IsEachOnce, IsSettled, AccountsFor};
 ghost use Rattle.publication.specs.inner.Closing.{is_settled, handed_by, WereHanded, AreEnded};
 
 mod combiner;
+mod knowledge;
 
 use crate::closing::{CloseFault, are_settled, close_table, is_each_once};
 use crate::kinds::{BoardRule, Start};
@@ -22,6 +23,7 @@ use crate::steps::{Seat, Shared};
 use crate::view::View;
 use crate::words::{END, HEAD, WORDS_APART};
 use atomic_table::{Refused, Table};
+pub use knowledge::Knowledge;
 use lock_desk::{Book, Call, NoMemory, Reply};
 use std::alloc::{AllocError, Global};
 use std::marker::Model;
@@ -312,23 +314,6 @@ impl Board {
         ticket.is_pending = false;
         ticket.seen = u64::max(ticket.seen, place + 1);
         Some((place, reply))
-    }
-
-    /// Lets the session of `ticket` learn what `other` knows: the longer of their fronts of the history, and for each
-    /// session the larger number of calls that either has heard of. `other` learns nothing.
-    pub fn hear(&self, ticket: &mut Ticket, other: &mut Ticket)
-        requires ours { IsOf self.now ticket.old × IsOf self.now other.old }
-        ensures other { other.new ≡ other.old }
-        ensures ticket { ticket.new ≡ record ticket.old {
-          front = longer ticket.old.front other.old.front;
-          heard = maxes ticket.old.heard other.old.heard;
-        } }
-        ensures fronts { IsPrefix ticket.old.front ticket.new.front × IsPrefix other.old.front ticket.new.front }
-        ensures legal { IsLegal ticket.new.front }
-        ensures heard { (j : _) → heard_from ticket.new j ≡ max (heard_from ticket.old j) (heard_from other.old j) }
-    {
-        steps::hear_seat(&self.table.shared, &mut ticket.seat, &mut other.seat);
-        ticket.seen = u64::max(ticket.seen, other.seen);
     }
 
     /// Retires the session: it publishes no more calls.

@@ -12,12 +12,13 @@
 mod board;
 mod closing;
 mod kinds;
+pub mod laws;
 mod new_board;
 mod slot;
 mod steps;
 mod view;
 mod words;
 
-pub use board::{Board, Posted, Ticket};
+pub use board::{Board, Knowledge, Posted, Ticket};
 pub use closing::CloseFault;
 pub use slot::Load;

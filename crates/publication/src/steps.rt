@@ -5,7 +5,7 @@ ghost use Rattle.atomic_table.specs.Table.{rest};
 ghost use Rattle.lock_rules.specs.Legal.{IsLegal};
 ghost use Rattle.publication.specs.Views.{entry};
 ghost use Rattle.publication.specs.Rule.{IsHome};
-ghost use Rattle.publication.specs.List.{IsOn, AreApart, head_of, first_of, behind, without};
+ghost use Rattle.publication.specs.List.{IsOn, AreApart, first_of, behind};
 ghost use Rattle.publication.specs.Kinds.{IsUnanswered, HasOthers, HasAnother, HasEntered, opened_in, call_at, posting, enlisting, losing_head, routing, bypassing, none_unlinked, relinking, IsRoute, MeetsAll, HasTaken, Seized, seizing, releasing, opening, Opened, in_hand, answering, putting_back, copy_of, joined, hearing, Learned, retiring, gathered};
 ghost use Rattle.publication.specs.inner.Tickets.{IsBoard, IsAt, IsCombiner};
 
@@ -364,8 +364,22 @@ pub(crate) fn split_copy(shared: &Shared, seat: &mut Seat) -> Seat
     shared.split_seat::<SplitCopy>(seat)
 }
 
-/// Lets a session learn what another seat knows: a copy is split off that seat and joined into the session's. A load
-/// afterwards shows that both fronts begin the history, so the longer one is a front of it.
+/// Lets a session learn what a copy of another seat knows. The copy is joined into the session's seat; a load afterwards
+/// shows that both fronts begin the history, so the longer one is a front of it.
+pub(crate) fn heed_seat(shared: &Shared, seat: &mut Seat, copy: Seat)
+    requires ours { (seat.old.table_id ≡ shared.now.table_id) × (copy.table_id ≡ shared.now.table_id) }
+    requires board { IsBoard shared.now.table_id }
+    requires session { 0 < seat.old.me.0.number }
+    requires copy { copy.me ≡ (copy_of copy.me.0, []) }
+    ensures ours { seat.new.table_id ≡ seat.old.table_id }
+    ensures step { seat.new.me ≡ (hearing seat.old.me.0 copy.me.0, seat.old.me.1) }
+    ensures learned { Learned (joined seat.old.me.0 (copy_of copy.me.0)) }
+{
+    shared.join_seat::<JoinCopy>(seat, copy);
+    shared.load::<Learn>(seat, 0);
+}
+
+/// Lets a session learn what another seat knows: a copy is split off that seat, and heeded.
 pub(crate) fn hear_seat(shared: &Shared, seat: &mut Seat, other: &mut Seat)
     requires ours { (seat.old.table_id ≡ shared.now.table_id) × (other.old.table_id ≡ shared.now.table_id) }
     requires board { IsBoard shared.now.table_id }
@@ -378,8 +392,7 @@ pub(crate) fn hear_seat(shared: &Shared, seat: &mut Seat, other: &mut Seat)
     ensures learned { Learned (joined seat.old.me.0 (copy_of other.old.me.0)) }
 {
     let copy = split_copy(shared, other);
-    shared.join_seat::<JoinCopy>(seat, copy);
-    shared.load::<Learn>(seat, 0);
+    heed_seat(shared, seat, copy);
 }
 
 /// Closes the session's own record: it publishes no more calls.

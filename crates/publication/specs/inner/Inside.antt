@@ -1,9 +1,12 @@
--- How the private fields of a board and of a ticket give what contracts see, and the invariants of both types.
-use Rattle.std.specs.Prelude.{◌≡◌, ◌+◌, ◌<◌}
-use Rattle.publication.specs.Views.{BoardView, TicketView}
+-- How the private fields of a board, of a ticket and of a knowledge give what contracts see, and the invariants of the
+-- three types.
+use Rattle.std.specs.Prelude.{◌≡◌, ◌+◌, ◌<◌, [], length}
+use Rattle.publication.specs.Views.{BoardView, TicketView, KnowledgeView}
+use Rattle.publication.specs.Kinds.{copy_of}
 use Rattle.publication.specs.inner.Tickets.{IsBoard, IsBetweenCalls}
 use Rattle.publication.specs.declared.board.Board.TheInside.{Inside as BoardInside}
 use Rattle.publication.specs.declared.board.Ticket.TheInside.{Inside as TicketInside}
+use Rattle.publication.specs.declared.board.knowledge.Knowledge.TheInside.{Inside as KnowledgeInside}
 
 -- What contracts see of the board.
 abbrev pub board_view_of : BoardInside → BoardView
@@ -35,3 +38,12 @@ ticket_view_of t = record {
 pub record IsTicketState (t : TicketInside) : Type 0 where
   pub small : t.number < t.seat.table_id.slots
   pub settled : IsBetweenCalls t.seat.me t.number t.seen t.has_book t.is_pending t.is_listed t.is_retired
+
+-- What contracts see of a knowledge.
+abbrev pub knowledge_view_of : KnowledgeInside → KnowledgeView
+knowledge_view_of k = record { board = k.seat.table_id; front = k.seat.me.0.front; heard = k.seat.me.0.heard }
+
+-- The knowledge's seat is a copy of a session's seat and carries no slot; `seen` counts the entries that it knows.
+pub record IsCopy (k : KnowledgeInside) : Type 0 where
+  pub copied : k.seat.me ≡ (copy_of k.seat.me.0, [])
+  pub seen_is : length k.seat.me.0.front ≡ k.seen

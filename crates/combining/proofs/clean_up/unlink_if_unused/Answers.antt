@@ -1,7 +1,7 @@
-use Rattle.std.proofs.Common.{rules, ◌≡◌, ◌<◌, ℕ, List, length, sym, ap, subst}
+use Rattle.std.proofs.Common.{rules, ◌≡◌, ◌∙◌, ⊎_elim, inl, inr, ◌<◌, ℕ, List, length, sym, ap, subst}
 use Rattle.publication.specs.Views.{TicketView}
-use Rattle.publication.specs.List.{IsOn, behind, without}
-use Rattle.combining.proofs.CleanUpWalk.{off-shorter, on-shorter}
+use Rattle.publication.specs.List.{IsOn, first_of, behind, without}
+use Rattle.combining.proofs.CleanUpWalk.{off-shorter, on-shorter, off-left, off-first}
 use Rattle.combining.proofs.clean_up.unlink_if_unused.Goals as goal
 use Rattle.combining.proofs.clean_up.unlink_if_unused.Goals.{else-unused-via-then-unused+else-unlink, else-unused-via-else-unused}
 
@@ -11,6 +11,19 @@ returns-then-unlink-clause-on c =
     let route = c.args.session.now.route in
     let is : c.unlink.new.ticket.route ≡ without b route = ap (λ (t : TicketView). t.route) (c.unlink.ensures.off c.if-unlink.true) in
     (c.requires.before.0, subst (λ (r : List ℕ). IsOn b r) (sym is) (off-shorter b c.args.whose route c.requires.route.apart c.requires.before.1 c.requires.whose.1).0)
+
+pub returns-then-unlink-clause-first : goal.returns-then-unlink-clause-first
+returns-then-unlink-clause-first c =
+    let route = c.args.session.now.route in
+    let is : c.unlink.new.ticket.route ≡ without c.args.before route = ap (λ (t : TicketView). t.route) (c.unlink.ensures.off c.if-unlink.true) in
+    ap (λ (r : List ℕ). first_of r) is ∙ off-first c.args.before route
+
+pub returns-then-unlink-clause-left : goal.returns-then-unlink-clause-left
+returns-then-unlink-clause-left c j on =
+    let route = c.args.session.now.route in
+    let is : c.unlink.new.ticket.route ≡ without c.args.before route = ap (λ (t : TicketView). t.route) (c.unlink.ensures.off c.if-unlink.true) in
+    ⊎_elim (λ still. inl (subst (λ (r : List ℕ). IsOn j r) (sym is) still)) (λ off. inr (off, c.if-unused.true))
+    (off-left c.args.before c.args.whose route c.requires.before.1 c.requires.whose.1 j on)
 
 pub returns-then-unlink-clause-shorter : goal.returns-then-unlink-clause-shorter
 returns-then-unlink-clause-shorter c =

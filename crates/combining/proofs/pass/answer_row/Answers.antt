@@ -1,7 +1,10 @@
-use Rattle.std.proofs.Common.{rules, take, refl}
+use Rattle.std.proofs.Common.{rules, ◌≤◌, List, length, take, refl, subst, arith}
+use Rattle.std.proofs.Math.ListN.{drop_of_length-le}
+use Rattle.lock_desk.specs.declared.book.Item.{Item}
 use Rattle.publication.proofs.Lists.{prefix_trans}
+use Rattle.combining.specs.inner.Passes.{IsBookInHand}
 use Rattle.combining.proofs.CallsToServe.{answered, keeps-trans}
-use Rattle.combining.proofs.PerformedCalls.{answerable-at, answered-at}
+use Rattle.combining.proofs.PerformedCalls.{answerable-at, answered-at, all-entered}
 use Rattle.combining.proofs.pass.answer_row.Goals as goal
 
 pub unreachable-requires : goal.unreachable-requires
@@ -34,3 +37,11 @@ loop-item-preserved c =
       entries = search rules;
       calls = keeps-trans before t u i.calls next.calls;
     }
+
+pub returns-clause-whose : goal.returns-clause-whose
+returns-clause-whose c =
+    let n = c.args.board.now.sessions in
+    let row : List Item = take c.args.served c.args.row.now in
+    let all : length row ≤ c.loop-item.item-index = omega arith in
+    let done = subst (λ (l : List Item). IsBookInHand n c.args.book.now c.loop-item.session l) (drop_of_length-le row all) c.loop-item.invariant.book in
+    all-entered n c.args.book.now c.args.session.now c.loop-item.session row c.requires.book done

@@ -1,5 +1,5 @@
 use Rattle.combining.specs.Sessions.{IsSessionOf, IsIdle}
-use Rattle.office_tests.proofs.offices.work.Given as goal
+use Rattle.office_tests.proofs.threads.work.Given as goal
 
 -- the session belongs to the office and is idle
 abbrev pub invariant-loop-call : goal.invariant-loop-call

@@ -2,7 +2,8 @@ use Rattle.std.proofs.Common.{◌≡◌, ◌+◌, length}
 use Rattle.publication.specs.Boards.{IsNumber}
 use Rattle.publication.specs.List.{IsOn, first_of, behind}
 use Rattle.publication.specs.Kinds.{IsRoute}
-use Rattle.combining.proofs.clean_up.clean_up.Given as goal
+use Rattle.combining.specs.inner.Ages.{IsCleaned}
+use Rattle.combining.proofs.clean_up.unlink_unused.Given as goal
 
 abbrev pub invariant-loop-next : goal.invariant-loop-next
 invariant-loop-next l = record {
@@ -10,6 +11,7 @@ invariant-loop-next l = record {
   route : IsRoute (l.board.sessions + 1) l.session.route;
   before : IsNumber l.board l.before × IsOn l.before l.session.route;
   next : l.next ≡ first_of (behind l.before l.session.route);
+  cleaned : IsCleaned l.ages l.passes l.initial.session.route l.session.route;
 }
 
 abbrev pub decreases-loop-next : goal.decreases-loop-next

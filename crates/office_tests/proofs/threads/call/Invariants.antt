@@ -1,5 +1,5 @@
 use Rattle.combining.specs.Sessions.{IsSessionOf}
-use Rattle.office_tests.proofs.offices.call.Given as goal
+use Rattle.office_tests.proofs.threads.call.Given as goal
 
 -- the session belongs to the office
 abbrev pub invariant-loop-turn : goal.invariant-loop-turn

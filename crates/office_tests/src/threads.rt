@@ -1,0 +1,300 @@
+//! One history has all answers of many threads.
+
+ghost use Rattle.std.specs.Prelude.{◌≡◌, All, IfOk, IfSome};
+ghost use Rattle.combining.specs.Sessions.{IsSessionOf, IsIdle};
+
+use combining::{Answer, Office, Session};
+use lock_desk::{Book, Call, Entry, Mode, NoMemory, Reply, Resource, Why};
+use std::alloc::{AllocError, Global};
+use std::process::Abort;
+use std::test::Fail;
+use std::thread;
+use std::thread::Threads;
+
+/// The greatest number of tries for one answer.
+const TURNS: u64 = 1_000_000_000;
+
+/// The calls of the sessions in a test with threads.
+#[derive(Clone, Copy)]
+enum Load {
+    /// Polls alone, without transactions.
+    Polls,
+    /// Random calls: begins, locks, polls, commits and aborts.
+    Transactions,
+}
+
+/// A generator of the calls of one session, by pseudorandom numbers.
+#[derive(Drop)]
+pub(crate) struct Caller {
+    /// The kind of calls.
+    load: Load,
+    /// The state of the pseudorandom numbers.
+    state: u64,
+}
+
+impl Caller {
+    /// Returns a generator of polls.
+    pub(crate) fn polls(seed: u64) -> Caller {
+        Caller {
+            load: Load::Polls,
+            state: seed,
+        }
+    }
+
+    /// Returns the next pseudorandom number, below 2^31.
+    pub(crate) fn number(&mut self) -> u64 {
+        self.state = self
+            .state
+            .wrapping_mul(6_364_136_223_846_793_005)
+            .wrapping_add(1_442_695_040_888_963_407);
+        self.state >> 33
+    }
+
+    /// Returns the next call; locks are on three databases in X or S.
+    fn next(&mut self) -> Option<Call> {
+        let Load::Transactions = self.load else {
+            return Some(Call::Poll);
+        };
+        let mode = if self.number() % 3 == 0 {
+            Mode::X
+        } else {
+            Mode::S
+        };
+        match self.number() % 8 {
+            0 => Some(Call::Begin),
+            1 | 2 | 3 => {
+                let numbers = [(self.number() % 3) as u32];
+                Some(Call::Lock(Resource::from_numbers(&numbers)?, mode))
+            }
+            4 | 5 => Some(Call::Poll),
+            6 => Some(Call::Commit),
+            _ => Some(Call::Abort),
+        }
+    }
+}
+
+/// A call with its answer.
+#[derive(Clone, Copy)]
+struct Answered {
+    /// The place of the call in the history.
+    place: u64,
+    /// The session's number.
+    session: u16,
+    /// The call.
+    call: Call,
+    /// The reply.
+    reply: Reply,
+}
+
+/// Returns a call with its answer.
+fn with_answer(session: u16, call: Call, answer: Answer) -> Answered {
+    Answered {
+        place: answer.place,
+        session,
+        call,
+        reply: answer.reply,
+    }
+}
+
+/// Publishes a call, and serves and collects until the answer is there. Returns `None` after `TURNS` tries.
+pub(crate) fn call(office: &Office, session: &mut Session, call: Call) -> Option<Answer>
+    requires ours { IsSessionOf office.now session.old × IsIdle session.old }
+    ensures ours { IsSessionOf office.now session.new }
+    ensures idle { IfSome result (λ _. IsIdle session.new) }
+{
+    let _posted = office.publish(session, call);
+    for _turn in 0..TURNS {
+        let _turn = office.serve(session);
+        let answer = office.collect(session);
+        if answer.is_some() {
+            return answer;
+        }
+        thread::yield_now();
+    }
+    None
+}
+
+/// A session with the answers that it collected.
+#[derive(Drop)]
+struct Worked {
+    /// The session, which the thread gives back.
+    session: Session,
+    /// Its answers, oldest first.
+    answers: Vec<Answered>,
+}
+
+/// Makes `calls` calls, one after another, and returns the session with their answers. Stops early if an answer doesn't come,
+/// or if memory is refused to the list.
+fn work(alloc: Global, office: &Office, session: Session, load: Load, calls: u64) -> Worked
+    requires ours { IsSessionOf office.now session × IsIdle session }
+    ensures ours { IsSessionOf office.now result.session }
+{
+    let mut session = session;
+    let number = session.number();
+    let mut caller = Caller {
+        load,
+        state: u64::from(number),
+    };
+    let mut answers = Vec::new(alloc);
+    for _call in 0..calls {
+        let Some(asked) = caller.next() else {
+            break;
+        };
+        let entered = asked;
+        let Some(answer) = call(office, &mut session, asked) else {
+            break;
+        };
+        if answers.push(with_answer(number, entered, answer)).is_err() {
+            break;
+        }
+    }
+    Worked { session, answers }
+}
+
+/// The sessions of an office and all their answers.
+#[derive(Drop)]
+struct Gathered {
+    /// The sessions.
+    sessions: Vec<Session>,
+    /// Their answers.
+    answers: Vec<Answered>,
+}
+
+/// Gathers what the threads gave back.
+fn gather(alloc: Global, office: &Office, all: Vec<Worked>) -> Result<Gathered, AllocError>
+    requires ours { All (λ worked. IsSessionOf office.now worked.session) all.items }
+    ensures ours { IfOk result (λ gathered. All (IsSessionOf office.now) gathered.sessions.items) }
+{
+    let mut sessions = Vec::new(alloc);
+    let mut answers = Vec::new(alloc);
+    for worked in all {
+        let Worked {
+            session,
+            answers: own,
+        } = worked;
+        sessions.push(session)?;
+        answers.extend_from_slice(own.as_slice())?;
+    }
+    Ok(Gathered { sessions, answers })
+}
+
+/// Expects the history to have exactly these answers, each at its place.
+fn want_history(rt: &impl Abort, history: &[Entry], answers: &[Answered]) {
+    assert_eq!(rt; history.len(), answers.len());
+    for (place, (entry, answered)) in history.iter().zip(answers.iter()).enumerate() {
+        assert_eq!(rt; answered.place, place as u64);
+        assert_eq!(rt; entry.session, answered.session);
+        assert!(rt; entry.call == answered.call);
+        assert_eq!(rt; entry.reply, answered.reply);
+    }
+}
+
+/// Closes the office with all its sessions, and expects its history to have exactly the answers that they collected. Returns
+/// the answers by place.
+fn closed_history(
+    rt: &impl Abort,
+    alloc: Global,
+    office: Office,
+    all: Vec<Worked>,
+) -> Result<Vec<Answered>, AllocError>
+    requires ours { All (λ worked. IsSessionOf office worked.session) all.items }
+{
+    let Gathered {
+        sessions,
+        mut answers,
+    } = gather(alloc, &office, all)?;
+    answers.sort_unstable_by_key(|answered| answered.place);
+    let book = office.close(sessions).ok().expect(rt, "the book");
+    want_history(rt, book.history(), &answers);
+    Ok(answers)
+}
+
+/// Makes `calls` calls in each of `threads` threads with one session each, closes the office, and returns all answers by
+/// place.
+fn history_of_threads<R: Threads + Abort + Sync>(
+    rt: &R,
+    alloc: Global,
+    threads: u16,
+    load: Load,
+    calls: u64,
+) -> Result<Vec<Answered>, Fail> {
+    let (office, sessions) = Office::open(alloc, threads)?;
+    let shared = &office;
+    let all = thread::map_vec(
+        rt,
+        sessions,
+        &|session: Session| work(alloc, shared, session, load, calls),
+    )?;
+    Ok(closed_history(rt, alloc, office, all)?)
+}
+
+/// Returns how many of the answers are this session's.
+fn count_of(answers: &[Answered], number: u16) -> usize {
+    answers
+        .iter()
+        .filter(|answered| answered.session == number)
+        .count()
+}
+
+/// Expects this number of polls of each of the sessions, all of them refused.
+fn want_refused_polls(rt: &impl Abort, history: &[Answered], sessions: u16, polls: usize) {
+    assert_eq!(rt; history.len(), usize::from(sessions).wrapping_mul(polls));
+    for answered in history {
+        assert!(rt; answered.call == Call::Poll);
+        assert_eq!(rt; answered.reply, Reply::Refused(Why::NoTransaction));
+    }
+    for before in 0..sessions {
+        assert_eq!(rt; count_of(history, before.wrapping_add(1)), polls);
+    }
+}
+
+/// 8,000 polls of eight threads get 8,000 places, each once, and are the whole history of the closed office.
+#[test]
+fn eight_threads_poll(rt: HostRuntime) -> Result<(), Fail> {
+    let history = history_of_threads(&rt, rt.alloc(), 8, Load::Polls, 1000)?;
+    want_refused_polls(&rt, &history, 8, 1000);
+    Ok(())
+}
+
+/// 12,800 polls of 64 threads get 12,800 places, each once, and are the whole history of the closed office.
+#[test]
+fn sixty_four_threads_poll(rt: HostRuntime) -> Result<(), Fail> {
+    let history = history_of_threads(&rt, rt.alloc(), 64, Load::Polls, 200)?;
+    want_refused_polls(&rt, &history, 64, 200);
+    Ok(())
+}
+
+/// Serves a call of one of the book's sessions.
+fn serve(rt: &impl Abort, book: &mut Book, session: u16, call: Call) -> Result<Reply, NoMemory> {
+    assert!(rt; session >= 1);
+    assert!(rt; session <= book.sessions());
+    book.serve(session, call)
+}
+
+/// Serves the calls by place in the book, and expects the replies that the threads got.
+fn want_replies_of(rt: &impl Abort, book: &mut Book, history: &[Answered]) -> Result<(), NoMemory> {
+    for answered in history {
+        let reply = serve(rt, book, answered.session, answered.call)?;
+        assert_eq!(rt; reply, answered.reply);
+    }
+    Ok(())
+}
+
+/// Serves the calls by place in a fresh book, and expects the replies that the threads got.
+fn want_replies_of_a_fresh_book(
+    rt: &impl Abort,
+    alloc: Global,
+    history: &[Answered],
+) -> Result<(), NoMemory> {
+    let mut book = Book::new(alloc, 8)?;
+    want_replies_of(rt, &mut book, history)
+}
+
+/// The answers of eight threads, in the order of their places, are those of one book that serves the calls in this order.
+#[test]
+fn eight_threads_get_the_replies_of_one_book(rt: HostRuntime) -> Result<(), Fail> {
+    let history = history_of_threads(&rt, rt.alloc(), 8, Load::Transactions, 1000)?;
+    assert_eq!(rt; history.len(), 8000);
+    want_replies_of_a_fresh_book(&rt, rt.alloc(), &history)?;
+    Ok(())
+}

@@ -1,0 +1,264 @@
+-- Runs: the history only grows, and calls published after a state get places behind its history.
+use Rattle.std.proofs.Common.{◌≡◌, ◌≢◌, ◌⊎◌, inl, inr, ℕ, zero, suc, ◌+◌, ◌<◌, ◌≤◌, cond, eqb, is_some, Bool, true, false, Option, Some, List, [], ◌∷◌, ◌++◌, length, get_or, set, slice_get, refl, sym, ap, subst, ◌∙◌, arith, append_assoc, length-append, Contains}
+use mathlib.Core.Option as opt
+use mathlib.Core.Logic.{dite}
+use mathlib.Core.List.{IsPrefix}
+use native.Mathlib.Decide.{ℕ_discrete}
+use lib.ListN.{get_elem?}
+use Rattle.atomic_table.specs.Table.{stepped}
+use Rattle.lock_rules.specs.declared.calls.Entry.{Entry}
+use Rattle.lock_rules.specs.Legal.{Answered, calls_from, calls_of}
+use Rattle.lock_rules.proofs.Members.{Member, contains-member, member-contains}
+use Rattle.lock_rules.proofs.SessionCalls.{contains-entry}
+use Rattle.publication.specs.Words.{FREE}
+use Rattle.publication.specs.Views.{Pending, entry, answer}
+use Rattle.publication.specs.Rule.{blank, BoardState, word, home, seat, own_at, RecordState, IsOrderly}
+use Rattle.publication.specs.Rule.RecordState.{vacant, posted, busy, served, retired}
+use Rattle.publication.specs.List.{IsRuled}
+use Rattle.publication.specs.Kinds.{replied}
+use Rattle.publication.specs.Exclusion.{HasCollected}
+use Rattle.publication.specs.BoardHistory.{history_of, IsAppended, IsAccounted}
+use Rattle.publication.specs.Runs.{StepName, answer_record, IsStep, IsSeatSplit, IsSeatJoin, IsMove, IsRun, stop, move, calls_published, RespectsRealTime}
+use Rattle.publication.specs.declared.view.View.{View}
+use Rattle.publication.proofs.Lists.{at_there, each_set, each_snoc, prefix_self, prefix_trans}
+use Rattle.publication.proofs.ToldTogether.{IsOwn, own-of}
+use Rattle.publication.proofs.BoardHistory.{is-history, same-holder, same-home}
+use Rattle.publication.proofs.HistorySteps.{unchanged, joins, waits-for}
+
+-- Moves that change views alone.
+
+module _ (s : BoardState) (o : IsOrderly s) (vs : List View) (p : IsOrderly (record { words = s.words; homes = s.homes; views = vs })) where
+  -- The history stays if the combiner knows what it knew.
+  views-alone : ((k : ℕ) → (get_or vs k blank).combiner.has_book ≡ true → (get_or vs k blank).front ≡ (seat s k).front) → p.history ≡ o.history
+  views-alone same = dite (ℕ_discrete (word s 0) FREE)
+      (λ none. same-home s (record { words = s.words; homes = s.homes; views = vs }) o p none none refl)
+      (λ some. let has = (p.taken some).0 in
+      same-holder s (record { words = s.words; homes = s.homes; views = vs }) o p (word s 0) (o.taken some).0 has (same (word s 0) has))
+
+abbrev KnowsAsMuch : BoardState → ℕ → View → Type 0
+KnowsAsMuch s k u = u.combiner.has_book ≡ true → u.front ≡ (seat s k).front
+
+no-book : (s : BoardState) (k : ℕ) (u : View) → u.combiner.has_book ≡ false → KnowsAsMuch s k u
+no-book s k u lacks has = absurd (cc (lacks, has))
+
+front-kept : (s : BoardState) (k : ℕ) (v u : View) → get_elem? s.views k ≡ opt.some v → u.front ≡ v.front → KnowsAsMuch s k u
+front-kept s k v u me same has = same ∙ ap (λ (x : View). x.front) (sym (at_there s.views k v blank me).0)
+
+pub cut-unchanged : (s t : BoardState) (o : IsOrderly s) (p : IsOrderly t) → IsSeatSplit s t → p.history ≡ o.history
+cut-unchanged s t o p c = (subst (λ (x : BoardState). (q : IsOrderly x) → q.history ≡ o.history) (sym c.is) (λ q.
+    views-alone s o (set s.views c.id c.left ++ c.right ∷ []) q
+    (each_snoc (set s.views c.id c.left) c.right blank (KnowsAsMuch s) right
+    (each_set s.views c.id c.left blank (KnowsAsMuch s) (at_there s.views c.id c.view blank c.seated).1 left
+    (λ k ne has. refl))))) p
+  where
+    left : KnowsAsMuch s c.id c.left
+    left = elim c.cut [
+      | inl m ↦ no-book s c.id c.left (ap (λ (x : View). x.combiner.has_book) m.1)
+      | inr m ↦ front-kept s c.id c.view c.left c.seated (ap (λ (x : View). x.front) m.0)
+    ]
+
+    right : KnowsAsMuch s (length (set s.views c.id c.left)) c.right
+    right = elim c.cut [
+      | inl m ↦ no-book s (length (set s.views c.id c.left)) c.right (ap (λ (x : View). x.combiner.has_book) m.2)
+      | inr m ↦ no-book s (length (set s.views c.id c.left)) c.right (ap (λ (x : View). x.combiner.has_book) m.1)
+    ]
+
+pub joined-unchanged : (s t : BoardState) (o : IsOrderly s) (p : IsOrderly t) → IsSeatJoin s t → p.history ≡ o.history
+joined-unchanged s t o p c = (subst (λ (x : BoardState). (q : IsOrderly x) → q.history ≡ o.history) (sym c.is) (λ q.
+    views-alone s o (set (set s.views c.id c.both) c.other blank) q every)) p
+  where
+    both : KnowsAsMuch s c.id c.both
+    both = elim c.join [
+      | inl m ↦ front-kept s c.id c.view c.both c.seated (ap (λ (x : View). x.front) m.0)
+      | inr m ↦ front-kept s c.id c.view c.both c.seated (ap (λ (x : View). x.front) m.0)
+    ]
+
+    one : (k : ℕ) → KnowsAsMuch s k (get_or (set s.views c.id c.both) k blank)
+    one = each_set s.views c.id c.both blank (KnowsAsMuch s) (at_there s.views c.id c.view blank c.seated).1 both (λ k ne has. refl)
+
+    -- A write past the end changes nothing.
+    unset : (l : List View) (i k : ℕ) → (get_or (set l i blank) k blank ≡ get_or l k blank) ⊎ (get_or (set l i blank) k blank ≡ blank)
+    unset [] i k = inl refl
+    unset (x ∷ xs) zero zero = inr refl
+    unset (x ∷ xs) zero (suc k) = inl refl
+    unset (x ∷ xs) (suc i) zero = inl refl
+    unset (x ∷ xs) (suc i) (suc k) = unset xs i k
+
+    every : (k : ℕ) → KnowsAsMuch s k (get_or (set (set s.views c.id c.both) c.other blank) k blank)
+    every k = elim (unset (set s.views c.id c.both) c.other k) [
+      | inl e ↦ subst (KnowsAsMuch s k) (sym e) (one k)
+      | inr e ↦ subst (KnowsAsMuch s k) (sym e) (no-book s k blank refl)
+    ]
+
+-- Steps, and the history that the states determine.
+
+pub step-unchanged : (name : StepName) (s t : BoardState) → name ≢ answer_record → IsRuled s → IsRuled t → IsStep name s t → history_of t ≡ history_of s
+step-unchanged name s t other r q c = sym (is-history t q.records) ∙ (go q.records ∙ is-history s r.records)
+  where
+    go : (p : IsOrderly t) → p.history ≡ r.records.history
+    go p = (subst (λ (x : BoardState). (p : IsOrderly x) → p.history ≡ r.records.history) (sym c.is)
+        (λ p. unchanged s r.records c.at c.put c.id c.first c.second c.before c.after c.act p c.seated c.out c.valid c.carried name other c.asked c.told)) p
+
+pub step-joins : (s t : BoardState) → IsRuled s → IsRuled t → IsStep answer_record s t → (e : Entry) × IsAppended s t e
+step-joins s t r q c =
+    let o = r.records in
+    let call = c.asked.1 in
+    let e : Entry = entry c.before.0.combiner.hand call.0 (replied c.before.1) in
+    let w = waits-for s o c.at c.put c.id c.first c.second c.before c.after c.act (moved q.records) c.seated c.out c.valid c.carried call.0 call.1 in (
+      e,
+      record {
+        history = sym (is-history t q.records) ∙ (go q.records ∙ ap (λ (l : List Entry). l ++ e ∷ []) (is-history s o));
+        floor = w.0;
+        pending = w.1;
+      },
+    )
+  where
+    moved : IsOrderly t → IsOrderly (stepped s c.at c.put c.id c.before.1 c.after.0 c.act)
+    moved = subst IsOrderly c.is
+
+    go : (p : IsOrderly t) → p.history ≡ r.records.history ++ entry c.before.0.combiner.hand c.asked.1.0 (replied c.before.1) ∷ []
+    go p = (subst (λ (x : BoardState). (p : IsOrderly x) → p.history ≡ r.records.history ++ entry c.before.0.combiner.hand c.asked.1.0 (replied c.before.1) ∷ []) (sym c.is)
+        (λ p. joins s r.records c.at c.put c.id c.first c.second c.before c.after c.act p c.seated c.out c.valid c.carried c.asked.1.0 c.asked.0 c.asked.1.1 c.told)) p
+
+is-answer : (name : StepName) → (name ≡ answer_record) ⊎ (name ≢ answer_record)
+is-answer answer_record = inl refl
+is-answer _ = inr (λ e. absurd (cc e))
+
+same-begins : (f g : List Entry) → g ≡ f → IsPrefix f g
+same-begins f g e = subst (IsPrefix f) (sym e) (prefix_self f)
+
+pub seats-unchanged : (s t : BoardState) → IsRuled s → IsRuled t → IsSeatSplit s t ⊎ IsSeatJoin s t → history_of t ≡ history_of s
+seats-unchanged s t r q (inl c) = sym (is-history t q.records) ∙ (cut-unchanged s t r.records q.records c ∙ is-history s r.records)
+seats-unchanged s t r q (inr c) = sym (is-history t q.records) ∙ (joined-unchanged s t r.records q.records c ∙ is-history s r.records)
+
+pub move-begins : (s t : BoardState) → IsRuled s → IsRuled t → IsMove s t → IsPrefix (history_of s) (history_of t)
+move-begins s t r q (inl c) = elim (is-answer c.0) [
+  | inl e ↦ let j = step-joins s t r q (subst (λ (n : StepName). IsStep n s t) e c.1) in (j.0 ∷ [], sym j.1.history)
+  | inr ne ↦ same-begins (history_of s) (history_of t) (step-unchanged c.0 s t ne r q c.1)
+]
+move-begins s t r q (inr c) = same-begins (history_of s) (history_of t) (seats-unchanged s t r q c)
+
+-- Runs.
+
+pub still-ruled : {s t : BoardState} → IsRuled s → IsRun s t → IsRuled t
+still-ruled r stop = r
+still-ruled r (move m q more) = still-ruled q more
+
+pub begins : {s t : BoardState} → IsRuled s → IsRun s t → IsPrefix (history_of s) (history_of t)
+begins {s} r stop = prefix_self (history_of s)
+begins {s} {t = u} r (move {t} m q more) = prefix_trans (history_of s) (history_of t) (history_of u) (move-begins s t r q m) (begins q more)
+
+-- The calls of a session in the history.
+
+pub accounted : (s : BoardState) → IsRuled s → (i : ℕ) (answers : List Answered) (pending : Option Pending) → HasCollected s i answers pending → IsAccounted s i answers pending
+accounted s r i answers pending has =
+    let o = r.records in
+    let d = own-of s o i answers pending has in
+    go o d (o.stands i d.some d.small)
+  where
+    now : (o : IsOrderly s) → o.history ≡ history_of s
+    now o = is-history s o
+
+    all : (o : IsOrderly s) → IsOwn s o i answers pending → calls_of i o.history ≡ (own_at o.owns i).collected → IsAccounted s i answers pending
+    all o d calls = inl (ap (calls_of i) (sym (now o)) ∙ (calls ∙ d.answers_are))
+
+    go : (o : IsOrderly s) → IsOwn s o i answers pending → RecordState o.history i (word s i) (home s i) (own_at o.owns i) → IsAccounted s i answers pending
+    go o d (vacant v) = all o d v.calls
+    go o d (posted call floor v) = all o d v.calls
+    go o d (busy call floor v) = all o d v.calls
+    go o d (served call floor place reply v) = inr (
+      call,
+      floor,
+      place,
+      reply,
+      sym d.pending_is ∙ v.some,
+      v.late,
+      ap (calls_of i) (sym (now o)) ∙ (v.calls ∙ ap (λ (l : List Answered). l ++ answer place call reply ∷ []) d.answers_are),
+    )
+    go o d (retired v) = all o d v.calls
+
+-- The order in time.
+
+member-append : (x : Answered) (xs ys : List Answered) → Member x xs → Member x (xs ++ ys)
+member-append x [] ys h = absurd h
+member-append x (z ∷ zs) ys (inl e) = inl e
+member-append x (z ∷ zs) ys (inr m) = inr (member-append x zs ys m)
+
+there : (h : List Entry) (n : ℕ) (e : Entry) → slice_get h n ≡ Some e → n < length h
+there [] n e is = absurd (cc is)
+there (x ∷ xs) zero e is = omega arith
+there (x ∷ xs) (suc n) e is = omega (arith, there xs n e is)
+
+-- An answer that a session collected has its place in the history.
+pub stood : (s : BoardState) → IsRuled s → (i : ℕ) (answers : List Answered) (pending : Option Pending) → HasCollected s i answers pending → (x : Answered) → Contains answers x → x.place < length (history_of s)
+stood s r i answers pending has x c = elim (accounted s r i answers pending has) [
+  | inl calls ↦ at (subst (λ (l : List Answered). Member x l) (sym calls) (contains-member x answers c))
+  | inr k ↦ at (subst (λ (l : List Answered). Member x l) (sym k.6) (member-append x answers (answer k.2 k.0 k.3 ∷ []) (contains-member x answers c)))
+]
+  where
+    at : Member x (calls_of i (history_of s)) → x.place < length (history_of s)
+    at m = there (history_of s) x.place (entry i x.call x.reply) (contains-entry i (history_of s) x (member-contains x (calls_of i (history_of s)) m))
+
+-- The calls of a longer history.
+calls-longer : (i k : ℕ) (h rest : List Entry) → calls_from i k (h ++ rest) ≡ calls_from i k h ++ calls_from i (k + length h) rest
+calls-longer i k [] rest = ap (λ (n : ℕ). calls_from i n rest) (let z : k ≡ k + 0 = omega arith in z)
+calls-longer i k (x ∷ xs) rest =
+    let n : k + 1 + length xs ≡ k + suc (length xs) = omega arith in
+    let later = calls-longer i (k + 1) xs rest ∙ ap (λ (j : ℕ). calls_from i (k + 1) xs ++ calls_from i j rest) n in
+    go (eqb x.session i) later
+  where
+    go : (b : Bool) → calls_from i (k + 1) (xs ++ rest) ≡ calls_from i (k + 1) xs ++ calls_from i (k + suc (length xs)) rest
+        → cond b (answer k x.call x.reply ∷ calls_from i (k + 1) (xs ++ rest)) (calls_from i (k + 1) (xs ++ rest))
+        ≡ cond b (answer k x.call x.reply ∷ calls_from i (k + 1) xs) (calls_from i (k + 1) xs) ++ calls_from i (k + suc (length xs)) rest
+    go true e = ap (λ (l : List Answered). answer k x.call x.reply ∷ l) e
+    go false e = e
+
+late-place : (i k : ℕ) (h : List Entry) (y : Answered) → Member y (calls_from i k h) → k ≤ y.place
+late-place i k [] y m = absurd m
+late-place i k (x ∷ xs) y m = go (λ h. let n = late-place i (k + 1) xs y h in omega (arith, n)) (eqb x.session i) m
+  where
+    go : (Member y (calls_from i (k + 1) xs) → k ≤ y.place) → (b : Bool) → Member y (cond b (answer k x.call x.reply ∷ calls_from i (k + 1) xs) (calls_from i (k + 1) xs)) → k ≤ y.place
+    go deep true (inl e) = omega (arith, ap (λ (a : Answered). a.place) e)
+    go deep true (inr n) = deep n
+    go deep false n = deep n
+
+-- An element at or behind the length of the first list is one of the second.
+in-second : (xs zs before : List Answered) (y : Answered) (rest : List Answered) → xs ++ zs ≡ before ++ y ∷ rest → length xs ≤ length before → Member y zs
+in-second [] zs before y rest e le = subst (Member y) (sym e) (among before)
+  where
+    among : (l : List Answered) → Member y (l ++ y ∷ rest)
+    among [] = inl refl
+    among (w ∷ ws) = inr (among ws)
+in-second (a ∷ xs) zs [] y rest e le = absurd (omega arith)
+in-second (a ∷ xs) zs (b ∷ before) y rest e le = in-second xs zs before y rest (cc e) (omega arith)
+
+few : (s : BoardState) (i : ℕ) (answers : List Answered) (pending : Option Pending) → IsAccounted s i answers pending → length (calls_of i (history_of s)) ≤ calls_published answers pending
+few s i answers pending (inl calls) = omega (arith, ap (λ (l : List Answered). length l) calls)
+few s i answers pending (inr k) = omega (arith, ap (λ (l : List Answered). length l) k.6, length-append answers (answer k.2 k.0 k.3 ∷ []), ap {B = ℕ} (λ (p : Option Pending). cond (is_some p) 1 0) k.4)
+
+-- A call published after a state has a place behind the whole history of that state, collected or not.
+pub behind-all : (s t : BoardState) → IsRuled s → IsRun s t → (j : ℕ) (mine later : List Answered) (my_pending later_pending : Option Pending) → HasCollected s j mine my_pending → HasCollected t j later later_pending
+    → (y : Answered) (before behind : List Answered) → calls_of j (history_of t) ≡ before ++ y ∷ behind → calls_published mine my_pending ≤ length before → length (history_of s) ≤ y.place
+behind-all s t r leads j mine later my_pending later_pending has then_has y before behind is le =
+    let b = begins r leads in
+    let n = few s j mine my_pending (accounted s r j mine my_pending has) in
+    let whole : calls_from j 0 (history_of s) ++ calls_from j (0 + length (history_of s)) b.0 ≡ before ++ y ∷ behind
+    = sym (calls-longer j 0 (history_of s) b.0) ∙ (ap (calls_of j) b.1 ∙ is) in
+    let m = in-second (calls_from j 0 (history_of s)) (calls_from j (0 + length (history_of s)) b.0) before y behind whole (omega (arith, n, le)) in
+    let p = late-place j (0 + length (history_of s)) b.0 y m in
+    omega (arith, p)
+
+-- The same for a collected call.
+behind-collected : (s t : BoardState) → IsRuled s → IsRun s t → (j : ℕ) (mine later : List Answered) (my_pending later_pending : Option Pending) → HasCollected s j mine my_pending → HasCollected t j later later_pending
+    → (y : Answered) (before behind : List Answered) → later ≡ before ++ y ∷ behind → calls_published mine my_pending ≤ length before → length (history_of s) ≤ y.place
+behind-collected s t r leads j mine later my_pending later_pending has then_has y before behind is le = elim (accounted t (still-ruled r leads) j later later_pending then_has) [
+  | inl calls ↦ behind-all s t r leads j mine later my_pending later_pending has then_has y before behind (calls ∙ is) le
+  | inr k ↦ behind-all s t r leads j mine later my_pending later_pending has then_has y before (behind ++ answer k.2 k.0 k.3 ∷ [])
+      (k.6 ∙ (ap (λ (l : List Answered). l ++ answer k.2 k.0 k.3 ∷ []) is ∙ append_assoc before (y ∷ behind) (answer k.2 k.0 k.3 ∷ []))) le
+]
+
+pub in-time : (s t : BoardState) → IsRuled s → IsRun s t → RespectsRealTime s t
+in-time s t r leads i j theirs mine later their_pending my_pending later_pending a b c x y before behind contained is le =
+    let p = stood s r i theirs their_pending a x contained in
+    let q = behind-collected s t r leads j mine later my_pending later_pending b c y before behind is le in
+    omega (arith, p, q)

@@ -1,0 +1,34 @@
+use Rattle.std.proofs.Common.{◌≡◌, ℕ, zero, suc, Bool, cond, inl, inr, refl, sym, ap, ◌∙◌, arith, eq-eqb}
+use mathlib.Core.Option as opt
+use lib.ListN.{get_elem?}
+use Rattle.std.specs.Global.{Box}
+use Rattle.publication.specs.Views.{Handed}
+use Rattle.publication.specs.Words.{FREE}
+use Rattle.publication.specs.Rule.{word, home, seat}
+use Rattle.publication.specs.BoardHistory.{new_board, history_in}
+use Rattle.publication.specs.declared.slot.Load.{Load}
+use Rattle.publication.proofs.NewBoards.{words_zero, begins}
+use Rattle.publication.proofs.laws.boards_open_with_an_empty_history.Goals as goal
+
+pub returns-clause-ruled : goal.returns-clause-ruled
+returns-clause-ruled c n load ready = begins n load ready
+
+pub returns-clause-empty : goal.returns-clause-empty
+returns-clause-empty c n load ready =
+    let s = new_board n load in
+    let free : word s 0 ≡ FREE = words_zero n load ready 0 in
+    ap (λ (b : Bool). cond b (history_in (home s 0)) (seat s (word s 0)).front) (eq-eqb (word s 0) FREE free) ∙ ready.history
+
+-- No seat is a session's.
+no_number : (n : ℕ) (load : Box Load) (k : ℕ) → (seat (new_board n load) k).number ≡ 0
+no_number n load zero = refl
+no_number n load (suc k) = refl
+
+-- No session was handed in.
+none_handed : (n : ℕ) (load : Box Load) (k p : ℕ) (x : Handed) → get_elem? (seat (new_board n load) k).others.handed p ≡ opt.some x → ⊥
+none_handed n load zero p x e = opt.some-ne-none x (sym e)
+none_handed n load (suc k) p x e = opt.some-ne-none x (sym e)
+
+pub returns-clause-nobody : goal.returns-clause-nobody
+returns-clause-nobody c n load i answers pending (inl d) = omega (arith, d.some, d.named, no_number n load i)
+returns-clause-nobody c n load i answers pending (inr d) = none_handed n load d.closing d.place d.handed d.there

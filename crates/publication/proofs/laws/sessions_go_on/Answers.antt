@@ -1,0 +1,5 @@
+use Rattle.publication.proofs.SessionsGoOn.{goes-on}
+use Rattle.publication.proofs.laws.sessions_go_on.Goals as goal
+
+pub returns : goal.returns
+returns c = goes-on

@@ -1,0 +1,23 @@
+use Rattle.publication.proofs.HoldsAsTold.{begins, begins-later, goes-on, asks-on, comes-back, ends-asked, ends}
+use Rattle.publication.proofs.laws.what_is_told_begins_and_ends.Goals as goal
+
+pub returns-clause-granted : goal.returns-clause-granted
+returns-clause-granted c = begins
+
+pub returns-clause-granted_later : goal.returns-clause-granted_later
+returns-clause-granted_later c = begins-later
+
+pub returns-clause-stays : goal.returns-clause-stays
+returns-clause-stays c = goes-on
+
+pub returns-clause-asks_on : goal.returns-clause-asks_on
+returns-clause-asks_on c = asks-on
+
+pub returns-clause-asked_back : goal.returns-clause-asked_back
+returns-clause-asked_back c = ends-asked
+
+pub returns-clause-given_back : goal.returns-clause-given_back
+returns-clause-given_back c = ends
+
+pub returns-clause-back : goal.returns-clause-back
+returns-clause-back c = comes-back

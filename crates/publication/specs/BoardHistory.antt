@@ -1,0 +1,49 @@
+-- The state in which a board opens; the history of a board as a function of its state, and what it has of each session.
+use Rattle.std.specs.Prelude.{◌≡◌, ◌⊎◌, ℕ, ◌+◌, ◌≤◌, ◌==◌, cond, Option, Some, List, [], ◌∷◌, ◌++◌, replicate, slice_set}
+use mathlib.Core.Option as opt
+use Rattle.std.specs.Global.{Box}
+use Rattle.atomic_table.specs.Table.{opening}
+use Rattle.lock_rules.specs.declared.calls.Call.{Call}
+use Rattle.lock_rules.specs.declared.calls.Entry.{Entry}
+use Rattle.lock_rules.specs.declared.calls.Reply.{Reply}
+use Rattle.lock_rules.specs.Legal.{Answered, calls_of}
+use Rattle.publication.specs.Words.{word_of, FREE, END}
+use Rattle.publication.specs.Views.{Pending, answer, asks}
+use Rattle.publication.specs.Rule.{maker, BoardState, word, home, seat}
+use Rattle.publication.specs.declared.slot.Load.{Load}
+use Rattle.publication.specs.declared.slot.SlotValue.{SlotValue}
+use Rattle.publication.specs.declared.slot.SlotValue.TheVariants.{Empty, PostedCall, ServedReply, LockTable}
+
+-- A new board for n sessions, none of them made yet: the lock word is FREE, each record OUT, the publication list empty,
+-- the load at home, and seat 0 alone is there.
+abbrev pub new_board : ℕ → Box Load → BoardState
+new_board n load = opening (slice_set (replicate (word_of (n + 1)) 0) 1 END) (LockTable load ∷ replicate n Empty) (maker (n + 1) 0)
+
+-- The history of the book in a slot, empty if no book is there.
+abbrev pub history_in : opt.Option SlotValue → List Entry
+history_in opt.none = []
+history_in (opt.some Empty) = []
+history_in (opt.some (PostedCall call)) = []
+history_in (opt.some (ServedReply place reply)) = []
+history_in (opt.some (LockTable load)) = load.value.book.history
+
+-- The board's history: the book's while the lock word is FREE, else the front that the combiner knows.
+abbrev pub history_of : BoardState → List Entry
+history_of s = cond (word s 0 == FREE) (history_in (home s 0)) (seat s (word s 0)).front
+
+-- The entry is appended to the history: it is the call that its session has pending.
+pub record IsAppended (s t : BoardState) (entry : Entry) : Type 0 where
+  pub history : history_of t ≡ history_of s ++ entry ∷ []
+  pub floor : ℕ
+  pub pending : (seat s entry.session).own.pending ≡ Some (record { call = entry.call; floor = floor })
+
+-- The calls of session i in the history are those that it collected, or those and its pending call, at a place not below
+-- the number of entries that the session knew when it published that call.
+abbrev pub IsAccountedIn : List Entry → ℕ → List Answered → Option Pending → Type 0
+IsAccountedIn h i answers pending = (calls_of i h ≡ answers)
+    ⊎ ((call : Call) × (floor : ℕ) × (place : ℕ) × (reply : Reply) × (pending ≡ Some (asks call floor)) × (floor ≤ place)
+    × (calls_of i h ≡ answers ++ answer place call reply ∷ []))
+
+-- The same of the board's history.
+abbrev pub IsAccounted : BoardState → ℕ → List Answered → Option Pending → Type 0
+IsAccounted s = IsAccountedIn (history_of s)

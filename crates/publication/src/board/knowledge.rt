@@ -1,0 +1,89 @@
+//! What one session knows, as a value that can move to another thread and be given to another session there.
+
+ghost use Rattle.std.specs.Prelude.{◌≡◌, length, max, slice_index};
+ghost use mathlib.Core.List.{IsPrefix};
+ghost use Rattle.lock_rules.specs.Legal.{IsLegal};
+ghost use Rattle.publication.specs.Kinds.{longer, maxes};
+ghost use Rattle.publication.specs.Boards.{IsOf, heard_from, known_by};
+
+use crate::board::{Board, Ticket};
+use crate::steps;
+use crate::steps::Seat;
+use std::marker::Model;
+
+/// What a session knew when its knowledge was taken: a front of the history, and for each session the number of calls
+/// that it had heard of. It is a value of its own that can move to another thread.
+#[derive(Drop)]
+pub struct Knowledge {
+    seat: Seat,
+    seen: u64,
+}
+
+impl Model for Knowledge {
+    ghost use Rattle.publication.specs.Views.{KnowledgeView};
+
+    ghost Value = { KnowledgeView };
+
+    ghost use Rattle.publication.specs.inner.Inside.{knowledge_view_of, IsCopy};
+
+    ghost view = { knowledge_view_of };
+
+    ghost invariant = { IsCopy };
+}
+
+impl Knowledge {
+    /// The number of history entries that were known.
+    pub fn seen(&self) -> u64
+        ensures { result ≡ length self.now.front }
+    {
+        self.seen
+    }
+}
+
+impl Board {
+    /// What the session of `ticket` knows.
+    pub fn knowledge(&self, ticket: &mut Ticket) -> Knowledge
+        requires ours { IsOf self.now ticket.old }
+        ensures same { ticket.new ≡ ticket.old }
+        ensures knowledge { result ≡ known_by ticket.old }
+    {
+        Knowledge {
+            seat: steps::split_copy(&self.table.shared, &mut ticket.seat),
+            seen: ticket.seen,
+        }
+    }
+
+    /// Lets the session of `ticket` learn what `knowledge` says: the longer of both fronts of the history, and for each
+    /// session the larger number of calls that either had heard of.
+    pub fn heed(&self, ticket: &mut Ticket, knowledge: Knowledge)
+        requires ours { IsOf self.now ticket.old × (knowledge.board ≡ self.now.id) }
+        ensures ticket { ticket.new ≡ record ticket.old {
+          front = longer ticket.old.front knowledge.front;
+          heard = maxes ticket.old.heard knowledge.heard;
+        } }
+        ensures fronts { IsPrefix ticket.old.front ticket.new.front × IsPrefix knowledge.front ticket.new.front }
+        ensures legal { IsLegal ticket.new.front }
+        ensures heard { (j : _) → heard_from ticket.new j ≡ max (heard_from ticket.old j) (slice_index knowledge.heard j) }
+    {
+        let Knowledge { seat, seen } = knowledge;
+        steps::heed_seat(&self.table.shared, &mut ticket.seat, seat);
+        ticket.seen = u64::max(ticket.seen, seen);
+    }
+
+    /// Lets the session of `ticket` learn what `other` knows: the longer of their fronts of the history, and for each
+    /// session the larger number of calls that either has heard of. `other` learns nothing.
+    pub fn hear(&self, ticket: &mut Ticket, other: &mut Ticket)
+        requires ours { IsOf self.now ticket.old × IsOf self.now other.old }
+        ensures other { other.new ≡ other.old }
+        ensures ticket { ticket.new ≡ record ticket.old {
+          front = longer ticket.old.front other.old.front;
+          heard = maxes ticket.old.heard other.old.heard;
+        } }
+        ensures fronts { IsPrefix ticket.old.front ticket.new.front × IsPrefix other.old.front ticket.new.front }
+        ensures legal { IsLegal ticket.new.front }
+        ensures heard { (j : _) → heard_from ticket.new j ≡ max (heard_from ticket.old j) (heard_from other.old j) }
+    {
+        let knowledge = self.knowledge(other);
+        self.heed(ticket, knowledge);
+    }
+}
