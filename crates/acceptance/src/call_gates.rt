@@ -1,49 +1,63 @@
-//! Gates for runs in tests: one that counts, one where two sessions meet, and one that stays shut.
+//! Gates for runs in tests: one that counts, one where two sessions meet, and two that stay shut.
 
 use glm::Gate;
 use std::hint;
 use std::sync::atomic::AtomicU64;
 use std::sync::atomic::Ordering::SeqCst;
 
-/// A gate that counts how often it is entered and left.
+/// A gate for sessions 1 and 2 that counts its steps: each call's enter is a step of its session, and so is its leave.
 #[derive(Drop)]
 pub(crate) struct Counting {
-    /// The number of calls that entered.
-    entered: AtomicU64,
-    /// The number of calls that left.
-    left: AtomicU64,
+    /// The steps of session 1.
+    first: AtomicU64,
+    /// The steps of session 2.
+    second: AtomicU64,
+    /// The steps out of turn. In turn, call 0 enters and leaves, then call 1, and so on.
+    out_of_turn: AtomicU64,
 }
 
 impl Counting {
     /// Returns a gate that nobody has entered.
     pub(crate) fn new() -> Counting {
         Counting {
-            entered: AtomicU64::new(0),
-            left: AtomicU64::new(0),
+            first: AtomicU64::new(0),
+            second: AtomicU64::new(0),
+            out_of_turn: AtomicU64::new(0),
         }
     }
 
-    /// The number of calls that entered.
-    pub(crate) fn entered(&self) -> u64 {
-        self.entered.load(SeqCst)
+    /// The steps of session 1, of session 2, and those out of turn.
+    pub(crate) fn steps(&self) -> [u64; 3] {
+        [
+            self.first.load(SeqCst),
+            self.second.load(SeqCst),
+            self.out_of_turn.load(SeqCst),
+        ]
     }
 
-    /// The number of calls that left.
-    pub(crate) fn left(&self) -> u64 {
-        self.left.load(SeqCst)
+    /// Counts a step of a session, which is in turn as step `turn`.
+    fn step(&self, session: u16, turn: u64) {
+        let steps = if session == 1 {
+            &self.first
+        } else {
+            &self.second
+        };
+        if steps.fetch_add(1, SeqCst) != turn {
+            self.out_of_turn.fetch_add(1, SeqCst);
+        }
     }
 }
 
 impl Gate for Counting {
-    /// Counts the call and lets it through.
-    fn enter(&self, _session: u16, _call: u64) -> bool {
-        self.entered.fetch_add(1, SeqCst);
+    /// Counts the step and lets the call through.
+    fn enter(&self, session: u16, call: u64) -> bool {
+        self.step(session, call.wrapping_mul(2));
         true
     }
 
-    /// Counts the call.
-    fn leave(&self, _session: u16, _call: u64) {
-        self.left.fetch_add(1, SeqCst);
+    /// Counts the step.
+    fn leave(&self, session: u16, call: u64) {
+        self.step(session, call.wrapping_mul(2).wrapping_add(1));
     }
 }
 
@@ -102,6 +116,23 @@ impl Gate for ShutFrom {
     /// Lets earlier calls through.
     fn enter(&self, _session: u16, call: u64) -> bool {
         call < self.call
+    }
+
+    /// Does nothing.
+    fn leave(&self, _session: u16, _call: u64) {}
+}
+
+/// A gate that is shut to one session.
+#[derive(Drop)]
+pub(crate) struct ShutTo {
+    /// The session that isn't let through.
+    pub(crate) session: u16,
+}
+
+impl Gate for ShutTo {
+    /// Lets the calls of other sessions through.
+    fn enter(&self, session: u16, _call: u64) -> bool {
+        session != self.session
     }
 
     /// Does nothing.

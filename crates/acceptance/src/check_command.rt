@@ -11,6 +11,10 @@ const LEGAL: &str =
 const ILLEGAL: &str =
     "0,1,begin,,,began,1\n1,2,begin,,,began,2\n2,1,lock,1,S,waiting,\n3,2,lock,1,IX,granted,S\n4,1,commit,,,committed,1\n5,2,poll,,,clear,\n";
 
+/// The history `LEGAL` without its place 1, and not renumbered.
+const GAP: &str =
+    "0,1,begin,,,began,1\n2,1,lock,1,S,granted,S\n3,2,lock,1,IX,waiting,\n4,1,commit,,,committed,1\n5,2,poll,,,clear,\n";
+
 /// A legal history ends with status 0, and an illegal one with status 3 and its first wrong place.
 #[test]
 fn verdicts_are_printed_with_their_statuses(rt: HostRuntime) -> Result<(), Fail> {
@@ -33,6 +37,7 @@ fn malformed_history_rows_are_reported(rt: HostRuntime) -> Result<(), Fail> {
     for (history, line) in [
         ("0,1,begin,,,began\n", "glm: row 1: Shape\n"),
         ("1,1,begin,,,began,1\n", "glm: row 1: Place\n"),
+        (GAP, "glm: row 2: Place\n"),
         ("0,1,begin,,,start,1\n", "glm: row 1: Reply\n"),
         ("0,1,begin,,,began,01\n", "glm: row 1: Value\n"),
         ("0,1,begin,,X,start,1\n", "glm: row 1: Extra\n"),

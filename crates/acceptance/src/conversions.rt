@@ -217,7 +217,7 @@ const REFUSED_IN_ORDER: (&str, &str) = (
 
 /// A conversion that conflicts with a holder queues ahead of a writer that arrived earlier. This pair is also the example
 /// `conversions.csv`. The crate `desk_tests` tests which modes are held meanwhile.
-const EXAMPLE: (&str, &str) = (
+pub(crate) const EXAMPLE: (&str, &str) = (
     "1,begin,,
 2,begin,,
 3,begin,,

@@ -134,6 +134,43 @@ const VICTIM_MAKES_ROOM: (&str, &str) = (
 ",
 );
 
+/// The victim is doomed until it aborts, and then the others go on to their commits. This pair is also the example
+/// `deadlock.csv`.
+pub(crate) const EXAMPLE: (&str, &str) = (
+    "1,begin,,
+2,begin,,
+3,begin,,
+1,lock,2,X
+2,lock,1,S
+3,lock,1,X
+2,lock,2,S
+1,lock,1,S
+3,poll,,
+3,lock,3,S
+2,poll,,
+3,abort,,
+1,commit,,
+2,poll,,
+2,commit,,
+",
+    "0,1,begin,,,began,1
+1,2,begin,,,began,2
+2,3,begin,,,began,3
+3,1,lock,2,X,granted,X
+4,2,lock,1,S,granted,S
+5,3,lock,1,X,waiting,
+6,2,lock,2,S,waiting,
+7,1,lock,1,S,granted,S
+8,3,poll,,,deadlock,
+9,3,lock,3,S,refused,IsDoomed
+10,2,poll,,,waiting,
+11,3,abort,,,aborted,0
+12,1,commit,,,committed,2
+13,2,poll,,,clear,
+14,2,commit,,,committed,2
+",
+);
+
 /// Two holders of IS on a database both convert to X.
 const PARENTS_IN_A_CIRCLE: (&str, &str) = (
     "1,begin,,
@@ -203,6 +240,7 @@ fn deadlocks_replay_to_their_histories(rt: HostRuntime) -> Result<(), Fail> {
             VICTIM_IS_NOT_THE_ASKER,
             TWO_VICTIMS,
             VICTIM_MAKES_ROOM,
+            EXAMPLE,
             PARENTS_IN_A_CIRCLE,
             CIRCLE_THROUGH_A_PLACE,
         ],

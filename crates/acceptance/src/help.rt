@@ -2,6 +2,7 @@
 
 use crate::harness::{run_words, want_bytes, want_errors, want_output, want_status};
 use glm::{VERSION, VERSION_TEXT};
+use lock_modes::{MODES, Mode};
 use std::process::Abort;
 use std::str;
 use std::sync::Wait;
@@ -11,7 +12,7 @@ use std::thread::Threads;
 /// Both version options write the version text with status 0.
 #[test]
 fn the_version_is_written_to_the_output(rt: HostRuntime) -> Result<(), Fail> {
-    let version = "glm 0.7.0\nproved with rattle-kit-13b, logic dac8208d650f15bf\n";
+    let version = "glm 0.7.0\nproved with rattle-kit-13f, logic dac8208d650f15bf\n";
     for words in [["--version"].as_slice(), ["-V"].as_slice()] {
         want_output(&rt, &rt, words, "", version)?;
     }
@@ -73,6 +74,30 @@ fn help_shows_rows_and_statuses(rt: HostRuntime) -> Result<(), Fail> {
         (["help"].as_slice(), "replay"),
     ] {
         want_help(&rt, &rt, words, row)?;
+    }
+    Ok(())
+}
+
+/// Whether the text has the word, alone or before a comma or a full stop.
+fn has_word(text: &str, word: &str) -> bool {
+    for found in text.split_whitespace() {
+        if found == word
+            || found.strip_suffix(',') == Some(word)
+            || found.strip_suffix('.') == Some(word)
+        {
+            return true;
+        }
+    }
+    false
+}
+
+/// The help of `replay` names each mode that a call can ask for.
+#[test]
+fn help_names_every_mode(rt: HostRuntime) -> Result<(), Fail> {
+    let ran = run_words(&rt, &["replay", "--help"], b"".as_slice())?;
+    let text = str::from_utf8(&ran.output).map_err(|_| "no text")?;
+    for mode in MODES {
+        assert!(rt; mode == Mode::NL || has_word(text, mode.name()), "{mode:?}");
     }
     Ok(())
 }

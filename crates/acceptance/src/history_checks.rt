@@ -1,8 +1,7 @@
-//! The call `check`: legal histories, the first wrong reply, malformed rows and a failing reader.
+//! The call `check`: legal histories, the first wrong reply and malformed rows.
 
 ghost use Rattle.std.specs.Prelude.{◌≤◌};
 
-use crate::io_faults::Cut;
 use glm::{ToolFault, Verdict, check};
 use lock_trace::{TraceFault, TraceKind};
 use std::alloc::Global;
@@ -150,27 +149,5 @@ fn malformed_rows_are_reported_before_replies_are_compared(rt: HostRuntime) {
         ),
     ] {
         want_verdict(&rt, rt.alloc(), history, 2, Err(refused(row, kind)));
-    }
-}
-
-/// Checks a text whose reader fails after `length` bytes, and expects the fault `Device` in the row where these bytes end.
-fn want_failed_reader(rt: &impl Abort, alloc: Global, text: &[u8], length: usize) {
-    assert!(rt; length <= text.len());
-    let left = &text[..length];
-    let row = 1 + left.iter().filter(|b| **b == b'\n').count() as u64;
-    let verdict = check(alloc, Cut { left }, 2);
-    assert_eq!(rt;
-        verdict,
-        Err(refused(row, TraceKind::Device)),
-        "at {length}"
-    );
-}
-
-/// The fault names the row that the reader failed in.
-#[test]
-fn a_failed_reader_is_reported_with_the_history_row(rt: HostRuntime) {
-    let text = PROMOTED.as_bytes();
-    for length in [0, 1, 19, 20, 21, text.len()] {
-        want_failed_reader(&rt, rt.alloc(), text, length);
     }
 }

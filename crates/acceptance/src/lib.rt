@@ -22,12 +22,14 @@ mod help;
 #[cfg(test)]
 mod history_checks;
 #[cfg(test)]
-mod io_faults;
-#[cfg(test)]
 mod limits;
 #[cfg(test)]
 mod other_sessions;
 #[cfg(test)]
+mod reader_faults;
+#[cfg(test)]
 mod replays;
 #[cfg(test)]
 mod threaded_runs;
+#[cfg(test)]
+mod writer_faults;

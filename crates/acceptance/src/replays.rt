@@ -1,5 +1,7 @@
 //! Queues, refusals and the resource tree: traces with their histories, worked out by hand.
 
+use crate::conversions::EXAMPLE as CONVERSIONS;
+use crate::deadlocks::EXAMPLE as DEADLOCK;
 use crate::harness::{want_errors, want_histories, want_output};
 use std::test::Fail;
 
@@ -63,8 +65,15 @@ const PARENTS_OUTRIGHT: (&str, &str) = (
     "0,1,begin,,,began,1\n1,1,lock,1,IX,granted,IX\n2,1,lock,1/2/3,S,refused,ParentNotHeld\n3,1,lock,1/2,X,granted,X\n4,1,lock,1/2/3,S,granted,S\n5,1,lock,1/2/3/4,X,refused,ParentNotHeld\n6,1,lock,1/2/3,X,granted,X\n7,1,release,1,,refused,ChildHeld\n8,1,commit,,,committed,3\n",
 );
 
-/// The traces of several sessions, with their histories.
-pub(crate) const EXAMPLES: [(&str, &str); 4] = [QUEUE, READERS, REFUSALS, TREE];
+/// The example traces, with their histories.
+pub(crate) const EXAMPLES: [(&str, &str); 6] = [
+    QUEUE,
+    READERS,
+    REFUSALS,
+    TREE,
+    CONVERSIONS,
+    DEADLOCK,
+];
 
 /// Queues, refusals, compatibility with SIX, a conversion by `lock`, and the empty trace.
 #[test]

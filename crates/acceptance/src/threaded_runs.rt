@@ -1,7 +1,7 @@
 //! Runs on threads. The order of the threads' calls isn't fixed, so most tests expect that the history is legal and that each
 //! session's calls in it are its rows, in order.
 
-use crate::call_gates::{Counting, Meeting, ShutFrom};
+use crate::call_gates::{Counting, Meeting, ShutFrom, ShutTo};
 use crate::harness::{run_words, run_words_at, want_output, want_ran};
 use crate::replays::EXAMPLES;
 use glm::{OpenGate, ToolFault, Verdict, check, run};
@@ -17,10 +17,10 @@ use std::thread::Threads;
 const TURNS: u64 = 1_000_000_000;
 
 /// A trace of one session.
-const TREE: &str = "1,begin,,\n1,lock,1,IX\n1,lock,1/2,IX\n1,lock,1/2/3,X\n1,commit,,\n";
+pub(crate) const TREE: &str = "1,begin,,\n1,lock,1,IX\n1,lock,1/2,IX\n1,lock,1/2/3,X\n1,commit,,\n";
 
 /// The only history of `TREE`.
-const TREE_HISTORY: &str =
+pub(crate) const TREE_HISTORY: &str =
     "0,1,begin,,,began,1\n1,1,lock,1,IX,granted,IX\n2,1,lock,1/2,IX,granted,IX\n3,1,lock,1/2/3,X,granted,X\n4,1,commit,,,committed,3\n";
 
 /// Returns the rows of a session, in order.
@@ -197,19 +197,47 @@ fn a_gate_shut_to_one_session_fails_the_run(rt: HostRuntime) -> Result<(), Fail>
     Ok(())
 }
 
-/// Expects the gate to have been entered and left this many times.
-fn want_entered_and_left(abort: &impl Abort, gate: &Counting, times: u64) {
-    assert_eq!(abort; gate.entered(), times);
-    assert_eq!(abort; gate.left(), times);
+/// Of two reasons to stop the run returns the first, whichever session has it. Without tries, one session finds the gate shut
+/// and the other runs out of tries.
+#[test]
+fn a_shut_gate_is_reported_before_the_turn_limit(rt: HostRuntime) -> Result<(), Fail> {
+    let trace = b"1,begin,,\n2,begin,,\n".as_slice();
+    for session in [1, 2] {
+        let mut output = Vec::new(rt.alloc());
+        let gate = ShutTo { session };
+        let fault = run(&rt, rt.alloc(), trace, &mut output, 2, 0, &gate);
+        assert!(rt; fault == Err(ToolFault::GateShut));
+        assert!(rt; output.is_empty());
+    }
+    Ok(())
 }
 
-/// Each of the five calls enters and leaves the gate once.
+/// Runs the trace at a gate that counts, and returns its steps.
+fn steps_of_run(
+    rt: &(impl AllocGlobal + Threads + Wait),
+    abort: &impl Abort,
+    trace: &str,
+) -> Result<[u64; 3], Fail> {
+    let gate = Counting::new();
+    let ran = run_words_at(rt, ["run"].as_slice(), trace.as_bytes(), &gate)?;
+    assert_eq!(abort; ran.status, 0);
+    Ok(gate.steps())
+}
+
+/// Each call enters and leaves the gate once, with its number among the calls of its session.
 #[test]
 fn the_gate_is_entered_and_left_once_for_each_call(rt: HostRuntime) -> Result<(), Fail> {
-    let gate = Counting::new();
-    let ran = run_words_at(&rt, ["run"].as_slice(), TREE.as_bytes(), &gate)?;
-    assert_eq!(rt; ran.status, 0);
-    want_entered_and_left(&rt, &gate, 5);
+    for (trace, steps) in [
+        (TREE, [10, 0, 0]),
+        // session 1 has four calls, session 2 three
+        (
+            "2,begin,,\n1,begin,,\n2,poll,,\n1,poll,,\n1,poll,,\n2,commit,,\n1,commit,,\n",
+            [8, 6, 0],
+        ),
+    ] {
+        let taken = steps_of_run(&rt, &rt, trace)?;
+        assert!(rt; taken.as_slice() == steps.as_slice());
+    }
     Ok(())
 }
 
@@ -229,7 +257,7 @@ fn a_faulty_row_starts_no_thread(rt: HostRuntime) -> Result<(), Fail> {
         "",
         "glm: row 2: Path LeadingZero\n",
     );
-    want_entered_and_left(&rt, &gate, 0);
+    assert!(rt; gate.steps().as_slice() == [0, 0, 0].as_slice());
     Ok(())
 }
 

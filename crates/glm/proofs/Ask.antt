@@ -1,5 +1,5 @@
 -- The request of a parsed command, from its options up to the words: at most one, and when there is none.
-use Rattle.std.proofs.Common.{rules, arith, ap, ap₂, refl, subst, sym, ◌≡◌, ◌≢◌, ◌∙◌, ◌<◌, ◌≤◌, ◌^◌, ℕ, List, [], Option, Some, None, codes}
+use Rattle.std.proofs.Common.{rules, arith, ap, ap₂, subst, sym, ◌≡◌, ◌≢◌, ◌∙◌, ◌<◌, ◌^◌, ℕ, List, [], Option, Some, None, codes}
 use Rattle.std.specs.Prelude.{Ok, Err, IfSome, IfNone, decimal}
 use Rattle.std.proofs.lemmas.Fmt.{decimal_injective}
 use Rattle.clap.specs.Simple.{subcommand_of}

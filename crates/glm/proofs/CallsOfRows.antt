@@ -1,5 +1,5 @@
 -- The numbers of calls of all sessions add up to the number of rows.
-use Rattle.std.proofs.Common.{rules, arith, ap, sym, refl, subst, inl, inr, ◌≡◌, ◌∙◌, ◌≢◌, ◌<◌, ◌≤◌, ◌+◌, ◌⊎◌, ℕ, zero, suc, Bool, true, false, cond, eqb, List, [], ◌∷◌, ◌++◌, length, map}
+use Rattle.std.proofs.Common.{arith, ap, sym, refl, inl, inr, ◌≡◌, ◌∙◌, ◌≢◌, ◌<◌, ◌≤◌, ◌+◌, ◌⊎◌, ℕ, zero, suc, Bool, cond, eqb, List, [], ◌∷◌, ◌++◌, length, map}
 use Rattle.std.specs.List.{All, filter, sum_by}
 use Rattle.std.proofs.lemmas.Bool.{eq-eqb, ne_eqb, cases_lt}
 use Rattle.std.proofs.lemmas.List.Sums.{sum_by_push}

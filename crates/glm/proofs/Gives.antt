@@ -1,6 +1,6 @@
 -- The numbers that options give, and the command that was found.
-use Rattle.std.proofs.Common.{rules, arith, ap, ap₂, refl, sym, ◌≡◌, ◌∙◌, ◌<◌, ◌≤◌, ◌^◌, ℕ, List, Option, Some, None}
-use Rattle.std.specs.Prelude.{Result, Ok, Err, option_map, decimal, IfSome, IfNone}
+use Rattle.std.proofs.Common.{rules, ap, ap₂, sym, ◌≡◌, ◌∙◌, ◌<◌, ◌^◌, ℕ, List, Option, Some, None}
+use Rattle.std.specs.Prelude.{Result, Ok, option_map, decimal, IfSome}
 use Rattle.clap.specs.Walk.{Row, Text, first_of}
 use Rattle.lock_tree.specs.Numerals.{reading_of_numeral}
 use Rattle.lock_tree.specs.declared.numeral.NumeralFault.{NumeralFault}

@@ -1,6 +1,5 @@
 -- From the calls of a session to the sessions that performed their rows.
-use Rattle.std.proofs.Common.{rules, ap, sym, refl, ◌≡◌, ◌∙◌, ℕ, List, [], None, Some, Option, option_map, false}
-use Rattle.lock_rules.specs.declared.calls.Call.{Call}
+use Rattle.std.proofs.Common.{ap, sym, refl, ◌≡◌, ◌∙◌, ℕ, List, [], None, Some, Option, option_map, false}
 use Rattle.publication.specs.Views.{BoardView, TicketView, Pending}
 use Rattle.combining.specs.Sessions.{IsSessionOf}
 use Rattle.lock_trace.specs.declared.rows.TraceRow.{TraceRow}

@@ -1,11 +1,10 @@
 -- The history of an office that is closed after its sessions performed their rows.
-use Rattle.std.proofs.Common.{rules, arith, ap, sym, refl, subst, inl, inr, ◌≡◌, ◌∙◌, ◌≢◌, ◌<◌, ◌≤◌, ◌+◌, ◌-◌, ◌⊎◌, ℕ, zero, suc, Bool, true, false, cond, eqb, List, [], ◌∷◌, ◌++◌, length, map, get_or}
+use Rattle.std.proofs.Common.{arith, ap, sym, refl, subst, inl, inr, ◌≡◌, ◌∙◌, ◌≢◌, ◌<◌, ◌≤◌, ◌+◌, ◌-◌, ◌⊎◌, ℕ, zero, suc, Bool, cond, List, [], ◌∷◌, ◌++◌, length, get_or}
 use Rattle.std.proofs.lemmas.List.{length-append, length-map, map-append, get_or_append_left, get_or_at}
 use Rattle.std.specs.List.{All, Any, sum_by}
-use Rattle.std.proofs.lemmas.Bool.{ne_eqb, cases_lt, cases_order}
+use Rattle.std.proofs.lemmas.Bool.{ne_eqb, cases_lt}
 use Rattle.std.proofs.lemmas.List.Sums.{sum_by-cons}
 use Rattle.std.proofs.lemmas.List.Elements.{All-head, All-tail, All-nil, All-push, All-weaker}
-use Rattle.lock_rules.specs.declared.calls.Call.{Call}
 use Rattle.lock_rules.specs.declared.calls.Entry.{Entry}
 use Rattle.lock_rules.specs.Legal.{Answered, calls_from, calls_of}
 use Rattle.lock_desk.specs.BookView.{BookView, IsEntryWithin}
@@ -20,7 +19,7 @@ use Rattle.lock_trace.specs.Rows.{IsRow}
 use Rattle.glm.specs.Calls.{calls_answered, calls_of_rows}
 use Rattle.glm.specs.Runs.{IsRunOf}
 use Rattle.glm.specs.Workers.{IsNewSession, IsPerformed, numbers_of}
-use Rattle.glm.proofs.CallsOfRows.{calls-none, calls_to, calls_to-all, numbers_to}
+use Rattle.glm.proofs.CallsOfRows.{calls-none, calls_to-all, numbers_to}
 
 -- the first k new sessions have the numbers 1 to k
 numbers-new : (office : BoardView) (n k : ℕ) → numbers_of (new_tickets office.id n k) ≡ numbers_to k

@@ -6,3 +6,4 @@ pub mod IsPassed
 pub mod IsPerformed
 pub mod IsRunOf
 pub mod IsVerdict
+pub mod PartsWritten

@@ -10,10 +10,11 @@ use Rattle.glm.specs.declared.outcomes.Outcome.{Outcome}
 use Rattle.glm.specs.declared.outcomes.Outcome.TheVariants as outcome
 use Rattle.glm.specs.declared.outcomes.TheConstants.{DONE, USAGE, ILLEGAL, NO_MEMORY, DEVICE}
 use Rattle.glm.specs.CommandLine.{AskReplay, AskRun, AskCheck, AskHelp, AskVersion, AskNothing}
-use Rattle.glm.specs.Replays.{HasServed, IsFaultOfOneThread, Replays}
-use Rattle.glm.specs.Runs.{HasPerformed, Runs}
+use Rattle.glm.specs.Replays.{HasServed, HasServedPart, IsFaultOfOneThread, Replays}
+use Rattle.glm.specs.Runs.{HasPerformed, HasPerformedPart, Runs}
 use Rattle.glm.specs.Statuses.{status_for}
 use Rattle.glm.specs.Verdicts.{Checks, IsHistory}
+use Rattle.glm.specs.Written.{AppendsPart}
 
 -- the exit status of an outcome
 abbrev pub status_of_outcome : Outcome → ℕ
@@ -36,6 +37,7 @@ pub record HasAnswered (words : List Text) (input old new : Option (List ℕ)) (
   pub sessions : ℕ
   pub asked : AskReplay words sessions
   pub kept : IfErr answer (λ fault. fault ≢ tool.Device → Keeps old new)
+  pub part : IfErr answer (λ fault. fault ≡ tool.Device → HasServedPart sessions old new)
   pub served : IfOk answer (λ count. HasServed sessions count old new)
   pub faults : IfErr answer (λ fault. IsFaultOfOneThread fault)
   pub replays : (bytes : List ℕ) → input ≡ Some bytes → Replays sessions bytes old new answer
@@ -46,6 +48,7 @@ pub record HasAnsweredRun (words : List Text) (input old new : Option (List ℕ)
   pub turns : ℕ
   pub asked : AskRun words sessions turns
   pub kept : IfErr answer (λ fault. fault ≢ tool.Device → Keeps old new)
+  pub part : IfErr answer (λ fault. fault ≡ tool.Device → HasPerformedPart sessions old new)
   pub performed : IfOk answer (λ count. HasPerformed sessions count old new)
   pub runs : (bytes : List ℕ) → input ≡ Some bytes → Runs sessions bytes old new answer
 
@@ -63,18 +66,26 @@ PrintsVerdict n bytes (Err tool.Device) = IsHistory n bytes
 PrintsVerdict n bytes (Err tool.GateShut) = ⊥
 PrintsVerdict n bytes (Err tool.TurnLimit) = ⊥
 
+-- the output grew by the first bytes of the line of a verdict, and by nothing else; if the input's bytes are known, the
+-- verdict is right
+pub record HasPrintedPart (n : ℕ) (input old new : Option (List ℕ)) : Type 0 where
+  pub verdict : Verdict
+  pub is_right : (bytes : List ℕ) → input ≡ Some bytes → Checks n bytes (Ok verdict)
+  pub written : AppendsPart old new (text_of_verdict verdict)
+
 -- the words ask for a check, and `answer` is its verdict, which was printed, or its fault
 pub record HasAnsweredCheck (words : List Text) (input old new : Option (List ℕ)) (answer : Result Verdict ToolFault) : Type 0 where
   pub sessions : ℕ
   pub asked : AskCheck words sessions
   pub kept : IfErr answer (λ fault. fault ≢ tool.Device → Keeps old new)
+  pub part : IfErr answer (λ fault. fault ≡ tool.Device → HasPrintedPart sessions input old new)
   pub written : IfOk answer (λ found. Appends old new (text_of_verdict found))
   pub faults : IfErr answer (λ fault. IsFaultOfOneThread fault)
   pub checks : (bytes : List ℕ) → input ≡ Some bytes → PrintsVerdict sessions bytes answer
 
 -- the text of `--version`: the project's version, and the kit and the logic that it was proved with
 abbrev pub text_of_version : List ℕ
-text_of_version = codes "glm 0.7.0\nproved with rattle-kit-13b, logic dac8208d650f15bf\n"
+text_of_version = codes "glm 0.7.0\nproved with rattle-kit-13f, logic dac8208d650f15bf\n"
 
 -- what an outcome says of the words, the input's bytes and the output, which holds `old` before and `new` after
 abbrev pub HasDone : List Text → Option (List ℕ) → Option (List ℕ) → Option (List ℕ) → Outcome → Type 0
@@ -84,6 +95,6 @@ HasDone words input old new (outcome.Check answer) = HasAnsweredCheck words inpu
 HasDone words input old new outcome.HelpShown = AskHelp words
 HasDone words input old new outcome.HelpFailed = AskHelp words
 HasDone words input old new outcome.VersionShown = AskVersion words × Appends old new text_of_version
-HasDone words input old new outcome.VersionFailed = AskVersion words
+HasDone words input old new outcome.VersionFailed = AskVersion words × AppendsPart old new text_of_version
 HasDone words input old new outcome.Misused = AskNothing words × Keeps old new
 HasDone words input old new outcome.OutOfMemory = Keeps old new

@@ -9,6 +9,7 @@ use Rattle.lock_trace.specs.Traces.{trace_of, Tells}
 use Rattle.lock_trace.specs.Histories.{row_of_entry, text_of_history}
 use Rattle.glm.specs.declared.tool_fault.ToolFault.{ToolFault}
 use Rattle.glm.specs.declared.tool_fault.ToolFault.TheVariants as tool
+use Rattle.glm.specs.Written.{AppendsPart}
 
 -- every row is valid for `n` sessions
 abbrev pub AreRows : ℕ → List TraceRow → Type 0
@@ -29,9 +30,17 @@ pub record HasReplayed (rows : List TraceRow) (old new : Option (List ℕ)) : Ty
   pub is_history : IsTextFor rows text
   pub written : Appends old new text
 
+-- the output grew by the first bytes of the text of the rows' history, and by nothing else
+abbrev pub HasReplayedPart : List TraceRow → Option (List ℕ) → Option (List ℕ) → Type 0
+HasReplayedPart rows old new = (text : List ℕ) × (IsTextFor rows text × AppendsPart old new text)
+
 -- for some `count` rows, valid for `n` sessions, the output grew by the text of their history, and by nothing else
 abbrev pub HasServed : ℕ → ℕ → Option (List ℕ) → Option (List ℕ) → Type 0
 HasServed n count old new = (rows : List TraceRow) × (AreRows n rows × (count ≡ length rows) × HasReplayed rows old new)
+
+-- for some rows, valid for `n` sessions, the output grew by the first bytes of the text of their history, and by nothing else
+abbrev pub HasServedPart : ℕ → Option (List ℕ) → Option (List ℕ) → Type 0
+HasServedPart n old new = (rows : List TraceRow) × (AreRows n rows × HasReplayedPart rows old new)
 
 -- a fault that is possible without threads: `Trace`, `NoMemory` or `Device`
 abbrev pub IsFaultOfOneThread : ToolFault → Type 0
@@ -50,6 +59,6 @@ abbrev pub Replays : ℕ → List ℕ → Option (List ℕ) → Option (List ℕ
 Replays n bytes old new (Ok count) = (rows : List TraceRow) × ((trace_of n bytes ≡ Ok rows) × (count ≡ length rows) × HasReplayed rows old new)
 Replays n bytes old new (Err (tool.Trace fault)) = Tells n bytes fault × Keeps old new
 Replays n bytes old new (Err tool.NoMemory) = IsTrace n bytes × Keeps old new
-Replays n bytes old new (Err tool.Device) = IsTrace n bytes
+Replays n bytes old new (Err tool.Device) = (rows : List TraceRow) × ((trace_of n bytes ≡ Ok rows) × HasReplayedPart rows old new)
 Replays n bytes old new (Err tool.GateShut) = ⊥
 Replays n bytes old new (Err tool.TurnLimit) = ⊥

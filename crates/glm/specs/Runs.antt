@@ -1,5 +1,5 @@
 -- The result of a run on threads, and what the run writes.
-use Rattle.std.specs.Prelude.{◌≡◌, ℕ, List, length, Option, Result, Ok, Err}
+use Rattle.std.specs.Prelude.{◌≡◌, ◌⊎◌, ℕ, List, length, Option, Result, Ok, Err}
 use Rattle.std.specs.Io.KnownBytes.{Keeps, Appends}
 use Rattle.lock_rules.specs.declared.calls.Entry.{Entry}
 use Rattle.lock_rules.specs.Legal.{IsLegal, calls_of}
@@ -10,6 +10,7 @@ use Rattle.glm.specs.declared.tool_fault.ToolFault.{ToolFault}
 use Rattle.glm.specs.declared.tool_fault.ToolFault.TheVariants as tool
 use Rattle.glm.specs.Calls.{calls_answered, calls_of_rows}
 use Rattle.glm.specs.Replays.{AreRows, IsTrace}
+use Rattle.glm.specs.Written.{AppendsPart}
 
 -- the history is legal, and the calls of each session in it are the calls of that session's rows, in order
 pub record IsRunOf (rows : List TraceRow) (history : List Entry) : Type 0 where
@@ -27,15 +28,23 @@ pub record HasRun (rows : List TraceRow) (old new : Option (List ℕ)) : Type 0 
   pub is_history : IsTextOfRun rows text
   pub written : Appends old new text
 
+-- nothing was written, or the output grew by the first bytes of the text of some such history, and by nothing else
+abbrev pub HasRunPart : List TraceRow → Option (List ℕ) → Option (List ℕ) → Type 0
+HasRunPart rows old new = Keeps old new ⊎ ((text : List ℕ) × (IsTextOfRun rows text × AppendsPart old new text))
+
 -- for some `count` rows, valid for `n` sessions, the output grew by the text of such a history, and by nothing else
 abbrev pub HasPerformed : ℕ → ℕ → Option (List ℕ) → Option (List ℕ) → Type 0
 HasPerformed n count old new = (rows : List TraceRow) × (AreRows n rows × (count ≡ length rows) × HasRun rows old new)
+
+-- for some rows, valid for `n` sessions, nothing was written, or the first bytes of the text of such a history
+abbrev pub HasPerformedPart : ℕ → Option (List ℕ) → Option (List ℕ) → Type 0
+HasPerformedPart n old new = (rows : List TraceRow) × (AreRows n rows × HasRunPart rows old new)
 
 -- the result of a run of these bytes for `n` sessions; the output holds `old` before and `new` after
 abbrev pub Runs : ℕ → List ℕ → Option (List ℕ) → Option (List ℕ) → Result ℕ ToolFault → Type 0
 Runs n bytes old new (Ok count) = (rows : List TraceRow) × ((trace_of n bytes ≡ Ok rows) × (count ≡ length rows) × HasRun rows old new)
 Runs n bytes old new (Err (tool.Trace fault)) = Tells n bytes fault × Keeps old new
 Runs n bytes old new (Err tool.NoMemory) = IsTrace n bytes × Keeps old new
-Runs n bytes old new (Err tool.Device) = IsTrace n bytes
+Runs n bytes old new (Err tool.Device) = (rows : List TraceRow) × ((trace_of n bytes ≡ Ok rows) × HasRunPart rows old new)
 Runs n bytes old new (Err tool.GateShut) = IsTrace n bytes × Keeps old new
 Runs n bytes old new (Err tool.TurnLimit) = IsTrace n bytes × Keeps old new

@@ -1,8 +1,10 @@
 -- The work of the threads of a run.
-use Rattle.std.specs.Prelude.{◌≡◌, ℕ, nat_le, if◌then◌else◌, List, [], map, option_map, Option, Some, None}
+use Rattle.std.specs.Prelude.{◌≡◌, ℕ, ◌+◌, ◌≤◌, nat_le, if◌then◌else◌, Bool, false, List, [], map, option_map, Option, Some, None}
 use Rattle.lock_rules.specs.declared.calls.Call.{Call}
 use Rattle.publication.specs.Views.{BoardView, TicketView}
 use Rattle.combining.specs.Sessions.{IsSessionOf, IsIdle}
+use Rattle.combining.specs.declared.office.Turn.{Turn}
+use Rattle.combining.specs.declared.office.Turn.TheVariants as turn
 use Rattle.lock_trace.specs.declared.rows.TraceRow.{TraceRow}
 use Rattle.glm.specs.Statuses.{number_of_fault}
 use Rattle.glm.specs.Calls.{calls_answered, calls_of_rows}
@@ -27,6 +29,15 @@ calls_known session = record {
   pending = option_map (λ p. p.call) session.pending;
   collected = calls_answered session.collected;
 }
+
+-- whether the turn was the session's own pass and found no memory for a call
+abbrev pub is_starved_turn : Turn → Bool
+is_starved_turn turn.Elsewhere = false
+is_starved_turn (turn.Pass served starved) = starved
+
+-- at most `turns` more tries than `before`
+abbrev pub TriedAtMost : (ℕ → Type 0) → ℕ → ℕ → Type 0
+TriedAtMost has_tried before turns = (tries : ℕ) × (tries ≤ before + turns) × has_tried tries
 
 -- the session belongs to this office, is idle, and has collected no answer
 pub record IsNewSession (office : BoardView) (session : TicketView) : Type 0 where

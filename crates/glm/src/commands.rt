@@ -7,7 +7,7 @@ ghost use Rattle.clap.specs.Walk.{texts};
 ghost use Rattle.lock_rules.specs.declared.calls.TheConstants.{MAX_SESSIONS};
 ghost use Rattle.glm.specs.declared.outcomes.Outcome.{Outcome};
 ghost use Rattle.glm.specs.declared.outcomes.TheConstants.{DONE, ILLEGAL, DEVICE};
-ghost use Rattle.glm.specs.Outcomes.{HasDone, PrintsVerdict, status_of_outcome, text_of_verdict};
+ghost use Rattle.glm.specs.Outcomes.{HasDone, HasPrintedPart, PrintsVerdict, status_of_outcome, text_of_verdict};
 ghost use Rattle.glm.specs.ParserErrors.{IsOutcomeOfError};
 ghost use Rattle.glm.specs.Replays.{IsFaultOfOneThread};
 ghost use Rattle.glm.specs.Statuses.{IsStatus};
@@ -20,6 +20,7 @@ use crate::replaying::replay;
 use crate::running::run;
 use crate::texts::{NOT_A_NUMERAL, VERSION_TEXT};
 use crate::tool_fault::ToolFault;
+use crate::writing::write_text;
 use clap::Error;
 use clap::error::ErrorKind;
 use std::alloc::{AllocError, Global};
@@ -36,7 +37,7 @@ fn outcome_of_error<W: Write, E: Write>(error: &Error, output: &mut W, errors: &
             Ok(()) => Outcome::HelpShown,
             Err(_) => Outcome::HelpFailed,
         },
-        ErrorKind::DisplayVersion => match output.write_all(VERSION_TEXT.as_bytes()) {
+        ErrorKind::DisplayVersion => match write_text(output, VERSION_TEXT.as_bytes()) {
             Ok(()) => Outcome::VersionShown,
             Err(_) => Outcome::VersionFailed,
         },
@@ -60,6 +61,7 @@ fn verdict_line(alloc: Global, verdict: Verdict) -> Result<String, AllocError>
 
 /// Checks a history and writes the verdict to `output`. The fault is that of the check, or `NoMemory` if there is no memory
 /// for the line, or `Device` if the writer fails.
+#[tactic(auto, using(crate::proofs::PartsWritten::check_part))]
 fn write_verdict<R: Read + Drop, W: Write>(
     alloc: Global,
     input: R,
@@ -69,6 +71,7 @@ fn write_verdict<R: Read + Drop, W: Write>(
     requires some { 0 < sessions }
     requires few { sessions ≤ MAX_SESSIONS }
     ensures kept { IfErr result (λ fault. fault ≢ ToolFault.Device → Keeps (W.contents output.old) (W.contents output.new)) }
+    ensures part { IfErr result (λ fault. fault ≡ ToolFault.Device → HasPrintedPart sessions (R.remaining input) (W.contents output.old) (W.contents output.new)) }
     ensures faults { IfErr result (λ fault. IsFaultOfOneThread fault) }
     ensures written { IfOk result (λ verdict. Appends (W.contents output.old) (W.contents output.new) (text_of_verdict verdict)) }
     ensures checks { (bytes : List ℕ) → R.remaining input ≡ Some bytes → PrintsVerdict sessions bytes result }
@@ -77,7 +80,7 @@ fn write_verdict<R: Read + Drop, W: Write>(
     let Ok(line) = verdict_line(alloc, verdict) else {
         return Err(ToolFault::NoMemory);
     };
-    if output.write_all(line.as_bytes()).is_err() {
+    if write_text(output, line.as_bytes()).is_err() {
         return Err(ToolFault::Device);
     }
     Ok(verdict)

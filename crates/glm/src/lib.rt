@@ -13,6 +13,7 @@ mod texts;
 mod threads;
 mod tool_fault;
 mod workers;
+mod writing;
 
 pub use args::MAX_TURNS;
 pub use call_gate::{Gate, OpenGate};

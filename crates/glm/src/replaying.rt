@@ -4,9 +4,10 @@ ghost use Rattle.std.specs.Io.KnownBytes.{Keeps};
 ghost use Rattle.std.specs.Prelude.{◌≡◌, ◌≢◌, ℕ, ◌<◌, ◌≤◌, List, Some, map, IfOk, IfErr};
 ghost use Rattle.lock_rules.specs.declared.calls.TheConstants.{MAX_SESSIONS};
 ghost use Rattle.lock_trace.specs.Histories.{row_of_entry};
-ghost use Rattle.glm.specs.Replays.{AreRows, HasServed, IsFaultOfOneThread, IsTextFor, Replays};
+ghost use Rattle.glm.specs.Replays.{AreRows, HasServed, HasServedPart, IsFaultOfOneThread, IsTextFor, Replays};
 
 use crate::tool_fault::ToolFault;
+use crate::writing::write_text;
 use lock_desk::{Book, NoMemory};
 use lock_trace::{TraceRow, history_text, read_trace};
 use std::alloc::Global;
@@ -43,8 +44,9 @@ fn served_text(alloc: Global, rows: Vec<TraceRow>, sessions: u16) -> Result<Vec<
 /// of its history. Returns the number of rows.
 ///
 /// The whole text is made before the first byte is written. After every fault except `Device` nothing was written; after
-/// `Device` an unknown part of the text may have been written. The fault `Trace` names the first faulty row and the first
-/// test that the row fails.
+/// `Device` the beginning of the text may have been written, and nothing else. The fault `Trace` names the first faulty row
+/// and the first test that the row fails.
+#[tactic(auto, using(crate::proofs::PartsWritten::replay_part, crate::proofs::PartsWritten::replay_part_known))]
 pub fn replay<R: Read + Drop, W: Write>(
     alloc: Global,
     input: R,
@@ -55,6 +57,7 @@ pub fn replay<R: Read + Drop, W: Write>(
     requires few { sessions ≤ MAX_SESSIONS }
     // hold for every reader
     ensures kept { IfErr result (λ fault. fault ≢ ToolFault.Device → Keeps (W.contents output.old) (W.contents output.new)) }
+    ensures part { IfErr result (λ fault. fault ≡ ToolFault.Device → HasServedPart sessions (W.contents output.old) (W.contents output.new)) }
     ensures served { IfOk result (λ count. HasServed sessions count (W.contents output.old) (W.contents output.new)) }
     ensures faults { IfErr result (λ fault. IsFaultOfOneThread fault) }
 
@@ -69,7 +72,7 @@ pub fn replay<R: Read + Drop, W: Write>(
     let Ok(text) = served_text(alloc, rows, sessions) else {
         return Err(ToolFault::NoMemory);
     };
-    if output.write_all(&text).is_err() {
+    if write_text(output, &text).is_err() {
         return Err(ToolFault::Device);
     }
     Ok(count)

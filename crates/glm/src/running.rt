@@ -5,13 +5,14 @@ ghost use Rattle.std.specs.Prelude.{◌≡◌, ◌≢◌, ℕ, ◌<◌, ◌≤�
 ghost use Rattle.lock_rules.specs.declared.calls.TheConstants.{MAX_SESSIONS};
 ghost use Rattle.lock_trace.specs.Histories.{text_of_history};
 ghost use Rattle.glm.specs.Replays.{AreRows};
-ghost use Rattle.glm.specs.Runs.{HasPerformed, IsRunOf, IsTextOfRun, Runs};
+ghost use Rattle.glm.specs.Runs.{HasPerformed, HasPerformedPart, IsRunOf, IsTextOfRun, Runs};
 ghost use Rattle.glm.specs.Workers.{fault_of_stop};
 
 use crate::call_gate::Gate;
 use crate::threads::perform_all;
 use crate::tool_fault::ToolFault;
 use crate::workers::Stop;
+use crate::writing::write_text;
 use combining::Office;
 use lock_desk::Book;
 use lock_trace::{TraceRow, history_text, read_trace};
@@ -87,9 +88,10 @@ fn performed_text<R: Threads + Wait, G: Gate>(
 /// Returns the number of rows.
 ///
 /// The whole trace is read before a thread is started, and the whole text is made before its first byte is written. After
-/// every fault except `Device` nothing was written; after `Device` an unknown part of the text may have been written. The
-/// fault `Trace` names the first faulty row and the first test that the row fails. If threads stop for several reasons,
-/// the fault with the least number is returned. No contract says that this call returns.
+/// every fault except `Device` nothing was written; after `Device` the beginning of the text may have been written, and
+/// nothing else. The fault `Trace` names the first faulty row and the first test that the row fails. If threads stop for
+/// several reasons, the fault with the least number is returned. No contract says that this call returns.
+#[tactic(auto, using(crate::proofs::PartsWritten::run_part, crate::proofs::PartsWritten::run_part_known, crate::proofs::PartsWritten::run_stopped, crate::proofs::PartsWritten::run_stopped_known))]
 pub fn run<R: Read + Drop, W: Write, T: Threads + Wait, G: Gate>(
     rt: &T,
     alloc: Global,
@@ -103,6 +105,7 @@ pub fn run<R: Read + Drop, W: Write, T: Threads + Wait, G: Gate>(
     requires few { sessions ≤ MAX_SESSIONS }
     // hold for every reader
     ensures kept { IfErr result (λ fault. fault ≢ ToolFault.Device → Keeps (W.contents output.old) (W.contents output.new)) }
+    ensures part { IfErr result (λ fault. fault ≡ ToolFault.Device → HasPerformedPart sessions (W.contents output.old) (W.contents output.new)) }
     ensures performed { IfOk result (λ count. HasPerformed sessions count (W.contents output.old) (W.contents output.new)) }
 
     // holds for a reader whose bytes are known
@@ -117,7 +120,7 @@ pub fn run<R: Read + Drop, W: Write, T: Threads + Wait, G: Gate>(
         Ok(text) => text,
         Err(stop) => return Err(stop.fault()),
     };
-    if output.write_all(&text).is_err() {
+    if write_text(output, &text).is_err() {
         return Err(ToolFault::Device);
     }
     Ok(count)

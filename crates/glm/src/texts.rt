@@ -4,7 +4,7 @@
 pub const VERSION: &str = "0.7.0";
 
 /// The text of `--version`: the project's version, and the kit and the logic that it was proved with.
-pub const VERSION_TEXT: &str = "glm 0.7.0\nproved with rattle-kit-13b, logic dac8208d650f15bf\n";
+pub const VERSION_TEXT: &str = "glm 0.7.0\nproved with rattle-kit-13f, logic dac8208d650f15bf\n";
 
 /// The beginning of the help of `replay`.
 pub(crate) const ABOUT_REPLAY: &str =

@@ -1,6 +1,6 @@
 //! The threads of a run: one for each session that has a row.
 
-ghost use Rattle.std.specs.Prelude.{◌≡◌, ◌≤◌, ◌++◌, ◌∷◌, [], ℕ, false, Some, None, List, IfOk, IfErr, IfSome, OnOk, length, map, vec_len, All};
+ghost use Rattle.std.specs.Prelude.{◌≡◌, ◌⊎◌, ◌≤◌, ◌++◌, ◌∷◌, [], ℕ, false, Some, None, List, IfOk, IfErr, IfSome, OnOk, length, map, vec_len, All};
 ghost use Rattle.std.specs.Bool.{OnFalse};
 ghost use Rattle.combining.specs.Sessions.{IsSessionOf, IsIdle};
 ghost use Rattle.glm.specs.Calls.{calls_of_rows};
@@ -182,7 +182,8 @@ fn append_finished(
     reason: Option<Stop>,
     worked: ThreadResult,
 ) -> Option<Stop>
-    ensures { result ≡ None → (reason ≡ None) × (worked.stop ≡ None) × (done.new.items ≡ done.old.items ++ worked.session ∷ []) }
+    ensures done { result ≡ None → (reason ≡ None) × (worked.stop ≡ None) × (done.new.items ≡ done.old.items ++ worked.session ∷ []) }
+    ensures reason { (result ≡ Some Stop.NoMemory) ⊎ (result ≡ first_of_stops reason worked.stop) }
 {
     let ThreadResult { session, stop } = worked;
     if done.push(session).is_err() {

@@ -1,16 +1,15 @@
 //! The work of one thread of a run: performs the rows of its session one after another, each once.
 
-ghost use Rattle.std.specs.Prelude.{◌≡◌, ◌<◌, ◌++◌, ◌∷◌, [], false, Some, None, OnOk, length};
+ghost use Rattle.std.specs.Prelude.{◌≡◌, ℕ, ◌+◌, ◌*◌, ◌<◌, ◌++◌, ◌∷◌, [], false, Some, None, Err, OnOk, length};
 ghost use Rattle.std.specs.Bool.{OnTrue};
 ghost use Rattle.glm.specs.Calls.{calls_of_rows};
-ghost use Rattle.glm.specs.Workers.{fault_of_stop, rank_of_stop};
+ghost use Rattle.glm.specs.Workers.{TriedAtMost, fault_of_stop, is_starved_turn, rank_of_stop};
 
 use crate::call_gate::Gate;
 use crate::tool_fault::ToolFault;
 use combining::{Office, Session, Turn};
-use lock_desk::{Call, NoMemory};
+use lock_desk::Call;
 use lock_trace::TraceRow;
-use std::alloc::AllocError;
 use std::{hint, thread};
 
 /// Why a thread stopped before its last row, or why a run failed. If there are several reasons, the first in this order is
@@ -49,12 +48,12 @@ impl Stop {
 }
 
 /// A shared lock table as a thread of a run uses it: publish a call, serve, collect the answer. Generic, so that the
-/// contracts of the work don't depend on the office.
+/// contracts of the work don't depend on the office. They hold for a service that counts its sessions' tries, too.
 pub(crate) trait Service: Sync {
-    ghost use Rattle.std.specs.Prelude.{◌≡◌, ◌++◌, ◌∷◌, [], Some, None};
+    ghost use Rattle.std.specs.Prelude.{◌≡◌, ◌≢◌, ℕ, ◌+◌, ◌++◌, ◌∷◌, [], true, false, Some, None};
     ghost use Rattle.std.specs.Bool.{OnTrue, OnFalse};
     ghost use Rattle.lock_rules.specs.declared.calls.Call.{Call as CallValue};
-    ghost use Rattle.glm.specs.Workers.{Calls};
+    ghost use Rattle.glm.specs.Workers.{Calls, is_starved_turn};
 
     /// A session's handle.
     type Session;
@@ -65,18 +64,36 @@ pub(crate) trait Service: Sync {
     // the session's number, its pending call, and the calls whose answers it collected
     ghost calls: { Self.Session → Calls };
 
+    // the session tried this often to serve, and none of its passes was starved
+    ghost has_tried: { Self.Session → ℕ → Type 0 };
+
+    // the session's last pass was starved
+    ghost was_starved: { Self.Session → Type 0 };
+
+    // how many entries of the history the session knows
+    ghost known: { Self.Session → ℕ };
+
+    // the answer to the session's pending call is in the history that it knows
+    ghost is_served: { Self.Session → Type 0 };
+
     /// Publishes a call of the session, which has none pending.
     fn publish(&self, session: &mut Self::Session, call: Call)
         requires ours { is_of self.now session.old }
         requires idle { (calls session.old).pending ≡ None }
         ensures ours { is_of self.now session.new }
-        ensures published { calls session.new ≡ record (calls session.old) { pending = Some call } };
+        ensures published { calls session.new ≡ record (calls session.old) { pending = Some call } }
+        ensures tried { (tries : ℕ) → has_tried session.old tries → has_tried session.new tries };
 
-    /// Tries once to serve the published calls. Fails with `NoMemory` if the session's own pass found no memory for a call.
-    fn serve(&self, session: &mut Self::Session) -> Result<(), NoMemory>
+    /// Tries once to serve the published calls. `Elsewhere` changes nothing that the session knows of the history. After a
+    /// pass that wasn't starved the session's pending call is served.
+    fn serve(&self, session: &mut Self::Session) -> Turn
         requires { is_of self.now session.old }
         ensures ours { is_of self.now session.new }
-        ensures same { calls session.new ≡ calls session.old };
+        ensures same { calls session.new ≡ calls session.old }
+        ensures tried { (tries : ℕ) → is_starved_turn result ≡ false → has_tried session.old tries → has_tried session.new (tries + 1) }
+        ensures starved { is_starved_turn result ≡ true → was_starved session.new }
+        ensures elsewhere { result ≡ Turn.Elsewhere → known session.new ≡ known session.old }
+        ensures served { (count : ℕ) → result ≡ Turn.Pass count false → (calls session.old).pending ≢ None → is_served session.new };
 
     /// Collects the answer to the pending call. Returns whether the answer was there.
     fn collect(&self, session: &mut Self::Session) -> bool
@@ -87,12 +104,13 @@ pub(crate) trait Service: Sync {
               pending = None;
               collected = (calls session.old).collected ++ call ∷ [];
             }) }
-        ensures not_yet { OnFalse result (calls session.new ≡ calls session.old) };
+        ensures not_yet { OnFalse result (calls session.new ≡ calls session.old) }
+        ensures tried { (tries : ℕ) → has_tried session.old tries → has_tried session.new tries };
 }
 
 impl Service for Office {
-    ghost use Rattle.std.specs.Prelude.{◌≡◌, false};
-    ghost use Rattle.combining.specs.Sessions.{IsSessionOf};
+    ghost use Rattle.std.specs.Prelude.{◌≡◌, false, length};
+    ghost use Rattle.combining.specs.Sessions.{IsSessionOf, IsPendingServed};
     ghost use Rattle.glm.specs.Workers.{calls_known};
 
     /// A session of the office.
@@ -102,22 +120,39 @@ impl Service for Office {
 
     ghost calls = { calls_known };
 
+    // a session of an office doesn't count its tries
+    ghost has_tried = { λ session tries. Unit {0} };
+
+    // nor does it remember a starved pass
+    ghost was_starved = { λ session. Unit {0} };
+
+    ghost known = { λ session. length session.front };
+
+    ghost is_served = { IsPendingServed };
+
     /// Publishes the call by the session's publication record.
     fn publish(&self, session: &mut Session, call: Call) {
         let _posted = Office::publish(self, session, call);
     }
 
     /// Makes a pass as the combiner, or returns at once if another session is the combiner.
-    fn serve(&self, session: &mut Session) -> Result<(), NoMemory> {
-        match Office::serve(self, session) {
-            Turn::Pass { starved, .. } if starved => Err(AllocError),
-            Turn::Pass { .. } | Turn::Elsewhere => Ok(()),
-        }
+    fn serve(&self, session: &mut Session) -> Turn {
+        Office::serve(self, session)
     }
 
     /// Takes the answer from the session's publication record, if it is there.
     fn collect(&self, session: &mut Session) -> bool {
         Office::collect(self, session).is_some()
+    }
+}
+
+/// Whether the turn was a pass that found no memory for a call.
+fn is_starved(turn: Turn) -> bool
+    ensures { result ≡ is_starved_turn turn }
+{
+    match turn {
+        Turn::Pass { starved, .. } => starved,
+        Turn::Elsewhere => false,
     }
 }
 
@@ -138,8 +173,8 @@ fn back_off(tries: u64) {
     }
 }
 
-/// Serves and collects until the answer to the pending call is there, at most `turns` times. Fails with `NoMemory` if a pass
-/// found none, and with `TurnLimit` if no try collected the answer.
+/// Serves and collects until the answer to the pending call is there, at most `turns` times. Fails with `NoMemory` at the
+/// first pass of its own that is starved, and with `TurnLimit` after `turns` tries.
 fn wait_for_answer<S: Service>(
     service: &S,
     session: &mut S::Session,
@@ -152,9 +187,12 @@ fn wait_for_answer<S: Service>(
           pending = None;
           collected = (S.calls session.old).collected ++ call ∷ [];
         }) }
+    ensures tried { OnOk result ((before : ℕ) → S.has_tried session.old before → TriedAtMost (S.has_tried session.new) before turns) }
+    ensures limit { result ≡ Err Stop.TurnLimit → (before : ℕ) → S.has_tried session.old before → S.has_tried session.new (before + turns) }
+    ensures starved { result ≡ Err Stop.NoMemory → S.was_starved session.new }
 {
     for tries in 0..turns {
-        if service.serve(session).is_err() {
+        if is_starved(service.serve(session)) {
             return Err(Stop::NoMemory);
         }
         if service.collect(session) {
@@ -182,6 +220,9 @@ fn perform<S: Service, G: Gate>(
     ensures performed { OnOk result (S.calls session.new ≡ record (S.calls session.old) {
       collected = (S.calls session.old).collected ++ call ∷ [];
     }) }
+    ensures tried { OnOk result ((before : ℕ) → S.has_tried session.old before → TriedAtMost (S.has_tried session.new) before turns) }
+    ensures limit { result ≡ Err Stop.TurnLimit → (before : ℕ) → S.has_tried session.old before → S.has_tried session.new (before + turns) }
+    ensures starved { result ≡ Err Stop.NoMemory → S.was_starved session.new }
 {
     if !gate.enter(number, place) {
         return Err(Stop::GateShut);
@@ -206,6 +247,9 @@ pub(crate) fn perform_rows<S: Service, G: Gate>(
     requires new { S.calls session.old ≡ record { number = number; pending = None; collected = [] } }
     ensures ours { OnOk result (S.is_of service.now session.new) }
     ensures performed { OnOk result (S.calls session.new ≡ record { number = number; pending = None; collected = calls_of_rows number rows.now }) }
+    ensures tried { OnOk result ((before : ℕ) → S.has_tried session.old before
+        → TriedAtMost (S.has_tried session.new) before (length (calls_of_rows number rows.now) * turns)) }
+    ensures starved { result ≡ Err Stop.NoMemory → S.was_starved session.new }
 {
     let mut place = 0;
     for row in rows {

@@ -23,8 +23,8 @@ returns-clause-served c c' =
         record {
           text = c'.in-Ok-served_text.text.items;
           is_history = c'.in-Ok-served_text.ensures;
-          written = subst (λ (bs : List ℕ). Appends (c.W.Write.contents c'.args.output.now) (c.W.Write.contents c'.write_all.new.self) bs) c'.deref.ensures.value
-              (of_done _ _ c'.if-is_err.ensures.value c'.write_all.ensures.bytes);
+          written = subst (λ (bs : List ℕ). Appends (c.W.Write.contents c'.args.output.now) (c.W.Write.contents c'.write_text.new.output) bs) c'.deref.ensures.value
+              (of_done _ _ c'.if-is_err.ensures.value c'.write_text.ensures.written);
         },
       ),
     )
@@ -41,8 +41,8 @@ returns-clause-replays c c' bytes is =
         record {
           text = c'.in-Ok-served_text.text.items;
           is_history = c'.in-Ok-served_text.ensures;
-          written = subst (λ (bs : List ℕ). Appends (c.W.Write.contents c'.args.output.now) (c.W.Write.contents c'.write_all.new.self) bs) c'.deref.ensures.value
-              (of_done _ _ c'.if-is_err.ensures.value c'.write_all.ensures.bytes);
+          written = subst (λ (bs : List ℕ). Appends (c.W.Write.contents c'.args.output.now) (c.W.Write.contents c'.write_text.new.output) bs) c'.deref.ensures.value
+              (of_done _ _ c'.if-is_err.ensures.value c'.write_text.ensures.written);
         },
       ),
     )

@@ -1,4 +1,4 @@
-use Rattle.std.proofs.Common.{arith, ap, sym, ◌≡◌, ◌≢◌, ◌∙◌, ◌<◌, ◌+◌, ◌++◌, ◌∷◌, [], ℕ, Bool, List, length, map, take, get_or, cond, eqb, append-nil, None}
+use Rattle.std.proofs.Common.{arith, ap, sym, ◌≡◌, ◌≢◌, ◌∙◌, ◌<◌, ◌+◌, ◌++◌, ◌∷◌, [], ℕ, Bool, List, length, map, take, get_or, cond, eqb, append-nil, None, ◌≤◌, ◌*◌, suc, suc-mul, length-append}
 use Rattle.std.specs.List.{filter}
 use Rattle.std.proofs.lemmas.Bool.{eq-eqb, ne_eqb}
 use Rattle.std.proofs.lemmas.List.{map-append}
@@ -6,7 +6,7 @@ use Rattle.std.proofs.lemmas.List.Elements.{filter_more}
 use Rattle.lock_rules.specs.declared.calls.Call.{Call}
 use Rattle.lock_trace.specs.declared.rows.TraceRow.{TraceRow}
 use Rattle.glm.specs.Calls.{calls_of_rows}
-use Rattle.glm.specs.Workers.{Calls}
+use Rattle.glm.specs.Workers.{Calls, TriedAtMost}
 use Rattle.glm.proofs.workers.perform_rows.Goals as goal
 use Rattle.glm.proofs.workers.perform_rows.Goals.{then-row-number+in_ok-perform, else-row-number}
 
@@ -45,6 +45,15 @@ collected_by number calls = record { number = number; pending = None; collected 
 abbrev with_call : Call → Calls → Calls
 with_call call known = record known { collected = known.collected ++ call ∷ [] }
 
+-- at most `turns` tries for each call so far, and for one more
+more_tries : (has_tried : ℕ → Type 0) (before turns tries : ℕ) (old new : List Call) (call : Call) → new ≡ old ++ call ∷ []
+    → tries ≤ before + length old * turns → TriedAtMost has_tried tries turns → TriedAtMost has_tried before (length new * turns)
+more_tries has_tried before turns tries old new call is few more =
+    let plus_one : length new ≡ length old + 1 = ap length is ∙ length-append old (call ∷ []) in
+    let longer : length new ≡ suc (length old) = omega (arith, plus_one) in
+    let product : length new * turns ≡ length old * turns + turns = ap (λ n. n * turns) longer ∙ suc-mul (length old) turns in
+    (more.0, omega (arith, few, more.1, product), more.2)
+
 pub loop-row-preserved : goal.loop-row-preserved
 loop-row-preserved g c =
     let number = c.args.number in
@@ -57,11 +66,18 @@ loop-row-preserved g c =
         performed = ap g.S.Service.calls w.session-is ∙ w.in_ok-perform.ensures.performed ∙ ap (with_call row.call) before.performed
             ∙ ap (collected_by number) (sym (one_more number at row c.args.rows.now c.loop-row-test.true c.row-item.is w.if-row-number.true));
         few = omega (arith, w.place-is, before.few);
+        tried = λ start h.
+            let (tries, few, so_far) = before.tried start h in
+            rw w.session-is (more_tries (g.S.Service.has_tried _) start c.args.turns tries _ _ row.call
+            (one_more number at row c.args.rows.now c.loop-row-test.true c.row-item.is w.if-row-number.true) few
+            (w.in_ok-perform.ensures.tried tries so_far));
       }
       | else-row-number w ↦ record {
         ours = rw w.session-is before.ours;
         performed = ap g.S.Service.calls w.session-is ∙ before.performed
             ∙ ap (collected_by number) (sym (no_more number at row c.args.rows.now c.loop-row-test.true c.row-item.is w.if-row-number.false));
         few = omega (arith, w.place-is, before.few);
+        tried = λ start h.
+            rw (no_more number at row c.args.rows.now c.loop-row-test.true c.row-item.is w.if-row-number.false) (rw w.session-is (before.tried start h));
       }
     ]

@@ -1,14 +1,18 @@
-use Rattle.glm.proofs.IsPassed.{calls-passed, publishes-passed}
+use Rattle.std.proofs.Common.{ap}
+use Rattle.std.specs.Prelude.{Option, option_map}
+use Rattle.publication.specs.Views.{Pending}
+use Rattle.glm.proofs.IsPassed.{calls-turn, known-tried, publishes-turn}
 use Rattle.glm.proofs.workers.OfficeService.serve.Goals as goal
 
-pub returns-in-Pass-clause-ours : goal.returns-in-Pass-clause-ours
-returns-in-Pass-clause-ours c = (c.serve.ensures.ours, publishes-passed _ _ _ (c.serve.ensures.pass _ _ c.in-Pass.is) c.requires.1)
+pub returns-clause-ours : goal.returns-clause-ours
+returns-clause-ours c = (c.serve.ensures.ours, publishes-turn _ _ _ _ c.serve.ensures.elsewhere c.serve.ensures.pass c.requires.1)
 
-pub returns-in-Pass-clause-same : goal.returns-in-Pass-clause-same
-returns-in-Pass-clause-same c = calls-passed _ _ _ (c.serve.ensures.pass _ _ c.in-Pass.is)
+pub returns-clause-same : goal.returns-clause-same
+returns-clause-same c = calls-turn _ _ _ _ c.serve.ensures.elsewhere c.serve.ensures.pass
 
-pub returns-in-Pass-2-clause-ours : goal.returns-in-Pass-2-clause-ours
-returns-in-Pass-2-clause-ours c = (c.serve.ensures.ours, publishes-passed _ _ _ (c.serve.ensures.pass _ _ c.in-Pass.is) c.requires.1)
+pub returns-clause-elsewhere : goal.returns-clause-elsewhere
+returns-clause-elsewhere c is = known-tried _ _ (c.serve.ensures.elsewhere is).0
 
-pub returns-in-Pass-2-clause-same : goal.returns-in-Pass-2-clause-same
-returns-in-Pass-2-clause-same c = calls-passed _ _ _ (c.serve.ensures.pass _ _ c.in-Pass.is)
+pub returns-clause-served : goal.returns-clause-served
+returns-clause-served c count is some =
+    c.serve.ensures.own count is (λ none. some (ap (λ (p : Option Pending). option_map (λ (q : Pending). q.call) p) none))
