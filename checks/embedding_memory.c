@@ -1,5 +1,6 @@
 /* Refuses each allocation in turn: the call returns NO_MEMORY, or its pass is starved, nothing has changed, and the same call then
-   succeeds. Also, at an allocation in one session's pass another session tries to serve, which returns ELSEWHERE. Link with
+   succeeds, with the reply that it has if memory is ample. Each call that may lack memory has to meet a refusal. Also, at an
+   allocation in one session's pass another session tries to serve, which returns ELSEWHERE. Link with
    -Wl,--wrap=malloc,--wrap=realloc. */
 #include "pelgaisti.h"
 #include <stdio.h>
@@ -46,17 +47,32 @@ void *__wrap_realloc(void *at, size_t size) { return is_refused() ? NULL : __rea
         } \
     } while (0)
 
+/* The calls that may lack memory, and how often memory was refused to each. */
+enum { BOOK_OPEN, BOOK_SERVE, BOOK_HOLDERS, OFFICE_OPEN, SESSION_SERVE, HAND_IN, OFFICE_CLOSE, LACKING };
+static const char *const lacking[LACKING] = {"book_open", "book_serve", "book_holders", "office_open", "session_serve",
+                                             "session_hand_in", "office_close"};
+static long lacked[LACKING];
+
+/* How many passes were refused memory and served all calls nevertheless, one after another. */
+static long met;
+
+/* Whether the call was refused memory, and so is made again. */
+static int is_lacking(int call, uint32_t status) {
+    lacked[call] += status == PELGAISTI_NO_MEMORY;
+    return status == PELGAISTI_NO_MEMORY;
+}
+
 static uint64_t length_of(pelgaisti_book *book) {
     uint64_t length = UINT64_MAX;
     CHECK(pelgaisti_book_length(book, &length) == PELGAISTI_OK);
     return length;
 }
 
-static pelgaisti_call lock_of(uint32_t number) {
+static pelgaisti_call call_of(uint32_t op, uint32_t mode, uint32_t number) {
     pelgaisti_call call;
     memset(&call, 0, sizeof call);
-    call.op = PELGAISTI_LOCK;
-    call.mode = PELGAISTI_IX;
+    call.op = op;
+    call.mode = mode;
     call.resource.level = 1;
     call.resource.numbers[0] = number;
     return call;
@@ -64,63 +80,129 @@ static pelgaisti_call lock_of(uint32_t number) {
 
 static const pelgaisti_call begin = {PELGAISTI_BEGIN, 0, {0, {0, 0, 0, 0}}};
 
+enum { SESSIONS = 9, RESOURCES = 45, CALLS = 100 };
+
+/* The replies to a book's calls in a round without a refusal, the first one. */
+static pelgaisti_reply ample[CALLS];
+static int is_ample = 1;
+
+/* The mode that each session holds on each resource, packed. */
+static void modes_held(pelgaisti_book *book, uint32_t modes[SESSIONS][RESOURCES]) {
+    for (uint32_t s = 0; s < SESSIONS; s++)
+        for (uint32_t k = 0; k < RESOURCES; k++) {
+            pelgaisti_call call = call_of(PELGAISTI_LOCK, PELGAISTI_IX, k);
+            CHECK(pelgaisti_book_held(book, s + 1, &call.resource, &modes[s][k]) == PELGAISTI_OK);
+        }
+}
+
+/* The kth call of a book: begins, locks that are granted, locks and conversions that wait, releases, polls, and ends. */
+static pelgaisti_call nth_call(uint32_t k) {
+    if (k < 9) return begin;
+    if (k < 45) return call_of(PELGAISTI_LOCK, PELGAISTI_IX, k);
+    if (k < 60) return call_of(PELGAISTI_LOCK, PELGAISTI_IX, 7);
+    if (k < 62) return call_of(PELGAISTI_CONVERT, PELGAISTI_X, 7); /* sessions 7 and 8: a wait, and a deadlock */
+    if (k < 64) return call_of(PELGAISTI_LOCK, PELGAISTI_X, 9);    /* sessions 9 and 1: a wait, and the holder's own */
+    if (k < 66) return call_of(PELGAISTI_RELEASE, 0, k - 54);      /* sessions 2 and 3: locks of theirs */
+    if (k < 75) return call_of(PELGAISTI_POLL, 0, 0);
+    if (k < 84) return call_of(PELGAISTI_COMMIT, 0, 0);
+    if (k < 93) return call_of(PELGAISTI_ABORT, 0, 0);
+    return begin;
+}
+
+/* Serves the kth call, again if memory is refused: then nothing has changed. */
+static void serve_nth(pelgaisti_book *book, uint32_t k) {
+    static uint32_t before[SESSIONS][RESOURCES], after[SESSIONS][RESOURCES];
+    pelgaisti_call call = nth_call(k);
+    pelgaisti_reply reply = {77, 88};
+    if (left >= 0) modes_held(book, before);
+    uint32_t status = pelgaisti_book_serve(book, 1 + k % SESSIONS, &call, &reply);
+    if (is_lacking(BOOK_SERVE, status)) {
+        CHECK(reply.kind == 77 && reply.value == 88 && length_of(book) == k);
+        modes_held(book, after);
+        CHECK(!memcmp(before, after, sizeof before));
+        status = pelgaisti_book_serve(book, 1 + k % SESSIONS, &call, &reply);
+    }
+    CHECK(status == PELGAISTI_OK && length_of(book) == k + 1);
+    if (is_ample) ample[k] = reply;
+    CHECK(reply.kind == ample[k].kind && reply.value == ample[k].value);
+}
+
 static void books(void) {
     pelgaisti_book book = PELGAISTI_EMPTY;
-    uint32_t status = pelgaisti_book_open(&book, 9);
-    if (status == PELGAISTI_NO_MEMORY) {
+    uint32_t status = pelgaisti_book_open(&book, SESSIONS);
+    if (is_lacking(BOOK_OPEN, status)) {
         CHECK(book.is_open_ == 0 && book.at_ == NULL);
-        status = pelgaisti_book_open(&book, 9);
+        status = pelgaisti_book_open(&book, SESSIONS);
     }
     CHECK(status == PELGAISTI_OK);
-    for (uint32_t k = 0; k < 60; k++) {
-        pelgaisti_call call = k < 9 ? begin : lock_of(k < 45 ? k : 7);
-        pelgaisti_reply reply = {77, 88};
-        status = pelgaisti_book_serve(&book, 1 + k % 9, &call, &reply);
-        if (status == PELGAISTI_NO_MEMORY) {
-            CHECK(reply.kind == 77 && reply.value == 88 && length_of(&book) == k);
-            status = pelgaisti_book_serve(&book, 1 + k % 9, &call, &reply);
-        }
-        CHECK(status == PELGAISTI_OK && reply.kind != 77 && length_of(&book) == k + 1);
-    }
-    pelgaisti_call seven = lock_of(7);
-    pelgaisti_holder list[9];
+    for (uint32_t k = 0; k < 60; k++) serve_nth(&book, k);
+    pelgaisti_call seven = call_of(PELGAISTI_LOCK, PELGAISTI_IX, 7);
+    pelgaisti_holder list[SESSIONS];
     size_t count = 99;
     memset(list, 0x55, sizeof list);
-    status = pelgaisti_book_holders(&book, &seven.resource, list, 9, &count);
-    if (status == PELGAISTI_NO_MEMORY) {
+    status = pelgaisti_book_holders(&book, &seven.resource, list, SESSIONS, &count);
+    if (is_lacking(BOOK_HOLDERS, status)) {
         CHECK(count == 99 && list[0].session == 0x55555555);
-        status = pelgaisti_book_holders(&book, &seven.resource, list, 9, &count);
+        status = pelgaisti_book_holders(&book, &seven.resource, list, SESSIONS, &count);
     }
-    CHECK(status == PELGAISTI_OK && count == 9 && list[0].session == 1 && list[8].session == 9);
+    CHECK(status == PELGAISTI_OK && count == SESSIONS && list[0].session == 1 && list[SESSIONS - 1].session == SESSIONS);
+    for (uint32_t k = 60; k < CALLS; k++) serve_nth(&book, k);
     CHECK(pelgaisti_book_close(&book) == PELGAISTI_OK);
+    is_ample = 0;
+}
+
+enum { CLERKS = 5 };
+
+/* Each session publishes the call, and passes of one of them serve the five: one pass, or a starved one and another. */
+static void serve_five(pelgaisti_session *sessions, pelgaisti_call call, uint32_t kind) {
+    pelgaisti_pass pass;
+    pelgaisti_answer answer;
+    for (int k = 0; k < CLERKS; k++) CHECK(pelgaisti_session_publish(&sessions[k], &call, NULL) == PELGAISTI_OK);
+    long before = refusals;
+    CHECK(pelgaisti_session_serve(&sessions[2], &pass) == PELGAISTI_OK);
+    uint32_t served = pass.served;
+    met += refusals > before && !pass.starved;
+    if (pass.starved) {
+        lacked[SESSION_SERVE]++;
+        CHECK(served < CLERKS);
+        CHECK(pelgaisti_session_serve(&sessions[2], &pass) == PELGAISTI_OK);
+        served += pass.served;
+    }
+    CHECK(served == CLERKS && pass.starved == 0);
+    for (int k = 0; k < CLERKS; k++)
+        CHECK(pelgaisti_session_collect(&sessions[k], &answer) == PELGAISTI_OK && answer.reply.kind == kind);
 }
 
 static void offices(void) {
-    pelgaisti_session sessions[5];
+    pelgaisti_session sessions[CLERKS];
     pelgaisti_book book = PELGAISTI_EMPTY;
     memset(sessions, 0, sizeof sessions);
-    uint32_t status = pelgaisti_office_open(sessions, 5);
-    if (status == PELGAISTI_NO_MEMORY) {
-        for (int k = 0; k < 5; k++) CHECK(sessions[k].is_open_ == 0 && sessions[k].at_ == NULL);
-        status = pelgaisti_office_open(sessions, 5);
+    uint32_t status = pelgaisti_office_open(sessions, CLERKS);
+    if (is_lacking(OFFICE_OPEN, status)) {
+        for (int k = 0; k < CLERKS; k++) CHECK(sessions[k].is_open_ == 0 && sessions[k].at_ == NULL);
+        status = pelgaisti_office_open(sessions, CLERKS);
     }
     CHECK(status == PELGAISTI_OK);
     for (uint32_t k = 0; k < 40; k++) {
-        pelgaisti_call call = k < 5 ? begin : lock_of(k);
+        pelgaisti_call call = k < CLERKS ? begin : call_of(PELGAISTI_LOCK, PELGAISTI_IX, k);
+        pelgaisti_session *asker = &sessions[k % CLERKS], *server = &sessions[(k + 1) % CLERKS];
         pelgaisti_pass pass;
         pelgaisti_answer answer;
-        CHECK(pelgaisti_session_publish(&sessions[k % 5], &call, NULL) == PELGAISTI_OK);
-        CHECK(pelgaisti_session_serve(&sessions[(k + 1) % 5], &pass) == PELGAISTI_OK);
+        CHECK(pelgaisti_session_publish(asker, &call, NULL) == PELGAISTI_OK);
+        CHECK(pelgaisti_session_serve(server, &pass) == PELGAISTI_OK);
         if (pass.starved) {
-            CHECK(pass.served == 0 && pelgaisti_session_collect(&sessions[k % 5], &answer) == PELGAISTI_NOT_SERVED);
-            CHECK(pelgaisti_session_serve(&sessions[(k + 1) % 5], &pass) == PELGAISTI_OK);
+            lacked[SESSION_SERVE]++;
+            CHECK(pass.served == 0 && pelgaisti_session_collect(asker, &answer) == PELGAISTI_NOT_SERVED);
+            CHECK(pelgaisti_session_serve(server, &pass) == PELGAISTI_OK);
         }
         CHECK(pass.served == 1 && pass.starved == 0);
-        CHECK(pelgaisti_session_collect(&sessions[k % 5], &answer) == PELGAISTI_OK && answer.place == k);
+        CHECK(pelgaisti_session_collect(asker, &answer) == PELGAISTI_OK && answer.place == k);
     }
-    for (int k = 4; k > 0; k--) {
+    for (uint32_t k = 0; k < 12; k++) serve_five(sessions, call_of(PELGAISTI_LOCK, PELGAISTI_IX, 100 + k), PELGAISTI_GRANTED);
+    serve_five(sessions, call_of(PELGAISTI_COMMIT, 0, 0), PELGAISTI_COMMITTED);
+    for (int k = CLERKS - 1; k > 0; k--) {
         status = pelgaisti_session_hand_in(&sessions[k], &sessions[k / 2]);
-        if (status == PELGAISTI_NO_MEMORY) {
+        if (is_lacking(HAND_IN, status)) {
             uint64_t seen;
             CHECK(pelgaisti_session_seen(&sessions[k], &seen) == PELGAISTI_OK);
             status = pelgaisti_session_hand_in(&sessions[k], &sessions[k / 2]);
@@ -128,11 +210,11 @@ static void offices(void) {
         CHECK(status == PELGAISTI_OK);
     }
     status = pelgaisti_office_close(&sessions[0], &book);
-    if (status == PELGAISTI_NO_MEMORY) {
+    if (is_lacking(OFFICE_CLOSE, status)) {
         CHECK(pelgaisti_book_close(&book) == PELGAISTI_CLOSED);
         status = pelgaisti_office_close(&sessions[0], &book);
     }
-    CHECK(status == PELGAISTI_OK && length_of(&book) == 40);
+    CHECK(status == PELGAISTI_OK && length_of(&book) == 40 + 13 * CLERKS);
     CHECK(pelgaisti_book_close(&book) == PELGAISTI_OK);
 }
 
@@ -155,10 +237,11 @@ static void elsewhere(void) {
     CHECK(pelgaisti_book_close(&book) == PELGAISTI_OK);
 }
 
-/* Plays one round for each allocation, which is refused, and a last round without a refusal. */
+/* Plays a round with ample memory, one round for each allocation, which is refused, and a last round without a refusal. */
 static void each_in_turn(const char *name, void (*play)(void)) {
     long before;
     refusals = 0;
+    play();
     for (long at = 0;; at++) {
         before = refusals;
         left = at;
@@ -172,6 +255,12 @@ static void each_in_turn(const char *name, void (*play)(void)) {
 int main(void) {
     each_in_turn("books", books);
     each_in_turn("offices", offices);
+    for (int call = 0; call < LACKING; call++)
+        if (!lacked[call]) {
+            failed++;
+            printf("memory was never refused to %s\n", lacking[call]);
+        }
+    CHECK(met > 0);
     elsewhere();
     printf("elsewhere: %ld checks failed\n", failed);
     return failed != 0;

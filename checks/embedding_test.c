@@ -305,6 +305,57 @@ static void copies_are_told(void) {
     CHECK(pelgaisti_session_collect(&array[0], &answer) == PELGAISTI_NOTHING_PENDING && answer.place == 99);
 }
 
+/* A session is dropped with a call pending: its handle is not used any more, and its memory is kept. The next pass of the other
+   session serves the call, the lock stays, and the office can't be closed before the dropped session is handed in after all. */
+static void dropped_sessions(void) {
+    static pelgaisti_session two[2];
+    pelgaisti_session *dropped = &two[0], *other = &two[1];
+    pelgaisti_book book = PELGAISTI_EMPTY;
+    pelgaisti_call begin = call_of(PELGAISTI_BEGIN, 0, 0, 0, 0), write = call_of(PELGAISTI_LOCK, PELGAISTI_X, 1, 1, 0);
+    pelgaisti_call read = call_of(PELGAISTI_LOCK, PELGAISTI_S, 1, 1, 0);
+    pelgaisti_pass pass = {99, 99};
+    pelgaisti_answer answer = {99, {77, 88}};
+    uint32_t posted = 99, mode = 99;
+    uint64_t length = 99;
+
+    CHECK(pelgaisti_office_open(two, 2) == PELGAISTI_OK);
+    CHECK(pelgaisti_session_publish(dropped, &begin, &posted) == PELGAISTI_OK && posted == PELGAISTI_LISTED);
+    CHECK(pelgaisti_session_publish(other, &begin, &posted) == PELGAISTI_OK && posted == PELGAISTI_LISTED);
+    CHECK(pelgaisti_session_serve(other, &pass) == PELGAISTI_OK && pass.served == 2 && pass.starved == 0);
+    CHECK(pelgaisti_session_collect(other, &answer) == PELGAISTI_OK);
+    CHECK(answer.place == 0 && answer.reply.kind == PELGAISTI_BEGAN && answer.reply.value == 1);
+    CHECK(pelgaisti_session_collect(dropped, &answer) == PELGAISTI_OK);
+    CHECK(answer.place == 1 && answer.reply.kind == PELGAISTI_BEGAN && answer.reply.value == 2);
+
+    CHECK(pelgaisti_session_publish(dropped, &write, NULL) == PELGAISTI_OK);
+    /* from here on the session is dropped */
+    CHECK(pelgaisti_session_serve(other, &pass) == PELGAISTI_OK && pass.served == 1 && pass.starved == 0);
+    CHECK(pelgaisti_session_publish(other, &read, NULL) == PELGAISTI_OK);
+    CHECK(pelgaisti_session_serve(other, &pass) == PELGAISTI_OK && pass.served == 1 && pass.starved == 0);
+    CHECK(pelgaisti_session_collect(other, &answer) == PELGAISTI_OK);
+    CHECK(answer.place == 3 && answer.reply.kind == PELGAISTI_WAITING);
+    CHECK(pelgaisti_office_close(other, &book) == PELGAISTI_MISSING);
+    CHECK(pelgaisti_book_length(&book, &length) == PELGAISTI_CLOSED && length == 99);
+    /* the other session goes on: it gives up its wait */
+    begin.op = PELGAISTI_ABORT;
+    CHECK(pelgaisti_session_publish(other, &begin, NULL) == PELGAISTI_OK);
+    CHECK(pelgaisti_session_serve(other, &pass) == PELGAISTI_OK && pass.served == 1 && pass.starved == 0);
+    CHECK(pelgaisti_session_collect(other, &answer) == PELGAISTI_OK);
+    CHECK(answer.place == 4 && answer.reply.kind == PELGAISTI_ABORTED && answer.reply.value == 0);
+    CHECK(pelgaisti_session_retire(other) == PELGAISTI_OK);
+    CHECK(pelgaisti_office_close(other, &book) == PELGAISTI_MISSING);
+
+    /* the dropped session is taken up again: its answer was kept for it */
+    CHECK(pelgaisti_session_hand_in(dropped, other) == PELGAISTI_PENDING);
+    CHECK(pelgaisti_session_collect(dropped, &answer) == PELGAISTI_OK);
+    CHECK(answer.place == 2 && answer.reply.kind == PELGAISTI_GRANTED && answer.reply.value == PELGAISTI_X);
+    CHECK(pelgaisti_session_hand_in(dropped, other) == PELGAISTI_OK);
+    CHECK(pelgaisti_office_close(other, &book) == PELGAISTI_OK);
+    CHECK(pelgaisti_book_held(&book, 1, &write.resource, &mode) == PELGAISTI_OK && mode == PELGAISTI_X);
+    CHECK(pelgaisti_book_length(&book, &length) == PELGAISTI_OK && length == 5);
+    CHECK(pelgaisti_book_close(&book) == PELGAISTI_OK);
+}
+
 enum { THREADS = 8, CALLS = 10000 };
 
 typedef struct job {
@@ -382,6 +433,7 @@ int main(void) {
     books_serve();
     sessions_refuse();
     copies_are_told();
+    dropped_sessions();
     threads_share();
     printf("%d passed, %d failed\n", passed, failed);
     return failed != 0;

@@ -1,22 +1,24 @@
-// Refuses one allocation of the program that it is loaded into: the one whose number the environment
-// variable REFUSE gives, counted from 1. The file that REFUSE_TOLD names is made when that happens.
+// Refuses allocations of the program that it is loaded into: the one whose number the environment variable REFUSE gives, counted
+// from 1, and, if REFUSE_ALL is set, all that come after it too. When an allocation is refused, the file that REFUSE_TOLD names is
+// made. Threads that allocate at once are counted one after another, so each number is that of one allocation.
 #define _GNU_SOURCE
 #include <dlfcn.h>
 #include <errno.h>
 #include <fcntl.h>
+#include <stdatomic.h>
 #include <stddef.h>
 #include <stdlib.h>
 #include <unistd.h>
 
-static long count = 0;
+static atomic_long count = 0;
 
 static int is_refused(void) {
     const char *number = getenv("REFUSE");
-    count += 1;
-    if (number == NULL || count != atol(number))
+    long own = atomic_fetch_add(&count, 1) + 1, first = number == NULL ? 0 : atol(number);
+    if (first == 0 || own < first || (own > first && getenv("REFUSE_ALL") == NULL))
         return 0;
     const char *told = getenv("REFUSE_TOLD");
-    if (told != NULL)
+    if (own == first && told != NULL)
         close(open(told, O_CREAT | O_WRONLY, 0600));
     errno = ENOMEM;
     return 1;

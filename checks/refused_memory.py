@@ -1,133 +1,242 @@
 #!/usr/bin/env python3
-"""Refuses each allocation in turn: of a small replay, check and run by ./glm, of the tests of the lock
-table and of the office, and of one of traces.
+"""Refuses each allocation in turn: of replays, checks and runs by glm, and of tests of the lock table, of the office and of what is
+below them.
 
-Usage: checks/refused_memory.py
+Usage: checks/refused_memory.py [--over-gate]
 
-The program has to end with status 4, its line on standard error and nothing on standard output, or
-to meet the refusal and write all that it would; a run may also end with status 5 where the refusal
-kept a thread from starting, and what it writes has to be a legal history of as many rows. A test has
-to pass: it makes a call that found no
-memory once more, and wants the answer that ample memory gives. One test of the office has to say
-that a pass of it was starved, and the test of traces wants the fault in the row that was being read,
-and has to say so of each row in which memory is asked for. Builds the program and the tests first,
-where that is needed. The last line is 'N passed, M failed', one for each allocation.
+In each round one allocation is refused: the first one in the first round, the second one in the second round, and so on. The last
+round is the first one in which nothing was refused.
+
+The program has to end with status 4, its line on standard error and nothing on standard output, or to meet the refusal and end as
+it does with ample memory. A run may also end with status 5, if the refusal kept a thread from starting, and what it writes has to
+be a legal history in which each session's rows stand in their order. A run of one session has one try for each call: a pass that
+found no memory for the call ends the run. In further rounds of runs all later allocations are refused too: a run that goes on after
+its refusal fails. Threads allocate in any order, so a run's last rounds are the first three in a row without a refusal.
+
+A test has to pass: it makes a call that found no memory once more, and wants the answer that ample memory gives. Tests that print
+what became of a refusal have to print each case in some round.
+
+Builds the program and the tests first, if they aren't built; with --over-gate, takes those that a full run of the gate has left.
+Needs a C compiler, `$CC` or cc. The last line is 'N passed, M failed', one for each round.
 """
+import argparse
 import os
+import shlex
 import subprocess
 import sys
 import tempfile
+from concurrent.futures import ThreadPoolExecutor
+from itertools import count
 from pathlib import Path
 
 TOP = Path(__file__).resolve().parent.parent
 PROGRAM = TOP / "crates/glm_main/out/glm_main"
-# of each crate, the tests whose calls are made once more where memory was refused
+PROCESSORS = os.cpu_count() or 1
+REFUSED = (4, b"", b"glm: out of memory\n")
+UNSTARTED = (5, b"", b"glm: device\n")
+
+# the tests whose allocations are refused, by the crate: all whose names begin so
 TESTED = {
-    "desk_tests": ("books::", "batches::"),
-    "office_tests": ("offices::", "closing::", "hearing::"),
-    # reads rows, and says in which of them memory was refused
-    "base_tests": ("traces::reports_the_row_in_which_memory_was_refused",),
+    "base_tests": ("traces::reports_the_row_in_which_memory_was_refused", "waits::refused_"),
+    "desk_tests": ("batches::", "books::", "queues::", "refusals::", "refused_batches::"),
+    "office_tests": ("ages::", "boards::", "closing::", "dropping::", "hearing::", "listing::", "offices::", "refusals::"),
 }
-# what allocates too often to go through: a transaction of 4096 locks, and threads, which don't ask again either
-LONG_TESTS = [
-    "a_transaction_holds_4096_locks_and_no_more",
-    "locks_are_released_in_either_order",
-    "eight_threads_poll",
-    "sixty_four_threads_poll",
-    "eight_threads_get_the_replies_of_one_book",
-    "eight_threads_hear",
-    "all_256_sessions_close_in_any_order",
+# except these, which don't make each refused call again: tests with threads, with 256 sessions, with two offices, and of the
+# publication list, where a starved pass counts as a pass
+LEFT_OUT = {
+    "ages::a_record_leaves_the_list_by_its_age",
+    "closing::all_256_sessions_close_in_any_order",
+    "closing::two_offices_have_their_own_sessions",
+    "hearing::eight_threads_hear",
+    "listing::a_record_whose_answer_is_not_collected_stays_on_the_list",
+    "listing::idle_records_are_unlinked",
+    "listing::sixty_four_sessions_poll_in_turn",
+}
+# what tests print of a refusal: for each of these texts there has to be a round that prints it and nothing else
+TOLD = {
+    "offices::a_call_that_found_no_memory_is_served_by_the_next_pass": {"starved"},
+    "refusals::a_clean_up_keeps_the_record_of_a_call_that_found_no_memory": {"starved", "starved before"},
+    "refusals::a_pass_that_found_no_memory_is_starved_or_serves_one_by_one": {"starved", "served all"},
+    "refusals::a_refused_book_is_made_at_the_second_try": {"refused"},
+    "refusals::an_office_is_opened_once_memory_is_back": {"refused"},
+    "traces::reports_the_row_in_which_memory_was_refused": {"refused in row 1", "refused in row 3", "refused in row 5"},
+    "waits::refused_rows_are_made_at_the_second_try": {"refused"},
+}
+# and these print it in every round: all that they allocate is what they make
+ALWAYS = {"refusals::a_refused_book_is_made_at_the_second_try", "waits::refused_rows_are_made_at_the_second_try"}
+
+
+def begun(sessions):
+    return [f"{session},begin,,,began,{session}" for session in range(1, sessions + 1)]
+
+
+# Traces, each row with its reply.
+DOWN_THE_TREE = begun(1) + [
+    *("1,lock,1,IX,granted,IX", "1,lock,1/2,IX,granted,IX", "1,lock,1/2/3,X,granted,X", "1,commit,,,committed,3"),
 ]
-STARVED_TEST = "a_call_that_found_no_memory_is_served_by_the_next_pass"
-ROW_TEST = "traces::reports_the_row_in_which_memory_was_refused"
-ROWS_TOLD = {b"refused in row 1", b"refused in row 3", b"refused in row 5"}
+CONVERSION = begun(3) + [
+    *("1,lock,1,S,granted,S", "2,lock,1,S,granted,S", "3,lock,1,X,waiting,", "1,lock,1,IX,waiting,"),
+    *("2,commit,,,committed,1", "1,poll,,,clear,", "3,poll,,,waiting,"),
+]
+TWO_VICTIMS = begun(3) + [
+    *("1,lock,1,IX,granted,IX", "1,lock,1/1,X,granted,X", "1,lock,1/2,X,granted,X"),
+    *("2,lock,1,IS,granted,IS", "2,lock,1/3,S,granted,S", "3,lock,1,IS,granted,IS", "3,lock,1/3,S,granted,S"),
+    *("2,lock,1/1,S,waiting,", "3,lock,1/2,S,waiting,", "1,lock,1/3,X,waiting,", "3,poll,,,deadlock,", "2,poll,,,deadlock,"),
+    *("3,abort,,,aborted,2", "1,poll,,,waiting,", "2,abort,,,aborted,2", "1,poll,,,clear,"),
+]
+GRANTED_BY_A_VICTIM = begun(3) + [
+    *("1,lock,2,X,granted,X", "2,lock,1,S,granted,S", "3,lock,1,X,waiting,", "2,lock,2,S,waiting,"),
+    *("1,lock,1,S,granted,S", "3,poll,,,deadlock,", "2,poll,,,waiting,"),
+]
+CROWD = begun(256) + [
+    "1,lock,1,X,granted,X",
+    *(f"{session},lock,1,IS,waiting," for session in range(2, 257)),
+    "1,commit,,,committed,1",
+    *(f"{session},poll,,,clear," for session in range(2, 257)),
+]
+TRACES = {
+    "locks down the tree": DOWN_THE_TREE,
+    "a conversion ahead of a queue": CONVERSION,
+    "two victims of one wait": TWO_VICTIMS,
+    "a grant by a victim": GRANTED_BY_A_VICTIM,
+    "255 readers behind a writer": CROWD,
+}
 
 
-def build(folder):
-    """Builds the program, the tests, and the library that refuses."""
-    subprocess.run([TOP / "glm", "--help"], stdout=subprocess.DEVNULL, check=True)
-    for crate in TESTED:
-        subprocess.run(["rt", "test"], cwd=TOP / "crates" / crate, stdout=subprocess.DEVNULL, check=True)
-    library = folder / "refuse.so"
-    source = TOP / "checks/refuse_allocation.c"
-    subprocess.run(["cc", "-shared", "-fPIC", "-O1", "-o", library, source, "-ldl"], check=True)
-    return library
+def trace_of(rows):
+    return "".join(",".join(row.split(",")[:4]) + "\n" for row in rows).encode()
 
 
-def refusals(words, library, folder, trace=None):
-    """Yields what became of each run in which one allocation was refused, the first, the second, .."""
-    told = folder / "told"
-    for number in range(1, 100_000):
-        told.unlink(missing_ok=True)
+def history_of(rows):
+    return "".join(f"{place},{row}\n" for place, row in enumerate(rows)).encode()
+
+
+def by_session(rows):
+    """The calls of each session, of rows that begin with the session."""
+    calls = {}
+    for row in rows:
+        session, *call = row.split(",")[:4]
+        calls.setdefault(session, []).append(call)
+    return calls
+
+
+class Trial:
+    """A command whose allocations are refused, one in each round."""
+
+    def __init__(self, name, words, is_right, given=b"", refuses_all=False, quiet=1):
+        self.name, self.words, self.is_right, self.given = name, words, is_right, given
+        self.refuses_all = refuses_all
+        # how many rounds in a row without a refusal are the end
+        self.quiet = quiet
+
+    def round(self, number, library, folder):
+        """Makes one round. Returns whether memory was refused, and how the command ended."""
+        told = folder / f"told{id(self)}-{number}"
         env = os.environ | {"REFUSE": str(number), "REFUSE_TOLD": str(told), "LD_PRELOAD": str(library)}
-        ran = subprocess.run(words, input=trace, env=env, capture_output=True, timeout=60)
-        if not told.exists():
-            return
-        yield number, ran
+        if self.refuses_all:
+            env["REFUSE_ALL"] = "1"
+        try:
+            ran = subprocess.run(self.words, input=self.given, env=env, capture_output=True, timeout=60)
+            ended = ran.returncode, ran.stdout, ran.stderr
+        except subprocess.TimeoutExpired:
+            ended = "none within 60 seconds", b"", b""
+        was_refused = told.exists()
+        told.unlink(missing_ok=True)
+        return was_refused, ended
+
+    def rounds(self, library, folder, pool):
+        """Yields the number of each round in which memory was refused, and how the command ended."""
+        quiet = 0
+        for first in count(1, 4 * PROCESSORS):
+            numbers = range(first, first + 4 * PROCESSORS)
+            for number, (was_refused, ended) in zip(numbers, pool.map(lambda it: self.round(it, library, folder), numbers)):
+                quiet = 0 if was_refused else quiet + 1
+                if quiet == self.quiet:
+                    return
+                if was_refused:
+                    yield number, ended
 
 
-def is_refused(ran):
-    return ran.returncode == 4 and ran.stderr == b"glm: out of memory\n" and not ran.stdout
-
-
-def writes(text):
-    """Whether the program was refused, or wrote exactly this."""
-    return lambda ran: is_refused(ran) or ran.returncode == 0 and ran.stdout == text and not ran.stderr
+def ends(status, output, errors=b""):
+    """Whether the program was refused memory, or ended so."""
+    return lambda ended: ended in (REFUSED, (status, output, errors))
 
 
 def runs(rows):
-    """Whether a run was refused, or wrote a legal history of so many rows."""
+    """Whether a run of these rows was refused memory or a thread, or wrote a history of them."""
 
-    def is_right(ran):
-        if ran.returncode == 0:
-            judged = subprocess.run([PROGRAM, "check"], input=ran.stdout, capture_output=True, timeout=60)
-            return judged.stdout == b"legal %d\n" % rows and not ran.stderr
-        unstarted = ran.returncode == 5 and ran.stderr == b"glm: device\n" and not ran.stdout
-        return unstarted or is_refused(ran)
+    def is_right(ended):
+        status, output, errors = ended
+        if status != 0:
+            return ended in (REFUSED, UNSTARTED)
+        written = [line.partition(",")[2] for line in output.decode().splitlines()]
+        judged = subprocess.run([PROGRAM, "check"], input=output, capture_output=True, timeout=60)
+        return not errors and judged.stdout == b"legal %d\n" % len(rows) and by_session(written) == by_session(rows)
 
     return is_right
 
 
-def tests():
-    """Yields the tests that refusals go through, each with the program that runs it."""
+def trials_of_the_program():
+    for name, rows in TRACES.items():
+        trace, history = trace_of(rows), history_of(rows)
+        yield Trial(f"replay of {name}", [PROGRAM, "replay"], ends(0, history), trace)
+        yield Trial(f"check of {name}", [PROGRAM, "check"], ends(0, b"legal %d\n" % len(rows)), history)
+        # a session that is alone is served at the first try
+        one_try = ["--turns", "1"] if len(by_session(rows)) == 1 else []
+        yield Trial(f"run of {name}", [PROGRAM, "run", *one_try], runs(rows), trace, quiet=3)
+        if rows is not CROWD:
+            # a thread whose pass found no memory stops at once, not after its last try
+            words = [PROGRAM, "run", "--turns", "1000"]
+            yield Trial(f"run of {name}, all refused", words, runs(rows), trace, refuses_all=True, quiet=3)
+    illegal = (TOP / "examples/illegal.csv").read_bytes()
+    yield Trial("check of a history that isn't legal", [PROGRAM, "check"], ends(3, b"illegal 2\n"), illegal)
+    faulty = b"1,begin,,\n1,lock,01,S\n"
+    yield Trial("replay of a faulty row", [PROGRAM, "replay"], ends(1, b"", b"glm: row 2: Path LeadingZero\n"), faulty)
+
+
+def trials_of_tests():
     for crate, tested in TESTED.items():
         program = TOP / "crates" / crate / "out" / f"{crate}_tests"
         listed = subprocess.run([program, "--list"], capture_output=True, text=True, check=True).stdout
         for test in (line.split(": ")[0] for line in listed.splitlines() if line.endswith(": test")):
-            if test.startswith(tested) and test.split("::")[-1] not in LONG_TESTS:
-                yield program, test
+            if test.startswith(tested) and test not in LEFT_OUT:
+                yield Trial(test, [program, test], lambda ended: ended[0] == 0)
+
+
+def build(folder, is_over_gate):
+    """Builds the library that refuses, and the program and the tests if they aren't built."""
+    if not is_over_gate:
+        subprocess.run([TOP / "glm", "--help"], stdout=subprocess.DEVNULL, check=True)
+        for crate in TESTED:
+            subprocess.run(["rt", "test"], cwd=TOP / "crates" / crate, stdout=subprocess.DEVNULL, check=True)
+    library, source = folder / "refuse.so", TOP / "checks/refuse_allocation.c"
+    compiler = shlex.split(os.environ.get("CC", "cc"))
+    subprocess.run([*compiler, "-shared", "-fPIC", "-O1", "-o", library, source, "-ldl"], check=True)
+    return library
 
 
 def main():
-    trace = (TOP / "examples/queue.csv").read_bytes()
-    history = (TOP / "examples/queue.history.csv").read_bytes()
+    parser = argparse.ArgumentParser(description=__doc__, formatter_class=argparse.RawDescriptionHelpFormatter)
+    parser.add_argument("--over-gate", action="store_true", help="takes what a full run of the gate has left")
+    words = parser.parse_args()
     passed, failed = 0, []
-    with tempfile.TemporaryDirectory() as name:
+    with tempfile.TemporaryDirectory() as name, ThreadPoolExecutor(PROCESSORS) as pool:
         folder = Path(name)
-        library = build(folder)
-        rows = history.count(b"\n")
-        for command, given, is_right in [
-            ("replay", trace, writes(history)),
-            ("check", history, writes(b"legal %d\n" % rows)),
-            ("run", trace, runs(rows)),
-        ]:
-            for number, ran in refusals([PROGRAM, command], library, folder, given):
-                if is_right(ran):
+        library = build(folder, words.over_gate)
+        for trial in (*trials_of_the_program(), *trials_of_tests()):
+            before, told = passed, set()
+            for number, ended in trial.rounds(library, folder, pool):
+                if trial.is_right(ended):
                     passed += 1
+                    told.add(ended[1].decode().replace("test result: ok", "").strip())
                 else:
-                    failed.append(f"{command}, allocation {number}: status {ran.returncode}")
-        for program, test in tests():
-            told = b""
-            for number, ran in refusals([program, test], library, folder):
-                told += ran.stdout
-                if ran.returncode == 0:
-                    passed += 1
-                else:
-                    failed.append(f"{test}, allocation {number}: status {ran.returncode}")
-            if test.endswith(STARVED_TEST) and b"starved" not in told:
-                failed.append(f"{test}: no pass was starved")
-            if test == ROW_TEST and not all(row in told for row in ROWS_TOLD):
-                failed.append(f"{test}: memory was refused in too few of the rows")
+                    failed.append(f"{trial.name}, allocation {number}: status {ended[0]}")
+            if passed == before and PROGRAM in trial.words:
+                failed.append(f"{trial.name}: memory was refused in no round that passed")
+            for text in sorted(TOLD.get(trial.name, set()) - told):
+                failed.append(f"{trial.name}: no round printed '{text}'")
+            if trial.name in ALWAYS and told - TOLD[trial.name]:
+                failed.append(f"{trial.name}: a round printed something else")
     for line in failed:
         print(line)
     print(f"{passed} passed, {len(failed)} failed")

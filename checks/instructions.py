@@ -1,0 +1,200 @@
+#!/usr/bin/env python3
+"""Counts what no contract sees: the instructions of the lock table's fast ways, and the memory that idle cells give back.
+
+Usage: checks/instructions.py [--over-gate]
+
+Each case has calls that go a fast way, and a bound on the instructions of one of them. Under callgrind lock_bench serves the calls
+behind what leads up to them, and what leads up alone, each once and twice: the count is the difference of the differences. Locks
+of a batch are served by a pass of an office, through the library for C (checks/instructions.c). A bound is some 20 per cent above
+what was counted when it was set (more for the smallest count), and below what the calls cost without the fast way, as tried in
+builds in which it was broken; for locks of a batch, with locks of two databases in turn, which make no run. If calls have become
+dearer for a good reason, set the bound anew.
+
+Memory is the peak of `glm replay` over short transactions on ever new resources, against as many rows on few resources.
+
+Builds the programs and the library first, if they aren't built; with --over-gate, takes those that a full run of the gate and
+checks/embedding have left. Needs a C compiler, `$CC` or cc. Without valgrind no instructions are counted. Prints a line for each
+case. The last line is 'N passed, M failed', and what was left out.
+"""
+import argparse
+import os
+import re
+import shlex
+import shutil
+import subprocess
+import sys
+import tempfile
+from concurrent.futures import ThreadPoolExecutor
+from pathlib import Path
+
+TOP = Path(__file__).resolve().parent.parent
+LOCK_BENCH = TOP / "crates/lock_bench/out/lock_bench"
+GLM = TOP / "crates/glm_main/out/glm_main"
+# the greatest peak over ever new resources, as a multiple of the peak over few
+MOST_MEMORY = 1.05
+
+
+def transaction(session, *calls):
+    return [f"{session},begin,,", *calls, f"{session},commit,,"]
+
+
+# Each case returns the rows that lead up to the calls, the calls, and the calls without which they are counted, if any.
+
+
+def first_locks():
+    """4,000 locks of databases of one's own, of one transaction."""
+    return ["1,begin,,"], [f"1,lock,{number},X" for number in range(4000)], []
+
+
+def parents():
+    """What locks of records take beyond locks of databases. The session holds them already, with the records' parents."""
+    records = [f"1,lock,1/1/1/{record},X" for record in range(20)]
+    databases = [f"1,lock,{2 + database},X" for database in range(20)]
+    lead = ["1,begin,,", *databases, "1,lock,1,IX", "1,lock,1/1,IX", "1,lock,1/1/1,IX", *records]
+    return lead, records * 100, databases * 100
+
+
+def ends():
+    """4,000 locks are given back by a commit. Counts as 4,000 calls."""
+    lead, locks, _ = first_locks()
+    return lead + locks, ["1,commit,,"], []
+
+
+def readers():
+    return [row for session in range(1, 251) for row in (f"{session},begin,,", f"{session},lock,1,S")]
+
+
+def readers_beside_readers():
+    """A reader comes to a database that 250 others read."""
+    return readers(), transaction(251, "251,lock,1,S") * 1000, []
+
+
+def writers_beside_readers():
+    """A writer waits for 250 readers of a database, and aborts."""
+    return readers(), ["251,begin,,", "251,lock,1,X", "251,abort,,"] * 1000, []
+
+
+def new_resources():
+    """What locks of ever new databases take if two sessions share each, beyond locks that none share. 12 each, and commits."""
+
+    def turns(apart):
+        rows = []
+        for turn in range(100):
+            first = 1000 + 24 * turn
+            locks = [f"{session},lock,{first + number + apart * session},S" for session in (1, 2) for number in range(12)]
+            rows += ["1,begin,,", "2,begin,,", *locks, "1,commit,,", "2,commit,,"]
+        return rows
+
+    return [], turns(0), turns(12)
+
+
+# Each case: the fast way, its calls, how many they count as (None: as many as they are), the most instructions of one of them.
+CASES = [
+    ("a single holder is kept in its cell, without a list", first_locks, None, 915),
+    ("the parent's cell is found at the noted place, without a hash", parents, None, 80),
+    ("the cell of a lock that ends is found at the noted place, without a hash", ends, 4000, 205),
+    ("modes of many holders are tested 16 at a time", readers_beside_readers, None, 500),
+    ("a wait for many holders is written by their mask", writers_beside_readers, None, 2300),
+    ("an idle cell keeps its lists for the next resource", new_resources, None, 35),
+]
+# 32 locks of a batch are granted together: the most instructions of a lock, with all that a pass does for it
+MOST_OF_A_RUN = 790
+
+
+def counted(words, *flags):
+    """The instructions of a command, as callgrind counts them."""
+    valgrind = ["valgrind", "--tool=callgrind", "--callgrind-out-file=/dev/null", *flags]
+    ran = subprocess.run([*valgrind, *words], stdout=subprocess.DEVNULL, stderr=subprocess.PIPE, text=True, timeout=120)
+    found = re.search(r"Collected : (\d+)", ran.stderr)
+    if ran.returncode or not found:
+        sys.exit(f"callgrind failed on {words[0]}: {ran.stderr}")
+    return int(found[1])
+
+
+def instructions_of_a_turn(rows, folder):
+    """The instructions by which lock_bench serves the rows once more."""
+    with tempfile.NamedTemporaryFile("w", dir=folder, suffix=".csv") as trace:
+        trace.writelines(row + "\n" for row in rows)
+        trace.flush()
+        once, twice = (counted([LOCK_BENCH, "count", trace.name, times]) for times in ("1", "2"))
+    return twice - once
+
+
+def instructions_of_a_call(case, folder):
+    _, make, number, _ = case
+    lead, calls, others = make()
+    turns = [instructions_of_a_turn(lead + rows, folder) for rows in (calls, others)]
+    return (turns[0] - turns[1]) / (number or len(calls))
+
+
+def instructions_of_a_run(folder):
+    """The instructions of a lock in a pass that serves 32 of them."""
+    program = folder / "instructions"
+    compiler = shlex.split(os.environ.get("CC", "cc"))
+    source = TOP / "checks/instructions.c"
+    flags = ["-O1", f"-I{TOP}/out", f"-L{TOP}/out", "-lpelgaisti"]
+    subprocess.run([*compiler, source, *flags, "-o", program], check=True)
+    passes, locks = 200, 32
+    return counted([program, str(passes)], "--toggle-collect=pass_of_locks") / (passes * locks)
+
+
+def peak(trace, folder):
+    """The peak memory of a replay, in KiB. It is at least that of this process, which so keeps no rows."""
+    file = folder / "memory.csv"
+    with file.open("w") as out:
+        out.writelines(trace)
+    with file.open() as given:
+        ran = subprocess.Popen([GLM, "replay"], stdin=given, stdout=subprocess.DEVNULL)
+        _, status, used = os.wait4(ran.pid, 0)
+    if status:
+        sys.exit("the replay failed")
+    return used.ru_maxrss
+
+
+def transactions(databases):
+    """100,000 transactions of one session, each on one of so many databases. A page below is asked for and refused."""
+    for turn in range(100_000):
+        database = 1_000_000 + turn % databases
+        rows = [f"1,lock,{database},X", f"1,lock,{database}/1/1,S"] + [f"1,release,{database},"] * (turn % 2)
+        yield "\n".join(transaction(1, *rows)) + "\n"
+
+
+def build(is_over_gate):
+    """Builds the programs and the library for C, if they aren't built."""
+    if is_over_gate:
+        return
+    commands = [(TOP, ["./glm", "--help"]), (TOP / "crates/lock_bench", ["rt", "run", "--", "--help"]), (TOP, ["./embed"])]
+    for folder, words in commands:
+        subprocess.run(words, cwd=folder, stdout=subprocess.DEVNULL, check=True)
+
+
+def main():
+    parser = argparse.ArgumentParser(description=__doc__, formatter_class=argparse.RawDescriptionHelpFormatter)
+    parser.add_argument("--over-gate", action="store_true", help="takes what a full run of the gate has left")
+    build(parser.parse_args().over_gate)
+    passed = failed = 0
+
+    def judge(name, found, most, unit, digits=0):
+        nonlocal passed, failed
+        is_within = found <= most
+        passed, failed = passed + is_within, failed + (not is_within)
+        print(f"{name}: {found:.{digits}f} {unit}, at most {most:.{digits}f}{'' if is_within else ': TOO MANY'}")
+
+    with tempfile.TemporaryDirectory() as name, ThreadPoolExecutor(os.cpu_count()) as pool:
+        folder = Path(name)
+        has_valgrind = shutil.which("valgrind") is not None
+        if has_valgrind:
+            in_a_run = pool.submit(instructions_of_a_run, folder)
+            found = pool.map(lambda case: instructions_of_a_call(case, folder), CASES)
+            for (name, _, _, most), instructions in zip(CASES, found):
+                judge(name, instructions, most, "instructions")
+            judge("compatible locks of a batch are granted together", in_a_run.result(), MOST_OF_A_RUN, "instructions")
+        few, new = (peak(transactions(databases), folder) for databases in (8, 100_000))
+        judge("idle cells serve ever new resources", new / few, MOST_MEMORY, "times the memory of few", digits=2)
+    left_out = "" if has_valgrind else "; instructions left out, since valgrind isn't on the path"
+    print(f"{passed} passed, {failed} failed{left_out}")
+    sys.exit(1 if failed else 0)
+
+
+if __name__ == "__main__":
+    main()
