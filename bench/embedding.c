@@ -28,8 +28,8 @@ static uint32_t number_of(const char *const *names, const uint32_t *numbers, con
 static row read_row(char *line) {
     static const char *const ops[] = {"begin", "lock", "convert", "poll", "release", "commit", "abort", NULL};
     static const uint32_t op_numbers[] = {1, 2, 3, 4, 5, 6, 7};
-    static const char *const modes[] = {"", "NL", "IS", "IX", "S", "SIX", "X", NULL};
-    static const uint32_t mode_numbers[] = {0, 0, 1, 3, 5, 7, 15};
+    static const char *const modes[] = {"", "NL", "IS", "IX", "S", "SIX", "U", "X", NULL};
+    static const uint32_t mode_numbers[] = {0, 0, 1, 3, 5, 7, 13, 15};
     char *field[4];
     row r;
     memset(&r, 0, sizeof r);

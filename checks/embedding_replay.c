@@ -8,8 +8,8 @@
 static const char *const ops[] = {"begin", "lock", "convert", "poll", "release", "commit", "abort"};
 static const uint32_t op_numbers[] = {PELGAISTI_BEGIN, PELGAISTI_LOCK, PELGAISTI_CONVERT, PELGAISTI_POLL, PELGAISTI_RELEASE,
                                       PELGAISTI_COMMIT, PELGAISTI_ABORT};
-static const char *const modes[] = {"NL", "IS", "IX", "S", "SIX", "X"};
-static const uint32_t mode_numbers[] = {PELGAISTI_NL, PELGAISTI_IS, PELGAISTI_IX, PELGAISTI_S, PELGAISTI_SIX, PELGAISTI_X};
+static const char *const modes[] = {"NL", "IS", "IX", "S", "SIX", "U", "X"};
+static const uint32_t mode_numbers[] = {PELGAISTI_NL, PELGAISTI_IS, PELGAISTI_IX, PELGAISTI_S, PELGAISTI_SIX, PELGAISTI_U, PELGAISTI_X};
 static const char *const kinds[] = {"began", "granted", "waiting", "deadlock", "clear", "released", "committed", "aborted", "refused"};
 static const uint32_t kind_numbers[] = {PELGAISTI_BEGAN, PELGAISTI_GRANTED, PELGAISTI_WAITING, PELGAISTI_DEADLOCK, PELGAISTI_CLEAR,
                                         PELGAISTI_RELEASED, PELGAISTI_COMMITTED, PELGAISTI_ABORTED, PELGAISTI_REFUSED};

@@ -31,7 +31,7 @@ static pelgaisti_call call_of(uint32_t op, uint32_t mode, uint32_t level, uint32
 
 static const uint32_t off_sessions[] = {0, 4, 256, 257, 65537, UINT32_MAX};
 static const uint32_t off_ops[] = {0, 8, 256, UINT32_MAX};
-static const uint32_t off_modes[] = {2, 4, 6, 8, 14, 16, 255, 256, 257, UINT32_MAX};
+static const uint32_t off_modes[] = {2, 4, 6, 8, 12, 14, 16, 255, 256, 257, UINT32_MAX};
 static const uint32_t off_levels[] = {0, 5, 256, 257, UINT32_MAX};
 #define COUNT(list) (sizeof(list) / sizeof((list)[0]))
 
@@ -169,6 +169,42 @@ static void books_serve(void) {
     CHECK(pelgaisti_book_history(&book, 9, entries, 4, &count) == PELGAISTI_OK && count == 0);
     CHECK(pelgaisti_book_history(&book, UINT64_MAX, entries, 4, &count) == PELGAISTI_OK && count == 0);
     CHECK(pelgaisti_book_history(&book, 0, NULL, 0, &count) == PELGAISTI_OK && count == 0);
+    CHECK(pelgaisti_book_close(&book) == PELGAISTI_OK);
+}
+
+/* Every two modes: whether the first is granted to session 2 beside the second of session 1, and what session 1 holds after a
+   request for the first. The tables are typed by hand, with the modes by rising code. */
+static void modes_meet(void) {
+    static const uint32_t modes[7] = {PELGAISTI_NL, PELGAISTI_IS, PELGAISTI_IX, PELGAISTI_S, PELGAISTI_SIX, PELGAISTI_U, PELGAISTI_X};
+    static const char *const beside[7] = {"yyyyyyy", "yyyyynn", "yyynnnn", "yynynnn", "yynnnnn", "yynynnn", "ynnnnnn"};
+    static const uint32_t after[7][7] = {{0, 1, 3, 5, 7, 13, 15},  {1, 1, 3, 5, 7, 13, 15},       {3, 3, 3, 7, 7, 15, 15},
+                                         {5, 5, 7, 5, 7, 13, 15},  {7, 7, 7, 7, 7, 15, 15},       {13, 13, 15, 13, 15, 13, 15},
+                                         {15, 15, 15, 15, 15, 15, 15}};
+    pelgaisti_call begin = call_of(PELGAISTI_BEGIN, 0, 0, 0, 0), abort_all = call_of(PELGAISTI_ABORT, 0, 0, 0, 0);
+    pelgaisti_book book = PELGAISTI_EMPTY;
+    pelgaisti_reply reply;
+    uint32_t mode;
+
+    CHECK(pelgaisti_book_open(&book, 2) == PELGAISTI_OK);
+    for (size_t a = 0; a < 7; a++) {
+        for (size_t g = 0; g < 7; g++) {
+            pelgaisti_call first = call_of(PELGAISTI_LOCK, modes[g], 1, 1, 0), second = call_of(PELGAISTI_LOCK, modes[a], 1, 1, 0);
+            for (uint32_t s = 1; s <= 2; s++) CHECK(pelgaisti_book_serve(&book, s, &begin, &reply) == PELGAISTI_OK);
+            CHECK(pelgaisti_book_serve(&book, 1, &first, &reply) == PELGAISTI_OK);
+            if (g == 0) CHECK(reply.kind == PELGAISTI_REFUSED && reply.value == PELGAISTI_NOTHING_ASKED);
+            else CHECK(reply.kind == PELGAISTI_GRANTED && reply.value == modes[g]);
+            CHECK(pelgaisti_book_serve(&book, 2, &second, &reply) == PELGAISTI_OK);
+            if (a == 0) CHECK(reply.kind == PELGAISTI_REFUSED && reply.value == PELGAISTI_NOTHING_ASKED);
+            else if (beside[a][g] == 'y') CHECK(reply.kind == PELGAISTI_GRANTED && reply.value == modes[a]);
+            else CHECK(reply.kind == PELGAISTI_WAITING && reply.value == 0);
+            CHECK(pelgaisti_book_serve(&book, 2, &abort_all, &reply) == PELGAISTI_OK && reply.kind == PELGAISTI_ABORTED);
+            CHECK(pelgaisti_book_serve(&book, 1, &second, &reply) == PELGAISTI_OK);
+            if (a == 0) CHECK(reply.kind == PELGAISTI_REFUSED && reply.value == PELGAISTI_NOTHING_ASKED);
+            else CHECK(reply.kind == PELGAISTI_GRANTED && reply.value == after[g][a]);
+            CHECK(pelgaisti_book_held(&book, 1, &first.resource, &mode) == PELGAISTI_OK && mode == after[g][a]);
+            CHECK(pelgaisti_book_serve(&book, 1, &abort_all, &reply) == PELGAISTI_OK && reply.kind == PELGAISTI_ABORTED);
+        }
+    }
     CHECK(pelgaisti_book_close(&book) == PELGAISTI_OK);
 }
 
@@ -431,6 +467,7 @@ static void threads_share(void) {
 int main(void) {
     books_refuse();
     books_serve();
+    modes_meet();
     sessions_refuse();
     copies_are_told();
     dropped_sessions();

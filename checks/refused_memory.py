@@ -7,11 +7,13 @@ Usage: checks/refused_memory.py [--over-gate]
 In each round one allocation is refused: the first one in the first round, the second one in the second round, and so on. The last
 round is the first one in which nothing was refused.
 
-The program has to end with status 4, its line on standard error and nothing on standard output, or to meet the refusal and end as
-it does with ample memory. A run may also end with status 5, if the refusal kept a thread from starting, and what it writes has to
-be a legal history in which each session's rows stand in their order. A run of one session has one try for each call: a pass that
-found no memory for the call ends the run. In further rounds of runs all later allocations are refused too: a run that goes on after
-its refusal fails. Threads allocate in any order, so a run's last rounds are the first three in a row without a refusal.
+A replay and a check have to end with status 4, their line on standard error and nothing on standard output, in every round but one:
+room for all words of the command line is only a hint, and if it is refused they end as with ample memory. A run may also end with
+status 5, if the refusal kept a thread from starting, or with status 0, if it met the refusal by serving calls one after another:
+what it writes has to be a legal history in which each session's rows stand in their order. A run of one session has one try for
+each call: a pass that found no memory for the call ends the run. In further rounds of runs all later allocations are refused too: a
+run that goes on after its refusal fails. Threads allocate in any order, so a run's last rounds are the first three in a row without
+a refusal.
 
 A test has to pass: it makes a call that found no memory once more, and wants the answer that ample memory gives. Tests that print
 what became of a refusal have to print each case in some round.
@@ -158,8 +160,16 @@ class Trial:
 
 
 def ends(status, output, errors=b""):
-    """Whether the program was refused memory, or ended so."""
-    return lambda ended: ended in (REFUSED, (status, output, errors))
+    """Whether the program ended for want of memory, in every round but the one in which it was refused the room for its words."""
+    otherwise = []
+
+    def is_right(ended):
+        if ended == (status, output, errors):
+            otherwise.append(ended)
+            return len(otherwise) == 1
+        return ended == REFUSED
+
+    return is_right
 
 
 def runs(rows):

@@ -24,6 +24,8 @@ mod history_checks;
 #[cfg(test)]
 mod limits;
 #[cfg(test)]
+mod mode_pairs;
+#[cfg(test)]
 mod other_sessions;
 #[cfg(test)]
 mod reader_faults;
@@ -31,5 +33,7 @@ mod reader_faults;
 mod replays;
 #[cfg(test)]
 mod threaded_runs;
+#[cfg(test)]
+mod updates;
 #[cfg(test)]
 mod writer_faults;

@@ -10,7 +10,7 @@ use std::thread::Threads;
 
 /// A trace and its expected history, both written row by row.
 #[derive(Drop)]
-struct TraceBuilder {
+pub(crate) struct TraceBuilder {
     /// The text of the trace.
     trace: Vec<u8>,
     /// The text of the expected history.
@@ -20,7 +20,7 @@ struct TraceBuilder {
 }
 
 /// Returns an empty trace and history.
-fn empty(rt: &(impl AllocGlobal + Threads + Wait)) -> TraceBuilder {
+pub(crate) fn empty(rt: &(impl AllocGlobal + Threads + Wait)) -> TraceBuilder {
     TraceBuilder {
         trace: Vec::new(rt.alloc()),
         history: Vec::new(rt.alloc()),
@@ -47,7 +47,7 @@ fn write_reply(
 }
 
 /// Appends a call to the trace, and the call with its reply to the history.
-fn row(
+pub(crate) fn row(
     built: &mut TraceBuilder,
     session: u32,
     call: impl Display + Drop,
@@ -60,7 +60,7 @@ fn row(
 }
 
 /// Appends a begin of a session. Transactions are numbered like the sessions that begin them.
-fn begin(built: &mut TraceBuilder, session: u32) -> Result<(), Fail> {
+pub(crate) fn begin(built: &mut TraceBuilder, session: u32) -> Result<(), Fail> {
     row(built, session, "begin,,", format_args!("began,{session}"))
 }
 
@@ -70,7 +70,7 @@ fn ask(built: &mut TraceBuilder, session: u32, database: u32, reply: &str) -> Re
 }
 
 /// Replays the trace, and expects status 0 and the history.
-fn want_replayed(
+pub(crate) fn want_replayed(
     rt: &(impl AllocGlobal + Threads + Wait),
     abort: &impl Abort,
     built: &TraceBuilder,

@@ -3,6 +3,7 @@
 use crate::conversions::EXAMPLE as CONVERSIONS;
 use crate::deadlocks::EXAMPLE as DEADLOCK;
 use crate::harness::{want_errors, want_histories, want_output};
+use crate::updates::EXAMPLE as UPDATES;
 use std::test::Fail;
 
 /// A writer waits for a reader, and a later reader queues behind the writer. A waiting session can't request a lock.
@@ -66,13 +67,14 @@ const PARENTS_OUTRIGHT: (&str, &str) = (
 );
 
 /// The example traces, with their histories.
-pub(crate) const EXAMPLES: [(&str, &str); 6] = [
+pub(crate) const EXAMPLES: [(&str, &str); 7] = [
     QUEUE,
     READERS,
     REFUSALS,
     TREE,
     CONVERSIONS,
     DEADLOCK,
+    UPDATES,
 ];
 
 /// Queues, refusals, compatibility with SIX, a conversion by `lock`, and the empty trace.

@@ -104,18 +104,27 @@ fn or_of(column: &[u8]) -> u8 {
     all
 }
 
-/// Checks a column of ones with a 6 at index `at`.
-fn check_column(rt: &impl Abort, length: usize, at: usize)
+/// Checks a column of ones with `byte` at index `at`.
+fn check_byte(rt: &impl Abort, length: usize, at: usize, byte: u8)
     requires at { at < length }
     requires length { length ≤ LONGEST }
 {
     let mut column = [1; LONGEST];
-    column[at] = 6;
+    column[at] = byte;
     let column = &column[..length];
-    assert_eq!(rt; union(column), or_of(column), "{length} {at}");
-    for mask in [1, 2, 8] {
+    assert_eq!(rt; union(column), or_of(column), "{length} {at} {byte}");
+    for mask in [1, 2, 8, 10] {
         check_mask(rt, column, mask, at);
     }
+}
+
+/// Checks columns of ones with another byte at index `at`: 6, and 13, the code of U.
+fn check_column(rt: &impl Abort, length: usize, at: usize)
+    requires at { at < length }
+    requires length { length ≤ LONGEST }
+{
+    check_byte(rt, length, at, 6);
+    check_byte(rt, length, at, 13);
 }
 
 /// Whether each word of `row` is the lowest bit of the word of `other`.

@@ -24,8 +24,9 @@ fn codes_conflict_masks_and_parent_needs(rt: HostRuntime) {
         (0, 0, Mode::NL),
         (1, 8, Mode::IS),
         (3, 4, Mode::IX),
-        (5, 2, Mode::IS),
+        (5, 10, Mode::IS),
         (7, 6, Mode::IX),
+        (13, 10, Mode::IX),
         (15, 1, Mode::IX),
     ];
     assert_eq!(rt; rows.len(), MODES.len());
@@ -35,7 +36,7 @@ fn codes_conflict_masks_and_parent_needs(rt: HostRuntime) {
 }
 
 /// Expects `row` for a requested mode beside each granted mode.
-fn want_compatible(rt: &impl Abort, asked: Mode, row: [bool; 6]) {
+fn want_compatible(rt: &impl Abort, asked: Mode, row: [bool; 7]) {
     for (granted, want) in MODES.into_iter().zip(row) {
         assert_eq!(rt;
             Mode::compatible(asked, granted),
@@ -49,12 +50,13 @@ fn want_compatible(rt: &impl Abort, asked: Mode, row: [bool; 6]) {
 #[test]
 fn compatibility_matrix(rt: HostRuntime) {
     let table = [
-        [YES, YES, YES, YES, YES, YES],
-        [YES, YES, YES, YES, YES, NO],
-        [YES, YES, YES, NO, NO, NO],
-        [YES, YES, NO, YES, NO, NO],
-        [YES, YES, NO, NO, NO, NO],
-        [YES, NO, NO, NO, NO, NO],
+        [YES, YES, YES, YES, YES, YES, YES],
+        [YES, YES, YES, YES, YES, NO, NO],
+        [YES, YES, YES, NO, NO, NO, NO],
+        [YES, YES, NO, YES, NO, NO, NO],
+        [YES, YES, NO, NO, NO, NO, NO],
+        [YES, YES, NO, YES, NO, NO, NO],
+        [YES, NO, NO, NO, NO, NO, NO],
     ];
     assert_eq!(rt; table.len(), MODES.len());
     for (asked, row) in MODES.into_iter().zip(table) {
@@ -63,7 +65,7 @@ fn compatibility_matrix(rt: HostRuntime) {
 }
 
 /// Expects `row` as the least upper bounds of a mode with each mode, and coverage to follow from them.
-fn want_bounds(rt: &impl Abort, mode: Mode, row: [Mode; 6]) {
+fn want_bounds(rt: &impl Abort, mode: Mode, row: [Mode; 7]) {
     for (other, want) in MODES.into_iter().zip(row) {
         assert_eq!(rt; mode.sup(other), want, "{mode:?} and {other:?}");
         assert_eq!(rt; mode.covers(other), want == mode, "{mode:?} over {other:?}");
@@ -74,14 +76,15 @@ fn want_bounds(rt: &impl Abort, mode: Mode, row: [Mode; 6]) {
 /// mode itself.
 #[test]
 fn least_upper_bounds(rt: HostRuntime) {
-    use Mode::{IS, IX, NL, S, SIX, X};
+    use Mode::{IS, IX, NL, S, SIX, U, X};
     let table = [
-        [NL, IS, IX, S, SIX, X],
-        [IS, IS, IX, S, SIX, X],
-        [IX, IX, IX, SIX, SIX, X],
-        [S, S, SIX, S, SIX, X],
-        [SIX, SIX, SIX, SIX, SIX, X],
-        [X, X, X, X, X, X],
+        [NL, IS, IX, S, SIX, U, X],
+        [IS, IS, IX, S, SIX, U, X],
+        [IX, IX, IX, SIX, SIX, X, X],
+        [S, S, SIX, S, SIX, U, X],
+        [SIX, SIX, SIX, SIX, SIX, X, X],
+        [U, U, X, U, X, U, X],
+        [X, X, X, X, X, X, X],
     ];
     assert_eq!(rt; table.len(), MODES.len());
     for (mode, row) in MODES.into_iter().zip(table) {
@@ -98,21 +101,21 @@ fn want_name(rt: &impl Abort, mode: Mode, name: &str) {
 /// Each name is read as its mode, and other texts as none.
 #[test]
 fn names_are_printed_and_parsed(rt: HostRuntime) {
-    let names = ["NL", "IS", "IX", "S", "SIX", "X"];
+    let names = ["NL", "IS", "IX", "S", "SIX", "U", "X"];
     assert_eq!(rt; names.len(), MODES.len());
     for (mode, name) in MODES.into_iter().zip(names) {
         want_name(&rt, mode, name);
     }
     for text in [
-        "", " ", "is", "Six", "x", " IS", "IS ", "IS\n", "I", "SI", "SIXX", "IS,IX", "Х",
+        "", " ", "is", "Six", "u", "x", " IS", "IS ", "IS\n", "I", "SI", "SIXX", "IS,IX", "Х",
     ] {
         assert_eq!(rt; Mode::parse(text), None, "{text:?}");
     }
 }
 
-/// Six of the 256 bytes are codes; `from_code_or_nl` gives NL for the others.
+/// Seven of the 256 bytes are codes; `from_code_or_nl` gives NL for the others.
 #[test]
-fn only_six_bytes_are_codes_of_modes(rt: HostRuntime) {
+fn only_seven_bytes_are_codes_of_modes(rt: HostRuntime) {
     for byte in 0..=255 {
         // typed by hand, so that the test doesn't repeat the code's own table
         let want = match byte {
@@ -121,6 +124,7 @@ fn only_six_bytes_are_codes_of_modes(rt: HostRuntime) {
             3 => Some(Mode::IX),
             5 => Some(Mode::S),
             7 => Some(Mode::SIX),
+            13 => Some(Mode::U),
             15 => Some(Mode::X),
             _ => None,
         };
@@ -133,11 +137,19 @@ fn only_six_bytes_are_codes_of_modes(rt: HostRuntime) {
     }
 }
 
-/// The modes are ordered NL, IS, IX, S, SIX, X.
+/// The modes are ordered NL, IS, IX, S, SIX, U, X.
 #[test]
 fn a_mode_is_one_byte_and_modes_are_ordered(rt: HostRuntime) {
     assert_eq!(rt; size_of::<Mode>(), 1);
-    let mut modes = [Mode::X, Mode::S, Mode::NL, Mode::SIX, Mode::IX, Mode::IS];
+    let mut modes = [
+        Mode::X,
+        Mode::S,
+        Mode::U,
+        Mode::NL,
+        Mode::SIX,
+        Mode::IX,
+        Mode::IS,
+    ];
     modes.sort_unstable();
     assert_eq!(rt; modes, MODES);
 }

@@ -3,7 +3,7 @@
 use lock_modes::Mode;
 use lock_rules::{
     Call, Entry, MAX_LOCKS, MAX_SESSIONS, OPS, Op, REFUSALS, REPLY_KINDS, Reply, ReplyKind, Why,
-    laws,
+    laws, update_laws,
 };
 use std::process::Abort;
 
@@ -128,4 +128,6 @@ fn laws_can_be_cited() {
     laws::states_are_lawful();
     laws::kinds_are_listed_once();
     laws::examples_are_legal();
+    update_laws::updates_are_alone();
+    update_laws::update_examples_are_legal();
 }

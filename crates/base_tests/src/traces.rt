@@ -86,7 +86,7 @@ fn reads_each_op(rt: HostRuntime) -> Result<(), Fail> {
 #[test]
 fn reads_the_least_and_greatest_numbers(rt: HostRuntime) -> Result<(), Fail> {
     let text =
-        "256,begin,,\n10,lock,0,NL\n9,lock,4294967295,IS\n1,lock,10,IX\n1,lock,1,SIX\n1,lock,1,X\n";
+        "256,begin,,\n10,lock,0,NL\n9,lock,4294967295,IS\n1,lock,10,IX\n1,lock,1,SIX\n1,lock,1,U\n1,lock,1,X\n";
     let rows = read_trace(rt.alloc(), text.as_bytes(), ALL)?;
     let want = [
         begin(256),
@@ -94,6 +94,7 @@ fn reads_the_least_and_greatest_numbers(rt: HostRuntime) -> Result<(), Fail> {
         lock(9, 4294967295, Mode::IS)?,
         lock(1, 10, Mode::IX)?,
         lock(1, 1, Mode::SIX)?,
+        lock(1, 1, Mode::U)?,
         lock(1, 1, Mode::X)?,
     ];
     assert_eq!(rt; rows.as_slice(), want.as_slice());
@@ -384,10 +385,11 @@ pub(crate) const HISTORY_TEXT: &[u8] = b"0,1,begin,,,began,1
 15,1,lock,7,S,deadlock,
 16,1,commit,,,refused,IsDoomed
 17,1,poll,,,deadlock,
+18,1,lock,8,U,granted,U
 ";
 
 /// Returns the entries of `HISTORY_TEXT`.
-pub(crate) fn history() -> Result<[Entry; 18], Fail> {
+pub(crate) fn history() -> Result<[Entry; 19], Fail> {
     Ok([
         entry(1, Call::Begin, Reply::Began(1)),
         entry(256, Call::Begin, Reply::Began(18446744073709551615)),
@@ -415,6 +417,7 @@ pub(crate) fn history() -> Result<[Entry; 18], Fail> {
         entry(1, lock(1, 7, Mode::S)?.call, Reply::Deadlock),
         entry(1, Call::Commit, Reply::Refused(Why::IsDoomed)),
         entry(1, Call::Poll, Reply::Deadlock),
+        entry(1, lock(1, 8, Mode::U)?.call, Reply::Granted(Mode::U)),
     ])
 }
 

@@ -1,11 +1,11 @@
-//! The waits-for rows of `waits_for`: reachability, cycles, and the youngest session on a cycle.
+//! The waits-for rows of `waits_for`: reachability, cycles, and the youngest session on a cycle. Also its marks.
 
 ghost use Rattle.std.specs.Prelude.{◌≡◌, ◌<◌, ◌≤◌, IfOk, length};
 
 use std::alloc::Global;
 use std::process::Abort;
 use std::test::Fail;
-use waits_for::{MAX_SESSIONS, NoMemory, Rows};
+use waits_for::{MAX_SESSIONS, Marks, NoMemory, Rows};
 
 /// Returns a different age for each position, rising, so that the last position is the youngest.
 fn rising_ages() -> [u64; 256]
@@ -126,6 +126,18 @@ fn a_session_that_waits_for_itself_is_on_a_cycle(rt: HostRuntime) -> Result<(), 
     rows.set(0, 0);
     assert!(rt; rows.on_circle(0));
     assert_eq!(rt; rows.youngest_on_circle(0, &[0]), Some(0));
+    Ok(())
+}
+
+/// A session is new among the marks until it is marked, and again once all marks are removed.
+#[test]
+fn a_session_is_marked_once(rt: HostRuntime) -> Result<(), Fail> {
+    let mut marks = Marks::new(rt.alloc(), 130)?;
+    assert!(rt; marks.mark(129));
+    assert!(rt; !marks.mark(129));
+    assert!(rt; marks.mark(64));
+    marks.clear();
+    assert!(rt; marks.mark(129));
     Ok(())
 }
 

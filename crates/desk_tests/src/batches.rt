@@ -148,16 +148,54 @@ fn conflicting_locks_wait(rt: &impl Abort, book: &mut Book) -> Result<(), Fail> 
     Ok(())
 }
 
-/// Begins all transactions and checks batches of compatible locks, of locks behind a waiting one, and of conflicting locks.
+/// Expects U to be granted beside S in one batch, and a later S to wait for it.
+fn late_readers_wait_for_an_update(rt: &impl Abort, book: &mut Book) -> Result<(), Fail> {
+    let three = resource(3)?;
+    let mut items = [
+        item(1, Call::Lock(three, Mode::S)),
+        item(4, Call::Lock(three, Mode::U)),
+        item(5, Call::Lock(three, Mode::S)),
+    ];
+    let replies = [
+        Reply::Granted(Mode::S),
+        Reply::Granted(Mode::U),
+        Reply::Waiting,
+    ];
+    want_replies(rt, book, &mut items, &replies);
+    Ok(())
+}
+
+/// Expects U to be granted beside IS in one batch, and a later IS to wait for it.
+fn late_intentions_wait_for_an_update(rt: &impl Abort, book: &mut Book) -> Result<(), Fail> {
+    let four = resource(4)?;
+    let mut items = [
+        item(1, Call::Lock(four, Mode::IS)),
+        item(4, Call::Lock(four, Mode::U)),
+        item(6, Call::Lock(four, Mode::IS)),
+    ];
+    let replies = [
+        Reply::Granted(Mode::IS),
+        Reply::Granted(Mode::U),
+        Reply::Waiting,
+    ];
+    want_replies(rt, book, &mut items, &replies);
+    Ok(())
+}
+
+/// Begins all transactions and checks batches of compatible locks, of locks behind a waiting one, of conflicting locks, and of
+/// locks with U among them.
 fn want_runs(rt: &impl Abort, alloc: Global, book: &mut Book) -> Result<(), Fail> {
     begin_all(rt, book)?;
     let mut items = shared_locks(alloc)?;
     want_granted(rt, book, &mut items);
     late_locks_wait(rt, book)?;
-    conflicting_locks_wait(rt, book)
+    conflicting_locks_wait(rt, book)?;
+    late_readers_wait_for_an_update(rt, book)?;
+    late_intentions_wait_for_an_update(rt, book)
 }
 
-/// 33 compatible locks of distinct sessions are granted; locks that conflict or come behind a waiting one wait.
+/// 33 compatible locks of distinct sessions are granted; locks that conflict or come behind a waiting one wait, and readers that
+/// come behind U.
 #[test]
 fn a_run_of_compatible_locks_is_granted(rt: HostRuntime) -> Result<(), Fail> {
     let mut book = new_book(&rt, rt.alloc(), 40)?;
@@ -172,12 +210,13 @@ fn next(seed: &mut u64) -> u64 {
     *seed >> 33
 }
 
-/// Returns a random mode, IS in five of eight cases.
+/// Returns a random mode, IS in four of eight cases.
 fn random_mode(seed: &mut u64) -> Mode {
     match next(seed) % 8 {
         0 => Mode::X,
         1 => Mode::S,
         2 => Mode::IX,
+        3 => Mode::U,
         _ => Mode::IS,
     }
 }

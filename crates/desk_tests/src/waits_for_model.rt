@@ -79,13 +79,14 @@ fn draw(rt: &impl Abort, seed: &mut u64, limit: u64) -> u64 {
     (next >> 33) % limit
 }
 
-/// Draws a mode, S in two of six cases.
+/// Draws a mode, S in two of seven cases.
 fn draw_mode(rt: &impl Abort, seed: &mut u64) -> Mode {
-    match draw(rt, seed, 6) {
+    match draw(rt, seed, 7) {
         0 => Mode::IS,
         1 => Mode::IX,
         2 => Mode::SIX,
         3 => Mode::X,
+        4 => Mode::U,
         _ => Mode::S,
     }
 }

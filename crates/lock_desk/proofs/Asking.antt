@@ -66,9 +66,6 @@ module _ (d : LockTable) (s : ℕ) (locker new : Locker) (w : IsWhole d) {i : �
   pub mid-under : (r : List ℕ) (mid : Locker) → mid ≡ get_or (set d.lockers.items i new) i mid → IsUnder (standing s d).held r → IsUnder mid.held.items r
   mid-under r mid at-mid u has = mid-held (parent_of r) mid at-mid ∙ u has
 
-  pub mid-same : (mid : Locker) → mid ≡ get_or (set d.lockers.items i new) i mid → mid ≡ new
-  mid-same mid at-mid = at-mid ∙ get_or-set_same d.lockers.items i new mid lt.within
-
   -- the same locker is then written once more
   module _ (r : List ℕ) (granted : Bool) (mid last : Locker) (items : List Locker) (at-mid : mid ≡ get_or (set d.lockers.items i new) i mid) (then : standing_of last ≡ standing_after_asking granted r (standing_of mid))
       (lockers : items ≡ set (set d.lockers.items i new) i last) where

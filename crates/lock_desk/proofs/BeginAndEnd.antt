@@ -20,7 +20,7 @@ use Rattle.lock_desk.specs.inner.Ready.{IsReadyTable}
 use Rattle.lock_desk.proofs.LockerStandings.{IsPositionOf, standings-set, standing-here, length-standings}
 use Rattle.lock_desk.proofs.Agreement.{own-standing, other-standing, GivesUp}
 use Rattle.lock_desk.proofs.Asking.{idle-there}
-use Rattle.lock_desk.proofs.GivingUp.{gives-request, freed-agree, freed-own, has-freed, freed-whole, freed-keeps}
+use Rattle.lock_desk.proofs.GivingUp.{gives-request, freed-agree, freed-own, has-freed, freed-keeps}
 
 -- no session holds more than its limit
 pub few-at : (ws : List Locker) (s : ℕ) → length (standing_at s (standings_of ws)).held ≤ MAX_LOCKS
@@ -166,11 +166,7 @@ module _ (d : LockTable) (s : ℕ) (r : List ℕ) (locker new : Locker) (w : IsW
       ];
     }
 
-    -- and the lock table is whole
-    pub cancel-whole : IsWhole e
-    cancel-whole = freed-whole d claim.Request s r locker new lt at gives w e (ap wanted_in gone) b agree granted
-
-    -- and the waits-for rows are right
+    -- the lock table is whole, and the waits-for rows are right
     pub cancel-keeps : vec_len e.lockers ≡ vec_len d.lockers → e.count ≡ d.count → DoFollow (view_at r d) (view_after_freeing claim.Request s (view_at r d)) d.waits e.waits → IsReadyTable d → DoesKeep d e
     cancel-keeps len count rows k = freed-keeps d claim.Request s r locker new lt at gives w e (ap wanted_in gone) b agree granted len count rows k
 

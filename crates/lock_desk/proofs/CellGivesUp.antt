@@ -8,37 +8,7 @@ use Rattle.lock_desk.specs.declared.cells.Claim.TheVariants as claim
 use Rattle.lock_desk.specs.inner.Cells.{View, no_view, view_of, Cells, cell_at, view_in, cell_view, view_after_giving_up, view_after_freeing, view_after_promotion, HasRoom, IsOnce, is_busy, AreKeptCells, CellsBecame}
 use Rattle.lock_desk.specs.inner.Lockers.{Standing, DoAgree}
 use Rattle.lock_desk.proofs.ResourceViews.{once-giving_up}
-use Rattle.lock_desk.proofs.CellTable.{became-same, became-view, became, idle-view}
-
--- the resource has no cell
-
--- giving up changes nothing in an empty view
-none-given : (g : Claim) (s : ℕ) → view_after_giving_up g s no_view ≡ no_view
-none-given claim.Lock s = refl
-none-given claim.Request s = refl
-
-module _ (g : Claim) (r : List ℕ) (s : ℕ) (cs : Cells) (none : None ≡ cell_at r cs) where
-  -- the view of a resource without a cell is empty
-  nothing : cell_view r cs ≡ no_view
-  nothing = sym (ap view_in none)
-
-  -- so giving up changes nothing in it
-  absent-given : view_after_giving_up g s (cell_view r cs) ≡ cell_view r cs
-  absent-given = ap (view_after_giving_up g s) nothing ∙ (none-given g s ∙ sym nothing)
-
-  -- and neither does the promotion after it
-  absent-freed : view_after_freeing g s (cell_view r cs) ≡ cell_view r cs
-  absent-freed = ap view_after_promotion absent-given ∙ (ap view_after_promotion nothing ∙ sym nothing)
-
-  -- then no view changes
-  pub free-absent : AreKeptCells cs → CellsBecame r (view_after_freeing g s (cell_view r cs)) cs cs
-  free-absent k = became-view r _ _ cs cs (sym absent-freed) (became-same r cs k)
-
-  -- and the lockers agree with the views as before
-  pub agree-absent : (ss : List Standing) → DoAgree r (view_after_giving_up g s (cell_view r cs)) ss → DoAgree r (view_after_freeing g s (cell_view r cs)) ss
-  agree-absent ss a = subst (λ (v : View). DoAgree r v ss) (absent-given ∙ sym absent-freed) a
-
--- the resource has a cell
+use Rattle.lock_desk.proofs.CellTable.{became-view, became, idle-view}
 
 module _ (g : Claim) (r : List ℕ) (s : ℕ) (cs : Cells) (x l : Cell) (there : Some x ≡ cell_at r cs) (gave : view_of l ≡ view_after_giving_up g s (view_of x)) where
   -- the view after the session has given up its lock or its request

@@ -1,10 +1,9 @@
 -- A session gives back all its locks, the last one first.
-use Rattle.std.proofs.Common.{◌≡◌, ℕ, Bool, true, false, cond, inl, inr, List, [], ◌∷◌, ◌++◌, get_or, set, Option, Some, None, refl, sym, ◌∙◌, ap, subst, vec_len}
+use Rattle.std.proofs.Common.{◌≡◌, ℕ, Bool, true, false, cond, inl, inr, List, [], ◌∷◌, ◌++◌, get_or, set, None, refl, sym, ◌∙◌, ap, subst, vec_len}
 use Rattle.std.proofs.lemmas.Bool.{or_right}
 use Rattle.lock_tree.specs.Paths.{same_path}
 use Rattle.lock_rules.proofs.Lists.{same_path-refl, same_path_tells}
 use Rattle.lock_desk.specs.declared.cells.Claim.TheVariants as claim
-use Rattle.lock_desk.specs.declared.lockers.Request.{Request}
 use Rattle.lock_desk.specs.declared.lockers.Locker.{Locker}
 use Rattle.lock_desk.specs.declared.lock_table.LockTable.{LockTable}
 use Rattle.lock_desk.specs.inner.Cells.{View, has_session, view_after_giving_up, view_after_freeing, has_path, AreApart, CellsBecame}
@@ -15,12 +14,7 @@ use Rattle.lock_desk.specs.inner.Blocking.{DoFollow}
 use Rattle.lock_desk.specs.inner.Ready.{IsReadyTable}
 use Rattle.lock_desk.proofs.LockerStandings.{IsPositionOf, standing-here, apart-pop, has_path-push, has_path-push_other}
 use Rattle.lock_desk.proofs.Agreement.{apart-at, GivesUp}
-use Rattle.lock_desk.proofs.GivingUp.{gives-last, freed-agree, freed-own, has-freed, freed-whole, freed-keeps}
-
--- if no resource is waited for, there is no request
-pub none-in : (o : Option Request) → wanted_in o ≡ None → o ≡ None
-none-in None h = refl
-none-in (Some q) h = absurd (cc)
+use Rattle.lock_desk.proofs.GivingUp.{gives-last, freed-agree, freed-own, has-freed, freed-keeps}
 
 -- the last lock is given back
 
@@ -53,11 +47,7 @@ module _ (d : LockTable) (s : ℕ) (r : List ℕ) (locker new : Locker) (w : IsW
       freed = has-freed d claim.Lock s r locker new lt at gives w e none-left b agree granted count;
     }
 
-    -- and the lock table is whole
-    pub back-whole : IsWhole e
-    back-whole = freed-whole d claim.Lock s r locker new lt at gives w e none-left b agree granted
-
-    -- and the waits-for rows are right
+    -- the lock table is whole, and the waits-for rows are right
     pub back-keeps : vec_len e.lockers ≡ vec_len d.lockers → DoFollow (view_at r d) (view_after_freeing claim.Lock s (view_at r d)) d.waits e.waits → IsReadyTable d → DoesKeep d e
     back-keeps len rows k = freed-keeps d claim.Lock s r locker new lt at gives w e none-left b agree granted len count rows k
 

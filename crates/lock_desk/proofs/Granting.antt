@@ -25,12 +25,12 @@ use Rattle.lock_desk.specs.declared.lock_table.LockTable.{LockTable}
 use Rattle.lock_desk.specs.BookView.{IsEntryWithin}
 use Rattle.lock_desk.specs.inner.Cells.{View, is_nobody, has_session, mode_of, with_holder, fits_among, queue_with, can_grant, view_with_holder, view_after_asking}
 use Rattle.lock_desk.specs.inner.Lockers.{standing_at, standing_after_grant}
-use Rattle.lock_desk.specs.inner.Changes.{view_at, standing, standings, mode_held, call_tests, IsWhole, IsSameSeen, DoesKeep, HasAsked}
+use Rattle.lock_desk.specs.inner.Changes.{view_at, standing, standings, mode_held, call_tests, IsWhole, DoesKeep, HasAsked}
 use Rattle.lock_desk.specs.inner.Shows.{Shows, DoesAnswer}
 use Rattle.lock_desk.specs.inner.Runs.{KeepsLockRooms, mode_asked, asker_of, CanJoin, CanGrant, GoesBeside, AreKept}
 use Rattle.lock_desk.proofs.Agreement.{other-standing}
 use Rattle.lock_desk.proofs.TableViews.{in_mode}
-use Rattle.lock_desk.proofs.Simulation.{tests-shown, lock-may, granted-answer, same-shown}
+use Rattle.lock_desk.proofs.Simulation.{tests-shown, lock-may, granted-answer}
 use Rattle.lock_desk.proofs.RunItems.{join-same}
 
 -- holders
@@ -118,14 +118,3 @@ module _ (d e : LockTable) (h : List Entry) (i : Item) (r : List ℕ) (m : Mode)
         ready = k.ready;
         counted = let n = asked.count in let c = kept.counted in omega (arith, n, c, length-append h (x ∷ []));
       }
-
--- a lock table with the same count, standings and views still represents the state of the history
-pub same-kept : (d e : LockTable) (h : List Entry) → IsSameSeen d e → DoesKeep d e → AreKept d h → AreKept e h
-same-kept d e h same k kept = record {
-  legal = kept.legal;
-  within = subst (λ (n : ℕ). All (IsEntryWithin n) h) (sym k.lockers) kept.within;
-  shows = same-shown d e (state_of h) same kept.shows;
-  whole = k.whole;
-  ready = k.ready;
-  counted = let n = same.count in let c = kept.counted in omega (arith, n, c);
-}

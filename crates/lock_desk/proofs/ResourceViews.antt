@@ -46,15 +46,6 @@ next-within hs [] (suc n) c h = absurd (cc)
 next-within hs (q ∷ ws) zero c h = omega arith
 next-within hs (q ∷ ws) (suc n) c h = omega (arith, next-within hs ws n c h)
 
--- if the first request does not fit, nothing is granted
-pub none-granted : (hs ws : List SessionMode) → None ≡ next_grant hs ws → view_after_grants hs ws ≡ both hs ws
-none-granted hs [] h = refl
-none-granted hs (q ∷ ws) h = go (fits_among q hs) h
-  where
-    go : (b : Bool) → None ≡ cond b (Some q) None → cond b (view_after_grants (with_holder q hs) ws) (both hs (q ∷ ws)) ≡ both hs (q ∷ ws)
-    go false e = refl
-    go true e = absurd (cc)
-
 -- the promotion from the view after one grant ends in the same view
 pub promoted-next : (v : View) (c : SessionMode) (w : View) → IsNext v c w → view_after_promotion w ≡ view_after_promotion v
 promoted-next v c w n =

@@ -1,12 +1,7 @@
 -- From one clause of a result to another.
-use Rattle.std.proofs.Common.{◌≡◌, Bool, true, false, cond, List, [], ◌∷◌, ◌++◌, Some, None, refl, Result, Ok, Err, IsOk, IfOk, OnOk, OnErr}
+use Rattle.std.proofs.Common.{◌≡◌, Bool, true, false, cond, List, [], ◌∷◌, ◌++◌, Some, None, refl, Result, Ok, Err, IsOk, OnOk, OnErr}
 use Rattle.lock_rules.specs.declared.calls.Why.{Why}
 use Rattle.lock_rules.specs.Step.{first_failing}
-
--- a clause of a success gives a fact that follows from it
-pub on-ok : {T E : Type 0} (r : Result T E) (P : T → Type 0) (Q : Type 0) → IfOk r P → ((x : T) → P x → Q) → OnOk r Q
-on-ok (Ok x) P Q h f = f x h
-on-ok (Err e) P Q h f = tt
 
 -- the fact that a success states holds of a result that is one
 pub from-ok : {T E : Type 0} (r : Result T E) (P : Type 0) → IsOk r → OnOk r P → P

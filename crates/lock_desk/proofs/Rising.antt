@@ -106,13 +106,6 @@ without-all s (k ∷ hs) n = go (eqb k.session s) refl (without-all s hs (λ i d
     go true e rest = absurd (n 0 k (omega arith) ((Decides-eqb k.session s).0 e))
     go false e rest = ap (λ (c : Bool). cond (not c) (k ∷ without s hs) (without s hs)) e ∙ ap (λ (xs : List SessionMode). k ∷ xs) rest
 
--- a session between lesser and greater ones is no holder, so removing it changes nothing
-pub left-all : (s : ℕ) (hs : List SessionMode) (n : ℕ) → AreLesser s n hs → ((i : ℕ) (d : SessionMode) → n ≤ i → i < length hs → s < (get_or hs i d).session) → without s hs ≡ hs
-left-all s hs n lesser greater = without-all s hs (λ i d lt e. elim (cases_lt i n) [
-  | inl l ↦ (let a = lesser i d l in omega (arith, a, e))
-  | inr l ↦ (let a = greater i d l lt in omega (arith, a, e))
-])
-
 -- removing a holder removes the one at its index
 pub left-one : (s : ℕ) (hs : List SessionMode) (n : ℕ) → n < length hs → AreLesser s n hs → ((d : SessionMode) → (get_or hs n d).session ≡ s) → ((i : ℕ) (d : SessionMode) → n < i → i < length hs → s < (get_or hs i d).session) → take n hs ++ drop (suc n) hs ≡ without s hs
 left-one s [] n lt lesser at greater = absurd (omega arith)

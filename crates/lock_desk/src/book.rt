@@ -107,7 +107,7 @@ impl Book {
     /// that is first in its queue and fits. A session keeps at least the mode that it was granted until it releases
     /// the lock or its transaction ends. A victim stays doomed until it aborts. A request waits until it is granted,
     /// its session becomes a victim, or it aborts. Which modes are compatible, and what a lock gives below its
-    /// resource, is from Gray, Lorie, Putzolu and Traiger (1976).
+    /// resource, is from Gray, Lorie, Putzolu and Traiger (1976), except for U, which is this project's own.
     pub fn history(&self) -> &[Entry]
         ensures history { result.now ≡ self.now.history }
         ensures legal { IsLegal self.now.history }
@@ -161,8 +161,9 @@ impl Book {
     /// leads to. docs/RULES.md tells its rules, and which are from Gray, Lorie, Putzolu and Traiger (1976) and which
     /// are this project's own choice. `session` is from 1 to `sessions()`.
     ///
-    /// Fails with `NoMemory` only if memory is refused. The book is unchanged then, and the same call may be made
-    /// again. Begin, Poll, Release, Commit, Abort and refused calls need memory for the history alone.
+    /// Fails with `NoMemory` only if memory is refused. Every growth comes before the first change, so the book is
+    /// unchanged then, and the same call may be made again. Begin, Poll, Release, Commit, Abort and refused calls
+    /// need memory for the history alone.
     #[inline(always)]
     pub fn serve(&mut self, session: u16, call: Call) -> Result<Reply, NoMemory>
         requires some { 1 ≤ session }

@@ -4,7 +4,7 @@ use mathlib.Core.Bool.{beq}
 use Rattle.std.proofs.lemmas.Bool.{ne_eqb}
 use Rattle.std.proofs.lemmas.Bool.Decides.{Decides-eqb}
 use Rattle.lock_modes.specs.declared.Mode.{Mode}
-use Rattle.lock_modes.specs.declared.Mode.TheVariants.{NL, IS, IX, S, SIX, X}
+use Rattle.lock_modes.specs.declared.Mode.TheVariants.{NL, IS, IX, S, SIX, U, X}
 use Rattle.lock_modes.specs.Order.{at_or_below, sup_of}
 use Rattle.lock_modes.specs.Compatibility.{IsCompatible, are_compatible}
 use Rattle.lock_modes.specs.Codes.{code_of, mode_of_code, mask_of}
@@ -18,13 +18,14 @@ mode_of_code-code IS = refl
 mode_of_code-code IX = refl
 mode_of_code-code S = refl
 mode_of_code-code SIX = refl
+mode_of_code-code U = refl
 mode_of_code-code X = refl
 
 -- a number that is the code of no mode gives NL
 pub mode_of_code-none : (c : ℕ) → ((m : Mode) → c ≡ code_of m → ⊥) → mode_of_code c ≡ NL
 mode_of_code-none c other =
     let not : (m : Mode) → eqb c (code_of m) ≡ false = λ m. ne_eqb c (code_of m) (other m) in
-    rw (not IS, not IX, not S, not SIX, not X) refl
+    rw (not IS, not IX, not S, not SIX, not U, not X) refl
 
 -- no two modes have the same code
 pub same_code : (a b : Mode) → code_of a ≡ code_of b → a ≡ b

@@ -4,4 +4,5 @@ pub mod Codes
 pub mod Order
 pub mod Columns
 pub mod Needs
+pub mod Lower
 pub mod Names

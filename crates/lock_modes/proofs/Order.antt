@@ -3,8 +3,8 @@ use Rattle.std.proofs.Common.{◌≡◌, ◌≤◌, true, ◌||◌, eqb, leb, re
 use Rattle.std.proofs.lemmas.Bool.Decides.{Decides-eqb}
 use borrow.Author.Tests.{leb-true}
 use Rattle.lock_modes.specs.declared.Mode.{Mode}
-use Rattle.lock_modes.specs.declared.Mode.TheVariants.{NL, IS, IX, S, SIX, X}
-use Rattle.lock_modes.specs.Order.{IsDirectlyBelow, nl_is, is_ix, is_s, ix_six, s_six, six_x, IsAtOrBelow, same, chain, at_or_below, IsLeastUpperBound, sup_of}
+use Rattle.lock_modes.specs.declared.Mode.TheVariants.{NL, IS, IX, S, SIX, U, X}
+use Rattle.lock_modes.specs.Order.{IsDirectlyBelow, nl_is, is_ix, is_s, ix_six, s_six, s_u, six_x, u_x, IsAtOrBelow, same, chain, at_or_below, IsLeastUpperBound, sup_of}
 use Rattle.lock_modes.specs.Codes.{code_of}
 use Rattle.lock_modes.proofs.Every.{every-at, every2-at, every3-at, implied}
 use Rattle.lock_modes.proofs.Codes.{same_code}
@@ -16,7 +16,9 @@ directly-tests is_ix = refl
 directly-tests is_s = refl
 directly-tests ix_six = refl
 directly-tests s_six = refl
+directly-tests s_u = refl
 directly-tests six_x = refl
+directly-tests u_x = refl
 
 -- the order is reflexive
 pub at_or_below-refl : (a : Mode) → at_or_below a a ≡ true
@@ -42,12 +44,14 @@ order-from NL IS h = chain nl_is same
 order-from NL IX h = chain nl_is (chain is_ix same)
 order-from NL S h = chain nl_is (chain is_s same)
 order-from NL SIX h = chain nl_is (chain is_ix (chain ix_six same))
+order-from NL U h = chain nl_is (chain is_s (chain s_u same))
 order-from NL X h = chain nl_is (chain is_ix (chain ix_six (chain six_x same)))
 order-from IS NL h = absurd (cc)
 order-from IS IS h = same
 order-from IS IX h = chain is_ix same
 order-from IS S h = chain is_s same
 order-from IS SIX h = chain is_ix (chain ix_six same)
+order-from IS U h = chain is_s (chain s_u same)
 order-from IS X h = chain is_ix (chain ix_six (chain six_x same))
 order-from IX IX h = same
 order-from IX SIX h = chain ix_six same
@@ -55,11 +59,15 @@ order-from IX X h = chain ix_six (chain six_x same)
 order-from IX _ h = absurd (cc)
 order-from S S h = same
 order-from S SIX h = chain s_six same
+order-from S U h = chain s_u same
 order-from S X h = chain s_six (chain six_x same)
 order-from S _ h = absurd (cc)
 order-from SIX SIX h = same
 order-from SIX X h = chain six_x same
 order-from SIX _ h = absurd (cc)
+order-from U U h = same
+order-from U X h = chain u_x same
+order-from U _ h = absurd (cc)
 order-from X X h = same
 order-from X _ h = absurd (cc)
 

@@ -1,26 +1,30 @@
--- Which modes two transactions may hold on one resource at once, by Gray, Lorie, Putzolu and Traiger (1976).
-use Rattle.std.specs.Prelude.{Bool, true, false, ◌⊎◌}
+-- Which mode may be granted beside which, by Gray, Lorie, Putzolu and Traiger (1976), and by this project's choice for U.
+use Rattle.std.specs.Prelude.{Bool, true, false}
 use Rattle.lock_modes.specs.declared.Mode.{Mode}
-use Rattle.lock_modes.specs.declared.Mode.TheVariants.{NL, IS, IX, S, SIX, X}
+use Rattle.lock_modes.specs.declared.Mode.TheVariants.{NL, IS, IX, S, SIX, U, X}
 
--- the compatible pairs, each in one order
-pub data IsListed : Mode → Mode → Type 0 where
-  nl_any : {b : Mode} → IsListed NL b
-  is_is : IsListed IS IS
-  is_ix : IsListed IS IX
-  is_s : IsListed IS S
-  is_six : IsListed IS SIX
-  ix_ix : IsListed IX IX
-  s_s : IsListed S S
-
--- the asked mode may be granted beside the granted one: the pair is listed, in one order or the other
-abbrev pub IsCompatible : Mode → Mode → Type 0
-IsCompatible asked granted = IsListed asked granted ⊎ IsListed granted asked
+-- The pairs of a mode asked and a mode granted: the first may be granted while another transaction holds the second. The
+-- order counts for U: it may be granted beside IS and S, and neither of them may be granted beside U.
+pub data IsCompatible : Mode → Mode → Type 0 where
+  nl_any : {granted : Mode} → IsCompatible NL granted
+  any_nl : {asked : Mode} → IsCompatible asked NL
+  is_is : IsCompatible IS IS
+  is_ix : IsCompatible IS IX
+  is_s : IsCompatible IS S
+  is_six : IsCompatible IS SIX
+  ix_is : IsCompatible IX IS
+  ix_ix : IsCompatible IX IX
+  s_is : IsCompatible S IS
+  s_s : IsCompatible S S
+  six_is : IsCompatible SIX IS
+  u_is : IsCompatible U IS
+  u_s : IsCompatible U S
 
 -- IsCompatible as a table that computes
 abbrev pub are_compatible : Mode → Mode → Bool
 are_compatible NL _ = true
 are_compatible _ NL = true
+are_compatible IS U = false
 are_compatible IS X = false
 are_compatible IS _ = true
 are_compatible IX IS = true
@@ -31,4 +35,7 @@ are_compatible S S = true
 are_compatible S _ = false
 are_compatible SIX IS = true
 are_compatible SIX _ = false
+are_compatible U IS = true
+are_compatible U S = true
+are_compatible U _ = false
 are_compatible X _ = false

@@ -1,7 +1,8 @@
--- The order of the modes, by Gray, Lorie, Putzolu and Traiger (1976). A higher mode gives more access.
+-- The order of the modes, by Gray, Lorie, Putzolu and Traiger (1976), and by this project's choice for U. A higher mode
+-- gives more access.
 use Rattle.std.specs.Prelude.{Bool, true, false}
 use Rattle.lock_modes.specs.declared.Mode.{Mode}
-use Rattle.lock_modes.specs.declared.Mode.TheVariants.{NL, IS, IX, S, SIX, X}
+use Rattle.lock_modes.specs.declared.Mode.TheVariants.{NL, IS, IX, S, SIX, U, X}
 
 -- each mode, and the modes directly above it
 pub data IsDirectlyBelow : Mode → Mode → Type 0 where
@@ -10,7 +11,9 @@ pub data IsDirectlyBelow : Mode → Mode → Type 0 where
   is_s : IsDirectlyBelow IS S
   ix_six : IsDirectlyBelow IX SIX
   s_six : IsDirectlyBelow S SIX
+  s_u : IsDirectlyBelow S U
   six_x : IsDirectlyBelow SIX X
+  u_x : IsDirectlyBelow U X
 
 -- the first mode is at or below the second: the two are the same, or a chain of such pairs leads up
 pub data IsAtOrBelow : Mode → Mode → Type 0 where
@@ -28,11 +31,15 @@ at_or_below IX X = true
 at_or_below IX _ = false
 at_or_below S S = true
 at_or_below S SIX = true
+at_or_below S U = true
 at_or_below S X = true
 at_or_below S _ = false
 at_or_below SIX SIX = true
 at_or_below SIX X = true
 at_or_below SIX _ = false
+at_or_below U U = true
+at_or_below U X = true
+at_or_below U _ = false
 at_or_below X X = true
 at_or_below X _ = false
 
@@ -52,15 +59,22 @@ sup_of IX IS = IX
 sup_of IX IX = IX
 sup_of IX S = SIX
 sup_of IX SIX = SIX
+sup_of IX U = X
 sup_of IX X = X
 sup_of S NL = S
 sup_of S IS = S
 sup_of S IX = SIX
 sup_of S S = S
 sup_of S SIX = SIX
+sup_of S U = U
 sup_of S X = X
+sup_of SIX U = X
 sup_of SIX X = X
 sup_of SIX _ = SIX
+sup_of U IX = X
+sup_of U SIX = X
+sup_of U X = X
+sup_of U _ = U
 sup_of X _ = X
 
 -- the weakest mode in which the parent has to be held for a lock in this mode
@@ -70,4 +84,5 @@ need_of IS = IS
 need_of IX = IX
 need_of S = IS
 need_of SIX = IX
+need_of U = IX
 need_of X = IX

@@ -1,10 +1,11 @@
 //! The laws of all modes. Each is the contract of a function with an empty body.
 
-ghost use Rattle.std.specs.Prelude.{◌≡◌, ◌≢◌, ◌≤◌, ◌↔◌, List, true, All, Any, Contains, map, bit_and};
+ghost use Rattle.std.specs.Prelude.{◌≡◌, ◌≢◌, ◌≤◌, ◌↔◌, ◌⊎◌, List, true, All, Any, Contains, map, bit_and};
 ghost use Rattle.std.specs.List.Sorted.{IsStrictlyIncreasing};
 ghost use Rattle.std.specs.Ordering.{nat_cmp};
 ghost use Rattle.lock_modes.specs.contracts.ModeOrd.TheImpl.{ghosts as derived};
 ghost use Rattle.lock_modes.specs.declared.Mode.{Mode as ModeValue};
+ghost use Rattle.lock_modes.specs.declared.Mode.TheVariants.{IS, S, U, X};
 ghost use Rattle.lock_modes.specs.Order.{IsAtOrBelow, at_or_below, IsLeastUpperBound, sup_of, need_of};
 ghost use Rattle.lock_modes.specs.Compatibility.{IsCompatible, are_compatible};
 ghost use Rattle.lock_modes.specs.Codes.{code_of, mask_of, union_of};
@@ -30,10 +31,18 @@ pub fn order_extends()
     ensures extends { (low high : ModeValue) → IsAtOrBelow low high → code_of low ≤ code_of high }
 {}
 
-/// Compatibility is symmetric. This holds for these six modes, and an update mode would end it, so whatever needs it
-/// cites this law.
-pub fn compatible_is_symmetric()
-    ensures { (a b : ModeValue) → IsCompatible a b → IsCompatible b a }
+/// The order of two requests counts for U alone: U is granted beside IS and S, and neither of them is granted beside U.
+/// Two modes that two transactions hold were compatible in the order in which they were granted, so nothing more is true
+/// of them in general.
+pub fn only_u_depends_on_the_order()
+    ensures others { (asked granted : ModeValue) → IsCompatible asked granted → IsCompatible granted asked ⊎ ((asked ≡ U) × ((granted ≡ IS) ⊎ (granted ≡ S))) }
+    ensures u_beside_readers { IsCompatible U IS × IsCompatible U S }
+    ensures no_readers_beside_u { (IsCompatible IS U → ⊥) × (IsCompatible S U → ⊥) }
+{}
+
+/// Compatible modes stay compatible if either of them is lowered.
+pub fn lower_modes_are_compatible()
+    ensures { (asked granted a g : ModeValue) → IsAtOrBelow a asked → IsAtOrBelow g granted → IsCompatible asked granted → IsCompatible a g }
 {}
 
 /// One test of a mask against the bitwise or of a column's codes tells whether the mode is compatible with every mode
@@ -43,10 +52,12 @@ pub fn columns_meet_masks()
     ensures conflicts { (target : ModeValue) (column : List ModeValue) → (bit_and (mask_of target) (union_of column) ≢ 0) ↔ Any (λ granted. ¬ IsCompatible target granted) column }
 {}
 
-/// What a mode needs of the parent is at or below the mode, rises with it, and is compatible with every other need. So
-/// two transactions that hold only what they need on a parent never conflict there.
+/// What a mode needs of the parent rises with the mode, and is compatible with every other need. So two transactions that
+/// hold only what they need on a parent never conflict there. The need is at or below the mode, except for U, which needs
+/// what X needs.
 pub fn needs_go_together()
-    ensures below { (m : ModeValue) → IsAtOrBelow (need_of m) m }
+    ensures below { (m : ModeValue) → m ≢ U → IsAtOrBelow (need_of m) m }
+    ensures as_x { need_of U ≡ need_of X }
     ensures rises { (low high : ModeValue) → IsAtOrBelow low high → IsAtOrBelow (need_of low) (need_of high) }
     ensures together { (a b : ModeValue) → IsCompatible (need_of a) (need_of b) }
 {}

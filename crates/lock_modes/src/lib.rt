@@ -1,4 +1,4 @@
-//! The six lock modes: their order, which are compatible, what they need of the parent, and their codes and names.
+//! The seven lock modes: their order, which are compatible, what they need of the parent, and their codes and names.
 #![tactic(auto)]
 
 ghost use Rattle.std.specs.Prelude.{◌≡◌, ◌↔◌, IsTrue, bit_and, bit_or};
@@ -9,8 +9,8 @@ ghost use Rattle.lock_modes.specs.Codes.{code_of, mode_of_code, mask_of, name_of
 
 pub mod laws;
 
-/// A lock mode of Gray, Lorie, Putzolu and Traiger (1976). `Ord` compares codes, so a mode comes after every mode below
-/// it.
+/// A lock mode: those of Gray, Lorie, Putzolu and Traiger (1976), and U, which is this project's own. `Ord` compares
+/// codes, so a mode comes after every mode below it.
 #[derive(Clone, Copy, Debug, PartialEq, Eq, PartialOrd, Ord, Hash)]
 pub enum Mode {
     /// No lock.
@@ -23,12 +23,23 @@ pub enum Mode {
     S,
     /// Share with intention exclusive: S and IX together.
     SIX,
+    /// Update: read access like S, announcing a conversion to X. At most one transaction holds a resource in U. U is
+    /// granted beside IS and S, but neither of them beside U, so that no new readers delay the conversion.
+    U,
     /// Exclusive: write access to the resource and everything below.
     X,
 }
 
 /// All modes, each once, by rising code.
-pub const MODES: [Mode; 6] = [Mode::NL, Mode::IS, Mode::IX, Mode::S, Mode::SIX, Mode::X];
+pub const MODES: [Mode; 7] = [
+    Mode::NL,
+    Mode::IS,
+    Mode::IX,
+    Mode::S,
+    Mode::SIX,
+    Mode::U,
+    Mode::X,
+];
 
 impl Mode {
     /// The mode as bits, for columns that are scanned as bytes. The bitwise or of two codes is the code of their least
@@ -43,6 +54,7 @@ impl Mode {
             Mode::IX => 3,
             Mode::S => 5,
             Mode::SIX => 7,
+            Mode::U => 13,
             Mode::X => 15,
         }
     }
@@ -58,6 +70,7 @@ impl Mode {
             3 => Some(Mode::IX),
             5 => Some(Mode::S),
             7 => Some(Mode::SIX),
+            13 => Some(Mode::U),
             15 => Some(Mode::X),
             _ => None,
         }
@@ -85,14 +98,16 @@ impl Mode {
             Mode::NL => 0,
             Mode::IS => 8,
             Mode::IX => 4,
-            Mode::S => 2,
+            Mode::S => 10,
             Mode::SIX => 6,
+            Mode::U => 10,
             Mode::X => 1,
         }
     }
 
     /// Whether `asked` may be granted while another transaction holds the resource in `granted`, by the compatibility
-    /// table of Gray, Lorie, Putzolu and Traiger (1976).
+    /// table of Gray, Lorie, Putzolu and Traiger (1976), to which this project adds U. The order of the two counts for U:
+    /// it may be granted beside IS and S, and neither of them may be granted beside U.
     #[inline]
     pub fn compatible(asked: Mode, granted: Mode) -> bool
         ensures value { result ≡ are_compatible asked granted }
@@ -111,8 +126,10 @@ impl Mode {
         ensures code { code_of result ≡ bit_or (code_of self) (code_of other) }
     {
         match (self, other) {
-            // only of IX and S is neither at or below the other
+            // of IX and S, IX and U, SIX and U neither is at or below the other
             (Mode::IX, Mode::S) | (Mode::S, Mode::IX) => Mode::SIX,
+            (Mode::IX, Mode::U) | (Mode::SIX, Mode::U) => Mode::X,
+            (Mode::U, Mode::IX) | (Mode::U, Mode::SIX) => Mode::X,
             _ => self.max(other),
         }
     }
@@ -129,7 +146,7 @@ impl Mode {
 
     /// The weakest mode in which the parent has to be held before this mode may be requested. The intention modes are
     /// those of Gray, Lorie, Putzolu and Traiger (1976). That any mode at or above them will do is this project's own
-    /// choice.
+    /// choice, and so is the need of U: it needs what X needs, since its holder means to convert it to X.
     #[inline]
     pub fn parent_need(self) -> Mode
         ensures { result ≡ need_of self }
@@ -137,7 +154,7 @@ impl Mode {
         match self {
             Mode::NL => Mode::NL,
             Mode::IS | Mode::S => Mode::IS,
-            Mode::IX | Mode::SIX | Mode::X => Mode::IX,
+            Mode::IX | Mode::SIX | Mode::U | Mode::X => Mode::IX,
         }
     }
 
@@ -151,6 +168,7 @@ impl Mode {
             Mode::IX => "IX",
             Mode::S => "S",
             Mode::SIX => "SIX",
+            Mode::U => "U",
             Mode::X => "X",
         }
     }

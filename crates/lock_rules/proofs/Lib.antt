@@ -33,5 +33,6 @@ pub mod RequestsStand
 pub mod Lawful
 pub mod WrongReplies
 pub mod Worked
+pub mod Updates
 pub mod RefusalNames
 pub mod OpNumbers

@@ -5,7 +5,7 @@ use Rattle.std.proofs.lemmas.Bool.{and_parts, and_from, or_cases, not-true, leb-
 use Rattle.std.proofs.lemmas.Bool.Decides.{Decides-not}
 use Rattle.std.proofs.lemmas.List.Elements.{All-head, All-tail, All-nil, All-cons}
 use Rattle.lock_modes.specs.declared.Mode.{Mode}
-use Rattle.lock_modes.specs.declared.Mode.TheVariants.{NL, IS, IX, S, SIX, X}
+use Rattle.lock_modes.specs.declared.Mode.TheVariants.{NL, IS, IX, S, SIX, U, X}
 use Rattle.lock_modes.specs.Order.{at_or_below, need_of}
 use Rattle.lock_modes.proofs.Order.{order-tests, sup_only}
 use Rattle.lock_tree.specs.Paths.{same_path, is_ancestor, parent_of, has_parent}
@@ -38,6 +38,7 @@ nothing-decides IS = (λ h. absurd (cc), λ h. absurd (cc))
 nothing-decides IX = (λ h. absurd (cc), λ h. absurd (cc))
 nothing-decides S = (λ h. absurd (cc), λ h. absurd (cc))
 nothing-decides SIX = (λ h. absurd (cc), λ h. absurd (cc))
+nothing-decides U = (λ h. absurd (cc), λ h. absurd (cc))
 nothing-decides X = (λ h. absurd (cc), λ h. absurd (cc))
 
 -- the test for no lock decides whether there is none

@@ -115,11 +115,11 @@ abbrev pub IsFitExact : State → Type 0
 IsFitExact st = (s : ℕ) (r : List ℕ) (m : Mode) →
     (fits st.table s r m ≡ true) ↔ ((u : ℕ) (k : Mode) → u ≢ s → held_mode st.table u r ≡ Some k → IsCompatible m k)
 
--- the two modes are compatible in at least one order; a law of lock_modes says that compatibility is symmetric, so in both
+-- the two modes are compatible in at least one order: the one that was asked last beside the one that was granted first
 abbrev pub GoTogether : Mode → Mode → Type 0
 GoTogether a b = IsCompatible a b ⊎ IsCompatible b a
 
--- two holders of one resource have compatible modes
+-- two holders of one resource have modes that are compatible in at least one order
 abbrev pub AreHoldersCompatible : State → Type 0
 AreHoldersCompatible st = (s u : ℕ) (r : List ℕ) (k l : Mode) → s ≢ u → held_mode st.table s r ≡ Some k → held_mode st.table u r ≡ Some l → GoTogether k l
 
@@ -152,7 +152,7 @@ AreChildrenHeld st = (s : ℕ) (r x : List ℕ) (m : Mode) → r ≢ [] → is_a
 abbrev pub IsAtOrOver : List ℕ → List ℕ → Type 0
 IsAtOrOver y x = (y ≢ []) × ((y ≡ x) ⊎ (is_ancestor y x ≡ true))
 
--- the session may read x: it holds x or an ancestor of x in S or above
+-- the session may read x: it holds x or an ancestor of x in S or above, which is S, SIX, U or X
 abbrev pub Reads : Table → ℕ → List ℕ → Type 0
 Reads t s x = (y : List ℕ) × IsAtOrOver y x × HoldsAtLeast t s y S
 

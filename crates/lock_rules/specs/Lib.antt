@@ -9,5 +9,6 @@ pub mod Effects
 pub mod Refusals
 pub mod Lawful
 pub mod Examples
+pub mod Updates
 pub mod Names
 pub mod Kinds

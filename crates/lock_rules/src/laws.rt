@@ -162,7 +162,7 @@ pub fn fits_is_compatible_with_others()
     ensures { (history : List EntryValue) → IsFitExact (state_of history) }
 {}
 
-/// Two holders of one resource have compatible modes.
+/// The modes of two holders of one resource are compatible in at least one order.
 pub fn holders_are_compatible()
     ensures { (history : List EntryValue) → AreHoldersCompatible (state_of history) }
 {}

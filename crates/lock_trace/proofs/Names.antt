@@ -9,7 +9,7 @@ use Rattle.std.proofs.lemmas.Slice.Eq.{bytes_eq-Decides}
 use Rattle.std.proofs.lemmas.Str.{is_utf8-from_IsUtf8, IsUtf8-from_ascii}
 use Rattle.std.proofs.lemmas.Str.Ascii.{IsAscii-nil, IsAscii-cons}
 use Rattle.lock_modes.specs.declared.Mode.{Mode}
-use Rattle.lock_modes.specs.declared.Mode.TheVariants.{NL, IS, IX, S, SIX, X}
+use Rattle.lock_modes.specs.declared.Mode.TheVariants.{NL, IS, IX, S, SIX, U, X}
 use Rattle.lock_modes.specs.Codes.{name_of}
 use Rattle.lock_rules.specs.declared.calls.Why.{Why}
 use Rattle.lock_rules.specs.declared.calls.Why.TheVariants as why
@@ -74,6 +74,7 @@ mode_by_name IS bs e = rw e refl
 mode_by_name IX bs e = rw e refl
 mode_by_name S bs e = rw e refl
 mode_by_name SIX bs e = rw e refl
+mode_by_name U bs e = rw e refl
 mode_by_name X bs e = rw e refl
 
 -- A list of bytes below 128 is ASCII.
@@ -97,11 +98,12 @@ mode_text IS = is_text _ refl
 mode_text IX = is_text _ refl
 mode_text S = is_text _ refl
 mode_text SIX = is_text _ refl
+mode_text U = is_text _ refl
 mode_text X = is_text _ refl
 
 -- A field that is no mode's name has the fault Mode.
 pub no_mode : (bs : List ℕ) → ((m : Mode) → bs ≡ name_of m → ⊥) → mode_in bs ≡ Err kind.Mode
-no_mode bs none = named_none name_of kind.Mode MODES bs (none NL, (none IS, (none IX, (none S, (none SIX, (none X, tt))))))
+no_mode bs none = named_none name_of kind.Mode MODES bs (none NL, (none IS, (none IX, (none S, (none SIX, (none U, (none X, tt)))))))
 
 -- A field that is not UTF-8 has the fault Mode.
 pub no_text_no_mode : (bs : List ℕ) → is_utf8 bs ≡ false → mode_in bs ≡ Err kind.Mode

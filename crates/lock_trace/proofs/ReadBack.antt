@@ -11,7 +11,7 @@ use Rattle.csv.specs.Writing.{default_writer, needs_byte, fields_text, row_text}
 use Rattle.csv.specs.declared.parser.State.TheVariants as st
 use Rattle.csv.proofs.RoundTrip.{read-write}
 use Rattle.lock_modes.specs.declared.Mode.{Mode}
-use Rattle.lock_modes.specs.declared.Mode.TheVariants.{NL, IS, IX, S, SIX, X}
+use Rattle.lock_modes.specs.declared.Mode.TheVariants.{NL, IS, IX, S, SIX, U, X}
 use Rattle.lock_modes.specs.Codes.{name_of}
 use Rattle.lock_tree.specs.Paths.{IsResource}
 use Rattle.lock_tree.specs.Text.{text_of}
@@ -52,6 +52,7 @@ mode_plain IS = refl
 mode_plain IX = refl
 mode_plain S = refl
 mode_plain SIX = refl
+mode_plain U = refl
 mode_plain X = refl
 
 -- The name of a reason of a refusal needs no quotes.

@@ -38,6 +38,7 @@ pub(crate) fn mode_token(mode: Mode) -> (&'static [u8; 16], usize)
         Mode::IX => (b"IX..............", 2),
         Mode::S => (b"S...............", 1),
         Mode::SIX => (b"SIX.............", 3),
+        Mode::U => (b"U...............", 1),
         Mode::X => (b"X...............", 1),
     }
 }
