@@ -6,5 +6,6 @@ pub mod SameSession
 pub mod OpenedCount
 pub mod Walks
 pub mod CleanUpWalk
+pub mod NotedAges
 pub mod AnswerCount
 pub mod PendingSessions

@@ -2,7 +2,7 @@
 use Rattle.std.specs.Prelude.{◌≡◌, ℕ, ◌↔◌, List, ◌++◌, length, sum_by, All, Any, Contains}
 use Rattle.lock_rules.specs.declared.calls.Entry.{Entry}
 use Rattle.lock_rules.specs.Legal.{Answered, IsLegal, state_of}
-use Rattle.lock_rules.specs.Laws.{AreRepliesOfSteps, IsEntryOf, ArePlacesRising, IsAccessCompatible, HasNoCircle, DoesGrantStand, DoesDoomStand, DoesRequestStand}
+use Rattle.lock_rules.specs.Laws.{AreRepliesOfSteps, IsEntryOf, ArePlacesRising, AreHoldersCompatible, IsAccessCompatible, HasNoCircle, DoesGrantStand, DoesDoomStand, DoesRequestStand}
 use Rattle.lock_rules.specs.Lawful.{IsLawfulState}
 use Rattle.lock_desk.specs.BookView.{BookView, IsEntryWithin}
 use Rattle.publication.specs.Views.{BoardView, TicketView}
@@ -32,6 +32,8 @@ pub record IsClosed (office : BoardView) (sessions : List TicketView) (book : Bo
 pub record IsOneHistory (sessions : List TicketView) (history : List Entry) : Type 0 where
   -- every reply is the one that the sequential lock manager gives at its place
   pub replies : AreRepliesOfSteps history
+  -- no two transactions ever hold one resource in modes that conflict in both orders
+  pub modes : (front rest : List Entry) → history ≡ front ++ rest → AreHoldersCompatible (state_of front)
   -- no two transactions ever have incompatible access to a resource, directly or through an ancestor
   pub access : (front rest : List Entry) → history ≡ front ++ rest → IsAccessCompatible (state_of front)
   -- no waits ever form a circle

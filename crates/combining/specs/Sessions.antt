@@ -8,7 +8,7 @@ use Rattle.lock_rules.specs.declared.calls.Reply.{Reply}
 use Rattle.lock_rules.specs.declared.calls.Entry.{Entry}
 use Rattle.lock_rules.specs.Legal.{IsLegal, calls_of}
 use Rattle.publication.specs.Views.{BoardView, TicketView, entry, answer, asks}
-use Rattle.publication.specs.Boards.{IsOf, OpensNone, enlisted}
+use Rattle.publication.specs.Boards.{IsOf, OpensNone, IsUnlisted, enlisted, tried}
 
 -- The session is of this office and isn't the combiner: it has no record opened, and no walk begun.
 pub record IsSessionOf (office : BoardView) (session : TicketView) : Type 0 where
@@ -32,16 +32,19 @@ HasNothingPending session = session.pending ≡ None
 abbrev pub IsPendingServed : TicketView → Type 0
 IsPendingServed session = length session.collected < length (calls_of session.number session.front)
 
--- Nothing changed, or the session's unlisted pending call became listed.
-abbrev pub MayHaveListed : TicketView → TicketView → Type 0
-MayHaveListed before after = (after ≡ before) ⊎ ((before.pending ≢ None) × (before.listed ≡ false) × (after ≡ enlisted before))
+-- A session whose pending call isn't listed tried once more to have it listed, and it may have become so. Any other
+-- session is unchanged.
+abbrev pub HasTriedToList : TicketView → TicketView → Type 0
+HasTriedToList before after = (IsUnlisted before × ((after ≡ tried before) ⊎ (after ≡ tried (enlisted before))))
+    ⊎ ((IsUnlisted before → ⊥) × (after ≡ before))
 
--- A pass by the session. Its pending call may have become listed first. It then knows the entries added before this
--- pass, followed by those that this pass added, `served` of them.
+-- A pass by the session. If its pending call wasn't listed, it first tried once more to have it listed. It then knows
+-- the entries added before this pass, followed by those that this pass added, `served` of them. It may have put calls
+-- back.
 pub record IsPassed (before after : TicketView) (served : ℕ) : Type 0 where
-  pub tried : TicketView
-  pub is_tried : MayHaveListed before tried
-  pub session : after ≡ record tried { front = after.front }
+  pub between : TicketView
+  pub is_tried : HasTriedToList before between
+  pub session : after ≡ record between { front = after.front; put_backs = after.put_backs }
   pub others : List Entry
   pub own : List Entry
   pub front : after.front ≡ before.front ++ others ++ own

@@ -1,20 +1,29 @@
 //! What the contracts of this crate imply together. A law is the contract of a function that does nothing.
 
-ghost use Rattle.std.specs.Prelude.{List};
+ghost use Rattle.std.specs.Prelude.{◌≢◌, ◌⊎◌, ℕ, List};
+ghost use Rattle.lock_modes.specs.declared.Mode.{Mode};
+ghost use Rattle.lock_rules.specs.declared.calls.Entry.{Entry};
+ghost use Rattle.lock_rules.specs.Legal.{IsLegal};
+ghost use Rattle.lock_rules.specs.Laws.{GoTogether};
 ghost use Rattle.lock_desk.specs.BookView.{BookView};
 ghost use Rattle.publication.specs.Views.{BoardView, TicketView};
+ghost use Rattle.publication.specs.Boards.{HasCallsOf};
+ghost use Rattle.publication.specs.HoldsAsTold.{HoldsAsTold, ReadsAsTold, WritesAsTold};
 ghost use Rattle.combining.specs.Closed.{IsClosed, IsOneHistory};
 
 use lock_rules::laws;
+use publication::laws::one_history_tells_what_goes_together;
 
 /// Whatever calls the threads made, and however their atomic steps interleaved, the history of a closed office is
 /// sequential: every reply in it is the one that the sequential lock manager gives at its place. No two transactions
-/// ever had incompatible access to a resource, directly or through an ancestor. No waits formed a circle. Each
-/// session's calls are in the history, each once, in the session's order.
+/// ever held one resource in modes that conflict in both orders, or had incompatible access to a resource, directly or
+/// through an ancestor. No waits formed a circle. Each session's calls are in the history, each once, in the session's
+/// order.
 pub fn closed_offices_have_one_history()
     ensures { (office : BoardView) (sessions : List TicketView) (book : BookView) → IsClosed office sessions book → IsOneHistory sessions book.history }
 {
     laws::histories_are_legal_by_steps();
+    laws::holders_are_compatible();
     laws::no_incompatible_access();
     laws::no_waits_form_a_circle();
     laws::states_are_lawful();
@@ -22,4 +31,20 @@ pub fn closed_offices_have_one_history()
     laws::dooms_stand();
     laws::requests_stand();
     laws::calls_are_in_order();
+}
+
+/// What two sessions of an office were told goes together, by what `Office::hear` says when one of them has heard the other:
+/// one legal history has the calls of both, those that each collected, or those and its pending call. The modes in which
+/// both were told that they hold one resource go together. If one was told that it may write a resource, outright or
+/// through an ancestor, the other was not told that it may read or write it.
+pub fn told_locks_go_together()
+    ensures modes { (history : List Entry) (session other : TicketView) (r : List ℕ) (m k : Mode) →
+        IsLegal history → session.number ≢ other.number → HasCallsOf history session → HasCallsOf history other →
+        HoldsAsTold session.collected session.pending r m → HoldsAsTold other.collected other.pending r k → GoTogether m k }
+    ensures access { (history : List Entry) (session other : TicketView) (x : List ℕ) →
+        IsLegal history → session.number ≢ other.number → HasCallsOf history session → HasCallsOf history other →
+        WritesAsTold session.collected session.pending x →
+        ReadsAsTold other.collected other.pending x ⊎ WritesAsTold other.collected other.pending x → ⊥ }
+{
+    one_history_tells_what_goes_together();
 }

@@ -1,12 +1,12 @@
 //! The office and the calls of its sessions.
 
-ghost use Rattle.std.specs.Prelude.{◌≡◌, ◌≢◌, ◌<◌, ◌≤◌, ◌↔◌, true, false, Some, None, Err, IfOk, IfErr, IfSome, IfNone, length, max, slice_index};
+ghost use Rattle.std.specs.Prelude.{◌≡◌, ◌≢◌, ◌⊎◌, ◌<◌, ◌≤◌, ◌↔◌, true, false, IsTrue, Some, None, Err, IfOk, IfErr, IfSome, IfNone, length, max, slice_index};
 ghost use Rattle.std.specs.List.{All};
 ghost use mathlib.Core.List.{IsPrefix};
 ghost use Rattle.lock_rules.specs.Legal.{IsLegal, calls_of};
 ghost use Rattle.publication.specs.Kinds.{longer, maxes};
-ghost use Rattle.publication.specs.Boards.{heard_from, known_by, published_by, publishing, enlisted, new_tickets, IsEachOnce};
-ghost use Rattle.combining.specs.Sessions.{IsSessionOf, IsIdle, HasNothingPending, IsPendingServed, MayHaveListed, IsPassed, IsCollected};
+ghost use Rattle.publication.specs.Boards.{HasCallsOf, heard_from, known_by, published_by, publishing, enlisted, tried, IsUnlisted, new_tickets, IsEachOnce};
+ghost use Rattle.combining.specs.Sessions.{IsSessionOf, IsIdle, HasNothingPending, IsPendingServed, HasTriedToList, IsPassed, IsCollected};
 ghost use Rattle.combining.specs.Closed.{IsClosed};
 
 use crate::pass::serve_published;
@@ -109,9 +109,9 @@ impl Office {
         requires ours { IsSessionOf self.now session.old }
         requires idle { IsIdle session.old }
         ensures ours { IsSessionOf self.now session.new }
-        ensures listed { result ≡ Posted.Listed → session.new ≡ enlisted (publishing session.old call) }
+        ensures listed { result ≡ Posted.Listed → (session.new ≡ enlisted (publishing session.old call)) ⊎ (session.new ≡ tried (enlisted (publishing session.old call))) }
         ensures heard { result ≡ Posted.Listed → heard_from session.new session.new.number ≡ published_by session.new }
-        ensures unlisted { result ≡ Posted.Unlisted → (session.new ≡ publishing session.old call) × (1 < self.now.sessions) }
+        ensures unlisted { result ≡ Posted.Unlisted → (session.new ≡ tried (publishing session.old call)) × (1 < self.now.sessions) }
     {
         self.board.post(session, call)
     }
@@ -120,7 +120,7 @@ impl Office {
     fn enlist(&self, session: &mut Session)
         requires ours { IsSessionOf self.now session.old }
         ensures ours { IsSessionOf self.now session.new }
-        ensures tried { MayHaveListed session.old session.new }
+        ensures tried { HasTriedToList session.old session.new }
         ensures heard { (j : _) → heard_from session.old j ≤ heard_from session.new j }
     {
         if session.is_unlisted() {
@@ -138,8 +138,11 @@ impl Office {
     pub fn serve(&self, session: &mut Session) -> Turn
         requires ours { IsSessionOf self.now session.old }
         ensures ours { IsSessionOf self.now session.new }
-        ensures elsewhere { result ≡ Turn.Elsewhere → MayHaveListed session.old session.new × (1 < self.now.sessions) }
+        ensures elsewhere { result ≡ Turn.Elsewhere → HasTriedToList session.old session.new × (1 < self.now.sessions) }
         ensures pass { (served : _) (starved : _) → result ≡ Turn.Pass served starved → IsPassed session.old session.new served }
+        ensures starved { (served : _) (starved : _) → result ≡ Turn.Pass served starved → IsTrue starved ↔ (session.old.put_backs < session.new.put_backs) }
+        ensures rises { (j : _) → heard_from session.old j ≤ heard_from session.new j }
+        ensures calls { HasCallsOf session.new.front session.new }
         ensures own { (served : _) → result ≡ Turn.Pass served false → session.old.pending ≢ None → IsPendingServed session.new }
         ensures heard { (served j : _) → result ≡ Turn.Pass served false → 0 < j → j ≤ self.now.sessions
             → heard_from session.old j ≤ length (calls_of j session.new.front) }
@@ -194,6 +197,7 @@ impl Office {
         ensures fronts { IsPrefix session.old.front session.new.front × IsPrefix knowledge.front session.new.front }
         ensures legal { IsLegal session.new.front }
         ensures heard { (j : _) → heard_from session.new j ≡ max (heard_from session.old j) (slice_index knowledge.heard j) }
+        ensures calls { HasCallsOf session.new.front session.new }
     {
         self.board.heed(session, knowledge);
     }
@@ -213,6 +217,7 @@ impl Office {
         ensures fronts { IsPrefix session.old.front session.new.front × IsPrefix other.old.front session.new.front }
         ensures legal { IsLegal session.new.front }
         ensures heard { (j : _) → heard_from session.new j ≡ max (heard_from session.old j) (heard_from other.old j) }
+        ensures calls { HasCallsOf session.new.front session.new × HasCallsOf session.new.front other.new }
     {
         self.board.hear(session, other);
     }

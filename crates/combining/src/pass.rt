@@ -7,7 +7,7 @@ ghost use Rattle.lock_rules.specs.Legal.{IsLegal, calls_of};
 ghost use Rattle.lock_desk.specs.Batches.{IsItemWithin};
 ghost use Rattle.publication.specs.Boards.{IsOf, IsNumber, OpensNone, heard_from, published_by};
 ghost use Rattle.publication.specs.Rule.{IsHome};
-ghost use Rattle.combining.specs.inner.Passes.{AreOpened, HasCalls, KeepsCalls, IsVisited, HasVisitedOpened, IsSameSession, IsBookInHand};
+ghost use Rattle.combining.specs.inner.Passes.{AreOpened, HasCalls, KeepsCalls, IsVisited, HasVisitedOpened, IsSameSession, IsAfterRow, IsBookInHand};
 ghost use Rattle.combining.specs.inner.Ages.{sessions_of, sessions_since, noted};
 
 use crate::clean_up::{clean_up, note_served};
@@ -158,7 +158,8 @@ fn serve_row(board: &Board, session: &mut Ticket, book: &mut Book, row: &mut Vec
 fn put_back_row(board: &Board, session: &mut Ticket, row: &[Item])
     requires ours { IsOf board.now session.old × (session.old.has_book ≡ true) }
     requires row { AreOpened board.now.sessions session.old.opened row.now }
-    ensures session { IsSameSession session.old session.new × (session.new.front ≡ session.old.front) }
+    ensures session { session.new ≡ record session.old { opened = session.new.opened; put_backs = session.old.put_backs + length row.now } }
+    ensures wide { length session.new.opened ≡ length session.old.opened }
     ensures none { OpensNone session.new }
 {
     for item in row {
@@ -174,8 +175,9 @@ fn serve_opened(board: &Board, session: &mut Ticket, load: &mut Load) -> Pass
     requires row { AreOpened board.now.sessions session.old.opened load.old.row.items }
     requires few { vec_len load.old.row < 65536 }
     requires ages { vec_len load.old.ages ≡ board.now.sessions }
-    ensures session { IsSameSession session.old session.new }
+    ensures session { IsAfterRow session.old session.new }
     ensures none { OpensNone session.new }
+    ensures put_backs { session.new.put_backs + result.served ≡ session.old.put_backs + vec_len load.old.row }
     ensures book { IsBookInHand board.now.sessions load.new.book session.new [] }
     ensures longer { IsPrefix session.old.front session.new.front }
     ensures legal { IsLegal session.new.front }
@@ -202,7 +204,8 @@ pub(crate) fn serve_published(board: &Board, session: &mut Ticket, load: &mut Lo
     requires ours { IsOf board.now session.old × (session.old.has_book ≡ true) × OpensNone session.old }
     requires number { IsNumber board.now session.old.number }
     requires home { IsHome session.old.front (board.now.sessions + 1) load.old × IsLegal session.old.front }
-    ensures session { session.new ≡ record session.old { front = session.new.front; route = session.new.route } }
+    ensures session { session.new ≡ record session.old { front = session.new.front; route = session.new.route; put_backs = session.new.put_backs } }
+    ensures starved { IsTrue result.starved ↔ (session.old.put_backs < session.new.put_backs) }
     ensures home { IsHome session.new.front (board.now.sessions + 1) load.new × IsLegal session.new.front }
     ensures longer { IsPrefix session.old.front session.new.front }
     ensures served { length session.new.front ≡ length session.old.front + result.served }

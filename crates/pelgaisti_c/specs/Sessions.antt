@@ -1,11 +1,12 @@
 -- The outcomes of a session's calls, as the exports state them.
-use Rattle.std.specs.Prelude.{◌≡◌, ◌≢◌, ℕ, ◌<◌, ◌≤◌, ◌⊎◌, true, false, Option, Some, None, [], ◌∷◌, ◌++◌, length}
+use Rattle.std.specs.Prelude.{◌≡◌, ◌≢◌, ℕ, ◌<◌, ◌≤◌, ◌⊎◌, ◌↔◌, max, true, false, Option, Some, None, [], ◌∷◌, ◌++◌, length}
+use mathlib.Core.List.{IsPrefix}
 use Rattle.lock_rules.specs.declared.calls.Call.{Call}
 use Rattle.lock_rules.specs.declared.calls.Reply.{Reply}
-use Rattle.lock_rules.specs.Legal.{calls_of}
-use Rattle.publication.specs.Boards.{heard_from, publishing, enlisted}
+use Rattle.lock_rules.specs.Legal.{IsLegal, calls_of}
+use Rattle.publication.specs.Boards.{HasCallsOf, heard_from, publishing, enlisted, tried}
 use Rattle.publication.specs.Kinds.{longer, maxes}
-use Rattle.combining.specs.Sessions.{MayHaveListed, HasNothingPending, IsPassed, IsCollected, IsPendingServed}
+use Rattle.combining.specs.Sessions.{HasTriedToList, HasNothingPending, IsPassed, IsCollected, IsPendingServed}
 use Rattle.pelgaisti_c.specs.declared.numbers.CallNumbers.{CallNumbers}
 use Rattle.pelgaisti_c.specs.declared.numbers.AnswerNumbers.{AnswerNumbers}
 use Rattle.pelgaisti_c.specs.declared.session_share.SessionShare.{SessionShare}
@@ -18,21 +19,26 @@ pub record IsSameOffice (before after : SessionShare) : Type 0 where
   pub sessions : after.sessions ≡ before.sessions
   pub mark : after.mark ≡ before.mark
 
--- the call that the numbers encode is published and pending. 1: the session's record is listed, and the session counts all its calls as
--- heard of. 2: the record is not listed yet, which happens only in an office with other sessions
+-- the call that the numbers encode is published and pending. 1: the call is listed, after one try or none, and the session counts all
+-- its calls as heard of. 2: the call is not listed after one try, which happens only in an office with other sessions
 abbrev pub IsPublished : SessionShare → SessionShare → CallNumbers → ℕ → Type 0
 IsPublished before after asked posted = (call : Call) × IsCall asked call × (before.session.pending ≡ None) × (before.session.retired ≡ false)
-    × (posted ≡ 1 → after.session ≡ enlisted (publishing before.session call))
-    × (posted ≡ 2 → (after.session ≡ publishing before.session call) × (2 ≤ before.sessions))
+    × (posted ≡ 1 → (after.session ≡ enlisted (publishing before.session call)) ⊎ (after.session ≡ tried (enlisted (publishing before.session call))))
+    × (posted ≡ 2 → (after.session ≡ tried (publishing before.session call)) × (2 ≤ before.sessions))
     × IsSameOffice before after
 
--- nothing has changed, except that the record of a pending call may have been listed; the office has other sessions
+-- nothing has changed, except that a pending call that was not listed was tried once more to be listed, and may be listed now; the
+-- office has other sessions
 abbrev pub IsElsewhere : SessionShare → SessionShare → Type 0
-IsElsewhere before after = MayHaveListed before.session after.session × (2 ≤ before.sessions) × IsSameOffice before after
+IsElsewhere before after = HasTriedToList before.session after.session × (2 ≤ before.sessions) × IsSameOffice before after
 
--- a pass served this many calls; if memory was refused for none, the session's pending call is served, and each call that the session had heard of
+-- a pass served this many calls; `starved` is 1 exactly if it put a call back, and else 0. If it is 0, the session's pending call is
+-- served, and each call that the session had heard of. The session has heard of no fewer calls than before, and the history that it
+-- knows has of its own calls those that it collected, or those and its pending call
 abbrev pub IsTurn : SessionShare → SessionShare → ℕ → ℕ → Type 0
 IsTurn before after served starved = IsPassed before.session after.session served × (starved ≤ 1)
+    × ((starved ≡ 1) ↔ (before.session.put_backs < after.session.put_backs))
+    × ((j : ℕ) → heard_from before.session j ≤ heard_from after.session j) × HasCallsOf after.session.front after.session
     × (starved ≡ 0 → before.session.pending ≢ None → IsPendingServed after.session)
     × (starved ≡ 0 → (j : ℕ) → 0 < j → j ≤ before.sessions → heard_from before.session j ≤ length (calls_of j after.session.front))
     × IsSameOffice before after
@@ -42,12 +48,16 @@ abbrev pub IsAnswered : SessionShare → SessionShare → AnswerNumbers → Type
 IsAnswered before after answer = (reply : Reply) × (answer.reply ≡ numbers_of_reply reply)
     × IsCollected before.session after.session answer.place reply × IsSameOffice before after
 
--- the session knows what it knew before and what the other session knew
+-- the session knows what it knew before and what the other session knew: the longer of their fronts of the history, which is legal and
+-- continues both, and of each session the larger number of calls heard of. Of the calls of both sessions that front has those that they
+-- collected, or those and the pending one
 abbrev pub IsHeard : SessionShare → SessionShare → SessionShare → Type 0
 IsHeard before other after = (after.session ≡ record before.session {
   front = longer before.session.front other.session.front;
   heard = maxes before.session.heard other.session.heard;
-}) × IsSameOffice before after
+}) × IsPrefix before.session.front after.session.front × IsPrefix other.session.front after.session.front × IsLegal after.session.front
+    × ((j : ℕ) → heard_from after.session j ≡ max (heard_from before.session j) (heard_from other.session j))
+    × HasCallsOf after.session.front after.session × HasCallsOf after.session.front other.session × IsSameOffice before after
 
 -- the session, which had no pending call, has retired
 abbrev pub IsRetired : SessionShare → SessionShare → Type 0

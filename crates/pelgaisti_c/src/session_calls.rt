@@ -1,9 +1,9 @@
 //! The calls of a session in numbers, on the share that a handle holds.
 
-ghost use Rattle.std.specs.Prelude.{◌≡◌, ◌≢◌, ◌<◌, ◌≤◌, ◌⊎◌, true, None, length};
+ghost use Rattle.std.specs.Prelude.{◌≡◌, ◌≢◌, ◌<◌, ◌≤◌, ◌⊎◌, ◌↔◌, true, None, length};
 ghost use Rattle.combining.specs.Sessions.{IsPassed, IsPendingServed};
 ghost use Rattle.lock_rules.specs.Legal.{calls_of};
-ghost use Rattle.publication.specs.Boards.{heard_from};
+ghost use Rattle.publication.specs.Boards.{HasCallsOf, heard_from};
 ghost use Rattle.lock_rules.specs.declared.calls.Call.{Call as CallValue};
 ghost use Rattle.pelgaisti_c.specs.Numbers.{IsCall, IsCallFault};
 ghost use Rattle.pelgaisti_c.specs.Sessions.{IsSameOffice, IsPublished, IsElsewhere, IsAnswered, IsHeard, IsRetired};
@@ -62,6 +62,9 @@ pub(crate) fn publish(share: &mut SessionShare, asked: &CallNumbers, posted: &mu
 pub(crate) fn serve(share: &mut SessionShare, pass: &mut PassNumbers) -> u32
     ensures passed { result ≡ OK → IsPassed share.old.session share.new.session pass.new.served }
     ensures starved { result ≡ OK → pass.new.starved ≤ 1 }
+    ensures put_back { result ≡ OK → (pass.new.starved ≡ 1) ↔ (share.old.session.put_backs < share.new.session.put_backs) }
+    ensures rises { (j : _) → heard_from share.old.session j ≤ heard_from share.new.session j }
+    ensures calls { HasCallsOf share.new.session.front share.new.session }
     ensures own { result ≡ OK → pass.new.starved ≡ 0 → share.old.session.pending ≢ None → IsPendingServed share.new.session }
     ensures heard { (j : _) → result ≡ OK → pass.new.starved ≡ 0 → 0 < j → j ≤ share.old.sessions
         → heard_from share.old.session j ≤ length (calls_of j share.new.session.front) }

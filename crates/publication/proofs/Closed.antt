@@ -44,7 +44,7 @@ ends s o id v me all =
       t.0,
       t.1,
       record {
-        home = record { history = refl; sessions = t.2.sessions; empty = t.2.empty; room = t.2.room; ages = t.2.ages };
+        home = record { history = refl; sessions = t.2.sessions; empty = t.2.empty; room = t.2.room; ages = t.2.ages; past = t.2.past };
         legal = subst IsLegal (sym h) o.legal;
         short = subst (λ (f : List Entry). length f < 2 ^ 64) (sym h) o.short;
         ends = λ p x e. let y = has p x e in record {

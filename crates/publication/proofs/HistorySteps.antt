@@ -16,7 +16,7 @@ use Rattle.publication.specs.Views.{Own, entry, asks}
 use Rattle.publication.specs.Rule.{BoardState, word, home, seat, IsOrderly}
 use Rattle.publication.specs.Kinds.{Seated, started, asked, posting, linking, enlisting, losing_head, HasTaken, seizing, releasing, routing, bypassing, none_unlinked, opened_in, opening, in_hand, called, call_at, replied, answering, putting_back, longer, learning, retiring, leaving}
 use Rattle.publication.specs.BoardHistory.{history_in}
-use Rattle.publication.specs.Runs.{StepName, start, post, look_at_head, link, enlist, look_for_reply, take_reply, look_at_lock, seize, release, walk, walk_on, unlink, mark_out, relink, look_at_record, open_record, lay, pick, answer_record, put_back, learn, retire, leave, kind_of, LaysDownBook, StepRequires, CarriesOnlyItsOwn}
+use Rattle.publication.specs.Runs.{StepName, start, post, look_at_head, link, enlist, look_for_reply, take_reply, look_at_lock, seize, release, walk, walk_on, unlink, mark_out, relink, look_at_record, open_record, lay, pick, answer_record, put_back, learn, compare, retire, leave, kind_of, LaysDownBook, StepRequires, CarriesOnlyItsOwn}
 use Rattle.publication.specs.declared.view.View.{View}
 use Rattle.publication.specs.declared.slot.Load.{Load}
 use Rattle.publication.specs.declared.slot.SlotValue.{SlotValue}
@@ -129,6 +129,7 @@ module _ (s : BoardState) (o : IsOrderly s) (at put id first second : ℕ) (m n 
   unchanged answer_record other asks told = absurd (other refl)
   unchanged put_back other asks told = calmly (putting_back m.0 m.0.combiner.hand) _ told (sym asks) refl
   unchanged learn other asks told = learns_no_more told.0
+  unchanged compare other asks told = same told.0
   unchanged retire other asks told = calmly (retiring m.0) _ told refl refl
   unchanged leave other asks told = calmly (leaving m.0) _ told refl refl
 

@@ -1,4 +1,5 @@
--- The load after a join keeps the rule: the seat learns that the longer of two fronts is a front of the history.
+-- A load after a join keeps the rule: the seat learns that the longer of two fronts is a front of the history, or which of
+-- its session's calls that front has.
 use Rattle.std.proofs.Common.{◌≡◌, ℕ, ◌<◌, ◌≤◌, List, length, get_or, set, refl, sym, ap, ◌∙◌, subst, arith, length-set}
 use Rattle.std.proofs.lemmas.List.{set-get_or}
 use mathlib.Core.Option as opt
@@ -6,17 +7,19 @@ use mathlib.Core.List.{IsPrefix}
 use lib.ListN.{get_elem?}
 use Rattle.atomic_table.specs.Table.{keeps, step, Allows}
 use Rattle.lock_rules.specs.declared.calls.Entry.{Entry}
+use Rattle.publication.specs.Views.{IsAccountedIn}
 use Rattle.publication.specs.Rule.{blank, BoardState, word, seat, own_at, announced, AreTrue, IsOrderly}
 use Rattle.publication.specs.List.{IsLinked, IsRuled}
-use Rattle.publication.specs.Kinds.{longer, learning, learns}
+use Rattle.publication.specs.Kinds.{longer, learning, learns, compares}
 use Rattle.publication.specs.declared.view.View.{View}
 use Rattle.publication.specs.declared.slot.SlotValue.{SlotValue}
 use Rattle.publication.proofs.Lists.{at_there, each_set, prefix_whole}
 use Rattle.publication.proofs.SeatViews.{session_of, front_of, heard_few, others_of, whole_of}
 use Rattle.publication.proofs.Histories.{legal-begins, length-begins}
+use Rattle.publication.proofs.Accounts.{account-whole, account-between}
 use Rattle.publication.proofs.LongerFronts.{IsLonger, is-longer}
 use Rattle.publication.proofs.Others.{StaysGone}
-use Rattle.publication.proofs.SessionKinds.{Goes, seated}
+use Rattle.publication.proofs.SessionKinds.{Goes, seated, unmoved}
 use Rattle.publication.proofs.ChangedViews.{viewed, sits-others}
 use Rattle.publication.proofs.SplitsAndJoins.{learned, learned_listed}
 
@@ -35,6 +38,12 @@ module _ (i : ℕ) (v : View) (is : v.number ≡ i) (some_number : 0 < i) (s : B
 
   is_long : IsLonger v.front v.others.beside o.history (longer v.front v.others.beside)
   is_long = is-longer v.front v.others.beside o.history (front_of s o i v me) beside
+
+  account : IsAccountedIn v.front v.number v.own.collected v.own.pending → IsAccountedIn (longer v.front v.others.beside) v.number v.own.collected v.own.pending
+  account was = account-between v.number v.front (longer v.front v.others.beside) o.history v.own.collected v.own.pending is_long.mine is_long.begins was (account-whole s o i v me some_number (λ e. omega arith))
+
+  compare_goes : (more : List (ℕ × SlotValue)) → Goes s 0 i (v, more) (compares (step o.slots 0 0 0 opt.none) (v, more)) (word s 0)
+  compare_goes more = (v, keeps, tt, unmoved s o l 0 i v me, (refl, account))
 
   learn_goes : (more : List (ℕ × SlotValue)) → Goes s 0 i (v, more) (learns (step o.slots 0 0 0 opt.none) (v, more)) (word s 0)
   learn_goes more = let k = is_long in let f : List Entry = longer v.front v.others.beside in
@@ -58,12 +67,18 @@ module _ (i : ℕ) (v : View) (is : v.number ≡ i) (some_number : 0 < i) (s : B
             short = let a = length-begins f o.history k.begins in let b = o.short in omega arith;
             mine = k.mine;
             theirs = k.theirs;
+            accounted = account;
             heard = subst (λ (k : ℕ). get_or v.heard k 0 ≤ announced v.own) (sym is) (let a = heard_few s o i v me i in omega (arith, ap announced own_is));
           },
         ),
       )
 
 module _ (slots id : ℕ) (v : View) (more : List (ℕ × SlotValue)) (some_number : 0 < v.number) where
+  -- Compare keeps the rule.
+  pub compare_kept : Allows IsRuled slots id (v, more) 0 (λ n. n) (compares (step slots 0 0 0 opt.none) (v, more))
+  compare_kept = seated slots id v.number 0 v more (λ n. n) (compares (step slots 0 0 0 opt.none) (v, more)) refl some_number
+      (λ s o l me small wide e. compare_goes v.number v refl some_number s o l me small more)
+
   -- Learn keeps the rule.
   pub learn_kept : Allows IsRuled slots id (v, more) 0 (λ n. n) (learns (step slots 0 0 0 opt.none) (v, more))
   learn_kept = seated slots id v.number 0 v more (λ n. n) (learns (step slots 0 0 0 opt.none) (v, more)) refl some_number

@@ -3,6 +3,7 @@ pub mod SeatViews
 pub mod Histories
 pub mod Others
 pub mod RecordStates
+pub mod Accounts
 pub mod Chains
 pub mod UnchangedList
 pub mod OrderlySession
@@ -28,3 +29,4 @@ pub mod BoardHistory
 pub mod HistorySteps
 pub mod SessionsGoOn
 pub mod RealTime
+pub mod ListLaws

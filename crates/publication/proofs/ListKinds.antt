@@ -13,7 +13,7 @@ use Rattle.publication.specs.Words.{word_of, link_of, session_of_word, END}
 use Rattle.publication.specs.Views.{Own, Listing}
 use Rattle.publication.specs.Rule.{blank, BoardState, word, home, seat, own_at, announced, RecordState, HasBook, IsOrderly}
 use Rattle.publication.specs.List.{IsOn, AreApart, Chain, link, belongs, is_listed, IsWalking, IsLinked, IsRuled}
-use Rattle.publication.specs.Kinds.{as_session, forget_head, heard_all, HasAnother, looks_at_head, linking, links, losing_head, enlisting, enlists, routing, MeetsAll, walks, walks_on_from, walks_on}
+use Rattle.publication.specs.Kinds.{as_session, tried_head, heard_all, HasAnother, looks_at_head, linking, links, losing_head, enlisting, enlists, routing, MeetsAll, walks, walks_on_from, walks_on}
 use Rattle.publication.specs.declared.view.View.{View}
 use Rattle.publication.specs.declared.slot.SlotValue.{SlotValue}
 use Rattle.publication.proofs.Lists.{at_there, each_set, prefix_self}
@@ -182,7 +182,7 @@ module _ (i : ℕ) (v : View) (is : v.number ≡ i) (some_number : 0 < i) (s : B
       linking v head,
       keeps,
       tt,
-      record { records = same_calls (record { head_seen = Some head; route = v.listing.route; off = v.listing.off; before = v.listing.before }) linked_words (length-set s.words (link_of i) head) word_same; list = link_listed },
+      record { records = same_calls (record { head_seen = Some head; route = v.listing.route; off = v.listing.off; before = v.listing.before; tries = v.listing.tries }) linked_words (length-set s.words (link_of i) head) word_same; list = link_listed },
       refl,
     )
 
@@ -224,7 +224,7 @@ module _ (i : ℕ) (v : View) (is : v.number ≡ i) (some_number : 0 < i) (s : B
     longer_walk w t = record { new = i ∷ t.new; list_is = ap (λ (xs : List ℕ). i ∷ xs) t.list_is; off_is = t.off_is; before_is = t.before_is }
 
     pushed_records : IsOrderly pushed
-    pushed_records = own_step true (heard_all v) (forget_head v.listing)
+    pushed_records = own_step true (heard_all v) (tried_head v.listing)
         (let p = waits_for v.own.pending waits in omega (arith, all_announced, waits_announced v.own p.0 p.1, at_most_one v.own.listed))
         (hears_others i v is some_number s o l me small true)
         (omega (arith, all_announced, heard_at_most i v is some_number s o l me small))
@@ -274,7 +274,7 @@ module _ (i : ℕ) (v : View) (is : v.number ≡ i) (some_number : 0 < i) (s : B
       keeps,
       tt,
       subst (λ (ws : List ℕ). IsRuled record { words = ws; homes = s.homes; views = set s.views i (losing_head v) }) (sym (set-get_or s.words (link_of 0) 0)) (record {
-        records = same_calls (forget_head v.listing) s.words refl (λ j. refl);
+        records = same_calls (tried_head v.listing) s.words refl (λ j. refl);
         list = aside s l i v (losing_head v) s.words s.homes me (λ j. refl) refl l.whole (λ j b some ne. refl)
             (record { claims = λ b some e. e; heads_seen = λ n e. absurd (cc e); walkers = λ has. same_walk s l i v (losing_head v) s.words s.homes me has refl refl refl });
       }),
@@ -303,7 +303,7 @@ module _ (i : ℕ) (v : View) (is : v.number ≡ i) (some_number : 0 < i) (s : B
       keeps,
       tt,
       subst (λ (ws : List ℕ). IsRuled record { words = ws; homes = s.homes; views = set s.views i (routing v l.list) }) (sym (set-get_or s.words (link_of 0) 0)) (record {
-        records = same_calls (record { head_seen = v.listing.head_seen; route = l.list; off = v.listing.off; before = v.listing.before }) s.words refl (λ j. refl);
+        records = same_calls (record { head_seen = v.listing.head_seen; route = l.list; off = v.listing.off; before = v.listing.before; tries = v.listing.tries }) s.words refl (λ j. refl);
         list = aside s l i v (routing v l.list) s.words s.homes me (λ j. refl) refl l.whole (λ j b some ne. refl)
             (record { claims = λ b some e. e; heads_seen = λ n e. (e, λ some. refl); walkers = λ _. record { new = []; list_is = refl; off_is = here_walks.off_is; before_is = here_walks.before_is } });
       }),

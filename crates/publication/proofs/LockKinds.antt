@@ -14,15 +14,16 @@ use Rattle.lock_rules.specs.declared.calls.Entry.{Entry}
 use Rattle.lock_rules.specs.Legal.{IsLegal}
 use Rattle.publication.specs.Words.{word_of, FREE}
 use Rattle.publication.specs.List.{belongs, IsWalking, IsLinked, IsRuled}
-use Rattle.publication.specs.Rule.{blank, BoardState, word, seat, no_combiner, IsHome, HasBook, IsOrderly, unwalked}
-use Rattle.publication.specs.Views.{Combiner}
-use Rattle.publication.specs.Kinds.{combiner, as_combiner, HasOthers, looks_at_lock, seizing, Seized, seizes, releasing, releases}
+use Rattle.publication.specs.Rule.{blank, BoardState, word, seat, no_combiner, IsHome, HasBook, IsOrderly}
+use Rattle.publication.specs.Views.{Combiner, IsAccountedIn}
+use Rattle.publication.specs.Kinds.{combiner, as_combiner, no_walk, HasOthers, looks_at_lock, seizing, Seized, seizes, releasing, releases}
 use Rattle.publication.specs.declared.view.View.{View}
 use Rattle.publication.specs.declared.slot.Load.{Load}
 use Rattle.publication.specs.declared.slot.SlotValue.{SlotValue}
 use Rattle.publication.specs.declared.slot.SlotValue.TheVariants.{LockTable}
 use Rattle.publication.proofs.Lists.{at_there, at_home}
 use Rattle.publication.proofs.SeatViews.{front_of, book_of}
+use Rattle.publication.proofs.Accounts.{account-whole}
 use Rattle.publication.proofs.SessionKinds.{Goes, seated, unmoved}
 use Rattle.publication.proofs.UnchangedList.{links_kept, aside}
 use Rattle.publication.proofs.OrderlyCombiner.{IsNothingOpened, IsLockStep, relocked}
@@ -42,9 +43,9 @@ module _ (i : ℕ) (v : View) (is : v.number ≡ i) (some_number : 0 < i) (s : B
 
   -- The publication list doesn't change, if no record is unlinked and no walk has begun.
   still_listed : (n : ℕ) (at : opt.Option SlotValue) (front : List Entry) (d : Combiner) → l.off ≡ 0
-      → IsLinked record { words = set s.words (word_of 0) n; homes = set s.homes 0 at; views = set s.views i (as_combiner v front d unwalked) }
+      → IsLinked record { words = set s.words (word_of 0) n; homes = set s.homes 0 at; views = set s.views i (as_combiner v front d (no_walk v.listing)) }
   still_listed n at front d none_off =
-      let u : View = as_combiner v front d unwalked in
+      let u : View = as_combiner v front d (no_walk v.listing) in
       let ws : List ℕ = set s.words (word_of 0) n in
       let hs : List (opt.Option SlotValue) = set s.homes 0 at in
       let same : (j : ℕ) → 0 < j → get_or ws (word_of j) 0 ≡ word s j = λ j some. get_or-set_other s.words (word_of 0) (word_of j) n 0 (λ e. omega (arith, e)) in
@@ -71,7 +72,7 @@ module _ (i : ℕ) (v : View) (is : v.number ≡ i) (some_number : 0 < i) (s : B
     nobody : (k : ℕ) → (seat s k).combiner.has_book ≢ true
     nobody k has = let b = o.books k has in absurd (omega (arith, b.lock_is, b.session))
 
-    seize_step : IsLockStep s o i v 0 i opt.none o.history (combiner true v.combiner.opened 0) unwalked me some_number
+    seize_step : IsLockStep s o i v 0 i opt.none o.history (combiner v.combiner true v.combiner.opened 0) (no_walk v.listing) me some_number
     seize_step = record {
       lock = refl;
       whole = refl;
@@ -87,9 +88,10 @@ module _ (i : ℕ) (v : View) (is : v.number ≡ i) (some_number : 0 < i) (s : B
     seized : (load : Load) → IsHome o.history o.slots load → Seized v o.slots load
     seized load home = record {
       lacked = false_from_ne_true v.combiner.has_book (λ has. nobody i (book_here ∙ has));
-      home = record { history = refl; sessions = home.sessions; empty = home.empty; room = home.room; ages = home.ages };
+      home = record { history = refl; sessions = home.sessions; empty = home.empty; room = home.room; ages = home.ages; past = home.past };
       legal = subst IsLegal (sym home.history) o.legal;
       longer = subst (λ (f : List Entry). IsPrefix v.front f) (sym home.history) (front_of s o i v me);
+      accounted = subst (λ (f : List Entry). IsAccountedIn f v.number v.own.collected v.own.pending) (sym home.history) (account-whole s o i v me some_number (λ e. omega arith));
     }
 
     seize_won : (more : List (ℕ × SlotValue)) → Goes s 0 i (v, more) (seizes (step o.slots 0 FREE i opt.none) (v, more)) i
@@ -98,8 +100,8 @@ module _ (i : ℕ) (v : View) (is : v.number ≡ i) (some_number : 0 < i) (s : B
       takes 0 (LockTable load),
       at_home s.homes 0 (LockTable load) t.1,
       subst (λ (f : List Entry). IsRuled record { words = set s.words (word_of 0) i; homes = set s.homes 0 opt.none; views = set s.views i (seizing v f) }) (sym t.2.history) (record {
-        records = relocked s o i v 0 i opt.none o.history (combiner true v.combiner.opened 0) unwalked me some_number seize_step;
-        list = still_listed i opt.none o.history (combiner true v.combiner.opened 0) (l.whole hit);
+        records = relocked s o i v 0 i opt.none o.history (combiner v.combiner true v.combiner.opened 0) (no_walk v.listing) me some_number seize_step;
+        list = still_listed i opt.none o.history (combiner v.combiner true v.combiner.opened 0) (l.whole hit);
       }),
       ((λ _. (load, refl, seized load.value t.2)), λ miss. absurd (miss hit)),
     )
@@ -125,7 +127,7 @@ module _ (i : ℕ) (v : View) (is : v.number ≡ i) (some_number : 0 < i) (s : B
     none_here : IsNothingOpened (seat s i).combiner
     none_here = subst (λ (u : View). IsNothingOpened u.combiner) (sym is_me) none
 
-    release_step : IsLockStep s o i v 0 FREE (opt.some (LockTable load)) o.history (combiner false v.combiner.opened 0) unwalked me some_number
+    release_step : IsLockStep s o i v 0 FREE (opt.some (LockTable load)) o.history (combiner v.combiner false v.combiner.opened 0) (no_walk v.listing) me some_number
     release_step = record {
       lock = refl;
       whole = refl;
@@ -135,7 +137,7 @@ module _ (i : ℕ) (v : View) (is : v.number ≡ i) (some_number : 0 < i) (s : B
           (λ e. subst (λ (l : ℕ). IsNothingOpened (seat s l).combiner) (sym e) none_here)
           (λ ne j call shown. nobody_else k ne (o.opens k j call shown).book);
       alone = nobody_else;
-      free = λ _. (load, refl, record { history = full.history ∙ book.whole; sessions = full.sessions; empty = full.empty; room = full.room; ages = full.ages });
+      free = λ _. (load, refl, record { history = full.history ∙ book.whole; sessions = full.sessions; empty = full.empty; room = full.room; ages = full.ages; past = full.past });
       taken = λ z. absurd (z refl);
       mine_then = λ e. absurd (cc e);
     }
@@ -148,10 +150,10 @@ module _ (i : ℕ) (v : View) (is : v.number ≡ i) (some_number : 0 < i) (s : B
       subst (λ (f : List Entry). IsRuled record {
         words = set s.words (word_of 0) FREE;
         homes = set s.homes 0 (opt.some (LockTable load));
-        views = set s.views i (as_combiner v f (combiner false v.combiner.opened 0) unwalked);
+        views = set s.views i (as_combiner v f (combiner v.combiner false v.combiner.opened 0) (no_walk v.listing));
       }) (sym book.whole) (record {
-        records = relocked s o i v 0 FREE (opt.some (LockTable load)) o.history (combiner false v.combiner.opened 0) unwalked me some_number release_step;
-        list = still_listed FREE (opt.some (LockTable load)) o.history (combiner false v.combiner.opened 0) none_off;
+        records = relocked s o i v 0 FREE (opt.some (LockTable load)) o.history (combiner v.combiner false v.combiner.opened 0) (no_walk v.listing) me some_number release_step;
+        list = still_listed FREE (opt.some (LockTable load)) o.history (combiner v.combiner false v.combiner.opened 0) none_off;
       }),
       refl,
     )

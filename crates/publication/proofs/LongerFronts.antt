@@ -5,7 +5,7 @@ use Rattle.std.proofs.lemmas.Bool.{ltb-true, ltb-false}
 use mathlib.Core.List.{IsPrefix}
 use Rattle.lock_rules.specs.declared.calls.Entry.{Entry}
 use Rattle.publication.specs.Kinds.{maxes, longer}
-use Rattle.publication.proofs.Lists.{prefix_self, prefix_both}
+use Rattle.publication.proofs.Lists.{prefix_self, prefix_both, prefix_whole}
 
 -- What holds of the longer of two fronts of one history.
 pub record IsLonger (f g h l : List Entry) : Type 0 where
@@ -39,4 +39,16 @@ pub longer-length : (f g : List Entry) → length (longer f g) ≡ max (length f
 longer-length f g = (elim (nat_lt (length f) (length g)) as (λ b. nat_lt (length f) (length g) ≡ b → length (cond b g f) ≡ max (length f) (length g)) [
   | true ↦ λ e. let lt = ltb-true (length f) (length g) e in omega arith
   | false ↦ λ e. let le = ltb-false (length f) (length g) e in omega arith
+]) refl
+
+-- No counts beside the first ones leave those as they are.
+pub maxes-none : (xs : List ℕ) → maxes xs [] ≡ xs
+maxes-none [] = refl
+maxes-none (x ∷ xs) = refl
+
+-- A front that continues another is the longer of both.
+pub longer-is : (f g : List Entry) → IsPrefix f g → longer f g ≡ g
+longer-is f g p = (elim (nat_lt (length f) (length g)) as (λ b. nat_lt (length f) (length g) ≡ b → cond b g f ≡ g) [
+  | true ↦ λ e. refl
+  | false ↦ λ e. let le = ltb-false (length f) (length g) e in prefix_whole f g p le
 ]) refl

@@ -11,9 +11,8 @@ use Rattle.lock_rules.specs.Legal.{Answered, calls_from, calls_of}
 use Rattle.lock_rules.proofs.Members.{Member, contains-member, member-contains}
 use Rattle.lock_rules.proofs.SessionCalls.{contains-entry}
 use Rattle.publication.specs.Words.{FREE}
-use Rattle.publication.specs.Views.{Pending, entry, answer}
-use Rattle.publication.specs.Rule.{blank, BoardState, word, home, seat, own_at, RecordState, IsOrderly}
-use Rattle.publication.specs.Rule.RecordState.{vacant, posted, busy, served, retired}
+use Rattle.publication.specs.Views.{Pending, IsAccountedIn, entry, answer}
+use Rattle.publication.specs.Rule.{blank, BoardState, word, home, seat, own_at, IsOrderly}
 use Rattle.publication.specs.List.{IsRuled}
 use Rattle.publication.specs.Kinds.{replied}
 use Rattle.publication.specs.Exclusion.{HasCollected}
@@ -21,7 +20,8 @@ use Rattle.publication.specs.BoardHistory.{history_of, IsAppended, IsAccounted}
 use Rattle.publication.specs.Runs.{StepName, answer_record, IsStep, IsSeatSplit, IsSeatJoin, IsMove, IsRun, stop, move, calls_published, RespectsRealTime}
 use Rattle.publication.specs.declared.view.View.{View}
 use Rattle.publication.proofs.Lists.{at_there, each_set, each_snoc, prefix_self, prefix_trans}
-use Rattle.publication.proofs.ToldTogether.{IsOwn, own-of}
+use Rattle.publication.proofs.Accounts.{account-of}
+use Rattle.publication.proofs.ToldTogether.{own-of}
 use Rattle.publication.proofs.BoardHistory.{is-history, same-holder, same-home}
 use Rattle.publication.proofs.HistorySteps.{unchanged, joins, waits-for}
 
@@ -60,7 +60,10 @@ cut-unchanged s t o p c = (subst (λ (x : BoardState). (q : IsOrderly x) → q.h
     right : KnowsAsMuch s (length (set s.views c.id c.left)) c.right
     right = elim c.cut [
       | inl m ↦ no-book s (length (set s.views c.id c.left)) c.right (ap (λ (x : View). x.combiner.has_book) m.2)
-      | inr m ↦ no-book s (length (set s.views c.id c.left)) c.right (ap (λ (x : View). x.combiner.has_book) m.1)
+      | inr m ↦ elim m.1 [
+        | inl e ↦ no-book s (length (set s.views c.id c.left)) c.right (ap (λ (x : View). x.combiner.has_book) e)
+        | inr e ↦ no-book s (length (set s.views c.id c.left)) c.right (ap (λ (x : View). x.combiner.has_book) e)
+      ]
     ]
 
 pub joined-unchanged : (s t : BoardState) (o : IsOrderly s) (p : IsOrderly t) → IsSeatJoin s t → p.history ≡ o.history
@@ -118,7 +121,7 @@ step-joins s t r q c =
 
     go : (p : IsOrderly t) → p.history ≡ r.records.history ++ entry c.before.0.combiner.hand c.asked.1.0 (replied c.before.1) ∷ []
     go p = (subst (λ (x : BoardState). (p : IsOrderly x) → p.history ≡ r.records.history ++ entry c.before.0.combiner.hand c.asked.1.0 (replied c.before.1) ∷ []) (sym c.is)
-        (λ p. joins s r.records c.at c.put c.id c.first c.second c.before c.after c.act p c.seated c.out c.valid c.carried c.asked.1.0 c.asked.0 c.asked.1.1 c.told)) p
+        (λ p. joins s r.records c.at c.put c.id c.first c.second c.before c.after c.act p c.seated c.out c.valid c.carried c.asked.1.0 c.asked.0 c.asked.1.1 c.told.0)) p
 
 is-answer : (name : StepName) → (name ≡ answer_record) ⊎ (name ≢ answer_record)
 is-answer answer_record = inl refl
@@ -154,28 +157,10 @@ pub accounted : (s : BoardState) → IsRuled s → (i : ℕ) (answers : List Ans
 accounted s r i answers pending has =
     let o = r.records in
     let d = own-of s o i answers pending has in
-    go o d (o.stands i d.some d.small)
-  where
-    now : (o : IsOrderly s) → o.history ≡ history_of s
-    now o = is-history s o
-
-    all : (o : IsOrderly s) → IsOwn s o i answers pending → calls_of i o.history ≡ (own_at o.owns i).collected → IsAccounted s i answers pending
-    all o d calls = inl (ap (calls_of i) (sym (now o)) ∙ (calls ∙ d.answers_are))
-
-    go : (o : IsOrderly s) → IsOwn s o i answers pending → RecordState o.history i (word s i) (home s i) (own_at o.owns i) → IsAccounted s i answers pending
-    go o d (vacant v) = all o d v.calls
-    go o d (posted call floor v) = all o d v.calls
-    go o d (busy call floor v) = all o d v.calls
-    go o d (served call floor place reply v) = inr (
-      call,
-      floor,
-      place,
-      reply,
-      sym d.pending_is ∙ v.some,
-      v.late,
-      ap (calls_of i) (sym (now o)) ∙ (v.calls ∙ ap (λ (l : List Answered). l ++ answer place call reply ∷ []) d.answers_are),
-    )
-    go o d (retired v) = all o d v.calls
+    subst (λ (h : List Entry). IsAccountedIn h i answers pending) (is-history s o)
+    (subst (λ (l : List Answered). IsAccountedIn o.history i l pending) d.answers_are
+    (subst (λ (p : Option Pending). IsAccountedIn o.history i (own_at o.owns i).collected p) d.pending_is
+    (account-of o.history i (word s i) (home s i) (own_at o.owns i) (o.stands i d.some d.small))))
 
 -- The order in time.
 

@@ -13,7 +13,7 @@ use Rattle.lock_rules.specs.declared.calls.Entry.{Entry}
 use Rattle.lock_rules.specs.Legal.{Answered, IsLegal, calls_of}
 use Rattle.publication.specs.Words.{word_of, session_of_word, POSTED, BUSY, SERVED}
 use Rattle.publication.specs.List.{belongs, IsLinked, IsRuled}
-use Rattle.publication.specs.Views.{Own, Combiner, entry, answer, asks}
+use Rattle.publication.specs.Views.{Own, Combiner, IsAccountedIn, entry, answer, asks}
 use Rattle.publication.specs.Rule.{blank, BoardState, word, home, seat, own_at, announced, IsPosted, IsBusy, RecordState, HasBook, IsOpened, IsOrderly}
 use Rattle.publication.specs.Rule.RecordState.{posted, busy, served}
 use Rattle.publication.specs.Kinds.{Seated, combiner, as_combiner, opened_in, called, call_at, HasEntered, looks_at, looks_at_record, opening, Opened, opens_record, opens, in_hand, lays, picks_slot, picks, answering, answers, putting_back, puts_back}
@@ -22,7 +22,8 @@ use Rattle.publication.specs.declared.slot.SlotValue.{SlotValue}
 use Rattle.publication.specs.declared.slot.SlotValue.TheVariants.{Empty, PostedCall, ServedReply}
 use Rattle.publication.proofs.Lists.{at_there, at_home, prefix_self, there_at}
 use Rattle.publication.proofs.SeatViews.{session_of, heard_few, book_of, opened_of}
-use Rattle.publication.proofs.Histories.{calls-mine}
+use Rattle.publication.proofs.Histories.{calls-mine, calls-other}
+use Rattle.publication.proofs.Accounts.{account-of, account-whole, account-same}
 use Rattle.publication.proofs.RecordStates.{is_posted, is_busy, all_entered, posted_entered, own_entered, grown, as_called}
 use Rattle.publication.proofs.SessionKinds.{Goes, seated, unmoved}
 use Rattle.publication.proofs.UnchangedList.{links_kept, aside, same_walk}
@@ -129,8 +130,8 @@ module _ (i : ℕ) (v : View) (is : v.number ≡ i) (some_number : 0 < i) (s : B
     now_open : get_elem? (set v.combiner.opened j (Some call)) j ≡ opt.some (Some call)
     now_open = set_here v.combiner.opened j (Some call) (omega arith)
 
-    open_step : v.combiner.hand ≡ 0 → IsRecordStep s o i v j BUSY opt.none v.front (combiner true (set v.combiner.opened j (Some call)) j) v.listing me some_number o.history
-    open_step empty = same_history BUSY opt.none (combiner true (set v.combiner.opened j (Some call)) j) refl (length-set v.combiner.opened j (Some call))
+    open_step : v.combiner.hand ≡ 0 → IsRecordStep s o i v j BUSY opt.none v.front (combiner v.combiner true (set v.combiner.opened j (Some call)) j) v.listing me some_number o.history
+    open_step empty = same_history BUSY opt.none (combiner v.combiner true (set v.combiner.opened j (Some call)) j) refl (length-set v.combiner.opened j (Some call))
         (λ k ne. set_else v.combiner.opened j k (Some call) ne)
         (λ k some ne e. absurd (omega arith))
         (λ c there. (
@@ -166,8 +167,8 @@ module _ (i : ℕ) (v : View) (is : v.number ≡ i) (some_number : 0 < i) (s : B
       takes j (PostedCall call),
       at_home s.homes j (PostedCall call) f.asked,
       record {
-        records = combined s o i v j BUSY opt.none v.front (combiner true (set v.combiner.opened j (Some call)) j) v.listing me some_number o.history (open_step empty);
-        list = still_listed BUSY opt.none v.front (combiner true (set v.combiner.opened j (Some call)) j) (as_pending POSTED hit BUSY (λ b. refl));
+        records = combined s o i v j BUSY opt.none v.front (combiner v.combiner true (set v.combiner.opened j (Some call)) j) v.listing me some_number o.history (open_step empty);
+        list = still_listed BUSY opt.none v.front (combiner v.combiner true (set v.combiner.opened j (Some call)) j) (as_pending POSTED hit BUSY (λ b. refl));
       },
       ((λ _. (call, refl, opened_now hit)), λ miss. absurd (miss hit)),
     )
@@ -198,8 +199,8 @@ module _ (i : ℕ) (v : View) (is : v.number ≡ i) (some_number : 0 < i) (s : B
     )
 
     hand_step : (at : opt.Option SlotValue) (hand : ℕ) → (hand ≢ j → at ≡ opt.some Empty) → ((k : ℕ) → 0 < k → k ≢ j → v.combiner.hand ≢ k)
-        → IsRecordStep s o i v j (word s j) at v.front (combiner true v.combiner.opened hand) v.listing me some_number o.history
-    hand_step at hand empty_slot hands = same_history (word s j) at (combiner true v.combiner.opened hand) refl refl (λ k ne. refl) hands (still_open at hand empty_slot)
+        → IsRecordStep s o i v j (word s j) at v.front (combiner v.combiner true v.combiner.opened hand) v.listing me some_number o.history
+    hand_step at hand empty_slot hands = same_history (word s j) at (combiner v.combiner true v.combiner.opened hand) refl refl (λ k ne. refl) hands (still_open at hand empty_slot)
         (λ _. (call, shown))
         (busy call was.call_of.0 record { is = was.is_busy; some = busy_is.some; early = busy_is.early; publishes = busy_is.publishes; calls = busy_is.calls })
 
@@ -209,9 +210,9 @@ module _ (i : ℕ) (v : View) (is : v.number ≡ i) (some_number : 0 < i) (s : B
       gives,
       tt,
       record {
-        records = combined s o i v j (word s j) (opt.some Empty) v.front (combiner true v.combiner.opened 0) v.listing me some_number o.history
+        records = combined s o i v j (word s j) (opt.some Empty) v.front (combiner v.combiner true v.combiner.opened 0) v.listing me some_number o.history
             (hand_step (opt.some Empty) 0 (λ away. refl) (λ k some ne e. ne (sym e ∙ held)));
-        list = still_listed (word s j) (opt.some Empty) v.front (combiner true v.combiner.opened 0) (λ b. refl);
+        list = still_listed (word s j) (opt.some Empty) v.front (combiner v.combiner true v.combiner.opened 0) (λ b. refl);
       },
       refl,
     )
@@ -222,9 +223,9 @@ module _ (i : ℕ) (v : View) (is : v.number ≡ i) (some_number : 0 < i) (s : B
       takes j Empty,
       at_home s.homes j Empty (was.empty_slot (λ e. omega arith)),
       record {
-        records = combined s o i v j (word s j) opt.none v.front (combiner true v.combiner.opened j) v.listing me some_number o.history
+        records = combined s o i v j (word s j) opt.none v.front (combiner v.combiner true v.combiner.opened j) v.listing me some_number o.history
             (hand_step opt.none j (λ away. absurd (away refl)) (λ k some ne e. absurd (omega arith)));
-        list = still_listed (word s j) opt.none v.front (combiner true v.combiner.opened j) (λ b. refl);
+        list = still_listed (word s j) opt.none v.front (combiner v.combiner true v.combiner.opened j) (λ b. refl);
       },
       refl,
     )
@@ -233,13 +234,17 @@ module _ (i : ℕ) (v : View) (is : v.number ≡ i) (some_number : 0 < i) (s : B
 
     -- The combiner's part once record j isn't opened any more.
     abbrev cleared : Combiner
-    cleared = combiner true (set v.combiner.opened j None) 0
+    cleared = combiner v.combiner true (set v.combiner.opened j None) 0
 
     no_more : (c : Call) → get_elem? cleared.opened j ≢ opt.some (Some c)
     no_more c there = let p : None ≡ Some c = opt.some-injective None (Some c) (sym (set_here v.combiner.opened j None (omega arith)) ∙ there) in absurd (cc p)
 
-    put_back_step : v.combiner.hand ≡ j → IsRecordStep s o i v j POSTED (opt.some (PostedCall call)) v.front cleared v.listing me some_number o.history
-    put_back_step held = same_history POSTED (opt.some (PostedCall call)) cleared refl (length-set v.combiner.opened j None)
+    -- The same after the call was put back, which counts.
+    abbrev put_back : Combiner
+    put_back = record { has_book = true; opened = set v.combiner.opened j None; hand = 0; put_backs = v.combiner.put_backs + 1 }
+
+    put_back_step : v.combiner.hand ≡ j → IsRecordStep s o i v j POSTED (opt.some (PostedCall call)) v.front put_back v.listing me some_number o.history
+    put_back_step held = same_history POSTED (opt.some (PostedCall call)) put_back refl (length-set v.combiner.opened j None)
         (λ k ne. set_else v.combiner.opened j k None ne) (λ k some ne e. ne (sym e ∙ held)) (λ c there. absurd (no_more c there)) (λ two. absurd (omega arith))
         (posted call was.call_of.0 record { is = refl; some = busy_is.some; asked = refl; early = busy_is.early; publishes = busy_is.publishes; calls = busy_is.calls })
 
@@ -250,8 +255,8 @@ module _ (i : ℕ) (v : View) (is : v.number ≡ i) (some_number : 0 < i) (s : B
       gives,
       tt,
       record {
-        records = combined s o i v j POSTED (opt.some (PostedCall call)) v.front cleared v.listing me some_number o.history (put_back_step held);
-        list = still_listed POSTED (opt.some (PostedCall call)) v.front cleared (as_pending BUSY was.is_busy POSTED (λ b. refl));
+        records = combined s o i v j POSTED (opt.some (PostedCall call)) v.front put_back v.listing me some_number o.history (put_back_step held);
+        list = still_listed POSTED (opt.some (PostedCall call)) v.front put_back (as_pending BUSY was.is_busy POSTED (λ b. refl));
       },
       ap (λ (k : ℕ). (putting_back v k, more)) (sym held),
     )
@@ -297,6 +302,17 @@ module _ (i : ℕ) (v : View) (is : v.number ≡ i) (some_number : 0 < i) (s : B
       call_is : call_at v j ≡ call
       call_is = ap called (at_there v.combiner.opened j (Some call) None shown).0
 
+      -- The longer history has the calls that the combiner collected, or those and its pending call.
+      account_after : IsAccountedIn longer v.number v.own.collected v.own.pending
+      account_after =
+          let lives : v.number ≢ 0 = λ none. omega arith in
+          let mine : v.own ≡ own_at o.owns i = (session_of s o i v me lives).own_is in dite (ℕ_discrete j v.number)
+          (λ e. subst (λ (k : ℕ). IsAccountedIn longer k v.own.collected v.own.pending) e
+          (subst (λ (w : Own). IsAccountedIn longer j w.collected w.pending) (ap (own_at o.owns) (e ∙ is) ∙ sym mine)
+          (account-of longer j SERVED (opt.some (ServedReply (length v.front) reply)) (own_at o.owns j) served_now)))
+          (λ ne. account-same v.number v.front longer v.own.collected v.own.pending (calls-other v.number j v.front call reply ne)
+          (subst (λ (f : List Entry). IsAccountedIn f v.number v.own.collected v.own.pending) (sym book.whole) (account-whole s o i v me some_number lives)))
+
       answer_goes : (more : List (ℕ × SlotValue)) → v.combiner.hand ≡ j
           → Goes s j i (v, (j, ServedReply (length v.front) reply) ∷ more) (λ _. answers (step o.slots (word_of j) SERVED 0 opt.none) (v, (j, ServedReply (length v.front) reply) ∷ more) SERVED) SERVED
       answer_goes more held = (
@@ -307,7 +323,7 @@ module _ (i : ℕ) (v : View) (is : v.number ≡ i) (some_number : 0 < i) (s : B
           records = combined s o i v j SERVED (opt.some (ServedReply (length v.front) reply)) longer cleared v.listing me some_number longer (answer_step held);
           list = still_listed SERVED (opt.some (ServedReply (length v.front) reply)) longer cleared (as_pending BUSY was.is_busy SERVED (λ b. refl));
         }),
-        ap (λ (k : ℕ). (answering v k (call_at v k) reply, more)) (sym held),
+        (ap (λ (k : ℕ). (answering v k (call_at v k) reply, more)) (sym held), rw call_is account_after),
       )
 
 -- What the table demands of each of these steps.

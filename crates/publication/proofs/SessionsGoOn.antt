@@ -12,7 +12,7 @@ use Rattle.publication.specs.Views.{Pending, Handed, answer}
 use Rattle.publication.specs.Rule.{blank, BoardState, seat}
 use Rattle.publication.specs.Kinds.{Seated, copy_of, joined, handed_in, gathered}
 use Rattle.publication.specs.Exclusion.{IsSeated, IsHandedIn, HasCollected}
-use Rattle.publication.specs.Runs.{StepName, start, post, look_at_head, link, enlist, look_for_reply, take_reply, look_at_lock, seize, release, walk, walk_on, unlink, mark_out, relink, look_at_record, open_record, lay, pick, answer_record, put_back, learn, retire, leave, kind_of, IsStep, IsSeatSplit, IsSeatJoin, IsMove, IsRun, stop, move}
+use Rattle.publication.specs.Runs.{StepName, start, post, look_at_head, link, enlist, look_for_reply, take_reply, look_at_lock, seize, release, walk, walk_on, unlink, mark_out, relink, look_at_record, open_record, lay, pick, answer_record, put_back, learn, compare, retire, leave, kind_of, IsStep, IsSeatSplit, IsSeatJoin, IsMove, IsRun, stop, move}
 use Rattle.publication.specs.declared.view.View.{View}
 use Rattle.publication.specs.declared.slot.SlotValue.{SlotValue}
 use Rattle.publication.proofs.Lists.{at_there, each_set, each_snoc, past_end, prefix_self, prefix_trans}
@@ -80,9 +80,10 @@ module _ (m n : Seated) where
   follows open_record slots at first second found told = dite (ℕ_discrete found POSTED) (λ e. let x = told.0 e in calmly _ _ x.1 refl refl refl) (λ ne. same (told.1 ne).0)
   follows lay slots at first second found told = calmly _ _ told refl refl refl
   follows pick slots at first second found told = calmly _ _ told refl refl refl
-  follows answer_record slots at first second found told = calmly _ _ told refl refl refl
+  follows answer_record slots at first second found told = calmly _ _ told.0 refl refl refl
   follows put_back slots at first second found told = calmly _ _ told refl refl refl
   follows learn slots at first second found told = calmly _ _ told.0 refl refl refl
+  follows compare slots at first second found told = same told.0
   follows retire slots at first second found told = calmly _ _ told refl refl refl
   follows leave slots at first second found told = calmly _ _ told refl refl refl
 

@@ -8,7 +8,7 @@ use Rattle.lock_rules.specs.declared.calls.Entry.{Entry}
 use Rattle.publication.specs.Views.{Own, Others}
 use Rattle.publication.specs.Rule.{blank, BoardState, word, home, seat, own_at, announced, RecordState, IsSession, IsMaker, IsHanded, AreTrue, IsOrderly}
 use Rattle.publication.specs.List.{belongs, IsLinked, IsRuled}
-use Rattle.publication.specs.Kinds.{copy_of, as_hearer, joined, handed_in, gathered}
+use Rattle.publication.specs.Kinds.{copy_with, copy_of, front_copy_of, as_hearer, joined, handed_in, gathered}
 use Rattle.publication.specs.declared.view.View.{View}
 use Rattle.atomic_table.proofs.Lists.{set_again, set_else}
 use Rattle.publication.proofs.Lists.{at_there, at_pushed, each_set, each_snoc, past_end}
@@ -204,13 +204,14 @@ gathers id v other w some_number settled no_book s r me apart_from with =
           ap (λ (y : View). belongs (word s other) y.own.listed) w_is ∙ idle_belongs stands settled false w.own.listed b is);
     }
 
--- Split copy: a new seat has a copy of what the seat knows.
-pub splits_copy : (id : ℕ) (v : View) → v.others.all_made ≡ true → Splits IsRuled id v v (copy_of v)
-splits_copy id v all_made s r me =
+-- A new seat has a copy of the front that the seat knows, with numbers of calls that were announced.
+splits_with : (id : ℕ) (v : View) (heard : List ℕ) → v.others.all_made ≡ true
+    → ((s : BoardState) (o : IsOrderly s) → get_elem? s.views id ≡ opt.some v → (j : ℕ) → get_or heard j 0 ≤ announced (own_at o.owns j)) → Splits IsRuled id v v (copy_with v heard)
+splits_with id v heard all_made few s r me =
     let o = r.records in let l = r.list in
     let v_is : seat s id ≡ v = (at_there s.views id v blank me).0 in
     let enough : o.slots ≤ length s.views = (o.others id).all_made (ap (λ (x : View). x.others.all_made) v_is ∙ all_made) in
-    let b : View = copy_of v in let vs : List View = s.views ++ b ∷ [] in
+    let b : View = copy_with v heard in let vs : List View = s.views ++ b ∷ [] in
     let long : length vs ≡ length s.views + 1 = length-append s.views (b ∷ []) in
     let each : (P : ℕ → View → Type 0) → P (length s.views) b → ((k : ℕ) → P k (seat s k)) → (k : ℕ) → P k (get_or vs k blank) = λ P new else. each_snoc s.views b blank P new else in
     let gone : StaysGone s (viewed s o vs) o.owns o.owns = λ j some few none. (each (λ j x. (seat s j).number ≡ 0 → x.number ≡ 0) (λ _. refl) (λ j z. z) j none, refl) in
@@ -220,7 +221,7 @@ splits_copy id v all_made s r me =
           (each (Sits s o vs)
           (record {
             front = front_of s o id v me;
-            heard = heard_few s o id v me;
+            heard = few s o me;
             others = told_nothing o.history (viewed s o vs) o.slots o.owns true (λ _. omega arith);
             waits = λ some. absurd (some (ap (λ (y : Own). y.pending) (o.unmade (length s.views) (omega arith))));
             session = λ some_number. absurd (some_number refl);
@@ -236,3 +237,11 @@ splits_copy id v all_made s r me =
     first_kept : (l : List View) (b : View) → 0 < length l → get_or (l ++ b ∷ []) 0 blank ≡ get_or l 0 blank
     first_kept [] b h = absurd (omega arith)
     first_kept (x ∷ xs) b h = refl
+
+-- Split copy: a new seat has a copy of what the seat knows.
+pub splits_copy : (id : ℕ) (v : View) → v.others.all_made ≡ true → Splits IsRuled id v v (copy_of v)
+splits_copy id v all_made = splits_with id v v.heard all_made (λ s o me. heard_few s o id v me)
+
+-- Split front: a new seat has a copy of the front that the seat knows.
+pub splits_front : (id : ℕ) (v : View) → v.others.all_made ≡ true → Splits IsRuled id v v (front_copy_of v)
+splits_front id v all_made = splits_with id v [] all_made (λ s o me j. omega arith)

@@ -2,14 +2,16 @@
 use Rattle.std.proofs.Common.{◌≡◌, ◌≢◌, ◌⊎◌, inl, inr, ℕ, ◌<◌, true, false, not, ◌||◌, Option, List, [], ◌∷◌, ◌++◌, refl, sym, ap, subst, ◌∙◌, arith, append-nil}
 use mathlib.Core.Option as opt
 use Rattle.std.specs.List.{All}
+use Rattle.std.proofs.lemmas.Bool.{or_left, or_right}
 use Rattle.std.proofs.lemmas.List.Elements.{All-nil, All-cons}
 use Rattle.lock_modes.specs.declared.Mode.{Mode}
-use Rattle.lock_modes.specs.declared.Mode.TheVariants.{NL, IS, IX, S, SIX, X}
-use Rattle.lock_modes.specs.Order.{IsAtOrBelow, at_or_below, same}
+use Rattle.lock_modes.specs.declared.Mode.TheVariants.{S, X}
+use Rattle.lock_modes.specs.Order.{IsAtOrBelow, same}
 use Rattle.lock_modes.specs.Compatibility.{are_compatible}
-use Rattle.lock_modes.proofs.Every.{every3-at, implied}
+use Rattle.lock_modes.proofs.Every.{every-at, implied}
 use Rattle.lock_modes.proofs.Order.{order-from, order-tests, at_or_below-trans}
-use Rattle.lock_modes.proofs.Compatibility.{are_compatible-comm, compatible-tests, compatible-from}
+use Rattle.lock_modes.proofs.Compatibility.{compatible-tests}
+use Rattle.lock_modes.proofs.Lower.{compatible-below}
 use Rattle.lock_rules.specs.declared.calls.Entry.{Entry}
 use Rattle.lock_rules.specs.State.{State}
 use Rattle.lock_rules.specs.Step.{is_nothing}
@@ -27,25 +29,18 @@ use Rattle.publication.proofs.ToldIsHeld.{told-grant, told-later}
 
 -- Modes that go together.
 
-lower-together : (a b c : Mode) → at_or_below a b ≡ true → are_compatible b c ≡ true → are_compatible a c ≡ true
-lower-together a b c h k = implied (are_compatible b c) _ (implied (at_or_below a b) _ (every3-at (λ a b c. not (at_or_below a b) || (not (are_compatible b c) || are_compatible a c)) refl a b c) h) k
-
+-- Modes at or below two that go together go together, in the same order.
 pub together-below : (a b c d : Mode) → IsAtOrBelow a b → IsAtOrBelow c d → GoTogether b d → GoTogether a c
-together-below a b c d p q g = inl (compatible-from a c (are_compatible-comm c a (lower-together c d a (order-tests q)
-    (are_compatible-comm a d (lower-together a b d (order-tests p) (tests g))))))
-  where
-    tests : GoTogether b d → are_compatible b d ≡ true
-    tests (inl h) = compatible-tests b d h
-    tests (inr h) = are_compatible-comm d b (compatible-tests d b h)
+together-below a b c d p q (inl h) = inl (compatible-below a b c d p q h)
+together-below a b c d p q (inr h) = inr (compatible-below c d a b q p h)
 
--- Only NL is compatible with X, and NL is no lock.
-none-beside-x : (k : Mode) → are_compatible X k ≡ true → is_nothing k ≡ true
-none-beside-x NL e = refl
-none-beside-x IS e = absurd (cc e)
-none-beside-x IX e = absurd (cc e)
-none-beside-x S e = absurd (cc e)
-none-beside-x SIX e = absurd (cc e)
-none-beside-x X e = absurd (cc e)
+-- Only NL goes together with X, in either order, and NL is no lock.
+none-beside-x : (k : Mode) → GoTogether X k → is_nothing k ≡ true
+none-beside-x k g = implied (are_compatible X k || are_compatible k X) (is_nothing k) (every-at (λ k. not (are_compatible X k || are_compatible k X) || is_nothing k) refl k) (tests g)
+  where
+    tests : GoTogether X k → (are_compatible X k || are_compatible k X) ≡ true
+    tests (inl h) = or_left (are_compatible X k) (are_compatible k X) (compatible-tests X k h)
+    tests (inr h) = or_right (are_compatible X k) (are_compatible k X) (compatible-tests k X h)
 
 module _ (s : BoardState) (o : IsOrderly s) where
   -- The rule has these answers and this pending call for session i, which is one of the board's.
@@ -120,10 +115,7 @@ module _ (refuses : (st : State) → DoesRefusalKeep st) where
         let x = held i mine my_pending a r X t in
         let y = held j theirs their_pending b r k u in
         let some : is_nothing y.0 ≡ false = ((state-lawful o.history).sound.held_under j r y.0 y.1).1 in
-        let none : is_nothing y.0 ≡ true = elim (together-below X x.0 y.0 y.0 x.2 same ((lawful o.history).holders_compatible i j r x.0 y.0 ne x.1 y.1)) [
-          | inl h ↦ none-beside-x y.0 (compatible-tests X y.0 h)
-          | inr h ↦ none-beside-x y.0 (are_compatible-comm y.0 X (compatible-tests y.0 X h))
-        ] in
+        let none : is_nothing y.0 ≡ true = none-beside-x y.0 (together-below X x.0 y.0 y.0 x.2 same ((lawful o.history).holders_compatible i j r x.0 y.0 ne x.1 y.1)) in
         absurd (cc (some, none))
 
     reads : (i : ℕ) (answers : List Answered) (pending : Option Pending) (x : List ℕ) → HasCollected s i answers pending → ReadsAsTold answers pending x → Reads (state_of o.history).table i x

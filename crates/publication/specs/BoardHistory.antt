@@ -8,7 +8,7 @@ use Rattle.lock_rules.specs.declared.calls.Entry.{Entry}
 use Rattle.lock_rules.specs.declared.calls.Reply.{Reply}
 use Rattle.lock_rules.specs.Legal.{Answered, calls_of}
 use Rattle.publication.specs.Words.{word_of, FREE, END}
-use Rattle.publication.specs.Views.{Pending, answer, asks}
+use Rattle.publication.specs.Views.{Pending, IsAccountedIn}
 use Rattle.publication.specs.Rule.{maker, BoardState, word, home, seat}
 use Rattle.publication.specs.declared.slot.Load.{Load}
 use Rattle.publication.specs.declared.slot.SlotValue.{SlotValue}
@@ -37,13 +37,6 @@ pub record IsAppended (s t : BoardState) (entry : Entry) : Type 0 where
   pub floor : ℕ
   pub pending : (seat s entry.session).own.pending ≡ Some (record { call = entry.call; floor = floor })
 
--- The calls of session i in the history are those that it collected, or those and its pending call, at a place not below
--- the number of entries that the session knew when it published that call.
-abbrev pub IsAccountedIn : List Entry → ℕ → List Answered → Option Pending → Type 0
-IsAccountedIn h i answers pending = (calls_of i h ≡ answers)
-    ⊎ ((call : Call) × (floor : ℕ) × (place : ℕ) × (reply : Reply) × (pending ≡ Some (asks call floor)) × (floor ≤ place)
-    × (calls_of i h ≡ answers ++ answer place call reply ∷ []))
-
--- The same of the board's history.
+-- The calls of session i in the board's history are those that it collected, or those and its pending call.
 abbrev pub IsAccounted : BoardState → ℕ → List Answered → Option Pending → Type 0
 IsAccounted s = IsAccountedIn (history_of s)

@@ -31,7 +31,7 @@ pub record IsHandedIn (s : BoardState) (number : ℕ) (answers : List Answered) 
 abbrev pub HasCollected : BoardState → ℕ → List Answered → Option Pending → Type 0
 HasCollected s number answers pending = IsSeated s number answers pending ⊎ IsHandedIn s number answers pending
 
--- The modes in which two sessions were told that they hold one resource are compatible.
+-- The modes in which two sessions were told that they hold one resource are compatible in at least one order.
 abbrev pub ToldModesGoTogether : BoardState → Type 0
 ToldModesGoTogether s = (i j : ℕ) (mine theirs : List Answered) (my_pending their_pending : Option Pending)
     → i ≢ j → HasCollected s i mine my_pending → HasCollected s j theirs their_pending

@@ -55,7 +55,7 @@ pub record HoldsAsTold (answers : List Answered) (pending : Option Pending) (r :
   pub told : WasGranted answers r m ⊎ WasGrantedLater answers r m
   pub kept : (p : Pending) → pending ≡ Some p → KeepsLock r p.call
 
--- The session was told that it holds the resource, or an ancestor of it, in S, SIX or X: it may read the resource.
+-- The session was told that it holds the resource, or an ancestor of it, in S, SIX, U or X: it may read the resource.
 pub record ReadsAsTold (answers : List Answered) (pending : Option Pending) (x : List ℕ) : Type 0 where
   pub resource : List ℕ
   pub over : IsAtOrOver resource x

@@ -24,8 +24,10 @@
 --   answer          the combiner's  that record, BUSY to SERVED; the reply goes into the slot; the history grows
 --   put back        the combiner's  that record, BUSY to POSTED; the call goes into the slot
 --   split copy      a new seat's    the lock word is read; the new seat has a copy of what another seat knows
+--   split front     a new seat's    the lock word is read; the new seat has a copy of the front that another seat knows
 --   join copy       the learner's   the lock word is read; the copy is joined into the seat, and ends
 --   learn           the learner's   the lock word is read; the longer of both fronts is known to begin the history
+--   compare         none            the lock word is read; the longer of both fronts has the session's calls
 --   retire          the session's   its record, EMPTY or OUT to CLOSED
 --   leave           the session's   its record's state word is read; its slot goes home for good
 --   gather          the closing's   the lock word is read; the seat of a session that left is joined into it, and ends
@@ -42,7 +44,7 @@ use Rattle.lock_rules.specs.declared.calls.Reply.TheVariants.{Clear}
 use Rattle.lock_rules.specs.declared.calls.Entry.{Entry}
 use Rattle.lock_rules.specs.Legal.{Answered, IsLegal, calls_of}
 use Rattle.publication.specs.Words.{session_of_word, END, FREE, POSTED, SERVED, CLOSED, EMPTY}
-use Rattle.publication.specs.Views.{Pending, Own, Combiner, Listing, Handed, Others, entry, answer, asks}
+use Rattle.publication.specs.Views.{Pending, Own, Combiner, Listing, Handed, Others, IsAccountedIn, entry, answer, asks}
 use Rattle.publication.specs.Rule.{fresh, no_combiner, unwalked, apart, IsHome, announced, heard_of}
 use Rattle.publication.specs.List.{IsOn, AreApart, head_of, behind, without, with_behind}
 use Rattle.publication.specs.declared.view.View.{View}
@@ -67,9 +69,9 @@ Kind = Step SlotValue → Outcome
 abbrev pub own : Option Pending → List Answered → Bool → Own
 own pending collected listed = record { started = true; retired = false; pending = pending; collected = collected; listed = listed }
 
--- The combiner's part of a view.
-abbrev pub combiner : Bool → List (Option Call) → ℕ → Combiner
-combiner has_book opened hand = record { has_book = has_book; opened = opened; hand = hand }
+-- The combiner's part of a view, after a step that puts no call back.
+abbrev pub combiner : Combiner → Bool → List (Option Call) → ℕ → Combiner
+combiner c has_book opened hand = record { has_book = has_book; opened = opened; hand = hand; put_backs = c.put_backs }
 
 -- The view after a step of the session itself.
 abbrev pub as_session : View → List Entry → Own → List ℕ → Listing → View
@@ -79,9 +81,17 @@ as_session v front o heard l = record { number = v.number; slots = v.slots; made
 abbrev pub as_combiner : View → List Entry → Combiner → Listing → View
 as_combiner v front c l = record { number = v.number; slots = v.slots; made = v.made; front = front; own = v.own; combiner = c; heard = v.heard; listing = l; others = v.others }
 
--- The listing once the exchange of the head word was tried, or isn't due: no head is noted.
+-- The listing while no exchange of the head word is due: no head is noted.
 abbrev pub forget_head : Listing → Listing
-forget_head l = record { head_seen = None; route = l.route; off = l.off; before = l.before }
+forget_head l = record { head_seen = None; route = l.route; off = l.off; before = l.before; tries = l.tries }
+
+-- The listing after a try to exchange the head word, which counts: no head is noted.
+abbrev pub tried_head : Listing → Listing
+tried_head l = record { head_seen = None; route = l.route; off = l.off; before = l.before; tries = l.tries + 1 }
+
+-- The listing of a session that has begun no walk: nothing is known of the publication list.
+abbrev pub no_walk : Listing → Listing
+no_walk l = record { head_seen = None; route = []; off = 0; before = 0; tries = l.tries }
 
 -- Start.
 
@@ -125,19 +135,19 @@ looks_at_head st m found n = (n ≡ m) × HasAnother st.slots found
 
 -- The session notes the head that it wrote into its link.
 abbrev pub linking : View → ℕ → View
-linking v head = as_session v v.front v.own v.heard (record { head_seen = Some head; route = v.listing.route; off = v.listing.off; before = v.listing.before })
+linking v head = as_session v v.front v.own v.heard (record { head_seen = Some head; route = v.listing.route; off = v.listing.off; before = v.listing.before; tries = v.listing.tries })
 
 -- Link: the session writes the head as seen into its own link.
 abbrev pub links : Kind
 links st m found n = n ≡ (linking m.0 st.first, m.1)
 
--- The exchange of the head word was lost: no head is noted.
+-- The exchange of the head word was lost: one try more, and no head is noted.
 abbrev pub losing_head : View → View
-losing_head v = as_session v v.front v.own v.heard (forget_head v.listing)
+losing_head v = as_session v v.front v.own v.heard (tried_head v.listing)
 
--- The exchange of the head word was won: the pending call is listed and heard.
+-- The exchange of the head word was won: one try more, and the pending call is listed and heard.
 abbrev pub enlisting : View → View
-enlisting v = as_session v v.front (record { started = v.own.started; retired = v.own.retired; pending = v.own.pending; collected = v.own.collected; listed = true }) (heard_all v) (forget_head v.listing)
+enlisting v = as_session v v.front (record { started = v.own.started; retired = v.own.retired; pending = v.own.pending; collected = v.own.collected; listed = true }) (heard_all v) (tried_head v.listing)
 
 -- Enlist: if the head word is still the head as seen, the record becomes the list's first; else the exchange is lost.
 abbrev pub enlists : Kind
@@ -163,7 +173,6 @@ taking v front call place reply = as_session v front (record { started = true; r
 pub record Took (number : ℕ) (known : List Entry) (collected : List Answered) (call : Call) (floor place : ℕ) (reply : Reply) (front : List Entry) : Type 0 where
   pub legal : IsLegal front
   pub short : length front < 2 ^ 64
-  -- The longer of two fronts of the history; the first if both are as long.
   pub longer : IsPrefix known front
   pub long : length front ≡ max (length known) (place + 1)
   pub stands : get_elem? front place ≡ opt.some (entry number call reply)
@@ -195,15 +204,17 @@ looks_at_lock st m found n = (n ≡ m) × (found ≢ FREE → HasOthers st.slots
 
 -- The session is the combiner, and knows the whole history, which is the book's.
 abbrev pub seizing : View → List Entry → View
-seizing v front = as_combiner v front (combiner true v.combiner.opened 0) unwalked
+seizing v front = as_combiner v front (combiner v.combiner true v.combiner.opened 0) (no_walk v.listing)
 
 -- What a session learns when it becomes the combiner: it was not the combiner, the load is as it has to be at home,
--- and the book's history is legal and continues the known front.
+-- and the book's history is legal, continues the known front, and has the calls that the session collected, or those and
+-- its pending call.
 pub record Seized (v : View) (slots : ℕ) (load : Load) : Type 0 where
   pub lacked : v.combiner.has_book ≡ false
   pub home : IsHome load.book.history slots load
   pub legal : IsLegal load.book.history
   pub longer : IsPrefix v.front load.book.history
+  pub accounted : IsAccountedIn load.book.history v.number v.own.collected v.own.pending
 
 -- Seize: if the lock word is FREE, the session takes the load; else nothing changes.
 abbrev pub seizes : Kind
@@ -214,7 +225,7 @@ seizes st m found n = (found ≡ FREE → (load : Box Load) × (n ≡ (seizing m
 
 -- The session isn't the combiner any more.
 abbrev pub releasing : View → View
-releasing v = as_combiner v v.front (combiner false v.combiner.opened 0) unwalked
+releasing v = as_combiner v v.front (combiner v.combiner false v.combiner.opened 0) (no_walk v.listing)
 
 -- Release: the load goes back into the lock's slot.
 abbrev pub releases : Kind
@@ -224,7 +235,7 @@ releases st m found n = n ≡ (releasing m.0, rest m.1)
 
 -- The view with this route.
 abbrev pub routing : View → List ℕ → View
-routing v route = as_session v v.front v.own v.heard (record { head_seen = v.listing.head_seen; route = route; off = v.listing.off; before = v.listing.before })
+routing v route = as_session v v.front v.own v.heard (record { head_seen = v.listing.head_seen; route = route; off = v.listing.off; before = v.listing.before; tries = v.listing.tries })
 
 -- Each record that the walk meets is a session's, and is met once.
 pub record IsRoute (slots : ℕ) (route : List ℕ) : Type 0 where
@@ -252,7 +263,7 @@ walks_on st = walks_on_from st.slots (session_of_word st.word)
 -- The record behind `before` is unlinked, and noted as `off`.
 abbrev pub bypassing : View → ℕ → View
 bypassing v before = as_session v v.front v.own v.heard
-    (record { head_seen = v.listing.head_seen; route = without before v.listing.route; off = head_of (behind before v.listing.route); before = before })
+    (record { head_seen = v.listing.head_seen; route = without before v.listing.route; off = head_of (behind before v.listing.route); before = before; tries = v.listing.tries })
 
 -- Unlink the record behind `before`.
 abbrev pub unlinks_behind : ℕ → Outcome
@@ -264,7 +275,7 @@ unlinks st = unlinks_behind (session_of_word st.word)
 
 -- No record is noted as unlinked.
 abbrev pub none_unlinked : View → View
-none_unlinked v = as_session v v.front v.own v.heard (record { head_seen = v.listing.head_seen; route = v.listing.route; off = 0; before = 0 })
+none_unlinked v = as_session v v.front v.own v.heard (record { head_seen = v.listing.head_seen; route = v.listing.route; off = 0; before = 0; tries = v.listing.tries })
 
 -- Mark out: if the record was EMPTY or CLOSED, it is off the list for good; else nothing changes.
 abbrev pub marks_out : Kind
@@ -272,7 +283,7 @@ marks_out st m found n = (found ≡ EMPTY → n ≡ (none_unlinked m.0, m.1)) ×
 
 -- The unlinked record is on the list again, where it was.
 abbrev pub relinking : View → View
-relinking v = as_session v v.front v.own v.heard (record { head_seen = v.listing.head_seen; route = with_behind v.listing.before v.listing.off v.listing.route; off = 0; before = 0 })
+relinking v = as_session v v.front v.own v.heard (record { head_seen = v.listing.head_seen; route = with_behind v.listing.before v.listing.off v.listing.route; off = 0; before = 0; tries = v.listing.tries })
 
 -- Relink: the link in front names the unlinked record again.
 abbrev pub relinks : Kind
@@ -299,7 +310,7 @@ looks_at_record st = looks_at (session_of_word st.word)
 
 -- Record j is opened with this call, and its slot is in the combiner's hand.
 abbrev pub opening : View → ℕ → Call → View
-opening v j call = as_combiner v v.front (combiner true (slice_set v.combiner.opened j (Some call)) j) v.listing
+opening v j call = as_combiner v v.front (combiner v.combiner true (slice_set v.combiner.opened j (Some call)) j) v.listing
 
 -- What a combiner learns when it opens record j: it had not opened it before; of session j it had heard of at most
 -- one call that isn't in the history; and if the record is its own, it had collected all its calls in the history.
@@ -322,7 +333,7 @@ opens st = opens_record (session_of_word st.word)
 
 -- The slot of record j is in the combiner's hand; with j = 0, none is.
 abbrev pub in_hand : View → ℕ → View
-in_hand v j = as_combiner v v.front (combiner true v.combiner.opened j) v.listing
+in_hand v j = as_combiner v v.front (combiner v.combiner true v.combiner.opened j) v.listing
 
 -- Lay: the slot in hand goes home. A seat reaches only the slot that it took last, so the combiner lays each slot
 -- down at once.
@@ -355,17 +366,19 @@ replied (x ∷ xs) = elim x.1 [ Empty ↦ Clear | PostedCall call ↦ Clear | Se
 
 -- The call's entry is the last of the known history, and record j isn't opened any more.
 abbrev pub answering : View → ℕ → Call → Reply → View
-answering v j call reply = as_combiner v (v.front ++ entry j call reply ∷ []) (combiner true (slice_set v.combiner.opened j None) 0) v.listing
+answering v j call reply = as_combiner v (v.front ++ entry j call reply ∷ []) (combiner v.combiner true (slice_set v.combiner.opened j None) 0) v.listing
 
--- Answer: the call of the record in hand is answered with the reply in its slot.
+-- Answer: the call of the record in hand is answered with the reply in its slot. The longer history has the calls that the
+-- combiner collected, or those and its pending call.
 abbrev pub answers : Kind
-answers st m found n = n ≡ (answering m.0 m.0.combiner.hand (call_at m.0 m.0.combiner.hand) (replied m.1), rest m.1)
+answers st m found n = (n ≡ (answering m.0 m.0.combiner.hand (call_at m.0 m.0.combiner.hand) (replied m.1), rest m.1))
+    × IsAccountedIn n.0.front n.0.number n.0.own.collected n.0.own.pending
 
 -- Put back the call of the record whose slot is in hand.
 
--- Record j isn't opened any more.
+-- Record j isn't opened any more, and one call more was put back.
 abbrev pub putting_back : View → ℕ → View
-putting_back v j = as_combiner v v.front (combiner true (slice_set v.combiner.opened j None) 0) v.listing
+putting_back v j = as_combiner v v.front (record { has_book = true; opened = slice_set v.combiner.opened j None; hand = 0; put_backs = v.combiner.put_backs + 1 }) v.listing
 
 -- Put back: the call of the record in hand is posted again, and the history stays as it is.
 abbrev pub puts_back : Kind
@@ -378,9 +391,17 @@ puts_back st m found n = n ≡ (putting_back m.0 m.0.combiner.hand, rest m.1)
 abbrev pub as_hearer : View → List Entry → List ℕ → Others → View
 as_hearer v front heard others = record { number = v.number; slots = v.slots; made = v.made; front = front; own = v.own; combiner = v.combiner; heard = heard; listing = v.listing; others = others }
 
--- A new seat that knows what this one does of the history and of what is published, and nothing else.
+-- A new seat that knows the front of the history that this one knows, these numbers of published calls, and nothing else.
+abbrev pub copy_with : View → List ℕ → View
+copy_with v heard = record { number = 0; slots = 0; made = 0; front = v.front; own = fresh; combiner = no_combiner 0; heard = heard; listing = unwalked; others = apart true }
+
+-- A new seat that knows what this one does of the history and of what is published.
 abbrev pub copy_of : View → View
-copy_of v = record { number = 0; slots = 0; made = 0; front = v.front; own = fresh; combiner = no_combiner 0; heard = v.heard; listing = unwalked; others = apart true }
+copy_of v = copy_with v v.heard
+
+-- A new seat that knows the front of the history that this one knows.
+abbrev pub front_copy_of : View → View
+front_copy_of v = copy_with v []
 
 -- The larger element at each index.
 abbrev pub maxes : List ℕ → List ℕ → List ℕ
@@ -392,7 +413,7 @@ maxes (x ∷ xs) (y ∷ ys) = max x y ∷ maxes xs ys
 abbrev pub joined : View → View → View
 joined v w = as_hearer v v.front (maxes v.heard w.heard) (record { all_made = v.others.all_made || w.others.all_made; beside = w.front; handed = v.others.handed })
 
--- the longer of two fronts
+-- The longer of two fronts of the history; the first if both are as long.
 abbrev pub longer : List Entry → List Entry → List Entry
 longer f g = cond (nat_lt (length f) (length g)) g f
 
@@ -400,13 +421,15 @@ longer f g = cond (nat_lt (length f) (length g)) g f
 abbrev pub learning : View → View
 learning v = as_hearer v (longer v.front v.others.beside) v.heard v.others
 
--- What a seat learns from another: the longer front is legal and continues both fronts, and nobody has heard of more
--- calls of this session than it has announced.
+-- What a seat learns from another: the longer front is legal and continues both fronts; it has the calls that the session
+-- collected, or those and its pending call, if the known front has; and nobody has heard of more calls of this session
+-- than it has announced.
 pub record Learned (v : View) : Type 0 where
   pub legal : IsLegal (longer v.front v.others.beside)
   pub short : length (longer v.front v.others.beside) < 2 ^ 64
   pub mine : IsPrefix v.front (longer v.front v.others.beside)
   pub theirs : IsPrefix v.others.beside (longer v.front v.others.beside)
+  pub accounted : IsAccountedIn v.front v.number v.own.collected v.own.pending → IsAccountedIn (longer v.front v.others.beside) v.number v.own.collected v.own.pending
   pub heard : heard_of v v.number ≤ announced v.own
 
 -- Learn: the load that follows a join.
@@ -416,6 +439,16 @@ learns st m found n = (n ≡ (learning m.0, m.1)) × Learned m.0
 -- All three steps: split copy, join copy, learn.
 abbrev pub hearing : View → View → View
 hearing v w = learning (joined v (copy_of w))
+
+-- Compare: nothing changes. If the known front has the calls that the session collected, or those and its pending call, so
+-- has the longer of its front and the one beside it.
+abbrev pub compares : Kind
+compares st m found n = (n ≡ m) × (IsAccountedIn m.0.front m.0.number m.0.own.collected m.0.own.pending
+    → IsAccountedIn (longer m.0.front m.0.others.beside) m.0.number m.0.own.collected m.0.own.pending)
+
+-- The seat after it compared another's front with its own: it notes that front beside its own, and learns nothing else.
+abbrev pub comparing : View → View → View
+comparing v w = as_hearer v v.front v.heard (record { all_made = v.others.all_made || true; beside = w.front; handed = v.others.handed })
 
 -- Retire.
 

@@ -26,11 +26,11 @@ fresh = record { started = false; retired = false; pending = None; collected = [
 
 -- A session that isn't the combiner, and has opened no record.
 abbrev pub no_combiner : ℕ → Combiner
-no_combiner slots = record { has_book = false; opened = replicate slots None; hand = 0 }
+no_combiner slots = record { has_book = false; opened = replicate slots None; hand = 0; put_backs = 0 }
 
 -- Nothing is known of the publication list.
 abbrev pub unwalked : Listing
-unwalked = record { head_seen = None; route = []; off = 0; before = 0 }
+unwalked = record { head_seen = None; route = []; off = 0; before = 0; tries = 0 }
 
 -- Nothing is known of other seats except whether all sessions are made.
 abbrev pub apart : Bool → Others
@@ -142,13 +142,15 @@ pub data RecordState (h : List Entry) (i w : ℕ) (slot : opt.Option SlotValue) 
 -- The book (the lock table with its history), and the opened records.
 
 -- A load that may go back into the lock's slot: the book has this history and one session fewer than there are slots,
--- the row is empty and has room for one item a session, and there is one age a session.
+-- the row is empty and has room for one item a session, and there is one age a session, none of them beyond the number of
+-- passes.
 pub record IsHome (h : List Entry) (slots : ℕ) (l : Load) : Type 0 where
   pub history : l.book.history ≡ h
   pub sessions : l.book.sessions + 1 ≡ slots
   pub empty : vec_len l.row ≡ 0
   pub room : l.book.sessions ≤ vec_capacity l.row
   pub ages : vec_len l.ages ≡ l.book.sessions
+  pub past : (i : ℕ) → slice_index l.ages.items i ≤ l.passes
 
 -- Session k is the combiner: the lock word is its number, and it knows the whole history.
 pub record HasBook (h : List Entry) (lock k : ℕ) (v : View) : Type 0 where

@@ -10,7 +10,7 @@ use Rattle.publication.specs.Words.{word_of}
 use Rattle.publication.specs.Views.{Pending}
 use Rattle.publication.specs.Rule.{blank, maker, new_session, BoardState}
 use Rattle.publication.specs.List.{IsRuled}
-use Rattle.publication.specs.Kinds.{Seated, Kind, starts, posts, looks_at_head, links, enlists, looks_for_reply, takes_reply, looks_at_lock, seizes, releases, walks, walks_on, unlinks, marks_out, relinks, looks_at_record, opened_in, opens, lays, picks, answers, puts_back, copy_of, joined, learns, retires, leaves, gathered}
+use Rattle.publication.specs.Kinds.{Seated, Kind, starts, posts, looks_at_head, links, enlists, looks_for_reply, takes_reply, looks_at_lock, seizes, releases, walks, walks_on, unlinks, marks_out, relinks, looks_at_record, opened_in, opens, lays, picks, answers, puts_back, copy_of, front_copy_of, joined, learns, compares, retires, leaves, gathered}
 use Rattle.publication.specs.Exclusion.{HasCollected}
 use Rattle.publication.specs.declared.view.View.{View}
 use Rattle.publication.specs.declared.slot.Load.{Load}
@@ -41,6 +41,7 @@ pub data StepName : Type 0 where
   answer_record : StepName
   put_back : StepName
   learn : StepName
+  compare : StepName
   retire : StepName
   leave : StepName
 
@@ -68,6 +69,7 @@ kind_of pick = picks
 kind_of answer_record = answers
 kind_of put_back = puts_back
 kind_of learn = learns
+kind_of compare = compares
 kind_of retire = retires
 kind_of leave = leaves
 
@@ -126,7 +128,7 @@ pub record IsStep (name : StepName) (s t : BoardState) : Type 0 where
   pub told : kind_of name (step (length s.homes) at first second opt.none) before (slice_index s.words at) after
   pub is : t ≡ stepped s at put id before.1 after.0 act
 
--- A seat is split: seat 0 makes a session, or a copy of what a seat knows is made.
+-- A seat is split: seat 0 makes a session, or a copy is made of what a seat knows, or of the front that it knows.
 pub record IsSeatSplit (s t : BoardState) : Type 0 where
   pub id : ℕ
   pub view : View
@@ -134,7 +136,7 @@ pub record IsSeatSplit (s t : BoardState) : Type 0 where
   pub right : View
   pub seated : get_elem? s.views id ≡ opt.some view
   pub cut : ((view ≡ maker view.slots view.made) × (left ≡ maker view.slots (view.made + 1)) × (right ≡ new_session view.slots (view.made + 1)))
-      ⊎ ((left ≡ view) × (right ≡ copy_of view))
+      ⊎ ((left ≡ view) × ((right ≡ copy_of view) ⊎ (right ≡ front_copy_of view)))
   pub is : t ≡ record { words = s.words; homes = s.homes; views = slice_set s.views id left ++ right ∷ [] }
 
 -- A seat is joined into another and ends: a copy of what a seat knows; or, into the closing seat, which is no session's,

@@ -2,12 +2,12 @@
 -- shared words. It carries the slots that it has taken out of the table, and it has a view: a ghost value that says
 -- what the seat's steps have shown. A view exists in proofs only and takes no memory. BoardView and TicketView are
 -- what contracts see of a board and of a ticket.
-use Rattle.std.specs.Prelude.{ℕ, Bool, List, Option}
+use Rattle.std.specs.Prelude.{◌≡◌, ◌⊎◌, ℕ, ◌≤◌, Bool, Option, Some, List, [], ◌∷◌, ◌++◌}
 use Rattle.atomic_table.specs.Seated.{TableId}
 use Rattle.lock_rules.specs.declared.calls.Call.{Call}
 use Rattle.lock_rules.specs.declared.calls.Reply.{Reply}
 use Rattle.lock_rules.specs.declared.calls.Entry.{Entry}
-use Rattle.lock_rules.specs.Legal.{Answered}
+use Rattle.lock_rules.specs.Legal.{Answered, calls_of}
 
 -- A call that its session has published and not collected yet. `floor` is the number of history entries that the
 -- session knew when it published the call.
@@ -37,6 +37,8 @@ pub record Combiner : Type 0 where
   pub opened : List (Option Call)
   -- the number of the record whose slot the combiner has taken out of the table, or 0 for none
   pub hand : ℕ
+  -- how many calls that it had opened it posted again, since it is a session
+  pub put_backs : ℕ
 
 -- What a seat knows of the publication list.
 pub record Listing : Type 0 where
@@ -49,6 +51,8 @@ pub record Listing : Type 0 where
   pub off : ℕ
   -- the record that was in front of `off`
   pub before : ℕ
+  -- how often the session has tried to exchange the head word, to have its call listed
+  pub tries : ℕ
 
 -- A session whose ticket was handed in to close the board.
 pub record Handed : Type 0 where
@@ -97,6 +101,10 @@ pub record TicketView : Type 0 where
   pub listed : Bool
   -- the records that the walk of the publication list meets
   pub route : List ℕ
+  -- how often the session has tried to have a call listed: one exchange of the head word each
+  pub tries : ℕ
+  -- how many calls that it had opened as the combiner it posted again
+  pub put_backs : ℕ
 
 -- What contracts see of a session's knowledge that travels apart from its ticket.
 pub record KnowledgeView : Type 0 where
@@ -118,3 +126,10 @@ answer place call reply = record { place = place; call = call; reply = reply }
 -- A pending call, published when its session knew `floor` entries of the history.
 abbrev pub asks : Call → ℕ → Pending
 asks call floor = record { call = call; floor = floor }
+
+-- The calls of session i in the history are those that it collected, or those and its pending call, at a place not below
+-- the number of entries that the session knew when it published that call.
+abbrev pub IsAccountedIn : List Entry → ℕ → List Answered → Option Pending → Type 0
+IsAccountedIn h i answers pending = (calls_of i h ≡ answers)
+    ⊎ ((call : Call) × (floor : ℕ) × (place : ℕ) × (reply : Reply) × (pending ≡ Some (asks call floor)) × (floor ≤ place)
+    × (calls_of i h ≡ answers ++ answer place call reply ∷ []))

@@ -1,6 +1,6 @@
 //! The board and its tickets.
 
-ghost use Rattle.std.specs.Prelude.{◌≡◌, ◌≢◌, ◌+◌, ◌-◌, ◌<◌, ◌≤◌, ◌∷◌, ◌++◌, [], true, false, Some, None, IfOk, IfErr, IfSome, IfNone, length, map, max, cond, All, IsTrue, ◌↔◌};
+ghost use Rattle.std.specs.Prelude.{◌≡◌, ◌≢◌, ◌⊎◌, ◌+◌, ◌-◌, ◌<◌, ◌≤◌, ◌∷◌, ◌++◌, [], true, false, Some, None, IfOk, IfErr, IfSome, IfNone, length, map, max, cond, All, IsTrue, ◌↔◌};
 ghost use mathlib.Core.List.{IsPrefix};
 ghost use Rattle.atomic_table.specs.Table.{turned};
 ghost use Rattle.lock_rules.specs.Legal.{IsLegal, calls_of};
@@ -8,7 +8,7 @@ ghost use Rattle.publication.specs.inner.Tickets.{IsBoard};
 ghost use Rattle.publication.specs.Views.{entry, answer, asks};
 ghost use Rattle.publication.specs.Rule.{maker, new_session};
 ghost use Rattle.publication.specs.Kinds.{Took};
-ghost use Rattle.publication.specs.Boards.{IsOf, heard_from, published_by, new_ticket, new_tickets, publishing, enlisted, IsEachOnce, IsSettled, AccountsFor};
+ghost use Rattle.publication.specs.Boards.{IsOf, heard_from, published_by, new_ticket, new_tickets, publishing, enlisted, tried, IsUnlisted, IsEachOnce, IsSettled, AccountsFor};
 ghost use Rattle.publication.specs.inner.Closing.{is_settled, handed_by, WereHanded, AreEnded};
 
 mod combiner;
@@ -114,7 +114,7 @@ impl Ticket {
 
     /// Whether the session has a call pending that isn't listed.
     pub fn is_unlisted(&self) -> bool
-        ensures { IsTrue result ↔ ((self.now.pending ≢ None) × (self.now.listed ≡ false)) }
+        ensures { IsTrue result ↔ IsUnlisted self.now }
     {
         self.is_pending && !self.is_listed
     }
@@ -250,38 +250,50 @@ impl Board {
         ticket.is_pending = true;
     }
 
-    /// Publishes a call of the ticket's session; the call is pending from then on. Returns `Unlisted` if the record
-    /// wasn't on the publication list and the exchange of the head word was lost.
-    pub fn post(&self, ticket: &mut Ticket, call: Call) -> Posted
+    /// Tries once to have the pending call, which isn't listed, listed: one exchange of the head word.
+    fn exchange_head(&self, ticket: &mut Ticket)
         requires ours { IsOf self.now ticket.old }
-        requires idle { (ticket.old.pending ≡ None) × (ticket.old.retired ≡ false) }
-        ensures listed { result ≡ Posted.Listed → ticket.new ≡ enlisted (publishing ticket.old call) }
-        ensures heard { result ≡ Posted.Listed → heard_from ticket.new ticket.new.number ≡ length ticket.new.collected + 1 }
-        ensures unlisted { result ≡ Posted.Unlisted → (ticket.new ≡ publishing ticket.old call) × (1 < self.now.sessions) }
-    {
-        self.publish_call(ticket, call);
-        self.enlist(ticket)
-    }
-
-    /// Tries once more to have the pending call listed: one exchange of the head word. Returns `Listed` at once if
-    /// the call is listed already, and `Unlisted` if the exchange was lost.
-    pub fn enlist(&self, ticket: &mut Ticket) -> Posted
-        requires ours { IsOf self.now ticket.old }
-        requires pending { ticket.old.pending ≢ None }
+        requires unlisted { IsUnlisted ticket.old }
         ensures rises { (j : _) → heard_from ticket.old j ≤ heard_from ticket.new j }
-        ensures at_once { ticket.old.listed ≡ true → (result ≡ Posted.Listed) × (ticket.new ≡ ticket.old) }
-        ensures listed { result ≡ Posted.Listed → ticket.new ≡ enlisted ticket.old }
-        ensures heard { result ≡ Posted.Listed → heard_from ticket.new ticket.new.number ≡ published_by ticket.new }
-        ensures unlisted { result ≡ Posted.Unlisted → (ticket.new ≡ ticket.old) × (ticket.old.listed ≡ false) × (1 < self.now.sessions) }
+        ensures listed { ticket.new.listed ≡ true → ticket.new ≡ tried (enlisted ticket.old) }
+        ensures heard { ticket.new.listed ≡ true → heard_from ticket.new ticket.new.number ≡ published_by ticket.new }
+        ensures unlisted { ticket.new.listed ≡ false → (ticket.new ≡ tried ticket.old) × (1 < self.now.sessions) }
     {
-        if ticket.is_listed {
-            return Posted::Listed;
-        }
         ticket.is_listed = steps::enlist_record(
             &self.table.shared,
             &mut ticket.seat,
             usize::from(ticket.number),
         );
+    }
+
+    /// Publishes a call of the ticket's session; the call is pending from then on. If the record wasn't on the
+    /// publication list, it tries once to exchange the head word, and returns `Unlisted` if the exchange was lost.
+    pub fn post(&self, ticket: &mut Ticket, call: Call) -> Posted
+        requires ours { IsOf self.now ticket.old }
+        requires idle { (ticket.old.pending ≡ None) × (ticket.old.retired ≡ false) }
+        ensures listed { result ≡ Posted.Listed → (ticket.new ≡ enlisted (publishing ticket.old call)) ⊎ (ticket.new ≡ tried (enlisted (publishing ticket.old call))) }
+        ensures heard { result ≡ Posted.Listed → heard_from ticket.new ticket.new.number ≡ length ticket.new.collected + 1 }
+        ensures unlisted { result ≡ Posted.Unlisted → (ticket.new ≡ tried (publishing ticket.old call)) × (1 < self.now.sessions) }
+    {
+        self.publish_call(ticket, call);
+        self.enlist(ticket)
+    }
+
+    /// Tries once more to have the pending call listed: one exchange of the head word, which counts as a try. Returns
+    /// `Listed` at once if the call is listed already, and `Unlisted` if the exchange was lost.
+    pub fn enlist(&self, ticket: &mut Ticket) -> Posted
+        requires ours { IsOf self.now ticket.old }
+        requires pending { ticket.old.pending ≢ None }
+        ensures rises { (j : _) → heard_from ticket.old j ≤ heard_from ticket.new j }
+        ensures at_once { ticket.old.listed ≡ true → (result ≡ Posted.Listed) × (ticket.new ≡ ticket.old) }
+        ensures listed { result ≡ Posted.Listed → ticket.old.listed ≡ false → ticket.new ≡ tried (enlisted ticket.old) }
+        ensures heard { result ≡ Posted.Listed → heard_from ticket.new ticket.new.number ≡ published_by ticket.new }
+        ensures unlisted { result ≡ Posted.Unlisted → (ticket.new ≡ tried ticket.old) × (ticket.old.listed ≡ false) × (1 < self.now.sessions) }
+    {
+        if ticket.is_listed {
+            return Posted::Listed;
+        }
+        self.exchange_head(ticket);
         if ticket.is_listed {
             Posted::Listed
         } else {

@@ -231,6 +231,17 @@ impl Split<View> for SplitCopy {
     ghost right = { copy_of };
 }
 
+/// A copy of the front that a seat knows is split off it.
+pub struct SplitFront;
+
+impl Split<View> for SplitFront {
+    ghost use Rattle.publication.specs.Kinds.{front_copy_of};
+
+    ghost left = { λ v. v };
+
+    ghost right = { front_copy_of };
+}
+
 /// A seat takes in such a copy.
 pub struct JoinCopy;
 
@@ -250,6 +261,15 @@ impl Play<SlotValue, View> for Learn {
     ghost use Rattle.publication.specs.Kinds.{learns};
 
     ghost then = { learns };
+}
+
+/// A session compares the front that it knows with the one of a copy that it took in.
+pub struct Compare;
+
+impl Play<SlotValue, View> for Compare {
+    ghost use Rattle.publication.specs.Kinds.{compares};
+
+    ghost then = { compares };
 }
 
 /// A session publishes no more calls.

@@ -17,14 +17,14 @@ ghost use Rattle.lock_rules.specs.declared.calls.Entry.{Entry};
 ghost use Rattle.lock_rules.specs.declared.calls.Reply.{Reply};
 ghost use Rattle.lock_rules.specs.declared.calls.Why.{Why};
 ghost use Rattle.lock_rules.specs.Legal.{Answered, IsLegal, state_of, calls_of};
-ghost use Rattle.lock_rules.specs.Laws.{HoldsAtLeast};
-ghost use Rattle.publication.specs.Views.{Pending, answer, asks};
+ghost use Rattle.lock_rules.specs.Laws.{HoldsAtLeast, GoTogether};
+ghost use Rattle.publication.specs.Views.{Pending, IsAccountedIn, answer, asks};
 ghost use Rattle.publication.specs.Rule.{BoardState, seat, IsHome};
 ghost use Rattle.publication.specs.List.{IsRuled};
 ghost use Rattle.publication.specs.Kinds.{Seated};
 ghost use Rattle.publication.specs.HoldsAsTold.{AsksFor, KeepsLock, KeptLock, HoldsAsTold, ReadsAsTold, WritesAsTold};
 ghost use Rattle.publication.specs.Exclusion.{HasCollected, ToldModesGoTogether, IsToldExclusive, IsToldAccessCompatible};
-ghost use Rattle.publication.specs.BoardHistory.{new_board, history_of, IsAppended, IsAccountedIn, IsAccounted};
+ghost use Rattle.publication.specs.BoardHistory.{new_board, history_of, IsAppended, IsAccounted};
 ghost use Rattle.publication.specs.Runs.{StepName, answer_record, kind_of, StepRequires, CarriesOnlyItsOwn, IsStep, IsSeatSplit, IsSeatJoin, IsRun, calls_published, RespectsRealTime};
 ghost use Rattle.publication.specs.declared.slot.Load.{Load};
 ghost use Rattle.publication.specs.declared.slot.SlotValue.{SlotValue};
@@ -68,10 +68,14 @@ pub fn what_is_told_is_held()
 }
 
 /// For a caller that has one legal history with the calls of two sessions: those that each collected, or those and its
-/// pending call, at a place not below its floor. If one session was told that it may write a resource, outright or
-/// through an ancestor, the other was not told that it may read or write it.
+/// pending call, at a place not below its floor. The modes in which both were told that they hold one resource go
+/// together. If one session was told that it may write a resource, outright or through an ancestor, the other was not told
+/// that it may read or write it.
 pub fn one_history_tells_what_goes_together()
-    ensures { (history : List Entry) (i j : ℕ) (mine theirs : List Answered) (my_pending their_pending : Option Pending) (x : List ℕ) →
+    ensures modes { (history : List Entry) (i j : ℕ) (mine theirs : List Answered) (my_pending their_pending : Option Pending) (r : List ℕ) (m k : Mode) →
+        IsLegal history → i ≢ j → IsAccountedIn history i mine my_pending → IsAccountedIn history j theirs their_pending →
+        HoldsAsTold mine my_pending r m → HoldsAsTold theirs their_pending r k → GoTogether m k }
+    ensures access { (history : List Entry) (i j : ℕ) (mine theirs : List Answered) (my_pending their_pending : Option Pending) (x : List ℕ) →
         IsLegal history → i ≢ j → IsAccountedIn history i mine my_pending → IsAccountedIn history j theirs their_pending →
         WritesAsTold mine my_pending x → ReadsAsTold theirs their_pending x ⊎ WritesAsTold theirs their_pending x → ⊥ }
 {
@@ -79,9 +83,9 @@ pub fn one_history_tells_what_goes_together()
 }
 
 /// Mutual exclusion between any two atomic steps, whatever calls are posted, opened or served at that moment. No two
-/// sessions of a board were told that they hold one resource in modes that conflict. If a session was told that it may
-/// write a resource, outright or through an ancestor, no other was told that it may read or write it. A lock no longer
-/// counts from the step on that publishes a call which may give it back.
+/// sessions of a board were told that they hold one resource in modes that conflict in both orders. If a session was
+/// told that it may write a resource, outright or through an ancestor, no other was told that it may read or write it.
+/// A lock no longer counts from the step on that publishes a call which may give it back.
 pub fn sessions_are_told_what_goes_together()
     ensures modes { (s : BoardState) → IsRuled s → ToldModesGoTogether s }
     ensures exclusive { (s : BoardState) → IsRuled s → IsToldExclusive s }

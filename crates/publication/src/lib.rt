@@ -13,6 +13,7 @@ mod board;
 mod closing;
 mod kinds;
 pub mod laws;
+pub mod list_laws;
 mod new_board;
 mod slot;
 mod steps;

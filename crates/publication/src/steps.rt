@@ -1,18 +1,19 @@
 //! The moves of a seat on the board: each takes one atomic step or a few, and its contract says what the seat knows
 //! and carries before and after.
 ghost use Rattle.std.specs.Prelude.{◌≡◌, ◌≢◌, ◌+◌, ◌^◌, ◌<◌, ◌∷◌, ◌++◌, [], true, false, Some, None, IfSome, IfNone, length, is_some};
+ghost use mathlib.Core.List.{IsPrefix};
 ghost use Rattle.atomic_table.specs.Table.{rest};
 ghost use Rattle.lock_rules.specs.Legal.{IsLegal};
-ghost use Rattle.publication.specs.Views.{entry};
+ghost use Rattle.publication.specs.Views.{IsAccountedIn, entry};
 ghost use Rattle.publication.specs.Rule.{IsHome};
 ghost use Rattle.publication.specs.List.{IsOn, AreApart, first_of, behind};
-ghost use Rattle.publication.specs.Kinds.{IsUnanswered, HasOthers, HasAnother, HasEntered, opened_in, call_at, posting, enlisting, losing_head, routing, bypassing, none_unlinked, relinking, IsRoute, MeetsAll, HasTaken, Seized, seizing, releasing, opening, Opened, in_hand, answering, putting_back, copy_of, joined, hearing, Learned, retiring, gathered};
+ghost use Rattle.publication.specs.Kinds.{IsUnanswered, HasOthers, HasAnother, HasEntered, opened_in, call_at, posting, enlisting, losing_head, routing, bypassing, none_unlinked, relinking, IsRoute, MeetsAll, HasTaken, Seized, seizing, releasing, opening, Opened, in_hand, answering, putting_back, copy_of, joined, hearing, comparing, Learned, retiring, gathered};
 ghost use Rattle.publication.specs.inner.Tickets.{IsBoard, IsAt, IsCombiner};
 
 use crate::kinds::{
-    Answer, BoardRule, Enlist, Gather, JoinCopy, Lay, Learn, Leave, Link, LookAtHead, LookAtLock,
-    LookAtRecord, LookForReply, MarkOut, Open, Pick, Post, PutBack, Release, Relink, Retire, Seize,
-    SplitCopy, Take, Unlink, Walk, WalkOn,
+    Answer, BoardRule, Compare, Enlist, Gather, JoinCopy, Lay, Learn, Leave, Link, LookAtHead,
+    LookAtLock, LookAtRecord, LookForReply, MarkOut, Open, Pick, Post, PutBack, Release, Relink,
+    Retire, Seize, SplitCopy, SplitFront, Take, Unlink, Walk, WalkOn,
 };
 use crate::slot::{Load, SlotValue};
 use crate::view::View;
@@ -331,6 +332,7 @@ pub(crate) fn answer_record(shared: &Shared, seat: &mut Seat, at: usize, place: 
     requires legal { IsLegal (seat.old.me.0.front ++ entry at (call_at seat.old.me.0 at) reply ∷ []) }
     ensures ours { seat.new.table_id ≡ seat.old.table_id }
     ensures step { seat.new.me ≡ (answering seat.old.me.0 at (call_at seat.old.me.0 at) reply, seat.old.me.1) }
+    ensures accounted { IsAccountedIn seat.new.me.0.front seat.new.me.0.number seat.new.me.0.own.collected seat.new.me.0.own.pending }
 {
     shared.load::<Pick>(seat, at * WORDS_APART);
     drop(shared.exchange(seat, at, SlotValue::ServedReply(place, reply)));
@@ -393,6 +395,27 @@ pub(crate) fn hear_seat(shared: &Shared, seat: &mut Seat, other: &mut Seat)
 {
     let copy = split_copy(shared, other);
     heed_seat(shared, seat, copy);
+}
+
+/// Shows a session that the longer front which another seat knows has the calls that the session collected, or those and
+/// its pending call. A copy of that front is joined into the session's seat, which learns nothing else; a load afterwards
+/// shows it.
+pub(crate) fn compare_fronts(shared: &Shared, seat: &mut Seat, other: &mut Seat)
+    requires ours { (seat.old.table_id ≡ shared.now.table_id) × (other.old.table_id ≡ shared.now.table_id) }
+    requires board { IsBoard shared.now.table_id }
+    requires session { 0 < seat.old.me.0.number }
+    requires made { other.old.me.0.others.all_made ≡ true }
+    requires longer { IsPrefix seat.old.me.0.front other.old.me.0.front }
+    requires accounted { IsAccountedIn seat.old.me.0.front seat.old.me.0.number seat.old.me.0.own.collected seat.old.me.0.own.pending }
+    ensures ours { seat.new.table_id ≡ seat.old.table_id }
+    ensures theirs { (other.new.table_id ≡ other.old.table_id) × (other.new.id ≡ other.old.id) }
+    ensures other { other.new.me ≡ other.old.me }
+    ensures step { seat.new.me ≡ (comparing seat.old.me.0 other.old.me.0, seat.old.me.1) }
+    ensures accounted { IsAccountedIn other.old.me.0.front seat.old.me.0.number seat.old.me.0.own.collected seat.old.me.0.own.pending }
+{
+    let copy = shared.split_seat::<SplitFront>(other);
+    shared.join_seat::<JoinCopy>(seat, copy);
+    shared.load::<Compare>(seat, 0);
 }
 
 /// Closes the session's own record: it publishes no more calls.

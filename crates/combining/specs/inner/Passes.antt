@@ -55,6 +55,12 @@ pub record IsSameSession (before after : TicketView) : Type 0 where
   pub same : after ≡ record before { front = after.front; opened = after.opened; route = after.route }
   pub wide : length after.opened ≡ length before.opened
 
+-- The same session once its row is answered or put back: beside what a step of its pass changes, it may have put calls
+-- back.
+pub record IsAfterRow (before after : TicketView) : Type 0 where
+  pub same : after ≡ record before { front = after.front; opened = after.opened; route = after.route; put_backs = after.put_backs }
+  pub wide : length after.opened ≡ length before.opened
+
 -- The combiner's book: its history is the one that the combiner knows, followed by the entries of the calls that were
 -- performed and not answered yet, which are those of `unanswered`, in order.
 pub record IsBookInHand (sessions : ℕ) (book : BookView) (t : TicketView) (unanswered : List Item) : Type 0 where

@@ -27,11 +27,13 @@ ticket_view_of t = record {
   pending = t.seat.me.0.own.pending;
   collected = t.seat.me.0.own.collected;
   heard = t.seat.me.0.heard;
-  retired = t.is_retired;
+  retired = t.seat.me.0.own.retired;
   has_book = t.has_book;
   opened = t.seat.me.0.combiner.opened;
   listed = t.is_listed;
   route = t.seat.me.0.listing.route;
+  tries = t.seat.me.0.listing.tries;
+  put_backs = t.seat.me.0.combiner.put_backs;
 }
 
 -- The ticket's number is one of the board's sessions, and its seat is in the state that its fields record.

@@ -5,6 +5,7 @@ use lib.ListN.{get_elem?}
 use Rattle.atomic_table.specs.Seated.{TableId}
 use Rattle.atomic_table.specs.declared.shared.Seat.{Seat}
 use Rattle.publication.specs.Words.{word_of}
+use Rattle.publication.specs.Views.{IsAccountedIn}
 use Rattle.publication.specs.Rule.{new_session}
 use Rattle.publication.specs.Kinds.{Seated}
 use Rattle.publication.specs.declared.view.View.{View}
@@ -35,6 +36,7 @@ pub record IsBetweenCalls (m : Seated) (number seen : ℕ) (has_book is_pending 
   pub heard : is_pending ≡ true → is_listed ≡ true → slice_index m.0.heard number ≡ length m.0.own.collected + 1
   pub wide : number < length m.0.heard
   pub all_made : m.0.others.all_made ≡ true
+  pub accounted : IsAccountedIn m.0.front m.0.number m.0.own.collected m.0.own.pending
   pub no_head_seen : m.0.listing.head_seen ≡ None
   pub whole : m.0.listing.off ≡ 0
   pub routed : has_book ≡ false → m.0.listing.route ≡ []

@@ -8,7 +8,7 @@ ghost use Rattle.publication.specs.Views.{entry, answer};
 ghost use Rattle.publication.specs.Rule.{IsHome};
 ghost use Rattle.publication.specs.List.{IsOn, first_of, behind, without};
 ghost use Rattle.publication.specs.Kinds.{IsRoute};
-ghost use Rattle.publication.specs.Boards.{IsOf, IsNumber, OpensNone, opened_at, asked_at, heard_from, published_by};
+ghost use Rattle.publication.specs.Boards.{IsOf, HasCallsOf, IsNumber, OpensNone, opened_at, asked_at, heard_from, published_by};
 
 use crate::board::{Board, Ticket};
 use crate::slot::Load;
@@ -32,6 +32,7 @@ impl Board {
         ensures others { IfNone result (ticket.old.has_book ≡ false → 1 < self.now.sessions) }
         ensures number { IsNumber self.now ticket.old.number }
         ensures own { ticket.old.pending ≢ None → ticket.old.listed ≡ true → heard_from ticket.old ticket.old.number ≡ published_by ticket.old }
+        ensures calls { HasCallsOf ticket.new.front ticket.new }
     {
         let load = steps::seize_load(
             &self.table.shared,
@@ -51,6 +52,7 @@ impl Board {
         requires none { OpensNone ticket.old }
         requires home { IsHome ticket.old.front (self.now.sessions + 1) load.value }
         ensures ticket { ticket.new ≡ record ticket.old { has_book = false; route = [] } }
+        ensures calls { HasCallsOf ticket.new.front ticket.new }
     {
         steps::release_load(&self.table.shared, &mut ticket.seat, load);
         ticket.has_book = false;
@@ -145,7 +147,7 @@ impl Board {
         requires has { ticket.old.has_book ≡ true }
         requires whose { IsNumber self.now whose }
         requires opened { opened_at ticket.old whose ≡ Some call }
-        ensures ticket { ticket.new ≡ record ticket.old { opened = slice_set ticket.old.opened whose None } }
+        ensures ticket { ticket.new ≡ record ticket.old { opened = slice_set ticket.old.opened whose None; put_backs = ticket.old.put_backs + 1 } }
     {
         steps::put_back_record(
             &self.table.shared,

@@ -4,7 +4,7 @@ ghost use Rattle.std.specs.Prelude.{◌≡◌, length, max, slice_index};
 ghost use mathlib.Core.List.{IsPrefix};
 ghost use Rattle.lock_rules.specs.Legal.{IsLegal};
 ghost use Rattle.publication.specs.Kinds.{longer, maxes};
-ghost use Rattle.publication.specs.Boards.{IsOf, heard_from, known_by};
+ghost use Rattle.publication.specs.Boards.{IsOf, HasCallsOf, heard_from, known_by};
 
 use crate::board::{Board, Ticket};
 use crate::steps;
@@ -64,6 +64,7 @@ impl Board {
         ensures fronts { IsPrefix ticket.old.front ticket.new.front × IsPrefix knowledge.front ticket.new.front }
         ensures legal { IsLegal ticket.new.front }
         ensures heard { (j : _) → heard_from ticket.new j ≡ max (heard_from ticket.old j) (slice_index knowledge.heard j) }
+        ensures calls { HasCallsOf ticket.new.front ticket.new }
     {
         let Knowledge { seat, seen } = knowledge;
         steps::heed_seat(&self.table.shared, &mut ticket.seat, seat);
@@ -82,8 +83,11 @@ impl Board {
         ensures fronts { IsPrefix ticket.old.front ticket.new.front × IsPrefix other.old.front ticket.new.front }
         ensures legal { IsLegal ticket.new.front }
         ensures heard { (j : _) → heard_from ticket.new j ≡ max (heard_from ticket.old j) (heard_from other.old j) }
+        ensures calls { HasCallsOf ticket.new.front ticket.new × HasCallsOf ticket.new.front other.new }
     {
         let knowledge = self.knowledge(other);
         self.heed(ticket, knowledge);
+        // shows that the calls of `other` in the longer front are those that it knows of
+        steps::compare_fronts(&self.table.shared, &mut other.seat, &mut ticket.seat);
     }
 }

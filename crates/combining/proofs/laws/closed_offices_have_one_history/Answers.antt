@@ -7,6 +7,7 @@ use Rattle.combining.proofs.laws.closed_offices_have_one_history.Goals as goal
 pub returns : goal.returns
 returns c office sessions book closed = let h = book.history in record {
   replies = (c.histories_are_legal_by_steps.ensures.by_steps h).0 closed.legal;
+  modes = λ front rest _. c.holders_are_compatible.ensures front;
   access = λ front rest _. c.no_incompatible_access.ensures front;
   circles = λ front rest _. c.no_waits_form_a_circle.ensures front;
   lawful = λ front rest _. c.states_are_lawful.ensures front;

@@ -1,9 +1,10 @@
-use Rattle.std.proofs.Common.{◌≡◌, drop}
-use Rattle.combining.specs.inner.Passes.{AreOpened, IsSameSession}
+use Rattle.std.proofs.Common.{◌≡◌, ◌+◌, length, drop}
+use Rattle.combining.specs.inner.Passes.{AreOpened}
 use Rattle.combining.proofs.pass.put_back_row.Given as goal
 
 abbrev pub invariant-loop-item : goal.invariant-loop-item
 invariant-loop-item l = record {
-  same : IsSameSession l.initial.session l.session × (l.session.front ≡ l.initial.session.front);
+  same : l.session ≡ record l.initial.session { opened = l.session.opened; put_backs = l.initial.session.put_backs + l.item-index };
+  wide : length l.session.opened ≡ length l.initial.session.opened;
   row : AreOpened l.board.sessions l.session.opened (drop l.item-index l.row);
 }

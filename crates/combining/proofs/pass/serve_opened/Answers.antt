@@ -4,7 +4,8 @@ use Rattle.lock_rules.specs.declared.calls.Entry.{Entry}
 use Rattle.lock_desk.specs.declared.book.Item.{Item}
 use Rattle.lock_desk.specs.Batches.{IsItemWithin}
 use Rattle.combining.specs.inner.Ages.{sessions_of, sessions_since, noted}
-use Rattle.combining.proofs.SameSession.{same_session-trans}
+use Rattle.publication.specs.Views.{TicketView}
+use Rattle.combining.proofs.SameSession.{after_row}
 use Rattle.combining.proofs.CleanUpWalk.{first-within}
 use Rattle.combining.proofs.pass.serve_opened.Goals as goal
 
@@ -20,7 +21,9 @@ note_served-requires c =
 
 pub returns-clause-session : goal.returns-clause-session
 returns-clause-session c =
-    same_session-trans c.args.session.now c.serve_row-served.new.session c.put_back_row.new.session c.serve_row-served.ensures.session c.put_back_row.ensures.session.0
+    let after = c.serve_row-served.new.session in let last = c.put_back_row.new.session in
+    after_row c.args.session.now after last last.put_backs c.serve_row-served.ensures.session
+    (c.put_back_row.ensures.session ∙ ap (λ (n : ℕ). record after { opened = last.opened; put_backs = n }) (sym (ap (λ (t : TicketView). t.put_backs) c.put_back_row.ensures.session))) c.put_back_row.ensures.wide
 
 pub returns-clause-ages : goal.returns-clause-ages
 returns-clause-ages c =
@@ -28,7 +31,7 @@ returns-clause-ages c =
     let served = c.serve_row-served.result in
     let known = length c.args.session.now.front in
     let slice : row ≡ c.deref-2.result.now = search rules in
-    let same : c.put_back_row.new.session.front ≡ c.serve_row-served.new.session.front = c.put_back_row.ensures.session.1 in
+    let same : c.put_back_row.new.session.front ≡ c.serve_row-served.new.session.front = ap (λ (t : TicketView). t.front) c.put_back_row.ensures.session in
     c.note_served.ensures.ages
     ∙ ap (λ (js : List ℕ). noted c.args.load.now.ages.items js c.args.load.now.passes)
     (ap (λ (l : List Item). sessions_of (take served l)) (sym slice) ∙ (sym c.serve_row-served.ensures.whose ∙ ap (λ (f : List Entry). sessions_since known f) (sym same)))

@@ -1,7 +1,12 @@
-use Rattle.std.proofs.Common.{◌≡◌, ◌∙◌, List, sym, ap}
+use Rattle.std.proofs.Common.{rules, ◌≡◌, ◌≤◌, ◌∙◌, ◌++◌, ◌∷◌, ℕ, List, [], get_or, length, map, refl, subst, arith, append-nil, sym, ap}
 use Rattle.lock_rules.specs.declared.calls.Entry.{Entry}
+use Rattle.lock_desk.specs.BookView.{BookView}
+use Rattle.lock_desk.specs.Batches.{item_of}
 use Rattle.publication.specs.Views.{TicketView}
-use Rattle.combining.proofs.SameSession.{same_session-trans, same_session-none}
+use Rattle.combining.specs.inner.Passes.{IsBookInHand}
+use Rattle.combining.specs.inner.Ages.{sessions_since, noted}
+use Rattle.combining.proofs.NotedAges.{noted-past}
+use Rattle.combining.proofs.SameSession.{after_row-trans, after_row-none}
 use Rattle.combining.proofs.pass.serve_published.Goals as goal
 
 pub returns-clause-session : goal.returns-clause-session
@@ -10,8 +15,35 @@ returns-clause-session c =
     let opened = c.open_records.new.session in
     let after = c.serve_opened-pass.new.session in
     let last = c.clean_up.new.session in
-    let done : after ≡ record before { front = after.front; route = after.route } =
-    same_session-none before after (same_session-trans before opened after c.open_records.ensures.session.0 c.serve_opened-pass.ensures.session) c.requires.ours.2 c.serve_opened-pass.ensures.none in
+    let done : after ≡ record before { front = after.front; route = after.route; put_backs = after.put_backs } =
+    after_row-none before after (after_row-trans before opened after c.open_records.ensures.session.0 c.serve_opened-pass.ensures.session) c.requires.ours.2 c.serve_opened-pass.ensures.none in
     let cleaned : last ≡ record after { route = last.route } = c.clean_up.ensures.session in
     cleaned ∙ (ap (λ (t : TicketView). record t { route = last.route }) done
-    ∙ ap (λ (f : List Entry). record before { front = f; route = last.route }) (sym (ap (λ (t : TicketView). t.front) cleaned)))
+    ∙ ap (λ (k : List Entry × ℕ). record before { front = k.0; route = last.route; put_backs = k.1 }) (sym (ap (λ (t : TicketView). (t.front, t.put_backs)) cleaned)))
+
+-- Once each performed call is answered, the book's history is the one that the combiner knows.
+in_hand : (sessions : ℕ) (book : BookView) (t : TicketView) → IsBookInHand sessions book t [] → book.history ≡ t.front
+in_hand sessions book t b = b.history ∙ (ap (λ (es : List Entry). t.front ++ es) (none b.entries b.performed) ∙ append-nil t.front)
+  where
+    none : (es : List Entry) → [] ≡ map item_of es → es ≡ []
+    none [] e = refl
+    none (x ∷ xs) e = absurd (cc e)
+
+pub returns-clause-home : goal.returns-clause-home
+returns-clause-home c =
+    let old = c.args.load.now in
+    let load = c.serve_opened-pass.new.load in
+    let after = c.serve_opened-pass.new.session in
+    let since = sessions_since (length c.args.session.now.front) c.clean_up.new.session.front in
+    let ages : load.ages.items ≡ noted old.ages.items since load.passes = search rules in
+    let rises : old.passes ≤ load.passes = search rules in (
+      record {
+        history = in_hand c.args.board.now.sessions load.book after c.serve_opened-pass.ensures.book ∙ sym (ap (λ (t : TicketView). t.front) c.clean_up.ensures.session);
+        sessions = search rules;
+        empty = search rules;
+        room = search rules;
+        ages = search rules;
+        past = λ i. subst (λ (l : List ℕ). get_or l i 0 ≤ load.passes) (sym ages) (noted-past old.ages.items since load.passes (λ n. omega (arith, c.requires.home.0.past n, rises)) i);
+      },
+      search rules,
+    )

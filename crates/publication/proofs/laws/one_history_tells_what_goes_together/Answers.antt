@@ -8,10 +8,9 @@ use Rattle.lock_rules.specs.State.{State}
 use Rattle.lock_rules.specs.Legal.{Answered, IsLegal, state_of}
 use Rattle.lock_rules.specs.Laws.{DoesRefusalKeep, HoldsAtLeast, Reads, Writes}
 use Rattle.lock_rules.proofs.Lawful.{lawful}
-use Rattle.publication.specs.Views.{Pending, answer, asks}
+use Rattle.publication.specs.Views.{Pending, IsAccountedIn, answer, asks}
 use Rattle.publication.specs.HoldsAsTold.{KeptLock, HoldsAsTold, ReadsAsTold, WritesAsTold}
-use Rattle.publication.specs.BoardHistory.{IsAccountedIn}
-use Rattle.publication.proofs.ToldTogether.{told-held}
+use Rattle.publication.proofs.ToldTogether.{told-held, together-below}
 use Rattle.publication.proofs.laws.one_history_tells_what_goes_together.Goals as goal
 
 module _ (refuses : (st : State) → DoesRefusalKeep st) (h : List Entry) (legal : IsLegal h) where
@@ -31,8 +30,15 @@ module _ (refuses : (st : State) → DoesRefusalKeep st) (h : List Entry) (legal
       let d = hold i a p k t.resource t.mode t.told in
       (t.resource, t.over, (d.0, d.1, order-from X d.0 (at_or_below-trans X t.mode d.0 (order-tests t.writes) (order-tests d.2))))
 
-pub returns : goal.returns
-returns c h i j mine theirs my_pending their_pending x legal ne a b t u =
+pub returns-clause-modes : goal.returns-clause-modes
+returns-clause-modes c h i j mine theirs my_pending their_pending r m k legal ne a b t u =
+    let refuses = c.refusals_keep_the_state.ensures.keeps in
+    let x = hold refuses h legal i mine my_pending a r m t in
+    let y = hold refuses h legal j theirs their_pending b r k u in
+    together-below m x.0 k y.0 x.2 y.2 ((lawful h).holders_compatible i j r x.0 y.0 ne x.1 y.1)
+
+pub returns-clause-access : goal.returns-clause-access
+returns-clause-access c h i j mine theirs my_pending their_pending x legal ne a b t u =
     let refuses = c.refusals_keep_the_state.ensures.keeps in
     (lawful h).access_compatible i j x ne (writes refuses h legal i mine my_pending x a t) (elim u [
       | inl k ↦ inl (reads refuses h legal j theirs their_pending x b k)

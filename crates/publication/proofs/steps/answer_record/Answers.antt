@@ -40,4 +40,4 @@ returns-clause-step c =
     let at = c.args.at in
     let held : SlotValue = ServedReply c.args.place c.args.reply in
     let after = in_hand_with at m c.load.new.seat.me c.exchange.new.seat.me held c.load.ensures.2 c.exchange.ensures.3 in
-    c.store.ensures.2 ∙ ap (λ (x : Seated). (answering x.0 x.0.combiner.hand (call_at x.0 x.0.combiner.hand) (replied x.1), rest x.1)) after
+    c.store.ensures.2.0 ∙ ap (λ (x : Seated). (answering x.0 x.0.combiner.hand (call_at x.0 x.0.combiner.hand) (replied x.1), rest x.1)) after

@@ -44,5 +44,5 @@ returns-clause-kept c =
     let more = c.args.seat.now.me.1 in
     let me = c.mark_out.ensures.in_use (search rules) ∙ c.bypass_record.ensures.step in λ _.
     c.relink_record.ensures.step ∙ (ap (λ (x : Seated). (relinking x.0, x.1)) me
-    ∙ ap (λ (r : List ℕ). (Rattle.publication.specs.Kinds.as_session v v.front v.own v.heard (record { head_seen = v.listing.head_seen; route = r; off = 0; before = 0 }), more))
+    ∙ ap (λ (r : List ℕ). (Rattle.publication.specs.Kinds.as_session v v.front v.own v.heard (record { head_seen = v.listing.head_seen; route = r; off = 0; before = 0; tries = v.listing.tries }), more))
     (same_route c.args.before c.args.whose v.listing.route c.bypass_record.ensures.apart c.requires.before.1 c.requires.whose.1))

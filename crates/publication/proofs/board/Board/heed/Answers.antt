@@ -30,6 +30,7 @@ invariant_of-ticket c = let a = c.ticket.inside in let b = c.knowledge.inside in
             routed = t.routed;
             wide = omega (arith, t.wide, wider);
             all_made = ap (λ (x : Bool). x || true) t.all_made;
+            accounted = c.heed_seat.ensures.learned.accounted t.accounted;
             carried = t.carried;
           };
     }
