@@ -49,8 +49,8 @@
  * - NOT_SERVED. Proved: the session has a pending call, and that call is not in the part of the history that the session knows
  *   (pelgaisti_session_seen counts its entries). So a collect directly after a serve of the same session that returned OK with
  *   `starved` 0 never returns NOT_SERVED. Tested: a collect finds the answer that another session's pass has written.
- * - ELSEWHERE. Proved: the office has two sessions or more, and nothing has changed for this session except that its record may
- *   have been listed. Tested: another session had the lock table at that moment.
+ * - ELSEWHERE. Proved: the office has two sessions or more, and nothing has changed for this session except that an unlisted call
+ *   was tried once more to be listed, and may be. Tested: another session had the lock table at that moment.
  * - LISTED. Proved: after a pass with `starved` 0 of a session that has heard from this one since (pelgaisti_session_hear), the
  *   call is in the history. Tested: passes of sessions that have not heard from this one serve the call too.
  * Nor do contracts say that NO_MEMORY comes only when memory was refused, or COPIED only when a handle was copied or moved.
@@ -88,14 +88,15 @@ typedef enum pelgaisti_status {
     PELGAISTI_SAME = 18            /* both arguments are the same handle */
 } pelgaisti_status;
 
-/* The lock modes of Gray, Lorie, Putzolu and Traiger (1976). The bitwise or of two codes is their least upper bound's code. */
+/* The lock modes of Gray, Lorie, Putzolu and Traiger (1976), and U. The or of two codes is their least upper bound's code. */
 typedef enum pelgaisti_mode {
     PELGAISTI_NL = 0, /* no lock */
     PELGAISTI_IS = 1, /* intention to read below */
     PELGAISTI_IX = 3, /* intention to write below */
     PELGAISTI_S = 5,  /* read */
     PELGAISTI_SIX = 7, /* read, and intention to write below */
-    PELGAISTI_X = 15  /* write */
+    PELGAISTI_X = 15, /* write */
+    PELGAISTI_U = 13  /* read, and announce a conversion to X: granted beside IS and S, which are not granted beside U */
 } pelgaisti_mode;
 
 /* The kinds of calls. LOCK and CONVERT use the call's resource and mode, RELEASE its resource. Other fields are not read. */
@@ -186,7 +187,7 @@ typedef struct pelgaisti_answer {
 /* The result of a pass. */
 typedef struct pelgaisti_pass {
     uint32_t served;  /* the number of calls that the pass served */
-    uint32_t starved; /* 1 if memory was refused for a call: that call and those after it stay published. Otherwise 0 */
+    uint32_t starved; /* 1 if calls were put back, since memory was refused for one: they stay published. Otherwise 0 */
 } pelgaisti_pass;
 
 /* The handle of a lock table and its history. */
