@@ -1,15 +1,15 @@
 #!/usr/bin/env python3
 """Times the dearest calls that a lock table can be asked for, each by its own trace, with the program `glm`.
 
-Usage: bench/worst.py [ROUNDS]     (default: 20)
+Usage: bench/worst.py [ROUNDS [SESSIONS]]     (default: 20 rounds, 256 sessions; at least 4 and at most 1024 sessions)
 
 Each case has a trace with many such calls, and one in which each of them is a poll instead, or is left out; the time of a call
 is the difference, of each trace the least of five times, divided by the number of the calls.
 
-queue     a wait behind 254 others in one queue
-chain     a wait that leads on to 254 others, each of which waits for the next
-circle    a wait that closes a circle of 256, whose asker is the youngest and becomes the victim
-victims   a wait that closes a circle with each of 254 others, who all become victims, one after another
+queue     a wait behind all others but one, in one queue
+chain     a wait that leads on to all others but one, each of which waits for the next
+circle    a wait that closes a circle of all sessions, whose asker is the youngest and becomes the victim
+victims   a wait that closes a circle with each of all others but one, who all become victims, one after another
 release   a release of one lock of 4096, where locks are released in neither the order in which they came nor the reverse
 whole     a transaction of 4096 locks, from its begin to its commit, beside an empty trace
 """
@@ -21,7 +21,9 @@ from pathlib import Path
 
 TOP = Path(__file__).resolve().parent.parent
 PROGRAM = TOP / "crates/glm_main/out/glm_main"
-ALL = range(1, 257)
+SESSIONS = int(sys.argv[2]) if len(sys.argv) > 2 else 256
+ALL = range(1, SESSIONS + 1)
+OTHERS = range(2, SESSIONS)
 
 
 def begins(sessions):
@@ -41,24 +43,24 @@ def repeated(lead, call, rest):
 
 
 def queue():
-    lead = begins(ALL) + [f"{s},lock,1,X" for s in range(1, 256)]
-    return repeated(lead, "256,lock,1,X", ["256,abort,,", "256,begin,,"])
+    lead = begins(ALL) + [f"{s},lock,1,X" for s in [1, *OTHERS]]
+    return repeated(lead, f"{SESSIONS},lock,1,X", [f"{SESSIONS},abort,,", f"{SESSIONS},begin,,"])
 
 
 def chain():
-    lead = begins(ALL) + [f"{s},lock,{s},X" for s in range(1, 256)] + [f"{s},lock,{s - 1},X" for s in range(2, 256)]
-    return repeated(lead, "256,lock,255,X", ["256,abort,,", "256,begin,,"])
+    lead = begins(ALL) + [f"{s},lock,{s},X" for s in [1, *OTHERS]] + [f"{s},lock,{s - 1},X" for s in OTHERS]
+    return repeated(lead, f"{SESSIONS},lock,{SESSIONS - 1},X", [f"{SESSIONS},abort,,", f"{SESSIONS},begin,,"])
 
 
 def circle():
-    lead = begins(ALL) + [f"{s},lock,{s},X" for s in ALL] + [f"{s},lock,{s - 1},X" for s in range(2, 256)] + ["1,lock,256,X"]
-    again = ["256,abort,,", "1,release,256,", "256,begin,,", "256,lock,256,X", "1,lock,256,X"]
-    return repeated(lead, "256,lock,255,X", again)
+    last = SESSIONS
+    lead = begins(ALL) + [f"{s},lock,{s},X" for s in ALL] + [f"{s},lock,{s - 1},X" for s in OTHERS] + [f"1,lock,{last},X"]
+    again = [f"{last},abort,,", f"1,release,{last},", f"{last},begin,,", f"{last},lock,{last},X", f"1,lock,{last},X"]
+    return repeated(lead, f"{last},lock,{last - 1},X", again)
 
 
 def victims():
-    others = range(2, 256)
-    lead = begins(ALL) + ["1,lock,1,X"] + [f"{s},lock,2,S" for s in others] + [f"{s},lock,1,S" for s in others]
+    lead = begins(ALL) + ["1,lock,1,X"] + [f"{s},lock,2,S" for s in OTHERS] + [f"{s},lock,1,S" for s in OTHERS]
     end = aborts(reversed(ALL))
     return lead + ["1,lock,2,X"] + end, lead + end, 1
 
@@ -83,7 +85,7 @@ def least_time(trace):
     for _ in range(5):
         with trace.open() as given:
             start = time.monotonic()
-            subprocess.run([PROGRAM, "replay"], stdin=given, stdout=subprocess.DEVNULL, check=True)
+            subprocess.run([PROGRAM, "replay", "--sessions", str(SESSIONS)], stdin=given, stdout=subprocess.DEVNULL, check=True)
             times.append(time.monotonic() - start)
     return min(times)
 

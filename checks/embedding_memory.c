@@ -78,7 +78,7 @@ static pelgaisti_call call_of(uint32_t op, uint32_t mode, uint32_t number) {
     return call;
 }
 
-static const pelgaisti_call begin = {PELGAISTI_BEGIN, 0, {0, {0, 0, 0, 0}}};
+static const pelgaisti_call begin = {PELGAISTI_BEGIN, 0, {0, {0}}};
 
 enum { SESSIONS = 9, RESOURCES = 45, CALLS = 100 };
 

@@ -57,7 +57,7 @@ int main(void) {
     if (pelgaisti_book_open(&book, PELGAISTI_MAX_SESSIONS) != PELGAISTI_OK) return 1;
     while (fgets(line, sizeof line, stdin)) {
         char *field[4], *at = line;
-        pelgaisti_call call = {0, 0, {0, {0, 0, 0, 0}}};
+        pelgaisti_call call = {0, 0, {0, {0}}};
         pelgaisti_reply reply;
         line[strcspn(line, "\r\n")] = 0;
         for (int k = 0; k < 4; k++) {

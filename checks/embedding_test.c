@@ -29,10 +29,10 @@ static pelgaisti_call call_of(uint32_t op, uint32_t mode, uint32_t level, uint32
     return call;
 }
 
-static const uint32_t off_sessions[] = {0, 4, 256, 257, 65537, UINT32_MAX};
+static const uint32_t off_sessions[] = {0, 4, 256, 1024, 1025, 65537, UINT32_MAX};
 static const uint32_t off_ops[] = {0, 8, 256, UINT32_MAX};
 static const uint32_t off_modes[] = {2, 4, 6, 8, 12, 14, 16, 255, 256, 257, UINT32_MAX};
-static const uint32_t off_levels[] = {0, 5, 256, 257, UINT32_MAX};
+static const uint32_t off_levels[] = {0, 6, 256, 257, UINT32_MAX};
 #define COUNT(list) (sizeof(list) / sizeof((list)[0]))
 
 /* Every bad argument of a book's calls gives its status, and then nothing is written. */
@@ -169,6 +169,39 @@ static void books_serve(void) {
     CHECK(pelgaisti_book_history(&book, 9, entries, 4, &count) == PELGAISTI_OK && count == 0);
     CHECK(pelgaisti_book_history(&book, UINT64_MAX, entries, 4, &count) == PELGAISTI_OK && count == 0);
     CHECK(pelgaisti_book_history(&book, 0, NULL, 0, &count) == PELGAISTI_OK && count == 0);
+    CHECK(pelgaisti_book_close(&book) == PELGAISTI_OK);
+}
+
+/* A path of the greatest level is locked level by level, and the library is of the header's version. */
+static void levels_are_locked(void) {
+    pelgaisti_call begin = call_of(PELGAISTI_BEGIN, 0, 0, 0, 0), commit = call_of(PELGAISTI_COMMIT, 0, 0, 0, 0);
+    pelgaisti_call lock = call_of(PELGAISTI_LOCK, PELGAISTI_IX, 1, 1, 2);
+    pelgaisti_book book = PELGAISTI_EMPTY;
+    pelgaisti_entry entries[7];
+    pelgaisti_reply reply;
+    size_t count = 0;
+    uint32_t mode = 99;
+
+    CHECK(pelgaisti_version() == PELGAISTI_HEADER_VERSION && PELGAISTI_HEADER_VERSION == 2);
+    CHECK(PELGAISTI_LEVELS == 5 && sizeof lock.resource.numbers == 20);
+    CHECK(pelgaisti_book_open(&book, 1024) == PELGAISTI_OK);
+    CHECK(pelgaisti_book_serve(&book, 1024, &begin, &reply) == PELGAISTI_OK && reply.kind == PELGAISTI_BEGAN);
+    lock.resource.numbers[2] = 3;
+    lock.resource.numbers[3] = 4;
+    lock.resource.numbers[4] = 5;
+    for (uint32_t level = 1; level <= 5; level++) {
+        lock.resource.level = level;
+        if (level == 5) lock.mode = PELGAISTI_X;
+        CHECK(pelgaisti_book_serve(&book, 1024, &lock, &reply) == PELGAISTI_OK);
+        CHECK(reply.kind == PELGAISTI_GRANTED && reply.value == lock.mode);
+    }
+    CHECK(pelgaisti_book_held(&book, 1024, &lock.resource, &mode) == PELGAISTI_OK && mode == PELGAISTI_X);
+    lock.resource.numbers[4] = 6;
+    CHECK(pelgaisti_book_held(&book, 1024, &lock.resource, &mode) == PELGAISTI_OK && mode == PELGAISTI_NL);
+    CHECK(pelgaisti_book_serve(&book, 1024, &commit, &reply) == PELGAISTI_OK && reply.kind == PELGAISTI_COMMITTED && reply.value == 5);
+    CHECK(pelgaisti_book_history(&book, 0, entries, 7, &count) == PELGAISTI_OK && count == 7);
+    CHECK(entries[4].call.resource.level == 4 && entries[4].call.resource.numbers[3] == 4 && entries[4].call.resource.numbers[4] == 0);
+    CHECK(entries[5].call.resource.level == 5 && entries[5].call.resource.numbers[4] == 5 && entries[5].session == 1024);
     CHECK(pelgaisti_book_close(&book) == PELGAISTI_OK);
 }
 
@@ -467,6 +500,7 @@ static void threads_share(void) {
 int main(void) {
     books_refuse();
     books_serve();
+    levels_are_locked();
     modes_meet();
     sessions_refuse();
     copies_are_told();

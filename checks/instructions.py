@@ -91,7 +91,7 @@ def new_resources():
 # Each case: the fast way, its calls, how many they count as (None: as many as they are), the most instructions of one of them.
 CASES = [
     ("a single holder is kept in its cell, without a list", first_locks, None, 915),
-    ("the parent's cell is found at the noted place, without a hash", parents, None, 80),
+    ("the parent's cell is found at the noted place, without a hash", parents, None, 105),
     ("the cell of a lock that ends is found at the noted place, without a hash", ends, 4000, 205),
     ("modes of many holders are tested 16 at a time", readers_beside_readers, None, 500),
     ("a wait for many holders is written by their mask", writers_beside_readers, None, 2300),

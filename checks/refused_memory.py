@@ -43,16 +43,19 @@ TESTED = {
     "desk_tests": ("batches::", "books::", "queues::", "refusals::", "refused_batches::"),
     "office_tests": ("ages::", "boards::", "closing::", "dropping::", "hearing::", "listing::", "offices::", "refusals::"),
 }
-# except these, which don't make each refused call again: tests with threads, with 256 sessions, with two offices, and of the
-# publication list, where a starved pass counts as a pass
+# except these: tests with threads, with two offices, and of the publication list, where a starved pass counts as a pass, which
+# don't make each refused call again; and tests with 1,024 sessions, which would take long, and of which the desk's are made with
+# 256 sessions too
 LEFT_OUT = {
     "ages::a_record_leaves_the_list_by_its_age",
-    "closing::all_256_sessions_close_in_any_order",
+    "closing::all_1024_sessions_close_in_any_order",
     "closing::two_offices_have_their_own_sessions",
     "hearing::eight_threads_hear",
     "listing::a_record_whose_answer_is_not_collected_stays_on_the_list",
     "listing::idle_records_are_unlinked",
     "listing::sixty_four_sessions_poll_in_turn",
+    "queues::a_queue_of_1022_goes_on_after_an_abort_in_its_middle",
+    "queues::one_call_has_1022_victims",
 }
 # what tests print of a refusal: for each of these texts there has to be a round that prints it and nothing else
 TOLD = {

@@ -45,7 +45,7 @@ static pelgaisti_reply ask(worker *w, pelgaisti_call call) {
 
 /* A call without a resource and a mode. */
 static pelgaisti_call plain(uint32_t op) {
-    pelgaisti_call call = {0, 0, {0, {0, 0, 0, 0}}};
+    pelgaisti_call call = {0, 0, {0, {0}}};
     call.op = op;
     return call;
 }

@@ -29,7 +29,7 @@ const ABORTED: u32 = 8;
 #[derive(Clone, Copy, Default)]
 struct Resource {
     level: u32,
-    numbers: [u32; 4],
+    numbers: [u32; 5],
 }
 
 #[repr(C)]
@@ -133,7 +133,7 @@ impl Worker<'_> {
     fn lock(&mut self, mode: u32, numbers: &[u32]) -> bool {
         let mut resource = Resource {
             level: numbers.len() as u32,
-            numbers: [0; 4],
+            numbers: [0; 5],
         };
         resource.numbers[..numbers.len()].copy_from_slice(numbers);
         let mut reply = self.ask(Call { op: LOCK, mode, resource });

@@ -39,7 +39,7 @@
  * - No call is made in a signal handler, nor in the forked child of a process with threads.
  * - malloc, realloc and free belong to one allocator, and align blocks as those of the C library do.
  *
- * STATUSES. Every call returns a pelgaisti_status. A call tests its arguments first, in the order in which its comment lists the
+ * STATUSES. Every call but pelgaisti_version returns a pelgaisti_status. A call tests its arguments first, in the order in which its comment lists the
  * statuses; the first test that fails gives the status. A status other than PELGAISTI_OK means that nothing has changed and
  * nothing was written: no handle, no history, no memory that an argument points to. There are two exceptions: a call that
  * returns ELSEWHERE may put the session's record on the publication list, and COPIED closes the session's handle.
@@ -142,11 +142,17 @@ typedef enum pelgaisti_posted {
     PELGAISTI_UNLISTED = 2 /* not yet: only passes of the session itself visit it. Each serve of the session tries to list it */
 } pelgaisti_posted;
 
-#define PELGAISTI_LEVELS 4
-#define PELGAISTI_MAX_SESSIONS 256
+#define PELGAISTI_LEVELS 5
+#define PELGAISTI_MAX_SESSIONS 1024
 #define PELGAISTI_MAX_LOCKS 4096
 
-/* A node of the lock tree, by its path from the root: database, file, page, record. The first `level` numbers are the path. */
+/* The version of this header. It rises when a program that was compiled with the header before could not use the library. Version 2
+   has five levels in place of four, so that structs with a resource are larger, and 1024 sessions in place of 256. Version 1 had
+   neither this constant nor pelgaisti_version. */
+#define PELGAISTI_HEADER_VERSION 2
+
+/* A node of the lock tree, by its path from the root: database, file, page, record, field. The first `level` numbers are the
+   path. */
 typedef struct pelgaisti_resource {
     uint32_t level; /* 1 to PELGAISTI_LEVELS; 0 in a history entry whose call has no resource */
     uint32_t numbers[PELGAISTI_LEVELS];
@@ -204,6 +210,10 @@ typedef struct pelgaisti_session {
 
 /* The initial value of a handle. */
 #define PELGAISTI_EMPTY {0, NULL}
+
+/* Returns the version of the header that the library was built with. A program that may meet a library of another version compares
+   it with PELGAISTI_HEADER_VERSION before any other call. */
+uint32_t pelgaisti_version(void);
 
 /* ---- A book: the lock table for one thread. The line in capitals lists the statuses other than OK. ---- */
 

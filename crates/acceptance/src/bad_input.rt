@@ -71,7 +71,7 @@ fn a_faulty_resource_is_reported_with_its_fault(rt: HostRuntime) -> Result<(), F
             ("1,lock,4294967296,S\n", "glm: row 1: Path TooLarge\n"),
             ("1,lock,/,S\n", "glm: row 1: Path Empty\n"),
             ("1,lock,1//2,S\n", "glm: row 1: Path Empty\n"),
-            ("1,lock,1/2/3/4/5,S\n", "glm: row 1: Path TooDeep\n"),
+            ("1,lock,1/2/3/4/5/6,S\n", "glm: row 1: Path TooDeep\n"),
             ("1,lock,1/x/01,S\n", "glm: row 1: Path NotANumber\n"),
             ("1,lock,1/4294967296,S\n", "glm: row 1: Path TooLarge\n"),
             ("1,release,1/00,\n", "glm: row 1: Path LeadingZero\n"),

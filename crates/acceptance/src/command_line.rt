@@ -33,7 +33,7 @@ fn usage_errors_end_with_status_2(rt: HostRuntime) -> Result<(), Fail> {
         ["replay", "extra"].as_slice(),
         ["replay", "--sessions"].as_slice(),
         ["replay", "--sessions", "0"].as_slice(),
-        ["replay", "--sessions", "257"].as_slice(),
+        ["replay", "--sessions", "1025"].as_slice(),
         ["replay", "--sessions", "65536"].as_slice(),
         ["replay", "--sessions", "-1"].as_slice(),
         ["replay", "--sessions", "two"].as_slice(),
@@ -77,7 +77,7 @@ fn help_is_written_to_the_output(rt: HostRuntime) -> Result<(), Fail> {
 fn the_sessions_option_is_read_in_both_forms(rt: HostRuntime) -> Result<(), Fail> {
     for words in [
         ["replay", "--sessions", "1"].as_slice(),
-        ["replay", "--sessions=256"].as_slice(),
+        ["replay", "--sessions=1024"].as_slice(),
     ] {
         want_output(&rt, &rt, words, "1,begin,,\n", "0,1,begin,,,began,1\n")?;
     }

@@ -39,7 +39,7 @@ fn want_verdict(
     wanted: Result<Verdict, ToolFault>,
 )
     requires some { 1 ≤ sessions }
-    requires few { sessions ≤ 256 }
+    requires few { sessions ≤ 1024 }
 {
     let verdict = check(alloc, history.as_bytes(), sessions);
     assert_eq!(rt; verdict, wanted, "{history}");

@@ -1,4 +1,4 @@
-//! Traces of many sessions and many locks, up to the limits of 256 sessions and 4096 locks.
+//! Traces of many sessions and many locks, up to the limits of 1,024 sessions and 4,096 locks.
 
 use crate::harness::{run_words, want_bytes, want_status};
 use std::fmt::Display;
@@ -69,13 +69,13 @@ fn ask(built: &mut TraceBuilder, session: u32, database: u32, reply: &str) -> Re
     row(built, session, format_args!("lock,{database},X"), reply)
 }
 
-/// Replays the trace, and expects status 0 and the history.
+/// Replays the trace for 1,024 sessions, and expects status 0 and the history.
 pub(crate) fn want_replayed(
     rt: &(impl AllocGlobal + Threads + Wait),
     abort: &impl Abort,
     built: &TraceBuilder,
 ) -> Result<(), Fail> {
-    let words = ["replay"];
+    let words = ["replay", "--sessions", "1024"];
     let ran = run_words(rt, &words, &built.trace)?;
     want_status(abort, &words, "", &ran, 0);
     want_bytes(abort, &words, "", &ran.output, &built.history);
@@ -106,10 +106,10 @@ fn read_and_write(built: &mut TraceBuilder, readers: u32, writes: bool) -> Resul
     }
 }
 
-/// A single holder of IX is found among 31, 32, 33 and 255 holders.
+/// A single holder of IX is found among 31, 32, 33, 255 and 1,023 holders.
 #[test]
 fn one_writer_among_many_readers_blocks_a_shared_lock(rt: HostRuntime) -> Result<(), Fail> {
-    for readers in [31, 32, 33, 255] {
+    for readers in [31, 32, 33, 255, 1023] {
         for writes in [true, false] {
             let mut built = empty(&rt);
             read_and_write(&mut built, readers, writes)?;
@@ -172,10 +172,10 @@ fn close_the_circle(built: &mut TraceBuilder, length: u32) -> Result<(), Fail> {
     row(built, length.saturating_sub(1), "poll,,", "clear,")
 }
 
-/// Cycles of 2, 64, 65 and 256 sessions are found, with the youngest session as the victim.
+/// Cycles of 2, 64, 65, 256 and 1,024 sessions are found, with the youngest session as the victim.
 #[test]
 fn a_deadlock_cycle_of_any_length_has_its_victim(rt: HostRuntime) -> Result<(), Fail> {
-    for length in [2, 64, 65, 256] {
+    for length in [2, 64, 65, 256, 1024] {
         let mut built = empty(&rt);
         wait_in_line(&mut built, length)?;
         close_the_circle(&mut built, length)?;

@@ -110,12 +110,19 @@ fn tree_locks_replay_to_their_histories(rt: HostRuntime) -> Result<(), Fail> {
     )
 }
 
-/// Session 256 is accepted by default, and refused with `--sessions 255`.
+/// Session 256 is accepted by default, and refused with `--sessions 255`. Session 257 is refused by default, and session 1024
+/// accepted with `--sessions 1024`.
 #[test]
 fn the_sessions_option_limits_session_numbers(rt: HostRuntime) -> Result<(), Fail> {
     let trace = "256,begin,,\n";
     let words = ["replay"];
     want_output(&rt, &rt, &words, trace, "0,256,begin,,,began,1\n")?;
     let words = ["replay", "--sessions", "255"];
-    want_errors(&rt, &rt, &words, trace, 1, "glm: row 1: Session\n")
+    want_errors(&rt, &rt, &words, trace, 1, "glm: row 1: Session\n")?;
+    let trace = "257,begin,,\n";
+    let words = ["replay"];
+    want_errors(&rt, &rt, &words, trace, 1, "glm: row 1: Session\n")?;
+    let trace = "1024,begin,,\n";
+    let words = ["replay", "--sessions", "1024"];
+    want_output(&rt, &rt, &words, trace, "0,1024,begin,,,began,1\n")
 }

@@ -79,11 +79,11 @@ fn want_run_of(
     history: &[u8],
     sessions: u16,
 ) -> Result<(), Fail> {
-    let rows = read_trace(rt.alloc(), trace, 256).map_err(|_| AllocError)?;
-    let entries = read_history(rt.alloc(), history, 256).map_err(|_| AllocError)?;
+    let rows = read_trace(rt.alloc(), trace, 1024).map_err(|_| AllocError)?;
+    let entries = read_history(rt.alloc(), history, 1024).map_err(|_| AllocError)?;
     let calls = calls_of(rt, &entries)?;
     want_rows_of_each(rt, abort, &rows, &calls, sessions)?;
-    let verdict = check(rt.alloc(), history, 256);
+    let verdict = check(rt.alloc(), history, 1024);
     assert!(abort; verdict == Ok(Verdict::Legal(rows.len() as u64)));
     Ok(())
 }
@@ -95,7 +95,7 @@ fn want_run(
     trace: &str,
     sessions: u16,
 ) -> Result<(), Fail> {
-    let ran = run_words(rt, ["run"].as_slice(), trace.as_bytes())?;
+    let ran = run_words(rt, ["run", "--sessions=1024"].as_slice(), trace.as_bytes())?;
     assert_eq!(abort; ran.status, 0, "{trace}");
     want_run_of(rt, abort, trace.as_bytes(), &ran.output, sessions)
 }
@@ -321,9 +321,23 @@ fn runs_of_64_sessions_are_legal(rt: HostRuntime) -> Result<(), Fail> {
     want_three_runs(&rt, &rt, trace.as_str(), 64)
 }
 
-/// 256 threads, the greatest number, with 40 calls each.
+/// 256 threads with 40 calls each.
 #[test]
 fn runs_of_256_sessions_are_legal(rt: HostRuntime) -> Result<(), Fail> {
     let trace = many_rows(&rt, 256, 40)?;
     want_three_runs(&rt, &rt, trace.as_str(), 256)
+}
+
+/// 1,024 threads, the greatest number, with 8 calls each: the run ends, or says that a thread couldn't be started.
+#[test]
+fn a_run_of_1024_sessions_ends_or_lacks_a_thread(rt: HostRuntime) -> Result<(), Fail> {
+    let trace = many_rows(&rt, 1024, 8)?;
+    let words = ["run", "--sessions", "1024"];
+    let ran = run_words(&rt, &words, trace.as_bytes())?;
+    if ran.status == 0 {
+        want_run_of(&rt, &rt, trace.as_bytes(), &ran.output, 1024)?;
+    } else {
+        want_ran(&rt, &words, "", &ran, 5, "", "glm: device\n");
+    }
+    Ok(())
 }

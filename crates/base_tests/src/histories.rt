@@ -9,7 +9,7 @@ use std::process::Abort;
 use std::test::Fail;
 
 /// The greatest number of sessions.
-const ALL: u16 = 256;
+const ALL: u16 = 1024;
 
 /// Every op and every reply is read, and so is the empty text.
 #[test]
@@ -92,7 +92,7 @@ fn reports_the_first_failed_test_of_a_row(rt: HostRuntime) {
         ("0 ,1,begin,,,began,1", TraceKind::Place),
         ("18446744073709551616,1,begin,,,began,1", TraceKind::Place),
         ("0,0,start,,,began,1", TraceKind::Session),
-        ("0,257,begin,,,began,1", TraceKind::Session),
+        ("0,1025,begin,,,began,1", TraceKind::Session),
         ("0,1,start,x,,began,1", TraceKind::Op),
         (
             "0,1,lock,01,s,granted,S",

@@ -65,7 +65,7 @@ fn rows_of_five_words(rt: HostRuntime) {
 }
 
 /// The greatest length that is tried.
-const LONGEST: usize = 260;
+const LONGEST: usize = 1025;
 
 /// Whether each mark is 1 exactly if its byte has a bit of the mask.
 fn are_marks(column: &[u8], mask: u8, marks: &[u8]) -> bool {
@@ -186,10 +186,10 @@ fn lengths_0_to_70_match_plain_loops(rt: HostRuntime) {
     }
 }
 
-/// Lengths around 256, the greatest number of sessions.
+/// Lengths around 1,024, the greatest number of sessions.
 #[test]
-fn lengths_250_to_260_match_plain_loops(rt: HostRuntime) {
-    for length in 250..LONGEST + 1 {
+fn lengths_1023_to_1025_match_plain_loops(rt: HostRuntime) {
+    for length in 1023..LONGEST + 1 {
         check_length(&rt, length);
     }
 }

@@ -30,13 +30,14 @@ fn reads_numbers(rt: HostRuntime) -> Result<(), Fail> {
     Ok(())
 }
 
-/// Files, pages and records.
+/// Files, pages, records and fields.
 #[test]
 fn reads_paths(rt: HostRuntime) -> Result<(), Fail> {
     for (text, numbers) in [
         ("0/4294967295", [0, 4294967295].as_slice()),
         ("1/2/3", [1, 2, 3].as_slice()),
         ("4294967295/0/0/10", [4294967295, 0, 0, 10].as_slice()),
+        ("1/2/3/4/5", [1, 2, 3, 4, 5].as_slice()),
     ] {
         want_numbers(&rt, rt.alloc(), text, numbers)?;
     }
@@ -72,12 +73,21 @@ fn parents_ancestors_and_order(rt: HostRuntime) -> Result<(), Fail> {
     Ok(())
 }
 
+/// The parent of a field is its record.
+#[test]
+fn a_field_is_below_its_record(rt: HostRuntime) -> Result<(), Fail> {
+    let field = Resource::parse("1/2/3/4/5")?;
+    assert_eq!(rt; field.level(), 5);
+    assert_eq!(rt; field.parent(), Resource::parse("1/2/3/4").ok());
+    Ok(())
+}
+
 /// Expects this fault of a text.
 fn want_fault(rt: &impl Abort, text: &str, fault: PathFault) {
     assert_eq!(rt; Resource::parse(text), Err(fault), "at {text}");
 }
 
-/// More than four levels are reported first, then the first faulty number.
+/// More than five levels are reported first, then the first faulty number.
 #[test]
 fn reports_faults_of_paths(rt: HostRuntime) {
     for (text, fault) in [
@@ -85,9 +95,11 @@ fn reports_faults_of_paths(rt: HostRuntime) {
         ("/", PathFault::Empty),
         ("1//2", PathFault::Empty),
         ("1/", PathFault::Empty),
-        ("1/2/3/4/5", PathFault::TooDeep),
-        ("////", PathFault::TooDeep),
-        ("x/1/2/3/4", PathFault::TooDeep),
+        ("1/2/3/4/5/6", PathFault::TooDeep),
+        ("/////", PathFault::TooDeep),
+        ("////", PathFault::Empty),
+        ("x/1/2/3/4/5", PathFault::TooDeep),
+        ("x/1/2/3/4", PathFault::NotANumber),
         ("1/x/01", PathFault::NotANumber),
         ("1/4294967296", PathFault::TooLarge),
         ("1/00", PathFault::LeadingZero),
@@ -165,10 +177,11 @@ fn resources_are_ordered_by_number(rt: HostRuntime) -> Result<(), Fail> {
     Ok(())
 }
 
-/// A resource takes at most 20 bytes, and can't have no level or more than four.
+/// A resource takes at most 24 bytes, and can't have no level or more than five.
 #[test]
-fn a_resource_is_small_and_has_one_to_four_levels(rt: HostRuntime) {
-    assert!(rt; size_of::<Resource>() <= 20);
+fn a_resource_is_small_and_has_one_to_five_levels(rt: HostRuntime) {
+    assert_eq!(rt; LEVELS, 5);
+    assert!(rt; size_of::<Resource>() <= 24);
     assert_eq!(rt; Resource::from_numbers(&[]), None);
     assert_eq!(rt; Resource::from_numbers(&[1; LEVELS + 1]), None);
 }

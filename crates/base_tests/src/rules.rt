@@ -67,10 +67,10 @@ fn refusals_have_their_names_and_numbers(rt: HostRuntime) {
     }
 }
 
-/// 256 sessions, and 4096 locks of a transaction.
+/// 1,024 sessions, and 4,096 locks of a transaction.
 #[test]
 fn limits_are_as_documented(rt: HostRuntime) {
-    assert_eq!(rt; MAX_SESSIONS, 256);
+    assert_eq!(rt; MAX_SESSIONS, 1024);
     assert_eq!(rt; MAX_LOCKS, 4096);
 }
 

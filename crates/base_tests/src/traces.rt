@@ -10,7 +10,7 @@ use std::process::Abort;
 use std::test::Fail;
 
 /// The greatest number of sessions.
-const ALL: u16 = 256;
+const ALL: u16 = 1024;
 
 /// Returns the database with this number.
 fn database(number: u32) -> Result<Resource, Fail> {
@@ -86,10 +86,10 @@ fn reads_each_op(rt: HostRuntime) -> Result<(), Fail> {
 #[test]
 fn reads_the_least_and_greatest_numbers(rt: HostRuntime) -> Result<(), Fail> {
     let text =
-        "256,begin,,\n10,lock,0,NL\n9,lock,4294967295,IS\n1,lock,10,IX\n1,lock,1,SIX\n1,lock,1,U\n1,lock,1,X\n";
+        "1024,begin,,\n10,lock,0,NL\n9,lock,4294967295,IS\n1,lock,10,IX\n1,lock,1,SIX\n1,lock,1,U\n1,lock,1,X\n";
     let rows = read_trace(rt.alloc(), text.as_bytes(), ALL)?;
     let want = [
-        begin(256),
+        begin(1024),
         lock(10, 0, Mode::NL)?,
         lock(9, 4294967295, Mode::IS)?,
         lock(1, 10, Mode::IX)?,
@@ -131,7 +131,7 @@ fn reports_faults_of_shape_session_and_op_first(rt: HostRuntime) {
         (" 1,begin,,\n", TraceKind::Session),
         ("1 ,begin,,\n", TraceKind::Session),
         ("1x,begin,,\n", TraceKind::Session),
-        ("257,begin,,\n", TraceKind::Session),
+        ("1025,begin,,\n", TraceKind::Session),
         ("65537,begin,,\n", TraceKind::Session),
         ("99999999999999999999,begin,,\n", TraceKind::Session),
         ("18446744073709551617,begin,,\n", TraceKind::Session),
@@ -153,7 +153,10 @@ fn reports_faults_of_shape_session_and_op_first(rt: HostRuntime) {
 fn reports_faults_of_path_mode_and_extra_then(rt: HostRuntime) {
     for (text, kind) in [
         ("1,lock,,y\n", TraceKind::Path(PathFault::Empty)),
-        ("1,lock,1/2/3/4/5,y\n", TraceKind::Path(PathFault::TooDeep)),
+        (
+            "1,lock,1/2/3/4/5/6,y\n",
+            TraceKind::Path(PathFault::TooDeep),
+        ),
         ("1,lock,x,S\n", TraceKind::Path(PathFault::NotANumber)),
         ("1,lock, 1,S\n", TraceKind::Path(PathFault::NotANumber)),
         (
@@ -186,7 +189,7 @@ fn reports_invalid_utf8_in_its_field(rt: HostRuntime) {
         (b"\xff,begin,,".as_slice(), TraceKind::Session),
         (b"1,\xff,,".as_slice(), TraceKind::Op),
         (b"1,lock,\xff,S".as_slice(), no_number),
-        (b"1,lock,1/2/3/4/5\xff,S".as_slice(), no_number),
+        (b"1,lock,1/2/3/4/5/6\xff,S".as_slice(), no_number),
         (b"1,lock,1,\xff".as_slice(), TraceKind::Mode),
         (b"1,begin,,\xff".as_slice(), TraceKind::Extra),
     ] {
@@ -368,20 +371,20 @@ fn entry(session: u16, call: Call, reply: Reply) -> Entry {
 
 /// A history as text, with every op and every reply.
 pub(crate) const HISTORY_TEXT: &[u8] = b"0,1,begin,,,began,1
-1,256,begin,,,began,18446744073709551615
+1,1024,begin,,,began,18446744073709551615
 2,1,lock,7,X,granted,X
-3,256,lock,4294967295,SIX,waiting,
-4,256,commit,,,refused,IsWaiting
+3,1024,lock,4294967295,SIX,waiting,
+4,1024,commit,,,refused,IsWaiting
 5,1,lock,0,NL,refused,NothingAsked
 6,1,commit,,,committed,1
 7,1,commit,,,refused,NoTransaction
-8,256,commit,,,committed,4294967295
+8,1024,commit,,,committed,4294967295
 9,1,convert,7/2/40/1,IX,granted,SIX
 10,1,release,7/2/40/1,,released,
 11,1,poll,,,clear,
 12,1,abort,,,aborted,0
-13,256,poll,,,waiting,
-14,256,abort,,,aborted,4294967295
+13,1024,poll,,,waiting,
+14,1024,abort,,,aborted,4294967295
 15,1,lock,7,S,deadlock,
 16,1,commit,,,refused,IsDoomed
 17,1,poll,,,deadlock,
@@ -392,10 +395,10 @@ pub(crate) const HISTORY_TEXT: &[u8] = b"0,1,begin,,,began,1
 pub(crate) fn history() -> Result<[Entry; 19], Fail> {
     Ok([
         entry(1, Call::Begin, Reply::Began(1)),
-        entry(256, Call::Begin, Reply::Began(18446744073709551615)),
+        entry(1024, Call::Begin, Reply::Began(18446744073709551615)),
         entry(1, lock(1, 7, Mode::X)?.call, Reply::Granted(Mode::X)),
-        entry(256, lock(1, 4294967295, Mode::SIX)?.call, Reply::Waiting),
-        entry(256, Call::Commit, Reply::Refused(Why::IsWaiting)),
+        entry(1024, lock(1, 4294967295, Mode::SIX)?.call, Reply::Waiting),
+        entry(1024, Call::Commit, Reply::Refused(Why::IsWaiting)),
         entry(
             1,
             lock(1, 0, Mode::NL)?.call,
@@ -403,7 +406,7 @@ pub(crate) fn history() -> Result<[Entry; 19], Fail> {
         ),
         entry(1, Call::Commit, Reply::Committed(1)),
         entry(1, Call::Commit, Reply::Refused(Why::NoTransaction)),
-        entry(256, Call::Commit, Reply::Committed(4294967295)),
+        entry(1024, Call::Commit, Reply::Committed(4294967295)),
         entry(
             1,
             Call::Convert(record()?, Mode::IX),
@@ -412,8 +415,8 @@ pub(crate) fn history() -> Result<[Entry; 19], Fail> {
         entry(1, Call::Release(record()?), Reply::Released),
         entry(1, Call::Poll, Reply::Clear),
         entry(1, Call::Abort, Reply::Aborted(0)),
-        entry(256, Call::Poll, Reply::Waiting),
-        entry(256, Call::Abort, Reply::Aborted(4294967295)),
+        entry(1024, Call::Poll, Reply::Waiting),
+        entry(1024, Call::Abort, Reply::Aborted(4294967295)),
         entry(1, lock(1, 7, Mode::S)?.call, Reply::Deadlock),
         entry(1, Call::Commit, Reply::Refused(Why::IsDoomed)),
         entry(1, Call::Poll, Reply::Deadlock),

@@ -8,56 +8,56 @@ use std::test::Fail;
 use waits_for::{MAX_SESSIONS, Marks, NoMemory, Rows};
 
 /// Returns a different age for each position, rising, so that the last position is the youngest.
-fn rising_ages() -> [u64; 256]
-    ensures { length result ≡ 256 }
+fn rising_ages() -> [u64; 1024]
+    ensures { length result ≡ 1024 }
 {
-    let mut ages = [0; 256];
+    let mut ages = [0; 1024];
     for (position, age) in ages.iter_mut().enumerate() {
         *age = position as u64 + 1;
     }
     ages
 }
 
-/// Returns the rows of 130 sessions with four edges: a cycle of three sessions, and an edge from its youngest session to a
+/// Returns the rows of 1,024 sessions with four edges: a cycle of three sessions, and an edge from its youngest session to a
 /// session that doesn't wait.
 fn four_edges(alloc: Global) -> Result<Rows, Fail>
-    ensures { IfOk result (λ rows. rows.sessions ≡ 130) }
+    ensures { IfOk result (λ rows. rows.sessions ≡ 1024) }
 {
-    let mut rows = Rows::new(alloc, 130)?;
+    let mut rows = Rows::new(alloc, 1024)?;
     rows.set(0, 64);
-    rows.set(64, 128);
-    rows.set(128, 0);
-    rows.set(128, 129);
+    rows.set(64, 1022);
+    rows.set(1022, 0);
+    rows.set(1022, 1023);
     Ok(rows)
 }
 
 /// Expects the cycle, and one session that it reaches outside it.
 fn want_one_cycle(rt: &impl Abort, rows: &mut Rows)
-    requires { rows.old.sessions ≡ 130 }
-    ensures { rows.new.sessions ≡ 130 }
+    requires { rows.old.sessions ≡ 1024 }
+    ensures { rows.new.sessions ≡ 1024 }
 {
-    assert_eq!(rt; rows.sessions(), 130);
+    assert_eq!(rt; rows.sessions(), 1024);
     assert!(rt; rows.reaches(0, 0));
-    assert!(rt; rows.reaches(0, 129));
-    assert!(rt; !rows.reaches(129, 0));
+    assert!(rt; rows.reaches(0, 1023));
+    assert!(rt; !rows.reaches(1023, 0));
     assert!(rt; rows.on_circle(0));
-    assert!(rt; !rows.on_circle(129));
+    assert!(rt; !rows.on_circle(1023));
 }
 
 /// Expects the youngest session on the cycle by these ages, position 0 if all ages are equal, and none off the cycle.
 fn want_youngest(rt: &impl Abort, rows: &mut Rows, ages: &[u64])
-    requires sessions { rows.old.sessions ≡ 130 }
-    requires ages { length ages.now ≡ 130 }
-    ensures { rows.new.sessions ≡ 130 }
+    requires sessions { rows.old.sessions ≡ 1024 }
+    requires ages { length ages.now ≡ 1024 }
+    ensures { rows.new.sessions ≡ 1024 }
 {
-    assert_eq!(rt; rows.youngest_on_circle(0, ages), Some(128));
-    assert_eq!(rt; rows.youngest_on_circle(0, &[7; 130]), Some(0));
-    assert_eq!(rt; rows.youngest_on_circle(129, ages), None);
+    assert_eq!(rt; rows.youngest_on_circle(0, ages), Some(1022));
+    assert_eq!(rt; rows.youngest_on_circle(0, &[7; 1024]), Some(0));
+    assert_eq!(rt; rows.youngest_on_circle(1023, ages), None);
 }
 
 /// A cycle across the words of a row is found, and is gone when one row is cleared.
 #[test]
-fn a_cycle_of_three_among_130_sessions(rt: HostRuntime) -> Result<(), Fail> {
+fn a_cycle_of_three_among_1024_sessions(rt: HostRuntime) -> Result<(), Fail> {
     let mut rows = four_edges(rt.alloc())?;
     want_one_cycle(&rt, &mut rows);
     let ages = rising_ages();
@@ -111,7 +111,7 @@ fn closes_a_chain(rt: &impl Abort, alloc: Global, members: u16) -> Result<(), Fa
 
 /// Cycles of all sessions, around the length of a word and at the greatest number of sessions.
 #[test]
-fn cycles_of_2_to_256_sessions(rt: HostRuntime) -> Result<(), Fail> {
+fn cycles_of_2_to_1024_sessions(rt: HostRuntime) -> Result<(), Fail> {
     closes_a_chain(&rt, rt.alloc(), 2)?;
     closes_a_chain(&rt, rt.alloc(), 64)?;
     closes_a_chain(&rt, rt.alloc(), 65)?;
@@ -141,7 +141,7 @@ fn a_session_is_marked_once(rt: HostRuntime) -> Result<(), Fail> {
     Ok(())
 }
 
-/// Makes rows of 256 sessions, a second time if memory is refused. Returns whether it was.
+/// Makes rows of 1,024 sessions, a second time if memory is refused. Returns whether it was.
 fn made_rows(alloc: Global) -> Result<(Rows, bool), NoMemory> {
     match Rows::new(alloc, MAX_SESSIONS) {
         Ok(rows) => Ok((rows, false)),
@@ -154,7 +154,7 @@ fn made_rows(alloc: Global) -> Result<(Rows, bool), NoMemory> {
 #[test]
 fn refused_rows_are_made_at_the_second_try(rt: HostRuntime) -> Result<(), Fail> {
     let (rows, was_refused) = made_rows(rt.alloc())?;
-    assert_eq!(rt; rows.sessions(), 256);
+    assert_eq!(rt; rows.sessions(), 1024);
     if was_refused {
         println!(&rt; "refused")?;
     }

@@ -22,7 +22,7 @@ fn resource_at(numbers: &[u32]) -> Result<Resource, Fail> {
 /// Returns a new book. Tries a second time if memory is refused.
 pub(crate) fn new_book(rt: &impl Abort, alloc: Global, sessions: u16) -> Result<Book, NoMemory> {
     assert!(rt; sessions >= 1);
-    assert!(rt; sessions <= 256);
+    assert!(rt; sessions <= 1024);
     match Book::new(alloc, sessions) {
         Ok(book) => Ok(book),
         Err(_) => Book::new(alloc, sessions),

@@ -1,7 +1,8 @@
-//! Long queues and many victims: 254 sessions wait at once.
+//! Long queues and many victims: 254 sessions wait at once, and 1,022.
 
 use crate::books::{new_book, resource, serve};
 use lock_desk::{Book, Call, Mode, NoMemory, Reply, Resource};
+use std::alloc::Global;
 use std::process::Abort;
 use std::test::Fail;
 
@@ -22,9 +23,10 @@ fn want_each(
     Ok(())
 }
 
-/// Begins a transaction in each of 256 sessions.
+/// Begins a transaction in each session of the book, in order.
 fn begin_all(rt: &impl Abort, book: &mut Book) -> Result<(), NoMemory> {
-    for session in 1..257 {
+    for before in 0..book.sessions() {
+        let session = before + 1;
         let began = serve(rt, book, session, Call::Begin)?;
         assert_eq!(rt; began, Reply::Began(session as u64));
     }
@@ -43,35 +45,44 @@ fn want_turns(rt: &impl Abort, book: &mut Book, first: u16, last: u16) -> Result
     Ok(())
 }
 
-/// Locks the database in X in session 1, and lets sessions 2 to 255 wait for it.
+/// Locks the database in X in session 1, and lets all sessions behind it except the last wait for it.
 fn queue_up(rt: &impl Abort, book: &mut Book, one: Resource) -> Result<(), NoMemory> {
     begin_all(rt, book)?;
+    let last = book.sessions();
     let granted = Reply::Granted(Mode::X);
     want_each(rt, book, 1, 2, Call::Lock(one, Mode::X), granted)?;
-    want_each(rt, book, 2, 256, Call::Lock(one, Mode::X), Reply::Waiting)
+    want_each(rt, book, 2, last, Call::Lock(one, Mode::X), Reply::Waiting)
 }
 
-/// Aborts one session in the middle of 254 that wait, and expects the others to be granted the lock in turn.
-fn abort_in_the_middle(rt: &impl Abort, book: &mut Book) -> Result<(), Fail> {
+/// Aborts one session in the middle of those that wait, and expects the others to be granted the lock in turn.
+fn abort_in_the_middle(rt: &impl Abort, alloc: Global, sessions: u16) -> Result<(), Fail> {
+    let mut made = new_book(rt, alloc, sessions)?;
+    let book = &mut made;
     let one = resource(1)?;
+    let middle = sessions / 2;
     queue_up(rt, book, one)?;
-    want_each(rt, book, 128, 129, Call::Abort, Reply::Aborted(0))?;
+    want_each(rt, book, middle, middle + 1, Call::Abort, Reply::Aborted(0))?;
     want_each(rt, book, 1, 2, Call::Commit, Reply::Committed(1))?;
-    want_each(rt, book, 3, 128, Call::Poll, Reply::Waiting)?;
-    want_turns(rt, book, 2, 128)?;
-    want_turns(rt, book, 129, 256)?;
-    assert_eq!(rt; book.held(255, one), None);
+    want_each(rt, book, 3, middle, Call::Poll, Reply::Waiting)?;
+    want_turns(rt, book, 2, middle)?;
+    want_turns(rt, book, middle + 1, sessions)?;
+    assert!(rt; sessions > 1 && book.held(sessions - 1, one).is_none());
     Ok(())
 }
 
 /// Requests before and behind an aborted one keep their order.
 #[test]
 fn a_queue_of_254_goes_on_after_an_abort_in_its_middle(rt: HostRuntime) -> Result<(), Fail> {
-    let mut book = new_book(&rt, rt.alloc(), 256)?;
-    abort_in_the_middle(&rt, &mut book)
+    abort_in_the_middle(&rt, rt.alloc(), 256)
 }
 
-/// Locks database 1 in session 1, and database 2 shared by sessions 2 to 255, who then wait for database 1.
+/// So do those of as many sessions as a book can have.
+#[test]
+fn a_queue_of_1022_goes_on_after_an_abort_in_its_middle(rt: HostRuntime) -> Result<(), Fail> {
+    abort_in_the_middle(&rt, rt.alloc(), 1024)
+}
+
+/// Locks database 1 in session 1, and database 2 shared by all sessions behind it except the last, who then wait for database 1.
 fn build_cycles(
     rt: &impl Abort,
     book: &mut Book,
@@ -79,23 +90,27 @@ fn build_cycles(
     two: Resource,
 ) -> Result<(), NoMemory> {
     begin_all(rt, book)?;
+    let last = book.sessions();
     let granted = Reply::Granted(Mode::X);
     want_each(rt, book, 1, 2, Call::Lock(one, Mode::X), granted)?;
     let shared = Reply::Granted(Mode::S);
-    want_each(rt, book, 2, 256, Call::Lock(two, Mode::S), shared)?;
-    want_each(rt, book, 2, 256, Call::Lock(one, Mode::S), Reply::Waiting)
+    want_each(rt, book, 2, last, Call::Lock(two, Mode::S), shared)?;
+    want_each(rt, book, 2, last, Call::Lock(one, Mode::S), Reply::Waiting)
 }
 
-/// Requests database 2 in X in session 1, which closes 254 cycles, and expects sessions 2 to 255 to be victims.
-fn ask_for_what_all_hold(rt: &impl Abort, book: &mut Book) -> Result<(), Fail> {
+/// Requests database 2 in X in session 1, which closes a cycle with each session that waits, and expects all of these to be
+/// victims.
+fn ask_for_what_all_hold(rt: &impl Abort, alloc: Global, sessions: u16) -> Result<(), Fail> {
+    let mut made = new_book(rt, alloc, sessions)?;
+    let book = &mut made;
     let one = resource(1)?;
     let two = resource(2)?;
     build_cycles(rt, book, one, two)?;
     // session 1 is the oldest; it waits until the victims abort
     let asked = Call::Lock(two, Mode::X);
     want_each(rt, book, 1, 2, asked, Reply::Waiting)?;
-    want_each(rt, book, 2, 256, Call::Poll, Reply::Deadlock)?;
-    want_each(rt, book, 2, 256, Call::Abort, Reply::Aborted(1))?;
+    want_each(rt, book, 2, sessions, Call::Poll, Reply::Deadlock)?;
+    want_each(rt, book, 2, sessions, Call::Abort, Reply::Aborted(1))?;
     want_each(rt, book, 1, 2, Call::Poll, Reply::Clear)?;
     want_each(rt, book, 1, 2, Call::Commit, Reply::Committed(2))?;
     Ok(())
@@ -104,6 +119,11 @@ fn ask_for_what_all_hold(rt: &impl Abort, book: &mut Book) -> Result<(), Fail> {
 /// One request closes a cycle with each of 254 sessions, and all of these are victims.
 #[test]
 fn one_call_has_254_victims(rt: HostRuntime) -> Result<(), Fail> {
-    let mut book = new_book(&rt, rt.alloc(), 256)?;
-    ask_for_what_all_hold(&rt, &mut book)
+    ask_for_what_all_hold(&rt, rt.alloc(), 256)
+}
+
+/// So does one with each of 1,022 sessions.
+#[test]
+fn one_call_has_1022_victims(rt: HostRuntime) -> Result<(), Fail> {
+    ask_for_what_all_hold(&rt, rt.alloc(), 1024)
 }

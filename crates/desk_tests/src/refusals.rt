@@ -300,11 +300,11 @@ fn a_refused_list_of_holders_is_unchanged(rt: HostRuntime) -> Result<(), Fail> {
     want_six_holders(&rt, rt.alloc(), &book)
 }
 
-/// Makes a book of 256 sessions, a second time if memory is refused. Returns whether it was.
+/// Makes a book of 1,024 sessions, a second time if memory is refused. Returns whether it was.
 fn made_book(alloc: Global) -> Result<(Book, bool), NoMemory> {
-    match Book::new(alloc, 256) {
+    match Book::new(alloc, 1024) {
         Ok(book) => Ok((book, false)),
-        Err(NoMemory) => match Book::new(alloc, 256) {
+        Err(NoMemory) => match Book::new(alloc, 1024) {
             Ok(book) => Ok((book, true)),
             Err(NoMemory) => Err(NoMemory),
         },
@@ -316,7 +316,7 @@ fn made_book(alloc: Global) -> Result<(Book, bool), NoMemory> {
 #[test]
 fn a_refused_book_is_made_at_the_second_try(rt: HostRuntime) -> Result<(), Fail> {
     let (book, was_refused) = made_book(rt.alloc())?;
-    assert_eq!(rt; book.sessions(), 256);
+    assert_eq!(rt; book.sessions(), 1024);
     assert!(rt; book.history().is_empty());
     if was_refused {
         println!(&rt; "refused")?;

@@ -11,7 +11,7 @@ use Rattle.glm.specs.declared.args.TheConstants.{MAX_TURNS}
 use Rattle.glm.specs.declared.args.Request.{Request}
 use Rattle.glm.specs.declared.args.Request.TheVariants as request
 
--- the option `--sessions N`: 1 to MAX_SESSIONS, 256 by default
+-- the option `--sessions N`: 1 to MAX_SESSIONS, by default 256
 abbrev pub sessions_option : Rule
 sessions_option = record (new_rule (codes "sessions")) {
   long = Some (codes "sessions");

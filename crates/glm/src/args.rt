@@ -39,7 +39,7 @@ fn sessions_arg<'a>(alloc: Global) -> Arg<'a>
     Arg::new(alloc, "sessions")
         .long("sessions")
         .value_name("N")
-        .help("How many sessions there are, 1 to 256")
+        .help("How many sessions there are, 1 to 1024")
         .value_parser(value_parser!(u32).range(1..=i64::from(MAX_SESSIONS)))
         .default_value("256")
 }

@@ -17,16 +17,16 @@ pub fn words_ask_for_one_thing()
     ensures replay_or_help { (words : List Text) (n : ℕ) → AskReplay words n → ¬ AskHelp words }
 {}
 
-/// Command lines with what they ask for. A number that is left out is the greatest that the option takes. A number below 1
-/// or above the greatest is refused, and so is one with a plus sign or a leading zero.
+/// Command lines with what they ask for. If the number of sessions is left out, it is 256; if the number of tries is, it is
+/// the greatest. A number below 1 or above the greatest is refused, and so is one with a plus sign or a leading zero.
 pub fn words_ask_as_documented()
-    ensures left_out { AskReplay (codes "glm" ∷ codes "replay" ∷ []) MAX_SESSIONS }
+    ensures left_out { AskReplay (codes "glm" ∷ codes "replay" ∷ []) 256 }
     ensures apart { AskReplay (codes "glm" ∷ codes "replay" ∷ codes "--sessions" ∷ codes "7" ∷ []) 7 }
-    ensures attached { AskReplay (codes "glm" ∷ codes "replay" ∷ codes "--sessions=256" ∷ []) 256 }
+    ensures attached { AskReplay (codes "glm" ∷ codes "replay" ∷ codes "--sessions=1024" ∷ []) MAX_SESSIONS }
     ensures plus { AskNothing (codes "glm" ∷ codes "replay" ∷ codes "--sessions=+7" ∷ []) }
     ensures zeros { AskNothing (codes "glm" ∷ codes "replay" ∷ codes "--sessions=007" ∷ []) }
     ensures none { AskNothing (codes "glm" ∷ codes "replay" ∷ codes "--sessions" ∷ codes "0" ∷ []) }
-    ensures too_many { AskNothing (codes "glm" ∷ codes "replay" ∷ codes "--sessions" ∷ codes "257" ∷ []) }
+    ensures too_many { AskNothing (codes "glm" ∷ codes "replay" ∷ codes "--sessions" ∷ codes "1025" ∷ []) }
     ensures no_command { AskNothing (codes "glm" ∷ []) }
     ensures unknown { AskNothing (codes "glm" ∷ codes "serve" ∷ []) }
     ensures help { AskHelp (codes "glm" ∷ codes "--help" ∷ []) }
@@ -34,11 +34,11 @@ pub fn words_ask_as_documented()
     ensures replay_help { AskHelp (codes "glm" ∷ codes "replay" ∷ codes "--help" ∷ []) }
     ensures version { AskVersion (codes "glm" ∷ codes "--version" ∷ []) }
     ensures version_short { AskVersion (codes "glm" ∷ codes "-V" ∷ []) }
-    ensures run { AskRun (codes "glm" ∷ codes "run" ∷ []) MAX_SESSIONS MAX_TURNS }
+    ensures run { AskRun (codes "glm" ∷ codes "run" ∷ []) 256 MAX_TURNS }
     ensures run_turns { AskRun (codes "glm" ∷ codes "run" ∷ codes "--turns" ∷ codes "9" ∷ codes "--sessions=2" ∷ []) 2 9 }
     ensures no_turns { AskNothing (codes "glm" ∷ codes "run" ∷ codes "--turns=0" ∷ []) }
     ensures too_many_turns { AskNothing (codes "glm" ∷ codes "run" ∷ codes "--turns=1000000001" ∷ []) }
     ensures replay_turns { AskNothing (codes "glm" ∷ codes "replay" ∷ codes "--turns=9" ∷ []) }
-    ensures check { AskCheck (codes "glm" ∷ codes "check" ∷ []) MAX_SESSIONS }
+    ensures check { AskCheck (codes "glm" ∷ codes "check" ∷ []) 256 }
     ensures check_sessions { AskCheck (codes "glm" ∷ codes "check" ∷ codes "--sessions" ∷ codes "8" ∷ []) 8 }
 {}

@@ -10,8 +10,8 @@ pub const VERSION_TEXT: &str = "glm 0.7.0\nproved with rattle-kit-13f, logic dac
 pub(crate) const ABOUT_REPLAY: &str =
     "Serves a trace from standard input on one thread, and writes its history to standard output.
 
-A row of a trace is session,op,resource,mode, one for each call. A resource is 1 to 4 numbers joined by '/', of a
-database, a file, a page and a record. A mode is IS, IX, S, SIX, U or X.
+A row of a trace is session,op,resource,mode, one for each call. A resource is 1 to 5 numbers joined by '/', of a
+database, a file, a page, a record and a field. A mode is IS, IX, S, SIX, U or X.
 
   1,begin,,            opens a transaction of session 1
   1,lock,1/2,S         asks for file 2 of database 1

@@ -151,10 +151,10 @@ pub fn locks_are_few()
     ensures { (history : List EntryValue) → AreLocksBounded (state_of history) }
 {}
 
-/// The greatest number of locks of a session is 4096, and the greatest number of sessions is 256.
+/// The greatest number of locks of a session is 4096, and the greatest number of sessions is 1024.
 pub fn limits_are_as_documented()
     ensures locks { MAX_LOCKS ≡ 4096 }
-    ensures sessions { MAX_SESSIONS ≡ 256 }
+    ensures sessions { MAX_SESSIONS ≡ 1024 }
 {}
 
 /// A mode fits exactly if it is compatible with the mode of each other session that holds the resource.

@@ -1,5 +1,5 @@
 -- What a resource feeds to a hasher.
-use Rattle.std.specs.Prelude.{◌≡◌, ℕ, ◌+◌, ◌*◌, ◌-◌, ◌^◌, true, ◌&&◌, ◌==◌, List, ◌++◌, length, take, map, replicate, slice_index}
+use Rattle.std.specs.Prelude.{◌≡◌, ℕ, ◌+◌, ◌*◌, ◌-◌, ◌^◌, ◌/◌, true, ◌&&◌, ◌==◌, List, ◌++◌, length, take, map, replicate, slice_index}
 use Rattle.std.specs.List.{flat_map, range_with_len}
 use Rattle.std.specs.Hash as fed
 use Rattle.std.specs.Cmp.{first_so, second_so}
@@ -8,15 +8,14 @@ use Rattle.std.proofs.Common.{sym, ap, ◌∙◌}
 use Rattle.std.proofs.Math.Seq.{take-append_seam}
 use Rattle.std.proofs.lemmas.Bool.Decides.{Decides-eqb}
 use Rattle.lock_tree.specs.declared.levels.TheConstants.{LEVELS}
-use Rattle.lock_tree.specs.declared.resource.TheConstants.{WORDS}
 
 -- two numbers in one 64-bit word, the first in the lower half; a number past the last counts as 0
 abbrev pub word_at : List ℕ → ℕ → ℕ
 word_at r k = slice_index r (2 * k) + 2 ^ 32 * slice_index r (2 * k + 1)
 
--- the words of all numbers
+-- the words of the numbers that the resource has
 abbrev pub words_of : List ℕ → List ℕ
-words_of r = map (word_at r) (range_with_len 0 WORDS)
+words_of r = map (word_at r) (range_with_len 0 ((length r + 1) / 2))
 
 -- the writes to a hasher: one for each word
 abbrev pub hash_input_of : List ℕ → List (List ℕ)

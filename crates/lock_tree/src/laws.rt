@@ -48,12 +48,12 @@ pub fn parents_are_the_longest_ancestors()
 {}
 
 /// Equal resources hash alike, since what is fed to a hasher follows from the numbers. It is one write for every two
-/// numbers that a resource can have.
+/// numbers that the resource has.
 pub fn equal_resources_hash_alike()
     ensures alike { (a b : List ℕ) → same_path a b ≡ true
         → ⟦<Resource as Hash>⟧.hash_input a ≡ ⟦<Resource as Hash>⟧.hash_input b }
     ensures words { (r : List ℕ) → ⟦<Resource as Hash>⟧.hash_input r ≡ hash_input_of r }
-    ensures writes { (r : List ℕ) → length (hash_input_of r) ≡ (LEVELS + 1) / 2 }
+    ensures writes { (r : List ℕ) → length (hash_input_of r) ≡ (length r + 1) / 2 }
 {}
 
 /// Resources are ordered number by number, and a prefix comes before what continues it.

@@ -1,6 +1,6 @@
 //! A resource: the path of numbers from the top of the lock tree down to a node.
 
-ghost use Rattle.std.specs.Prelude.{◌≡◌, ◌<◌, ◌≤◌, ◌↔◌, ℕ, List, Some, Ok, Err, true, length, take, IsTrue, IsSome, IfSome};
+ghost use Rattle.std.specs.Prelude.{◌≡◌, ◌*◌, ◌<◌, ◌≤◌, ◌↔◌, ℕ, List, Some, Ok, Err, true, length, take, IsTrue, IsSome, IfSome};
 ghost use Rattle.lock_tree.specs.Paths.{IsResource, IsAncestor, is_ancestor, is_proper_prefix, has_parent, parent_of};
 ghost use Rattle.lock_tree.specs.Text.{text_of};
 ghost use Rattle.lock_tree.specs.Faults.{fault_of};
@@ -14,9 +14,6 @@ use crate::piece::read_piece;
 use std::fmt;
 use std::hash::{Hash, Hasher};
 use std::marker::Model;
-
-/// How many 64-bit words hold all numbers, two in each word.
-const WORDS: usize = (LEVELS + 1) / 2;
 
 /// A node of the lock tree: the 1 to `LEVELS` numbers on the path to it, from the top, each from 0 to 4294967295.
 ///
@@ -165,7 +162,7 @@ impl Resource {
 
     /// The numbers at `2k` and `2k + 1` in one word, the first in the lower half.
     fn word(&self, k: usize) -> u64
-        requires { k < WORDS }
+        requires { 2 * k < LEVELS }
         ensures { result ≡ word_at self.now k }
     {
         let lower = self.numbers[2 * k] as u64;
@@ -194,8 +191,8 @@ fn is_proper_prefix(numbers: &[u32], others: &[u32]) -> bool
     count < others.len() && numbers == &others[..count]
 }
 
-/// Feeds two numbers in each write, since most hashers multiply once for each write. The level is left out, so
-/// resources that differ only by zeros at the end have the same hash. This is this project's own choice.
+/// Feeds two numbers in each write, since most hashers multiply once for each write. The level is left out, so a resource
+/// of an odd level has the hash of the one below it whose last number is 0. This is this project's own choice.
 impl Hash for Resource {
     ghost use Rattle.lock_tree.specs.Hashes.{equal_hash_alike};
 
@@ -204,7 +201,7 @@ impl Hash for Resource {
     ghost respects_eq = { equal_hash_alike };
 
     fn hash<H: Hasher>(&self, state: &mut H) {
-        for k in 0..WORDS {
+        for k in 0..(self.level as usize + 1) / 2 {
             state.write_u64(self.word(k));
         }
     }

@@ -311,12 +311,12 @@ fn begin_and_shuffle(
 
 /// The order of the sessions doesn't matter for a close.
 #[test]
-fn all_256_sessions_close_in_any_order(rt: HostRuntime) -> Result<(), Fail> {
-    let (office, sessions) = Office::open(rt.alloc(), 256)?;
+fn all_1024_sessions_close_in_any_order(rt: HostRuntime) -> Result<(), Fail> {
+    let (office, sessions) = Office::open(rt.alloc(), 1024)?;
     let shuffled = begin_and_shuffle(rt.alloc(), &office, sessions)?;
     let first = shuffled.first().expect(&rt, "a session");
     assert!(rt; first.number() != 1);
-    assert_eq!(rt; entries_of(&rt, office, shuffled), 256);
+    assert_eq!(rt; entries_of(&rt, office, shuffled), 1024);
     Ok(())
 }
 

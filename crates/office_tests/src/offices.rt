@@ -100,15 +100,15 @@ pub(crate) fn want_fresh(rt: &impl Abort, sessions: &[Session]) {
     }
 }
 
-/// 0 and 257 sessions are refused, and 256 are opened.
+/// 0 and 1,025 sessions are refused, and 1,024 are opened.
 #[test]
-fn an_office_is_opened_for_1_to_256_sessions(rt: HostRuntime) -> Result<(), Fail> {
+fn an_office_is_opened_for_1_to_1024_sessions(rt: HostRuntime) -> Result<(), Fail> {
     assert_eq!(rt; OpenFault::NoSessions as u8, 1);
     assert_eq!(rt; OpenFault::TooManySessions as u8, 2);
     assert_eq!(rt; OpenFault::NoMemory as u8, 3);
     assert!(rt; new_office(rt.alloc(), 0).err() == Some(OpenFault::NoSessions));
-    assert!(rt; new_office(rt.alloc(), 257).err() == Some(OpenFault::TooManySessions));
-    let (_office, sessions) = new_office(rt.alloc(), 256)?;
+    assert!(rt; new_office(rt.alloc(), 1025).err() == Some(OpenFault::TooManySessions));
+    let (_office, sessions) = new_office(rt.alloc(), 1024)?;
     want_fresh(&rt, &sessions);
     Ok(())
 }

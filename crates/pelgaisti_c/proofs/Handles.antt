@@ -5,7 +5,7 @@ use Rattle.std.specs.Prelude.{Bool, true, false, ◌||◌, ◌==◌}
 use Rattle.atomic_table.specs.Seated.{TableId}
 use Rattle.publication.specs.Boards.{new_ticket, new_tickets}
 use Rattle.publication.specs.Views.{TicketView}
-use Rattle.pelgaisti_c.specs.inner.SessionNumbers.{has_number}
+use Rattle.publication.proofs.Gathering.{has_number}
 
 -- the list of k new sessions has length k
 pub new_tickets_count : (id : TableId) (sessions k : ℕ) → length (new_tickets id sessions k) ≡ k

@@ -1,46 +1,37 @@
 //! Handing sessions in to one another, and closing an office.
 
-ghost use Rattle.std.specs.Prelude.{◌≡◌, ◌≢◌, ◌<◌, ◌∷◌, ◌++◌, [], ◌↔◌, ◌⊎◌, true, false, None, IsTrue, IsSome, IfOk, IfErr, IfSome, vec_len, vec_capacity};
-ghost use Rattle.std.specs.List.{list_any};
+ghost use Rattle.std.specs.Prelude.{◌≡◌, ◌≢◌, ◌<◌, ◌≤◌, ◌∷◌, ◌++◌, [], ◌↔◌, ◌⊎◌, true, false, None, IsTrue, IsSome, IfOk, IfErr, IfSome, vec_len, vec_capacity};
+ghost use Rattle.lock_rules.specs.declared.calls.TheConstants.{MAX_SESSIONS};
 ghost use Rattle.publication.specs.Boards.{IsEachOnce};
 ghost use Rattle.combining.specs.Sessions.{HasNothingPending};
 ghost use Rattle.combining.specs.Closed.{IsClosed};
 ghost use Rattle.pelgaisti_c.specs.Offices.{all_of};
-ghost use Rattle.pelgaisti_c.specs.inner.SessionNumbers.{has_number};
 ghost use Rattle.pelgaisti_c.specs.Sessions.{IsSameShare, IsHandedIn};
 
 use crate::session_share::SessionShare;
 use crate::status::{COPIED, MISSING, NO_MEMORY, OTHER_OFFICE, PENDING};
 use combining::{CloseFault, Session};
 use lock_desk::Book;
+use lock_rules::MAX_SESSIONS;
+use publication::Roll;
 use std::alloc::Global;
 use std::sync::Arc;
 
-/// Whether one of the sessions has this number.
-fn is_among(sessions: &[Session], number: u16) -> bool
-    ensures { result ≡ has_number number sessions.now }
-{
-    sessions.iter().any(|session| session.number() == number)
-}
-
-/// Whether one of `handed`, or `last`, has this number.
-fn has_number(handed: &[Session], last: &Session, number: u16) -> bool
-    ensures { result ≡ has_number number (handed.now ++ last.now ∷ []) }
-{
-    let among = is_among(handed, number);
-    among || last.number() == number
-}
-
-/// Whether `handed` and `last` together are all sessions of an office with `sessions` sessions. Searches for each
-/// number, which takes no memory.
+/// Whether `handed` and `last` together are all sessions of an office with `sessions` sessions. It looks at each of them and at
+/// each number once, and takes no memory.
 fn is_each_once(handed: &[Session], last: &Session, sessions: u16) -> bool
+    requires few { sessions ≤ MAX_SESSIONS }
     ensures { IsTrue result ↔ IsEachOnce sessions (handed.now ++ last.now ∷ []) }
 {
-    let mut is_whole = handed.len() + 1 == usize::from(sessions);
-    for before in 0..sessions {
-        is_whole = is_whole && has_number(handed, last, before + 1);
+    if handed.len() + 1 != usize::from(sessions) {
+        return false;
     }
-    is_whole
+    let mut roll = Roll::new();
+    for session in handed {
+        roll.call(session.number());
+    }
+    roll.call(last.number());
+    roll.has_all(sessions)
 }
 
 /// Whether the session has no pending call.

@@ -20,6 +20,7 @@ mod session_calls;
 mod session_handle;
 mod session_share;
 mod status;
+mod version;
 
 pub use book_handle::BookHandle;
 pub use numbers::{
@@ -27,3 +28,4 @@ pub use numbers::{
     ResourceNumbers,
 };
 pub use session_handle::SessionHandle;
+pub use version::HEADER_VERSION;

@@ -2,6 +2,7 @@
 
 ghost use Rattle.std.specs.Prelude.{◌≡◌, ◌≢◌, ◌≤◌, ◌⊎◌, ◌↔◌, [], true, false, Some, None, All, Any, IfOk, length, map};
 ghost use Rattle.combining.specs.Sessions.{IsSessionOf, IsIdle};
+ghost use Rattle.lock_rules.specs.declared.calls.TheConstants.{MAX_SESSIONS};
 ghost use Rattle.publication.specs.Views.{BoardView};
 ghost use Rattle.pelgaisti_c.specs.Offices.{IsOfOffice, AreSessionsOf};
 
@@ -37,6 +38,7 @@ fn share_of(
 ) -> Result<Box<SessionShare>, AllocError>
     requires ours { IsSessionOf shared.now.value session × IsIdle session }
     requires count { count ≡ shared.now.value.sessions }
+    requires few { count ≤ MAX_SESSIONS }
     ensures session { IfOk result (λ share. share.value.session ≡ session) }
     ensures office { IfOk result (λ share. IsOfOffice shared.now.value mark share.value) }
 {
@@ -62,6 +64,7 @@ fn shares_of(
 ) -> Result<Vec<Box<SessionShare>>, AllocError>
     requires ours { All (λ session. IsSessionOf office session × IsIdle session) sessions.items }
     requires count { count ≡ office.sessions }
+    requires few { count ≤ MAX_SESSIONS }
     ensures sessions { IfOk result (λ shares. map (λ share. share.value.session) shares.items ≡ sessions.items) }
     ensures office { IfOk result (λ shares. All (λ share. IsOfOffice office mark share.value) shares.items) }
 {

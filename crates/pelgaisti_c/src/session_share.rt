@@ -1,6 +1,7 @@
 //! What a session's handle holds.
 
-ghost use Rattle.std.specs.Prelude.{◌≡◌, All};
+ghost use Rattle.std.specs.Prelude.{◌≡◌, ◌≤◌, All};
+ghost use Rattle.lock_rules.specs.declared.calls.TheConstants.{MAX_SESSIONS};
 ghost use Rattle.combining.specs.Sessions.{IsSessionOf, HasNothingPending};
 
 use combining::{Office, Session};
@@ -22,4 +23,5 @@ pub struct SessionShare {
     ghost ours: { IsSessionOf office.value session },
     ghost theirs: { All (λ one. IsSessionOf office.value one × HasNothingPending one) handed.items },
     ghost count: { sessions ≡ office.value.sessions },
+    ghost few: { sessions ≤ MAX_SESSIONS },
 }

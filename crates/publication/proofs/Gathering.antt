@@ -6,8 +6,6 @@ use Rattle.std.specs.List.{list_any, list_all}
 use Rattle.std.proofs.lemmas.Bool.{not-true}
 use Rattle.std.proofs.lemmas.Bool.Decides.{nat_tests}
 use mathlib.Core.Option as opt
-use mathlib.Core.Logic.{dite}
-use native.Mathlib.Decide.{ℕ_discrete}
 use lib.ListN.{get_elem?}
 use Rattle.lock_rules.specs.declared.calls.Entry.{Entry}
 use Rattle.publication.specs.Views.{Pending, TicketView}
@@ -66,11 +64,6 @@ equal_numbers a b e = grind (arith, nat_tests)
 abbrev pub has_number : ℕ → List TicketView → Bool
 has_number number ts = list_any (λ t. t.number == number) ts
 
--- Tickets with the numbers 1 to n are in the list.
-abbrev pub has_numbers : ℕ → List TicketView → Bool
-has_numbers zero ts = true
-has_numbers (suc n) ts = has_numbers n ts && has_number (suc n) ts
-
 number_found : (n : ℕ) (ts : List TicketView) → has_number n ts ≡ true → Any (λ t. t.number ≡ n) ts
 number_found n [] e = absurd (cc e)
 number_found n (t ∷ ts) e = (elim (t.number == n) as (λ b. t.number == n ≡ b → b || has_number n ts ≡ true → Any (λ u. u.number ≡ n) (t ∷ ts)) [
@@ -87,25 +80,13 @@ number_there n (t ∷ ts) (suc k) d few is = ap (λ (b : Bool). (t.number == n) 
     or_true true = refl
     or_true false = refl
 
-numbers_found : (n : ℕ) (ts : List TicketView) → has_numbers n ts ≡ true → (number : ℕ) → 0 < number → number ≤ n → Any (λ t. t.number ≡ number) ts
-numbers_found zero ts e number some few = absurd (omega arith)
-numbers_found (suc n) ts e number some few = let t = both (has_numbers n ts) (has_number (suc n) ts) e in dite (ℕ_discrete number (suc n))
-    (λ is. subst (λ (m : ℕ). Any (λ u. u.number ≡ m) ts) (sym is) (number_found (suc n) ts t.1))
-    (λ ne. numbers_found n ts t.0 number some (omega arith))
-
-numbers_there : (n : ℕ) (ts : List TicketView) → ((number : ℕ) → 0 < number → number ≤ n → Any (λ t. t.number ≡ number) ts) → has_numbers n ts ≡ true
-numbers_there zero ts all = refl
-numbers_there (suc n) ts all =
-    let r = all (suc n) (omega arith) (omega arith) in
-    let last : has_number (suc n) ts ≡ true = number_there (suc n) ts r.0 r.1 r.2 (ap (λ (t : TicketView). t.number) r.3 ∙ r.4) in
-    let before : has_numbers n ts ≡ true = numbers_there n ts (λ number some few. all number some (omega arith)) in
-    ap (λ (b : Bool). b && has_number (suc n) ts) before ∙ last
-
--- The test is true exactly if each session's ticket is there once.
-pub each_once_tells : (n : ℕ) (ts : List TicketView) (answer : Bool) → answer ≡ (length ts == n) && has_numbers n ts → IsTrue answer ↔ IsEachOnce n ts
-each_once_tells n ts answer is = (
-  (λ yes. let t = both (length ts == n) (has_numbers n ts) (sym is ∙ yes) in record { as_many = same_number (length ts) n t.0; each = numbers_found n ts t.1 }),
-  (λ all. is ∙ (ap (λ (b : Bool). b && has_numbers n ts) (equal_numbers (length ts) n all.as_many) ∙ numbers_there n ts all.each)),
+-- A roll to which all tickets were called has each number up to n exactly if each session's ticket is there once, where the
+-- tickets are as many as the sessions.
+pub each_once_tells : (n most : ℕ) (ts : List TicketView) (called : ℕ → Bool) (answer : Bool) → length ts ≡ n → n ≤ most → ((k : ℕ) → k ≤ most → called k ≡ has_number k ts)
+    → (IsTrue answer ↔ ((k : ℕ) → 0 < k → k ≤ n → called k ≡ true)) → IsTrue answer ↔ IsEachOnce n ts
+each_once_tells n most ts called answer many few same tells = (
+  (λ yes. record { as_many = many; each = λ k some le. number_found k ts (sym (same k (omega (arith, le, few))) ∙ tells.0 yes k some le) }),
+  (λ all. tells.1 (λ k some le. let r = all.each k some le in same k (omega (arith, le, few)) ∙ number_there k ts r.0 r.1 r.2 (ap (λ (t : TicketView). t.number) r.3 ∙ r.4))),
 )
 
 -- all tickets are settled

@@ -1,12 +1,10 @@
 -- The state in which a board opens; the history of a board as a function of its state, and what it has of each session.
-use Rattle.std.specs.Prelude.{◌≡◌, ◌⊎◌, ℕ, ◌+◌, ◌≤◌, ◌==◌, cond, Option, Some, List, [], ◌∷◌, ◌++◌, replicate, slice_set}
+use Rattle.std.specs.Prelude.{◌≡◌, ℕ, ◌+◌, ◌==◌, cond, Option, Some, List, [], ◌∷◌, ◌++◌, replicate, slice_set}
 use mathlib.Core.Option as opt
 use Rattle.std.specs.Global.{Box}
 use Rattle.atomic_table.specs.Table.{opening}
-use Rattle.lock_rules.specs.declared.calls.Call.{Call}
 use Rattle.lock_rules.specs.declared.calls.Entry.{Entry}
-use Rattle.lock_rules.specs.declared.calls.Reply.{Reply}
-use Rattle.lock_rules.specs.Legal.{Answered, calls_of}
+use Rattle.lock_rules.specs.Legal.{Answered}
 use Rattle.publication.specs.Words.{word_of, FREE, END}
 use Rattle.publication.specs.Views.{Pending, IsAccountedIn}
 use Rattle.publication.specs.Rule.{maker, BoardState, word, home, seat}

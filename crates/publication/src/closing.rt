@@ -1,12 +1,14 @@
 //! Which tickets close a board, and how the lock table comes out of it.
-ghost use Rattle.std.specs.Prelude.{◌≡◌, ◌+◌, ◌<◌, ◌==◌, ◌↔◌, IsTrue};
-ghost use Rattle.std.specs.List.{list_any, list_all};
+ghost use Rattle.std.specs.Prelude.{◌≡◌, ◌+◌, ◌<◌, ◌≤◌, ◌↔◌, IsTrue};
+ghost use Rattle.std.specs.List.{list_all};
+ghost use Rattle.lock_rules.specs.declared.calls.TheConstants.{MAX_SESSIONS};
 ghost use Rattle.lock_rules.specs.Legal.{IsLegal};
 ghost use Rattle.publication.specs.Boards.{IsEachOnce};
 ghost use Rattle.publication.specs.inner.Closing.{is_settled, WereHanded, AreEnded};
 
 use crate::board::Ticket;
 use crate::kinds::BoardRule;
+use crate::roll::Roll;
 use crate::slot::{Load, SlotValue};
 use crate::steps::Seat;
 use crate::view::View;
@@ -26,22 +28,20 @@ pub enum CloseFault {
     Unsettled = 2,
 }
 
-/// Whether a ticket with this number is in the slice.
-fn has_number(tickets: &[Ticket], number: u16) -> bool
-    ensures { result ≡ list_any (λ ticket. ticket.number == number) tickets.now }
-{
-    tickets.iter().any(|ticket| ticket.number() == number)
-}
-
-/// Whether the slice holds one ticket for each of the sessions. It takes no memory: it looks for each number in turn.
+/// Whether the slice holds one ticket for each of the sessions. It looks at each ticket and at each number once, and takes
+/// no memory.
 pub(crate) fn is_each_once(tickets: &[Ticket], sessions: u16) -> bool
+    requires few { sessions ≤ MAX_SESSIONS }
     ensures { IsTrue result ↔ IsEachOnce sessions tickets.now }
 {
-    let mut is_whole = tickets.len() == usize::from(sessions);
-    for before in 0..sessions {
-        is_whole = is_whole && has_number(tickets, before + 1);
+    if tickets.len() != usize::from(sessions) {
+        return false;
     }
-    is_whole
+    let mut roll = Roll::new();
+    for ticket in tickets {
+        roll.call(ticket.number());
+    }
+    roll.has_all(sessions)
 }
 
 /// Whether no ticket has a call pending or is the combiner's.

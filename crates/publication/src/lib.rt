@@ -15,6 +15,7 @@ mod kinds;
 pub mod laws;
 pub mod list_laws;
 mod new_board;
+mod roll;
 mod slot;
 mod steps;
 mod view;
@@ -22,4 +23,5 @@ mod words;
 
 pub use board::{Board, Knowledge, Posted, Ticket};
 pub use closing::CloseFault;
+pub use roll::Roll;
 pub use slot::Load;

@@ -17,4 +17,4 @@ mod rows;
 mod search;
 
 /// The largest number of sessions of a [`Rows`]. This project's own limit.
-pub const MAX_SESSIONS: u16 = 256;
+pub const MAX_SESSIONS: u16 = 1024;

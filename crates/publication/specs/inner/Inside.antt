@@ -1,6 +1,7 @@
 -- How the private fields of a board, of a ticket and of a knowledge give what contracts see, and the invariants of the
 -- three types.
-use Rattle.std.specs.Prelude.{◌≡◌, ◌+◌, ◌<◌, [], length}
+use Rattle.std.specs.Prelude.{◌≡◌, ◌+◌, ◌<◌, ◌≤◌, [], length}
+use Rattle.lock_rules.specs.declared.calls.TheConstants.{MAX_SESSIONS}
 use Rattle.publication.specs.Views.{BoardView, TicketView, KnowledgeView}
 use Rattle.publication.specs.Kinds.{copy_of}
 use Rattle.publication.specs.inner.Tickets.{IsBoard, IsBetweenCalls}
@@ -12,11 +13,12 @@ use Rattle.publication.specs.declared.board.knowledge.Knowledge.TheInside.{Insid
 abbrev pub board_view_of : BoardInside → BoardView
 board_view_of b = record { id = b.table.shared.table_id; sessions = b.sessions }
 
--- The table has a record and a slot for the lock and for each session, and there is at least one session.
+-- The table has a record and a slot for the lock and for each session, of which there are 1 to MAX_SESSIONS.
 pub record IsSized (b : BoardInside) : Type 0 where
   pub board : IsBoard b.table.shared.table_id
   pub slots : b.table.shared.table_id.slots ≡ b.sessions + 1
   pub some : 0 < b.sessions
+  pub few : b.sessions ≤ MAX_SESSIONS
 
 -- What contracts see of the ticket.
 abbrev pub ticket_view_of : TicketInside → TicketView

@@ -43,7 +43,7 @@ returns-clause-apart c = record { whole = refl; request_is = (refl, numeral_give
 
 pub returns-clause-attached : goal.returns-clause-attached
 unfolding clap_on_literals
-returns-clause-attached c = record { whole = refl; request_is = (refl, numeral_given (codes "sessions") (codes "256") MAX_SESSIONS 256 _ (omega arith) refl refl (search rules)) }
+returns-clause-attached c = record { whole = refl; request_is = (refl, numeral_given (codes "sessions") (codes "1024") MAX_SESSIONS 1024 _ (omega arith) refl refl (search rules)) }
 
 pub returns-clause-plus : goal.returns-clause-plus
 unfolding clap_on_literals

@@ -14,4 +14,5 @@ invariant_of-share c =
       ours = subst (λ (o : BoardView). IsSessionOf o c.args.session) (sym same) c.requires.ours.0;
       theirs = subst (λ (l : List TicketView). All P l) (sym none) none_handed;
       count = c.requires.count ∙ ap (λ (o : BoardView). o.sessions) (sym same);
+      few = c.requires.few;
     }

@@ -1,6 +1,9 @@
-use Rattle.std.proofs.Common.{◌≡◌, ◌&&◌, ◌==◌, length}
-use Rattle.publication.proofs.Gathering.{has_numbers}
+use Rattle.std.proofs.Common.{◌≡◌, ℕ, ◌≤◌, take}
+use Rattle.lock_rules.specs.declared.calls.TheConstants.{MAX_SESSIONS}
+use Rattle.publication.specs.Rolls.{is_called}
+use Rattle.publication.proofs.Gathering.{has_number}
 use Rattle.publication.proofs.closing.is_each_once.Given as goal
 
-abbrev pub invariant-loop-before : goal.invariant-loop-before
-invariant-loop-before l = l.is_whole ≡ (length l.tickets == l.sessions) && has_numbers l.before l.tickets
+-- the numbers of the tickets so far are called
+abbrev pub invariant-loop-ticket : goal.invariant-loop-ticket
+invariant-loop-ticket l = (n : ℕ) → n ≤ MAX_SESSIONS → is_called l.roll n ≡ has_number n (take l.ticket-index l.tickets)

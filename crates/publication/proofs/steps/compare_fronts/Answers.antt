@@ -1,11 +1,10 @@
 use Rattle.std.proofs.Common.{rules, ◌≡◌, ◌||◌, ◌∙◌, ℕ, true, List, [], refl, sym, ap, subst}
-use mathlib.Core.Option as opt
-use Rattle.atomic_table.specs.Table.{Allows, Joins, step}
+use Rattle.atomic_table.specs.Table.{Joins}
 use Rattle.lock_rules.specs.declared.calls.Entry.{Entry}
 use Rattle.publication.specs.Views.{IsAccountedIn}
 use Rattle.publication.specs.Rule.{blank}
 use Rattle.publication.specs.List.{IsRuled}
-use Rattle.publication.specs.Kinds.{Seated, as_hearer, front_copy_of, joined, longer, compares, comparing}
+use Rattle.publication.specs.Kinds.{Seated, as_hearer, front_copy_of, joined, longer, comparing}
 use Rattle.publication.specs.declared.view.View.{View}
 use Rattle.publication.specs.declared.slot.SlotValue.{SlotValue}
 use Rattle.publication.proofs.LongerFronts.{maxes-none, longer-is}

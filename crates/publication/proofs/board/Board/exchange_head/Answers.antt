@@ -1,4 +1,4 @@
-use Rattle.std.proofs.Common.{rules, ◌≡◌, ◌+◌, ◌<◌, ◌∙◌, ℕ, Bool, true, false, cond, length, get_or, set, refl, sym, ap, subst, arith, length-set, get_or-set_same}
+use Rattle.std.proofs.Common.{rules, ◌≡◌, ◌+◌, ◌<◌, ℕ, Bool, true, false, length, get_or, refl, sym, subst, arith, length-set, get_or-set_same}
 use Rattle.publication.specs.Kinds.{Seated, enlisting, losing_head, heard_all}
 use Rattle.publication.specs.inner.Tickets.{IsBetweenCalls}
 use Rattle.publication.proofs.board.Board.exchange_head.Goals as goal
