@@ -59,6 +59,9 @@ static void books_refuse(void) {
     CHECK(pelgaisti_book_holders(&book, &lock.resource, list, 2, &count) == PELGAISTI_CLOSED);
     CHECK(pelgaisti_book_length(&book, &length) == PELGAISTI_CLOSED);
     CHECK(pelgaisti_book_history(&book, 0, &entry, 1, &count) == PELGAISTI_CLOSED);
+    CHECK(pelgaisti_book_first_kept(&book, &length) == PELGAISTI_CLOSED);
+    CHECK(pelgaisti_book_keep_at_most(&book, 1) == PELGAISTI_CLOSED);
+    CHECK(pelgaisti_book_take_history(&book, &length, &entry, 1, &count) == PELGAISTI_CLOSED);
     CHECK(pelgaisti_book_close(&book) == PELGAISTI_CLOSED);
     CHECK(pelgaisti_book_close(NULL) == PELGAISTI_NULL);
 
@@ -109,6 +112,13 @@ static void books_refuse(void) {
     CHECK(pelgaisti_book_history(NULL, 0, &entry, 1, &count) == PELGAISTI_NULL);
     CHECK(pelgaisti_book_history(&book, 0, NULL, 1, &count) == PELGAISTI_NULL);
     CHECK(pelgaisti_book_history(&book, 0, &entry, 1, NULL) == PELGAISTI_NULL);
+    CHECK(pelgaisti_book_first_kept(NULL, &length) == PELGAISTI_NULL);
+    CHECK(pelgaisti_book_first_kept(&book, NULL) == PELGAISTI_NULL);
+    CHECK(pelgaisti_book_keep_at_most(NULL, 1) == PELGAISTI_NULL);
+    CHECK(pelgaisti_book_take_history(NULL, &length, &entry, 1, &count) == PELGAISTI_NULL);
+    CHECK(pelgaisti_book_take_history(&book, NULL, &entry, 1, &count) == PELGAISTI_NULL);
+    CHECK(pelgaisti_book_take_history(&book, &length, NULL, 1, &count) == PELGAISTI_NULL);
+    CHECK(pelgaisti_book_take_history(&book, &length, &entry, 1, NULL) == PELGAISTI_NULL);
 
     CHECK(reply.kind == 77 && reply.value == 88 && mode == 99 && count == 99 && length == 99);
     CHECK(list[0].session == 5 && list[0].mode == 6 && list[1].session == 7 && list[1].mode == 8);
@@ -169,6 +179,57 @@ static void books_serve(void) {
     CHECK(pelgaisti_book_history(&book, 9, entries, 4, &count) == PELGAISTI_OK && count == 0);
     CHECK(pelgaisti_book_history(&book, UINT64_MAX, entries, 4, &count) == PELGAISTI_OK && count == 0);
     CHECK(pelgaisti_book_history(&book, 0, NULL, 0, &count) == PELGAISTI_OK && count == 0);
+    CHECK(pelgaisti_book_close(&book) == PELGAISTI_OK);
+}
+
+/* Entries of the history are taken, let go by a bound, and told as such; replies are as without. */
+static void history_is_let_go(void) {
+    pelgaisti_book book = PELGAISTI_EMPTY;
+    pelgaisti_reply reply;
+    pelgaisti_entry entries[4];
+    size_t count = 99;
+    uint64_t first = 99, length = 99;
+    pelgaisti_call begin = call_of(PELGAISTI_BEGIN, 0, 0, 0, 0), poll = call_of(PELGAISTI_POLL, 0, 0, 0, 0);
+    pelgaisti_call write = call_of(PELGAISTI_LOCK, PELGAISTI_X, 1, 7, 0), commit = call_of(PELGAISTI_COMMIT, 0, 0, 0, 0);
+
+    CHECK(pelgaisti_book_open(&book, 2) == PELGAISTI_OK);
+    CHECK(pelgaisti_book_first_kept(&book, &first) == PELGAISTI_OK && first == 0);
+    for (uint32_t s = 1; s <= 2; s++) {
+        CHECK(pelgaisti_book_serve(&book, s, &begin, &reply) == PELGAISTI_OK);
+        CHECK(pelgaisti_book_serve(&book, s, &write, &reply) == PELGAISTI_OK);
+        CHECK(reply.kind == (s == 1 ? (uint32_t)PELGAISTI_GRANTED : (uint32_t)PELGAISTI_WAITING));
+    }
+    /* the two oldest are taken */
+    memset(entries, 0x55, sizeof entries);
+    CHECK(pelgaisti_book_take_history(&book, &first, entries, 2, &count) == PELGAISTI_OK && first == 0 && count == 2);
+    CHECK(entries[0].session == 1 && entries[0].call.op == PELGAISTI_BEGIN && entries[0].reply.value == 1);
+    CHECK(entries[1].session == 1 && entries[1].call.op == PELGAISTI_LOCK && entries[1].reply.kind == PELGAISTI_GRANTED);
+    CHECK(entries[2].session == 0x55555555);
+    CHECK(pelgaisti_book_first_kept(&book, &first) == PELGAISTI_OK && first == 2);
+    CHECK(pelgaisti_book_length(&book, &length) == PELGAISTI_OK && length == 4);
+    CHECK(pelgaisti_book_history(&book, 1, entries, 4, &count) == PELGAISTI_LET_GO && count == 2);
+    CHECK(pelgaisti_book_history(&book, 2, entries, 4, &count) == PELGAISTI_OK && count == 2);
+    CHECK(entries[0].session == 2 && entries[0].call.op == PELGAISTI_BEGIN && entries[1].reply.kind == PELGAISTI_WAITING);
+    /* one is kept at most */
+    CHECK(pelgaisti_book_keep_at_most(&book, 1) == PELGAISTI_OK);
+    CHECK(pelgaisti_book_first_kept(&book, &first) == PELGAISTI_OK && first == 3);
+    CHECK(pelgaisti_book_serve(&book, 1, &commit, &reply) == PELGAISTI_OK && reply.kind == PELGAISTI_COMMITTED && reply.value == 1);
+    CHECK(pelgaisti_book_first_kept(&book, &first) == PELGAISTI_OK && first == 4);
+    CHECK(pelgaisti_book_serve(&book, 2, &poll, &reply) == PELGAISTI_OK && reply.kind == PELGAISTI_CLEAR);
+    CHECK(pelgaisti_book_history(&book, 4, entries, 4, &count) == PELGAISTI_LET_GO);
+    CHECK(pelgaisti_book_history(&book, 5, entries, 4, &count) == PELGAISTI_OK && count == 1 && entries[0].call.op == PELGAISTI_POLL);
+    /* without a bound, what was let go stays so */
+    CHECK(pelgaisti_book_keep_at_most(&book, UINT64_MAX) == PELGAISTI_OK);
+    CHECK(pelgaisti_book_serve(&book, 2, &poll, &reply) == PELGAISTI_OK);
+    CHECK(pelgaisti_book_first_kept(&book, &first) == PELGAISTI_OK && first == 5);
+    CHECK(pelgaisti_book_take_history(&book, &first, NULL, 0, &count) == PELGAISTI_OK && first == 5 && count == 0);
+    CHECK(pelgaisti_book_take_history(&book, &first, entries, 4, &count) == PELGAISTI_OK && first == 5 && count == 2);
+    CHECK(pelgaisti_book_take_history(&book, &first, entries, 4, &count) == PELGAISTI_OK && first == 7 && count == 0);
+    /* none is kept */
+    CHECK(pelgaisti_book_keep_at_most(&book, 0) == PELGAISTI_OK);
+    CHECK(pelgaisti_book_serve(&book, 2, &commit, &reply) == PELGAISTI_OK && reply.kind == PELGAISTI_COMMITTED && reply.value == 1);
+    CHECK(pelgaisti_book_first_kept(&book, &first) == PELGAISTI_OK && first == 8);
+    CHECK(pelgaisti_book_length(&book, &length) == PELGAISTI_OK && length == 8);
     CHECK(pelgaisti_book_close(&book) == PELGAISTI_OK);
 }
 
@@ -500,6 +561,7 @@ static void threads_share(void) {
 int main(void) {
     books_refuse();
     books_serve();
+    history_is_let_go();
     levels_are_locked();
     modes_meet();
     sessions_refuse();

@@ -40,7 +40,7 @@ UNSTARTED = (5, b"", b"glm: device\n")
 # the tests whose allocations are refused, by the crate: all whose names begin so
 TESTED = {
     "base_tests": ("traces::reports_the_row_in_which_memory_was_refused", "waits::refused_"),
-    "desk_tests": ("batches::", "books::", "queues::", "refusals::", "refused_batches::"),
+    "desk_tests": ("batches::", "books::", "kept::", "queues::", "refusals::", "refused_batches::"),
     "office_tests": ("ages::", "boards::", "closing::", "dropping::", "hearing::", "listing::", "offices::", "refusals::"),
 }
 # except these: tests with threads, with two offices, and of the publication list, where a starved pass counts as a pass, which

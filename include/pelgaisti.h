@@ -85,7 +85,8 @@ typedef enum pelgaisti_status {
     PELGAISTI_MISSING = 15,        /* a session of the office was not handed in */
     PELGAISTI_COPIED = 16,         /* a handle was copied or moved, against the rules above; see pelgaisti_office_close */
     PELGAISTI_NULL = 17,           /* a pointer is NULL and must not be */
-    PELGAISTI_SAME = 18            /* both arguments are the same handle */
+    PELGAISTI_SAME = 18,           /* both arguments are the same handle */
+    PELGAISTI_LET_GO = 19          /* the entry at this place of the history was let go */
 } pelgaisti_status;
 
 /* The lock modes of Gray, Lorie, Putzolu and Traiger (1976), and U. The or of two codes is their least upper bound's code. */
@@ -240,14 +241,30 @@ uint32_t pelgaisti_book_held(pelgaisti_book *book, uint32_t session, const pelga
 uint32_t pelgaisti_book_holders(pelgaisti_book *book, const pelgaisti_resource *resource, pelgaisti_holder *list, size_t room,
                                 size_t *count);
 
-/* Writes the number of entries of the history.
+/* Writes the number of entries of the history, those that were let go among them.
    NULL, CLOSED. */
 uint32_t pelgaisti_book_length(pelgaisti_book *book, uint64_t *length);
 
 /* Writes up to `room` entries of the history from index `first` on, oldest first, to `entries`, and the number of entries that it
    wrote to `count`. `entries` may be NULL if `room` is 0. Requires `room` elements at `entries`.
-   NULL, CLOSED. */
+   NULL, CLOSED, LET_GO (the entry at `first`). */
 uint32_t pelgaisti_book_history(pelgaisti_book *book, uint64_t first, pelgaisti_entry *entries, size_t room, size_t *count);
+
+/* Writes the index of the first entry of the history that is kept: how many were let go.
+   NULL, CLOSED. */
+uint32_t pelgaisti_book_first_kept(pelgaisti_book *book, uint64_t *first);
+
+/* Keeps at most the newest `bound` entries of the history from now on, and lets go of older ones as calls are served. With a bound
+   the history takes at most the memory of four times as many entries. UINT64_MAX is no bound. What was let go doesn't come back.
+   NULL, CLOSED. */
+uint32_t pelgaisti_book_keep_at_most(pelgaisti_book *book, uint64_t bound);
+
+/* Writes the oldest entries of the history that are kept, up to `room`, to `entries`, and lets go of them. Writes the index of the
+   first to `first`, and how many there are to `count`. So pieces that are taken one after another follow one another without a
+   gap, unless a bound lets go of entries between them. `entries` may be NULL if `room` is 0. Requires `room` elements at
+   `entries`.
+   NULL, CLOSED. */
+uint32_t pelgaisti_book_take_history(pelgaisti_book *book, uint64_t *first, pelgaisti_entry *entries, size_t room, size_t *count);
 
 /* ---- An office: a lock table that threads share, each by a session of its own. ---- */
 
@@ -338,6 +355,21 @@ static inline uint32_t pelgaisti_tested_book_history(pelgaisti_book *book, uint6
     return pelgaisti_book_history(book, first, entries ? entries : &none, room, count);
 }
 
+static inline uint32_t pelgaisti_tested_book_first_kept(pelgaisti_book *book, uint64_t *first) {
+    return book && first ? pelgaisti_book_first_kept(book, first) : (uint32_t)PELGAISTI_NULL;
+}
+
+static inline uint32_t pelgaisti_tested_book_keep_at_most(pelgaisti_book *book, uint64_t bound) {
+    return book ? pelgaisti_book_keep_at_most(book, bound) : (uint32_t)PELGAISTI_NULL;
+}
+
+static inline uint32_t pelgaisti_tested_book_take_history(pelgaisti_book *book, uint64_t *first, pelgaisti_entry *entries,
+                                                          size_t room, size_t *count) {
+    pelgaisti_entry none;
+    if (!book || !first || !count || (!entries && room)) return PELGAISTI_NULL;
+    return pelgaisti_book_take_history(book, first, entries ? entries : &none, room, count);
+}
+
 static inline uint32_t pelgaisti_tested_office_open(pelgaisti_session *sessions, size_t count) {
     return sessions ? pelgaisti_office_open(sessions, count, (uint64_t)(uintptr_t)sessions) : (uint32_t)PELGAISTI_NULL;
 }
@@ -388,6 +420,10 @@ static inline uint32_t pelgaisti_tested_office_close(pelgaisti_session *session,
 #define pelgaisti_book_length(book, length) pelgaisti_tested_book_length(book, length)
 #define pelgaisti_book_history(book, first, entries, room, count) \
     pelgaisti_tested_book_history(book, first, entries, room, count)
+#define pelgaisti_book_first_kept(book, first) pelgaisti_tested_book_first_kept(book, first)
+#define pelgaisti_book_keep_at_most(book, bound) pelgaisti_tested_book_keep_at_most(book, bound)
+#define pelgaisti_book_take_history(book, first, entries, room, count) \
+    pelgaisti_tested_book_take_history(book, first, entries, room, count)
 #define pelgaisti_office_open(sessions, count) pelgaisti_tested_office_open(sessions, count)
 #define pelgaisti_session_publish(session, call, posted) pelgaisti_tested_session_publish(session, call, posted)
 #define pelgaisti_session_serve(session, pass) pelgaisti_tested_session_serve(session, pass)

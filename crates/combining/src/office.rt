@@ -10,7 +10,7 @@ ghost use Rattle.combining.specs.Sessions.{IsSessionOf, IsIdle, HasNothingPendin
 ghost use Rattle.combining.specs.Closed.{IsClosed};
 
 use crate::pass::serve_published;
-use lock_desk::{Book, Call, Reply};
+use lock_desk::{Book, Call, NO_BOUND, Reply};
 use lock_rules::MAX_SESSIONS;
 use publication::{Board, CloseFault, Knowledge, Posted, Ticket as Session};
 use std::alloc::Global;
@@ -87,15 +87,33 @@ impl Office {
         ensures sessions { IfOk result (λ made. made.1.items ≡ new_tickets made.0.id sessions sessions) }
         ensures ready { IfOk result (λ made. All (λ session. IsSessionOf made.0 session × IsIdle session) made.1.items) }
     {
+        Office::open_keeping(alloc, sessions, NO_BOUND)
+    }
+
+    /// Opens an office as `open` does, whose lock table keeps at most the newest `bound` entries of its history in memory.
+    /// Older ones are let go as calls are served, so that the memory of an office follows what is held and waited for.
+    /// Contracts go on to see the whole history. With `NO_BOUND` all entries are kept.
+    pub fn open_keeping(
+        alloc: Global,
+        sessions: u16,
+        bound: u64,
+    ) -> Result<(Office, Vec<Session>), OpenFault>
+        ensures none { (result ≡ Err OpenFault.NoSessions) ↔ (sessions ≡ 0) }
+        ensures many { (result ≡ Err OpenFault.TooManySessions) ↔ (MAX_SESSIONS < sessions) }
+        ensures office { IfOk result (λ made. made.0.sessions ≡ sessions) }
+        ensures sessions { IfOk result (λ made. made.1.items ≡ new_tickets made.0.id sessions sessions) }
+        ensures ready { IfOk result (λ made. All (λ session. IsSessionOf made.0 session × IsIdle session) made.1.items) }
+    {
         if sessions == 0 {
             return Err(OpenFault::NoSessions);
         }
         if sessions > MAX_SESSIONS {
             return Err(OpenFault::TooManySessions);
         }
-        let Ok(book) = Book::new(alloc, sessions) else {
+        let Ok(mut book) = Book::new(alloc, sessions) else {
             return Err(OpenFault::NoMemory);
         };
+        book.keep_at_most(bound);
         match Board::new(alloc, book) {
             Ok((board, tickets)) => Ok((Office { board }, tickets)),
             Err(_) => Err(OpenFault::NoMemory),
@@ -232,7 +250,8 @@ impl Office {
         self.board.retire(session);
     }
 
-    /// Closes the office and returns the lock table with the whole history. Needs each session of the office exactly
+    /// Closes the office and returns the lock table with the history, of which it keeps what `Book::history` shows: all
+    /// entries, unless the office was opened with a bound. Needs each session of the office exactly
     /// once, in any order, and none pending. Otherwise it returns the office and the sessions, in their order: with
     /// `Missing` if the vector doesn't hold each session once, else with `Unsettled`. It takes no memory.
     /// `laws::closed_offices_have_one_history` says what the history then is.

@@ -122,8 +122,9 @@ fn answer_row(board: &Board, session: &mut Ticket, book: &Book, row: &[Item], se
     ensures whose { sessions_since (length session.old.front) session.new.front ≡ sessions_of (take served row.now) }
     ensures calls { KeepsCalls session.old session.new }
 {
-    // a vector's length fits into 64 bits, so the history has room for these entries
+    // the history is legal, and its length fits into 64 bits, so there is room for these entries
     let _length = book.history().len();
+    let _served = book.served();
     for item in &row[..served] {
         let Some(reply) = item.reply else {
             unreachable!()

@@ -8,17 +8,18 @@ ghost use Rattle.glm.specs.Replays.{AreRows, HasServed, HasServedPart, IsFaultOf
 
 use crate::tool_fault::ToolFault;
 use crate::writing::write_text;
-use lock_desk::{Book, NoMemory};
+use lock_desk::{Book, NO_BOUND, NoMemory};
 use lock_trace::{TraceRow, history_text, read_trace};
 use std::alloc::Global;
 use std::io::{Read, Write};
 
-/// Serves the rows in order on a fresh lock table, and returns the table. Fails if it finds no memory.
+/// Serves the rows in order on a fresh lock table, and returns the table, which keeps the whole history. Fails if it finds no memory.
 fn serve_all(alloc: Global, rows: &[TraceRow], sessions: u16) -> Result<Book, NoMemory>
     requires some { 0 < sessions }
     requires few { sessions ≤ MAX_SESSIONS }
     requires within { AreRows sessions rows.now }
-    ensures { IfOk result (λ book. map row_of_entry book.history ≡ rows.now) }
+    ensures calls { IfOk result (λ book. map row_of_entry book.history ≡ rows.now) }
+    ensures all { IfOk result (λ book. (book.cut ≡ 0) × (book.bound ≡ NO_BOUND)) }
 {
     let mut book = Book::new(alloc, sessions)?;
     for row in rows {

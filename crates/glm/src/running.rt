@@ -79,6 +79,10 @@ fn performed_text<R: Threads + Wait, G: Gate>(
     let greatest = greatest_session(&rows, sessions);
     let book = performed(rt, alloc, &rows, greatest, turns, gate)?;
     drop(rows);
+    // nobody lets entries of this office go, but no clause of a closed office says so: the text is made of the whole history
+    if book.first_kept() != 0 {
+        return Err(Stop::NoMemory);
+    }
     history_text(alloc, book.history()).map_err(|_| Stop::NoMemory)
 }
 

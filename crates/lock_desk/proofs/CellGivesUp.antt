@@ -4,7 +4,6 @@ use Rattle.std.specs.Map.{lookup}
 use Rattle.lock_tree.specs.Paths.{same_path}
 use Rattle.lock_desk.specs.declared.cells.Cell.{Cell}
 use Rattle.lock_desk.specs.declared.cells.Claim.{Claim}
-use Rattle.lock_desk.specs.declared.cells.Claim.TheVariants as claim
 use Rattle.lock_desk.specs.inner.Cells.{View, no_view, view_of, Cells, cell_at, view_in, cell_view, view_after_giving_up, view_after_freeing, view_after_promotion, HasRoom, IsOnce, is_busy, AreKeptCells, CellsBecame}
 use Rattle.lock_desk.specs.inner.Lockers.{Standing, DoAgree}
 use Rattle.lock_desk.proofs.ResourceViews.{once-giving_up}

@@ -1,11 +1,23 @@
 -- What contracts see of a book.
-use Rattle.std.specs.Prelude.{ℕ, ◌≤◌, List}
+use Rattle.std.specs.Prelude.{ℕ, ◌≤◌, List, length}
+use Rattle.trimmed_list.specs.Kept.{first_kept, kept}
 use Rattle.lock_rules.specs.declared.calls.Entry.{Entry}
 
--- a book: its number of sessions, and the calls that it has served with their replies, oldest first
+-- a book: its number of sessions; the calls that it has served with their replies, oldest first; the place up to which
+-- entries were let go; and how many are kept at most
 pub record BookView : Type 0 where
   pub sessions : ℕ
   pub history : List Entry
+  pub cut : ℕ
+  pub bound : ℕ
+
+-- the place of the first entry of the history that is kept
+abbrev pub first_kept_by : BookView → ℕ
+first_kept_by b = first_kept b.cut b.bound (length b.history)
+
+-- the entries of the history that are kept
+abbrev pub kept_by : BookView → List Entry
+kept_by b = kept b.cut b.bound b.history
 
 -- the entry is of one of the sessions 1 to `sessions`
 pub record IsEntryWithin (sessions : ℕ) (e : Entry) : Type 0 where

@@ -1,6 +1,6 @@
 //! The book: the lock table with the history of its calls.
 
-ghost use Rattle.std.specs.Prelude.{◌≡◌, false, ◌+◌, ◌<◌, ◌≤◌, List, [], ◌∷◌, ◌++◌, if◌then◌else◌, length, map, take, drop, IfOk, OnOk, OnErr};
+ghost use Rattle.std.specs.Prelude.{◌≡◌, false, ◌+◌, ◌-◌, ◌<◌, ◌≤◌, List, [], ◌∷◌, ◌++◌, if◌then◌else◌, length, map, take, drop, min, IfOk, OnOk, OnErr};
 ghost use Rattle.std.specs.List.{All};
 ghost use Rattle.lock_rules.specs.State.{held_mode, holders};
 ghost use Rattle.lock_rules.specs.Step.{step};
@@ -10,7 +10,7 @@ ghost use Rattle.lock_rules.specs.Legal.{state_of, IsLegal};
 ghost use Rattle.lock_rules.specs.Laws.{DoesGrantStand, DoesDoomStand, DoesRequestStand};
 ghost use Rattle.lock_rules.specs.Lawful.{IsLawfulState};
 ghost use Rattle.lock_desk.specs.Batches.{IsItemWithin, entries_from, item_of};
-ghost use Rattle.lock_desk.specs.BookView.{IsEntryWithin};
+ghost use Rattle.lock_desk.specs.BookView.{IsEntryWithin, first_kept_by, kept_by};
 ghost use Rattle.lock_desk.specs.inner.Runs.{AreServed};
 ghost use Rattle.lock_desk.specs.declared.book.Item.{Item as ItemValue};
 
@@ -21,20 +21,23 @@ use lock_rules::{Call, Entry, MAX_SESSIONS, Reply, laws};
 use lock_tree::Resource;
 use std::alloc::{AllocError as NoMemory, Global};
 use std::marker::Model;
+use trimmed_list::{MOST_DROPPED, NO_BOUND, TrimmedList};
 use waits_for::Marks;
 
 /// A lock table with the history of the calls that it has served.
 ///
-/// Contracts see a book as its number of sessions and its history. The history is always legal: each reply is the
-/// one that the sequential lock manager of `lock_rules` gives in the state that the earlier entries lead to.
+/// Contracts see a book as its number of sessions, its history, and which entries of the history are kept in memory: those
+/// behind a cut, and of these the newest up to a bound. The history is always legal: each reply is the one that the
+/// sequential lock manager of `lock_rules` gives in the state that the earlier entries lead to. Entries that are let go stay
+/// in the history that contracts see.
 #[derive(Drop)]
 pub struct Book {
     /// Sessions are numbered from 1 to this number, which is from 1 to `MAX_SESSIONS`.
     sessions: u16,
     /// Represents the state that the history leads to.
     lock_table: LockTable,
-    /// Every served call with its reply, oldest first.
-    history: Vec<Entry>,
+    /// Every served call with its reply, oldest first; in memory are those that are kept.
+    history: TrimmedList<Entry>,
     /// Scratch space of `serve_batch`: a mark for each session, to find a session that occurs twice.
     marks: Marks,
 }
@@ -80,13 +83,15 @@ impl Book {
         requires few { sessions ≤ MAX_SESSIONS }
         ensures sessions { IfOk result (λ book. book.sessions ≡ sessions) }
         ensures empty { IfOk result (λ book. book.history ≡ []) }
+        ensures cut { IfOk result (λ book. book.cut ≡ 0) }
+        ensures bound { IfOk result (λ book. book.bound ≡ NO_BOUND) }
     {
         let lock_table = LockTable::new(alloc, sessions)?;
         let marks = Marks::new(alloc, sessions)?;
         Ok(Book {
             sessions,
             lock_table,
-            history: Vec::new(alloc),
+            history: TrimmedList::new(alloc),
             marks,
         })
     }
@@ -100,16 +105,17 @@ impl Book {
         self.sessions
     }
 
-    /// All served calls with their replies, oldest first.
+    /// The served calls with their replies that are kept, oldest first: all, unless some were let go.
     ///
-    /// The history is legal. The state between any two calls is lawful: no two sessions ever have incompatible
+    /// The whole history is legal. The state between any two calls is lawful: no two sessions ever have incompatible
     /// access to a resource, neither by a lock on the resource nor by a lock on an ancestor, and no request waits
     /// that is first in its queue and fits. A session keeps at least the mode that it was granted until it releases
     /// the lock or its transaction ends. A victim stays doomed until it aborts. A request waits until it is granted,
     /// its session becomes a victim, or it aborts. Which modes are compatible, and what a lock gives below its
     /// resource, is from Gray, Lorie, Putzolu and Traiger (1976), except for U, which is this project's own.
     pub fn history(&self) -> &[Entry]
-        ensures history { result.now ≡ self.now.history }
+        ensures history { result.now ≡ kept_by self.now }
+        ensures all { self.now.cut ≡ 0 → self.now.bound ≡ NO_BOUND → result.now ≡ self.now.history }
         ensures legal { IsLegal self.now.history }
         ensures within { All (IsEntryWithin self.now.sessions) self.now.history }
         ensures lawful { (front rest : List EntryValue) → self.now.history ≡ front ++ rest → IsLawfulState (state_of front) }
@@ -121,7 +127,60 @@ impl Book {
         laws::grants_stand();
         laws::dooms_stand();
         laws::requests_stand();
-        &self.history
+        self.history.kept()
+    }
+
+    /// How many calls the book has served: the place that the next one gets in the history.
+    pub fn served(&self) -> u64
+        ensures count { result ≡ length self.now.history }
+    {
+        self.history.count()
+    }
+
+    /// The place of the first entry that `history` shows: how many entries were let go.
+    pub fn first_kept(&self) -> u64
+        ensures place { result ≡ first_kept_by self.now }
+        ensures within { result ≤ length self.now.history }
+    {
+        self.history.first_kept()
+    }
+
+    /// How many entries of the history are kept at most, `NO_BOUND` unless `keep_at_most` has set a bound.
+    pub fn bound(&self) -> u64
+        ensures bound { result ≡ self.now.bound }
+    {
+        self.history.bound()
+    }
+
+    /// Lets go of the oldest `count` entries of the history that are kept, or of all that are if these are fewer, and
+    /// returns how many they were. The history stays what it is, and their memory serves for later entries.
+    pub fn let_go(&mut self, count: u64) -> u64
+        ensures count { result ≡ min count (length self.old.history - first_kept_by self.old) }
+        ensures cut { self.new ≡ record self.old { cut = first_kept_by self.old + result } }
+    {
+        self.history.let_go(count)
+    }
+
+    /// Keeps at most the newest `bound` entries of the history from now on, and lets go of older ones as calls are served.
+    /// What was let go before doesn't come back. With a bound the memory of the history is that of at most four times as
+    /// many entries.
+    pub fn keep_at_most(&mut self, bound: u64)
+        ensures bound { self.new ≡ record self.old { cut = first_kept_by self.old; bound = bound } }
+    {
+        self.history.keep_at_most(bound);
+    }
+
+    /// Hands out the entries of the history that are kept, the first of which is at the place `first_kept()`, and lets go of
+    /// them: the next call of this kind hands out those that follow. The history stays what it is.
+    ///
+    /// Takes no memory, and moves no entry unless some were let go before. A book that has served more than `MOST_DROPPED`
+    /// calls hands out none.
+    pub fn take_history(&mut self, alloc: Global) -> Vec<Entry>
+        ensures cut { self.new ≡ record self.old { cut = first_kept_by self.old + length result.items } }
+        ensures all { length self.old.history ≤ MOST_DROPPED → result.items ≡ kept_by self.old }
+        ensures none { MOST_DROPPED < length self.old.history → result.items ≡ [] }
+    {
+        self.history.take_kept(alloc)
     }
 
     /// The mode of the lock that `session` holds on `resource`, `None` if it holds none.
@@ -215,6 +274,8 @@ impl Book {
     fn serve_several(&mut self, items: &mut [Item]) -> usize
         requires within { All (IsItemWithin self.old.sessions) items.old }
         ensures sessions { self.new.sessions ≡ self.old.sessions }
+        ensures cut { self.new.cut ≡ self.old.cut }
+        ensures bound { self.new.bound ≡ self.old.bound }
         ensures served { AreServed result items.old self.old.history self.new.history items.new }
     {
         let mut served = 0;
@@ -244,6 +305,8 @@ impl Book {
         requires within { All (IsItemWithin self.old.sessions) items.old }
         requires some { at < length items.old }
         ensures sessions { self.new.sessions ≡ self.old.sessions }
+        ensures cut { self.new.cut ≡ self.old.cut }
+        ensures bound { self.new.bound ≡ self.old.bound }
         ensures within { All (IsItemWithin self.new.sessions) items.new }
         ensures len { length items.new ≡ length items.old }
         ensures served { (batch : List ItemValue) (start : List EntryValue) → AreServed at batch start self.old.history items.old
@@ -263,6 +326,8 @@ impl Book {
         requires some { from < upto }
         requires few { upto ≤ length items.old }
         ensures sessions { self.new.sessions ≡ self.old.sessions }
+        ensures cut { self.new.cut ≡ self.old.cut }
+        ensures bound { self.new.bound ≡ self.old.bound }
         ensures within { All (IsItemWithin self.new.sessions) items.new }
         ensures further { result.out_of_memory ≡ false → from < result.served }
         ensures served { (batch : List ItemValue) (start : List EntryValue) → AreServed from batch start self.old.history items.old
@@ -291,6 +356,8 @@ impl Book {
         requires within { All (IsItemWithin self.old.sessions) items.old }
         requires some { from < length items.old }
         ensures sessions { self.new.sessions ≡ self.old.sessions }
+        ensures cut { self.new.cut ≡ self.old.cut }
+        ensures bound { self.new.bound ≡ self.old.bound }
         ensures within { All (IsItemWithin self.new.sessions) items.new }
         ensures further { result.out_of_memory ≡ false → from < result.served }
         ensures served { (batch : List ItemValue) (start : List EntryValue) → AreServed from batch start self.old.history items.old

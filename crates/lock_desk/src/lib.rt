@@ -35,6 +35,7 @@ pub use book::{Book, Item};
 pub use lock_modes::Mode;
 pub use lock_rules::{Call, Entry, MAX_LOCKS, MAX_SESSIONS, Reply, Why};
 pub use lock_tree::Resource;
+pub use trimmed_list::{MOST_DROPPED, NO_BOUND};
 
 /// The only error of this crate: memory was refused.
 pub use std::alloc::AllocError as NoMemory;

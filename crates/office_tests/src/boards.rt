@@ -79,6 +79,7 @@ fn serve(
         Ok(reply) => reply,
     };
     let _length = load.book.history().len();
+    let _served = load.book.served();
     board.answer(ticket, whose, reply);
     Ok(reply)
 }

@@ -1,11 +1,11 @@
 //! The exports over a book: the lock table for one thread.
 
-ghost use Rattle.std.specs.Prelude.{◌≡◌, ◌≢◌, ◌<◌, ◌≤◌, ◌↔◌, ◌⊎◌, ℕ, List, [], Some, None, length, drop, min};
+ghost use Rattle.std.specs.Prelude.{◌≡◌, ◌≢◌, ◌+◌, ◌-◌, ◌<◌, ◌≤◌, ◌↔◌, ◌⊎◌, ℕ, List, [], Some, None, length, drop, min};
 ghost use Rattle.lock_modes.specs.Codes.{code_of};
 ghost use Rattle.lock_rules.specs.Legal.{state_of};
 ghost use Rattle.lock_rules.specs.State.{held_mode, mode_or_nothing, holders};
 ghost use Rattle.lock_rules.specs.declared.calls.Call.{Call};
-ghost use Rattle.lock_desk.specs.BookView.{BookView};
+ghost use Rattle.lock_desk.specs.BookView.{BookView, first_kept_by, kept_by};
 ghost use Rattle.pelgaisti_c.specs.Numbers.{IsCall, IsCallFault, IsLevel, IsPath, numbers_of_entry, numbers_of_holder};
 ghost use Rattle.pelgaisti_c.specs.Calls.{IsSession, IsServed, are_written};
 
@@ -13,17 +13,17 @@ use crate::book_calls;
 use crate::book_handle::BookHandle;
 use crate::numbers::{CallNumbers, EntryNumbers, HolderNumbers, ReplyNumbers, ResourceNumbers};
 use crate::status::{
-    CLOSED, NO_MEMORY, NO_SUCH_COUNT, NO_SUCH_LEVEL, NO_SUCH_MODE, NO_SUCH_OP, NO_SUCH_SESSION, OK,
-    OPEN,
+    CLOSED, LET_GO, NO_MEMORY, NO_SUCH_COUNT, NO_SUCH_LEVEL, NO_SUCH_MODE, NO_SUCH_OP,
+    NO_SUCH_SESSION, OK, OPEN,
 };
-use lock_desk::Book;
+use lock_desk::{Book, NO_BOUND};
 use lock_rules::MAX_SESSIONS;
 use std::alloc::Global;
 
 /// Opens the handle with an empty book for sessions 1 to `sessions`. The handle must be closed.
 #[unsafe(no_mangle)]
 pub extern "C" fn pelgaisti_book_open(alloc: Global, book: &mut BookHandle, sessions: u32) -> u32
-    ensures ok { result ≡ OK → (book.new.is_open ≡ 1) × (book.new.held.book ≡ Some (record { sessions = sessions; history = [] })) }
+    ensures ok { result ≡ OK → (book.new.is_open ≡ 1) × (book.new.held.book ≡ Some (record { sessions = sessions; history = []; cut = 0; bound = NO_BOUND })) }
     ensures failed { result ≢ OK → book.new ≡ book.old }
     ensures open { result ≡ OPEN ↔ (book.old.is_open ≡ 1) }
     ensures count { result ≡ NO_SUCH_COUNT → (book.old.is_open ≢ 1) × ¬ ((1 ≤ sessions) × (sessions ≤ MAX_SESSIONS)) }
@@ -144,7 +144,7 @@ pub extern "C" fn pelgaisti_book_holders(
     status
 }
 
-/// Writes the number of calls that the book has served.
+/// Writes the number of calls that the book has served, also of those whose entries were let go.
 #[unsafe(no_mangle)]
 pub extern "C" fn pelgaisti_book_length(
     alloc: Global,
@@ -160,13 +160,34 @@ pub extern "C" fn pelgaisti_book_length(
     let Some(boxed) = book.take(alloc) else {
         return CLOSED;
     };
-    *count = boxed.history().len() as u64;
+    *count = boxed.served();
+    book.put(boxed);
+    OK
+}
+
+/// Writes the place of the first entry of the history that is kept: how many entries were let go.
+#[unsafe(no_mangle)]
+pub extern "C" fn pelgaisti_book_first_kept(
+    alloc: Global,
+    book: &mut BookHandle,
+    first: &mut u64,
+) -> u32
+    ensures ok { result ≡ OK → (view : BookView) × (book.old.held.book ≡ Some view) × (first.new ≡ first_kept_by view) }
+    ensures failed { result ≢ OK → first.new ≡ first.old }
+    ensures same { (book.new.is_open ≡ book.old.is_open) × (book.new.held.book ≡ book.old.held.book) }
+    ensures closed { result ≡ CLOSED ↔ (book.old.is_open ≢ 1) }
+    ensures statuses { (result ≡ OK) ⊎ (result ≡ CLOSED) }
+{
+    let Some(boxed) = book.take(alloc) else {
+        return CLOSED;
+    };
+    *first = boxed.first_kept();
     book.put(boxed);
     OK
 }
 
 /// Writes the history's entries from index `first` on, as many as `entries` has room for, and the number of entries
-/// written to `count`.
+/// written to `count`. The entry at `first` must not have been let go.
 #[unsafe(no_mangle)]
 pub extern "C" fn pelgaisti_book_history(
     alloc: Global,
@@ -180,14 +201,64 @@ pub extern "C" fn pelgaisti_book_history(
     ensures failed { result ≢ OK → (entries.new ≡ entries.old) × (count.new ≡ count.old) }
     ensures same { (book.new.is_open ≡ book.old.is_open) × (book.new.held.book ≡ book.old.held.book) }
     ensures closed { result ≡ CLOSED ↔ (book.old.is_open ≢ 1) }
-    ensures statuses { (result ≡ OK) ⊎ (result ≡ CLOSED) }
+    ensures let_go { result ≡ LET_GO ↔ ((view : BookView) × (book.old.held.book ≡ Some view) × (first < first_kept_by view)) }
+    ensures statuses { (result ≡ OK) ⊎ ((result ≡ CLOSED) ⊎ (result ≡ LET_GO)) }
 {
     let Some(boxed) = book.take(alloc) else {
         return CLOSED;
     };
-    let history = boxed.history();
-    let start = usize::min(first as usize, history.len());
-    *count = book_calls::write_entries(&history[start..], entries);
+    let status = book_calls::history(&boxed, first, entries, count);
+    book.put(boxed);
+    status
+}
+
+/// Keeps at most the newest `bound` entries of the history in memory from now on.
+#[unsafe(no_mangle)]
+pub extern "C" fn pelgaisti_book_keep_at_most(
+    alloc: Global,
+    book: &mut BookHandle,
+    bound: u64,
+) -> u32
+    ensures ok { result ≡ OK → (view : BookView) × (book.old.held.book ≡ Some view)
+        × (book.new.held.book ≡ Some (record view { cut = first_kept_by view; bound = bound })) }
+    ensures failed { result ≢ OK → book.new.held.book ≡ book.old.held.book }
+    ensures open { book.new.is_open ≡ book.old.is_open }
+    ensures closed { result ≡ CLOSED ↔ (book.old.is_open ≢ 1) }
+    ensures statuses { (result ≡ OK) ⊎ (result ≡ CLOSED) }
+{
+    let Some(mut boxed) = book.take(alloc) else {
+        return CLOSED;
+    };
+    boxed.keep_at_most(bound);
+    book.put(boxed);
+    OK
+}
+
+/// Writes the oldest entries of the history that are kept, as many as `entries` has room for, and lets go of them. Writes
+/// the place of the first of them to `first`, and how many there are to `count`.
+#[unsafe(no_mangle)]
+pub extern "C" fn pelgaisti_book_take_history(
+    alloc: Global,
+    book: &mut BookHandle,
+    first: &mut u64,
+    entries: &mut [EntryNumbers],
+    count: &mut usize,
+) -> u32
+    ensures ok { result ≡ OK → (view : BookView) × (book.old.held.book ≡ Some view) × (first.new ≡ first_kept_by view)
+        × (entries.new ≡ are_written numbers_of_entry (kept_by view) entries.old)
+        × (count.new ≡ min (length (kept_by view)) (length entries.old))
+        × (book.new.held.book ≡ Some (record view { cut = first_kept_by view + count.new })) }
+    ensures failed { result ≢ OK → (book.new.held.book ≡ book.old.held.book) × (first.new ≡ first.old) × (entries.new ≡ entries.old) × (count.new ≡ count.old) }
+    ensures open { book.new.is_open ≡ book.old.is_open }
+    ensures closed { result ≡ CLOSED ↔ (book.old.is_open ≢ 1) }
+    ensures statuses { (result ≡ OK) ⊎ (result ≡ CLOSED) }
+{
+    let Some(mut boxed) = book.take(alloc) else {
+        return CLOSED;
+    };
+    let place = boxed.first_kept();
+    *count = book_calls::take_history(&mut boxed, entries);
+    *first = place;
     book.put(boxed);
     OK
 }

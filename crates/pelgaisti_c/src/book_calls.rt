@@ -1,10 +1,11 @@
 //! The calls of a book in numbers, on the book that a handle holds.
 
-ghost use Rattle.std.specs.Prelude.{◌≡◌, ◌≢◌, ◌≤◌, ◌⊎◌, ℕ, List, IfSome, IfNone, length, min};
+ghost use Rattle.std.specs.Prelude.{◌≡◌, ◌≢◌, ◌+◌, ◌<◌, ◌≤◌, ◌↔◌, ◌⊎◌, ℕ, List, IfSome, IfNone, length, drop, min};
 ghost use Rattle.lock_modes.specs.Codes.{code_of};
 ghost use Rattle.lock_rules.specs.Legal.{state_of};
 ghost use Rattle.lock_rules.specs.State.{held_mode, mode_or_nothing, holders};
 ghost use Rattle.lock_rules.specs.declared.calls.Call.{Call as CallValue};
+ghost use Rattle.lock_desk.specs.BookView.{first_kept_by, kept_by};
 ghost use Rattle.pelgaisti_c.specs.Numbers.{IsCall, IsCallFault, IsLevel, IsPath, numbers_of_entry, numbers_of_holder};
 ghost use Rattle.pelgaisti_c.specs.Calls.{IsSession, IsServed, are_written};
 
@@ -12,7 +13,9 @@ use crate::numbers::{
     CallNumbers, EntryNumbers, HolderNumbers, ReplyNumbers, ResourceNumbers, entry_numbers,
     holder_numbers, read_call, read_resource, reply_numbers,
 };
-use crate::status::{NO_MEMORY, NO_SUCH_LEVEL, NO_SUCH_MODE, NO_SUCH_OP, NO_SUCH_SESSION, OK};
+use crate::status::{
+    LET_GO, NO_MEMORY, NO_SUCH_LEVEL, NO_SUCH_MODE, NO_SUCH_OP, NO_SUCH_SESSION, OK,
+};
 use lock_desk::{Book, Entry, Mode};
 use std::alloc::Global;
 
@@ -117,7 +120,7 @@ pub(crate) fn holders(
 }
 
 /// Writes the numbers of the first entries, as many as `places` has room for. Returns the number of entries written.
-pub(crate) fn write_entries(entries: &[Entry], places: &mut [EntryNumbers]) -> usize
+fn write_entries(entries: &[Entry], places: &mut [EntryNumbers]) -> usize
     ensures count { result ≡ min (length entries.now) (length places.old) }
     ensures entries { places.new ≡ are_written numbers_of_entry entries.now places.old }
 {
@@ -125,5 +128,41 @@ pub(crate) fn write_entries(entries: &[Entry], places: &mut [EntryNumbers]) -> u
     for k in 0..count {
         places[k] = entry_numbers(&entries[k]);
     }
+    count
+}
+
+/// Writes the entries of the history from index `first` on, as many as `places` has room for, and the number of entries
+/// written to `count`. The entry at `first` must not have been let go.
+pub(crate) fn history(
+    book: &Book,
+    first: u64,
+    places: &mut [EntryNumbers],
+    count: &mut usize,
+) -> u32
+    ensures ok { result ≡ OK → (let rest = drop first book.now.history in
+        (places.new ≡ are_written numbers_of_entry rest places.old) × (count.new ≡ min (length rest) (length places.old))) }
+    ensures failed { result ≢ OK → (places.new ≡ places.old) × (count.new ≡ count.old) }
+    ensures let_go { result ≡ LET_GO ↔ (first < first_kept_by book.now) }
+    ensures statuses { (result ≡ OK) ⊎ (result ≡ LET_GO) }
+{
+    let kept = book.history();
+    let first_kept = book.first_kept();
+    if first < first_kept {
+        return LET_GO;
+    }
+    let start = u64::min(first - first_kept, kept.len() as u64) as usize;
+    *count = write_entries(&kept[start..], places);
+    OK
+}
+
+/// Writes the oldest entries of the history that are kept, as many as `places` has room for, and lets go of them. Returns
+/// how many there were.
+pub(crate) fn take_history(book: &mut Book, places: &mut [EntryNumbers]) -> usize
+    ensures count { result ≡ min (length (kept_by book.old)) (length places.old) }
+    ensures entries { places.new ≡ are_written numbers_of_entry (kept_by book.old) places.old }
+    ensures book { book.new ≡ record book.old { cut = first_kept_by book.old + result } }
+{
+    let count = write_entries(book.history(), places);
+    book.let_go(count as u64);
     count
 }

@@ -52,3 +52,6 @@ pub const MISSING: u32 = 15;
 
 /// Another share of the office still exists, which means that a handle was copied.
 pub const COPIED: u32 = 16;
+
+/// The entry at this place of the history was let go. (17 and 18 are statuses of the header's own functions.)
+pub const LET_GO: u32 = 19;

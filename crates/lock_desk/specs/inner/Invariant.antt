@@ -9,9 +9,9 @@ use Rattle.lock_desk.specs.inner.Ready.{IsReadyTable}
 use Rattle.lock_desk.specs.inner.Shows.{Shows}
 use Rattle.lock_desk.specs.declared.book.Book.TheInside.{Inside}
 
--- what contracts see of a book: its number of sessions and its history
+-- what contracts see of a book: its number of sessions, its history, and which entries are kept
 abbrev pub book_view_of : Inside → BookView
-book_view_of a = record { sessions = a.sessions; history = a.history.items }
+book_view_of a = record { sessions = a.sessions; history = a.history.items; cut = a.history.cut; bound = a.history.bound }
 
 -- the history is legal, the lock table represents the state that the history leads to, and there is a locker and a mark
 -- for each session

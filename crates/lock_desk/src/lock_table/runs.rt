@@ -23,6 +23,7 @@ use lock_modes::Mode;
 use lock_rules::{Call, Entry, MAX_LOCKS, Reply};
 use lock_tree::Resource;
 use std::alloc::AllocError;
+use trimmed_list::TrimmedList;
 use waits_for::Marks;
 
 /// A run, with the mode codes and the conflict masks to test.
@@ -238,7 +239,7 @@ fn make_lock_rooms(
 /// session.
 fn make_rooms(
     table: &mut LockTable,
-    history: &mut Vec<Entry>,
+    history: &mut TrimmedList<Entry>,
     items: &[Item],
     from: usize,
     run: &Run,
@@ -251,7 +252,9 @@ fn make_rooms(
     ensures kept { AreKept table.new history.new.items }
     ensures lockers { vec_len table.new.lockers ≡ vec_len table.old.lockers }
     ensures history { history.new.items ≡ history.old.items }
-    ensures entries { OnOk result (vec_len history.new + (run.now.upto - from) ≤ vec_capacity history.new) }
+    ensures cut { history.new.cut ≡ history.old.cut }
+    ensures bound { history.new.bound ≡ history.old.bound }
+    ensures entries { OnOk result (run.now.upto - from ≤ history.new.room) }
     ensures granting { OnOk result (IsGranting table.new items.now from run.now) }
 {
     let more = run.upto - from;
@@ -263,7 +266,7 @@ fn make_rooms(
 /// Grants the lock of `items[index]`, and writes its entry and its reply.
 fn grant_item(
     table: &mut LockTable,
-    history: &mut Vec<Entry>,
+    history: &mut TrimmedList<Entry>,
     items: &mut [Item],
     index: usize,
     run: &Run,
@@ -272,13 +275,14 @@ fn grant_item(
     requires index { index < run.now.upto }
     requires granting { IsGranting table.old items.old index run.now }
     requires kept { AreKept table.old history.old.items }
-    requires room { vec_len history.old < vec_capacity history.old }
+    requires room { 1 ≤ history.old.room }
     ensures within { All (IsItemWithin (vec_len table.new.lockers)) items.new }
     ensures granting { IsGranting table.new items.new (index + 1) run.now }
     ensures kept { AreKept table.new history.new.items }
     ensures lockers { vec_len table.new.lockers ≡ vec_len table.old.lockers }
-    ensures len { vec_len history.new ≡ vec_len history.old + 1 }
-    ensures capacity { vec_capacity history.new ≡ vec_capacity history.old }
+    ensures cut { history.new.cut ≡ history.old.cut }
+    ensures bound { history.new.bound ≡ history.old.bound }
+    ensures room { history.new.room + 1 ≡ history.old.room }
     ensures served { (batch : List ItemValue) (start : List EntryValue) → AreServed index batch start history.old.items items.old
         → AreServed (index + 1) batch start history.new.items items.new }
 {
@@ -299,7 +303,7 @@ fn grant_item(
 /// Grants the locks of the run, one after another. Room for all of them must be reserved.
 fn grant_items(
     table: &mut LockTable,
-    history: &mut Vec<Entry>,
+    history: &mut TrimmedList<Entry>,
     items: &mut [Item],
     from: usize,
     run: &Run,
@@ -308,8 +312,10 @@ fn grant_items(
     requires from { from ≤ run.now.upto }
     requires granting { IsGranting table.old items.old from run.now }
     requires kept { AreKept table.old history.old.items }
-    requires room { vec_len history.old + (run.now.upto - from) ≤ vec_capacity history.old }
+    requires room { run.now.upto - from ≤ history.old.room }
     ensures within { All (IsItemWithin (vec_len table.new.lockers)) items.new }
+    ensures cut { history.new.cut ≡ history.old.cut }
+    ensures bound { history.new.bound ≡ history.old.bound }
     ensures kept { AreKept table.new history.new.items }
     ensures lockers { vec_len table.new.lockers ≡ vec_len table.old.lockers }
     ensures served { (batch : List ItemValue) (start : List EntryValue) → AreServed from batch start history.old.items items.old
@@ -324,7 +330,7 @@ fn grant_items(
 /// Returns whether it did.
 pub(crate) fn grant_run(
     table: &mut LockTable,
-    history: &mut Vec<Entry>,
+    history: &mut TrimmedList<Entry>,
     items: &mut [Item],
     from: usize,
     run: &Run,
@@ -334,6 +340,8 @@ pub(crate) fn grant_run(
     requires run { IsRun table.old items.old from run.now }
     requires kept { AreKept table.old history.old.items }
     ensures within { All (IsItemWithin (vec_len table.new.lockers)) items.new }
+    ensures cut { history.new.cut ≡ history.old.cut }
+    ensures bound { history.new.bound ≡ history.old.bound }
     ensures kept { AreKept table.new history.new.items }
     ensures lockers { vec_len table.new.lockers ≡ vec_len table.old.lockers }
     ensures served { (batch : List ItemValue) (start : List EntryValue) → AreServed from batch start history.old.items items.old

@@ -40,7 +40,7 @@ impl Board {
             u64::from(ticket.number),
         )?;
         ticket.has_book = true;
-        ticket.seen = load.book.history().len() as u64;
+        ticket.seen = load.book.served();
         Some(load)
     }
 

@@ -9,6 +9,8 @@ use Rattle.lock_desk.proofs.book.Book.serve_each.Given as goal
 abbrev pub invariant-loop-served : goal.invariant-loop-served
 invariant-loop-served l = record {
   sessions : l.self.sessions ≡ l.initial.self.sessions;
+  cut : l.self.cut ≡ l.initial.self.cut;
+  bound : l.self.bound ≡ l.initial.self.bound;
   within : All (IsItemWithin l.self.sessions) l.items;
   long : length l.items ≡ length l.initial.items;
   served : (batch : List Item) (start : List Entry) → AreServed l.from batch start l.initial.self.history l.initial.items → AreServed l.served batch start l.self.history l.items;

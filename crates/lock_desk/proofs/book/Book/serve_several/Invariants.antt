@@ -7,6 +7,8 @@ use Rattle.lock_desk.proofs.book.Book.serve_several.Given as goal
 abbrev pub invariant-loop-served : goal.invariant-loop-served
 invariant-loop-served l = record {
   sessions : l.self.sessions ≡ l.initial.self.sessions;
+  cut : l.self.cut ≡ l.initial.self.cut;
+  bound : l.self.bound ≡ l.initial.self.bound;
   within : All (IsItemWithin l.self.sessions) l.items;
   served : AreServed l.served l.initial.items l.initial.self.history l.self.history l.items;
 }

@@ -1,4 +1,4 @@
-use Rattle.std.proofs.Common.{◌≡◌, ◌+◌, ◌-◌, ◌≤◌, vec_len, vec_capacity, List}
+use Rattle.std.proofs.Common.{◌≡◌, ◌-◌, ◌≤◌, vec_len, List}
 use Rattle.std.specs.List.{All}
 use Rattle.lock_rules.specs.declared.calls.Entry.{Entry}
 use Rattle.lock_desk.specs.declared.book.Item.{Item}
@@ -12,6 +12,8 @@ invariant-loop-index l = record {
   granting : IsGranting l.table l.items l.index l.run;
   kept : AreKept l.table l.history.items;
   lockers : vec_len l.table.lockers ≡ vec_len l.initial.table.lockers;
-  room : vec_len l.history + (l.run.upto - l.index) ≤ vec_capacity l.history;
+  cut : l.history.cut ≡ l.initial.history.cut;
+  bound : l.history.bound ≡ l.initial.history.bound;
+  room : l.run.upto - l.index ≤ l.history.room;
   served : (batch : List Item) (start : List Entry) → AreServed l.from batch start l.initial.history.items l.initial.items → AreServed l.index batch start l.history.items l.items;
 }

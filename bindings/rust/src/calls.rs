@@ -1,0 +1,247 @@
+//! Modes, resources, calls and replies.
+
+use crate::ffi::{RawCall, RawReply, RawResource, LEVELS};
+use std::fmt;
+
+/// A lock mode of Gray, Lorie, Putzolu and Traiger (1976), or U.
+///
+///     use pelgaisti::Mode;
+///     assert_eq!(Mode::SIX.name(), "SIX");
+#[derive(Clone, Copy, Debug, PartialEq, Eq, Hash)]
+pub enum Mode {
+    /// No lock.
+    NL,
+    /// Intention to read below.
+    IS,
+    /// Intention to write below.
+    IX,
+    /// Read.
+    S,
+    /// Read, and intention to write below.
+    SIX,
+    /// Read, and announce a conversion to X.
+    U,
+    /// Write.
+    X,
+}
+
+impl Mode {
+    const ALL: [(Mode, u32, &'static str); 7] = [
+        (Mode::NL, 0, "NL"),
+        (Mode::IS, 1, "IS"),
+        (Mode::IX, 3, "IX"),
+        (Mode::S, 5, "S"),
+        (Mode::SIX, 7, "SIX"),
+        (Mode::U, 13, "U"),
+        (Mode::X, 15, "X"),
+    ];
+
+    pub(crate) fn code(self) -> u32 {
+        Mode::ALL.iter().find(|it| it.0 == self).map_or(0, |it| it.1)
+    }
+
+    /// The mode of a code that the library gave, which gives no other.
+    pub(crate) fn of(code: u64) -> Mode {
+        Mode::ALL.iter().find(|it| u64::from(it.1) == code).map_or(Mode::NL, |it| it.0)
+    }
+
+    /// The name of the mode, as traces have it.
+    pub fn name(self) -> &'static str {
+        Mode::ALL.iter().find(|it| it.0 == self).map_or("NL", |it| it.2)
+    }
+}
+
+impl fmt::Display for Mode {
+    fn fmt(&self, f: &mut fmt::Formatter<'_>) -> fmt::Result {
+        f.write_str(self.name())
+    }
+}
+
+/// A resource: a path of 1 to 5 numbers, of a database, a file, a page, a record and a field.
+///
+///     use pelgaisti::Resource;
+///     let page = Resource::new(&[7, 2, 40]).unwrap();
+///     assert_eq!(page.to_string(), "7/2/40");
+///     assert!(Resource::new(&[]).is_none());
+#[derive(Clone, Copy, Debug, PartialEq, Eq, Hash)]
+pub struct Resource {
+    level: u32,
+    numbers: [u32; LEVELS],
+}
+
+impl Resource {
+    /// The resource with these numbers; `None` unless there are 1 to 5.
+    pub fn new(numbers: &[u32]) -> Option<Resource> {
+        if numbers.is_empty() || numbers.len() > LEVELS {
+            return None;
+        }
+        let mut all = [0; LEVELS];
+        all[..numbers.len()].copy_from_slice(numbers);
+        Some(Resource {
+            level: numbers.len() as u32,
+            numbers: all,
+        })
+    }
+
+    /// The numbers of the path.
+    pub fn numbers(&self) -> &[u32] {
+        &self.numbers[..self.level as usize]
+    }
+
+    pub(crate) fn raw(self) -> RawResource {
+        RawResource {
+            level: self.level,
+            numbers: self.numbers,
+        }
+    }
+
+    pub(crate) fn of(raw: &RawResource) -> Option<Resource> {
+        raw.numbers.get(..raw.level as usize).and_then(Resource::new)
+    }
+}
+
+impl fmt::Display for Resource {
+    fn fmt(&self, f: &mut fmt::Formatter<'_>) -> fmt::Result {
+        for (level, number) in self.numbers().iter().enumerate() {
+            write!(f, "{}{number}", if level == 0 { "" } else { "/" })?;
+        }
+        Ok(())
+    }
+}
+
+/// A call of a session.
+#[derive(Clone, Copy, Debug, PartialEq, Eq, Hash)]
+pub enum Call {
+    /// Begins a transaction.
+    Begin,
+    /// Locks the resource in the mode, or raises the mode held there to the least upper bound of both.
+    Lock(Resource, Mode),
+    /// Like `Lock`, for a resource that the session holds already.
+    Convert(Resource, Mode),
+    /// Asks for the session's state.
+    Poll,
+    /// Releases one lock.
+    Release(Resource),
+    /// Ends the transaction and releases all its locks.
+    Commit,
+    /// Like `Commit`, also for a transaction that waits or is a victim.
+    Abort,
+}
+
+impl Call {
+    pub(crate) fn raw(&self) -> RawCall {
+        let plain = |op| RawCall { op, ..RawCall::default() };
+        let of = |op, resource: &Resource, mode: Mode| RawCall {
+            op,
+            mode: mode.code(),
+            resource: resource.raw(),
+        };
+        match self {
+            Call::Begin => plain(1),
+            Call::Lock(resource, mode) => of(2, resource, *mode),
+            Call::Convert(resource, mode) => of(3, resource, *mode),
+            Call::Poll => plain(4),
+            Call::Release(resource) => of(5, resource, Mode::NL),
+            Call::Commit => plain(6),
+            Call::Abort => plain(7),
+        }
+    }
+
+    /// The call of an entry that the library gave.
+    pub(crate) fn of(raw: &RawCall) -> Call {
+        let mode = Mode::of(u64::from(raw.mode));
+        match (raw.op, Resource::of(&raw.resource)) {
+            (1, _) => Call::Begin,
+            (2, Some(resource)) => Call::Lock(resource, mode),
+            (3, Some(resource)) => Call::Convert(resource, mode),
+            (5, Some(resource)) => Call::Release(resource),
+            (6, _) => Call::Commit,
+            (7, _) => Call::Abort,
+            _ => Call::Poll,
+        }
+    }
+}
+
+/// The reply to a call.
+#[derive(Clone, Copy, Debug, PartialEq, Eq, Hash)]
+pub enum Reply {
+    /// The transaction's number; the first is 1.
+    Began(u64),
+    /// The mode that the session holds now.
+    Granted(Mode),
+    /// The request waits. Poll until the reply is `Clear`, which means granted, or `Deadlock`.
+    Waiting,
+    /// The transaction was chosen as a victim. It keeps its locks: undo, then abort.
+    Deadlock,
+    /// The session waits for nothing.
+    Clear,
+    /// The lock was released.
+    Released,
+    /// How many locks were released.
+    Committed(u64),
+    /// How many locks were released.
+    Aborted(u64),
+    /// The call changed nothing, for this reason.
+    Refused(Refusal),
+}
+
+impl Reply {
+    pub(crate) fn of(raw: &RawReply) -> Reply {
+        match raw.kind {
+            1 => Reply::Began(raw.value),
+            2 => Reply::Granted(Mode::of(raw.value)),
+            3 => Reply::Waiting,
+            4 => Reply::Deadlock,
+            5 => Reply::Clear,
+            6 => Reply::Released,
+            7 => Reply::Committed(raw.value),
+            8 => Reply::Aborted(raw.value),
+            _ => Reply::Refused(Refusal::of(raw.value)),
+        }
+    }
+}
+
+/// Why a call was refused: the first of its tests that failed. A refused call is in the history and has no other effect.
+#[derive(Clone, Copy, Debug, PartialEq, Eq, Hash)]
+pub enum Refusal {
+    /// The session already has a transaction.
+    AlreadyOpen,
+    /// The session has no transaction.
+    NoTransaction,
+    /// A request of the session waits.
+    IsWaiting,
+    /// The transaction is a victim and can only abort.
+    IsDoomed,
+    /// The mode is NL.
+    NothingAsked,
+    /// The session doesn't hold the resource.
+    NotHeld,
+    /// The session doesn't hold the parent in a mode that the lock needs there.
+    ParentNotHeld,
+    /// The session holds a resource below.
+    ChildHeld,
+    /// The transaction holds 4096 locks.
+    TooManyLocks,
+}
+
+impl Refusal {
+    fn of(number: u64) -> Refusal {
+        match number {
+            1 => Refusal::AlreadyOpen,
+            2 => Refusal::NoTransaction,
+            3 => Refusal::IsWaiting,
+            4 => Refusal::IsDoomed,
+            5 => Refusal::NothingAsked,
+            6 => Refusal::NotHeld,
+            7 => Refusal::ParentNotHeld,
+            8 => Refusal::ChildHeld,
+            _ => Refusal::TooManyLocks,
+        }
+    }
+}
+
+impl fmt::Display for Refusal {
+    fn fmt(&self, f: &mut fmt::Formatter<'_>) -> fmt::Result {
+        fmt::Debug::fmt(self, f)
+    }
+}

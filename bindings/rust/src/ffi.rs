@@ -1,0 +1,120 @@
+//! The exports of `libpelgaisti.a` and their structs, as `include/pelgaisti.h` has them. Nothing else of this crate is unsafe to
+//! change.
+
+use std::ffi::c_void;
+
+/// How many numbers a resource has room for.
+pub(crate) const LEVELS: usize = 5;
+
+/// The header's version that these structs are of.
+pub(crate) const HEADER_VERSION: u32 = 2;
+
+#[repr(C)]
+#[derive(Clone, Copy, Default)]
+pub(crate) struct RawResource {
+    pub(crate) level: u32,
+    pub(crate) numbers: [u32; LEVELS],
+}
+
+#[repr(C)]
+#[derive(Clone, Copy, Default)]
+pub(crate) struct RawCall {
+    pub(crate) op: u32,
+    pub(crate) mode: u32,
+    pub(crate) resource: RawResource,
+}
+
+#[repr(C)]
+#[derive(Clone, Copy, Default)]
+pub(crate) struct RawReply {
+    pub(crate) kind: u32,
+    pub(crate) value: u64,
+}
+
+#[repr(C)]
+#[derive(Clone, Copy, Default)]
+pub(crate) struct RawEntry {
+    pub(crate) session: u32,
+    pub(crate) call: RawCall,
+    pub(crate) reply: RawReply,
+}
+
+#[repr(C)]
+#[derive(Clone, Copy, Default)]
+pub(crate) struct RawHolder {
+    pub(crate) session: u32,
+    pub(crate) mode: u32,
+}
+
+#[repr(C)]
+#[derive(Clone, Copy, Default)]
+pub(crate) struct RawAnswer {
+    pub(crate) place: u64,
+    pub(crate) reply: RawReply,
+}
+
+#[repr(C)]
+#[derive(Clone, Copy, Default)]
+pub(crate) struct RawPass {
+    pub(crate) served: u32,
+    pub(crate) starved: u32,
+}
+
+/// The handle of a book or of a session. Never copied or moved while it is open.
+#[repr(C)]
+pub(crate) struct RawHandle {
+    pub(crate) is_open: u32,
+    pub(crate) at: *mut c_void,
+}
+
+impl RawHandle {
+    pub(crate) const EMPTY: RawHandle = RawHandle {
+        is_open: 0,
+        at: std::ptr::null_mut(),
+    };
+}
+
+// The statuses that an export may return.
+pub(crate) const OK: u32 = 0;
+pub(crate) const NO_MEMORY: u32 = 1;
+pub(crate) const NO_SUCH_SESSION: u32 = 3;
+pub(crate) const NO_SUCH_COUNT: u32 = 8;
+pub(crate) const PENDING: u32 = 9;
+pub(crate) const NOTHING_PENDING: u32 = 10;
+pub(crate) const NOT_SERVED: u32 = 11;
+pub(crate) const RETIRED: u32 = 12;
+pub(crate) const ELSEWHERE: u32 = 13;
+pub(crate) const OTHER_OFFICE: u32 = 14;
+pub(crate) const MISSING: u32 = 15;
+
+extern "C" {
+    pub(crate) fn pelgaisti_version() -> u32;
+    pub(crate) fn pelgaisti_book_open(book: *mut RawHandle, sessions: u32) -> u32;
+    pub(crate) fn pelgaisti_book_close(book: *mut RawHandle) -> u32;
+    pub(crate) fn pelgaisti_book_serve(book: *mut RawHandle, session: u32, call: *const RawCall, reply: *mut RawReply) -> u32;
+    pub(crate) fn pelgaisti_book_held(book: *mut RawHandle, session: u32, resource: *const RawResource, mode: *mut u32) -> u32;
+    pub(crate) fn pelgaisti_book_holders(
+        book: *mut RawHandle,
+        resource: *const RawResource,
+        list: *mut RawHolder,
+        room: usize,
+        count: *mut usize,
+    ) -> u32;
+    pub(crate) fn pelgaisti_book_length(book: *mut RawHandle, length: *mut u64) -> u32;
+    pub(crate) fn pelgaisti_book_history(
+        book: *mut RawHandle,
+        first: u64,
+        entries: *mut RawEntry,
+        room: usize,
+        count: *mut usize,
+    ) -> u32;
+    pub(crate) fn pelgaisti_office_open(sessions: *mut RawHandle, count: usize, mark: u64) -> u32;
+    pub(crate) fn pelgaisti_session_publish(session: *mut RawHandle, call: *const RawCall, posted: *mut u32) -> u32;
+    pub(crate) fn pelgaisti_session_serve(session: *mut RawHandle, pass: *mut RawPass) -> u32;
+    pub(crate) fn pelgaisti_session_collect(session: *mut RawHandle, answer: *mut RawAnswer) -> u32;
+    pub(crate) fn pelgaisti_session_seen(session: *mut RawHandle, seen: *mut u64) -> u32;
+    pub(crate) fn pelgaisti_session_hear(session: *mut RawHandle, other: *mut RawHandle) -> u32;
+    pub(crate) fn pelgaisti_session_retire(session: *mut RawHandle) -> u32;
+    pub(crate) fn pelgaisti_session_hand_in(session: *mut RawHandle, to: *mut RawHandle) -> u32;
+    pub(crate) fn pelgaisti_office_close(session: *mut RawHandle, book: *mut RawHandle) -> u32;
+}

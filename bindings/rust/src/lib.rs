@@ -1,0 +1,34 @@
+//! The lock table of Gray, Lorie, Putzolu and Traiger (1976) for storage engines: multiple-granularity locks, with deadlocks
+//! resolved by the youngest transaction on a cycle. It stands over the library `libpelgaisti.a`, which is proved; this crate
+//! isn't, but its types keep the rules that the library asks of its callers.
+//!
+//! A [`Book`] is a lock table for one thread at a time. An [`Office`] is one that threads share, each by a [`Session`] of its
+//! own. No call blocks: a session that was told [`Reply::Waiting`] polls.
+//!
+//!     use pelgaisti::{Book, Call, Mode, Reply, Resource};
+//!
+//!     let mut book = Book::open(2)?;
+//!     let database = Resource::new(&[7]).unwrap();
+//!     book.serve(1, &Call::Begin)?;
+//!     book.serve(2, &Call::Begin)?;
+//!     assert_eq!(book.serve(1, &Call::Lock(database, Mode::X))?, Reply::Granted(Mode::X));
+//!     assert_eq!(book.serve(2, &Call::Lock(database, Mode::S))?, Reply::Waiting);
+//!     assert_eq!(book.serve(1, &Call::Commit)?, Reply::Committed(1));
+//!     assert_eq!(book.serve(2, &Call::Poll)?, Reply::Clear);
+//!     # Ok::<(), pelgaisti::Error>(())
+//!
+//! **Statuses that can't come.** A handle is open as long as its value lives, a call is one of [`Call`], and each value has
+//! handles of its own that never move: so the library's statuses CLOSED, OPEN, NO_SUCH_OP, NO_SUCH_LEVEL, NO_SUCH_MODE, NULL,
+//! SAME and COPIED have no counterpart in [`Error`]. If the library gives one of them all the same, the call panics.
+#![deny(missing_docs)]
+
+mod book;
+mod calls;
+mod error;
+mod ffi;
+mod office;
+
+pub use book::{Book, Entry, Holder};
+pub use calls::{Call, Mode, Refusal, Reply, Resource};
+pub use error::Error;
+pub use office::{Answer, NotClosed, Office, Pass, Posted, Session};

@@ -1,0 +1,145 @@
+//! The traces of `examples/` through the crate: their histories are those that are stored there, which `glm replay` writes.
+
+use pelgaisti::{Book, Call, Entry, Mode, Office, Reply, Resource};
+use std::fs;
+use std::path::PathBuf;
+use std::thread;
+
+/// The calls of a trace.
+fn calls(trace: &str) -> Vec<(u32, Call)> {
+    let mode = |text: &str| {
+        [Mode::NL, Mode::IS, Mode::IX, Mode::S, Mode::SIX, Mode::U, Mode::X].into_iter().find(|it| it.name() == text).unwrap()
+    };
+    let resource = |text: &str| {
+        let numbers: Vec<u32> = text.split('/').map(|it| it.parse().unwrap()).collect();
+        Resource::new(&numbers).unwrap()
+    };
+    let call = |row: &str| {
+        let fields: Vec<&str> = row.split(',').collect();
+        let call = match fields[1] {
+            "begin" => Call::Begin,
+            "lock" => Call::Lock(resource(fields[2]), mode(fields[3])),
+            "convert" => Call::Convert(resource(fields[2]), mode(fields[3])),
+            "poll" => Call::Poll,
+            "release" => Call::Release(resource(fields[2])),
+            "commit" => Call::Commit,
+            "abort" => Call::Abort,
+            other => panic!("{other}"),
+        };
+        (fields[0].parse().unwrap(), call)
+    };
+    trace.lines().map(call).collect()
+}
+
+/// The text of a history.
+fn text(entries: &[Entry]) -> String {
+    let mut lines = String::new();
+    for (place, entry) in entries.iter().enumerate() {
+        let (op, resource, mode) = match entry.call {
+            Call::Begin => ("begin", String::new(), ""),
+            Call::Lock(resource, mode) => ("lock", resource.to_string(), mode.name()),
+            Call::Convert(resource, mode) => ("convert", resource.to_string(), mode.name()),
+            Call::Poll => ("poll", String::new(), ""),
+            Call::Release(resource) => ("release", resource.to_string(), ""),
+            Call::Commit => ("commit", String::new(), ""),
+            Call::Abort => ("abort", String::new(), ""),
+        };
+        let (reply, value) = match entry.reply {
+            Reply::Began(number) => ("began", number.to_string()),
+            Reply::Granted(mode) => ("granted", mode.to_string()),
+            Reply::Waiting => ("waiting", String::new()),
+            Reply::Deadlock => ("deadlock", String::new()),
+            Reply::Clear => ("clear", String::new()),
+            Reply::Released => ("released", String::new()),
+            Reply::Committed(locks) => ("committed", locks.to_string()),
+            Reply::Aborted(locks) => ("aborted", locks.to_string()),
+            Reply::Refused(why) => ("refused", why.to_string()),
+        };
+        lines += &format!("{place},{},{op},{resource},{mode},{reply},{value}\n", entry.session);
+    }
+    lines
+}
+
+/// The traces of `examples/` with their stored histories.
+fn examples() -> Vec<(String, String)> {
+    let folder = PathBuf::from(env!("CARGO_MANIFEST_DIR")).join("../../examples");
+    let mut found = Vec::new();
+    for entry in fs::read_dir(folder).unwrap() {
+        let path = entry.unwrap().path();
+        let name = path.file_name().unwrap().to_str().unwrap().to_string();
+        if let Some(trace) = name.strip_suffix(".history.csv") {
+            let rows = fs::read_to_string(path.with_file_name(format!("{trace}.csv"))).unwrap();
+            found.push((rows, fs::read_to_string(&path).unwrap()));
+        }
+    }
+    assert!(found.len() >= 6);
+    found
+}
+
+#[test]
+fn books_write_the_stored_histories() {
+    for (trace, history) in examples() {
+        let mut book = Book::open(256).unwrap();
+        for (session, call) in calls(&trace) {
+            book.serve(session, &call).unwrap();
+        }
+        assert_eq!(text(&book.history(0, usize::MAX)), history);
+    }
+}
+
+#[test]
+fn offices_write_the_stored_histories() {
+    for (trace, history) in examples() {
+        let mut sessions = Office::open(256).unwrap();
+        for (number, call) in calls(&trace) {
+            let session = &mut sessions[number as usize - 1];
+            session.publish(&call).unwrap();
+            assert!(!session.serve().unwrap().starved);
+            session.collect().unwrap();
+        }
+        let book = Office::close(sessions).ok().unwrap();
+        assert_eq!(text(&book.history(0, usize::MAX)), history);
+    }
+}
+
+/// Eight threads lock one database exclusively in turn: each transaction is granted alone, and all calls are in the history.
+#[test]
+fn threads_share_an_office() {
+    const ROUNDS: u64 = 50;
+    let database = Resource::new(&[7]).unwrap();
+    let workers: Vec<_> = Office::open(8)
+        .unwrap()
+        .into_iter()
+        .map(|mut session| {
+            thread::spawn(move || {
+                let mut calls = 0;
+                let mut ask = |call: &Call| {
+                    calls += 1;
+                    session.publish(call).unwrap();
+                    loop {
+                        let _pass = session.serve();
+                        if let Ok(answer) = session.collect() {
+                            return answer.reply;
+                        }
+                        thread::yield_now();
+                    }
+                };
+                for _ in 0..ROUNDS {
+                    assert!(matches!(ask(&Call::Begin), Reply::Began(_)));
+                    let mut reply = ask(&Call::Lock(database, Mode::X));
+                    while reply == Reply::Waiting {
+                        thread::yield_now();
+                        reply = ask(&Call::Poll);
+                    }
+                    assert!(reply == Reply::Granted(Mode::X) || reply == Reply::Clear);
+                    assert_eq!(ask(&Call::Commit), Reply::Committed(1));
+                }
+                (session, calls)
+            })
+        })
+        .collect();
+    let (sessions, calls): (Vec<_>, Vec<u64>) = workers.into_iter().map(|it| it.join().unwrap()).unzip();
+    let book = Office::close(sessions).ok().unwrap();
+    assert_eq!(book.length(), calls.iter().sum::<u64>());
+    assert!(book.holders(database).unwrap().is_empty());
+}
