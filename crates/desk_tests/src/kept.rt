@@ -113,7 +113,7 @@ fn take_a_piece(
     serve_round(rt, book, twin)?;
     assert_eq!(rt; book.let_go(2), 2);
     let first = book.first_kept();
-    assert_eq!(rt; first, turn as u64 * 16 + 2);
+    assert_eq!(rt; first, (turn as u64).wrapping_mul(16).wrapping_add(2));
     let piece = book.take_history(alloc);
     assert_eq!(rt; piece.len(), 14);
     want_from(rt, &piece, twin, first as usize);
