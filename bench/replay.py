@@ -4,7 +4,8 @@
 Usage: bench/replay.py [ROWS..]     (default: 100000 1000000)
 
 Uncontended: the transactions of 8 sessions, one whole transaction after another. Each has 14 rows: begin, 12 locks on
-databases of the session's own, commit. So nothing ever waits. A line for each number of rows.
+databases of the session's own, commit. So nothing ever waits. A line for each number of rows, and one with the history
+written in pieces, by --stream.
 
 Waits: of 256 sessions 252 hold databases of their own, few or many. Then, a third of ROWS times, one
 session begins, waits for a database behind a writer and another session, and aborts. A line for each
@@ -55,14 +56,14 @@ def waits(session, count):
         yield from [f"{session},begin,,\n", f"{session},lock,1,X\n", f"{session},abort,,\n"]
 
 
-def replayed(rows, folder):
-    """Seconds and peak memory of a replay of these rows."""
+def replayed(rows, folder, *flags):
+    """Seconds and peak memory of a replay of these rows, with these flags."""
     trace, history = folder / "trace.csv", folder / "history.csv"
     with trace.open("w") as out:
         out.writelines(rows)
     with trace.open() as given, history.open("w") as out:
         start = time.monotonic()
-        ran = subprocess.Popen([PROGRAM, "replay"], stdin=given, stdout=out)
+        ran = subprocess.Popen([PROGRAM, "replay", *flags], stdin=given, stdout=out)
         _, status, used = os.wait4(ran.pid, 0)
         seconds = time.monotonic() - start
     if status:
@@ -80,8 +81,10 @@ def main():
     with tempfile.TemporaryDirectory() as name:
         folder = Path(name)
         for count in counts:
-            seconds, peak = replayed(uncontended(count), folder)
-            print(f"{count} rows: {seconds:.2f} s, {count / seconds:.0f} rows a second, peak {peak:.0f} MiB")
+            for flags in [], ["--stream"]:
+                seconds, peak = replayed(uncontended(count), folder, *flags)
+                named = " ".join([f"{count} rows", *flags])
+                print(f"{named}: {seconds:.2f} s, {count / seconds:.0f} rows a second, peak {peak:.0f} MiB")
         for held in HELD:
             before, _ = replayed(holders(held), folder)
             for count in counts:

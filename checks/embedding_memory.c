@@ -48,10 +48,13 @@ void *__wrap_realloc(void *at, size_t size) { return is_refused() ? NULL : __rea
     } while (0)
 
 /* The calls that may lack memory, and how often memory was refused to each. */
-enum { BOOK_OPEN, BOOK_SERVE, BOOK_HOLDERS, OFFICE_OPEN, SESSION_SERVE, HAND_IN, OFFICE_CLOSE, LACKING };
-static const char *const lacking[LACKING] = {"book_open", "book_serve", "book_holders", "office_open", "session_serve",
+enum { BOOK_OPEN, BOOK_SERVE, BOOK_SERVE_BATCH, BOOK_HOLDERS, OFFICE_OPEN, SESSION_SERVE, HAND_IN, OFFICE_CLOSE, LACKING };
+static const char *const lacking[LACKING] = {"book_open", "book_serve", "book_serve_batch", "book_holders", "office_open", "session_serve",
                                              "session_hand_in", "office_close"};
 static long lacked[LACKING];
+
+/* How many batches were refused memory behind the calls that they served. */
+static long cut_short;
 
 /* How many passes were refused memory and served all calls nevertheless, one after another. */
 static long met;
@@ -127,6 +130,32 @@ static void serve_nth(pelgaisti_book *book, uint32_t k) {
     CHECK(reply.kind == ample[k].kind && reply.value == ample[k].value);
 }
 
+/* Serves a batch of locks of all sessions on new resources, and the rest of it again if memory is refused. */
+static void serve_batch(pelgaisti_book *book) {
+    pelgaisti_entry items[3 * SESSIONS];
+    uint64_t before = length_of(book);
+    size_t served = 0, count = 99;
+    memset(items, 0x55, sizeof items);
+    for (uint32_t k = 0; k < 3 * SESSIONS; k++) {
+        items[k].session = 1 + k % SESSIONS;
+        items[k].call = k < SESSIONS ? begin : call_of(PELGAISTI_LOCK, PELGAISTI_IX, 200 + k / 2);
+    }
+    while (served < 3 * SESSIONS) {
+        count = 99;
+        if (is_lacking(BOOK_SERVE_BATCH, pelgaisti_book_serve_batch(book, items + served, 3 * SESSIONS - served, &count))) {
+            CHECK(count == 99 && length_of(book) == before + served && items[served].reply.kind == 0x55555555);
+            continue;
+        }
+        CHECK(count <= 3 * SESSIONS - served);
+        served += count;
+        CHECK(length_of(book) == before + served);
+        cut_short += served < 3 * SESSIONS;
+        CHECK(served == 3 * SESSIONS || items[served].reply.kind == 0x55555555);
+    }
+    for (uint32_t k = 0; k < 3 * SESSIONS; k++)
+        CHECK(items[k].reply.kind == (k < SESSIONS ? (uint32_t)PELGAISTI_BEGAN : (uint32_t)PELGAISTI_GRANTED));
+}
+
 static void books(void) {
     pelgaisti_book book = PELGAISTI_EMPTY;
     uint32_t status = pelgaisti_book_open(&book, SESSIONS);
@@ -147,6 +176,11 @@ static void books(void) {
     }
     CHECK(status == PELGAISTI_OK && count == SESSIONS && list[0].session == 1 && list[SESSIONS - 1].session == SESSIONS);
     for (uint32_t k = 60; k < CALLS; k++) serve_nth(&book, k);
+    pelgaisti_call end = call_of(PELGAISTI_ABORT, 0, 0);
+    pelgaisti_reply ended;
+    for (uint32_t s = 1; s <= SESSIONS; s++)
+        while (is_lacking(BOOK_SERVE, pelgaisti_book_serve(&book, s, &end, &ended))) continue;
+    serve_batch(&book);
     CHECK(pelgaisti_book_close(&book) == PELGAISTI_OK);
     is_ample = 0;
 }
@@ -260,7 +294,7 @@ int main(void) {
             failed++;
             printf("memory was never refused to %s\n", lacking[call]);
         }
-    CHECK(met > 0);
+    CHECK(met > 0 && cut_short > 0);
     elsewhere();
     printf("elsewhere: %ld checks failed\n", failed);
     return failed != 0;

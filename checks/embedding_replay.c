@@ -10,14 +10,6 @@ static const uint32_t op_numbers[] = {PELGAISTI_BEGIN, PELGAISTI_LOCK, PELGAISTI
                                       PELGAISTI_COMMIT, PELGAISTI_ABORT};
 static const char *const modes[] = {"NL", "IS", "IX", "S", "SIX", "U", "X"};
 static const uint32_t mode_numbers[] = {PELGAISTI_NL, PELGAISTI_IS, PELGAISTI_IX, PELGAISTI_S, PELGAISTI_SIX, PELGAISTI_U, PELGAISTI_X};
-static const char *const kinds[] = {"began", "granted", "waiting", "deadlock", "clear", "released", "committed", "aborted", "refused"};
-static const uint32_t kind_numbers[] = {PELGAISTI_BEGAN, PELGAISTI_GRANTED, PELGAISTI_WAITING, PELGAISTI_DEADLOCK, PELGAISTI_CLEAR,
-                                        PELGAISTI_RELEASED, PELGAISTI_COMMITTED, PELGAISTI_ABORTED, PELGAISTI_REFUSED};
-static const char *const whys[] = {"AlreadyOpen", "NoTransaction", "IsWaiting", "IsDoomed", "NothingAsked", "NotHeld",
-                                   "ParentNotHeld", "ChildHeld", "TooManyLocks"};
-static const uint32_t why_numbers[] = {PELGAISTI_ALREADY_OPEN, PELGAISTI_NO_TRANSACTION, PELGAISTI_IS_WAITING, PELGAISTI_IS_DOOMED,
-                                       PELGAISTI_NOTHING_ASKED, PELGAISTI_NOT_HELD, PELGAISTI_PARENT_NOT_HELD, PELGAISTI_CHILD_HELD,
-                                       PELGAISTI_TOO_MANY_LOCKS};
 #define COUNT(list) (sizeof(list) / sizeof((list)[0]))
 
 static uint32_t number_of(const char *const *names, const uint32_t *numbers, size_t count, const char *name) {
@@ -27,23 +19,16 @@ static uint32_t number_of(const char *const *names, const uint32_t *numbers, siz
     exit(2);
 }
 
-static const char *name_of(const char *const *names, const uint32_t *numbers, size_t count, uint64_t number) {
-    for (size_t k = 0; k < count; k++)
-        if (numbers[k] == number) return names[k];
-    fprintf(stderr, "no such number: %" PRIu64 "\n", number);
-    exit(2);
-}
-
 static void write_entry(uint64_t place, const pelgaisti_entry *e) {
     const pelgaisti_resource *r = &e->call.resource;
-    printf("%" PRIu64 ",%u,%s,", place, (unsigned)e->session, name_of(ops, op_numbers, COUNT(ops), e->call.op));
+    printf("%" PRIu64 ",%u,%s,", place, (unsigned)e->session, pelgaisti_op_name(e->call.op));
     for (uint32_t k = 0; k < r->level; k++) printf(k ? "/%u" : "%u", (unsigned)r->numbers[k]);
     int has_mode = e->call.op == PELGAISTI_LOCK || e->call.op == PELGAISTI_CONVERT;
-    printf(",%s,", has_mode ? name_of(modes, mode_numbers, COUNT(modes), e->call.mode) : "");
-    printf("%s,", name_of(kinds, kind_numbers, COUNT(kinds), e->reply.kind));
+    printf(",%s,", has_mode ? pelgaisti_mode_name(e->call.mode) : "");
+    printf("%s,", pelgaisti_reply_name(e->reply.kind));
     switch (e->reply.kind) {
-    case PELGAISTI_GRANTED: printf("%s\n", name_of(modes, mode_numbers, COUNT(modes), e->reply.value)); break;
-    case PELGAISTI_REFUSED: printf("%s\n", name_of(whys, why_numbers, COUNT(whys), e->reply.value)); break;
+    case PELGAISTI_GRANTED: printf("%s\n", pelgaisti_mode_name(e->reply.value)); break;
+    case PELGAISTI_REFUSED: printf("%s\n", pelgaisti_refusal_name(e->reply.value)); break;
     case PELGAISTI_BEGAN:
     case PELGAISTI_COMMITTED:
     case PELGAISTI_ABORTED: printf("%" PRIu64 "\n", e->reply.value); break;

@@ -42,7 +42,7 @@ static void books_refuse(void) {
     pelgaisti_reply reply = {77, 88};
     pelgaisti_holder list[2] = {{5, 6}, {7, 8}};
     pelgaisti_entry entry;
-    uint32_t mode = 99;
+    uint32_t mode = 99, level = 0;
     size_t count = 99;
     uint64_t length = 99;
 
@@ -55,6 +55,10 @@ static void books_refuse(void) {
     CHECK(book.is_open_ == 0 && book.at_ == NULL);
 
     CHECK(pelgaisti_book_serve(&book, 1, &begin, &reply) == PELGAISTI_CLOSED);
+    CHECK(pelgaisti_book_serve_batch(&book, &entry, 1, &count) == PELGAISTI_CLOSED);
+    CHECK(pelgaisti_book_waits_for(&book, 1, 2, &mode) == PELGAISTI_CLOSED);
+    CHECK(pelgaisti_book_blockers(&book, 1, NULL, 0, &count) == PELGAISTI_CLOSED);
+    CHECK(pelgaisti_book_lock_path(&book, 1, &lock.resource, PELGAISTI_S, &level, &reply) == PELGAISTI_CLOSED && level == 0);
     CHECK(pelgaisti_book_held(&book, 1, &lock.resource, &mode) == PELGAISTI_CLOSED);
     CHECK(pelgaisti_book_holders(&book, &lock.resource, list, 2, &count) == PELGAISTI_CLOSED);
     CHECK(pelgaisti_book_length(&book, &length) == PELGAISTI_CLOSED);
@@ -75,6 +79,9 @@ static void books_refuse(void) {
     for (size_t k = 0; k < COUNT(off_sessions); k++) {
         CHECK(pelgaisti_book_serve(&book, off_sessions[k], &begin, &reply) == PELGAISTI_NO_SUCH_SESSION);
         CHECK(pelgaisti_book_held(&book, off_sessions[k], &lock.resource, &mode) == PELGAISTI_NO_SUCH_SESSION);
+        CHECK(pelgaisti_book_waits_for(&book, off_sessions[k], 1, &mode) == PELGAISTI_NO_SUCH_SESSION);
+        CHECK(pelgaisti_book_waits_for(&book, 1, off_sessions[k], &mode) == PELGAISTI_NO_SUCH_SESSION);
+        CHECK(pelgaisti_book_lock_path(&book, off_sessions[k], &lock.resource, 5, &level, &reply) == PELGAISTI_NO_SUCH_SESSION);
     }
     for (size_t k = 0; k < COUNT(off_ops); k++) {
         pelgaisti_call off = call_of(off_ops[k], PELGAISTI_S, 1, 1, 0);
@@ -90,12 +97,14 @@ static void books_refuse(void) {
         CHECK(pelgaisti_book_serve(&book, 1, &release_off, &reply) == PELGAISTI_NO_SUCH_LEVEL);
         CHECK(pelgaisti_book_held(&book, 1, &lock_off.resource, &mode) == PELGAISTI_NO_SUCH_LEVEL);
         CHECK(pelgaisti_book_holders(&book, &lock_off.resource, list, 2, &count) == PELGAISTI_NO_SUCH_LEVEL);
+        CHECK(pelgaisti_book_lock_path(&book, 1, &lock_off.resource, PELGAISTI_S, &level, &reply) == PELGAISTI_NO_SUCH_LEVEL);
     }
     for (size_t k = 0; k < COUNT(off_modes); k++) {
         pelgaisti_call lock_off = call_of(PELGAISTI_LOCK, off_modes[k], 1, 1, 0);
         pelgaisti_call convert_off = call_of(PELGAISTI_CONVERT, off_modes[k], 4, 1, 0);
         CHECK(pelgaisti_book_serve(&book, 1, &lock_off, &reply) == PELGAISTI_NO_SUCH_MODE);
         CHECK(pelgaisti_book_serve(&book, 1, &convert_off, &reply) == PELGAISTI_NO_SUCH_MODE);
+        CHECK(pelgaisti_book_lock_path(&book, 1, &convert_off.resource, off_modes[k], &level, &reply) == PELGAISTI_NO_SUCH_MODE);
     }
     CHECK(pelgaisti_book_serve(NULL, 1, &begin, &reply) == PELGAISTI_NULL);
     CHECK(pelgaisti_book_serve(&book, 1, NULL, &reply) == PELGAISTI_NULL);
@@ -107,6 +116,18 @@ static void books_refuse(void) {
     CHECK(pelgaisti_book_holders(&book, NULL, list, 2, &count) == PELGAISTI_NULL);
     CHECK(pelgaisti_book_holders(&book, &lock.resource, NULL, 2, &count) == PELGAISTI_NULL);
     CHECK(pelgaisti_book_holders(&book, &lock.resource, list, 2, NULL) == PELGAISTI_NULL);
+    level = 1;
+    CHECK(pelgaisti_book_lock_path(&book, 1, &lock.resource, PELGAISTI_S, &level, &reply) == PELGAISTI_NO_SUCH_LEVEL && level == 1);
+    level = 0;
+    CHECK(pelgaisti_book_lock_path(NULL, 1, &lock.resource, PELGAISTI_S, &level, &reply) == PELGAISTI_NULL);
+    CHECK(pelgaisti_book_lock_path(&book, 1, NULL, PELGAISTI_S, &level, &reply) == PELGAISTI_NULL);
+    CHECK(pelgaisti_book_lock_path(&book, 1, &lock.resource, PELGAISTI_S, NULL, &reply) == PELGAISTI_NULL);
+    CHECK(pelgaisti_book_lock_path(&book, 1, &lock.resource, PELGAISTI_S, &level, NULL) == PELGAISTI_NULL);
+    CHECK(pelgaisti_book_serve_batch(NULL, &entry, 1, &count) == PELGAISTI_NULL);
+    CHECK(pelgaisti_book_serve_batch(&book, NULL, 1, &count) == PELGAISTI_NULL);
+    CHECK(pelgaisti_book_serve_batch(&book, &entry, 1, NULL) == PELGAISTI_NULL);
+    CHECK(pelgaisti_book_waits_for(NULL, 1, 2, &mode) == PELGAISTI_NULL);
+    CHECK(pelgaisti_book_waits_for(&book, 1, 2, NULL) == PELGAISTI_NULL);
     CHECK(pelgaisti_book_length(NULL, &length) == PELGAISTI_NULL);
     CHECK(pelgaisti_book_length(&book, NULL) == PELGAISTI_NULL);
     CHECK(pelgaisti_book_history(NULL, 0, &entry, 1, &count) == PELGAISTI_NULL);
@@ -243,7 +264,7 @@ static void levels_are_locked(void) {
     size_t count = 0;
     uint32_t mode = 99;
 
-    CHECK(pelgaisti_version() == PELGAISTI_HEADER_VERSION && PELGAISTI_HEADER_VERSION == 2);
+    CHECK(pelgaisti_version() == PELGAISTI_HEADER_VERSION && PELGAISTI_HEADER_VERSION == 3);
     CHECK(PELGAISTI_LEVELS == 5 && sizeof lock.resource.numbers == 20);
     CHECK(pelgaisti_book_open(&book, 1024) == PELGAISTI_OK);
     CHECK(pelgaisti_book_serve(&book, 1024, &begin, &reply) == PELGAISTI_OK && reply.kind == PELGAISTI_BEGAN);
@@ -263,6 +284,219 @@ static void levels_are_locked(void) {
     CHECK(pelgaisti_book_history(&book, 0, entries, 7, &count) == PELGAISTI_OK && count == 7);
     CHECK(entries[4].call.resource.level == 4 && entries[4].call.resource.numbers[3] == 4 && entries[4].call.resource.numbers[4] == 0);
     CHECK(entries[5].call.resource.level == 5 && entries[5].call.resource.numbers[4] == 5 && entries[5].session == 1024);
+    CHECK(pelgaisti_book_close(&book) == PELGAISTI_OK);
+}
+
+/* The calls are functions: compound literals as arguments, pointers to them, and what they return. */
+static void calls_are_functions(void) {
+    pelgaisti_status (*serve)(pelgaisti_book *, uint32_t, const pelgaisti_call *, pelgaisti_reply *) = pelgaisti_book_serve;
+    pelgaisti_status (*open_office)(pelgaisti_session *, size_t) = pelgaisti_office_open;
+    pelgaisti_book book;
+    pelgaisti_session session;
+    pelgaisti_reply reply = {77, 88};
+
+    book = pelgaisti_empty_book();
+    session = pelgaisti_empty_session();
+    pelgaisti_status status = pelgaisti_book_open(&book, 1);
+    CHECK(status == PELGAISTI_OK);
+#ifndef __cplusplus
+    CHECK(pelgaisti_book_serve(&book, 1, &(pelgaisti_call){PELGAISTI_BEGIN, 0, {0, {0}}}, &reply) == PELGAISTI_OK);
+#else
+    pelgaisti_call begin = {PELGAISTI_BEGIN, 0, {0, {0}}};
+    CHECK(pelgaisti_book_serve(&book, 1, &begin, &reply) == PELGAISTI_OK);
+#endif
+    CHECK(reply.kind == PELGAISTI_BEGAN && reply.value == 1);
+    CHECK(serve(&book, 1, NULL, &reply) == PELGAISTI_NULL);
+    CHECK(open_office(&session, 1) == PELGAISTI_OK && open_office(NULL, 1) == PELGAISTI_NULL);
+    CHECK(pelgaisti_book_close(&book) == PELGAISTI_OK);
+    CHECK(pelgaisti_office_close(&session, &book) == PELGAISTI_OK && pelgaisti_book_close(&book) == PELGAISTI_OK);
+}
+
+/* Each number has its name, and every other number is unknown. */
+static void numbers_have_names(void) {
+    static const char *const statuses[] = {"OK", "NO_MEMORY", "CLOSED", "NO_SUCH_SESSION", "NO_SUCH_OP", "NO_SUCH_LEVEL",
+                                           "NO_SUCH_MODE", "OPEN", "NO_SUCH_COUNT", "PENDING", "NOTHING_PENDING", "NOT_SERVED",
+                                           "RETIRED", "ELSEWHERE", "OTHER_OFFICE", "MISSING", "COPIED", "NULL", "SAME", "LET_GO"};
+    static const char *const modes[] = {"NL", "IS", "unknown", "IX", "unknown", "S", "unknown", "SIX", "unknown", "unknown",
+                                        "unknown", "unknown", "unknown", "U", "unknown", "X", "unknown"};
+    static const char *const ops[] = {"unknown", "begin", "lock", "convert", "poll", "release", "commit", "abort", "unknown"};
+    static const char *const replies[] = {"unknown", "began", "granted", "waiting", "deadlock", "clear", "released", "committed",
+                                          "aborted", "refused", "unknown"};
+    static const char *const refusals[] = {"unknown", "AlreadyOpen", "NoTransaction", "IsWaiting", "IsDoomed", "NothingAsked",
+                                           "NotHeld", "ParentNotHeld", "ChildHeld", "TooManyLocks", "unknown"};
+    static const uint64_t off[] = {20, 255, 256, 65536, UINT32_MAX, (uint64_t)1 << 32, ((uint64_t)1 << 32) + 1, UINT64_MAX};
+
+    for (size_t k = 0; k < COUNT(statuses); k++) CHECK(!strcmp(pelgaisti_status_name(k), statuses[k]));
+    for (size_t k = 0; k < COUNT(modes); k++) CHECK(!strcmp(pelgaisti_mode_name(k), modes[k]));
+    for (size_t k = 0; k < COUNT(ops); k++) CHECK(!strcmp(pelgaisti_op_name(k), ops[k]));
+    for (size_t k = 0; k < COUNT(replies); k++) CHECK(!strcmp(pelgaisti_reply_name(k), replies[k]));
+    for (size_t k = 0; k < COUNT(refusals); k++) CHECK(!strcmp(pelgaisti_refusal_name(k), refusals[k]));
+    for (size_t k = 0; k < COUNT(off); k++)
+        CHECK(!strcmp(pelgaisti_status_name(off[k]), "unknown") && !strcmp(pelgaisti_mode_name(off[k]), "unknown") &&
+              !strcmp(pelgaisti_op_name(off[k]), "unknown") && !strcmp(pelgaisti_reply_name(off[k]), "unknown") &&
+              !strcmp(pelgaisti_refusal_name(off[k]), "unknown"));
+    CHECK(!strcmp(pelgaisti_status_name(PELGAISTI_LET_GO), "LET_GO") && !strcmp(pelgaisti_mode_name(PELGAISTI_U), "U"));
+}
+
+/* Batches: replies and entries as of calls one after another, none if one is no call, and locks of several sessions together. */
+static void batches_are_served(void) {
+    pelgaisti_book book = PELGAISTI_EMPTY;
+    pelgaisti_entry items[6], history[8];
+    size_t count = 99;
+    uint32_t edge = 99;
+    uint64_t length = 99;
+    pelgaisti_call write = call_of(PELGAISTI_LOCK, PELGAISTI_X, 1, 7, 9), read = call_of(PELGAISTI_LOCK, PELGAISTI_S, 1, 7, 9);
+
+    CHECK(pelgaisti_book_open(&book, 3) == PELGAISTI_OK);
+    memset(items, 0x55, sizeof items);
+    for (uint32_t k = 0; k < 6; k++) {
+        items[k].session = 1 + k % 3;
+        items[k].call = k < 3 ? call_of(PELGAISTI_BEGIN, 77, 88, 5, 6) : read;
+    }
+    /* the fifth is none, and so is the sixth: the first of them is told, and nothing is served */
+    items[4].call.mode = 2;
+    items[5].session = 4;
+    CHECK(pelgaisti_book_serve_batch(&book, items, 6, &count) == PELGAISTI_NO_SUCH_MODE && count == 99);
+    items[4].call.resource.level = 6;
+    CHECK(pelgaisti_book_serve_batch(&book, items, 6, &count) == PELGAISTI_NO_SUCH_LEVEL);
+    items[4].call.op = 8;
+    CHECK(pelgaisti_book_serve_batch(&book, items, 6, &count) == PELGAISTI_NO_SUCH_OP);
+    items[4].session = 0;
+    CHECK(pelgaisti_book_serve_batch(&book, items, 6, &count) == PELGAISTI_NO_SUCH_SESSION);
+    CHECK(pelgaisti_book_length(&book, &length) == PELGAISTI_OK && length == 0 && items[0].reply.kind == 0x55555555);
+    items[4].session = 2;
+    items[5].session = 3;
+    items[4].call = write;
+    items[5].call = read;
+    CHECK(pelgaisti_book_serve_batch(&book, items, 6, &count) == PELGAISTI_OK && count == 6);
+    for (uint32_t k = 0; k < 3; k++) CHECK(items[k].reply.kind == PELGAISTI_BEGAN && items[k].reply.value == k + 1);
+    CHECK(items[3].reply.kind == PELGAISTI_GRANTED && items[3].reply.value == PELGAISTI_S);
+    CHECK(items[4].reply.kind == PELGAISTI_WAITING && items[5].reply.kind == PELGAISTI_WAITING);
+    CHECK(pelgaisti_book_history(&book, 0, history, 8, &count) == PELGAISTI_OK && count == 6);
+    for (uint32_t k = 0; k < 6; k++) {
+        CHECK(items[k].session == history[k].session && items[k].call.op == history[k].call.op);
+        CHECK(items[k].call.mode == history[k].call.mode && items[k].reply.value == history[k].reply.value);
+        CHECK(!memcmp(&items[k].call.resource, &history[k].call.resource, sizeof history[k].call.resource));
+    }
+    CHECK(items[0].call.mode == 0 && items[0].call.resource.level == 0 && items[3].call.resource.numbers[1] == 0);
+    /* who waits for whom: 2 for 1, 3 for 2 ahead of it */
+    static const char *const edges[3] = {"nnn", "ynn", "nyn"};
+    for (uint32_t a = 1; a <= 3; a++)
+        for (uint32_t b = 1; b <= 3; b++)
+            CHECK(pelgaisti_book_waits_for(&book, a, b, &edge) == PELGAISTI_OK && edge == (edges[a - 1][b - 1] == 'y' ? 1u : 0u));
+    uint32_t blockers[2] = {77, 88};
+    CHECK(pelgaisti_book_blockers(&book, 1, blockers, 2, &count) == PELGAISTI_OK && count == 0 && blockers[0] == 77);
+    CHECK(pelgaisti_book_blockers(&book, 3, blockers, 2, &count) == PELGAISTI_OK && count == 1 && blockers[0] == 2 && blockers[1] == 88);
+    CHECK(pelgaisti_book_blockers(&book, 2, NULL, 0, &count) == PELGAISTI_OK && count == 1);
+    CHECK(pelgaisti_book_blockers(&book, 4, blockers, 2, &count) == PELGAISTI_NO_SUCH_SESSION && count == 1);
+    CHECK(pelgaisti_book_blockers(NULL, 1, blockers, 2, &count) == PELGAISTI_NULL);
+    CHECK(pelgaisti_book_blockers(&book, 1, NULL, 2, &count) == PELGAISTI_NULL);
+    CHECK(pelgaisti_book_blockers(&book, 1, blockers, 2, NULL) == PELGAISTI_NULL);
+    for (uint32_t k = 0; k < 2; k++) {
+        items[k].session = k + 1;
+        items[k].call = call_of(PELGAISTI_ABORT, 0, 0, 0, 0);
+    }
+    CHECK(pelgaisti_book_serve_batch(&book, items, 2, &count) == PELGAISTI_OK && count == 2);
+    CHECK(items[0].reply.value == 1 && items[1].reply.kind == PELGAISTI_ABORTED);
+    CHECK(pelgaisti_book_serve_batch(&book, NULL, 0, &count) == PELGAISTI_OK && count == 0);
+    CHECK(pelgaisti_book_length(&book, &length) == PELGAISTI_OK && length == 8);
+    CHECK(pelgaisti_book_close(&book) == PELGAISTI_OK);
+}
+
+/* A path in each mode: the modes held on it afterwards; where it stops, and how it goes on. */
+static void paths_are_locked(void) {
+    static const uint32_t modes[6][2] = {{PELGAISTI_IS, PELGAISTI_IS}, {PELGAISTI_S, PELGAISTI_IS},   {PELGAISTI_IX, PELGAISTI_IX},
+                                         {PELGAISTI_U, PELGAISTI_IX},  {PELGAISTI_SIX, PELGAISTI_IX}, {PELGAISTI_X, PELGAISTI_IX}};
+    pelgaisti_call begin = call_of(PELGAISTI_BEGIN, 0, 0, 0, 0), commit = call_of(PELGAISTI_COMMIT, 0, 0, 0, 0);
+    pelgaisti_call poll = call_of(PELGAISTI_POLL, 0, 0, 0, 0), read = call_of(PELGAISTI_LOCK, PELGAISTI_S, 2, 1, 2);
+    pelgaisti_session two[2] = {PELGAISTI_EMPTY, PELGAISTI_EMPTY};
+    pelgaisti_book book = PELGAISTI_EMPTY;
+    pelgaisti_answer answer;
+    pelgaisti_reply reply;
+    uint32_t mode = 99, level;
+    uint64_t length = 0;
+
+    CHECK(pelgaisti_book_open(&book, 2) == PELGAISTI_OK);
+    for (size_t m = 0; m < COUNT(modes); m++)
+        for (uint32_t depth = 1; depth <= PELGAISTI_LEVELS; depth++) {
+            pelgaisti_resource path = {depth, {1, 2, 3, 4, 5}};
+            level = 0;
+            CHECK(pelgaisti_parent_mode(modes[m][0]) == modes[m][1]);
+            CHECK(pelgaisti_book_serve(&book, 1, &begin, &reply) == PELGAISTI_OK);
+            CHECK(pelgaisti_book_lock_path(&book, 1, &path, modes[m][0], &level, &reply) == PELGAISTI_OK && level == depth);
+            CHECK(reply.kind == PELGAISTI_GRANTED && reply.value == modes[m][0]);
+            for (path.level = 1; path.level <= depth; path.level++)
+                CHECK(pelgaisti_book_held(&book, 1, &path, &mode) == PELGAISTI_OK && mode == modes[m][path.level < depth]);
+            CHECK(pelgaisti_book_serve(&book, 1, &commit, &reply) == PELGAISTI_OK && reply.value == depth);
+        }
+    CHECK(pelgaisti_parent_mode(PELGAISTI_NL) == PELGAISTI_NL && pelgaisti_parent_mode(2) == 2);
+    /* NL is refused at once, and so is a path without a transaction */
+    pelgaisti_resource path = {3, {1, 2, 3, 0, 0}};
+    level = 0;
+    CHECK(pelgaisti_book_lock_path(&book, 1, &path, PELGAISTI_X, &level, &reply) == PELGAISTI_OK && level == 0);
+    CHECK(reply.kind == PELGAISTI_REFUSED && reply.value == PELGAISTI_NO_TRANSACTION);
+    for (uint32_t s = 1; s <= 2; s++) CHECK(pelgaisti_book_serve(&book, s, &begin, &reply) == PELGAISTI_OK);
+    CHECK(pelgaisti_book_lock_path(&book, 1, &path, PELGAISTI_NL, &level, &reply) == PELGAISTI_OK && level == 0);
+    CHECK(reply.kind == PELGAISTI_REFUSED && reply.value == PELGAISTI_NOTHING_ASKED);
+    /* session 1 reads the file, so that the path of session 2 waits there, and goes on once it is granted */
+    path.level = 2;
+    CHECK(pelgaisti_book_lock_path(&book, 1, &path, PELGAISTI_S, &level, &reply) == PELGAISTI_OK && level == 2);
+    path.level = 3;
+    level = 0;
+    CHECK(pelgaisti_book_lock_path(&book, 2, &path, PELGAISTI_X, &level, &reply) == PELGAISTI_OK && level == 1);
+    CHECK(reply.kind == PELGAISTI_WAITING);
+    CHECK(pelgaisti_book_lock_path(&book, 2, &path, PELGAISTI_X, &level, &reply) == PELGAISTI_OK && level == 1);
+    CHECK(reply.kind == PELGAISTI_REFUSED && reply.value == PELGAISTI_IS_WAITING);
+    CHECK(pelgaisti_book_serve(&book, 1, &commit, &reply) == PELGAISTI_OK);
+    CHECK(pelgaisti_book_serve(&book, 2, &poll, &reply) == PELGAISTI_OK && reply.kind == PELGAISTI_CLEAR);
+    CHECK(pelgaisti_book_lock_path(&book, 2, &path, PELGAISTI_X, &level, &reply) == PELGAISTI_OK && level == 3);
+    CHECK(reply.kind == PELGAISTI_GRANTED && reply.value == PELGAISTI_X);
+    CHECK(pelgaisti_book_serve(&book, 2, &commit, &reply) == PELGAISTI_OK && reply.value == 3);
+    /* what is held after a conversion that waited is told by the same lock again */
+    for (uint32_t s = 1; s <= 2; s++) {
+        pelgaisti_call share = call_of(PELGAISTI_LOCK, PELGAISTI_S, 1, 1, 0);
+        CHECK(pelgaisti_book_serve(&book, s, &begin, &reply) == PELGAISTI_OK);
+        CHECK(pelgaisti_book_serve(&book, s, &share, &reply) == PELGAISTI_OK && reply.kind == PELGAISTI_GRANTED);
+    }
+    pelgaisti_call raise = call_of(PELGAISTI_LOCK, PELGAISTI_IX, 1, 1, 0);
+    CHECK(pelgaisti_book_serve(&book, 1, &raise, &reply) == PELGAISTI_OK && reply.kind == PELGAISTI_WAITING);
+    CHECK(pelgaisti_book_serve(&book, 2, &commit, &reply) == PELGAISTI_OK);
+    CHECK(pelgaisti_book_serve(&book, 1, &poll, &reply) == PELGAISTI_OK && reply.kind == PELGAISTI_CLEAR && reply.value == 0);
+    CHECK(pelgaisti_book_held(&book, 1, &raise.resource, &mode) == PELGAISTI_OK && mode == PELGAISTI_SIX);
+    CHECK(pelgaisti_book_serve(&book, 1, &raise, &reply) == PELGAISTI_OK);
+    CHECK(reply.kind == PELGAISTI_GRANTED && reply.value == PELGAISTI_SIX);
+    CHECK(pelgaisti_book_close(&book) == PELGAISTI_OK);
+
+    /* an office with a bound keeps the newest entries */
+    CHECK(pelgaisti_office_open_keeping(NULL, 1, 2) == PELGAISTI_NULL);
+    CHECK(pelgaisti_office_open_keeping(two, 0, 2) == PELGAISTI_NO_SUCH_COUNT);
+    CHECK(pelgaisti_office_open_keeping(two, 1, 2) == PELGAISTI_OK);
+    CHECK(pelgaisti_office_open_keeping(two, 1, 2) == PELGAISTI_OPEN);
+    for (size_t k = 0; k < 9; k++) CHECK(pelgaisti_session_perform(&two[0], &poll, 1, &answer) == PELGAISTI_OK && answer.place == k);
+    CHECK(pelgaisti_office_close(&two[0], &book) == PELGAISTI_OK);
+    CHECK(pelgaisti_book_length(&book, &length) == PELGAISTI_OK && length == 9);
+    CHECK(pelgaisti_book_first_kept(&book, &length) == PELGAISTI_OK && length == 7);
+    CHECK(pelgaisti_book_close(&book) == PELGAISTI_OK);
+
+    /* the same in an office, where a path may also be left with a call that isn't served */
+    CHECK(pelgaisti_office_open(two, 2) == PELGAISTI_OK);
+    for (size_t k = 0; k < 2; k++) CHECK(pelgaisti_session_perform(&two[k], &begin, 9, &answer) == PELGAISTI_OK && answer.place == k);
+    level = 0;
+    path.level = 2;
+    CHECK(pelgaisti_session_lock_path(&two[0], &path, PELGAISTI_S, &level, 0, &answer) == PELGAISTI_NOT_SERVED && level == 0);
+    CHECK(pelgaisti_session_lock_path(&two[0], &path, PELGAISTI_S, &level, 1, &answer) == PELGAISTI_OK && level == 2);
+    CHECK(answer.place == 3 && answer.reply.kind == PELGAISTI_GRANTED && answer.reply.value == PELGAISTI_S);
+    level = 0;
+    path.level = 3;
+    CHECK(pelgaisti_session_lock_path(&two[1], &path, PELGAISTI_X, &level, 1, &answer) == PELGAISTI_OK && level == 1);
+    CHECK(answer.reply.kind == PELGAISTI_WAITING);
+    CHECK(pelgaisti_session_perform(&two[0], &commit, 1, &answer) == PELGAISTI_OK);
+    CHECK(pelgaisti_session_perform(&two[1], &poll, 1, &answer) == PELGAISTI_OK && answer.reply.kind == PELGAISTI_CLEAR);
+    CHECK(pelgaisti_session_lock_path(&two[1], &path, PELGAISTI_X, &level, 1, &answer) == PELGAISTI_OK && level == 3);
+    CHECK(answer.reply.kind == PELGAISTI_GRANTED && answer.reply.value == PELGAISTI_X);
+    CHECK(pelgaisti_session_hand_in(&two[1], &two[0]) == PELGAISTI_OK && pelgaisti_office_close(&two[0], &book) == PELGAISTI_OK);
+    CHECK(pelgaisti_book_length(&book, &length) == PELGAISTI_OK && length == 10);
+    CHECK(pelgaisti_book_held(&book, 2, &read.resource, &mode) == PELGAISTI_OK && mode == PELGAISTI_IX);
     CHECK(pelgaisti_book_close(&book) == PELGAISTI_OK);
 }
 
@@ -310,8 +544,11 @@ static void sessions_refuse(void) {
     pelgaisti_call begin = call_of(PELGAISTI_BEGIN, 0, 0, 0, 0);
     pelgaisti_answer answer = {99, {77, 88}};
     pelgaisti_pass pass = {99, 99};
-    uint32_t posted = 99;
-    uint64_t seen = 99, length = 0;
+    pelgaisti_resource path = {3, {1, 2, 3}};
+    uint32_t posted = 99, level = 0;
+    uint64_t seen = 99, length = 0, mark = 0;
+    pelgaisti_entry entry;
+    size_t count = 99;
 
     CHECK(pelgaisti_office_open(NULL, 2) == PELGAISTI_NULL);
     CHECK(pelgaisti_office_open(two, 0) == PELGAISTI_NO_SUCH_COUNT);
@@ -320,6 +557,11 @@ static void sessions_refuse(void) {
     CHECK(pelgaisti_session_serve(&two[0], &pass) == PELGAISTI_CLOSED);
     CHECK(pelgaisti_session_collect(&two[0], &answer) == PELGAISTI_CLOSED);
     CHECK(pelgaisti_session_seen(&two[0], &seen) == PELGAISTI_CLOSED);
+    CHECK(pelgaisti_session_take_history(&two[0], &seen, &entry, 1, &count) == PELGAISTI_CLOSED);
+    CHECK(pelgaisti_session_mark(&two[0], &seen) == PELGAISTI_CLOSED);
+    CHECK(pelgaisti_session_perform(&two[0], &begin, 9, &answer) == PELGAISTI_CLOSED);
+    CHECK(pelgaisti_session_perform(&two[0], NULL, 9, &answer) == PELGAISTI_CLOSED);
+    CHECK(pelgaisti_session_lock_path(&two[0], &path, PELGAISTI_X, &level, 9, &answer) == PELGAISTI_CLOSED);
     CHECK(pelgaisti_session_hear(&two[0], &two[1]) == PELGAISTI_CLOSED);
     CHECK(pelgaisti_session_retire(&two[0]) == PELGAISTI_CLOSED);
     CHECK(pelgaisti_session_hand_in(&two[1], &two[0]) == PELGAISTI_CLOSED);
@@ -336,6 +578,26 @@ static void sessions_refuse(void) {
     CHECK(pelgaisti_session_collect(&two[0], NULL) == PELGAISTI_NULL);
     CHECK(pelgaisti_session_seen(NULL, &seen) == PELGAISTI_NULL);
     CHECK(pelgaisti_session_seen(&two[0], NULL) == PELGAISTI_NULL);
+    CHECK(pelgaisti_session_take_history(NULL, &seen, &entry, 1, &count) == PELGAISTI_NULL);
+    CHECK(pelgaisti_session_take_history(&two[0], NULL, &entry, 1, &count) == PELGAISTI_NULL);
+    CHECK(pelgaisti_session_take_history(&two[0], &seen, NULL, 1, &count) == PELGAISTI_NULL);
+    CHECK(pelgaisti_session_take_history(&two[0], &seen, &entry, 1, NULL) == PELGAISTI_NULL);
+    CHECK(pelgaisti_session_mark(NULL, &seen) == PELGAISTI_NULL);
+    CHECK(pelgaisti_session_mark(&two[0], NULL) == PELGAISTI_NULL);
+    CHECK(pelgaisti_session_perform(NULL, &begin, 9, &answer) == PELGAISTI_NULL);
+    CHECK(pelgaisti_session_perform(&two[0], &begin, 9, NULL) == PELGAISTI_NULL);
+    CHECK(pelgaisti_session_perform(&two[0], NULL, 9, &answer) == PELGAISTI_NOTHING_PENDING);
+    CHECK(pelgaisti_session_lock_path(NULL, &path, PELGAISTI_X, &level, 9, &answer) == PELGAISTI_NULL);
+    CHECK(pelgaisti_session_lock_path(&two[0], NULL, PELGAISTI_X, &level, 9, &answer) == PELGAISTI_NULL);
+    CHECK(pelgaisti_session_lock_path(&two[0], &path, PELGAISTI_X, NULL, 9, &answer) == PELGAISTI_NULL);
+    CHECK(pelgaisti_session_lock_path(&two[0], &path, PELGAISTI_X, &level, 9, NULL) == PELGAISTI_NULL);
+    level = 3;
+    CHECK(pelgaisti_session_lock_path(&two[0], &path, PELGAISTI_X, &level, 9, &answer) == PELGAISTI_NO_SUCH_LEVEL && level == 3);
+    level = 0;
+    path.level = 6;
+    CHECK(pelgaisti_session_lock_path(&two[0], &path, PELGAISTI_X, &level, 9, &answer) == PELGAISTI_NO_SUCH_LEVEL);
+    path.level = 3;
+    CHECK(pelgaisti_session_lock_path(&two[0], &path, 2, &level, 9, &answer) == PELGAISTI_NO_SUCH_MODE && level == 0);
     CHECK(pelgaisti_session_hear(NULL, &two[0]) == PELGAISTI_NULL);
     CHECK(pelgaisti_session_hear(&two[0], NULL) == PELGAISTI_NULL);
     CHECK(pelgaisti_session_hear(&two[0], &two[0]) == PELGAISTI_SAME);
@@ -360,11 +622,15 @@ static void sessions_refuse(void) {
         CHECK(pelgaisti_session_publish(&two[0], &off, &posted) == PELGAISTI_NO_SUCH_MODE);
     }
     CHECK(pelgaisti_session_collect(&two[0], &answer) == PELGAISTI_NOTHING_PENDING);
-    CHECK(posted == 99 && pass.served == 99 && pass.starved == 99 && seen == 99);
+    CHECK(posted == 99 && pass.served == 99 && pass.starved == 99 && seen == 99 && count == 99);
 
     CHECK(pelgaisti_session_publish(&two[0], &begin, &posted) == PELGAISTI_OK);
     CHECK(posted == PELGAISTI_LISTED || posted == PELGAISTI_UNLISTED);
     CHECK(pelgaisti_session_publish(&two[0], &begin, NULL) == PELGAISTI_PENDING);
+    CHECK(pelgaisti_session_perform(&two[0], &begin, 9, &answer) == PELGAISTI_PENDING);
+    CHECK(pelgaisti_session_perform(&two[0], NULL, 0, &answer) == PELGAISTI_NOT_SERVED);
+    CHECK(pelgaisti_session_mark(&two[0], &mark) == PELGAISTI_OK && mark == (uint64_t)(uintptr_t)two);
+    CHECK(pelgaisti_session_mark(&two[1], &mark) == PELGAISTI_OK && mark == (uint64_t)(uintptr_t)two);
     CHECK(pelgaisti_session_collect(&two[0], &answer) == PELGAISTI_NOT_SERVED);
     CHECK(pelgaisti_session_retire(&two[0]) == PELGAISTI_PENDING);
     CHECK(pelgaisti_session_hand_in(&two[0], &two[1]) == PELGAISTI_PENDING);
@@ -384,6 +650,7 @@ static void sessions_refuse(void) {
     CHECK(pelgaisti_session_retire(&two[1]) == PELGAISTI_OK);
     CHECK(pelgaisti_session_retire(&two[1]) == PELGAISTI_RETIRED);
     CHECK(pelgaisti_session_publish(&two[1], &begin, NULL) == PELGAISTI_RETIRED);
+    CHECK(pelgaisti_session_perform(&two[1], &begin, 9, &answer) == PELGAISTI_RETIRED);
     begin.op = 0;
     CHECK(pelgaisti_session_publish(&two[1], &begin, NULL) == PELGAISTI_NO_SUCH_OP);
     begin.op = PELGAISTI_BEGIN;
@@ -486,7 +753,38 @@ static void dropped_sessions(void) {
     CHECK(pelgaisti_book_close(&book) == PELGAISTI_OK);
 }
 
-enum { THREADS = 8, CALLS = 10000 };
+/* Two sessions take the history in turn: each piece begins where the one before ends, also in the midst of what is kept. */
+static void pieces_follow(void) {
+    pelgaisti_session two[2] = {PELGAISTI_EMPTY, PELGAISTI_EMPTY};
+    pelgaisti_book book = PELGAISTI_EMPTY;
+    pelgaisti_call begin = call_of(PELGAISTI_BEGIN, 0, 0, 0, 0), poll = call_of(PELGAISTI_POLL, 0, 0, 0, 0);
+    pelgaisti_entry entries[4];
+    pelgaisti_answer answer;
+    uint64_t first = 99;
+    size_t count = 99;
+
+    CHECK(pelgaisti_office_open(two, 2) == PELGAISTI_OK);
+    CHECK(pelgaisti_session_take_history(&two[0], &first, NULL, 0, &count) == PELGAISTI_OK && first == 0 && count == 0);
+    CHECK(pelgaisti_session_perform(&two[0], &begin, 9, &answer) == PELGAISTI_OK);
+    CHECK(pelgaisti_session_perform(&two[1], &poll, 9, &answer) == PELGAISTI_OK);
+    CHECK(pelgaisti_session_perform(&two[0], &poll, 9, &answer) == PELGAISTI_OK);
+    CHECK(pelgaisti_session_take_history(&two[1], &first, entries, 2, &count) == PELGAISTI_OK && first == 0 && count == 2);
+    CHECK(entries[0].session == 1 && entries[0].call.op == PELGAISTI_BEGIN && entries[0].reply.kind == PELGAISTI_BEGAN);
+    CHECK(entries[1].session == 2 && entries[1].call.op == PELGAISTI_POLL && entries[1].reply.kind == PELGAISTI_REFUSED);
+    CHECK(pelgaisti_session_publish(&two[1], &begin, NULL) == PELGAISTI_OK);
+    CHECK(pelgaisti_session_take_history(&two[1], &first, entries, 4, &count) == PELGAISTI_OK && first == 2 && count == 1);
+    CHECK(entries[0].session == 1 && entries[0].call.op == PELGAISTI_POLL && entries[0].reply.kind == PELGAISTI_CLEAR);
+    CHECK(pelgaisti_session_perform(&two[1], NULL, 9, &answer) == PELGAISTI_OK && answer.place == 3);
+    CHECK(pelgaisti_session_take_history(&two[0], &first, NULL, 0, &count) == PELGAISTI_OK && first == 3 && count == 0);
+    CHECK(pelgaisti_session_hand_in(&two[1], &two[0]) == PELGAISTI_OK);
+    CHECK(pelgaisti_office_close(&two[0], &book) == PELGAISTI_OK);
+    CHECK(pelgaisti_book_first_kept(&book, &first) == PELGAISTI_OK && first == 3);
+    CHECK(pelgaisti_book_take_history(&book, &first, entries, 4, &count) == PELGAISTI_OK && first == 3 && count == 1);
+    CHECK(entries[0].session == 2 && entries[0].call.op == PELGAISTI_BEGIN);
+    CHECK(pelgaisti_book_close(&book) == PELGAISTI_OK);
+}
+
+enum { THREADS = 8, CALLS = 10000, TAKERS = 2 };
 
 typedef struct job {
     pelgaisti_session *session;
@@ -558,16 +856,105 @@ static void threads_share(void) {
     CHECK(pelgaisti_book_close(&book) == PELGAISTI_OK);
 }
 
+/* The history as the takers found it: each writes the pieces that it takes to their places. */
+static pelgaisti_entry taken[THREADS * CALLS];
+static unsigned char times[THREADS * CALLS];
+static int working = THREADS;
+
+typedef struct taker {
+    pelgaisti_session *session;
+    uint64_t pieces, bad;
+} taker;
+
+/* A thread that takes pieces of at most 100 entries, until all others are done. */
+static void *take(void *argument) {
+    taker *j = (taker *)argument;
+    pelgaisti_entry entries[100];
+    while (__atomic_load_n(&working, __ATOMIC_ACQUIRE) > 0) {
+        uint64_t first = 0;
+        size_t count = 0;
+        pelgaisti_status status = pelgaisti_session_take_history(j->session, &first, entries, COUNT(entries), &count);
+        j->bad += status != PELGAISTI_OK && status != PELGAISTI_ELSEWHERE;
+        if (status != PELGAISTI_OK) continue;
+        j->pieces += count > 0;
+        for (size_t k = 0; k < count; k++) {
+            if (first + k >= THREADS * CALLS) {
+                j->bad++;
+                continue;
+            }
+            taken[first + k] = entries[k];
+            times[first + k]++;
+        }
+        sched_yield();
+    }
+    return NULL;
+}
+
+static void *work_and_tell(void *argument) {
+    void *result = work(argument);
+    __atomic_fetch_sub(&working, 1, __ATOMIC_ACQ_REL);
+    return result;
+}
+
+/* While eight threads call, two take the history: with what is left in the book, each entry is there once, and the replies are
+   those of one book that serves these calls in order. */
+static void pieces_are_the_history(void) {
+    static pelgaisti_session sessions[THREADS + TAKERS];
+    static uint64_t places[THREADS][CALLS];
+    pelgaisti_book book = PELGAISTI_EMPTY, fresh = PELGAISTI_EMPTY;
+    pthread_t threads[THREADS + TAKERS];
+    job jobs[THREADS];
+    taker takers[TAKERS];
+    uint64_t bad = 0, first = 0, length = 0;
+    size_t count = 0;
+
+    CHECK(pelgaisti_office_open(sessions, THREADS + TAKERS) == PELGAISTI_OK);
+    for (int t = 0; t < TAKERS; t++) {
+        taker j = {&sessions[THREADS + t], 0, 0};
+        takers[t] = j;
+        CHECK(pthread_create(&threads[THREADS + t], NULL, take, &takers[t]) == 0);
+    }
+    for (int t = 0; t < THREADS; t++) {
+        job j = {&sessions[t], places[t], 0, 0};
+        jobs[t] = j;
+        CHECK(pthread_create(&threads[t], NULL, work_and_tell, &jobs[t]) == 0);
+    }
+    for (int t = 0; t < THREADS + TAKERS; t++) CHECK(pthread_join(threads[t], NULL) == 0);
+    for (int t = 0; t < THREADS; t++) CHECK(jobs[t].bad == 0);
+    CHECK(takers[0].bad == 0 && takers[1].bad == 0 && takers[0].pieces + takers[1].pieces > 0);
+    for (int t = THREADS + TAKERS - 1; t > 0; t--) CHECK(pelgaisti_session_hand_in(&sessions[t], &sessions[0]) == PELGAISTI_OK);
+    CHECK(pelgaisti_office_close(&sessions[0], &book) == PELGAISTI_OK);
+    CHECK(pelgaisti_book_length(&book, &length) == PELGAISTI_OK && length == THREADS * CALLS);
+    CHECK(pelgaisti_book_first_kept(&book, &first) == PELGAISTI_OK);
+    for (uint64_t place = 0; place < first; place++) bad += times[place] != 1;
+    CHECK(pelgaisti_book_take_history(&book, &first, taken + first, length - first, &count) == PELGAISTI_OK && first + count == length);
+    CHECK(pelgaisti_book_open(&fresh, THREADS + TAKERS) == PELGAISTI_OK);
+    for (uint64_t place = 0; place < length; place++) {
+        pelgaisti_reply reply = {0, 0};
+        bad += pelgaisti_book_serve(&fresh, taken[place].session, &taken[place].call, &reply) != PELGAISTI_OK;
+        bad += reply.kind != taken[place].reply.kind || reply.value != taken[place].reply.value;
+    }
+    CHECK(bad == 0);
+    CHECK(pelgaisti_book_close(&fresh) == PELGAISTI_OK);
+    CHECK(pelgaisti_book_close(&book) == PELGAISTI_OK);
+}
+
 int main(void) {
     books_refuse();
     books_serve();
     history_is_let_go();
     levels_are_locked();
+    calls_are_functions();
+    numbers_have_names();
+    batches_are_served();
+    paths_are_locked();
     modes_meet();
     sessions_refuse();
     copies_are_told();
     dropped_sessions();
+    pieces_follow();
     threads_share();
+    pieces_are_the_history();
     printf("%d passed, %d failed\n", passed, failed);
     return failed != 0;
 }

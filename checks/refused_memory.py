@@ -8,7 +8,8 @@ In each round one allocation is refused: the first one in the first round, the s
 round is the first one in which nothing was refused.
 
 A replay and a check have to end with status 4, their line on standard error and nothing on standard output, in every round but one:
-room for all words of the command line is only a hint, and if it is refused they end as with ample memory. A run may also end with
+room for all words of the command line is only a hint, and if it is refused they end as with ample memory. A replay in pieces may
+have written whole pieces of its history, and some round has to see one piece written, and some round two. A run may also end with
 status 5, if the refusal kept a thread from starting, or with status 0, if it met the refusal by serving calls one after another:
 what it writes has to be a legal history in which each session's rows stand in their order. A run of one session has one try for
 each call: a pass that found no memory for the call ends the run. In further rounds of runs all later allocations are refused too: a
@@ -36,6 +37,8 @@ PROGRAM = TOP / "crates/glm_main/out/glm_main"
 PROCESSORS = os.cpu_count() or 1
 REFUSED = (4, b"", b"glm: out of memory\n")
 UNSTARTED = (5, b"", b"glm: device\n")
+# how many rows a piece of a history has that `replay --stream` writes
+PIECE = 4096
 
 # the tests whose allocations are refused, by the crate: all whose names begin so
 TESTED = {
@@ -99,6 +102,7 @@ CROWD = begun(256) + [
     "1,commit,,,committed,1",
     *(f"{session},poll,,,clear," for session in range(2, 257)),
 ]
+THREE_PIECES = begun(1) + ["1,poll,,,clear,"] * (2 * PIECE)
 TRACES = {
     "locks down the tree": DOWN_THE_TREE,
     "a conversion ahead of a queue": CONVERSION,
@@ -114,6 +118,10 @@ def trace_of(rows):
 
 def history_of(rows):
     return "".join(f"{place},{row}\n" for place, row in enumerate(rows)).encode()
+
+
+# what some round of the replay in pieces has written: one piece of its history, or two
+TOLD["replay --stream of three pieces"] = {history_of(THREE_PIECES[: count * PIECE]).decode().strip() for count in (1, 2)}
 
 
 def by_session(rows):
@@ -175,6 +183,19 @@ def ends(status, output, errors=b""):
     return is_right
 
 
+def ends_in_pieces(history):
+    """Like `ends` with status 0, but whole pieces of the history may have been written before memory was refused."""
+    rows = history.splitlines(keepends=True)
+    beginnings = [b"".join(rows[:count]) for count in range(0, len(rows), PIECE)]
+    is_whole = ends(0, history)
+
+    def is_right(ended):
+        status, output, errors = ended
+        return (status, errors) == (4, REFUSED[2]) and output in beginnings or is_whole(ended)
+
+    return is_right
+
+
 def runs(rows):
     """Whether a run of these rows was refused memory or a thread, or wrote a history of them."""
 
@@ -201,6 +222,8 @@ def trials_of_the_program():
             # a thread whose pass found no memory stops at once, not after its last try
             words = [PROGRAM, "run", "--turns", "1000"]
             yield Trial(f"run of {name}, all refused", words, runs(rows), trace, refuses_all=True, quiet=3)
+    words, history = [PROGRAM, "replay", "--stream"], history_of(THREE_PIECES)
+    yield Trial("replay --stream of three pieces", words, ends_in_pieces(history), trace_of(THREE_PIECES))
     illegal = (TOP / "examples/illegal.csv").read_bytes()
     yield Trial("check of a history that isn't legal", [PROGRAM, "check"], ends(3, b"illegal 2\n"), illegal)
     faulty = b"1,begin,,\n1,lock,01,S\n"
@@ -247,7 +270,7 @@ def main():
             if passed == before and PROGRAM in trial.words:
                 failed.append(f"{trial.name}: memory was refused in no round that passed")
             for text in sorted(TOLD.get(trial.name, set()) - told):
-                failed.append(f"{trial.name}: no round printed '{text}'")
+                failed.append(f"{trial.name}: no round printed '{text[-60:]}'")
             if trial.name in ALWAYS and told - TOLD[trial.name]:
                 failed.append(f"{trial.name}: a round printed something else")
     for line in failed:

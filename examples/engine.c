@@ -1,46 +1,36 @@
 /*
  * A small engine: two tables of accounts, and four threads that move money between them. Each move locks the two records that it
- * changes, polls while it waits for a lock, and undoes its change if it is chosen as a deadlock's victim.
+ * changes, polls while it waits for a lock, and undoes its change if it is chosen as a deadlock's victim. The lock table keeps the
+ * newest 1024 entries of its history, so that the engine takes no more memory the longer it runs.
  *
  *     ./embed && cc examples/engine.c -Iout -Lout -lpelgaisti -lpthread -o engine && ./engine
+ *
+ * Each thread makes 500 moves, or as many as the first argument says.
  */
 #define _XOPEN_SOURCE 600 /* for barriers under -std=c99 */
 #include "pelgaisti.h"
 #include <pthread.h>
-#include <sched.h>
 #include <stdio.h>
 #include <stdlib.h>
+#include <time.h>
 
 /* The last record of each table is used only by the two moves that make a deadlock. */
-enum { TABLES = 2, RECORDS = 5, MEETING = 4, THREADS = 4, MOVES = 500, BALANCE = 100 };
+enum { TABLES = 2, RECORDS = 5, MEETING = 4, THREADS = 4, BALANCE = 100, KEPT = 1024 };
 
 static long accounts[TABLES][RECORDS];
 static pthread_barrier_t both_hold_one;
 
-/* A worker: its session, its number, and how many moves it made and how often it was a victim. */
+/* A worker: its session, its number, how many moves it has to make and made, how often it was a victim, and how many calls it made. */
 typedef struct worker {
     pelgaisti_session *session;
-    unsigned number, moved, victims;
+    unsigned number, moves, moved, victims;
+    uint64_t calls;
 } worker;
 
 /* Prints what failed and ends the program. */
-static void stop(const char *why, uint32_t status) {
-    fprintf(stderr, "engine: %s: status %u\n", why, (unsigned)status);
+static void stop(const char *why, const char *name) {
+    fprintf(stderr, "engine: %s: %s\n", why, name);
     exit(1);
-}
-
-/* Publishes a call, then serves and collects until the answer is there. */
-static pelgaisti_reply ask(worker *w, pelgaisti_call call) {
-    pelgaisti_answer answer;
-    uint32_t status = pelgaisti_session_publish(w->session, &call, NULL);
-    if (status != PELGAISTI_OK) stop("publish", status);
-    for (;;) {
-        pelgaisti_session_serve(w->session, NULL);
-        status = pelgaisti_session_collect(w->session, &answer);
-        if (status == PELGAISTI_OK) return answer.reply;
-        if (status != PELGAISTI_NOT_SERVED) stop("collect", status);
-        sched_yield();
-    }
 }
 
 /* A call without a resource and a mode. */
@@ -50,42 +40,58 @@ static pelgaisti_call plain(uint32_t op) {
     return call;
 }
 
-/* Locks a resource and polls until the lock is granted. Returns 0 if the transaction became a victim. */
-static int lock(worker *w, uint32_t mode, uint32_t level, uint32_t table, uint32_t record) {
-    pelgaisti_call call = plain(PELGAISTI_LOCK);
-    call.mode = mode;
-    call.resource.level = level;
-    call.resource.numbers[0] = 1; /* the database */
-    call.resource.numbers[1] = table;
-    call.resource.numbers[2] = level > 2 ? record : 0;
-    pelgaisti_reply reply = ask(w, call);
-    while (reply.kind == PELGAISTI_WAITING) {
-        sched_yield();
-        reply = ask(w, plain(PELGAISTI_POLL));
-    }
-    if (reply.kind == PELGAISTI_DEADLOCK) return 0;
-    if (reply.kind != PELGAISTI_GRANTED && reply.kind != PELGAISTI_CLEAR) stop("lock was refused", (uint32_t)reply.value);
-    return 1;
+/* Performs a call without a resource and a mode. Without a bound on its turns there is an answer, unless memory is refused. */
+static pelgaisti_reply ask(worker *w, uint32_t op) {
+    pelgaisti_call call = plain(op);
+    pelgaisti_answer answer;
+    pelgaisti_status status = pelgaisti_session_perform(w->session, &call, UINT64_MAX, &answer);
+    if (status != PELGAISTI_OK) stop("perform", pelgaisti_status_name(status));
+    w->calls++;
+    return answer.reply;
 }
 
-/* Locks a record exclusively, under intention locks on the database and the table. */
+/* Sleeps before the next poll, at most a millisecond. Returns how long to sleep before the one after it. */
+static long sleep_before_poll(long nanoseconds) {
+    struct timespec time = {0, 0};
+    time.tv_nsec = nanoseconds;
+    nanosleep(&time, NULL);
+    return nanoseconds < 500000 ? 2 * nanoseconds : 1000000;
+}
+
+/* Locks a record exclusively, under intention locks on the database and the table. While a request on this path waits, polls until
+   it is granted, and then goes on. Returns 0 if the transaction became a victim. */
 static int lock_record(worker *w, uint32_t table, uint32_t record) {
-    return lock(w, PELGAISTI_IX, 1, 0, 0) && lock(w, PELGAISTI_IX, 2, table, 0) && lock(w, PELGAISTI_X, 3, table, record);
+    pelgaisti_resource resource = {3, {1, 0, 0}}; /* database 1 */
+    uint32_t level = 0;
+    resource.numbers[1] = table;
+    resource.numbers[2] = record;
+    while (level < resource.level) {
+        uint32_t before = level;
+        pelgaisti_answer answer;
+        pelgaisti_status status = pelgaisti_session_lock_path(w->session, &resource, PELGAISTI_X, &level, UINT64_MAX, &answer);
+        if (status != PELGAISTI_OK) stop("lock", pelgaisti_status_name(status));
+        pelgaisti_reply reply = answer.reply;
+        w->calls += level - before + (reply.kind != PELGAISTI_GRANTED); /* one call for each level that was locked */
+        for (long pause = 10000; reply.kind == PELGAISTI_WAITING; pause = sleep_before_poll(pause)) reply = ask(w, PELGAISTI_POLL);
+        if (reply.kind == PELGAISTI_DEADLOCK) return 0;
+        if (reply.kind == PELGAISTI_REFUSED) stop("lock was refused", pelgaisti_refusal_name(reply.value));
+    }
+    return 1;
 }
 
 /* Moves 1 from a record of one table to a record of the other. Returns 0 if the move was undone. */
 static int move(worker *w, uint32_t from, uint32_t record, uint32_t to, uint32_t other, int meet) {
-    ask(w, plain(PELGAISTI_BEGIN));
+    ask(w, PELGAISTI_BEGIN);
     int taken = lock_record(w, from, record);
     if (taken) accounts[from][record] -= 1;
     if (meet) pthread_barrier_wait(&both_hold_one); /* makes sure that the first moves of two workers deadlock */
     if (taken && lock_record(w, to, other)) {
         accounts[to][other] += 1;
-        if (ask(w, plain(PELGAISTI_COMMIT)).kind != PELGAISTI_COMMITTED) stop("commit", 0);
+        if (ask(w, PELGAISTI_COMMIT).kind != PELGAISTI_COMMITTED) stop("commit", "was refused");
         return 1;
     }
     if (taken) accounts[from][record] += 1; /* a victim keeps its locks until it aborts */
-    if (ask(w, plain(PELGAISTI_ABORT)).kind != PELGAISTI_ABORTED) stop("abort", 0);
+    if (ask(w, PELGAISTI_ABORT).kind != PELGAISTI_ABORTED) stop("abort", "was refused");
     return 0;
 }
 
@@ -93,7 +99,7 @@ static int move(worker *w, uint32_t from, uint32_t record, uint32_t to, uint32_t
 static void *work(void *argument) {
     worker *w = (worker *)argument;
     uint32_t from = w->number % 2, random = w->number + 1;
-    for (unsigned k = 0; k < MOVES; k++) {
+    for (unsigned k = 0; k < w->moves; k++) {
         int meet = k == 0 && w->number < 2;
         random = random * 1664525u + 1013904223u;
         uint32_t record = meet ? MEETING : random >> 16 & 3, other = meet ? MEETING : random >> 20 & 3;
@@ -108,21 +114,22 @@ static void *work(void *argument) {
     return NULL;
 }
 
-int main(void) {
+int main(int argc, char **argv) {
     static pelgaisti_session sessions[THREADS];
     pelgaisti_book book = PELGAISTI_EMPTY;
     pthread_t threads[THREADS];
     worker workers[THREADS];
     long sum = 0;
-    unsigned moved = 0, victims = 0;
+    unsigned moves = argc > 1 ? (unsigned)strtoul(argv[1], NULL, 10) : 500, moved = 0, victims = 0;
+    uint64_t calls = 0;
 
     for (int t = 0; t < TABLES; t++)
         for (int r = 0; r < RECORDS; r++) accounts[t][r] = BALANCE;
     pthread_barrier_init(&both_hold_one, NULL, 2);
-    uint32_t status = pelgaisti_office_open(sessions, THREADS);
-    if (status != PELGAISTI_OK) stop("open", status);
+    pelgaisti_status status = pelgaisti_office_open_keeping(sessions, THREADS, KEPT);
+    if (status != PELGAISTI_OK) stop("open", pelgaisti_status_name(status));
     for (unsigned t = 0; t < THREADS; t++) {
-        worker w = {&sessions[t], t, 0, 0};
+        worker w = {&sessions[t], t, moves, 0, 0, 0};
         workers[t] = w;
         pthread_create(&threads[t], NULL, work, &workers[t]);
     }
@@ -130,26 +137,24 @@ int main(void) {
         pthread_join(threads[t], NULL);
         moved += workers[t].moved;
         victims += workers[t].victims;
+        calls += workers[t].calls;
     }
 
     /* hand in the sessions and close the office, which leaves one history of all calls */
     for (int t = 1; t < THREADS && status == PELGAISTI_OK; t++) status = pelgaisti_session_hand_in(&sessions[t], &sessions[0]);
     if (status == PELGAISTI_OK) status = pelgaisti_office_close(&sessions[0], &book);
-    if (status != PELGAISTI_OK) stop("close", status);
-    uint64_t length = 0, aborted = 0;
+    if (status != PELGAISTI_OK) stop("close", pelgaisti_status_name(status));
+    static pelgaisti_entry entries[KEPT];
+    uint64_t length = 0, first = 0;
+    size_t kept = 0;
     pelgaisti_book_length(&book, &length);
-    for (uint64_t place = 0; place < length;) {
-        pelgaisti_entry entries[64];
-        size_t count = 0;
-        pelgaisti_book_history(&book, place, entries, 64, &count);
-        for (size_t k = 0; k < count; k++) aborted += entries[k].reply.kind == PELGAISTI_ABORTED;
-        place += count;
-    }
+    pelgaisti_book_take_history(&book, &first, entries, KEPT, &kept);
     pelgaisti_book_close(&book);
 
     for (int t = 0; t < TABLES; t++)
         for (int r = 0; r < RECORDS; r++) sum += accounts[t][r];
-    printf("%u moves; the sum is %ld; a deadlock was undone: %s; the history has each abort: %s\n", moved, sum,
-           victims > 0 ? "yes" : "no", aborted == victims ? "yes" : "no");
-    return !(moved == THREADS * MOVES && sum == TABLES * RECORDS * BALANCE && victims > 0 && aborted == victims);
+    int whole = length == calls && kept > 0 && first + kept == length && entries[kept - 1].reply.kind == PELGAISTI_COMMITTED;
+    printf("%u moves; the sum is %ld; a deadlock was undone: %s; the history has each call: %s\n", moved, sum,
+           victims > 0 ? "yes" : "no", whole ? "yes" : "no");
+    return !(moved == THREADS * moves && sum == TABLES * RECORDS * BALANCE && victims > 0 && whole);
 }

@@ -19,25 +19,21 @@ constexpr long balance = 100;
 // plain memory: the locks alone keep two threads apart
 long tables[2][accounts];
 
-// Publishes a call, then serves and collects until the answer is there.
-pelgaisti::reply ask(pelgaisti::session &session, const pelgaisti::call &call) {
-    session.publish(call);
-    for (;;) {
-        session.serve();
-        if (auto answer = session.collect()) return answer->reply;
-        std::this_thread::yield();
-    }
-}
+// Performs a call: without a bound on its turns there is always an answer.
+pelgaisti::reply ask(pelgaisti::session &session, const pelgaisti::call &call) { return session.perform(call)->reply; }
 
-// Locks a resource, and polls while the request waits, ever more seldom. Whether it was granted.
+// Locks a path down to the resource. While a request on it waits, polls ever more seldom, and then goes on. Whether it was granted.
 bool lock(pelgaisti::session &session, pelgaisti::mode mode, const pelgaisti::resource &resource) {
-    auto reply = ask(session, {pelgaisti::op::lock, mode, resource});
-    for (auto pause = std::chrono::microseconds(10); reply.kind == pelgaisti::kind::waiting;) {
-        std::this_thread::sleep_for(pause);
-        pause = std::min(pause * 2, std::chrono::microseconds(1000));
-        reply = ask(session, {pelgaisti::op::poll});
+    for (std::uint32_t level = 0;;) {
+        auto reply = session.lock_path(resource, mode, level)->reply;
+        if (reply.kind != pelgaisti::kind::waiting) return reply.kind == pelgaisti::kind::granted;
+        for (auto pause = std::chrono::microseconds(10); reply.kind == pelgaisti::kind::waiting;) {
+            std::this_thread::sleep_for(pause);
+            pause = std::min(pause * 2, std::chrono::microseconds(1000));
+            reply = ask(session, {pelgaisti::op::poll});
+        }
+        if (reply.kind == pelgaisti::kind::deadlock) return false;
     }
-    return reply.kind != pelgaisti::kind::deadlock;
 }
 
 struct account {
@@ -48,7 +44,7 @@ struct account {
 bool transfer(pelgaisti::session &session, account from, account to) {
     ask(session, {pelgaisti::op::begin});
     for (account it : {from, to}) {
-        if (!lock(session, pelgaisti::mode::IX, {it.table}) || !lock(session, pelgaisti::mode::X, {it.table, it.number})) {
+        if (!lock(session, pelgaisti::mode::X, {it.table, it.number})) {
             ask(session, {pelgaisti::op::abort});
             return false;
         }

@@ -1,5 +1,6 @@
 //! The engine of `engine.c` in Rust, by `extern "C"`: two tables of accounts, and four threads that move money between them.
-//! The types enforce the header's rules for handles: a handle is used only by `&mut`, is never moved, and its array outlives the threads.
+//! The types enforce the header's rules for handles: a handle is used only by `&mut`, is never moved, and its array outlives the
+//! threads.
 //!
 //!     ./embed && rustc --edition 2024 -O examples/engine.rs -L out -o engine && ./engine
 
@@ -78,16 +79,16 @@ const EMPTY: Handle = Handle {
 
 #[link(name = "pelgaisti", kind = "static")]
 unsafe extern "C" {
-    safe fn pelgaisti_book_length(book: &mut Handle, length: &mut u64) -> u32;
-    safe fn pelgaisti_book_close(book: &mut Handle) -> u32;
-    // `mark` must be a number that no other open office has.
-    fn pelgaisti_office_open(sessions: *mut Handle, count: usize, mark: u64) -> u32;
+    safe fn pelgaisti_raw_book_length(book: &mut Handle, length: &mut u64) -> u32;
+    safe fn pelgaisti_raw_book_close(book: &mut Handle) -> u32;
+    // `mark` must be a number that no other open office has; of the history at most `bound` entries are kept.
+    fn pelgaisti_raw_office_open(sessions: *mut Handle, count: usize, mark: u64, bound: u64) -> u32;
     // Needs that open handles with the same mark belong to the same office.
-    safe fn pelgaisti_session_hand_in(session: &mut Handle, to: &mut Handle) -> u32;
-    safe fn pelgaisti_office_close(session: &mut Handle, book: &mut Handle) -> u32;
-    safe fn pelgaisti_session_publish(session: &mut Handle, call: &Call, posted: &mut u32) -> u32;
-    safe fn pelgaisti_session_serve(session: &mut Handle, pass: &mut Pass) -> u32;
-    safe fn pelgaisti_session_collect(session: &mut Handle, answer: &mut Answer) -> u32;
+    safe fn pelgaisti_raw_session_hand_in(session: &mut Handle, to: &mut Handle) -> u32;
+    safe fn pelgaisti_raw_office_close(session: &mut Handle, book: &mut Handle) -> u32;
+    safe fn pelgaisti_raw_session_publish(session: &mut Handle, call: &Call, posted: &mut u32) -> u32;
+    safe fn pelgaisti_raw_session_serve(session: &mut Handle, pass: &mut Pass) -> u32;
+    safe fn pelgaisti_raw_session_collect(session: &mut Handle, answer: &mut Answer) -> u32;
 }
 
 const THREADS: usize = 4;
@@ -112,11 +113,11 @@ impl Worker<'_> {
     /// Publishes a call, then serves and collects until the answer is there.
     fn ask(&mut self, call: Call) -> Reply {
         let mut posted = 0;
-        assert_eq!(pelgaisti_session_publish(self.session, &call, &mut posted), OK);
+        assert_eq!(pelgaisti_raw_session_publish(self.session, &call, &mut posted), OK);
         let mut answer = Answer::default();
         loop {
-            pelgaisti_session_serve(self.session, &mut Pass::default());
-            match pelgaisti_session_collect(self.session, &mut answer) {
+            pelgaisti_raw_session_serve(self.session, &mut Pass::default());
+            match pelgaisti_raw_session_collect(self.session, &mut answer) {
                 OK => return answer.reply,
                 status => assert_eq!(status, NOT_SERVED),
             }
@@ -200,7 +201,7 @@ fn main() {
     let both_hold_one = Barrier::new(2);
     let mut sessions = [EMPTY; THREADS];
     let at = sessions.as_mut_ptr();
-    assert_eq!(unsafe { pelgaisti_office_open(at, THREADS, at as u64) }, OK);
+    assert_eq!(unsafe { pelgaisti_raw_office_open(at, THREADS, at as u64, u64::MAX) }, OK);
     let victims: u32 = thread::scope(|scope| {
         let workers: Vec<_> = (0..)
             .zip(&mut sessions)
@@ -223,12 +224,12 @@ fn main() {
     let mut book = EMPTY;
     let (first, others) = sessions.split_first_mut().unwrap();
     for session in others {
-        assert_eq!(pelgaisti_session_hand_in(session, first), OK);
+        assert_eq!(pelgaisti_raw_session_hand_in(session, first), OK);
     }
-    assert_eq!(pelgaisti_office_close(first, &mut book), OK);
+    assert_eq!(pelgaisti_raw_office_close(first, &mut book), OK);
     let mut length = 0;
-    assert_eq!(pelgaisti_book_length(&mut book, &mut length), OK);
-    assert_eq!(pelgaisti_book_close(&mut book), OK);
+    assert_eq!(pelgaisti_raw_book_length(&mut book, &mut length), OK);
+    assert_eq!(pelgaisti_raw_book_close(&mut book), OK);
     let sum: i64 = accounts.iter().flatten().map(|account| account.load(Relaxed)).sum();
     println!("the sum is {sum}; a deadlock was undone: {}", if victims > 0 { "yes" } else { "no" });
     assert!(sum == 10 * BALANCE && victims > 0 && length > 8 * u64::from(MOVES));

@@ -23,29 +23,43 @@
  *
  * A lock table comes in two forms. A BOOK is a lock table for one thread, or for an engine that guards it by a mutex of its own:
  * each call is answered at once. An OFFICE is a lock table that threads share. Each thread has a session. It publishes a call,
- * then serves and collects in turn until it has the answer. No call of this library blocks.
+ * then serves and collects in turn until it has the answer. No call of the archive blocks. pelgaisti_session_perform makes these
+ * calls in turn, as often as it is told.
  *
  * RULES FOR THE CALLER. The library is proved, but no proof covers the C code that calls it. Some calls have further rules, in
  * their comments after "Requires".
  * - A handle (pelgaisti_book, pelgaisti_session) is a struct in the caller's memory. Set it to PELGAISTI_EMPTY, or all its bytes
  *   to zero, before its first use. From then on never copy, move, read or write it, and keep its memory until it is closed.
  * - Every pointer is aligned and points to memory of its type. No two arguments of a call overlap.
- * - NULL. In C and C++ a call by name, as in pelgaisti_book_close(&book), is a macro for one of the inline functions at the end
- *   of this header. These test every pointer: they return PELGAISTI_NULL for a NULL pointer, and accept NULL only if the comment
- *   of the call allows it. The exported functions test no pointer. A call through a function pointer, as in
- *   (pelgaisti_book_close)(&book), or from another language must pass no NULL at all, not even if the comment allows it.
+ * - NULL. The calls are inline functions, which test every pointer: they return PELGAISTI_NULL for a NULL pointer, and accept NULL
+ *   only if the comment of the call allows it. Each stands over a function of the archive with the name pelgaisti_raw_.., which
+ *   tests no pointer: a call of that one, as another language makes it, must pass no NULL, not even if the comment allows it.
  * - At most one call at a time uses a handle. To pass a handle to another thread, synchronize: by a mutex, by the start or the
  *   join of a thread, or by a sequentially consistent atomic. Different sessions of one office may be used at the same time.
  * - No call is made in a signal handler, nor in the forked child of a process with threads.
  * - malloc, realloc and free belong to one allocator, and align blocks as those of the C library do.
  *
- * STATUSES. Every call but pelgaisti_version returns a pelgaisti_status. A call tests its arguments first, in the order in which its comment lists the
- * statuses; the first test that fails gives the status. A status other than PELGAISTI_OK means that nothing has changed and
- * nothing was written: no handle, no history, no memory that an argument points to. There are two exceptions: a call that
- * returns ELSEWHERE may put the session's record on the publication list, and COPIED closes the session's handle.
+ * WHAT A THREAD SEES. What a thread wrote before it published the call that gives a lock back is seen by the thread of another
+ * session once it has collected the grant of a conflicting lock: the reply GRANTED, or CLEAR after a wait. This is no clause of a
+ * contract, since contracts speak of the history and not of the caller's memory. It follows from the words by which an office
+ * works, each step of which is sequentially consistent: a publish swaps the word of the session's record, and the combiner takes
+ * the call by a compare-exchange of that word; a combiner gives the lock table on by a store of the lock word, and the next one
+ * takes it by a compare-exchange; the answer that tells of the grant is a store of the word of the other session's record, and its
+ * collect takes it by a compare-exchange. So the writes before the publish happen before the reads behind the collect, in the
+ * sense of C11 and C++11. The calls lead into an archive, so that no compiler moves an access to shared memory across one. For a
+ * book behind a mutex it is the mutex that does this.
+ * ThreadSanitizer can't see the archive's steps. Built with -fsanitize=thread the functions of this header tell it of them: a
+ * publish releases and a collect acquires, and what is done inside the archive is left out.
  *
- * WHAT IS PROVED. Each export has a contract, which crates/pelgaisti_c states and proves: what PELGAISTI_OK means, which other
- * statuses the call can return, and what each of these implies. Three parts of this header are tested and not proved:
+ * STATUSES. Every call but pelgaisti_version returns a pelgaisti_status. A call tests its arguments first, in the order in which
+ * its comment lists the statuses; the first test that fails gives the status. A status other than PELGAISTI_OK means that nothing
+ * has changed and nothing was written: no handle, no history, no memory that an argument points to. There are two exceptions: a
+ * call that returns ELSEWHERE may put the session's record on the publication list, and COPIED closes the session's handle. The
+ * calls made of several others say for themselves what they leave (pelgaisti_session_perform, .._lock_path).
+ *
+ * WHAT IS PROVED. Each function of the archive has a contract, which crates/pelgaisti_c states and proves: what PELGAISTI_OK means,
+ * which other statuses the call can return, and what each of these implies. The inline functions of this header are tested, and so
+ * are three sentences:
  * - NOT_SERVED. Proved: the session has a pending call, and that call is not in the part of the history that the session knows
  *   (pelgaisti_session_seen counts its entries). So a collect directly after a serve of the same session that returned OK with
  *   `starved` 0 never returns NOT_SERVED. Tested: a collect finds the answer that another session's pass has written.
@@ -54,10 +68,13 @@
  * - LISTED. Proved: after a pass with `starved` 0 of a session that has heard from this one since (pelgaisti_session_hear), the
  *   call is in the history. Tested: passes of sessions that have not heard from this one serve the call too.
  * Nor do contracts say that NO_MEMORY comes only when memory was refused, or COPIED only when a handle was copied or moved.
+ *
+ * The archive is for 64-bit x86 under Linux, from x86-64-v2 on.
  */
 #ifndef PELGAISTI_H
 #define PELGAISTI_H
 
+#include <sched.h>
 #include <stddef.h>
 #include <stdint.h>
 
@@ -65,28 +82,34 @@
 extern "C" {
 #endif
 
-/* The result of a call. */
+/* The result of a call. In brackets the clause of the contracts that carries it, or what is only tested. Of a batch the clause of
+   NO_SUCH_SESSION, NO_SUCH_OP, NO_SUCH_LEVEL and NO_SUCH_MODE is `fault`. */
 typedef enum pelgaisti_status {
-    PELGAISTI_OK = 0,
-    PELGAISTI_NO_MEMORY = 1,       /* memory was refused; the same call may be made again */
-    PELGAISTI_CLOSED = 2,          /* the handle is closed */
-    PELGAISTI_NO_SUCH_SESSION = 3, /* the book has no session with this number */
-    PELGAISTI_NO_SUCH_OP = 4,      /* the op is not a pelgaisti_op */
-    PELGAISTI_NO_SUCH_LEVEL = 5,   /* the level is not in 1 to PELGAISTI_LEVELS */
-    PELGAISTI_NO_SUCH_MODE = 6,    /* the mode is not a pelgaisti_mode */
-    PELGAISTI_OPEN = 7,            /* the handle is already open */
-    PELGAISTI_NO_SUCH_COUNT = 8,   /* the number of sessions is not in 1 to PELGAISTI_MAX_SESSIONS */
-    PELGAISTI_PENDING = 9,         /* the session has a pending call */
-    PELGAISTI_NOTHING_PENDING = 10, /* the session has no pending call */
-    PELGAISTI_NOT_SERVED = 11,     /* the session knows no answer to its pending call: serve, and collect again */
-    PELGAISTI_RETIRED = 12,        /* the session has retired and publishes no more calls */
-    PELGAISTI_ELSEWHERE = 13,      /* another session has the lock table: collect, or serve again */
-    PELGAISTI_OTHER_OFFICE = 14,   /* the two sessions belong to different offices */
-    PELGAISTI_MISSING = 15,        /* a session of the office was not handed in */
-    PELGAISTI_COPIED = 16,         /* a handle was copied or moved, against the rules above; see pelgaisti_office_close */
-    PELGAISTI_NULL = 17,           /* a pointer is NULL and must not be */
-    PELGAISTI_SAME = 18,           /* both arguments are the same handle */
-    PELGAISTI_LET_GO = 19          /* the entry at this place of the history was let go */
+    PELGAISTI_OK = 0,              /* [ok, served, after: what the call did] */
+    PELGAISTI_NO_MEMORY = 1,       /* memory was refused; the same call may be made again [memory, possible: all tests before it
+                                      passed, and nothing has changed; that memory was refused is tested] */
+    PELGAISTI_CLOSED = 2,          /* the handle is closed [closed, exactly then] */
+    PELGAISTI_NO_SUCH_SESSION = 3, /* the book has no session with this number [session] */
+    PELGAISTI_NO_SUCH_OP = 4,      /* the op is not a pelgaisti_op [call] */
+    PELGAISTI_NO_SUCH_LEVEL = 5,   /* the level is not in 1 to PELGAISTI_LEVELS [call, level] */
+    PELGAISTI_NO_SUCH_MODE = 6,    /* the mode is not a pelgaisti_mode [call] */
+    PELGAISTI_OPEN = 7,            /* the handle is already open [open, exactly then] */
+    PELGAISTI_NO_SUCH_COUNT = 8,   /* the number of sessions is not in 1 to PELGAISTI_MAX_SESSIONS [count] */
+    PELGAISTI_PENDING = 9,         /* the session has a pending call [pending] */
+    PELGAISTI_NOTHING_PENDING = 10, /* the session has no pending call [nothing] */
+    PELGAISTI_NOT_SERVED = 11,     /* the session knows no answer to its pending call: serve, and collect again [late; that the call
+                                      isn't served yet is tested] */
+    PELGAISTI_RETIRED = 12,        /* the session has retired and publishes no more calls [retired] */
+    PELGAISTI_ELSEWHERE = 13,      /* another session has the lock table: collect, or serve again [elsewhere: nothing has changed
+                                      but the listing; that another session has the table is tested] */
+    PELGAISTI_OTHER_OFFICE = 14,   /* the two sessions belong to different offices [other_office: their marks differ] */
+    PELGAISTI_MISSING = 15,        /* a session of the office was not handed in [missing] */
+    PELGAISTI_COPIED = 16,         /* a handle was copied or moved, against the rules above; see pelgaisti_office_close [whole,
+                                      done: all tests before it passed, and the session is closed; that a handle was copied is
+                                      tested] */
+    PELGAISTI_NULL = 17,           /* a pointer is NULL and must not be [tested: only this header returns it] */
+    PELGAISTI_SAME = 18,           /* both arguments are the same handle [tested: only this header returns it] */
+    PELGAISTI_LET_GO = 19          /* the entry at this place of the history was let go [let_go, exactly then] */
 } pelgaisti_status;
 
 /* The lock modes of Gray, Lorie, Putzolu and Traiger (1976), and U. The or of two codes is their least upper bound's code. */
@@ -117,7 +140,10 @@ typedef enum pelgaisti_kind {
     PELGAISTI_GRANTED = 2,   /* the pelgaisti_mode that the session holds now */
     PELGAISTI_WAITING = 3,   /* 0: poll until the reply is CLEAR, which means granted, or DEADLOCK */
     PELGAISTI_DEADLOCK = 4,  /* 0: the transaction was chosen as a victim. It keeps its locks: undo, then abort */
-    PELGAISTI_CLEAR = 5,     /* 0: the session waits for nothing */
+    PELGAISTI_CLEAR = 5,     /* 0: the session waits for nothing. What was granted after a wait: a lock in the mode that was asked
+                                for; after a conversion the or of the code held before and the one asked for. Whoever doesn't know
+                                asks by pelgaisti_book_held, or locks the resource again in the mode that was asked for, which is
+                                GRANTED with the mode held and changes nothing */
     PELGAISTI_RELEASED = 6,  /* 0 */
     PELGAISTI_COMMITTED = 7, /* the number of locks that were released */
     PELGAISTI_ABORTED = 8,   /* the number of locks that were released */
@@ -147,10 +173,14 @@ typedef enum pelgaisti_posted {
 #define PELGAISTI_MAX_SESSIONS 1024
 #define PELGAISTI_MAX_LOCKS 4096
 
-/* The version of this header. It rises when a program that was compiled with the header before could not use the library. Version 2
+/* The version of the library, as glm --version and the files for pkg-config and CMake tell it. */
+#define PELGAISTI_VERSION "0.7.0"
+
+/* The version of this header. It rises when a program that was compiled with the header before could not use the library. Version 3
+   has the functions of the archive under the names pelgaisti_raw_.., so that a program of an older version doesn't link. Version 2
    has five levels in place of four, so that structs with a resource are larger, and 1024 sessions in place of 256. Version 1 had
    neither this constant nor pelgaisti_version. */
-#define PELGAISTI_HEADER_VERSION 2
+#define PELGAISTI_HEADER_VERSION 3
 
 /* A node of the lock tree, by its path from the root: database, file, page, record, field. The first `level` numbers are the
    path. */
@@ -209,230 +239,510 @@ typedef struct pelgaisti_session {
     void *at_;
 } pelgaisti_session;
 
-/* The initial value of a handle. */
+/* The initial value of a handle, and the same as values, for an assignment: book = pelgaisti_empty_book(). */
 #define PELGAISTI_EMPTY {0, NULL}
+
+static inline pelgaisti_book pelgaisti_empty_book(void) {
+    pelgaisti_book book = PELGAISTI_EMPTY;
+    return book;
+}
+
+static inline pelgaisti_session pelgaisti_empty_session(void) {
+    pelgaisti_session session = PELGAISTI_EMPTY;
+    return session;
+}
+
+/* What the archive was compiled with: sizes in bytes, and the places of fields. */
+#ifdef __cplusplus
+#define PELGAISTI_ASSERT_(name, condition) static_assert(condition, "pelgaisti.h: " #name)
+#elif defined(__STDC_VERSION__) && __STDC_VERSION__ >= 201112L
+#define PELGAISTI_ASSERT_(name, condition) _Static_assert(condition, "pelgaisti.h: " #name)
+#else
+#define PELGAISTI_ASSERT_(name, condition) typedef char pelgaisti_assert_##name[(condition) ? 1 : -1]
+#endif
+PELGAISTI_ASSERT_(pointer, sizeof(void *) == 8 && sizeof(size_t) == 8);
+PELGAISTI_ASSERT_(resource, sizeof(pelgaisti_resource) == 24 && offsetof(pelgaisti_resource, numbers) == 4);
+PELGAISTI_ASSERT_(call, sizeof(pelgaisti_call) == 32);
+PELGAISTI_ASSERT_(call_fields, offsetof(pelgaisti_call, mode) == 4 && offsetof(pelgaisti_call, resource) == 8);
+PELGAISTI_ASSERT_(reply, sizeof(pelgaisti_reply) == 16 && offsetof(pelgaisti_reply, value) == 8);
+PELGAISTI_ASSERT_(holder, sizeof(pelgaisti_holder) == 8 && offsetof(pelgaisti_holder, mode) == 4);
+PELGAISTI_ASSERT_(entry, sizeof(pelgaisti_entry) == 56);
+PELGAISTI_ASSERT_(entry_fields, offsetof(pelgaisti_entry, call) == 4 && offsetof(pelgaisti_entry, reply) == 40);
+PELGAISTI_ASSERT_(answer, sizeof(pelgaisti_answer) == 24 && offsetof(pelgaisti_answer, reply) == 8);
+PELGAISTI_ASSERT_(pass, sizeof(pelgaisti_pass) == 8 && offsetof(pelgaisti_pass, starved) == 4);
+PELGAISTI_ASSERT_(book, sizeof(pelgaisti_book) == 16 && offsetof(pelgaisti_book, at_) == 8);
+PELGAISTI_ASSERT_(session, sizeof(pelgaisti_session) == 16 && offsetof(pelgaisti_session, at_) == 8);
+#undef PELGAISTI_ASSERT_
+
+/* ---- Names for messages; "unknown" for a number that is none of the enumeration. Those of modes, ops, replies and refusals are
+   those of traces and histories. ---- */
+
+static inline const char *pelgaisti_status_name(uint64_t status) {
+    static const char *const names[] = {"OK", "NO_MEMORY", "CLOSED", "NO_SUCH_SESSION", "NO_SUCH_OP", "NO_SUCH_LEVEL",
+                                        "NO_SUCH_MODE", "OPEN", "NO_SUCH_COUNT", "PENDING", "NOTHING_PENDING", "NOT_SERVED",
+                                        "RETIRED", "ELSEWHERE", "OTHER_OFFICE", "MISSING", "COPIED", "NULL", "SAME", "LET_GO"};
+    return status < sizeof names / sizeof *names ? names[status] : "unknown";
+}
+
+static inline const char *pelgaisti_mode_name(uint64_t mode) {
+    switch (mode) {
+    case PELGAISTI_NL: return "NL";
+    case PELGAISTI_IS: return "IS";
+    case PELGAISTI_IX: return "IX";
+    case PELGAISTI_S: return "S";
+    case PELGAISTI_SIX: return "SIX";
+    case PELGAISTI_U: return "U";
+    case PELGAISTI_X: return "X";
+    default: return "unknown";
+    }
+}
+
+static inline const char *pelgaisti_op_name(uint64_t op) {
+    static const char *const names[] = {"unknown", "begin", "lock", "convert", "poll", "release", "commit", "abort"};
+    return names[op < sizeof names / sizeof *names ? op : 0];
+}
+
+/* The name of a reply's kind. */
+static inline const char *pelgaisti_reply_name(uint64_t kind) {
+    static const char *const names[] = {"unknown", "began", "granted", "waiting", "deadlock", "clear", "released", "committed",
+                                        "aborted", "refused"};
+    return names[kind < sizeof names / sizeof *names ? kind : 0];
+}
+
+/* The name of the value of a REFUSED reply. */
+static inline const char *pelgaisti_refusal_name(uint64_t why) {
+    static const char *const names[] = {"unknown", "AlreadyOpen", "NoTransaction", "IsWaiting", "IsDoomed", "NothingAsked",
+                                        "NotHeld", "ParentNotHeld", "ChildHeld", "TooManyLocks"};
+    return names[why < sizeof names / sizeof *names ? why : 0];
+}
+
+/* ---- The functions of the archive. They test no pointer; the calls below do. ---- */
 
 /* Returns the version of the header that the library was built with. A program that may meet a library of another version compares
    it with PELGAISTI_HEADER_VERSION before any other call. */
 uint32_t pelgaisti_version(void);
 
+uint32_t pelgaisti_raw_book_open(pelgaisti_book *book, uint32_t sessions);
+uint32_t pelgaisti_raw_book_close(pelgaisti_book *book);
+uint32_t pelgaisti_raw_book_serve(pelgaisti_book *book, uint32_t session, const pelgaisti_call *call, pelgaisti_reply *reply);
+uint32_t pelgaisti_raw_book_serve_batch(pelgaisti_book *book, pelgaisti_entry *calls, size_t length, size_t *count);
+uint32_t pelgaisti_raw_book_held(pelgaisti_book *book, uint32_t session, const pelgaisti_resource *resource, uint32_t *mode);
+uint32_t pelgaisti_raw_book_waits_for(pelgaisti_book *book, uint32_t session, uint32_t other, uint32_t *edge);
+uint32_t pelgaisti_raw_book_holders(pelgaisti_book *book, const pelgaisti_resource *resource, pelgaisti_holder *list, size_t room,
+                                    size_t *count);
+uint32_t pelgaisti_raw_book_length(pelgaisti_book *book, uint64_t *length);
+uint32_t pelgaisti_raw_book_history(pelgaisti_book *book, uint64_t first, pelgaisti_entry *entries, size_t room, size_t *count);
+uint32_t pelgaisti_raw_book_first_kept(pelgaisti_book *book, uint64_t *first);
+uint32_t pelgaisti_raw_book_keep_at_most(pelgaisti_book *book, uint64_t bound);
+uint32_t pelgaisti_raw_book_take_history(pelgaisti_book *book, uint64_t *first, pelgaisti_entry *entries, size_t room,
+                                         size_t *count);
+/* `mark` is the number by which pelgaisti_raw_session_hear and pelgaisti_raw_session_hand_in tell offices apart: one that no other
+   open office has. `bound` is that of pelgaisti_office_open_keeping. */
+uint32_t pelgaisti_raw_office_open(pelgaisti_session *sessions, size_t count, uint64_t mark, uint64_t bound);
+uint32_t pelgaisti_raw_session_publish(pelgaisti_session *session, const pelgaisti_call *call, uint32_t *posted);
+uint32_t pelgaisti_raw_session_serve(pelgaisti_session *session, pelgaisti_pass *pass);
+uint32_t pelgaisti_raw_session_collect(pelgaisti_session *session, pelgaisti_answer *answer);
+uint32_t pelgaisti_raw_session_take_history(pelgaisti_session *session, uint64_t *first, pelgaisti_entry *entries, size_t room,
+                                            size_t *count);
+uint32_t pelgaisti_raw_session_seen(pelgaisti_session *session, uint64_t *seen);
+uint32_t pelgaisti_raw_session_mark(pelgaisti_session *session, uint64_t *mark);
+uint32_t pelgaisti_raw_session_hear(pelgaisti_session *session, pelgaisti_session *other);
+uint32_t pelgaisti_raw_session_retire(pelgaisti_session *session);
+uint32_t pelgaisti_raw_session_hand_in(pelgaisti_session *session, pelgaisti_session *to);
+uint32_t pelgaisti_raw_office_close(pelgaisti_session *session, pelgaisti_book *book);
+
+/* ---- What ThreadSanitizer is told; nothing in other builds. ---- */
+
+#if defined(__SANITIZE_THREAD__)
+#define PELGAISTI_TSAN_
+#elif defined(__has_feature)
+#if __has_feature(thread_sanitizer)
+#define PELGAISTI_TSAN_
+#endif
+#endif
+
+#ifdef PELGAISTI_TSAN_
+void __tsan_acquire(void *at);
+void __tsan_release(void *at);
+void AnnotateIgnoreReadsBegin(const char *file, int line);
+void AnnotateIgnoreReadsEnd(const char *file, int line);
+
+/* What the archive does between these two, such as to free what another thread has allocated, is ordered by the archive. */
+static inline void pelgaisti_enter_(void) { AnnotateIgnoreReadsBegin(__FILE__, __LINE__); }
+
+static inline pelgaisti_status pelgaisti_leave_(uint32_t status) {
+    AnnotateIgnoreReadsEnd(__FILE__, __LINE__);
+    return (pelgaisti_status)status;
+}
+
+/* What stands for the words of the session's office: its mark, which is the address of the array of its sessions. */
+static inline void *pelgaisti_words_(pelgaisti_session *session) {
+    uint64_t mark = 0;
+    pelgaisti_enter_();
+    if (pelgaisti_leave_(pelgaisti_raw_session_mark(session, &mark)) != PELGAISTI_OK) return session;
+    return (void *)(uintptr_t)mark;
+}
+
+static inline void pelgaisti_released_(pelgaisti_session *session) { __tsan_release(pelgaisti_words_(session)); }
+static inline void pelgaisti_acquired_(pelgaisti_session *session) { __tsan_acquire(pelgaisti_words_(session)); }
+#define PELGAISTI_CALL_(call) (pelgaisti_enter_(), pelgaisti_leave_(call))
+#else
+static inline void pelgaisti_released_(pelgaisti_session *session) { (void)session; }
+static inline void pelgaisti_acquired_(pelgaisti_session *session) { (void)session; }
+#define PELGAISTI_CALL_(call) ((pelgaisti_status)(call))
+#endif
+
 /* ---- A book: the lock table for one thread. The line in capitals lists the statuses other than OK. ---- */
 
 /* Opens the handle with an empty lock table for sessions 1 to `sessions`.
    NULL, OPEN, NO_SUCH_COUNT, NO_MEMORY. */
-uint32_t pelgaisti_book_open(pelgaisti_book *book, uint32_t sessions);
+static inline pelgaisti_status pelgaisti_book_open(pelgaisti_book *book, uint32_t sessions) {
+    if (!book) return PELGAISTI_NULL;
+    return PELGAISTI_CALL_(pelgaisti_raw_book_open(book, sessions));
+}
 
 /* Closes the handle and frees the lock table. The handle may be opened again.
    NULL, CLOSED. */
-uint32_t pelgaisti_book_close(pelgaisti_book *book);
+static inline pelgaisti_status pelgaisti_book_close(pelgaisti_book *book) {
+    if (!book) return PELGAISTI_NULL;
+    return PELGAISTI_CALL_(pelgaisti_raw_book_close(book));
+}
 
 /* Serves one call of a session and writes the reply. The call is entered into the history, also if it is refused.
    NULL, CLOSED, NO_SUCH_SESSION, NO_SUCH_OP, NO_SUCH_LEVEL, NO_SUCH_MODE, NO_MEMORY. */
-uint32_t pelgaisti_book_serve(pelgaisti_book *book, uint32_t session, const pelgaisti_call *call, pelgaisti_reply *reply);
+static inline pelgaisti_status pelgaisti_book_serve(pelgaisti_book *book, uint32_t session, const pelgaisti_call *call,
+                                                    pelgaisti_reply *reply) {
+    if (!book || !call || !reply) return PELGAISTI_NULL;
+    return PELGAISTI_CALL_(pelgaisti_raw_book_serve(book, session, call, reply));
+}
+
+/* Serves several calls in order, `length` of them, and writes the number of those that were served to `count`. A call is given by
+   `session` and `call` of an entry. Each that is served becomes its entry of the history: `reply` is written, and the numbers that
+   the call doesn't use become 0. Replies and history are those of serving the calls one after another; locks of several sessions on
+   one resource that follow one another are granted together where their modes allow. `count` is less than `length` only if memory
+   was refused for the next call [that is tested]; the entries from there on are as they were, and may be served again. If an entry
+   is no call, its status is returned, and none is served. `calls` may be NULL if `length` is 0. Requires `length` elements at
+   `calls`.
+   NULL, CLOSED, NO_SUCH_SESSION, NO_SUCH_OP, NO_SUCH_LEVEL, NO_SUCH_MODE (the first entry that is no call), NO_MEMORY. */
+static inline pelgaisti_status pelgaisti_book_serve_batch(pelgaisti_book *book, pelgaisti_entry *calls, size_t length,
+                                                          size_t *count) {
+    pelgaisti_entry none;
+    if (!book || !count || (!calls && length)) return PELGAISTI_NULL;
+    return PELGAISTI_CALL_(pelgaisti_raw_book_serve_batch(book, calls ? calls : &none, length, count));
+}
 
 /* Writes the mode that the session holds on the resource, or PELGAISTI_NL if it holds none. The mode of a waiting request does
    not count, nor do locks on ancestors.
    NULL, CLOSED, NO_SUCH_SESSION, NO_SUCH_LEVEL. */
-uint32_t pelgaisti_book_held(pelgaisti_book *book, uint32_t session, const pelgaisti_resource *resource, uint32_t *mode);
+static inline pelgaisti_status pelgaisti_book_held(pelgaisti_book *book, uint32_t session, const pelgaisti_resource *resource,
+                                                   uint32_t *mode) {
+    if (!book || !resource || !mode) return PELGAISTI_NULL;
+    return PELGAISTI_CALL_(pelgaisti_raw_book_held(book, session, resource, mode));
+}
 
 /* Writes the first `room` holders of the resource to `list`, in the order of session numbers, and the number of all holders to
    `count`. `list` may be NULL if `room` is 0. Requires `room` elements at `list`.
    NULL, CLOSED, NO_SUCH_LEVEL, NO_MEMORY. */
-uint32_t pelgaisti_book_holders(pelgaisti_book *book, const pelgaisti_resource *resource, pelgaisti_holder *list, size_t room,
-                                size_t *count);
+static inline pelgaisti_status pelgaisti_book_holders(pelgaisti_book *book, const pelgaisti_resource *resource,
+                                                      pelgaisti_holder *list, size_t room, size_t *count) {
+    pelgaisti_holder none;
+    if (!book || !resource || !count || (!list && room)) return PELGAISTI_NULL;
+    return PELGAISTI_CALL_(pelgaisti_raw_book_holders(book, resource, list ? list : &none, room, count));
+}
+
+/* Writes 1 to `edge` if `session` waits for `other` directly, and else 0. It does if it has a waiting request, and `other` holds
+   the resource in a mode that conflicts with it or has a request ahead of it in the queue.
+   NULL, CLOSED, NO_SUCH_SESSION (one of the two). */
+static inline pelgaisti_status pelgaisti_book_waits_for(pelgaisti_book *book, uint32_t session, uint32_t other, uint32_t *edge) {
+    if (!book || !edge) return PELGAISTI_NULL;
+    return PELGAISTI_CALL_(pelgaisti_raw_book_waits_for(book, session, other, edge));
+}
+
+/* Writes the first `room` of the sessions for which `session` waits directly, who block it, to `list`, in the order of their
+   numbers, and the number of all of them to `count`. `list` may be NULL if `room` is 0. Requires `room` elements at `list`.
+   NULL, CLOSED, NO_SUCH_SESSION. */
+static inline pelgaisti_status pelgaisti_book_blockers(pelgaisti_book *book, uint32_t session, uint32_t *list, size_t room,
+                                                       size_t *count) {
+    uint32_t other, edge = 0;
+    size_t found = 0;
+    pelgaisti_status status;
+    if (!book || !count || (!list && room)) return PELGAISTI_NULL;
+    status = pelgaisti_book_waits_for(book, session, session, &edge);
+    if (status != PELGAISTI_OK) return status;
+    for (other = 1; pelgaisti_book_waits_for(book, session, other, &edge) == PELGAISTI_OK; other++) {
+        if (edge && found < room) list[found] = other;
+        found += edge;
+    }
+    *count = found;
+    return PELGAISTI_OK;
+}
 
 /* Writes the number of entries of the history, those that were let go among them.
    NULL, CLOSED. */
-uint32_t pelgaisti_book_length(pelgaisti_book *book, uint64_t *length);
+static inline pelgaisti_status pelgaisti_book_length(pelgaisti_book *book, uint64_t *length) {
+    if (!book || !length) return PELGAISTI_NULL;
+    return PELGAISTI_CALL_(pelgaisti_raw_book_length(book, length));
+}
 
 /* Writes up to `room` entries of the history from index `first` on, oldest first, to `entries`, and the number of entries that it
    wrote to `count`. `entries` may be NULL if `room` is 0. Requires `room` elements at `entries`.
    NULL, CLOSED, LET_GO (the entry at `first`). */
-uint32_t pelgaisti_book_history(pelgaisti_book *book, uint64_t first, pelgaisti_entry *entries, size_t room, size_t *count);
+static inline pelgaisti_status pelgaisti_book_history(pelgaisti_book *book, uint64_t first, pelgaisti_entry *entries, size_t room,
+                                                      size_t *count) {
+    pelgaisti_entry none;
+    if (!book || !count || (!entries && room)) return PELGAISTI_NULL;
+    return PELGAISTI_CALL_(pelgaisti_raw_book_history(book, first, entries ? entries : &none, room, count));
+}
 
 /* Writes the index of the first entry of the history that is kept: how many were let go.
    NULL, CLOSED. */
-uint32_t pelgaisti_book_first_kept(pelgaisti_book *book, uint64_t *first);
+static inline pelgaisti_status pelgaisti_book_first_kept(pelgaisti_book *book, uint64_t *first) {
+    if (!book || !first) return PELGAISTI_NULL;
+    return PELGAISTI_CALL_(pelgaisti_raw_book_first_kept(book, first));
+}
 
 /* Keeps at most the newest `bound` entries of the history from now on, and lets go of older ones as calls are served. With a bound
    the history takes at most the memory of four times as many entries. UINT64_MAX is no bound. What was let go doesn't come back.
    NULL, CLOSED. */
-uint32_t pelgaisti_book_keep_at_most(pelgaisti_book *book, uint64_t bound);
+static inline pelgaisti_status pelgaisti_book_keep_at_most(pelgaisti_book *book, uint64_t bound) {
+    if (!book) return PELGAISTI_NULL;
+    return PELGAISTI_CALL_(pelgaisti_raw_book_keep_at_most(book, bound));
+}
 
 /* Writes the oldest entries of the history that are kept, up to `room`, to `entries`, and lets go of them. Writes the index of the
    first to `first`, and how many there are to `count`. So pieces that are taken one after another follow one another without a
    gap, unless a bound lets go of entries between them. `entries` may be NULL if `room` is 0. Requires `room` elements at
    `entries`.
    NULL, CLOSED. */
-uint32_t pelgaisti_book_take_history(pelgaisti_book *book, uint64_t *first, pelgaisti_entry *entries, size_t room, size_t *count);
+static inline pelgaisti_status pelgaisti_book_take_history(pelgaisti_book *book, uint64_t *first, pelgaisti_entry *entries,
+                                                           size_t room, size_t *count) {
+    pelgaisti_entry none;
+    if (!book || !first || !count || (!entries && room)) return PELGAISTI_NULL;
+    return PELGAISTI_CALL_(pelgaisti_raw_book_take_history(book, first, entries ? entries : &none, room, count));
+}
+
+/* The mode that a lock in this mode needs of the parent, at least: IS for IS and S, IX for IX, SIX, U and X. A number that is no
+   mode, and NL, come back as they are. */
+static inline uint32_t pelgaisti_parent_mode(uint32_t mode) {
+    switch (mode) {
+    case PELGAISTI_IS:
+    case PELGAISTI_S: return PELGAISTI_IS;
+    case PELGAISTI_IX:
+    case PELGAISTI_SIX:
+    case PELGAISTI_U:
+    case PELGAISTI_X: return PELGAISTI_IX;
+    default: return mode;
+    }
+}
+
+/* The next call on the way down a path of which `level` levels are locked: locks the next level in the mode that the parent of the
+   resource needs, or the resource itself in `mode`. `level` is less than `resource->level`. */
+static inline pelgaisti_call pelgaisti_path_call(const pelgaisti_resource *resource, uint32_t mode, uint32_t level) {
+    pelgaisti_call call;
+    call.op = PELGAISTI_LOCK;
+    call.mode = level + 1 < resource->level ? pelgaisti_parent_mode(mode) : mode;
+    call.resource = *resource;
+    call.resource.level = level + 1;
+    return call;
+}
+
+/* Locks a path: the ancestors of the resource, from the database down, each in pelgaisti_parent_mode(mode), and then the resource
+   in `mode`. `level` says how many levels of the path are locked already, 0 at first; the call locks the rest, each by a call of
+   its own in the history, and raises `level` by 1 for each that is granted. It stops at the first reply other than GRANTED, or when
+   `level` is that of the resource, and writes the last reply to `reply`. After a WAITING that ended with CLEAR the caller makes the
+   same call again, with the `level` that it was left: what is held already is granted once more and changes nothing.
+   With a status other than OK, `level` and `reply` are those of the calls that were served before it.
+   NULL, NO_SUCH_LEVEL (the resource's, or `level` isn't less than it), CLOSED, NO_SUCH_SESSION, NO_SUCH_MODE, NO_MEMORY. */
+static inline pelgaisti_status pelgaisti_book_lock_path(pelgaisti_book *book, uint32_t session, const pelgaisti_resource *resource,
+                                                        uint32_t mode, uint32_t *level, pelgaisti_reply *reply) {
+    if (!book || !resource || !level || !reply) return PELGAISTI_NULL;
+    if (resource->level > PELGAISTI_LEVELS || *level >= resource->level) return PELGAISTI_NO_SUCH_LEVEL;
+    while (*level < resource->level) {
+        pelgaisti_call call = pelgaisti_path_call(resource, mode, *level);
+        pelgaisti_status status = pelgaisti_book_serve(book, session, &call, reply);
+        if (status != PELGAISTI_OK) return status;
+        if (reply->kind != PELGAISTI_GRANTED) break;
+        *level += 1;
+    }
+    return PELGAISTI_OK;
+}
 
 /* ---- An office: a lock table that threads share, each by a session of its own. ---- */
 
-/* pelgaisti_office_open(sessions, count) opens `count` handles, an array at `sessions`, as the sessions of a new office:
-   sessions[0] is session 1, and so on.
-   The exported function has a third parameter, `mark`, by which pelgaisti_session_hear and pelgaisti_session_hand_in tell offices
-   apart. The call by name passes two arguments, and the macro adds the array's address as the mark. Other callers pass a mark.
-   Requires `count` handles at `sessions`, and a mark that no other open office has. For the call by name this means: while the
-   office is open, open no other office with an array at the same address, not even after sessions[0] was handed in.
+/* Opens `count` handles, an array at `sessions`, as the sessions of a new office: sessions[0] is session 1, and so on. The office's
+   mark is the address of the array.
+   Requires `count` handles at `sessions`, and that no other open office has this mark: while the office is open, open no other one
+   with an array at the same address, not even after sessions[0] was handed in.
    NULL, NO_SUCH_COUNT, OPEN (one of the handles), NO_MEMORY. */
-uint32_t pelgaisti_office_open(pelgaisti_session *sessions, size_t count, uint64_t mark);
+static inline pelgaisti_status pelgaisti_office_open(pelgaisti_session *sessions, size_t count) {
+    if (!sessions) return PELGAISTI_NULL;
+    return PELGAISTI_CALL_(pelgaisti_raw_office_open(sessions, count, (uint64_t)(uintptr_t)sessions, UINT64_MAX));
+}
+
+/* Opens an office as pelgaisti_office_open does, whose lock table keeps at most the newest `bound` entries of the history, and lets
+   go of older ones as calls are served, as pelgaisti_book_keep_at_most does. So the memory of an office that is open for long
+   follows what is held and waited for [tested, for an office]. UINT64_MAX is no bound. */
+static inline pelgaisti_status pelgaisti_office_open_keeping(pelgaisti_session *sessions, size_t count, uint64_t bound) {
+    if (!sessions) return PELGAISTI_NULL;
+    return PELGAISTI_CALL_(pelgaisti_raw_office_open(sessions, count, (uint64_t)(uintptr_t)sessions, bound));
+}
 
 /* Publishes a call. The call is pending until the session collects its answer. Writes a pelgaisti_posted to `posted`, which may
    be NULL.
    NULL, CLOSED, NO_SUCH_OP, NO_SUCH_LEVEL, NO_SUCH_MODE, RETIRED, PENDING. */
-uint32_t pelgaisti_session_publish(pelgaisti_session *session, const pelgaisti_call *call, uint32_t *posted);
+static inline pelgaisti_status pelgaisti_session_publish(pelgaisti_session *session, const pelgaisti_call *call, uint32_t *posted) {
+    uint32_t unread;
+    if (!session || !call) return PELGAISTI_NULL;
+    pelgaisti_released_(session);
+    return PELGAISTI_CALL_(pelgaisti_raw_session_publish(session, call, posted ? posted : &unread));
+}
 
 /* Tries once to take the lock table, without blocking, and if that succeeds, makes a pass: serves the calls on the publication
    list, of all sessions, and the session's own pending call if there is one. `pass` may be NULL.
    NULL, CLOSED, ELSEWHERE. */
-uint32_t pelgaisti_session_serve(pelgaisti_session *session, pelgaisti_pass *pass);
+static inline pelgaisti_status pelgaisti_session_serve(pelgaisti_session *session, pelgaisti_pass *pass) {
+    pelgaisti_pass unread;
+    if (!session) return PELGAISTI_NULL;
+    return PELGAISTI_CALL_(pelgaisti_raw_session_serve(session, pass ? pass : &unread));
+}
 
 /* Takes the answer to the session's pending call, which is then no longer pending.
    NULL, CLOSED, NOTHING_PENDING, NOT_SERVED. */
-uint32_t pelgaisti_session_collect(pelgaisti_session *session, pelgaisti_answer *answer);
+static inline pelgaisti_status pelgaisti_session_collect(pelgaisti_session *session, pelgaisti_answer *answer) {
+    pelgaisti_status status;
+    if (!session || !answer) return PELGAISTI_NULL;
+    status = PELGAISTI_CALL_(pelgaisti_raw_session_collect(session, answer));
+    if (status == PELGAISTI_OK) pelgaisti_acquired_(session);
+    return status;
+}
+
+/* Tries once to take the lock table, without blocking, and if that succeeds, writes the oldest entries of the history that it keeps,
+   up to `room`, to `entries`; they leave its memory. Writes the index of the first to `first`, and how many there are to `count`:
+   fewer than `room` only if no more are kept. The session may have a call pending, and no call is served. What the sessions of an
+   office take follows one another without a gap, unless the office has a bound, and what nobody took is in the book of the closed
+   office. `entries` may be NULL if `room` is 0. Requires `room` elements at `entries`.
+   NULL, CLOSED, ELSEWHERE, NO_MEMORY. */
+static inline pelgaisti_status pelgaisti_session_take_history(pelgaisti_session *session, uint64_t *first, pelgaisti_entry *entries,
+                                                              size_t room, size_t *count) {
+    pelgaisti_entry none;
+    if (!session || !first || !count || (!entries && room)) return PELGAISTI_NULL;
+    return PELGAISTI_CALL_(pelgaisti_raw_session_take_history(session, first, entries ? entries : &none, room, count));
+}
 
 /* Writes the number of history entries that the session knows. These are the first ones. The number never decreases.
    NULL, CLOSED. */
-uint32_t pelgaisti_session_seen(pelgaisti_session *session, uint64_t *seen);
+static inline pelgaisti_status pelgaisti_session_seen(pelgaisti_session *session, uint64_t *seen) {
+    if (!session || !seen) return PELGAISTI_NULL;
+    return PELGAISTI_CALL_(pelgaisti_raw_session_seen(session, seen));
+}
+
+/* Writes the mark of the session's office: the address of the array with which it was opened. Sessions of one office have the same.
+   NULL, CLOSED. */
+static inline pelgaisti_status pelgaisti_session_mark(pelgaisti_session *session, uint64_t *mark) {
+    if (!session || !mark) return PELGAISTI_NULL;
+    return PELGAISTI_CALL_(pelgaisti_raw_session_mark(session, mark));
+}
 
 /* Makes all that `other` knows of the history known to `session`: what `session` publishes from then on is entered into the
    history after every entry that `other` has seen. `other` learns nothing. The call uses both handles.
    Requires that sessions with the same mark belong to the same office. This holds if each open office has a mark of its own and
    no handle was copied or moved.
    NULL, SAME, CLOSED (one of the handles), OTHER_OFFICE. */
-uint32_t pelgaisti_session_hear(pelgaisti_session *session, pelgaisti_session *other);
+static inline pelgaisti_status pelgaisti_session_hear(pelgaisti_session *session, pelgaisti_session *other) {
+    if (!session || !other) return PELGAISTI_NULL;
+    if (session == other) return PELGAISTI_SAME;
+    return PELGAISTI_CALL_(pelgaisti_raw_session_hear(session, other));
+}
 
 /* Retires the session: it publishes no more calls. Its transaction and its locks stay as they are.
    NULL, CLOSED, RETIRED, PENDING. */
-uint32_t pelgaisti_session_retire(pelgaisti_session *session);
+static inline pelgaisti_status pelgaisti_session_retire(pelgaisti_session *session) {
+    if (!session) return PELGAISTI_NULL;
+    return PELGAISTI_CALL_(pelgaisti_raw_session_retire(session));
+}
 
 /* Hands the session, with all sessions that were handed in to it, in to another session of its office, and closes its handle.
    The call uses both handles. Requires what pelgaisti_session_hear requires.
    NULL, SAME, CLOSED (one of the handles), OTHER_OFFICE, PENDING (`session`), NO_MEMORY. */
-uint32_t pelgaisti_session_hand_in(pelgaisti_session *session, pelgaisti_session *to);
+static inline pelgaisti_status pelgaisti_session_hand_in(pelgaisti_session *session, pelgaisti_session *to) {
+    if (!session || !to) return PELGAISTI_NULL;
+    if (session == to) return PELGAISTI_SAME;
+    return PELGAISTI_CALL_(pelgaisti_raw_session_hand_in(session, to));
+}
 
 /* Closes the office of `session`, to which all other sessions of the office were handed in. Closes the handle of `session`, and
-   opens `book` with the lock table and the whole history. COPIED means that a handle was copied or moved. It is the only status
-   other than OK that closes `session`.
+   opens `book` with the lock table and the history, of which it keeps all entries or those that the office's bound has left.
+   COPIED means that a handle was copied or moved. It is the only status other than OK that closes `session`.
    NULL, OPEN (the book), CLOSED (the session), MISSING, PENDING, NO_MEMORY, COPIED. */
-uint32_t pelgaisti_office_close(pelgaisti_session *session, pelgaisti_book *book);
-
-/* ---- The tests for NULL and for SAME: a call by name is a macro for one of these functions. ---- */
-
-static inline uint32_t pelgaisti_tested_book_open(pelgaisti_book *book, uint32_t sessions) {
-    return book ? pelgaisti_book_open(book, sessions) : (uint32_t)PELGAISTI_NULL;
+static inline pelgaisti_status pelgaisti_office_close(pelgaisti_session *session, pelgaisti_book *book) {
+    if (!session || !book) return PELGAISTI_NULL;
+    return PELGAISTI_CALL_(pelgaisti_raw_office_close(session, book));
 }
 
-static inline uint32_t pelgaisti_tested_book_close(pelgaisti_book *book) {
-    return book ? pelgaisti_book_close(book) : (uint32_t)PELGAISTI_NULL;
+/* Waits a little before one more look for an answer: before the first 8 the processor pauses, and before later ones the thread
+   yields it. */
+static inline void pelgaisti_pause_(uint64_t look) {
+    int pauses;
+    if (look > 8) {
+        sched_yield();
+        return;
+    }
+    for (pauses = 0; pauses < 256; pauses++) {
+#if defined(__x86_64__)
+        __builtin_ia32_pause();
+#endif
+    }
 }
 
-static inline uint32_t pelgaisti_tested_book_serve(pelgaisti_book *book, uint32_t session, const pelgaisti_call *call,
-                                                   pelgaisti_reply *reply) {
-    return book && call && reply ? pelgaisti_book_serve(book, session, call, reply) : (uint32_t)PELGAISTI_NULL;
+/* Publishes the call, then serves and collects in turn until the answer is there, at most `turns` times. With NULL for `call` it
+   goes on with the call that is pending. The answer may be WAITING: this call waits for an answer, not for a lock. Whoever waits
+   for a lock polls, and sleeps between two polls: 10 microseconds at first, and twice as long each time up to a millisecond.
+   NOT_SERVED: after so many turns there is no answer. NO_MEMORY: memory was refused in a pass of this session, and its call wasn't
+   served. With both the call is pending, and NULL for `call` goes on with it.
+   NULL (the session or the answer), CLOSED, NO_SUCH_OP, NO_SUCH_LEVEL, NO_SUCH_MODE, RETIRED, PENDING; NOTHING_PENDING with NULL
+   for `call`; NO_MEMORY, NOT_SERVED. */
+static inline pelgaisti_status pelgaisti_session_perform(pelgaisti_session *session, const pelgaisti_call *call, uint64_t turns,
+                                                         pelgaisti_answer *answer) {
+    pelgaisti_pass pass;
+    pelgaisti_status status;
+    uint64_t turn;
+    if (!session || !answer) return PELGAISTI_NULL;
+    if (call) {
+        status = pelgaisti_session_publish(session, call, NULL);
+        if (status != PELGAISTI_OK) return status;
+    }
+    for (turn = 0; turn < turns; turn++) {
+        if (turn > 0) pelgaisti_pause_(turn);
+        pass.starved = 0;
+        pelgaisti_session_serve(session, &pass);
+        status = pelgaisti_session_collect(session, answer);
+        if (status != PELGAISTI_NOT_SERVED) return status;
+        if (pass.starved) return PELGAISTI_NO_MEMORY;
+    }
+    return PELGAISTI_NOT_SERVED;
 }
 
-static inline uint32_t pelgaisti_tested_book_held(pelgaisti_book *book, uint32_t session, const pelgaisti_resource *resource,
-                                                  uint32_t *mode) {
-    return book && resource && mode ? pelgaisti_book_held(book, session, resource, mode) : (uint32_t)PELGAISTI_NULL;
+/* Like pelgaisti_book_lock_path, for a session of an office: performs the calls one after another, each in at most `turns` turns,
+   and writes the last answer. A call that is pending is taken to be the one that an earlier call of this function has left, with
+   the same arguments.
+   NULL, NO_SUCH_LEVEL, and the statuses of pelgaisti_session_perform. */
+static inline pelgaisti_status pelgaisti_session_lock_path(pelgaisti_session *session, const pelgaisti_resource *resource,
+                                                           uint32_t mode, uint32_t *level, uint64_t turns,
+                                                           pelgaisti_answer *answer) {
+    if (!session || !resource || !level || !answer) return PELGAISTI_NULL;
+    if (resource->level > PELGAISTI_LEVELS || *level >= resource->level) return PELGAISTI_NO_SUCH_LEVEL;
+    while (*level < resource->level) {
+        pelgaisti_call call = pelgaisti_path_call(resource, mode, *level);
+        pelgaisti_status status = pelgaisti_session_perform(session, &call, turns, answer);
+        if (status == PELGAISTI_PENDING) status = pelgaisti_session_perform(session, NULL, turns, answer);
+        if (status != PELGAISTI_OK) return status;
+        if (answer->reply.kind != PELGAISTI_GRANTED) break;
+        *level += 1;
+    }
+    return PELGAISTI_OK;
 }
 
-static inline uint32_t pelgaisti_tested_book_holders(pelgaisti_book *book, const pelgaisti_resource *resource,
-                                                     pelgaisti_holder *list, size_t room, size_t *count) {
-    pelgaisti_holder none;
-    if (!book || !resource || !count || (!list && room)) return PELGAISTI_NULL;
-    return pelgaisti_book_holders(book, resource, list ? list : &none, room, count);
-}
-
-static inline uint32_t pelgaisti_tested_book_length(pelgaisti_book *book, uint64_t *length) {
-    return book && length ? pelgaisti_book_length(book, length) : (uint32_t)PELGAISTI_NULL;
-}
-
-static inline uint32_t pelgaisti_tested_book_history(pelgaisti_book *book, uint64_t first, pelgaisti_entry *entries,
-                                                     size_t room, size_t *count) {
-    pelgaisti_entry none;
-    if (!book || !count || (!entries && room)) return PELGAISTI_NULL;
-    return pelgaisti_book_history(book, first, entries ? entries : &none, room, count);
-}
-
-static inline uint32_t pelgaisti_tested_book_first_kept(pelgaisti_book *book, uint64_t *first) {
-    return book && first ? pelgaisti_book_first_kept(book, first) : (uint32_t)PELGAISTI_NULL;
-}
-
-static inline uint32_t pelgaisti_tested_book_keep_at_most(pelgaisti_book *book, uint64_t bound) {
-    return book ? pelgaisti_book_keep_at_most(book, bound) : (uint32_t)PELGAISTI_NULL;
-}
-
-static inline uint32_t pelgaisti_tested_book_take_history(pelgaisti_book *book, uint64_t *first, pelgaisti_entry *entries,
-                                                          size_t room, size_t *count) {
-    pelgaisti_entry none;
-    if (!book || !first || !count || (!entries && room)) return PELGAISTI_NULL;
-    return pelgaisti_book_take_history(book, first, entries ? entries : &none, room, count);
-}
-
-static inline uint32_t pelgaisti_tested_office_open(pelgaisti_session *sessions, size_t count) {
-    return sessions ? pelgaisti_office_open(sessions, count, (uint64_t)(uintptr_t)sessions) : (uint32_t)PELGAISTI_NULL;
-}
-
-static inline uint32_t pelgaisti_tested_session_publish(pelgaisti_session *session, const pelgaisti_call *call,
-                                                        uint32_t *posted) {
-    uint32_t unread;
-    return session && call ? pelgaisti_session_publish(session, call, posted ? posted : &unread) : (uint32_t)PELGAISTI_NULL;
-}
-
-static inline uint32_t pelgaisti_tested_session_serve(pelgaisti_session *session, pelgaisti_pass *pass) {
-    pelgaisti_pass unread;
-    return session ? pelgaisti_session_serve(session, pass ? pass : &unread) : (uint32_t)PELGAISTI_NULL;
-}
-
-static inline uint32_t pelgaisti_tested_session_collect(pelgaisti_session *session, pelgaisti_answer *answer) {
-    return session && answer ? pelgaisti_session_collect(session, answer) : (uint32_t)PELGAISTI_NULL;
-}
-
-static inline uint32_t pelgaisti_tested_session_seen(pelgaisti_session *session, uint64_t *seen) {
-    return session && seen ? pelgaisti_session_seen(session, seen) : (uint32_t)PELGAISTI_NULL;
-}
-
-static inline uint32_t pelgaisti_tested_session_hear(pelgaisti_session *session, pelgaisti_session *other) {
-    if (!session || !other) return PELGAISTI_NULL;
-    return session == other ? (uint32_t)PELGAISTI_SAME : pelgaisti_session_hear(session, other);
-}
-
-static inline uint32_t pelgaisti_tested_session_retire(pelgaisti_session *session) {
-    return session ? pelgaisti_session_retire(session) : (uint32_t)PELGAISTI_NULL;
-}
-
-static inline uint32_t pelgaisti_tested_session_hand_in(pelgaisti_session *session, pelgaisti_session *to) {
-    if (!session || !to) return PELGAISTI_NULL;
-    return session == to ? (uint32_t)PELGAISTI_SAME : pelgaisti_session_hand_in(session, to);
-}
-
-static inline uint32_t pelgaisti_tested_office_close(pelgaisti_session *session, pelgaisti_book *book) {
-    return session && book ? pelgaisti_office_close(session, book) : (uint32_t)PELGAISTI_NULL;
-}
-
-#define pelgaisti_book_open(book, sessions) pelgaisti_tested_book_open(book, sessions)
-#define pelgaisti_book_close(book) pelgaisti_tested_book_close(book)
-#define pelgaisti_book_serve(book, session, call, reply) pelgaisti_tested_book_serve(book, session, call, reply)
-#define pelgaisti_book_held(book, session, resource, mode) pelgaisti_tested_book_held(book, session, resource, mode)
-#define pelgaisti_book_holders(book, resource, list, room, count) \
-    pelgaisti_tested_book_holders(book, resource, list, room, count)
-#define pelgaisti_book_length(book, length) pelgaisti_tested_book_length(book, length)
-#define pelgaisti_book_history(book, first, entries, room, count) \
-    pelgaisti_tested_book_history(book, first, entries, room, count)
-#define pelgaisti_book_first_kept(book, first) pelgaisti_tested_book_first_kept(book, first)
-#define pelgaisti_book_keep_at_most(book, bound) pelgaisti_tested_book_keep_at_most(book, bound)
-#define pelgaisti_book_take_history(book, first, entries, room, count) \
-    pelgaisti_tested_book_take_history(book, first, entries, room, count)
-#define pelgaisti_office_open(sessions, count) pelgaisti_tested_office_open(sessions, count)
-#define pelgaisti_session_publish(session, call, posted) pelgaisti_tested_session_publish(session, call, posted)
-#define pelgaisti_session_serve(session, pass) pelgaisti_tested_session_serve(session, pass)
-#define pelgaisti_session_collect(session, answer) pelgaisti_tested_session_collect(session, answer)
-#define pelgaisti_session_seen(session, seen) pelgaisti_tested_session_seen(session, seen)
-#define pelgaisti_session_hear(session, other) pelgaisti_tested_session_hear(session, other)
-#define pelgaisti_session_retire(session) pelgaisti_tested_session_retire(session)
-#define pelgaisti_session_hand_in(session, to) pelgaisti_tested_session_hand_in(session, to)
-#define pelgaisti_office_close(session, book) pelgaisti_tested_office_close(session, book)
+#undef PELGAISTI_CALL_
 
 #ifdef __cplusplus
 }

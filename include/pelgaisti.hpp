@@ -1,18 +1,13 @@
 /*
  * Pelgaisti for C++17: the calls of pelgaisti.h over handles that close themselves and can be neither copied nor moved, and
- * enumerations with names. Link with -lpelgaisti.
- *
- *     pelgaisti::book book{2};                                       // a lock table for one thread
- *     book.serve(1, {pelgaisti::op::begin});
- *     auto reply = book.serve(1, {pelgaisti::op::lock, pelgaisti::mode::X, {7}});
- *     if (reply.kind == pelgaisti::kind::granted) ...
- *
- *     pelgaisti::office office{4};                                   // one that four threads share
- *     office[0].publish({pelgaisti::op::begin});
- *     while (office[0].serve(), !office[0].collect()) std::this_thread::yield();
- *
+ * enumerations with names:
+ *     pelgaisti::book book{2};                                                // a lock table for one thread
+ *     auto reply = book.serve(1, {pelgaisti::op::begin});
+ *     pelgaisti::office office{4};                                            // one that four threads share
+ *     auto answer = office[0].perform({pelgaisti::op::lock, pelgaisti::mode::X, {7}});
  * A call that fails throws pelgaisti::error with its status, after which nothing has changed. Two statuses are no failures and
- * are told by the result: ELSEWHERE by serve, NOT_SERVED by collect. pelgaisti.h says what each call does and asks of its caller.
+ * are told by the result: ELSEWHERE by serve and by a session's take_history, NOT_SERVED by collect and what is made of it.
+ * pelgaisti.h says what each call does and asks of its caller.
  */
 #ifndef PELGAISTI_HPP
 #define PELGAISTI_HPP
@@ -22,179 +17,184 @@
 #include <initializer_list>
 #include <memory>
 #include <optional>
+#include <utility>
 #include <vector>
 
 namespace pelgaisti {
-enum class mode : std::uint32_t { NL = 0, IS = 1, IX = 3, S = 5, SIX = 7, X = 15, U = 13 };
-enum class op : std::uint32_t { begin = 1, lock, convert, poll, release, commit, abort };
-enum class kind : std::uint32_t { began = 1, granted, waiting, deadlock, clear, released, committed, aborted, refused };
-enum class refusal : std::uint64_t { already_open = 1, no_transaction, is_waiting, is_doomed, nothing_asked, not_held, parent_not_held,
-                                     child_held, too_many_locks };
-
-inline const char *name(mode it) {
-    static const char *const names[] = {"NL", "IS", "", "IX", "", "S", "", "SIX", "", "", "", "", "", "U", "", "X"};
-    const auto at = static_cast<std::size_t>(it);
-    return at < 16 ? names[at] : "";
-}
-
-inline const char *name(kind it) {
-    static const char *const names[] = {"", "began", "granted", "waiting", "deadlock", "clear", "released", "committed", "aborted", "refused"};
-    const auto at = static_cast<std::size_t>(it);
-    return names[at < 10 ? at : 0];
-}
-
-inline const char *name(refusal it) {
-    static const char *const names[] = {"", "AlreadyOpen", "NoTransaction",  "IsWaiting", "IsDoomed",
-                                        "NothingAsked", "NotHeld",   "ParentNotHeld", "ChildHeld", "TooManyLocks"};
-    const auto at = static_cast<std::size_t>(it);
-    return names[at < 10 ? at : 0];
-}
+using std::size_t, std::uint32_t, std::uint64_t;
+using entry = pelgaisti_entry;
+enum class mode : uint32_t { NL = 0, IS = 1, IX = 3, S = 5, SIX = 7, X = 15, U = 13 };
+enum class op : uint32_t { begin = 1, lock, convert, poll, release, commit, abort };
+enum class kind : uint32_t { began = 1, granted, waiting, deadlock, clear, released, committed, aborted, refused };
+enum class refusal : uint64_t { already_open = 1, no_transaction, is_waiting, is_doomed, nothing_asked, not_held, parent_not_held,
+                                child_held, too_many_locks };
+inline const char *name(mode it) { return pelgaisti_mode_name(static_cast<uint64_t>(it)); }
+inline const char *name(op it) { return pelgaisti_op_name(static_cast<uint64_t>(it)); }
+inline const char *name(kind it) { return pelgaisti_reply_name(static_cast<uint64_t>(it)); }
+inline const char *name(refusal it) { return pelgaisti_refusal_name(static_cast<uint64_t>(it)); }
 
 // What a failed call throws: its status, with the status's name.
 class error : public std::exception {
+    pelgaisti_status status_;
 public:
-    explicit error(std::uint32_t status) noexcept : status_(status) {}
-    std::uint32_t status() const noexcept { return status_; }
-    const char *what() const noexcept override {
-        static const char *const names[] = {
-            "OK", "NO_MEMORY", "CLOSED", "NO_SUCH_SESSION", "NO_SUCH_OP", "NO_SUCH_LEVEL", "NO_SUCH_MODE", "OPEN", "NO_SUCH_COUNT", "PENDING",
-            "NOTHING_PENDING", "NOT_SERVED", "RETIRED", "ELSEWHERE", "OTHER_OFFICE", "MISSING", "COPIED", "NULL", "SAME", "LET_GO"};
-        return names[status_ < sizeof names / sizeof *names ? status_ : 0];
-    }
-
-private:
-    std::uint32_t status_;
+    explicit error(pelgaisti_status status) noexcept : status_(status) {}
+    pelgaisti_status status() const noexcept { return status_; }
+    const char *what() const noexcept override { return pelgaisti_status_name(status_); }
 };
-
-inline void check(std::uint32_t status) { if (status != PELGAISTI_OK) throw error(status); }
+inline void check(pelgaisti_status status) { if (status != PELGAISTI_OK) throw error(status); }
+// What a call writes to its last argument; and the list that it writes, of at most `room` items.
+template <class T, class Call> T made_by(Call call) {
+    T made{};
+    return check(call(&made)), made;
+}
+template <class T, class Call> std::vector<T> list_by(size_t room, Call call) {
+    std::vector<T> list(room);
+    return list.resize(made_by<size_t>([&](auto *count) { return call(list.data(), count); })), list;
+}
 
 // A path of 1 to PELGAISTI_LEVELS numbers; with another count of numbers the calls fail with NO_SUCH_LEVEL.
 struct resource : pelgaisti_resource {
-    resource(std::initializer_list<std::uint32_t> numbers_) : pelgaisti_resource{} {
-        for (std::uint32_t number : numbers_) {
-            if (level < PELGAISTI_LEVELS) numbers[level] = number;
-            ++level;
-        }
+    resource(std::initializer_list<uint32_t> path) : pelgaisti_resource{} {
+        for (uint32_t number : path)
+            if (level++ < PELGAISTI_LEVELS) numbers[level - 1] = number;
     }
 };
-
 struct call : pelgaisti_call {
-    call(pelgaisti::op what, pelgaisti::mode in = pelgaisti::mode::NL, const pelgaisti::resource &on = {}) : pelgaisti_call{} {
-        op = static_cast<std::uint32_t>(what);
-        mode = static_cast<std::uint32_t>(in);
-        resource = on;
-    }
+    call(pelgaisti::op what, pelgaisti::mode in = pelgaisti::mode::NL, const pelgaisti::resource &on = {})
+        : pelgaisti_call{static_cast<uint32_t>(what), static_cast<uint32_t>(in), on} {}
 };
-
 // A reply: `value` is the transaction's number, the mode's code, the number of locks or that of the refusal.
 struct reply {
-    pelgaisti::kind kind;
-    std::uint64_t value;
+    pelgaisti::kind kind; uint64_t value;
     explicit reply(const pelgaisti_reply &it) : kind(static_cast<pelgaisti::kind>(it.kind)), value(it.value) {}
 };
+struct answer { uint64_t place; pelgaisti::reply reply; };
+// What can be neither copied nor moved.
+struct pinned { pinned() = default; pinned(const pinned &) = delete; pinned &operator=(const pinned &) = delete; };
 
-struct answer {
-    std::uint64_t place;
-    pelgaisti::reply reply;
-};
-
-class book {
+class book : pinned {
 public:
-    explicit book(std::uint32_t sessions) { check(pelgaisti_book_open(&handle_, sessions)); }
+    explicit book(uint32_t sessions) { check(pelgaisti_book_open(&handle_, sessions)); }
     ~book() { static_cast<void>(pelgaisti_book_close(&handle_)); }
-    book(const book &) = delete;
-    book &operator=(const book &) = delete;
 
-    pelgaisti::reply serve(std::uint32_t session, const pelgaisti::call &call) {
-        pelgaisti_reply made{};
-        check(pelgaisti_book_serve(&handle_, session, &call, &made));
-        return pelgaisti::reply(made);
+    pelgaisti::reply serve(uint32_t session, const pelgaisti::call &call) {
+        return reply(made_by<pelgaisti_reply>([&](auto *made) { return pelgaisti_book_serve(&handle_, session, &call, made); }));
     }
-    mode held(std::uint32_t session, const pelgaisti::resource &resource) {
-        std::uint32_t code = 0;
-        check(pelgaisti_book_held(&handle_, session, &resource, &code));
-        return static_cast<mode>(code);
+    // Serves the calls in order and makes each its entry of the history; how many were served: fewer if memory was refused.
+    size_t serve_batch(std::vector<entry> &calls) {
+        return made_by<size_t>([&](auto *n) { return pelgaisti_book_serve_batch(&handle_, calls.data(), calls.size(), n); });
+    }
+    // Locks the ancestors of the resource in the mode that it needs there, and then the resource, from the level `level` on, which
+    // it raises by 1 for each that is granted. It stops at the first reply other than granted.
+    pelgaisti::reply lock_path(uint32_t session, const pelgaisti::resource &resource, mode in, uint32_t &level) {
+        const auto code = static_cast<uint32_t>(in);
+        return reply(made_by<pelgaisti_reply>([&](auto *made) {
+            return pelgaisti_book_lock_path(&handle_, session, &resource, code, &level, made); }));
+    }
+    bool waits_for(uint32_t session, uint32_t other) {
+        return made_by<uint32_t>([&](auto *edge) { return pelgaisti_book_waits_for(&handle_, session, other, edge); }) != 0;
+    }
+    // The sessions for which the session waits directly, by number.
+    std::vector<uint32_t> blockers(uint32_t session) {
+        const size_t room = PELGAISTI_MAX_SESSIONS;
+        return list_by<uint32_t>(room, [&](auto *at, auto *n) { return pelgaisti_book_blockers(&handle_, session, at, room, n); });
+    }
+    mode held(uint32_t session, const pelgaisti::resource &resource) {
+        return mode(made_by<uint32_t>([&](auto *code) { return pelgaisti_book_held(&handle_, session, &resource, code); }));
     }
     std::vector<pelgaisti_holder> holders(const pelgaisti::resource &resource) {
         std::vector<pelgaisti_holder> list(8);
-        for (std::size_t count = 0;; list.resize(count)) {
+        for (size_t count = 0;; list.resize(count)) {
             check(pelgaisti_book_holders(&handle_, &resource, list.data(), list.size(), &count));
             if (count <= list.size()) return list.resize(count), list;
         }
     }
-    std::uint64_t length() {
-        std::uint64_t length = 0;
-        return check(pelgaisti_book_length(&handle_, &length)), length;
+    uint64_t length() { return made_by<uint64_t>([&](auto *n) { return pelgaisti_book_length(&handle_, n); }); }
+    uint64_t first_kept() { return made_by<uint64_t>([&](auto *place) { return pelgaisti_book_first_kept(&handle_, place); }); }
+    void keep_at_most(uint64_t bound) { check(pelgaisti_book_keep_at_most(&handle_, bound)); }
+    // Up to `room` entries of the history from the place `first` on.
+    std::vector<entry> history(uint64_t first, size_t room) {
+        room = room_for(first, room);
+        return list_by<entry>(room, [&](auto *at, auto *n) { return pelgaisti_book_history(&handle_, first, at, room, n); });
     }
-    std::vector<pelgaisti_entry> history(std::uint64_t first, std::size_t room) {
-        std::vector<pelgaisti_entry> entries(room);
-        std::size_t count = 0;
-        check(pelgaisti_book_history(&handle_, first, entries.data(), room, &count));
-        entries.resize(count);
-        return entries;
+    // Up to `room` of the oldest entries that are kept, which the book lets go of. The first was at first_kept() before.
+    std::vector<entry> take_history(size_t room) {
+        uint64_t first = first_kept();
+        room = room_for(first, room);
+        return list_by<entry>(room, [&](auto *at, auto *n) { return pelgaisti_book_take_history(&handle_, &first, at, room, n); });
     }
-
 private:
     friend class office;
     book() = default;
+    size_t room_for(uint64_t first, size_t room) {
+        const uint64_t all = length();
+        return first >= all ? 0 : all - first < room ? static_cast<size_t>(all - first) : room;
+    }
     pelgaisti_book handle_ = PELGAISTI_EMPTY;
 };
 
-class session {
+class session : pinned {
 public:
-    session(const session &) = delete;
-    session &operator=(const session &) = delete;
-
     void publish(const pelgaisti::call &call) { check(pelgaisti_session_publish(&handle_, &call, nullptr)); }
     // One try to take the lock table; what the pass did, or nothing if another session has the table.
     std::optional<pelgaisti_pass> serve() {
         pelgaisti_pass pass{};
-        const std::uint32_t status = pelgaisti_session_serve(&handle_, &pass);
-        if (status == PELGAISTI_ELSEWHERE) return std::nullopt;
-        check(status);
-        return pass;
+        return elsewhere(pelgaisti_session_serve(&handle_, &pass)) ? std::nullopt : std::optional(pass);
     }
     // The answer to the pending call, or nothing if the session knows none yet.
-    std::optional<answer> collect() {
-        pelgaisti_answer found{};
-        const std::uint32_t status = pelgaisti_session_collect(&handle_, &found);
-        if (status == PELGAISTI_NOT_SERVED) return std::nullopt;
-        check(status);
-        return answer{found.place, pelgaisti::reply(found.reply)};
+    std::optional<answer> collect() { return told([&](auto *found) { return pelgaisti_session_collect(&handle_, found); }); }
+    // Publishes the call, and serves and collects, at most `turns` times. Nothing, or NO_MEMORY: it is pending; resume() goes on.
+    std::optional<answer> perform(const pelgaisti::call &call, uint64_t turns = UINT64_MAX) {
+        return told([&](auto *found) { return pelgaisti_session_perform(&handle_, &call, turns, found); });
+    }
+    std::optional<answer> resume(uint64_t turns = UINT64_MAX) {
+        return told([&](auto *found) { return pelgaisti_session_perform(&handle_, nullptr, turns, found); });
+    }
+    // Like book::lock_path, each call in at most `turns` turns. Nothing: a call is pending yet, and the same call goes on with it.
+    std::optional<answer> lock_path(const resource &resource, mode in, uint32_t &level, uint64_t turns = UINT64_MAX) {
+        const auto code = static_cast<uint32_t>(in);
+        return told([&](auto *found) { return pelgaisti_session_lock_path(&handle_, &resource, code, &level, turns, found); });
+    }
+    // Takes up to `room` of the oldest entries that are kept, from the place `first` on; nothing if another session has the table.
+    std::optional<std::vector<entry>> take_history(size_t room, uint64_t &first) {
+        std::vector<entry> list(room);
+        if (elsewhere(pelgaisti_session_take_history(&handle_, &first, list.data(), room, &room))) return std::nullopt;
+        return list.resize(room), list;
     }
     void hear(session &other) { check(pelgaisti_session_hear(&handle_, &other.handle_)); }
     void retire() { check(pelgaisti_session_retire(&handle_)); }
-
 private:
     friend class office;
     session() = default;
+    static bool elsewhere(pelgaisti_status status) { return status == PELGAISTI_ELSEWHERE || (check(status), false); }
+    template <class Call> static std::optional<answer> told(Call call) {
+        pelgaisti_answer found{};
+        const pelgaisti_status status = call(&found);
+        if (status == PELGAISTI_NOT_SERVED) return std::nullopt;
+        return check(status), answer{found.place, pelgaisti::reply(found.reply)};
+    }
     pelgaisti_session handle_ = PELGAISTI_EMPTY;
 };
 static_assert(sizeof(session) == sizeof(pelgaisti_session), "an array of sessions is an array of handles");
 
 // An office with all its sessions. Whoever destroys it without closing it leaks its lock table.
-class office {
+class office : pinned {
+    std::unique_ptr<session[]> sessions_;
+    size_t count_, handed_in_ = 0;
 public:
-    explicit office(std::size_t sessions) : sessions_(new session[sessions]), count_(sessions) {
-        check(pelgaisti_office_open(&sessions_[0].handle_, sessions));
+    // Of the history at most the newest `bound` entries are kept in memory.
+    explicit office(size_t sessions, uint64_t bound = UINT64_MAX) : sessions_(new session[sessions]), count_(sessions) {
+        check(pelgaisti_office_open_keeping(&sessions_[0].handle_, sessions, bound));
     }
-    office(const office &) = delete;
-    office &operator=(const office &) = delete;
-
-    session &operator[](std::size_t index) { return sessions_[index]; }
-    std::size_t size() const { return count_; }
+    session &operator[](size_t index) { return sessions_[index]; }
+    size_t size() const { return count_; }
     // Closes the office, in which no call may be pending, and gives the lock table with the one history.
     std::unique_ptr<book> close() {
         std::unique_ptr<book> made(new book);
-        for (; handed_in_ + 1 < count_; ++handed_in_) check(pelgaisti_session_hand_in(&sessions_[handed_in_ + 1].handle_, &sessions_[0].handle_));
-        check(pelgaisti_office_close(&sessions_[0].handle_, &made->handle_));
-        return made;
+        for (; handed_in_ + 1 < count_; ++handed_in_)
+            check(pelgaisti_session_hand_in(&sessions_[handed_in_ + 1].handle_, &sessions_[0].handle_));
+        return check(pelgaisti_office_close(&sessions_[0].handle_, &made->handle_)), std::move(made);
     }
-
-private:
-    std::unique_ptr<session[]> sessions_;
-    std::size_t count_, handed_in_ = 0;
 };
-
 }  // namespace pelgaisti
 #endif

@@ -1,5 +1,6 @@
-//! Tells the linker where `libpelgaisti.a` is: in the folder that `PELGAISTI_LIB_DIR` names, else in `out/` of the repository
-//! that this crate lies in, where `./embed` leaves it.
+//! Tells the linker where `libpelgaisti.a` is: in the folder that `PELGAISTI_LIB_DIR` names; else in `lib/` of the prefix below
+//! which this crate was installed, in `share/pelgaisti/rust`; else in `out/` of the repository that it lies in, where `./embed`
+//! leaves it.
 
 use std::env;
 use std::path::PathBuf;
@@ -8,7 +9,15 @@ fn main() {
     println!("cargo:rerun-if-env-changed=PELGAISTI_LIB_DIR");
     let folder = match env::var_os("PELGAISTI_LIB_DIR") {
         Some(folder) => PathBuf::from(folder),
-        None => PathBuf::from(env::var_os("CARGO_MANIFEST_DIR").unwrap_or_default()).join("../../out"),
+        None => {
+            let here = PathBuf::from(env::var_os("CARGO_MANIFEST_DIR").unwrap_or_default());
+            let installed = here.join("../../../lib");
+            if here.ends_with("share/pelgaisti/rust") && installed.join("libpelgaisti.a").exists() {
+                installed
+            } else {
+                here.join("../../out")
+            }
+        }
     };
     let archive = folder.join("libpelgaisti.a");
     if !archive.exists() {

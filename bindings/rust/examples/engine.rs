@@ -3,7 +3,7 @@
 //!
 //!     cargo run --release --example engine
 
-use pelgaisti::{Answer, Call, Error, Mode, Office, Reply, Resource, Session};
+use pelgaisti::{Call, Mode, Office, Reply, Resource, Session};
 use std::sync::atomic::{AtomicI64, Ordering};
 use std::sync::Arc;
 use std::thread;
@@ -15,39 +15,38 @@ const BALANCE: i64 = 100;
 
 type Tables = [[AtomicI64; ACCOUNTS as usize]; 2];
 
-/// Publishes a call, then serves and collects until the answer is there.
-fn ask(session: &mut Session, call: &Call) -> Answer {
-    session.publish(call).expect("a session with nothing pending publishes");
-    loop {
-        if let Err(error) = session.serve() {
-            assert_eq!(error, Error::Elsewhere);
-        }
-        match session.collect() {
-            Ok(answer) => return answer,
-            Err(error) => assert_eq!(error, Error::NotServed),
-        }
-        thread::yield_now();
-    }
+/// Performs a call: without a bound on its turns there is an answer, unless memory is refused.
+fn ask(session: &mut Session, call: &Call) -> Reply {
+    session.perform(call, u64::MAX).expect("memory for a call").reply
 }
 
-/// Locks a resource, and polls while the request waits, ever more seldom. Whether it was granted.
+/// Locks a path down to the resource. While a request on it waits, polls ever more seldom, and then goes on. Whether it was
+/// granted.
 fn lock(session: &mut Session, mode: Mode, numbers: &[u32]) -> bool {
     let resource = Resource::new(numbers).expect("1 to 5 numbers");
-    let mut reply = ask(session, &Call::Lock(resource, mode)).reply;
-    let mut pause = Duration::from_micros(10);
-    while reply == Reply::Waiting {
-        thread::sleep(pause);
-        pause = (pause * 2).min(Duration::from_millis(1));
-        reply = ask(session, &Call::Poll).reply;
+    let mut level = 0;
+    while let Some(answer) = session.lock_path(resource, mode, &mut level, u64::MAX).expect("memory for a call") {
+        let mut reply = answer.reply;
+        let mut pause = Duration::from_micros(10);
+        while reply == Reply::Waiting {
+            thread::sleep(pause);
+            pause = (pause * 2).min(Duration::from_millis(1));
+            reply = ask(session, &Call::Poll);
+        }
+        match reply {
+            Reply::Deadlock => return false,
+            Reply::Refused(why) => panic!("a lock was refused: {why}"),
+            _ => (),
+        }
     }
-    reply != Reply::Deadlock
+    true
 }
 
 /// One transfer. Whether it was committed.
 fn transfer(session: &mut Session, accounts: &Tables, from: (u32, u32), to: (u32, u32)) -> bool {
     ask(session, &Call::Begin);
     for (table, account) in [from, to] {
-        if !(lock(session, Mode::IX, &[table]) && lock(session, Mode::X, &[table, account])) {
+        if !lock(session, Mode::X, &[table, account]) {
             ask(session, &Call::Abort);
             return false;
         }

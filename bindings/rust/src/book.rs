@@ -43,7 +43,7 @@ impl Book {
     pub fn open(sessions: u32) -> Result<Book, Error> {
         same_version()?;
         let book = Book::closed();
-        done(unsafe { ffi::pelgaisti_book_open(book.raw(), sessions) })?;
+        done(unsafe { ffi::pelgaisti_raw_book_open(book.raw(), sessions) })?;
         Ok(book)
     }
 
@@ -67,8 +67,77 @@ impl Book {
     ///     # Ok::<(), pelgaisti::Error>(())
     pub fn serve(&mut self, session: u32, call: &Call) -> Result<Reply, Error> {
         let mut reply = RawReply::default();
-        done(unsafe { ffi::pelgaisti_book_serve(self.raw(), session, &call.raw(), &mut reply) })?;
+        done(unsafe { ffi::pelgaisti_raw_book_serve(self.raw(), session, &call.raw(), &mut reply) })?;
         Ok(Reply::of(&reply))
+    }
+
+    /// Serves calls of sessions in order, and returns the entry of each that was served: fewer than there are calls if memory was
+    /// refused for the next one. If a session of one of them isn't there, none is served. Locks of several sessions on one resource
+    /// that follow one another are granted together where their modes allow.
+    ///
+    ///     # use pelgaisti::{Book, Call, Reply};
+    ///     let mut book = Book::open(2)?;
+    ///     let entries = book.serve_batch(&[(1, Call::Begin), (2, Call::Begin)])?;
+    ///     assert_eq!(entries[1].reply, Reply::Began(2));
+    ///     # Ok::<(), pelgaisti::Error>(())
+    pub fn serve_batch(&mut self, calls: &[(u32, Call)]) -> Result<Vec<Entry>, Error> {
+        let item = |&(session, ref call): &(u32, Call)| RawEntry {
+            session,
+            call: call.raw(),
+            reply: RawReply::default(),
+        };
+        let mut items: Vec<RawEntry> = calls.iter().map(item).collect();
+        let mut count = 0;
+        done(unsafe { ffi::pelgaisti_raw_book_serve_batch(self.raw(), items.as_mut_ptr(), items.len(), &mut count) })?;
+        Ok(items[..count].iter().map(Entry::of).collect())
+    }
+
+    /// Locks a path: the ancestors of the resource, from the database down, each in the mode that `mode` needs of a parent, and
+    /// then the resource in `mode`. `level` says how many levels are locked already, 0 at first, and is raised by 1 for each that
+    /// is granted. Stops at the first reply other than `Granted`, and returns the last reply, `None` if all levels were locked.
+    /// After a wait that ended with `Clear` the same call goes on. After an error `level` tells what was locked before it.
+    ///
+    ///     # use pelgaisti::{Book, Call, Mode, Reply, Resource};
+    ///     let mut book = Book::open(1)?;
+    ///     book.serve(1, &Call::Begin)?;
+    ///     let mut level = 0;
+    ///     let page = Resource::new(&[7, 2, 40]).unwrap();
+    ///     assert_eq!(book.lock_path(1, page, Mode::X, &mut level)?, Some(Reply::Granted(Mode::X)));
+    ///     assert_eq!((level, book.held(1, Resource::new(&[7]).unwrap())?), (3, Mode::IX));
+    ///     # Ok::<(), pelgaisti::Error>(())
+    pub fn lock_path(&mut self, session: u32, resource: Resource, mode: Mode, level: &mut usize) -> Result<Option<Reply>, Error> {
+        let mut last = None;
+        while let Some(call) = resource.path_call(mode, *level) {
+            let reply = self.serve(session, &call)?;
+            last = Some(reply);
+            if !matches!(reply, Reply::Granted(_)) {
+                break;
+            }
+            *level += 1;
+        }
+        Ok(last)
+    }
+
+    /// Whether `session` waits for `other` directly: `other` holds what it waits for in a mode that conflicts with its request, or
+    /// has a request ahead of it in the queue.
+    ///
+    ///     assert!(!pelgaisti::Book::open(2)?.waits_for(1, 2)?);
+    ///     # Ok::<(), pelgaisti::Error>(())
+    pub fn waits_for(&self, session: u32, other: u32) -> Result<bool, Error> {
+        let mut edge = 0;
+        done(unsafe { ffi::pelgaisti_raw_book_waits_for(self.raw(), session, other, &mut edge) })?;
+        Ok(edge != 0)
+    }
+
+    /// The sessions for which `session` waits directly, who block it, by number.
+    ///
+    ///     assert_eq!(pelgaisti::Book::open(2)?.blockers(1)?, []);
+    ///     assert_eq!(pelgaisti::Book::open(2)?.blockers(3), Err(pelgaisti::Error::NoSuchSession));
+    ///     # Ok::<(), pelgaisti::Error>(())
+    pub fn blockers(&self, session: u32) -> Result<Vec<u32>, Error> {
+        self.waits_for(session, session)?;
+        let others = (1..).map_while(|other| Some((other, self.waits_for(session, other).ok()?)));
+        Ok(others.filter(|it| it.1).map(|it| it.0).collect())
     }
 
     /// The mode that the session holds on the resource itself, `NL` if none. The mode of a waiting request doesn't count.
@@ -79,7 +148,7 @@ impl Book {
     ///     # Ok::<(), pelgaisti::Error>(())
     pub fn held(&self, session: u32, resource: Resource) -> Result<Mode, Error> {
         let mut mode = 0;
-        done(unsafe { ffi::pelgaisti_book_held(self.raw(), session, &resource.raw(), &mut mode) })?;
+        done(unsafe { ffi::pelgaisti_raw_book_held(self.raw(), session, &resource.raw(), &mut mode) })?;
         Ok(Mode::of(u64::from(mode)))
     }
 
@@ -94,7 +163,7 @@ impl Book {
         loop {
             let mut count = 0;
             done(unsafe {
-                ffi::pelgaisti_book_holders(self.raw(), &resource.raw(), list.as_mut_ptr(), list.len(), &mut count)
+                ffi::pelgaisti_raw_book_holders(self.raw(), &resource.raw(), list.as_mut_ptr(), list.len(), &mut count)
             })?;
             if count <= list.len() {
                 list.truncate(count);
@@ -109,42 +178,91 @@ impl Book {
         Ok(list.iter().map(holder).collect())
     }
 
-    /// How many calls the history has.
+    /// How many calls the history has, those among them whose entries were let go.
     ///
     ///     assert_eq!(pelgaisti::Book::open(1)?.length(), 0);
     ///     # Ok::<(), pelgaisti::Error>(())
     pub fn length(&self) -> u64 {
         let mut length = 0;
-        done(unsafe { ffi::pelgaisti_book_length(self.raw(), &mut length) }).expect("an open book tells its length");
+        done(unsafe { ffi::pelgaisti_raw_book_length(self.raw(), &mut length) }).expect("an open book tells its length");
         length
     }
 
-    /// Up to `room` entries of the history, from the place `first` on.
+    /// The place of the first entry of the history that is kept.
+    ///
+    ///     assert_eq!(pelgaisti::Book::open(1)?.first_kept(), 0);
+    ///     # Ok::<(), pelgaisti::Error>(())
+    pub fn first_kept(&self) -> u64 {
+        let mut first = 0;
+        done(unsafe { ffi::pelgaisti_raw_book_first_kept(self.raw(), &mut first) }).expect("an open book tells what it keeps");
+        first
+    }
+
+    /// Keeps at most the newest `bound` entries of the history from now on, and lets go of older ones as calls are served.
+    /// `u64::MAX` is no bound.
+    ///
+    ///     # use pelgaisti::{Book, Call, Error};
+    ///     let mut book = Book::open(1)?;
+    ///     book.keep_at_most(1);
+    ///     book.serve_batch(&[(1, Call::Begin), (1, Call::Commit)])?;
+    ///     assert_eq!((book.length(), book.first_kept(), book.history(0, 9)), (2, 1, Err(Error::LetGo)));
+    ///     # Ok::<(), pelgaisti::Error>(())
+    pub fn keep_at_most(&mut self, bound: u64) {
+        done(unsafe { ffi::pelgaisti_raw_book_keep_at_most(self.raw(), bound) }).expect("an open book takes a bound");
+    }
+
+    /// Room for up to `room` entries from the place `first` on.
+    fn room_for(&self, first: u64, room: usize) -> Vec<RawEntry> {
+        let left = self.length().saturating_sub(first);
+        vec![RawEntry::default(); room.min(usize::try_from(left).unwrap_or(usize::MAX))]
+    }
+
+    /// Up to `room` entries of the history, from the place `first` on. [`Error::LetGo`]: the entry there was let go.
     ///
     ///     # use pelgaisti::{Book, Call, Reply};
     ///     let mut book = Book::open(1)?;
     ///     book.serve(1, &Call::Begin)?;
-    ///     assert_eq!(book.history(0, 10)[0].reply, Reply::Began(1));
+    ///     assert_eq!(book.history(0, 10)?[0].reply, Reply::Began(1));
     ///     # Ok::<(), pelgaisti::Error>(())
-    pub fn history(&self, first: u64, room: usize) -> Vec<Entry> {
-        let left = self.length().saturating_sub(first);
-        let room = room.min(usize::try_from(left).unwrap_or(usize::MAX));
-        let mut entries = vec![RawEntry::default(); room.max(1)];
+    pub fn history(&self, first: u64, room: usize) -> Result<Vec<Entry>, Error> {
+        let mut entries = self.room_for(first, room);
         let mut count = 0;
-        done(unsafe { ffi::pelgaisti_book_history(self.raw(), first, entries.as_mut_ptr(), room, &mut count) })
-            .expect("an open book tells its history");
-        let entry = |raw: &RawEntry| Entry {
+        done(unsafe { ffi::pelgaisti_raw_book_history(self.raw(), first, entries.as_mut_ptr(), entries.len(), &mut count) })?;
+        Ok(entries[..count].iter().map(Entry::of).collect())
+    }
+
+    /// Takes up to `room` of the oldest entries of the history that are kept, of which the book lets go. Returns them with the
+    /// place of the first.
+    ///
+    ///     # use pelgaisti::{Book, Call};
+    ///     let mut book = Book::open(1)?;
+    ///     book.serve_batch(&[(1, Call::Begin), (1, Call::Commit)])?;
+    ///     let (first, entries) = book.take_history(1);
+    ///     assert_eq!((first, entries[0].call, book.take_history(9).1[0].call), (0, Call::Begin, Call::Commit));
+    ///     # Ok::<(), pelgaisti::Error>(())
+    pub fn take_history(&mut self, room: usize) -> (u64, Vec<Entry>) {
+        let mut entries = self.room_for(self.first_kept(), room);
+        let (mut first, mut count) = (0, 0);
+        let at = entries.as_mut_ptr();
+        done(unsafe { ffi::pelgaisti_raw_book_take_history(self.raw(), &mut first, at, entries.len(), &mut count) })
+            .expect("an open book gives its history");
+        (first, entries[..count].iter().map(Entry::of).collect())
+    }
+}
+
+impl Entry {
+    pub(crate) fn of(raw: &RawEntry) -> Entry {
+        Entry {
             session: raw.session,
             call: Call::of(&raw.call),
             reply: Reply::of(&raw.reply),
-        };
-        entries[..count].iter().map(entry).collect()
+        }
     }
 }
 
 impl Drop for Book {
     fn drop(&mut self) {
         // a handle that isn't open stays so
-        unsafe { ffi::pelgaisti_book_close(self.raw()) };
+        unsafe { ffi::pelgaisti_raw_book_close(self.raw()) };
     }
 }

@@ -45,6 +45,18 @@ impl Mode {
         Mode::ALL.iter().find(|it| u64::from(it.1) == code).map_or(Mode::NL, |it| it.0)
     }
 
+    /// The mode that a lock in this mode needs of the parent, at least.
+    ///
+    ///     use pelgaisti::Mode;
+    ///     assert_eq!([Mode::S, Mode::X].map(Mode::of_parent), [Mode::IS, Mode::IX]);
+    pub fn of_parent(self) -> Mode {
+        match self {
+            Mode::NL => Mode::NL,
+            Mode::IS | Mode::S => Mode::IS,
+            Mode::IX | Mode::SIX | Mode::U | Mode::X => Mode::IX,
+        }
+    }
+
     /// The name of the mode, as traces have it.
     pub fn name(self) -> &'static str {
         Mode::ALL.iter().find(|it| it.0 == self).map_or("NL", |it| it.2)
@@ -86,6 +98,25 @@ impl Resource {
     /// The numbers of the path.
     pub fn numbers(&self) -> &[u32] {
         &self.numbers[..self.level as usize]
+    }
+
+    /// The level: how many numbers the path has.
+    pub fn level(&self) -> usize {
+        self.level as usize
+    }
+
+    /// The call that locks the next level of the path to this resource, of which `level` levels are locked: an ancestor in the mode
+    /// that `mode` needs of the parent, or the resource itself in `mode`. `None` if all levels are.
+    ///
+    ///     use pelgaisti::{Call, Mode, Resource};
+    ///     let page = Resource::new(&[7, 2, 40]).unwrap();
+    ///     assert_eq!(page.path_call(Mode::S, 0), Some(Call::Lock(Resource::new(&[7]).unwrap(), Mode::IS)));
+    ///     assert_eq!(page.path_call(Mode::S, 2), Some(Call::Lock(page, Mode::S)));
+    ///     assert_eq!(page.path_call(Mode::S, 3), None);
+    pub fn path_call(&self, mode: Mode, level: usize) -> Option<Call> {
+        let next = Resource::new(self.numbers().get(..level.checked_add(1)?)?)?;
+        let asked = if next.level < self.level { mode.of_parent() } else { mode };
+        Some(Call::Lock(next, asked))
     }
 
     pub(crate) fn raw(self) -> RawResource {
@@ -173,7 +204,8 @@ pub enum Reply {
     Waiting,
     /// The transaction was chosen as a victim. It keeps its locks: undo, then abort.
     Deadlock,
-    /// The session waits for nothing.
+    /// The session waits for nothing. After a wait for a lock it is held in the mode that was asked for; after one for a conversion
+    /// in the least upper bound of that and what was held, which [`crate::Book::held`] tells, or the reply to the same lock again.
     Clear,
     /// The lock was released.
     Released,

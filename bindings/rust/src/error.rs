@@ -4,7 +4,7 @@ use crate::ffi;
 use std::fmt;
 
 /// Why a call made nothing. Nothing has changed then, but for [`Error::Elsewhere`], after which a pending call that wasn't listed
-/// may be.
+/// may be, and for the calls that are made of several: `perform`, `resume` and `lock_path` say what they leave.
 #[derive(Clone, Copy, Debug, PartialEq, Eq, Hash)]
 pub enum Error {
     /// Memory was refused. The same call may be made again.
@@ -27,6 +27,8 @@ pub enum Error {
     OtherOffice,
     /// A session of the office wasn't handed in.
     Missing,
+    /// The entry at this place of the history was let go.
+    LetGo,
     /// The library is of another version than this crate.
     OtherVersion,
 }
@@ -44,6 +46,7 @@ impl fmt::Display for Error {
             Error::Elsewhere => "another session has the lock table",
             Error::OtherOffice => "the sessions are of different offices",
             Error::Missing => "a session of the office wasn't handed in",
+            Error::LetGo => "the entry at this place was let go",
             Error::OtherVersion => "the library is of another version",
         })
     }
@@ -65,6 +68,7 @@ pub(crate) fn done(status: u32) -> Result<(), Error> {
         ffi::ELSEWHERE => Error::Elsewhere,
         ffi::OTHER_OFFICE => Error::OtherOffice,
         ffi::MISSING => Error::Missing,
+        ffi::LET_GO => Error::LetGo,
         other => unreachable!("status {other}, which the types of this crate rule out"),
     })
 }

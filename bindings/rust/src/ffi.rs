@@ -7,7 +7,7 @@ use std::ffi::c_void;
 pub(crate) const LEVELS: usize = 5;
 
 /// The header's version that these structs are of.
-pub(crate) const HEADER_VERSION: u32 = 2;
+pub(crate) const HEADER_VERSION: u32 = 3;
 
 #[repr(C)]
 #[derive(Clone, Copy, Default)]
@@ -86,35 +86,59 @@ pub(crate) const RETIRED: u32 = 12;
 pub(crate) const ELSEWHERE: u32 = 13;
 pub(crate) const OTHER_OFFICE: u32 = 14;
 pub(crate) const MISSING: u32 = 15;
+pub(crate) const LET_GO: u32 = 19;
 
 extern "C" {
     pub(crate) fn pelgaisti_version() -> u32;
-    pub(crate) fn pelgaisti_book_open(book: *mut RawHandle, sessions: u32) -> u32;
-    pub(crate) fn pelgaisti_book_close(book: *mut RawHandle) -> u32;
-    pub(crate) fn pelgaisti_book_serve(book: *mut RawHandle, session: u32, call: *const RawCall, reply: *mut RawReply) -> u32;
-    pub(crate) fn pelgaisti_book_held(book: *mut RawHandle, session: u32, resource: *const RawResource, mode: *mut u32) -> u32;
-    pub(crate) fn pelgaisti_book_holders(
+    pub(crate) fn pelgaisti_raw_book_open(book: *mut RawHandle, sessions: u32) -> u32;
+    pub(crate) fn pelgaisti_raw_book_close(book: *mut RawHandle) -> u32;
+    pub(crate) fn pelgaisti_raw_book_serve(book: *mut RawHandle, session: u32, call: *const RawCall, reply: *mut RawReply) -> u32;
+    pub(crate) fn pelgaisti_raw_book_serve_batch(
+        book: *mut RawHandle,
+        calls: *mut RawEntry,
+        length: usize,
+        count: *mut usize,
+    ) -> u32;
+    pub(crate) fn pelgaisti_raw_book_waits_for(book: *mut RawHandle, session: u32, other: u32, edge: *mut u32) -> u32;
+    pub(crate) fn pelgaisti_raw_book_held(book: *mut RawHandle, session: u32, resource: *const RawResource, mode: *mut u32) -> u32;
+    pub(crate) fn pelgaisti_raw_book_holders(
         book: *mut RawHandle,
         resource: *const RawResource,
         list: *mut RawHolder,
         room: usize,
         count: *mut usize,
     ) -> u32;
-    pub(crate) fn pelgaisti_book_length(book: *mut RawHandle, length: *mut u64) -> u32;
-    pub(crate) fn pelgaisti_book_history(
+    pub(crate) fn pelgaisti_raw_book_length(book: *mut RawHandle, length: *mut u64) -> u32;
+    pub(crate) fn pelgaisti_raw_book_first_kept(book: *mut RawHandle, first: *mut u64) -> u32;
+    pub(crate) fn pelgaisti_raw_book_keep_at_most(book: *mut RawHandle, bound: u64) -> u32;
+    pub(crate) fn pelgaisti_raw_book_take_history(
+        book: *mut RawHandle,
+        first: *mut u64,
+        entries: *mut RawEntry,
+        room: usize,
+        count: *mut usize,
+    ) -> u32;
+    pub(crate) fn pelgaisti_raw_book_history(
         book: *mut RawHandle,
         first: u64,
         entries: *mut RawEntry,
         room: usize,
         count: *mut usize,
     ) -> u32;
-    pub(crate) fn pelgaisti_office_open(sessions: *mut RawHandle, count: usize, mark: u64) -> u32;
-    pub(crate) fn pelgaisti_session_publish(session: *mut RawHandle, call: *const RawCall, posted: *mut u32) -> u32;
-    pub(crate) fn pelgaisti_session_serve(session: *mut RawHandle, pass: *mut RawPass) -> u32;
-    pub(crate) fn pelgaisti_session_collect(session: *mut RawHandle, answer: *mut RawAnswer) -> u32;
-    pub(crate) fn pelgaisti_session_seen(session: *mut RawHandle, seen: *mut u64) -> u32;
-    pub(crate) fn pelgaisti_session_hear(session: *mut RawHandle, other: *mut RawHandle) -> u32;
-    pub(crate) fn pelgaisti_session_retire(session: *mut RawHandle) -> u32;
-    pub(crate) fn pelgaisti_session_hand_in(session: *mut RawHandle, to: *mut RawHandle) -> u32;
-    pub(crate) fn pelgaisti_office_close(session: *mut RawHandle, book: *mut RawHandle) -> u32;
+    pub(crate) fn pelgaisti_raw_office_open(sessions: *mut RawHandle, count: usize, mark: u64, bound: u64) -> u32;
+    pub(crate) fn pelgaisti_raw_session_publish(session: *mut RawHandle, call: *const RawCall, posted: *mut u32) -> u32;
+    pub(crate) fn pelgaisti_raw_session_serve(session: *mut RawHandle, pass: *mut RawPass) -> u32;
+    pub(crate) fn pelgaisti_raw_session_take_history(
+        session: *mut RawHandle,
+        first: *mut u64,
+        entries: *mut RawEntry,
+        room: usize,
+        count: *mut usize,
+    ) -> u32;
+    pub(crate) fn pelgaisti_raw_session_collect(session: *mut RawHandle, answer: *mut RawAnswer) -> u32;
+    pub(crate) fn pelgaisti_raw_session_seen(session: *mut RawHandle, seen: *mut u64) -> u32;
+    pub(crate) fn pelgaisti_raw_session_hear(session: *mut RawHandle, other: *mut RawHandle) -> u32;
+    pub(crate) fn pelgaisti_raw_session_retire(session: *mut RawHandle) -> u32;
+    pub(crate) fn pelgaisti_raw_session_hand_in(session: *mut RawHandle, to: *mut RawHandle) -> u32;
+    pub(crate) fn pelgaisti_raw_office_close(session: *mut RawHandle, book: *mut RawHandle) -> u32;
 }

@@ -1,13 +1,15 @@
 //! The lock table that threads share.
 
-use crate::book::Book;
-use crate::calls::{Call, Reply};
+use crate::book::{Book, Entry};
+use crate::calls::{Call, Mode, Reply, Resource};
 use crate::error::{done, same_version, Error};
-use crate::ffi::{self, RawAnswer, RawHandle, RawPass};
+use crate::ffi::{self, RawAnswer, RawEntry, RawHandle, RawPass};
 use std::cell::UnsafeCell;
+use std::hint;
 use std::marker::PhantomData;
 use std::sync::atomic::{AtomicU64, Ordering};
 use std::sync::Arc;
+use std::thread;
 
 /// The handles of an office's sessions, at one place from its opening to its end.
 struct Handles(Box<[UnsafeCell<RawHandle>]>);
@@ -75,6 +77,20 @@ impl Office {
     ///     assert_eq!(sessions[0].collect()?.reply, Reply::Began(1));
     ///     # Ok::<(), pelgaisti::Error>(())
     pub fn open(sessions: usize) -> Result<Vec<Session>, Error> {
+        Office::open_keeping(sessions, u64::MAX)
+    }
+
+    /// Opens an office as [`Office::open`] does, which keeps at most the newest `bound` entries of its history in memory.
+    ///
+    ///     # use pelgaisti::{Call, Office};
+    ///     let mut sessions = Office::open_keeping(1, 2)?;
+    ///     for call in [Call::Begin, Call::Poll, Call::Commit] {
+    ///         sessions[0].perform(&call, u64::MAX)?;
+    ///     }
+    ///     let book = Office::close(sessions).ok().unwrap();
+    ///     assert_eq!((book.length(), book.first_kept()), (3, 1));
+    ///     # Ok::<(), pelgaisti::Error>(())
+    pub fn open_keeping(sessions: usize, bound: u64) -> Result<Vec<Session>, Error> {
         // no two offices of a process have one mark
         static MARKS: AtomicU64 = AtomicU64::new(1);
         same_version()?;
@@ -85,7 +101,7 @@ impl Office {
         let handles = Arc::new(Handles(handles.into_boxed_slice()));
         let mark = MARKS.fetch_add(1, Ordering::Relaxed);
         // an UnsafeCell has the layout of what is in it
-        done(unsafe { ffi::pelgaisti_office_open(handles.0[0].get(), sessions, mark) })?;
+        done(unsafe { ffi::pelgaisti_raw_office_open(handles.0[0].get(), sessions, mark, bound) })?;
         let session = |index| Session {
             handles: handles.clone(),
             index,
@@ -118,14 +134,14 @@ impl Office {
                 sessions.push(last);
                 break;
             }
-            let status = unsafe { ffi::pelgaisti_session_hand_in(last.raw(), sessions[0].raw()) };
+            let status = unsafe { ffi::pelgaisti_raw_session_hand_in(last.raw(), sessions[0].raw()) };
             if let Err(error) = done(status) {
                 sessions.push(last);
                 return Err(NotClosed { error, sessions });
             }
         }
         let book = Book::closed();
-        match done(unsafe { ffi::pelgaisti_office_close(sessions[0].raw(), book.raw()) }) {
+        match done(unsafe { ffi::pelgaisti_raw_office_close(sessions[0].raw(), book.raw()) }) {
             Ok(()) => Ok(book),
             Err(error) => Err(NotClosed { error, sessions }),
         }
@@ -154,7 +170,7 @@ impl Session {
     ///     # Ok::<(), pelgaisti::Error>(())
     pub fn publish(&mut self, call: &Call) -> Result<Posted, Error> {
         let mut posted = 0;
-        done(unsafe { ffi::pelgaisti_session_publish(self.raw(), &call.raw(), &mut posted) })?;
+        done(unsafe { ffi::pelgaisti_raw_session_publish(self.raw(), &call.raw(), &mut posted) })?;
         Ok(if posted == 1 { Posted::Listed } else { Posted::Unlisted })
     }
 
@@ -168,7 +184,7 @@ impl Session {
     ///     # Ok::<(), pelgaisti::Error>(())
     pub fn serve(&mut self) -> Result<Pass, Error> {
         let mut pass = RawPass::default();
-        done(unsafe { ffi::pelgaisti_session_serve(self.raw(), &mut pass) })?;
+        done(unsafe { ffi::pelgaisti_raw_session_serve(self.raw(), &mut pass) })?;
         Ok(Pass {
             served: pass.served,
             starved: pass.starved != 0,
@@ -183,11 +199,98 @@ impl Session {
     ///     # Ok::<(), pelgaisti::Error>(())
     pub fn collect(&mut self) -> Result<Answer, Error> {
         let mut answer = RawAnswer::default();
-        done(unsafe { ffi::pelgaisti_session_collect(self.raw(), &mut answer) })?;
+        done(unsafe { ffi::pelgaisti_raw_session_collect(self.raw(), &mut answer) })?;
         Ok(Answer {
             place: answer.place,
             reply: Reply::of(&answer.reply),
         })
+    }
+
+    /// Publishes a call, then serves and collects in turn until its answer is there, at most `turns` times. The answer may be
+    /// [`Reply::Waiting`]: this waits for an answer, not for a lock. Between its first looks the processor pauses, and between
+    /// later ones the thread yields. [`Error::NotServed`]: after so many turns there is no answer. [`Error::NoMemory`]: memory
+    /// was refused in a pass of this session. After both the call is pending, and [`Session::resume`] goes on with it.
+    ///
+    ///     # use pelgaisti::{Call, Office, Reply};
+    ///     let mut sessions = Office::open(2)?;
+    ///     assert_eq!(sessions[1].perform(&Call::Begin, u64::MAX)?.reply, Reply::Began(1));
+    ///     # Ok::<(), pelgaisti::Error>(())
+    pub fn perform(&mut self, call: &Call, turns: u64) -> Result<Answer, Error> {
+        self.publish(call)?;
+        self.resume(turns)
+    }
+
+    /// Goes on with a pending call as [`Session::perform`] does.
+    ///
+    ///     # use pelgaisti::{Call, Error, Office, Reply};
+    ///     let mut sessions = Office::open(2)?;
+    ///     assert_eq!(sessions[1].perform(&Call::Begin, 0), Err(Error::NotServed));
+    ///     assert_eq!(sessions[1].resume(1)?.reply, Reply::Began(1));
+    ///     # Ok::<(), pelgaisti::Error>(())
+    pub fn resume(&mut self, turns: u64) -> Result<Answer, Error> {
+        for turn in 0..turns {
+            match turn {
+                0 => (),
+                1..=8 => (0..256).for_each(|_| hint::spin_loop()),
+                _ => thread::yield_now(),
+            }
+            let pass = self.serve();
+            match self.collect() {
+                Err(Error::NotServed) => (),
+                found => return found,
+            }
+            if let Ok(Pass { starved: true, .. }) = pass {
+                return Err(Error::NoMemory);
+            }
+        }
+        Err(Error::NotServed)
+    }
+
+    /// Like [`Book::lock_path`], for a session of an office: performs the calls one after another, each in at most `turns` turns,
+    /// and returns the last answer, `None` if all levels were locked. After [`Error::NotServed`] and [`Error::NoMemory`] a call is
+    /// pending, and the same call goes on with it.
+    ///
+    ///     # use pelgaisti::{Call, Mode, Office, Reply, Resource};
+    ///     let mut sessions = Office::open(2)?;
+    ///     sessions[0].perform(&Call::Begin, u64::MAX)?;
+    ///     let mut level = 0;
+    ///     let page = Resource::new(&[7, 2, 40]).unwrap();
+    ///     let answer = sessions[0].lock_path(page, Mode::S, &mut level, u64::MAX)?.unwrap();
+    ///     assert_eq!((answer.reply, answer.place, level), (Reply::Granted(Mode::S), 3, 3));
+    ///     # Ok::<(), pelgaisti::Error>(())
+    pub fn lock_path(&mut self, resource: Resource, mode: Mode, level: &mut usize, turns: u64) -> Result<Option<Answer>, Error> {
+        let mut last = None;
+        while let Some(call) = resource.path_call(mode, *level) {
+            let answer = match self.perform(&call, turns) {
+                Err(Error::Pending) => self.resume(turns)?,
+                other => other?,
+            };
+            last = Some(answer);
+            if !matches!(answer.reply, Reply::Granted(_)) {
+                break;
+            }
+            *level += 1;
+        }
+        Ok(last)
+    }
+
+    /// Takes up to `room` of the oldest entries of the history that are kept, which leave the lock table's memory. Returns the place
+    /// of the first one and the entries: fewer than `room` only if no more are kept. What the sessions of an office take follows one
+    /// another without a gap, unless the office has a bound. [`Error::Elsewhere`]: another session has the lock table.
+    ///
+    ///     # use pelgaisti::{Call, Office};
+    ///     let mut sessions = Office::open(1)?;
+    ///     sessions[0].perform(&Call::Begin, u64::MAX)?;
+    ///     let (first, entries) = sessions[0].take_history(64)?;
+    ///     assert_eq!((first, entries.len(), entries[0].call), (0, 1, Call::Begin));
+    ///     assert_eq!(sessions[0].take_history(64)?.0, 1);
+    ///     # Ok::<(), pelgaisti::Error>(())
+    pub fn take_history(&mut self, room: usize) -> Result<(u64, Vec<Entry>), Error> {
+        let mut entries = vec![RawEntry::default(); room];
+        let (mut first, mut count) = (0, 0);
+        let at = entries.as_mut_ptr();
+        done(unsafe { ffi::pelgaisti_raw_session_take_history(self.raw(), &mut first, at, room, &mut count) })?;
+        Ok((first, entries[..count].iter().map(Entry::of).collect()))
     }
 
     /// How many entries of the history the session knows: the first ones.
@@ -196,7 +299,7 @@ impl Session {
     ///     # Ok::<(), pelgaisti::Error>(())
     pub fn seen(&mut self) -> u64 {
         let mut seen = 0;
-        done(unsafe { ffi::pelgaisti_session_seen(self.raw(), &mut seen) }).expect("an open session tells what it knows");
+        done(unsafe { ffi::pelgaisti_raw_session_seen(self.raw(), &mut seen) }).expect("an open session tells what it knows");
         seen
     }
 
@@ -208,7 +311,7 @@ impl Session {
     ///     one[0].hear(&mut rest[0])?;
     ///     # Ok::<(), pelgaisti::Error>(())
     pub fn hear(&mut self, other: &mut Session) -> Result<(), Error> {
-        done(unsafe { ffi::pelgaisti_session_hear(self.raw(), other.raw()) })
+        done(unsafe { ffi::pelgaisti_raw_session_hear(self.raw(), other.raw()) })
     }
 
     /// Retires the session: it publishes no more calls. Its transaction and its locks stay as they are.
@@ -219,6 +322,6 @@ impl Session {
     ///     assert_eq!(sessions[0].publish(&Call::Begin), Err(Error::Retired));
     ///     # Ok::<(), pelgaisti::Error>(())
     pub fn retire(&mut self) -> Result<(), Error> {
-        done(unsafe { ffi::pelgaisti_session_retire(self.raw()) })
+        done(unsafe { ffi::pelgaisti_raw_session_retire(self.raw()) })
     }
 }

@@ -83,7 +83,7 @@ fn books_write_the_stored_histories() {
         for (session, call) in calls(&trace) {
             book.serve(session, &call).unwrap();
         }
-        assert_eq!(text(&book.history(0, usize::MAX)), history);
+        assert_eq!(text(&book.history(0, usize::MAX).unwrap()), history);
     }
 }
 
@@ -98,7 +98,7 @@ fn offices_write_the_stored_histories() {
             session.collect().unwrap();
         }
         let book = Office::close(sessions).ok().unwrap();
-        assert_eq!(text(&book.history(0, usize::MAX)), history);
+        assert_eq!(text(&book.history(0, usize::MAX).unwrap()), history);
     }
 }
 
@@ -115,14 +115,7 @@ fn threads_share_an_office() {
                 let mut calls = 0;
                 let mut ask = |call: &Call| {
                     calls += 1;
-                    session.publish(call).unwrap();
-                    loop {
-                        let _pass = session.serve();
-                        if let Ok(answer) = session.collect() {
-                            return answer.reply;
-                        }
-                        thread::yield_now();
-                    }
+                    session.perform(call, u64::MAX).unwrap().reply
                 };
                 for _ in 0..ROUNDS {
                     assert!(matches!(ask(&Call::Begin), Reply::Began(_)));

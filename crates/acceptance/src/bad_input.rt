@@ -200,5 +200,6 @@ fn want_cut_traces(
 #[test]
 fn a_trace_that_is_cut_off_names_its_last_row(rt: HostRuntime) -> Result<(), Fail> {
     want_cut_traces(&rt, &rt, ["replay"].as_slice())?;
+    want_cut_traces(&rt, &rt, ["replay", "--stream"].as_slice())?;
     want_cut_traces(&rt, &rt, ["run"].as_slice())
 }

@@ -2,6 +2,7 @@
 
 use crate::harness::{run_words, want_bytes, want_output, want_status};
 use std::process::Abort;
+use std::str;
 use std::sync::Wait;
 use std::test::Fail;
 use std::thread::Threads;
@@ -38,10 +39,21 @@ fn usage_errors_end_with_status_2(rt: HostRuntime) -> Result<(), Fail> {
         ["replay", "--sessions", "-1"].as_slice(),
         ["replay", "--sessions", "two"].as_slice(),
         ["replay", "--session", "2"].as_slice(),
+        ["replay", "--stream=true"].as_slice(),
+        ["replay", "--stream", "--stream"].as_slice(),
+        ["--stream", "replay"].as_slice(),
+        ["run", "--stream"].as_slice(),
+        ["check", "--stream"].as_slice(),
     ] {
         want_misused(&rt, &rt, words)?;
     }
     Ok(())
+}
+
+/// Expects the message to say that the flag is unknown.
+fn want_unknown(abort: &impl Abort, words: &[&str], text: &str) {
+    let line = "error: unexpected argument '--stream' found\n";
+    assert!(abort; text.starts_with(line), "{words:?} {text}");
 }
 
 /// No words at all are a usage error.
@@ -68,6 +80,20 @@ fn want_written(
 fn help_is_written_to_the_output(rt: HostRuntime) -> Result<(), Fail> {
     for words in [["--help"].as_slice(), ["replay", "--help"].as_slice()] {
         want_written(&rt, &rt, words)?;
+    }
+    Ok(())
+}
+
+/// `--stream` where a command doesn't have it is reported like a flag that no command has.
+#[test]
+fn a_flag_of_another_command_is_unknown(rt: HostRuntime) -> Result<(), Fail> {
+    for words in [
+        ["run", "--stream"].as_slice(),
+        ["check", "--stream"].as_slice(),
+    ] {
+        let ran = run_words(&rt, words, b"".as_slice())?;
+        let text = str::from_utf8(&ran.errors).map_err(|_| "no text")?;
+        want_unknown(&rt, words, text);
     }
     Ok(())
 }

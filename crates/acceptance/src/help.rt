@@ -101,3 +101,16 @@ fn help_names_every_mode(rt: HostRuntime) -> Result<(), Fail> {
     }
     Ok(())
 }
+
+/// The help of `replay` names the flag `--stream`, and that of the other commands doesn't.
+#[test]
+fn help_names_the_flag_of_a_command(rt: HostRuntime) -> Result<(), Fail> {
+    for (command, has_flag) in [("replay", true), ("run", false), ("check", false)] {
+        for option in ["--help", "-h"] {
+            let ran = run_words(&rt, &[command, option], b"".as_slice())?;
+            let text = str::from_utf8(&ran.output).map_err(|_| "no text")?;
+            assert_eq!(rt; text.contains("--stream"), has_flag, "{command} {option}");
+        }
+    }
+    Ok(())
+}

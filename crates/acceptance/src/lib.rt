@@ -28,6 +28,8 @@ mod mode_pairs;
 #[cfg(test)]
 mod other_sessions;
 #[cfg(test)]
+mod pieces;
+#[cfg(test)]
 mod reader_faults;
 #[cfg(test)]
 mod replays;

@@ -12,9 +12,9 @@ use std::thread::Threads;
 #[derive(Drop)]
 pub(crate) struct TraceBuilder {
     /// The text of the trace.
-    trace: Vec<u8>,
+    pub trace: Vec<u8>,
     /// The text of the expected history.
-    history: Vec<u8>,
+    pub history: Vec<u8>,
     /// The number of rows so far.
     rows: u32,
 }

@@ -168,7 +168,7 @@ fn has_written_all(
 }
 
 /// Runs the program with outputs that fail at each of their calls, until one takes the whole text.
-fn want_parts(
+pub(crate) fn want_parts(
     rt: &(impl AllocGlobal + Threads + Wait),
     abort: &impl Abort,
     words: &[&str],
@@ -192,6 +192,11 @@ fn a_failed_writer_leaves_the_beginning_of_the_text(rt: HostRuntime) {
     let history = TREE_HISTORY.as_bytes();
     for (words, input, whole) in [
         (["glm", "replay"].as_slice(), TREE.as_bytes(), history),
+        (
+            ["glm", "replay", "--stream"].as_slice(),
+            TREE.as_bytes(),
+            history,
+        ),
         (["glm", "run"].as_slice(), TREE.as_bytes(), history),
         (
             ["glm", "check"].as_slice(),

@@ -2,7 +2,7 @@
 
 use lock_modes::Mode;
 use lock_rules::{Call, Entry, Reply, Why};
-use lock_trace::{NoMemory, TraceFault, TraceKind, TraceRow, history_text, read_trace};
+use lock_trace::{NoMemory, TraceFault, TraceKind, TraceRow, history_text, piece_text, read_trace};
 use lock_tree::{PathFault, Resource};
 use std::alloc::Global;
 use std::io;
@@ -430,6 +430,25 @@ fn writes_histories(rt: HostRuntime) -> Result<(), Fail> {
     let text = history_text(rt.alloc(), &history()?)?;
     assert_eq!(rt; text.as_slice(), HISTORY_TEXT);
     let none = history_text(rt.alloc(), &[])?;
+    assert!(rt; none.is_empty());
+    Ok(())
+}
+
+/// The entries of a piece stand at the places from its first one on, up to the greatest place.
+#[test]
+fn writes_pieces(rt: HostRuntime) -> Result<(), Fail> {
+    let entries = [
+        entry(1, Call::Poll, Reply::Clear),
+        entry(2, Call::Abort, Reply::Aborted(0)),
+    ];
+    let piece = piece_text(rt.alloc(), 99, &entries)?;
+    let want = b"99,1,poll,,,clear,\n100,2,abort,,,aborted,0\n".as_slice();
+    assert_eq!(rt; piece.as_slice(), want);
+    let last = piece_text(rt.alloc(), u64::MAX - 1, &entries)?;
+    let want =
+        b"18446744073709551614,1,poll,,,clear,\n18446744073709551615,2,abort,,,aborted,0\n".as_slice();
+    assert_eq!(rt; last.as_slice(), want);
+    let none = piece_text(rt.alloc(), 7, &[])?;
     assert!(rt; none.is_empty());
     Ok(())
 }

@@ -9,3 +9,4 @@ pub mod CleanUpWalk
 pub mod NotedAges
 pub mod AnswerCount
 pub mod PendingSessions
+pub mod TakenPieces

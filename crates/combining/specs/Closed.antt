@@ -6,7 +6,7 @@ use Rattle.lock_rules.specs.Laws.{AreRepliesOfSteps, IsEntryOf, ArePlacesRising,
 use Rattle.lock_rules.specs.Lawful.{IsLawfulState}
 use Rattle.lock_desk.specs.BookView.{BookView, IsEntryWithin}
 use Rattle.publication.specs.Views.{BoardView, TicketView}
-use Rattle.publication.specs.Boards.{IsEachOnce, AccountsFor}
+use Rattle.publication.specs.Boards.{IsEachOnce, AccountsFor, TookPieces}
 use Rattle.combining.specs.Sessions.{HasNothingPending}
 
 -- How many answers these sessions collected, all together.
@@ -27,6 +27,9 @@ pub record IsClosed (office : BoardView) (sessions : List TicketView) (book : Bo
   -- each entry is of a session of the office, and there are as many entries as the sessions collected answers
   pub within : All (IsEntryWithin office.sessions) book.history
   pub count : length book.history ≡ answers_of sessions
+  -- the pieces of the history that the sessions took follow one another, without a gap if the book has no bound, up to the
+  -- place before which the book has let go of entries
+  pub pieces : TookPieces book sessions
 
 -- One sequential history of these sessions, in which each session finds its calls.
 pub record IsOneHistory (sessions : List TicketView) (history : List Entry) : Type 0 where

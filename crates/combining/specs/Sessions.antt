@@ -7,6 +7,8 @@ use Rattle.lock_rules.specs.declared.calls.Call.{Call}
 use Rattle.lock_rules.specs.declared.calls.Reply.{Reply}
 use Rattle.lock_rules.specs.declared.calls.Entry.{Entry}
 use Rattle.lock_rules.specs.Legal.{IsLegal, calls_of}
+use Rattle.publication.specs.declared.piece.Piece.{Piece}
+use Rattle.publication.specs.Pieces.{entries_in}
 use Rattle.publication.specs.Views.{BoardView, TicketView, entry, answer, asks}
 use Rattle.publication.specs.Boards.{IsOf, OpensNone, IsUnlisted, enlisted, tried}
 
@@ -50,6 +52,23 @@ pub record IsPassed (before after : TicketView) (served : ℕ) : Type 0 where
   pub front : after.front ≡ before.front ++ others ++ own
   pub count : length own ≡ served
   pub legal : IsLegal after.front
+
+-- A piece of the history, as it is noted.
+abbrev pub piece : ℕ → ℕ → ℕ → Piece
+piece session first count = record { session = session; first = first; count = count }
+
+-- The session took these entries of the history, which begin at the place `first`. It knows the history up to where it
+-- took them, and the piece is noted as one of its own.
+pub record HasTakenPiece (before after : TicketView) (first : ℕ) (entries : List Entry) : Type 0 where
+  pub session : after ≡ record before {
+    front = after.front;
+    pieces = before.pieces ++ piece before.number first (length entries) ∷ [];
+  }
+  pub longer : IsPrefix before.front after.front
+  pub legal : IsLegal after.front
+  -- they are entries of that history
+  pub entries_are : entries ≡ entries_in after.front (piece before.number first (length entries))
+  pub within : first + length entries ≤ length after.front
 
 -- The session collects the answer to its pending call, which is the history's entry at this place.
 pub record IsCollected (before after : TicketView) (place : ℕ) (reply : Reply) : Type 0 where

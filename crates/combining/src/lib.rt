@@ -10,5 +10,5 @@ pub mod laws;
 mod office;
 mod pass;
 
-pub use office::{Answer, Office, OpenFault, Turn};
+pub use office::{Answer, HistoryPiece, Office, OpenFault, Turn};
 pub use publication::{CloseFault, Knowledge, Posted, Ticket as Session};

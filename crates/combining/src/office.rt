@@ -1,18 +1,18 @@
 //! The office and the calls of its sessions.
 
-ghost use Rattle.std.specs.Prelude.{◌≡◌, ◌≢◌, ◌⊎◌, ◌<◌, ◌≤◌, ◌↔◌, true, false, IsTrue, Some, None, Err, IfOk, IfErr, IfSome, IfNone, length, max, slice_index};
+ghost use Rattle.std.specs.Prelude.{◌≡◌, ◌≢◌, ◌⊎◌, ◌+◌, ◌<◌, ◌≤◌, ◌↔◌, [], true, false, IsTrue, Some, None, Ok, Err, IfOk, IfErr, IfSome, IfNone, length, max, slice_index, vec_len};
 ghost use Rattle.std.specs.List.{All};
 ghost use mathlib.Core.List.{IsPrefix};
 ghost use Rattle.lock_rules.specs.Legal.{IsLegal, calls_of};
 ghost use Rattle.publication.specs.Kinds.{longer, maxes};
 ghost use Rattle.publication.specs.Boards.{HasCallsOf, heard_from, known_by, published_by, publishing, enlisted, tried, IsUnlisted, new_tickets, IsEachOnce};
-ghost use Rattle.combining.specs.Sessions.{IsSessionOf, IsIdle, HasNothingPending, IsPendingServed, HasTriedToList, IsPassed, IsCollected};
+ghost use Rattle.combining.specs.Sessions.{IsSessionOf, IsIdle, HasNothingPending, IsPendingServed, HasTriedToList, IsPassed, IsCollected, HasTakenPiece};
 ghost use Rattle.combining.specs.Closed.{IsClosed};
 
 use crate::pass::serve_published;
-use lock_desk::{Book, Call, NO_BOUND, Reply};
+use lock_desk::{Book, Call, Entry, MOST_DROPPED, NO_BOUND, NoMemory, Reply};
 use lock_rules::MAX_SESSIONS;
-use publication::{Board, CloseFault, Knowledge, Posted, Ticket as Session};
+use publication::{Board, CloseFault, Knowledge, Piece, Posted, Ticket as Session};
 use std::alloc::Global;
 use std::marker::Model;
 use thiserror::Error;
@@ -55,6 +55,15 @@ pub struct Answer {
     pub place: u64,
     /// The reply to the call.
     pub reply: Reply,
+}
+
+/// A piece of the history that a session took.
+#[derive(Drop)]
+pub struct HistoryPiece {
+    /// The place of its first entry in the history, from 0 on.
+    pub first: u64,
+    /// The calls with their replies from that place on, in order.
+    pub entries: Vec<Entry>,
 }
 
 /// A lock table that threads share by reference, each with sessions of its own.
@@ -189,6 +198,78 @@ impl Office {
     {
         let (place, reply) = self.board.take(session)?;
         Some(Answer { place, reply })
+    }
+
+    /// Takes the entries of the history that the lock table keeps: those that no session has taken before, and no bound
+    /// has let go. They leave the lock table's memory, and the history that contracts see stays what it is. `None`, with
+    /// nothing changed, means that another session had the lock table, as `Turn::Elsewhere` of `serve` does. The session
+    /// need not be idle, and serves no calls.
+    ///
+    /// Each piece says at which place it begins. The pieces that sessions take follow one another in the history, without a
+    /// gap if the office has no bound (clause `ok` of `close`; `publication::piece_laws`). Put in order, they and what the
+    /// closed office's lock table still has are the history. An office that has served more than `MOST_DROPPED` calls hands
+    /// out no entries. It takes no memory.
+    pub fn take_history(&self, alloc: Global, session: &mut Session) -> Option<HistoryPiece>
+        requires ours { IsSessionOf self.now session.old }
+        ensures ours { IsSessionOf self.now session.new }
+        ensures some { IfSome result (λ piece. HasTakenPiece session.old session.new piece.first piece.entries.items) }
+        ensures all { IfSome result (λ piece. length session.new.front ≤ MOST_DROPPED → piece.first + vec_len piece.entries ≡ length session.new.front) }
+        ensures many { IfSome result (λ piece. MOST_DROPPED < length session.new.front → piece.entries.items ≡ []) }
+        ensures none { IfNone result ((session.new ≡ session.old) × (1 < self.now.sessions)) }
+        ensures calls { HasCallsOf session.new.front session.new }
+    {
+        let mut load = self.board.seize(session)?;
+        let first = load.book.first_kept();
+        let entries = load.book.take_history(alloc);
+        let piece = Piece {
+            session: session.number(),
+            first,
+            count: entries.len() as u64,
+        };
+        load.pieces.push(&piece);
+        self.board.release(session, load);
+        Some(HistoryPiece { first, entries })
+    }
+
+    /// Takes the oldest entries of the history that the lock table keeps, at most `most`, else as `take_history` does: fewer
+    /// only if no more are kept.
+    ///
+    /// Memory for `most` entries is taken first, before the lock table is tried for. Fails with `NoMemory` if it is refused,
+    /// with nothing changed.
+    pub fn take_oldest(
+        &self,
+        alloc: Global,
+        session: &mut Session,
+        most: usize,
+    ) -> Result<Option<HistoryPiece>, NoMemory>
+        requires ours { IsSessionOf self.now session.old }
+        ensures ours { IsSessionOf self.now session.new }
+        ensures some { (piece : _) → result ≡ Ok (Some piece) → HasTakenPiece session.old session.new piece.first piece.entries.items }
+        ensures few { (piece : _) → result ≡ Ok (Some piece) → vec_len piece.entries ≤ most }
+        ensures all { (piece : _) → result ≡ Ok (Some piece) → vec_len piece.entries < most → piece.first + vec_len piece.entries ≡ length session.new.front }
+        ensures none { result ≡ Ok None → (session.new ≡ session.old) × (1 < self.now.sessions) }
+        ensures err { IfErr result (λ _. session.new ≡ session.old) }
+        ensures calls { IfOk result (λ _. HasCallsOf session.new.front session.new) }
+    {
+        let mut entries = Vec::with_capacity(alloc, most)?;
+        let Some(mut load) = self.board.seize(session) else {
+            return Ok(None);
+        };
+        let first = load.book.first_kept();
+        let kept = load.book.history();
+        let count = usize::min(most, kept.len());
+        let Ok(()) = entries.extend_from_slice(&kept[..count]) else {
+            unreachable!()
+        };
+        load.book.let_go(count as u64);
+        let piece = Piece {
+            session: session.number(),
+            first,
+            count: count as u64,
+        };
+        load.pieces.push(&piece);
+        self.board.release(session, load);
+        Ok(Some(HistoryPiece { first, entries }))
     }
 
     /// What `session` knows, as a value that may move to another thread: the front of the history that it knows, and

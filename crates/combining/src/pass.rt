@@ -7,7 +7,7 @@ ghost use Rattle.lock_rules.specs.Legal.{IsLegal, calls_of};
 ghost use Rattle.lock_desk.specs.Batches.{IsItemWithin};
 ghost use Rattle.publication.specs.Boards.{IsOf, IsNumber, OpensNone, heard_from, published_by};
 ghost use Rattle.publication.specs.Rule.{IsHome};
-ghost use Rattle.combining.specs.inner.Passes.{AreOpened, HasCalls, KeepsCalls, IsVisited, HasVisitedOpened, IsSameSession, IsAfterRow, IsBookInHand};
+ghost use Rattle.combining.specs.inner.Passes.{AreOpened, HasCalls, KeepsCalls, IsVisited, HasVisitedOpened, IsSameSession, IsAfterRow, IsBookInHand, HasTakenNothing};
 ghost use Rattle.combining.specs.inner.Ages.{sessions_of, sessions_since, noted};
 
 use crate::clean_up::{clean_up, note_served};
@@ -142,6 +142,7 @@ fn serve_row(board: &Board, session: &mut Ticket, book: &mut Book, row: &mut Vec
     ensures session { IsSameSession session.old session.new }
     ensures book { IsBookInHand board.now.sessions book.new session.new [] }
     ensures row { AreOpened board.now.sessions session.new.opened (drop result row.new.items) }
+    ensures kept { (book.new.cut ≡ book.old.cut) × (book.new.bound ≡ book.old.bound) }
     ensures within { All (IsItemWithin board.now.sessions) row.new.items }
     ensures room { (vec_len row.new ≡ vec_len row.old) × (vec_capacity row.new ≡ vec_capacity row.old) }
     ensures longer { IsPrefix session.old.front session.new.front }
@@ -187,6 +188,7 @@ fn serve_opened(board: &Board, session: &mut Ticket, load: &mut Load) -> Pass
     ensures calls { result.starved ≡ false → KeepsCalls session.old session.new }
     ensures room { vec_capacity load.new.row ≡ vec_capacity load.old.row }
     ensures passes { load.new.passes ≡ load.old.passes }
+    ensures taken { HasTakenNothing load.old load.new }
     ensures ages { load.new.ages.items ≡ noted load.old.ages.items (sessions_since (length session.old.front) session.new.front) load.old.passes }
     ensures len { vec_len load.new.ages ≡ vec_len load.old.ages }
 {
@@ -213,6 +215,7 @@ pub(crate) fn serve_published(board: &Board, session: &mut Ticket, load: &mut Lo
     ensures heard { result.starved ≡ false → (j : _) → 0 < j → j ≤ board.now.sessions → heard_from session.old j ≤ length (calls_of j session.new.front) }
     ensures own { result.starved ≡ false → session.old.pending ≢ None → published_by session.old ≤ length (calls_of session.old.number session.new.front) }
     ensures passes { load.new.passes ≡ min (load.old.passes + 1) (2 ^ 64 - 1) }
+    ensures taken { load.new.pieces.items ≡ load.old.pieces.items }
     ensures ages { load.new.ages.items ≡ noted load.old.ages.items (sessions_since (length session.old.front) session.new.front) load.new.passes }
 {
     load.passes = load.passes.saturating_add(1);

@@ -59,13 +59,18 @@ fn keep_the_newest(
     Ok(())
 }
 
+/// Serves 20 rounds in a fresh book under a bound, and wants the newest entries.
+fn keep_in_a_fresh_book(rt: &impl Abort, alloc: Global, bound: usize) -> Result<(), Fail> {
+    let mut book = new_book(rt, alloc, 2)?;
+    let mut twin = new_book(rt, alloc, 2)?;
+    keep_the_newest(rt, &mut book, &mut twin, bound)
+}
+
 /// With a bound the newest entries are kept, and replies are as without.
 #[test]
 fn a_bound_keeps_the_newest(rt: HostRuntime) -> Result<(), Fail> {
     for bound in [0usize, 1, 3, 8, 4096] {
-        let mut book = new_book(&rt, rt.alloc(), 2)?;
-        let mut twin = new_book(&rt, rt.alloc(), 2)?;
-        keep_the_newest(&rt, &mut book, &mut twin, bound)?;
+        keep_in_a_fresh_book(&rt, rt.alloc(), bound)?;
     }
     Ok(())
 }

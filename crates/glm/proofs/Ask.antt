@@ -1,5 +1,5 @@
 -- The request of a parsed command, from its options up to the words: at most one, and when there is none.
-use Rattle.std.proofs.Common.{rules, arith, ap, ap₂, subst, sym, ◌≡◌, ◌≢◌, ◌∙◌, ◌<◌, ◌^◌, ℕ, List, [], Option, Some, None, codes}
+use Rattle.std.proofs.Common.{rules, arith, ap, ap₂, refl, subst, sym, ◌≡◌, ◌≢◌, ◌∙◌, ◌<◌, ◌^◌, ℕ, List, [], Option, Some, None, codes}
 use Rattle.std.specs.Prelude.{Ok, Err, IfSome, IfNone, decimal}
 use Rattle.std.proofs.lemmas.Fmt.{decimal_injective}
 use Rattle.clap.specs.Simple.{subcommand_of}
@@ -9,28 +9,30 @@ use Rattle.lock_tree.specs.declared.numeral.NumeralFault.{NumeralFault}
 use Rattle.glm.proofs.Gives.{numeral_not_given}
 use Rattle.lock_rules.specs.declared.calls.TheConstants.{MAX_SESSIONS}
 use Rattle.glm.specs.declared.args.TheConstants.{MAX_TURNS}
+use Rattle.glm.specs.declared.args.Delivery.{Delivery}
+use Rattle.glm.specs.declared.args.Delivery.TheVariants as delivery
 use Rattle.glm.specs.declared.args.Request.{Request}
 use Rattle.glm.specs.declared.args.Request.TheVariants as request
-use Rattle.glm.specs.CommandLine.{Ask, Gives, IsRequest, IsRequestIn, faults_of, glm_command}
+use Rattle.glm.specs.CommandLine.{Ask, Gives, IsRequest, IsRequestIn, Wants, faults_of, glm_command}
 
 -- no request is in the options if they give no number of sessions
 pub no_sessions : (name : Text) (rows : List Row) → ((n : ℕ) → ¬ Gives (codes "sessions") MAX_SESSIONS rows n)
     → (asked : Request) → ¬ IsRequest (Some (name, rows)) asked
-no_sessions name rows none (request.Replay n) is = none n is.1
+no_sessions name rows none (request.Replay n d) is = none n is.1
 no_sessions name rows none (request.Run n t) is = none n is.1
 no_sessions name rows none (request.Check n) is = none n is.1
 
 -- no request is in the options of `run` if they give no number of turns
 pub no_turns : (name : Text) (rows : List Row) → name ≡ codes "run" → ((n : ℕ) → ¬ Gives (codes "turns") MAX_TURNS rows n)
     → (asked : Request) → ¬ IsRequest (Some (name, rows)) asked
-no_turns name rows run none (request.Replay n) is = let bad : codes "run" ≡ codes "replay" = sym run ∙ is.0 in cc
+no_turns name rows run none (request.Replay n d) is = let bad : codes "run" ≡ codes "replay" = sym run ∙ is.0 in cc
 no_turns name rows run none (request.Run n t) is = none t is.2
 no_turns name rows run none (request.Check n) is = let bad : codes "run" ≡ codes "check" = sym run ∙ is.0 in cc
 
 -- no request has a name other than `replay`, `run` and `check`
 pub no_name : (name : Text) (rows : List Row) → name ≢ codes "replay" → name ≢ codes "run" → name ≢ codes "check"
     → (asked : Request) → ¬ IsRequest (Some (name, rows)) asked
-no_name name rows replay run check (request.Replay n) is = replay is.0
+no_name name rows replay run check (request.Replay n d) is = replay is.0
 no_name name rows replay run check (request.Run n t) is = run is.0
 no_name name rows replay run check (request.Check n) is = check is.0
 
@@ -62,16 +64,24 @@ sessions-one rows m n = gives-one _ _ rows m n (omega arith)
 turns-one : (rows : List Row) (m n : ℕ) → Gives (codes "turns") MAX_TURNS rows m → Gives (codes "turns") MAX_TURNS rows n → m ≡ n
 turns-one rows m n = gives-one _ _ rows m n (omega arith)
 
+-- options want the history delivered in one way
+delivery-one : (rows : List Row) (d e : Delivery) → Wants rows d → Wants rows e → d ≡ e
+delivery-one rows delivery.Whole delivery.Whole a b = refl
+delivery-one rows delivery.Whole delivery.InPieces a b = absurd (a b)
+delivery-one rows delivery.InPieces delivery.Whole a b = absurd (b a)
+delivery-one rows delivery.InPieces delivery.InPieces a b = refl
+
 -- a name with its options is at most one request
 one-in : (name : Text) (rows : List Row) (r q : Request) → IsRequestIn name rows r → IsRequestIn name rows q → r ≡ q
-one-in name rows (request.Replay m) (request.Replay n) a b = ap (λ k. request.Replay k) (sessions-one rows m n a.1 b.1)
-one-in name rows (request.Replay m) (request.Run n t) a b = let bad : codes "replay" ≡ codes "run" = sym a.0 ∙ b.0 in cc
-one-in name rows (request.Replay m) (request.Check n) a b = let bad : codes "replay" ≡ codes "check" = sym a.0 ∙ b.0 in cc
-one-in name rows (request.Run m u) (request.Replay n) a b = let bad : codes "run" ≡ codes "replay" = sym a.0 ∙ b.0 in cc
+one-in name rows (request.Replay m d) (request.Replay n e) a b =
+    ap₂ (λ k l. request.Replay k l) (sessions-one rows m n a.1 b.1) (delivery-one rows d e a.2 b.2)
+one-in name rows (request.Replay m d) (request.Run n t) a b = let bad : codes "replay" ≡ codes "run" = sym a.0 ∙ b.0 in cc
+one-in name rows (request.Replay m d) (request.Check n) a b = let bad : codes "replay" ≡ codes "check" = sym a.0 ∙ b.0 in cc
+one-in name rows (request.Run m u) (request.Replay n e) a b = let bad : codes "run" ≡ codes "replay" = sym a.0 ∙ b.0 in cc
 one-in name rows (request.Run m u) (request.Run n t) a b =
     ap₂ (λ k l. request.Run k l) (sessions-one rows m n a.1 b.1) (turns-one rows u t a.2 b.2)
 one-in name rows (request.Run m u) (request.Check n) a b = let bad : codes "run" ≡ codes "check" = sym a.0 ∙ b.0 in cc
-one-in name rows (request.Check m) (request.Replay n) a b = let bad : codes "check" ≡ codes "replay" = sym a.0 ∙ b.0 in cc
+one-in name rows (request.Check m) (request.Replay n e) a b = let bad : codes "check" ≡ codes "replay" = sym a.0 ∙ b.0 in cc
 one-in name rows (request.Check m) (request.Run n t) a b = let bad : codes "check" ≡ codes "run" = sym a.0 ∙ b.0 in cc
 one-in name rows (request.Check m) (request.Check n) a b = ap (λ k. request.Check k) (sessions-one rows m n a.1 b.1)
 
@@ -81,9 +91,14 @@ one_request None r q a b = absurd a
 one_request (Some found) r q a b = one-in found.0 found.1 r q a b
 
 -- a command that was found is a replay of at most one number of sessions
-pub one_replay : (found : Option (Text × List Row)) (m n : ℕ) → IsRequest found (request.Replay m) → IsRequest found (request.Replay n) → m ≡ n
-one_replay None m n a b = absurd a
-one_replay (Some found) m n a b = sessions-one found.1 m n a.1 b.1
+pub one_replay : (found : Option (Text × List Row)) (m n : ℕ) (d : Delivery) → IsRequest found (request.Replay m d) → IsRequest found (request.Replay n d) → m ≡ n
+one_replay None m n d a b = absurd a
+one_replay (Some found) m n d a b = sessions-one found.1 m n a.1 b.1
+
+-- a command that was found wants the history delivered in one way
+pub not_both : (found : Option (Text × List Row)) (m n : ℕ) → IsRequest found (request.Replay m delivery.Whole) → ¬ IsRequest found (request.Replay n delivery.InPieces)
+not_both None m n a b = a
+not_both (Some found) m n a b = a.2 b.2
 
 -- a request in the name and options is a request in the parsed command
 pub requests_moved : (found : Option (Text × List Row)) (name : Text) (rows : List Row) (r : Option Request) → found ≡ Some (name, rows)

@@ -7,3 +7,7 @@ pub mod IsPerformed
 pub mod IsRunOf
 pub mod IsVerdict
 pub mod PartsWritten
+pub mod ServedRows
+pub mod Silent
+pub mod UnderWay
+pub mod Written

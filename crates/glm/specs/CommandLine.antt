@@ -4,10 +4,13 @@ use Rattle.clap.specs.Walk.{Row, Rule, Text, first_of}
 use Rattle.clap.specs.Simple.{App, new_app, new_rule, on_top, subcommand_of, with_rule, with_subcommand}
 use Rattle.clap.specs.Kinds.{IsAmong, Kinds}
 use Rattle.clap.specs.Faults.{fault_of}
+use Rattle.clap.specs.declared.builder.action.ArgAction.TheVariants.{SetTrue}
 use Rattle.clap.specs.declared.builder.value_parser.ValueParser.TheVariants as parser
 use Rattle.clap.specs.declared.error.kind.ErrorKind.TheVariants.{DisplayHelp, DisplayVersion}
 use Rattle.lock_rules.specs.declared.calls.TheConstants.{MAX_SESSIONS}
 use Rattle.glm.specs.declared.args.TheConstants.{MAX_TURNS}
+use Rattle.glm.specs.declared.args.Delivery.{Delivery}
+use Rattle.glm.specs.declared.args.Delivery.TheVariants as delivery
 use Rattle.glm.specs.declared.args.Request.{Request}
 use Rattle.glm.specs.declared.args.Request.TheVariants as request
 
@@ -29,11 +32,18 @@ turns_option = record (new_rule (codes "turns")) {
   defaults = codes "1000000000" ∷ [];
 }
 
+-- the flag `--stream`
+abbrev pub stream_flag : Rule
+stream_flag = record (new_rule (codes "stream")) {
+  long = Some (codes "stream");
+  action = Some SetTrue;
+}
+
 -- the command `name [--sessions N]`
 abbrev pub command_for_sessions : Text → App
 command_for_sessions name = with_rule (new_app name) sessions_option
 
--- the program `glm`, which has a version and requires one of the commands `replay [--sessions N]`,
+-- the program `glm`, which has a version and requires one of the commands `replay [--sessions N] [--stream]`,
 -- `run [--sessions N] [--turns T]` and `check [--sessions N]`
 abbrev pub glm_command : App
 glm_command =
@@ -41,7 +51,7 @@ glm_command =
     (with_subcommand
     (with_subcommand
     (on_top (λ s. record s { subcommand_required = true; has_version = true }) (new_app (codes "glm")))
-    (command_for_sessions (codes "replay")).top)
+    (with_rule (command_for_sessions (codes "replay")) stream_flag).top)
     (with_rule (command_for_sessions (codes "run")) turns_option).top)
     (command_for_sessions (codes "check")).top
 
@@ -55,9 +65,19 @@ pub record Gives (option : Text) (greatest : ℕ) (rows : List Row) (number : �
   pub some : 0 < number
   pub few : number ≤ greatest
 
+-- the parsed options have this flag
+abbrev pub HasFlag : Text → List Row → Type 0
+HasFlag flag rows = first_of flag rows ≡ Some (codes "true")
+
+-- the parsed options want the history delivered in this way: in pieces exactly if they have the flag `--stream`
+abbrev pub Wants : List Row → Delivery → Type 0
+Wants rows delivery.Whole = ¬ HasFlag (codes "stream") rows
+Wants rows delivery.InPieces = HasFlag (codes "stream") rows
+
 -- the parsed command, by its name and its options, is this request
 abbrev pub IsRequestIn : Text → List Row → Request → Type 0
-IsRequestIn name rows (request.Replay sessions) = (name ≡ codes "replay") × Gives (codes "sessions") MAX_SESSIONS rows sessions
+IsRequestIn name rows (request.Replay sessions asked) =
+    (name ≡ codes "replay") × Gives (codes "sessions") MAX_SESSIONS rows sessions × Wants rows asked
 IsRequestIn name rows (request.Run sessions turns) =
     (name ≡ codes "run") × Gives (codes "sessions") MAX_SESSIONS rows sessions × Gives (codes "turns") MAX_TURNS rows turns
 IsRequestIn name rows (request.Check sessions) = (name ≡ codes "check") × Gives (codes "sessions") MAX_SESSIONS rows sessions
@@ -72,9 +92,13 @@ pub record Ask (words : List Text) (request : Request) : Type 0 where
   pub whole : faults_of words ≡ []
   pub request_is : IsRequest (subcommand_of glm_command words) request
 
--- the words ask to replay a trace with this number of sessions
+-- the words ask to replay a trace with this number of sessions, and to write the history whole
 abbrev pub AskReplay : List Text → ℕ → Type 0
-AskReplay words sessions = Ask words (request.Replay sessions)
+AskReplay words sessions = Ask words (request.Replay sessions delivery.Whole)
+
+-- the words ask to replay a trace with this number of sessions, and to write the history in pieces
+abbrev pub AskReplayInPieces : List Text → ℕ → Type 0
+AskReplayInPieces words sessions = Ask words (request.Replay sessions delivery.InPieces)
 
 -- the words ask to run a trace on threads, with this number of sessions and at most `turns` tries for each answer
 abbrev pub AskRun : List Text → ℕ → ℕ → Type 0

@@ -9,8 +9,8 @@ use Rattle.glm.specs.declared.tool_fault.ToolFault.TheVariants as tool
 use Rattle.glm.specs.declared.outcomes.Outcome.{Outcome}
 use Rattle.glm.specs.declared.outcomes.Outcome.TheVariants as outcome
 use Rattle.glm.specs.declared.outcomes.TheConstants.{DONE, USAGE, ILLEGAL, NO_MEMORY, DEVICE}
-use Rattle.glm.specs.CommandLine.{AskReplay, AskRun, AskCheck, AskHelp, AskVersion, AskNothing}
-use Rattle.glm.specs.Replays.{HasServed, HasServedPart, IsFaultOfOneThread, Replays}
+use Rattle.glm.specs.CommandLine.{AskReplay, AskReplayInPieces, AskRun, AskCheck, AskHelp, AskVersion, AskNothing}
+use Rattle.glm.specs.Replays.{HasServed, HasServedFront, HasServedPart, IsFaultOfOneThread, Replays, ReplaysInPieces}
 use Rattle.glm.specs.Runs.{HasPerformed, HasPerformedPart, Runs}
 use Rattle.glm.specs.Statuses.{status_for}
 use Rattle.glm.specs.Verdicts.{Checks, IsHistory}
@@ -20,6 +20,8 @@ use Rattle.glm.specs.Written.{AppendsPart}
 abbrev pub status_of_outcome : Outcome → ℕ
 status_of_outcome (outcome.Replay (Ok count)) = DONE
 status_of_outcome (outcome.Replay (Err fault)) = status_for fault
+status_of_outcome (outcome.ReplayInPieces (Ok count)) = DONE
+status_of_outcome (outcome.ReplayInPieces (Err fault)) = status_for fault
 status_of_outcome (outcome.Run (Ok count)) = DONE
 status_of_outcome (outcome.Run (Err fault)) = status_for fault
 status_of_outcome (outcome.Check (Ok (verdict.Legal count))) = DONE
@@ -41,6 +43,17 @@ pub record HasAnswered (words : List Text) (input old new : Option (List ℕ)) (
   pub served : IfOk answer (λ count. HasServed sessions count old new)
   pub faults : IfErr answer (λ fault. IsFaultOfOneThread fault)
   pub replays : (bytes : List ℕ) → input ≡ Some bytes → Replays sessions bytes old new answer
+
+-- the words ask for a replay in pieces, and `answer` is its result; the output holds `old` before and `new` after
+pub record HasAnsweredInPieces (words : List Text) (input old new : Option (List ℕ)) (answer : Result ℕ ToolFault) : Type 0 where
+  pub sessions : ℕ
+  pub asked : AskReplayInPieces words sessions
+  pub kept : IfErr answer (λ fault. fault ≢ tool.Device → fault ≢ tool.NoMemory → Keeps old new)
+  pub front : IfErr answer (λ fault. fault ≡ tool.NoMemory → HasServedFront sessions old new)
+  pub part : IfErr answer (λ fault. fault ≡ tool.Device → HasServedPart sessions old new)
+  pub served : IfOk answer (λ count. HasServed sessions count old new)
+  pub faults : IfErr answer (λ fault. IsFaultOfOneThread fault)
+  pub replays : (bytes : List ℕ) → input ≡ Some bytes → ReplaysInPieces sessions bytes old new answer
 
 -- the words ask for a run on threads, and `answer` is its result; the output holds `old` before and `new` after
 pub record HasAnsweredRun (words : List Text) (input old new : Option (List ℕ)) (answer : Result ℕ ToolFault) : Type 0 where
@@ -90,6 +103,7 @@ text_of_version = codes "glm 0.7.0\nproved with rattle-kit-13f, logic dac8208d65
 -- what an outcome says of the words, the input's bytes and the output, which holds `old` before and `new` after
 abbrev pub HasDone : List Text → Option (List ℕ) → Option (List ℕ) → Option (List ℕ) → Outcome → Type 0
 HasDone words input old new (outcome.Replay answer) = HasAnswered words input old new answer
+HasDone words input old new (outcome.ReplayInPieces answer) = HasAnsweredInPieces words input old new answer
 HasDone words input old new (outcome.Run answer) = HasAnsweredRun words input old new answer
 HasDone words input old new (outcome.Check answer) = HasAnsweredCheck words input old new answer
 HasDone words input old new outcome.HelpShown = AskHelp words

@@ -11,6 +11,7 @@ use Rattle.glm.specs.Written.{AppendsPart}
 -- the outcome of a parser error of this kind; the output holds `old` before and `new` after
 abbrev pub IsOutcomeOfError : ErrorKind → Option (List ℕ) → Option (List ℕ) → Outcome → Type 0
 IsOutcomeOfError kind old new (outcome.Replay answer) = ⊥
+IsOutcomeOfError kind old new (outcome.ReplayInPieces answer) = ⊥
 IsOutcomeOfError kind old new (outcome.Run answer) = ⊥
 IsOutcomeOfError kind old new (outcome.Check answer) = ⊥
 IsOutcomeOfError kind old new outcome.HelpShown = kind ≡ error.DisplayHelp

@@ -1,5 +1,5 @@
 -- The result of a replay, and what the replay writes.
-use Rattle.std.specs.Prelude.{◌≡◌, ℕ, List, length, map, All, Option, Result, Ok, Err}
+use Rattle.std.specs.Prelude.{◌≡◌, ℕ, List, length, map, take, All, Option, Result, Ok, Err}
 use Rattle.std.specs.Io.KnownBytes.{Keeps, Appends}
 use Rattle.lock_rules.specs.declared.calls.Entry.{Entry}
 use Rattle.lock_rules.specs.Legal.{IsLegal}
@@ -34,6 +34,10 @@ pub record HasReplayed (rows : List TraceRow) (old new : Option (List ℕ)) : Ty
 abbrev pub HasReplayedPart : List TraceRow → Option (List ℕ) → Option (List ℕ) → Type 0
 HasReplayedPart rows old new = (text : List ℕ) × (IsTextFor rows text × AppendsPart old new text)
 
+-- for some `count`, the output grew by the whole text of the history of the first `count` rows, and by nothing else
+abbrev pub HasReplayedFront : List TraceRow → Option (List ℕ) → Option (List ℕ) → Type 0
+HasReplayedFront rows old new = (count : ℕ) × HasReplayed (take count rows) old new
+
 -- for some `count` rows, valid for `n` sessions, the output grew by the text of their history, and by nothing else
 abbrev pub HasServed : ℕ → ℕ → Option (List ℕ) → Option (List ℕ) → Type 0
 HasServed n count old new = (rows : List TraceRow) × (AreRows n rows × (count ≡ length rows) × HasReplayed rows old new)
@@ -41,6 +45,10 @@ HasServed n count old new = (rows : List TraceRow) × (AreRows n rows × (count 
 -- for some rows, valid for `n` sessions, the output grew by the first bytes of the text of their history, and by nothing else
 abbrev pub HasServedPart : ℕ → Option (List ℕ) → Option (List ℕ) → Type 0
 HasServedPart n old new = (rows : List TraceRow) × (AreRows n rows × HasReplayedPart rows old new)
+
+-- for some rows, valid for `n` sessions, the output grew by the whole text of the history of the first of them, and by nothing else
+abbrev pub HasServedFront : ℕ → Option (List ℕ) → Option (List ℕ) → Type 0
+HasServedFront n old new = (rows : List TraceRow) × (AreRows n rows × HasReplayedFront rows old new)
 
 -- a fault that is possible without threads: `Trace`, `NoMemory` or `Device`
 abbrev pub IsFaultOfOneThread : ToolFault → Type 0
@@ -62,3 +70,13 @@ Replays n bytes old new (Err tool.NoMemory) = IsTrace n bytes × Keeps old new
 Replays n bytes old new (Err tool.Device) = (rows : List TraceRow) × ((trace_of n bytes ≡ Ok rows) × HasReplayedPart rows old new)
 Replays n bytes old new (Err tool.GateShut) = ⊥
 Replays n bytes old new (Err tool.TurnLimit) = ⊥
+
+-- the result of a replay of these bytes that writes the history in pieces: as above, but that the text of the history of the
+-- first rows was written before memory was refused
+abbrev pub ReplaysInPieces : ℕ → List ℕ → Option (List ℕ) → Option (List ℕ) → Result ℕ ToolFault → Type 0
+ReplaysInPieces n bytes old new (Ok count) = Replays n bytes old new (Ok count)
+ReplaysInPieces n bytes old new (Err (tool.Trace fault)) = Replays n bytes old new (Err (tool.Trace fault))
+ReplaysInPieces n bytes old new (Err tool.NoMemory) = (rows : List TraceRow) × ((trace_of n bytes ≡ Ok rows) × HasReplayedFront rows old new)
+ReplaysInPieces n bytes old new (Err tool.Device) = Replays n bytes old new (Err tool.Device)
+ReplaysInPieces n bytes old new (Err tool.GateShut) = ⊥
+ReplaysInPieces n bytes old new (Err tool.TurnLimit) = ⊥

@@ -1,6 +1,6 @@
 //! The command-line arguments: the parser's commands and options, and the command that the words ask for.
 
-ghost use Rattle.std.specs.Prelude.{◌≡◌, ◌<◌, ◌≤◌, ℕ, false, List, Some, None, codes, option_map, IfOk, IfSome, IfNone};
+ghost use Rattle.std.specs.Prelude.{◌≡◌, ◌<◌, ◌≤◌, ◌↔◌, ℕ, true, false, List, Some, None, codes, option_map, IfOk, IfSome, IfNone};
 ghost use Rattle.clap.specs.Kinds.{FailsBy};
 ghost use Rattle.clap.specs.Matches.{found_of};
 ghost use Rattle.clap.specs.Simple.{app_of, subcommand_of, subcommand_rows_of, with_rule};
@@ -9,10 +9,10 @@ ghost use Rattle.clap.specs.Walk.{first_of, rows_of, rule_of, texts};
 ghost use Rattle.clap.specs.declared.builder.command.Command.TheViews.{out-Command as fields_of};
 ghost use Rattle.lock_rules.specs.declared.calls.TheConstants.{MAX_SESSIONS};
 ghost use Rattle.glm.specs.declared.args.Request.{Request as RequestValue};
-ghost use Rattle.glm.specs.CommandLine.{Ask, Gives, IsRequest, command_for_sessions, faults_of, glm_command, sessions_option, turns_option};
+ghost use Rattle.glm.specs.CommandLine.{Ask, Gives, HasFlag, IsRequest, Wants, command_for_sessions, faults_of, glm_command, sessions_option, stream_flag, turns_option};
 
 use crate::texts::{ABOUT_CHECK, ABOUT_REPLAY, ABOUT_RUN, STATUSES, VERSION};
-use clap::{Arg, ArgMatches, Command, Error, value_parser};
+use clap::{Arg, ArgAction, ArgMatches, Command, Error, value_parser};
 use lock_rules::MAX_SESSIONS;
 use lock_tree::parse_numeral;
 use std::alloc::{AllocError, Global};
@@ -20,11 +20,20 @@ use std::alloc::{AllocError, Global};
 /// The greatest value of `--turns`: tries for the answer to one call.
 pub const MAX_TURNS: u32 = 1_000_000_000;
 
+/// How a command writes its history.
+#[derive(Clone, Copy, Debug, Drop, PartialEq, Eq)]
+pub(crate) enum Delivery {
+    /// The whole text is made before its first byte is written.
+    Whole,
+    /// The text of a piece of the history is made and written each time the piece is served, by the flag `--stream`.
+    InPieces,
+}
+
 /// A command that the words ask for, with its numbers.
 #[derive(Clone, Copy, Debug, Drop, PartialEq, Eq)]
 pub(crate) enum Request {
-    /// Replay a trace; holds the number of sessions.
-    Replay(u16),
+    /// Replay a trace; holds the number of sessions, and how the history is written.
+    Replay(u16, Delivery),
     /// Run a trace on threads; holds the number of sessions, and the greatest number of tries for each answer.
     Run(u16, u32),
     /// Check a history; holds the number of sessions.
@@ -57,6 +66,19 @@ fn turns_arg<'a>(alloc: Global) -> Arg<'a>
         .default_value("1000000000")
 }
 
+/// Defines the flag `--stream`, which `replay` has.
+fn stream_arg<'a>(alloc: Global) -> Arg<'a>
+    ensures rule { rule_of result ≡ stream_flag }
+    ensures own { result.global ≡ false }
+{
+    Arg::new(alloc, "stream")
+        .long("stream")
+        .help(
+            "Writes the history in pieces while calls are served, and keeps no more than a piece in memory",
+        )
+        .action(ArgAction::SetTrue)
+}
+
 /// Defines a command with the option `--sessions`. `about` is its line in the list of commands, and `long_about` the
 /// beginning of its own help. Fails if memory is refused.
 fn command_of<'a>(
@@ -73,6 +95,20 @@ fn command_of<'a>(
         .long_about(long_about)
         .after_help(STATUSES)
         .arg(sessions_arg(alloc))
+}
+
+/// Defines the command `replay`. Fails if memory is refused.
+fn replay_command<'a>(alloc: Global) -> Result<Command<'a>, AllocError>
+    ensures app { IfOk result (λ command. app_of command ≡ with_rule (command_for_sessions (codes "replay")) stream_flag) }
+    ensures own { IfOk result (λ command. (fields_of command).has_globals ≡ false) }
+{
+    let replay = command_of(
+        alloc,
+        "replay",
+        "Serves a trace from standard input on one thread and writes its history",
+        ABOUT_REPLAY,
+    )?;
+    replay.arg(stream_arg(alloc))
 }
 
 /// Defines the command `run`. Fails if memory is refused.
@@ -93,12 +129,7 @@ fn run_command<'a>(alloc: Global) -> Result<Command<'a>, AllocError>
 fn commands<'a>(alloc: Global) -> Result<Command<'a>, AllocError>
     ensures { IfOk result (λ command. app_of command ≡ glm_command) }
 {
-    let replay = command_of(
-        alloc,
-        "replay",
-        "Serves a trace from standard input on one thread and writes its history",
-        ABOUT_REPLAY,
-    )?;
+    let replay = replay_command(alloc)?;
     let run = run_command(alloc)?;
     let check = command_of(
         alloc,
@@ -165,6 +196,27 @@ fn option_sessions(given: &ArgMatches) -> Option<u16>
     }
 }
 
+/// Whether the options have a flag.
+fn has_flag(given: &ArgMatches, flag: &str) -> bool
+    ensures { (result ≡ true) ↔ HasFlag flag.now (rows_of (found_of given.now)) }
+{
+    match option_text(given, flag) {
+        Some(text) => text == "true",
+        None => false,
+    }
+}
+
+/// Returns how a command writes its history: in pieces if the options have the flag `--stream`.
+fn delivery_of(given: &ArgMatches) -> Delivery
+    ensures { Wants (rows_of (found_of given.now)) result }
+{
+    if has_flag(given, "stream") {
+        Delivery::InPieces
+    } else {
+        Delivery::Whole
+    }
+}
+
 /// Returns the request of the command `name` with the options `given`, or `None` if there is no such command or a number
 /// isn't valid.
 #[tactic(auto, using(crate::proofs::Ask::no_sessions, crate::proofs::Ask::no_turns, crate::proofs::Ask::no_name))]
@@ -176,7 +228,7 @@ fn request_named(name: &str, given: &ArgMatches) -> Option<Request>
         return None;
     };
     if name == "replay" {
-        return Some(Request::Replay(sessions));
+        return Some(Request::Replay(sessions, delivery_of(given)));
     }
     if name == "run" {
         let Some(turns) = option_number(given, "turns", MAX_TURNS) else {

@@ -6,17 +6,19 @@ ghost use Rattle.clap.specs.Values.{kind_of};
 ghost use Rattle.clap.specs.Walk.{texts};
 ghost use Rattle.lock_rules.specs.declared.calls.TheConstants.{MAX_SESSIONS};
 ghost use Rattle.glm.specs.declared.outcomes.Outcome.{Outcome};
-ghost use Rattle.glm.specs.declared.outcomes.TheConstants.{DONE, ILLEGAL, DEVICE};
+ghost use Rattle.glm.specs.declared.outcomes.TheConstants.{DONE, ILLEGAL, NO_MEMORY, DEVICE};
+ghost use Rattle.glm.specs.CommandLine.{AskReplayInPieces};
 ghost use Rattle.glm.specs.Outcomes.{HasDone, HasPrintedPart, PrintsVerdict, status_of_outcome, text_of_verdict};
 ghost use Rattle.glm.specs.ParserErrors.{IsOutcomeOfError};
 ghost use Rattle.glm.specs.Replays.{IsFaultOfOneThread};
 ghost use Rattle.glm.specs.Statuses.{IsStatus};
 
-use crate::args::{Request, request_of};
+use crate::args::{Delivery, Request, request_of};
 use crate::call_gate::Gate;
 use crate::checking::{Verdict, check};
 use crate::outcomes::Outcome;
 use crate::replaying::replay;
+use crate::replaying_in_pieces::replay_in_pieces;
 use crate::running::run;
 use crate::texts::{NOT_A_NUMERAL, VERSION_TEXT};
 use crate::tool_fault::ToolFault;
@@ -99,8 +101,11 @@ fn outcome_of<'a, T: Threads + Wait, R: Read + Drop, W: Write, E: Write, G: Gate
     ensures { HasDone (texts words.entry.now) (R.remaining input) (W.contents output.old) (W.contents output.new) result }
 {
     match request_of(alloc, words) {
-        Ok(Some(Request::Replay(sessions))) => {
+        Ok(Some(Request::Replay(sessions, Delivery::Whole))) => {
             Outcome::Replay(replay(alloc, input, output, sessions))
+        }
+        Ok(Some(Request::Replay(sessions, Delivery::InPieces))) => {
+            Outcome::ReplayInPieces(replay_in_pieces(alloc, input, output, sessions))
         }
         Ok(Some(Request::Run(sessions, turns))) => {
             let turns = u64::from(turns);
@@ -129,8 +134,8 @@ fn outcome_of<'a, T: Threads + Wait, R: Read + Drop, W: Write, E: Write, G: Gate
 /// - 6: a gate stayed shut, or a call ran out of tries
 ///
 /// A fault is reported in one line on `errors`, and a usage error in several lines. A failure of `errors` changes no
-/// status. `output` is written only with status 0, with status 3 (the verdict), or with status 5 if the writer failed on
-/// the way.
+/// status. `output` is written only with status 0, with status 3 (the verdict), with status 5 if the writer failed on the
+/// way, or with status 4 if memory was refused on the way of a replay that writes its history in pieces.
 pub fn program<'a, T: Threads + Wait, R: Read + Drop, W: Write, E: Write, G: Gate>(
     rt: &T,
     alloc: Global,
@@ -144,7 +149,10 @@ pub fn program<'a, T: Threads + Wait, R: Read + Drop, W: Write, E: Write, G: Gat
     ensures outcome { (outcome : Outcome) × (result ≡ status_of_outcome outcome)
         × HasDone (texts words.entry.now) (R.remaining input) (W.contents output.old) (W.contents output.new) outcome }
     ensures status { IsStatus result }
-    ensures silent { result ≢ DONE → result ≢ ILLEGAL → result ≢ DEVICE → Keeps (W.contents output.old) (W.contents output.new) }
+    ensures silent { ((n : ℕ) → ¬ (AskReplayInPieces (texts words.entry.now) n))
+        → result ≢ DONE → result ≢ ILLEGAL → result ≢ DEVICE → Keeps (W.contents output.old) (W.contents output.new) }
+    ensures silent_in_pieces { result ≢ DONE → result ≢ ILLEGAL → result ≢ DEVICE → result ≢ NO_MEMORY
+        → Keeps (W.contents output.old) (W.contents output.new) }
 {
     let outcome = outcome_of(words, rt, alloc, gate, input, output, errors);
     outcome.report(errors);

@@ -1,17 +1,20 @@
-//! Laws of the command line. A caller's proof cites a law by calling it; the call does nothing at run time.
+//! Laws of the command line and of what replays write. A caller's proof cites a law by calling it; the call does nothing at run time.
 
-ghost use Rattle.std.specs.Prelude.{◌≡◌, ℕ, List, [], ◌∷◌, codes};
+ghost use Rattle.std.specs.Prelude.{◌≡◌, ℕ, List, [], ◌∷◌, Option, codes};
 ghost use Rattle.clap.specs.Walk.{Text};
 ghost use Rattle.lock_rules.specs.declared.calls.TheConstants.{MAX_SESSIONS};
+ghost use Rattle.lock_trace.specs.declared.rows.TraceRow.{TraceRow as RowValue};
 ghost use Rattle.glm.specs.declared.args.Request.{Request as RequestValue};
 ghost use Rattle.glm.specs.declared.args.TheConstants.{MAX_TURNS};
-ghost use Rattle.glm.specs.CommandLine.{Ask, AskCheck, AskHelp, AskNothing, AskReplay, AskRun, AskVersion};
+ghost use Rattle.glm.specs.CommandLine.{Ask, AskCheck, AskHelp, AskNothing, AskReplay, AskReplayInPieces, AskRun, AskVersion};
+ghost use Rattle.glm.specs.Replays.{HasReplayedFront, HasReplayedPart, IsTextFor};
 
 /// A command line asks for at most one command with its numbers. A command line that asks for a command asks neither for
 /// help nor for the version.
 pub fn words_ask_for_one_thing()
     ensures one { (words : List Text) (r q : RequestValue) → Ask words r → Ask words q → r ≡ q }
     ensures sessions { (words : List Text) (m n : ℕ) → AskReplay words m → AskReplay words n → m ≡ n }
+    ensures whole_or_pieces { (words : List Text) (m n : ℕ) → AskReplay words m → ¬ AskReplayInPieces words n }
     ensures command_or_help { (words : List Text) (r : RequestValue) → Ask words r → ¬ AskHelp words }
     ensures command_or_version { (words : List Text) (r : RequestValue) → Ask words r → ¬ AskVersion words }
     ensures replay_or_help { (words : List Text) (n : ℕ) → AskReplay words n → ¬ AskHelp words }
@@ -23,6 +26,9 @@ pub fn words_ask_as_documented()
     ensures left_out { AskReplay (codes "glm" ∷ codes "replay" ∷ []) 256 }
     ensures apart { AskReplay (codes "glm" ∷ codes "replay" ∷ codes "--sessions" ∷ codes "7" ∷ []) 7 }
     ensures attached { AskReplay (codes "glm" ∷ codes "replay" ∷ codes "--sessions=1024" ∷ []) MAX_SESSIONS }
+    ensures stream { AskReplayInPieces (codes "glm" ∷ codes "replay" ∷ codes "--stream" ∷ []) 256 }
+    ensures stream_sessions { AskReplayInPieces (codes "glm" ∷ codes "replay" ∷ codes "--sessions=7" ∷ codes "--stream" ∷ []) 7 }
+    ensures check_stream { AskNothing (codes "glm" ∷ codes "check" ∷ codes "--stream" ∷ []) }
     ensures plus { AskNothing (codes "glm" ∷ codes "replay" ∷ codes "--sessions=+7" ∷ []) }
     ensures zeros { AskNothing (codes "glm" ∷ codes "replay" ∷ codes "--sessions=007" ∷ []) }
     ensures none { AskNothing (codes "glm" ∷ codes "replay" ∷ codes "--sessions" ∷ codes "0" ∷ []) }
@@ -41,4 +47,11 @@ pub fn words_ask_as_documented()
     ensures replay_turns { AskNothing (codes "glm" ∷ codes "replay" ∷ codes "--turns=9" ∷ []) }
     ensures check { AskCheck (codes "glm" ∷ codes "check" ∷ []) 256 }
     ensures check_sessions { AskCheck (codes "glm" ∷ codes "check" ∷ codes "--sessions" ∷ codes "8" ∷ []) 8 }
+{}
+
+/// The rows of a trace have one text of a history, by whichever way it is written. What a replay in pieces has written if
+/// memory was refused is the beginning of it.
+pub fn rows_have_one_text()
+    ensures one { (rows : List RowValue) (a b : List ℕ) → IsTextFor rows a → IsTextFor rows b → a ≡ b }
+    ensures front { (rows : List RowValue) (old new : Option (List ℕ)) → HasReplayedFront rows old new → HasReplayedPart rows old new }
 {}

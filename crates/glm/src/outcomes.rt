@@ -35,6 +35,8 @@ pub const STOPPED: u8 = 6;
 pub(crate) enum Outcome {
     /// The result of the replay that was asked for.
     Replay(Result<u64, ToolFault>),
+    /// The result of the replay in pieces that was asked for.
+    ReplayInPieces(Result<u64, ToolFault>),
     /// The result of the run on threads that was asked for.
     Run(Result<u64, ToolFault>),
     /// The result of the check that was asked for. A verdict was also written to the output.
@@ -84,13 +86,14 @@ impl Outcome {
         ensures { result ≡ status_of_outcome self.now }
     {
         match self {
-            Outcome::Replay(Ok(_)) | Outcome::Run(Ok(_)) => DONE,
+            Outcome::Replay(Ok(_)) | Outcome::ReplayInPieces(Ok(_)) | Outcome::Run(Ok(_)) => DONE,
             Outcome::HelpShown | Outcome::VersionShown => DONE,
             Outcome::Check(Ok(Verdict::Legal(_))) => DONE,
             Outcome::Check(Ok(Verdict::Illegal(_))) => ILLEGAL,
-            Outcome::Replay(Err(fault)) | Outcome::Run(Err(fault)) | Outcome::Check(Err(fault)) => {
+            Outcome::Replay(Err(fault)) | Outcome::ReplayInPieces(Err(fault)) => {
                 status_of_fault(fault)
             }
+            Outcome::Run(Err(fault)) | Outcome::Check(Err(fault)) => status_of_fault(fault),
             Outcome::HelpFailed | Outcome::VersionFailed => DEVICE,
             Outcome::Misused => USAGE,
             Outcome::OutOfMemory => NO_MEMORY,
@@ -100,15 +103,17 @@ impl Outcome {
     /// Writes one line if the command failed. A usage error was written when the words were parsed.
     pub(crate) fn report<E: Write>(&self, errors: &mut E) {
         match self {
-            Outcome::Replay(Err(fault)) | Outcome::Run(Err(fault)) | Outcome::Check(Err(fault)) => {
+            Outcome::Replay(Err(fault)) | Outcome::ReplayInPieces(Err(fault)) => {
                 report_fault(fault, errors)
             }
+            Outcome::Run(Err(fault)) | Outcome::Check(Err(fault)) => report_fault(fault, errors),
             Outcome::HelpFailed | Outcome::VersionFailed => report_fault(
                 &ToolFault::Device,
                 errors,
             ),
             Outcome::OutOfMemory => report_fault(&ToolFault::NoMemory, errors),
-            Outcome::Replay(Ok(_)) | Outcome::Run(Ok(_)) | Outcome::Check(Ok(_)) => {}
+            Outcome::Replay(Ok(_)) | Outcome::ReplayInPieces(Ok(_)) => {}
+            Outcome::Run(Ok(_)) | Outcome::Check(Ok(_)) => {}
             Outcome::HelpShown | Outcome::VersionShown | Outcome::Misused => {}
         }
     }

@@ -24,6 +24,10 @@ The history has a row for each call: place,session,op,resource,mode,reply,value.
 
   0,1,begin,,,began,1
 
+With --stream the history is written in pieces of 4096 rows while calls are served, and a piece leaves memory once it is
+written. What is written is the same. A row that is refused is still named before anything is written; if memory is
+refused, the rows that were served before may have been written.
+
 An example: glm replay < examples/queue.csv";
 
 /// The beginning of the help of `run`.

@@ -4,7 +4,7 @@ use Rattle.std.specs.Prelude.{decimal}
 use Rattle.std.proofs.lemmas.List.{append-nil}
 use Rattle.lock_tree.specs.Text.{text_of}
 use Rattle.lock_rules.specs.declared.calls.Entry.{Entry}
-use Rattle.lock_trace.specs.Histories.{after_commas, line_of, lines_of, fields_of_entry, text_of_history}
+use Rattle.lock_trace.specs.Histories.{after_commas, line_of, lines_of, fields_of_entry, text_of_piece}
 use Rattle.lock_trace.specs.Files.{fields_from}
 
 -- Resources.
@@ -70,14 +70,23 @@ lines_push place (x ∷ es) e =
     ∙ sym (append_assoc (line_of (fields_of_entry place x)) (lines_of (fields_from fields_of_entry (place + 1) es)) (line_of (fields_of_entry (place + length (x ∷ es)) e)))
 
 -- After the line of the next entry, the text so far is the text of one entry more.
-pub next_entry : (es : List Entry) (i : ℕ) (e : Entry) (out out2 : List ℕ) → i < length es → e ≡ get_or es i e → out ≡ text_of_history (take i es) → out2 ≡ out ++ line_of (fields_of_entry i e)
-    → out2 ≡ text_of_history (take (i + 1) es)
-next_entry es i e out out2 lt is so_far more =
+pub next_entry : (first : ℕ) (es : List Entry) (i : ℕ) (e : Entry) (out out2 : List ℕ) → i < length es → e ≡ get_or es i e → out ≡ text_of_piece first (take i es) → out2 ≡ out ++ line_of (fields_of_entry (first + i) e)
+    → out2 ≡ text_of_piece first (take (i + 1) es)
+next_entry first es i e out out2 lt is so_far more =
     let grown : take (i + 1) es ≡ take i es ++ (e ∷ []) = ap (λ (k : ℕ). take k es) (add-one i) ∙ take-suc es i e lt ∙ ap (λ (x : Entry). take i es ++ (x ∷ [])) (sym is) in
-    let long : 0 + length (take i es) ≡ i = omega (arith, length-take i es) in
-    more ∙ ap (λ (t : List ℕ). t ++ line_of (fields_of_entry i e)) so_far
-    ∙ ap (λ (k : ℕ). text_of_history (take i es) ++ line_of (fields_of_entry k e)) (sym long)
-    ∙ sym (lines_push 0 (take i es) e) ∙ ap text_of_history (sym grown)
+    let long : first + length (take i es) ≡ first + i = omega (arith, length-take i es) in
+    more ∙ ap (λ (t : List ℕ). t ++ line_of (fields_of_entry (first + i) e)) so_far
+    ∙ ap (λ (k : ℕ). text_of_piece first (take i es) ++ line_of (fields_of_entry k e)) (sym long)
+    ∙ sym (lines_push first (take i es) e) ∙ ap (λ (it : List Entry). text_of_piece first it) (sym grown)
+
+-- The lines of two pieces, one after the other.
+pub lines_append : (first : ℕ) (front rest : List Entry) → text_of_piece first (front ++ rest) ≡ text_of_piece first front ++ text_of_piece (first + length front) rest
+lines_append first [] rest = ap (λ (k : ℕ). text_of_piece k rest) (omega arith)
+lines_append first (e ∷ front) rest =
+    let there : first + 1 + length front ≡ first + length (e ∷ front) = omega arith in
+    let line : List ℕ = line_of (fields_of_entry first e) in
+    ap (λ (t : List ℕ). line ++ t) (lines_append (first + 1) front rest ∙ ap (λ (k : ℕ). text_of_piece (first + 1) front ++ text_of_piece k rest) there)
+    ∙ sym (append_assoc line (text_of_piece (first + 1) front) (text_of_piece (first + length (e ∷ front)) rest))
 
 -- Taking as many entries as there are, or more, takes all.
 pub take_every : (es : List Entry) (i : ℕ) → length es ≤ i → take i es ≡ es

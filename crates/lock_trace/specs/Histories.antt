@@ -58,6 +58,10 @@ lines_of (r ∷ rs) = line_of r ++ lines_of rs
 abbrev pub text_of_history : List Entry → List ℕ
 text_of_history es = lines_of (records_of_history es)
 
+-- The text of a piece of a history, whose first entry is at this place.
+abbrev pub text_of_piece : ℕ → List Entry → List ℕ
+text_of_piece first es = lines_of (fields_from fields_of_entry first es)
+
 -- The numbers of a reply fit in 64 bits.
 abbrev pub ReplyFits : Reply → Type 0
 ReplyFits (reply.Began n) = n < 2 ^ 64

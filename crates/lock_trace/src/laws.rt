@@ -1,7 +1,7 @@
 //! Laws of the formats, each the contract of a function that does nothing. A caller's proof cites a law by calling
 //! its function, which costs nothing at run time.
 
-ghost use Rattle.std.specs.Prelude.{◌≡◌, ◌<◌, ◌^◌, ◌↔◌, ℕ, List, [], ◌∷◌, length, map, All, Some, None, Ok, Err, decimal};
+ghost use Rattle.std.specs.Prelude.{◌≡◌, ◌+◌, ◌<◌, ◌^◌, ◌↔◌, ℕ, List, [], ◌∷◌, ◌++◌, length, map, All, Some, None, Ok, Err, decimal};
 ghost use Rattle.csv.specs.Reading.{AreRecords, default_config, strip_bom};
 ghost use Rattle.csv.specs.declared.parser.State.TheVariants as st;
 ghost use Rattle.lock_modes.specs.declared.Mode.{Mode};
@@ -20,7 +20,7 @@ ghost use Rattle.lock_trace.specs.Tests.{tests_of_row, tests_of_entry, first_fai
 ghost use Rattle.lock_trace.specs.Rows.{IsRow, fields_of_row, row_of};
 ghost use Rattle.lock_trace.specs.Records.{records_of};
 ghost use Rattle.lock_trace.specs.Traces.{IsFirstBadRow, trace_of};
-ghost use Rattle.lock_trace.specs.Histories.{AllFit, fields_of_reply, fields_of_entry, records_of_history, text_of_history};
+ghost use Rattle.lock_trace.specs.Histories.{AllFit, fields_of_reply, fields_of_entry, records_of_history, text_of_history, text_of_piece};
 ghost use Rattle.lock_trace.specs.Entries.{IsReply, IsEntry, reply_in, entry_of};
 ghost use Rattle.lock_trace.specs.ReadHistories.{IsFirstBadEntry, history_of};
 
@@ -119,4 +119,12 @@ pub fn rows_come_back()
 pub fn histories_come_back()
     ensures { (n : ℕ) (history : List Entry) → n < 2 ^ 16 → length history < 2 ^ 64 → All (IsEntry n) history →
         history_of n (text_of_history history) ≡ Ok history }
+{}
+
+/// The text of a history is the text of its one piece, whose first entry is at place 0. The text of a piece is
+/// that of its front part and then that of the rest, whose first entry is at the place behind the front part.
+pub fn pieces_make_the_text()
+    ensures whole { (history : List Entry) → text_of_history history ≡ text_of_piece 0 history }
+    ensures parts { (first : ℕ) (front rest : List Entry) →
+        text_of_piece first (front ++ rest) ≡ text_of_piece first front ++ text_of_piece (first + length front) rest }
 {}

@@ -18,4 +18,4 @@ pub use faults::{TraceFault, TraceKind};
 pub use reading::{read_history, read_trace};
 pub use rows::TraceRow;
 pub use std::alloc::AllocError as NoMemory;
-pub use writing::history_text;
+pub use writing::{history_text, piece_text};

@@ -1,10 +1,10 @@
 //! Writes histories as text.
 
-ghost use Rattle.std.specs.Prelude.{◌≡◌, ◌+◌, ◌<◌, ◌≤◌, ◌++◌, List, [], ◌∷◌, OnOk, IfOk, decimal, length, take};
+ghost use Rattle.std.specs.Prelude.{◌≡◌, ◌+◌, ◌^◌, ◌<◌, ◌≤◌, ◌++◌, List, [], ◌∷◌, OnOk, IfOk, decimal, length, take};
 ghost use Rattle.lock_modes.specs.Codes.{name_of};
 ghost use Rattle.lock_tree.specs.Text.{text_of};
 ghost use Rattle.lock_trace.specs.Rows.{resource_field, mode_field, fields_of_call};
-ghost use Rattle.lock_trace.specs.Histories.{value_field, fields_of_reply, fields_of_entry, after_commas, line_of, text_of_history};
+ghost use Rattle.lock_trace.specs.Histories.{value_field, fields_of_reply, fields_of_entry, after_commas, line_of, text_of_history, text_of_piece};
 
 use crate::line::{NUMBER_BYTES, TOKEN_BYTES, put_byte, put_number, put_text, put_token};
 use crate::tokens::{mode_token, op_token, reply_token};
@@ -136,13 +136,13 @@ fn put_reply(line: &mut [u8], at: usize, reply: &Reply) -> usize
 
 /// Writes the line of the entry at index `place` at the front of `line`, and returns its length.
 #[inline(always)]
-fn put_entry(line: &mut [u8], place: usize, entry: &Entry) -> usize
+fn put_entry(line: &mut [u8], place: u64, entry: &Entry) -> usize
     requires room { LINE_BYTES ≤ length line.old }
     ensures text { take result line.new ≡ line_of (fields_of_entry place entry.now) }
     ensures room { length line.new ≡ length line.old }
     ensures few { result ≤ length line.new }
 {
-    let after_place = put_number(line, 0, place as u64);
+    let after_place = put_number(line, 0, place);
     let after_comma = put_byte(line, after_place, b',');
     let after_session = put_number(line, after_comma, entry.session as u64);
     let after_call = put_call(line, after_session, &entry.call);
@@ -157,10 +157,20 @@ fn put_entry(line: &mut [u8], place: usize, entry: &Entry) -> usize
 pub fn history_text(alloc: Global, entries: &[Entry]) -> Result<Vec<u8>, NoMemory>
     ensures { IfOk result (λ text. text.items ≡ text_of_history entries.now) }
 {
+    piece_text(alloc, 0, entries)
+}
+
+/// The text of a piece of a history, whose first entry is at the place `first`. It has the form of
+/// [`history_text`], so that the texts of pieces that follow one another, one after another, are the text of the
+/// whole (`laws::pieces_make_the_text`). Fails only with `NoMemory`.
+pub fn piece_text(alloc: Global, first: u64, entries: &[Entry]) -> Result<Vec<u8>, NoMemory>
+    requires places { first + length entries.now ≤ 2 ^ 64 }
+    ensures { IfOk result (λ text. text.items ≡ text_of_piece first entries.now) }
+{
     let mut out = Vec::with_capacity(alloc, entries.len().saturating_mul(TYPICAL_ROW_BYTES))?;
     let mut line = [0; LINE_BYTES];
-    for (place, entry) in entries.iter().enumerate() {
-        let end = put_entry(&mut line, place, entry);
+    for (index, entry) in entries.iter().enumerate() {
+        let end = put_entry(&mut line, first + index as u64, entry);
         out.extend_from_slice(&line[..end])?;
     }
     Ok(out)

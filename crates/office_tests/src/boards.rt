@@ -3,7 +3,7 @@
 
 ghost use Rattle.std.specs.Prelude.{◌≡◌, ◌+◌, true, false, Some, None, IfOk, replicate, slice_set};
 ghost use Rattle.publication.specs.Rule.{IsHome};
-ghost use Rattle.publication.specs.Boards.{IsOf, IsNumber, opened_at, new_ticket, new_tickets};
+ghost use Rattle.publication.specs.Boards.{IsOf, IsNumber, OpensNone, opened_at, new_ticket, new_tickets};
 
 use lock_desk::{Book, Call, NoMemory, Reply};
 use lock_rules::laws;
@@ -71,6 +71,7 @@ fn serve(
       opened = slice_set ticket.old.opened whose None;
     }) }
     ensures home { IfOk result (λ _. IsHome ticket.new.front (board.now.sessions + 1) load.new) }
+    ensures taken { IfOk result (λ _. load.new.pieces.items ≡ load.old.pieces.items) }
 {
     laws::histories_are_legal_by_steps();
     let asked = call;
@@ -119,6 +120,7 @@ fn serve_the_first(
     ensures has { IfOk result (λ _. second.new.has_book ≡ true) }
     ensures opened { IfOk result (λ _. second.new.opened ≡ replicate 3 None) }
     ensures home { IfOk result (λ _. IsHome second.new.front (board.now.sessions + 1) load.new) }
+    ensures taken { IfOk result (λ _. (second.new.taken ≡ second.old.taken) × (load.new.pieces.items ≡ load.old.pieces.items)) }
 {
     let call = board.open(second, 1).expect(rt, "the call");
     assert!(rt; call == Call::Begin);
@@ -127,6 +129,18 @@ fn serve_the_first(
     assert!(rt; reply == Reply::Began(1));
     finds_nothing(rt, board, second, 1);
     Ok(())
+}
+
+/// Gives the load back, of which the combiner took no piece of the history.
+fn give_back(board: &Board, ticket: &mut Ticket, load: Box<Load>)
+    requires ours { IsOf board.now ticket.old }
+    requires has { ticket.old.has_book ≡ true }
+    requires none { OpensNone ticket.old }
+    requires home { IsHome ticket.old.front (board.now.sessions + 1) load.value }
+    requires taken { ticket.old.taken ≡ load.value.pieces.items }
+    ensures ours { IsOf board.now ticket.new }
+{
+    board.release(ticket, load);
 }
 
 /// Session 1 posts a call, and session 2 seizes the board and answers it. Session 1 takes the answer, and can seize the board
@@ -140,7 +154,7 @@ fn a_combiner_answers_what_another_posted(rt: HostRuntime) -> Result<(), Fail> {
     assert!(rt; board.seize(&mut first).is_none());
     serve_the_first(&rt, &board, &mut second, &mut load)?;
     takes_once(&rt, &board, &mut first, 0, Reply::Began(1));
-    board.release(&mut second, load);
+    give_back(&board, &mut second, load);
     assert!(rt; board.seize(&mut first).is_some());
     Ok(())
 }

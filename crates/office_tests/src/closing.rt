@@ -15,19 +15,19 @@ use std::test::Fail;
 
 /// An office of two sessions, taken out of their vector.
 #[derive(Drop)]
-struct TakenApart {
+pub(crate) struct TakenApart {
     /// The office.
-    office: Office,
+    pub(crate) office: Office,
     /// Session 1.
-    first: Session,
+    pub(crate) first: Session,
     /// Session 2.
-    second: Session,
+    pub(crate) second: Session,
     /// The empty vector, with room for both.
-    room: Vec<Session>,
+    pub(crate) room: Vec<Session>,
 }
 
 /// Takes the sessions of a fresh office of two out of their vector.
-fn taken_apart(rt: &impl Abort, office: Office, sessions: Vec<Session>) -> TakenApart
+pub(crate) fn taken_apart(rt: &impl Abort, office: Office, sessions: Vec<Session>) -> TakenApart
     requires sessions { sessions.items ≡ new_tickets office.id 2 2 }
     requires ours { All (λ session. IsSessionOf office session × IsIdle session) sessions.items }
     ensures first { IsSessionOf result.office result.first × IsIdle result.first }
@@ -81,7 +81,13 @@ fn a_pass_serves_a_call_that_its_session_heard_of(rt: HostRuntime) -> Result<(),
 }
 
 /// Begins a transaction in the session, and expects this place and this number of the transaction.
-fn begin(rt: &impl Abort, office: &Office, session: &mut Session, place: u64, transaction: u64)
+pub(crate) fn begin(
+    rt: &impl Abort,
+    office: &Office,
+    session: &mut Session,
+    place: u64,
+    transaction: u64,
+)
     requires ours { IsSessionOf office.now session.old × IsIdle session.old }
     ensures ours { IsSessionOf office.now session.new × IsIdle session.new }
 {

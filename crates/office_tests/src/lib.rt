@@ -18,6 +18,8 @@ mod listing;
 mod offices;
 pub mod own_office;
 #[cfg(test)]
+mod pieces;
+#[cfg(test)]
 mod refusals;
 #[cfg(test)]
 mod steps;

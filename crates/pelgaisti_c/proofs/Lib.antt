@@ -3,3 +3,4 @@ pub mod Moving
 pub mod HeldValues
 pub mod Writing
 pub mod Handles
+pub mod Batches

@@ -1,16 +1,19 @@
 -- The outcomes of a session's calls, as the exports state them.
-use Rattle.std.specs.Prelude.{◌≡◌, ◌≢◌, ℕ, ◌<◌, ◌≤◌, ◌⊎◌, ◌↔◌, max, true, false, Option, Some, None, [], ◌∷◌, ◌++◌, length}
+use Rattle.std.specs.Prelude.{◌≡◌, ◌≢◌, ℕ, ◌+◌, ◌<◌, ◌≤◌, ◌⊎◌, ◌↔◌, max, true, false, Option, Some, None, List, [], ◌∷◌, ◌++◌, length}
 use mathlib.Core.List.{IsPrefix}
 use Rattle.lock_rules.specs.declared.calls.Call.{Call}
 use Rattle.lock_rules.specs.declared.calls.Reply.{Reply}
+use Rattle.lock_rules.specs.declared.calls.Entry.{Entry}
 use Rattle.lock_rules.specs.Legal.{IsLegal, calls_of}
 use Rattle.publication.specs.Boards.{HasCallsOf, heard_from, publishing, enlisted, tried}
 use Rattle.publication.specs.Kinds.{longer, maxes}
-use Rattle.combining.specs.Sessions.{HasTriedToList, HasNothingPending, IsPassed, IsCollected, IsPendingServed}
+use Rattle.combining.specs.Sessions.{HasTriedToList, HasNothingPending, IsPassed, IsCollected, IsPendingServed, HasTakenPiece}
 use Rattle.pelgaisti_c.specs.declared.numbers.CallNumbers.{CallNumbers}
 use Rattle.pelgaisti_c.specs.declared.numbers.AnswerNumbers.{AnswerNumbers}
 use Rattle.pelgaisti_c.specs.declared.session_share.SessionShare.{SessionShare}
-use Rattle.pelgaisti_c.specs.Numbers.{IsCall, numbers_of_reply}
+use Rattle.pelgaisti_c.specs.declared.numbers.EntryNumbers.{EntryNumbers}
+use Rattle.pelgaisti_c.specs.Calls.{are_written}
+use Rattle.pelgaisti_c.specs.Numbers.{IsCall, numbers_of_reply, numbers_of_entry}
 
 -- the share keeps its office, the sessions handed in to it, and its mark
 pub record IsSameOffice (before after : SessionShare) : Type 0 where
@@ -47,6 +50,13 @@ IsTurn before after served starved = IsPassed before.session after.session serve
 abbrev pub IsAnswered : SessionShare → SessionShare → AnswerNumbers → Type 0
 IsAnswered before after answer = (reply : Reply) × (answer.reply ≡ numbers_of_reply reply)
     × IsCollected before.session after.session answer.place reply × IsSameOffice before after
+
+-- the session took the oldest entries of the history that were kept, as many as there is room for, and fewer only if no more were kept.
+-- They begin at this place, and are noted as its own; it knows the history up to where they were kept
+abbrev pub IsPieceTaken : SessionShare → SessionShare → ℕ → ℕ → List EntryNumbers → List EntryNumbers → Type 0
+IsPieceTaken before after first count places written = (entries : List Entry) × HasTakenPiece before.session after.session first entries
+    × (count ≡ length entries) × (written ≡ are_written numbers_of_entry entries places) × (count ≤ length places)
+    × (count < length places → first + count ≡ length after.session.front) × IsSameOffice before after
 
 -- the session knows what it knew before and what the other session knew: the longer of their fronts of the history, which is legal and
 -- continues both, and of each session the larger number of calls heard of. Of the calls of both sessions that front has those that they

@@ -1,9 +1,10 @@
 //! The calls of a book in numbers, on the book that a handle holds.
 
-ghost use Rattle.std.specs.Prelude.{◌≡◌, ◌≢◌, ◌+◌, ◌<◌, ◌≤◌, ◌↔◌, ◌⊎◌, ℕ, List, IfSome, IfNone, length, drop, min};
+ghost use Rattle.std.specs.Prelude.{◌≡◌, ◌≢◌, ◌+◌, ◌<◌, ◌≤◌, ◌↔◌, ◌⊎◌, ℕ, List, IfSome, IfNone, if◌then◌else◌, length, drop, min};
 ghost use Rattle.lock_modes.specs.Codes.{code_of};
 ghost use Rattle.lock_rules.specs.Legal.{state_of};
 ghost use Rattle.lock_rules.specs.State.{held_mode, mode_or_nothing, holders};
+ghost use Rattle.lock_rules.specs.Waits.{waits_for as is_waited_for};
 ghost use Rattle.lock_rules.specs.declared.calls.Call.{Call as CallValue};
 ghost use Rattle.lock_desk.specs.BookView.{first_kept_by, kept_by};
 ghost use Rattle.pelgaisti_c.specs.Numbers.{IsCall, IsCallFault, IsLevel, IsPath, numbers_of_entry, numbers_of_holder};
@@ -20,7 +21,7 @@ use lock_desk::{Book, Entry, Mode};
 use std::alloc::Global;
 
 /// The session number as the book takes it. Returns `None` if the book has no such session.
-fn session_of(book: &Book, session: u32) -> Option<u16>
+pub(crate) fn session_of(book: &Book, session: u32) -> Option<u16>
     ensures some { IfSome result (λ number. (number ≡ session) × IsSession book.now session) }
     ensures none { IfNone result (¬ (IsSession book.now session)) }
 {
@@ -82,6 +83,24 @@ pub(crate) fn held(book: &Book, session: u32, place: &ResourceNumbers, mode: &mu
     OK
 }
 
+/// Writes 1 to `edge` if the session waits for the other one directly, else 0.
+pub(crate) fn waits_for(book: &Book, session: u32, other: u32, edge: &mut u32) -> u32
+    ensures ok { result ≡ OK → IsSession book.now session × IsSession book.now other
+        × (edge.new ≡ if is_waited_for (state_of book.now.history).table session other then 1 else 0) }
+    ensures failed { result ≢ OK → edge.new ≡ edge.old }
+    ensures session { result ≡ NO_SUCH_SESSION → ¬ (IsSession book.now session × IsSession book.now other) }
+    ensures statuses { (result ≡ OK) ⊎ (result ≡ NO_SUCH_SESSION) }
+{
+    let Some(waiter) = session_of(book, session) else {
+        return NO_SUCH_SESSION;
+    };
+    let Some(waited) = session_of(book, other) else {
+        return NO_SUCH_SESSION;
+    };
+    *edge = if book.waits_for(waiter, waited) { 1 } else { 0 };
+    OK
+}
+
 /// Writes the numbers of the first holders, as many as `list` has room for.
 fn write_holders(found: &[(u16, Mode)], list: &mut [HolderNumbers])
     ensures { list.new ≡ are_written numbers_of_holder found.now list.old }
@@ -120,7 +139,7 @@ pub(crate) fn holders(
 }
 
 /// Writes the numbers of the first entries, as many as `places` has room for. Returns the number of entries written.
-fn write_entries(entries: &[Entry], places: &mut [EntryNumbers]) -> usize
+pub(crate) fn write_entries(entries: &[Entry], places: &mut [EntryNumbers]) -> usize
     ensures count { result ≡ min (length entries.now) (length places.old) }
     ensures entries { places.new ≡ are_written numbers_of_entry entries.now places.old }
 {

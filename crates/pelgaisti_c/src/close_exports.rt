@@ -18,7 +18,7 @@ use std::alloc::Global;
 /// Hands the session, with all sessions that were handed in to it, in to the session `to` of its office, and closes its
 /// handle. Needs that open handles with the same mark belong to the same office.
 #[unsafe(no_mangle)]
-pub extern "C" fn pelgaisti_session_hand_in(
+pub extern "C" fn pelgaisti_raw_session_hand_in(
     alloc: Global,
     session: &mut SessionHandle,
     to: &mut SessionHandle,
@@ -61,7 +61,7 @@ pub extern "C" fn pelgaisti_session_hand_in(
 /// Closes the office of the session, to which all other sessions were handed in. Closes the session's handle, and opens
 /// `book` with the lock table and the whole history.
 #[unsafe(no_mangle)]
-pub extern "C" fn pelgaisti_office_close(
+pub extern "C" fn pelgaisti_raw_office_close(
     alloc: Global,
     session: &mut SessionHandle,
     book: &mut BookHandle,

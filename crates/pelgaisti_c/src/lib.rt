@@ -5,6 +5,7 @@
 //! callers in C are in `include/pelgaisti.h`.
 #![tactic(auto)]
 
+mod batch;
 mod book;
 mod book_calls;
 mod book_handle;

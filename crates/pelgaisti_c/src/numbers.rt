@@ -159,7 +159,7 @@ fn place_of(resource: &Resource) -> ResourceNumbers
 }
 
 /// The numbers of a call. A call without a mode has mode 0, a call without a resource has level 0.
-fn call_numbers(call: &Call) -> CallNumbers
+pub(crate) fn call_numbers(call: &Call) -> CallNumbers
     ensures { result ≡ numbers_of_call call.now }
 {
     let op = call.op().number();

@@ -92,12 +92,13 @@ fn open_handles(handles: &mut [SessionHandle], shares: Vec<Box<SessionShare>>)
 }
 
 /// Opens the handles as the sessions of a new office, in their order. The handles must be closed. No other open office
-/// should have this mark.
+/// should have this mark. Its lock table keeps at most the newest `bound` entries of its history in memory.
 #[unsafe(no_mangle)]
-pub extern "C" fn pelgaisti_office_open(
+pub extern "C" fn pelgaisti_raw_office_open(
     alloc: Global,
     sessions: &mut [SessionHandle],
     mark: u64,
+    bound: u64,
 ) -> u32
     ensures ok { result ≡ OK → (office : BoardView) × (office.sessions ≡ length sessions.old) × AreSessionsOf office mark sessions.new }
     ensures failed { result ≢ OK → sessions.new ≡ sessions.old }
@@ -113,7 +114,7 @@ pub extern "C" fn pelgaisti_office_open(
     if has_open(sessions) {
         return OPEN;
     }
-    let Ok((office, made)) = Office::open(alloc, count as u16) else {
+    let Ok((office, made)) = Office::open_keeping(alloc, count as u16, bound) else {
         return NO_MEMORY;
     };
     let Ok(shares) = shares_of(alloc, office, made, count as u16, mark) else {

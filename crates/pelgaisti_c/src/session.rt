@@ -4,22 +4,22 @@ ghost use Rattle.std.specs.Prelude.{◌≡◌, ◌≢◌, ◌≤◌, ◌↔◌, 
 ghost use Rattle.combining.specs.Sessions.{IsPendingServed};
 ghost use Rattle.lock_rules.specs.declared.calls.Call.{Call};
 ghost use Rattle.pelgaisti_c.specs.Numbers.{IsCall, IsCallFault};
-ghost use Rattle.pelgaisti_c.specs.Sessions.{IsPublished, IsTurn, IsElsewhere, IsAnswered, IsHeard, IsRetired};
+ghost use Rattle.pelgaisti_c.specs.Sessions.{IsPublished, IsTurn, IsElsewhere, IsAnswered, IsPieceTaken, IsHeard, IsRetired};
 ghost use Rattle.pelgaisti_c.specs.declared.session_share.SessionShare.{SessionShare};
 
-use crate::numbers::{AnswerNumbers, CallNumbers, PassNumbers};
+use crate::numbers::{AnswerNumbers, CallNumbers, EntryNumbers, PassNumbers};
 use crate::session_calls;
 use crate::session_handle::SessionHandle;
 use crate::status::{
-    CLOSED, ELSEWHERE, NO_SUCH_MODE, NO_SUCH_OP, NOT_SERVED, NOTHING_PENDING, OK, OTHER_OFFICE,
-    PENDING, RETIRED,
+    CLOSED, ELSEWHERE, NO_MEMORY, NO_SUCH_MODE, NO_SUCH_OP, NOT_SERVED, NOTHING_PENDING, OK,
+    OTHER_OFFICE, PENDING, RETIRED,
 };
 use std::alloc::Global;
 
 /// Publishes the call that the numbers encode. The call is pending until the session collects its answer. Writes 1 to
 /// `posted` if the call is listed, 2 if it is not.
 #[unsafe(no_mangle)]
-pub extern "C" fn pelgaisti_session_publish(
+pub extern "C" fn pelgaisti_raw_session_publish(
     alloc: Global,
     session: &mut SessionHandle,
     call: &CallNumbers,
@@ -47,7 +47,7 @@ pub extern "C" fn pelgaisti_session_publish(
 /// Tries once to take the lock table and, if that succeeds, makes a pass over the publication list and the session's
 /// own record.
 #[unsafe(no_mangle)]
-pub extern "C" fn pelgaisti_session_serve(
+pub extern "C" fn pelgaisti_raw_session_serve(
     alloc: Global,
     session: &mut SessionHandle,
     pass: &mut PassNumbers,
@@ -72,7 +72,7 @@ pub extern "C" fn pelgaisti_session_serve(
 
 /// Takes the answer to the pending call, which is then no longer pending.
 #[unsafe(no_mangle)]
-pub extern "C" fn pelgaisti_session_collect(
+pub extern "C" fn pelgaisti_raw_session_collect(
     alloc: Global,
     session: &mut SessionHandle,
     answer: &mut AnswerNumbers,
@@ -94,9 +94,35 @@ pub extern "C" fn pelgaisti_session_collect(
     status
 }
 
+/// Tries once to take the lock table and, if that succeeds, takes the oldest entries of the history that it keeps, as many as
+/// `entries` has room for. Writes the place of the first of them to `first`, and how many there are to `count`.
+#[unsafe(no_mangle)]
+pub extern "C" fn pelgaisti_raw_session_take_history(
+    alloc: Global,
+    session: &mut SessionHandle,
+    first: &mut u64,
+    entries: &mut [EntryNumbers],
+    count: &mut usize,
+) -> u32
+    ensures ok { result ≡ OK → (before after : SessionShare) × (session.old.held.share ≡ Some before) × (session.new.held.share ≡ Some after)
+        × IsPieceTaken before after first.new count.new entries.old entries.new }
+    ensures failed { result ≢ OK → (session.new.held.share ≡ session.old.held.share) × (first.new ≡ first.old) × (entries.new ≡ entries.old) × (count.new ≡ count.old) }
+    ensures open { session.new.is_open ≡ session.old.is_open }
+    ensures closed { result ≡ CLOSED ↔ (session.old.is_open ≢ 1) }
+    ensures elsewhere { result ≡ ELSEWHERE → (share : SessionShare) × (session.old.held.share ≡ Some share) × (2 ≤ share.sessions) }
+    ensures statuses { (result ≡ OK) ⊎ ((result ≡ CLOSED) ⊎ ((result ≡ NO_MEMORY) ⊎ (result ≡ ELSEWHERE))) }
+{
+    let Some(mut share) = session.take(alloc) else {
+        return CLOSED;
+    };
+    let status = session_calls::take_history(alloc, &mut share, first, entries, count);
+    session.put(share);
+    status
+}
+
 /// Writes the number of history entries that the session knows. These are the first ones.
 #[unsafe(no_mangle)]
-pub extern "C" fn pelgaisti_session_seen(
+pub extern "C" fn pelgaisti_raw_session_seen(
     alloc: Global,
     session: &mut SessionHandle,
     seen: &mut u64,
@@ -115,10 +141,31 @@ pub extern "C" fn pelgaisti_session_seen(
     OK
 }
 
+/// Writes the mark of the session's office: the number that was given when it was opened.
+#[unsafe(no_mangle)]
+pub extern "C" fn pelgaisti_raw_session_mark(
+    alloc: Global,
+    session: &mut SessionHandle,
+    mark: &mut u64,
+) -> u32
+    ensures ok { result ≡ OK → (share : SessionShare) × (session.old.held.share ≡ Some share) × (mark.new ≡ share.mark) }
+    ensures failed { result ≢ OK → mark.new ≡ mark.old }
+    ensures same { (session.new.is_open ≡ session.old.is_open) × (session.new.held.share ≡ session.old.held.share) }
+    ensures closed { result ≡ CLOSED ↔ (session.old.is_open ≢ 1) }
+    ensures statuses { (result ≡ OK) ⊎ (result ≡ CLOSED) }
+{
+    let Some(share) = session.take(alloc) else {
+        return CLOSED;
+    };
+    *mark = share.mark;
+    session.put(share);
+    OK
+}
+
 /// Makes what `other` knows of the history known to `session`. Needs that open handles with the same mark belong to the
 /// same office.
 #[unsafe(no_mangle)]
-pub extern "C" fn pelgaisti_session_hear(
+pub extern "C" fn pelgaisti_raw_session_hear(
     alloc: Global,
     session: &mut SessionHandle,
     other: &mut SessionHandle,
@@ -151,7 +198,7 @@ pub extern "C" fn pelgaisti_session_hear(
 
 /// Retires the session: it publishes no more calls.
 #[unsafe(no_mangle)]
-pub extern "C" fn pelgaisti_session_retire(alloc: Global, session: &mut SessionHandle) -> u32
+pub extern "C" fn pelgaisti_raw_session_retire(alloc: Global, session: &mut SessionHandle) -> u32
     ensures ok { result ≡ OK → (before after : SessionShare) × (session.old.held.share ≡ Some before) × (session.new.held.share ≡ Some after)
         × IsRetired before after }
     ensures failed { result ≢ OK → session.new.held.share ≡ session.old.held.share }

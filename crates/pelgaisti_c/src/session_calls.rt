@@ -6,15 +6,19 @@ ghost use Rattle.lock_rules.specs.Legal.{calls_of};
 ghost use Rattle.publication.specs.Boards.{HasCallsOf, heard_from};
 ghost use Rattle.lock_rules.specs.declared.calls.Call.{Call as CallValue};
 ghost use Rattle.pelgaisti_c.specs.Numbers.{IsCall, IsCallFault};
-ghost use Rattle.pelgaisti_c.specs.Sessions.{IsSameOffice, IsPublished, IsElsewhere, IsAnswered, IsHeard, IsRetired};
+ghost use Rattle.pelgaisti_c.specs.Sessions.{IsSameOffice, IsPublished, IsElsewhere, IsAnswered, IsPieceTaken, IsHeard, IsRetired};
 
-use crate::numbers::{AnswerNumbers, CallNumbers, PassNumbers, read_call, reply_numbers};
+use crate::book_calls::write_entries;
+use crate::numbers::{
+    AnswerNumbers, CallNumbers, EntryNumbers, PassNumbers, read_call, reply_numbers,
+};
 use crate::session_share::SessionShare;
 use crate::status::{
-    ELSEWHERE, NO_SUCH_MODE, NO_SUCH_OP, NOT_SERVED, NOTHING_PENDING, OK, OTHER_OFFICE, PENDING,
-    RETIRED,
+    ELSEWHERE, NO_MEMORY, NO_SUCH_MODE, NO_SUCH_OP, NOT_SERVED, NOTHING_PENDING, OK, OTHER_OFFICE,
+    PENDING, RETIRED,
 };
 use combining::{Posted, Turn};
+use std::alloc::Global;
 
 /// The session's record is on the publication list.
 const LISTED: u32 = 1;
@@ -90,6 +94,34 @@ pub(crate) fn serve(share: &mut SessionShare, pass: &mut PassNumbers) -> u32
             OK
         }
     }
+}
+
+/// Takes the oldest entries of the history that the lock table keeps, as many as `places` has room for, and writes them there,
+/// the place of the first one to `first`, and how many they are to `count`.
+pub(crate) fn take_history(
+    alloc: Global,
+    share: &mut SessionShare,
+    first: &mut u64,
+    places: &mut [EntryNumbers],
+    count: &mut usize,
+) -> u32
+    ensures ok { result ≡ OK → IsPieceTaken share.old share.new first.new count.new places.old places.new }
+    ensures failed { result ≢ OK → (share.new ≡ share.old) × (first.new ≡ first.old) × (places.new ≡ places.old) × (count.new ≡ count.old) }
+    ensures elsewhere { result ≡ ELSEWHERE → 2 ≤ share.old.sessions }
+    ensures statuses { (result ≡ OK) ⊎ ((result ≡ NO_MEMORY) ⊎ (result ≡ ELSEWHERE)) }
+{
+    let Ok(taken) = share
+        .office
+        .take_oldest(alloc, &mut share.session, places.len())
+    else {
+        return NO_MEMORY;
+    };
+    let Some(piece) = taken else {
+        return ELSEWHERE;
+    };
+    *first = piece.first;
+    *count = write_entries(piece.entries.as_slice(), places);
+    OK
 }
 
 /// Takes the answer to the pending call.

@@ -5,10 +5,11 @@ use mathlib.Core.List.{IsPrefix}
 use lib.ListN.{get_elem?}
 use Rattle.lock_rules.specs.declared.calls.Call.{Call}
 use Rattle.publication.specs.Views.{Combiner}
-use Rattle.publication.specs.Rule.{blank, no_combiner, BoardState, word, seat, own_at, announced, HasBook, IsOpened, IsSession, IsMaker, AreTrue, IsOrderly}
+use Rattle.publication.specs.Rule.{blank, no_combiner, BoardState, word, seat, own_at, announced, HasBook, IsOpened, IsSession, IsMaker, AreTrue, HasPieces, IsOrderly}
 use Rattle.publication.specs.declared.view.View.{View}
 use Rattle.publication.proofs.Lists.{prefix_self}
 use Rattle.publication.proofs.Others.{StaysGone, still-true}
+use Rattle.publication.proofs.Pieces.{pieces_kept}
 use Rattle.publication.proofs.LockKinds.{nothing_at}
 
 module _ (s : BoardState) (o : IsOrderly s) (vs : List View) where
@@ -25,6 +26,7 @@ module _ (s : BoardState) (o : IsOrderly s) (vs : List View) where
     pub session : u.number ≢ 0 → IsSession o.slots o.owns k u
     pub book : u.combiner.has_book ≡ true → HasBook o.history (word s 0) k u
     pub combiner : (u.combiner ≡ (seat s k).combiner) ⊎ (((seat s k).combiner.has_book ≡ false) × (u.combiner ≡ no_combiner 0))
+    pub pieces : HasPieces o.pieces.all u
 
   module _ (more : length s.views ≤ length vs) where
     -- What a seat knows of others is still true.
@@ -33,7 +35,7 @@ module _ (s : BoardState) (o : IsOrderly s) (vs : List View) where
 
     -- A seat whose view is the same meets the demands.
     pub sits-same : StaysGone s viewed o.owns o.owns → (k : ℕ) → Sits k (seat s k)
-    sits-same gone k = record { front = o.fronts k; heard = o.heard k; others = sits-others gone k; waits = o.waits k; session = o.sessions k; book = o.books k; combiner = inl refl }
+    sits-same gone k = record { front = o.fronts k; heard = o.heard k; others = sits-others gone k; waits = o.waits k; session = o.sessions k; book = o.books k; combiner = inl refl; pieces = o.pieces.seats k }
 
     -- The rule is stated of one board, so each of its facts is proved anew for the changed board, also those that
     -- don't change; `OrderlyCombiner`, `ListKinds` and `NewBoards` do the same.
@@ -60,6 +62,7 @@ module _ (s : BoardState) (o : IsOrderly s) (vs : List View) where
       taken = λ some_lock. let t = o.taken some_lock in (still_has (word s 0) t.0, t.1, t.2);
       opens = λ k j call is. still_open k j call is (sits k).combiner;
       opened = λ j some_session is. let t = o.opened j some_session is in (t.0, still_opened (word s 0) j t.0 t.1);
+      pieces = pieces_kept o.slots s viewed o.pieces more (λ e. (e, refl)) (λ k. (sits k).pieces);
     }
       where
         still_has : (k : ℕ) → (seat s k).combiner.has_book ≡ true → (get_or vs k blank).combiner.has_book ≡ true

@@ -1,25 +1,28 @@
 -- A closed board: once each session was handed in, the book is at home, and each session's calls in the history are
 -- those that it collected.
-use Rattle.std.proofs.Common.{◌≡◌, ℕ, ◌^◌, ◌<◌, true, List, length, sym, refl, ap, ◌∙◌, subst, arith}
+use Rattle.std.proofs.Common.{◌≡◌, ℕ, ◌^◌, ◌<◌, true, List, length, get_or, sym, refl, ap, ◌∙◌, subst, arith}
 use mathlib.Core.Option as opt
 use mathlib.Core.Logic.{dite}
 use mathlib.Core.List.{IsPrefix}
 use native.Mathlib.Decide.{ℕ_discrete}
 use lib.ListN.{get_elem?}
 use Rattle.std.specs.Global.{Box}
+use Rattle.std.specs.Prelude.{All}
 use Rattle.atomic_table.specs.Table.{Seen, Final}
 use Rattle.lock_rules.specs.declared.calls.Entry.{Entry}
 use Rattle.lock_rules.specs.Legal.{IsLegal, calls_of}
+use Rattle.publication.specs.Pieces.{pieces_of}
+use Rattle.publication.specs.declared.piece.Piece.{Piece}
 use Rattle.publication.specs.Views.{Handed}
 use Rattle.publication.specs.inner.Closing.{WereHanded, Ends}
-use Rattle.publication.specs.Rule.{blank, BoardState, word, home, seat, own_at, IsHome, IsHanded, IsOrderly}
+use Rattle.publication.specs.Rule.{blank, BoardState, word, home, seat, own_at, pieces_in, IsHome, IsHanded, IsOrderly}
 use Rattle.publication.specs.List.{IsRuled}
 use Rattle.publication.specs.declared.view.View.{View}
 use Rattle.publication.specs.declared.slot.Load.{Load}
 use Rattle.publication.specs.declared.slot.SlotValue.{SlotValue}
 use Rattle.publication.specs.declared.slot.SlotValue.TheVariants.{LockTable}
 use Rattle.publication.proofs.Lists.{at_there, at_home}
-use Rattle.publication.proofs.SeatViews.{others_of}
+use Rattle.publication.proofs.SeatViews.{others_of, pieces_of_seat}
 use Rattle.publication.proofs.RecordStates.{leaves_record}
 
 -- Each session was handed in to the seat with view v.
@@ -32,6 +35,8 @@ pub record IsLast (slots : ℕ) (v : View) (l : Load) : Type 0 where
   pub legal : IsLegal l.book.history
   pub short : length l.book.history < 2 ^ 64
   pub ends : (p : ℕ) (x : Handed) → get_elem? v.others.handed p ≡ opt.some x → Ends l.book.history x
+  pub within : All (λ x. (0 < x.session) × (x.session < slots)) l.pieces.items
+  pub pieces : (p : ℕ) (x : Handed) → get_elem? v.others.handed p ≡ opt.some x → x.pieces ≡ pieces_of x.number l.pieces.items
 
 ends : (s : BoardState) (o : IsOrderly s) (id : ℕ) (v : View) → get_elem? s.views id ≡ opt.some v → HasAll o.slots v → (l : Box Load) × (home s 0 ≡ opt.some (LockTable l)) × IsLast o.slots v l.value
 ends s o id v me all =
@@ -40,17 +45,19 @@ ends s o id v me all =
     let is_free : word s 0 ≡ 0 = dite (ℕ_discrete (word s 0) 0) (λ e. e) (λ ne. absurd (
     let t = o.taken ne in let b = o.books (word s 0) t.0 in let g = all (word s 0) b.session t.1 in let y = has g.0 g.1 g.2 in
     not_gone s o (word s 0) t.0 (ap (λ (j : ℕ). (seat s j).number) (sym g.3) ∙ y.gone))) in
-    let t = o.free is_free in let h = t.2.history in (
+    let t = o.free is_free in let h = t.2.history in let noted_all : t.0.value.pieces.items ≡ o.pieces.all = ap pieces_in (sym t.1) ∙ o.pieces.home is_free in (
       t.0,
       t.1,
       record {
-        home = record { history = refl; sessions = t.2.sessions; empty = t.2.empty; room = t.2.room; ages = t.2.ages; past = t.2.past };
+        home = record { history = refl; sessions = t.2.sessions; empty = t.2.empty; room = t.2.room; ages = t.2.ages; past = t.2.past; pieces = t.2.pieces; in_a_row = t.2.in_a_row };
         legal = subst IsLegal (sym h) o.legal;
         short = subst (λ (f : List Entry). length f < 2 ^ 64) (sym h) o.short;
         ends = λ p x e. let y = has p x e in record {
           calls = ap (calls_of x.number) h ∙ ((leaves_record o.history x.number (word s x.number) (home s x.number) (own_at o.owns x.number) (o.stands x.number y.some y.small) y.settled).calls ∙ y.collected);
           begins = subst (IsPrefix x.front) (sym h) y.begins;
         };
+        within = λ k d few. let w = o.pieces.within k d (subst (λ (ps : List Piece). k < length ps) noted_all few) in subst (λ (ps : List Piece). (0 < (get_or ps k d).session) × ((get_or ps k d).session < o.slots)) (sym noted_all) (w.0, w.1);
+        pieces = λ p x e. (pieces_of_seat s o id v me).handed p x e ∙ ap (pieces_of x.number) (sym noted_all);
       },
     )
   where

@@ -9,8 +9,9 @@ use mathlib.Core.Option as opt
 use lib.ListN.{get_elem?}
 use Rattle.lock_rules.specs.declared.calls.Entry.{Entry}
 use Rattle.publication.specs.Views.{Pending, TicketView}
-use Rattle.publication.specs.Boards.{IsEachOnce, IsSettled, AccountsFor}
-use Rattle.publication.specs.inner.Closing.{is_settled, handed_by, WereHanded, AreEnded}
+use Rattle.lock_desk.specs.BookView.{BookView}
+use Rattle.publication.specs.Boards.{IsEachOnce, IsSettled, AccountsFor, TookPieces}
+use Rattle.publication.specs.inner.Closing.{is_settled, handed_by, WereHanded, AreEnded, TookHanded}
 
 -- lists
 
@@ -126,3 +127,13 @@ were_handed n ts all i some few = let r = all.each i some (omega arith) in
 pub all_accounted : (h : List Entry) (ts : List TicketView) → AreEnded h (map handed_by ts) → All (AccountsFor h) ts
 all_accounted h ts all k d few =
     let e = all k (handed_by (get_or ts k d)) (map_at handed_by ts k (get_or ts k d) (stands_at ts k d few)) in record { front = e.begins; calls = e.calls }
+
+-- If what was kept of the tickets has the pieces that were taken, so have the tickets.
+pub all_took : (book : BookView) (ts : List TicketView) → TookHanded book (map handed_by ts) → TookPieces book ts
+all_took book ts t = record {
+  all = t.all;
+  within = t.within;
+  each = λ k d few. t.each k (handed_by (get_or ts k d)) (map_at handed_by ts k (get_or ts k d) (stands_at ts k d few));
+  in_order = t.in_order;
+  in_a_row = t.in_a_row;
+}

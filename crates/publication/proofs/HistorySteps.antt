@@ -14,7 +14,7 @@ use Rattle.lock_rules.specs.declared.calls.Entry.{Entry}
 use Rattle.publication.specs.Words.{word_of, session_of_word, FREE, POSTED, SERVED, CLOSED, EMPTY}
 use Rattle.publication.specs.Views.{Own, entry, asks}
 use Rattle.publication.specs.Rule.{BoardState, word, home, seat, IsOrderly}
-use Rattle.publication.specs.Kinds.{Seated, started, asked, posting, linking, enlisting, losing_head, HasTaken, seizing, releasing, routing, bypassing, none_unlinked, opened_in, opening, in_hand, called, call_at, replied, answering, putting_back, longer, learning, retiring, leaving}
+use Rattle.publication.specs.Kinds.{Seated, started, asked, posting, linking, enlisting, losing_head, HasTaken, seizing, releasing, noted, routing, bypassing, none_unlinked, opened_in, opening, in_hand, called, call_at, replied, answering, putting_back, longer, learning, retiring, leaving}
 use Rattle.publication.specs.BoardHistory.{history_in}
 use Rattle.publication.specs.Runs.{StepName, start, post, look_at_head, link, enlist, look_for_reply, take_reply, look_at_lock, seize, release, walk, walk_on, unlink, mark_out, relink, look_at_record, open_record, lay, pick, answer_record, put_back, learn, compare, retire, leave, kind_of, LaysDownBook, StepRequires, CarriesOnlyItsOwn}
 use Rattle.publication.specs.declared.view.View.{View}
@@ -73,7 +73,7 @@ module _ (s : BoardState) (o : IsOrderly s) (at put id first second : ℕ) (m n 
   knows : n.0.combiner.has_book ≡ true → p.history ≡ n.0.front
   knows has = sym (p.books id (ap (λ (x : View). x.combiner.has_book) seat_after ∙ has)).whole ∙ ap (λ (x : View). x.front) seat_after
 
-  seized : at ≡ word_of 0 → found ≡ FREE → (load : Box Load) → n ≡ (seizing m.0 load.value.book.history, (0, LockTable load) ∷ m.1) → Same
+  seized : at ≡ word_of 0 → found ≡ FREE → (load : Box Load) → n ≡ (seizing m.0 load.value.book.history load.value.pieces.items, (0, LockTable load) ∷ m.1) → Same
   seized lock hit load e =
       let none : word s 0 ≡ FREE = ap (λ (k : ℕ). get_or s.words k 0) (sym lock) ∙ hit in
       let b = o.free none in
@@ -81,7 +81,7 @@ module _ (s : BoardState) (o : IsOrderly s) (at put id first second : ℕ) (m n 
       let book : load.value.book.history ≡ o.history = ap history_in (sym at_home ∙ b.1) ∙ b.2.history in
       knows (ap (λ (x : Seated). x.0.combiner.has_book) e) ∙ (ap (λ (x : Seated). x.0.front) e ∙ book)
 
-  released : m.0.combiner.has_book ≡ true → LaysDownBook m → n ≡ (releasing m.0, rest m.1) → Same
+  released : m.0.combiner.has_book ≡ true → LaysDownBook m → n ≡ (releasing m.0 (noted m.1), rest m.1) → Same
   released has down e =
       let b = book_of s o id m.0 me has in
       let lacks : n.0.combiner.has_book ≡ false = ap (λ (x : Seated). x.0.combiner.has_book) e in

@@ -14,7 +14,7 @@ use Rattle.publication.specs.Kinds.{longer, learning, learns, compares}
 use Rattle.publication.specs.declared.view.View.{View}
 use Rattle.publication.specs.declared.slot.SlotValue.{SlotValue}
 use Rattle.publication.proofs.Lists.{at_there, each_set, prefix_whole}
-use Rattle.publication.proofs.SeatViews.{session_of, front_of, heard_few, others_of, whole_of}
+use Rattle.publication.proofs.SeatViews.{session_of, front_of, heard_few, others_of, whole_of, pieces_of_seat}
 use Rattle.publication.proofs.Histories.{legal-begins, length-begins}
 use Rattle.publication.proofs.Accounts.{account-whole, account-between}
 use Rattle.publication.proofs.LongerFronts.{IsLonger, is-longer}
@@ -57,7 +57,8 @@ module _ (i : ℕ) (v : View) (is : v.number ≡ i) (some_number : 0 < i) (s : B
           records = learned s o i v f v.heard v.others me k.begins
               (λ has. let w = whole_of s o i v me has in prefix_whole f o.history k.begins (let a = length-begins v.front f k.mine in omega (arith, ap (λ (x : List Entry). length x) w)))
               (heard_few s o i v me)
-              (subst (λ (x : View). AreTrue o.history (viewed s o vs) o.slots o.owns x.others) is_me (sits-others s o vs (omega arith) gone i));
+              (subst (λ (x : View). AreTrue o.history (viewed s o vs) o.slots o.owns x.others) is_me (sits-others s o vs (omega arith) gone i))
+              (pieces_of_seat s o i v me).handed;
           list = learned_listed s l i v f v.heard v.others me;
         }),
         (

@@ -2,6 +2,7 @@ pub mod Lists
 pub mod SeatViews
 pub mod Histories
 pub mod Others
+pub mod Pieces
 pub mod RecordStates
 pub mod Accounts
 pub mod Chains
@@ -30,3 +31,4 @@ pub mod HistorySteps
 pub mod SessionsGoOn
 pub mod RealTime
 pub mod ListLaws
+pub mod PieceLaws

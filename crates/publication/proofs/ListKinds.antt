@@ -19,6 +19,7 @@ use Rattle.publication.specs.declared.slot.SlotValue.{SlotValue}
 use Rattle.publication.proofs.Lists.{at_there, each_set, prefix_self}
 use Rattle.publication.proofs.SeatViews.{front_of, heard_few, whole_of}
 use Rattle.publication.proofs.Others.{still-true}
+use Rattle.publication.proofs.Pieces.{pieces_kept}
 use Rattle.publication.proofs.Chains.{chain_same, chain_head, on_right, chain_right, apart_right, link_names}
 use Rattle.publication.proofs.UnchangedList.{aside, same_walk}
 use Rattle.publication.proofs.RecordStates.{waiting_belongs, announced_listed, stands_listed, waits_for, waits_announced, at_most_one}
@@ -49,6 +50,7 @@ reworded s ws long same o = record {
   taken = λ ne. rw (same 0) (o.taken (λ e. ne (same 0 ∙ e)));
   opens = λ k j call at. let t = o.opens k j call at in record { book = t.book; record_of = t.record_of; is_busy = same j ∙ t.is_busy; call_of = t.call_of; empty_slot = t.empty_slot };
   opened = λ j some e. rw (same 0) (o.opened j some (sym (same j) ∙ e));
+  pieces = pieces_kept o.slots s (record { words = ws; homes = s.homes; views = s.views }) o.pieces (omega arith) (λ e. (sym (same 0) ∙ e, refl)) o.pieces.seats;
 }
 
 -- Two different numbers above 0 and below n: n is at least 3.

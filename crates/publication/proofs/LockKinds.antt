@@ -1,5 +1,5 @@
 -- The kinds of step on the lock word keep the rule: look at lock, seize and release.
-use Rattle.std.proofs.Common.{◌≡◌, ◌≢◌, ℕ, zero, suc, ◌<◌, true, false, eqb, Some, None, List, ◌∷◌, get_or, length-set, get_or-set_other, set, sym, refl, ap, ◌∙◌, subst, arith, append-nil}
+use Rattle.std.proofs.Common.{◌≡◌, ◌≢◌, ℕ, zero, suc, ◌<◌, true, false, eqb, Some, None, List, [], ◌∷◌, ◌++◌, get_or, length, length-set, get_or-set_other, set, sym, refl, ap, ◌∙◌, subst, arith, append-nil}
 use Rattle.std.proofs.lemmas.Bool.{false_from_ne_true}
 use mathlib.Core.Option as opt
 use mathlib.Core.Logic.{dite}
@@ -14,15 +14,18 @@ use Rattle.lock_rules.specs.declared.calls.Entry.{Entry}
 use Rattle.lock_rules.specs.Legal.{IsLegal}
 use Rattle.publication.specs.Words.{word_of, FREE}
 use Rattle.publication.specs.List.{belongs, IsWalking, IsLinked, IsRuled}
-use Rattle.publication.specs.Rule.{blank, BoardState, word, seat, no_combiner, IsHome, HasBook, IsOrderly}
-use Rattle.publication.specs.Views.{Combiner, IsAccountedIn}
-use Rattle.publication.specs.Kinds.{combiner, as_combiner, no_walk, HasOthers, looks_at_lock, seizing, Seized, seizes, releasing, releases}
+use Rattle.publication.specs.Rule.{blank, BoardState, word, seat, no_combiner, pieces_in, IsHome, HasBook, IsOrderly}
+use Rattle.publication.specs.Pieces.{pieces_of, HasAdded, added}
+use Rattle.publication.specs.Views.{Combiner, Taken, IsAccountedIn}
+use Rattle.publication.specs.declared.piece.Piece.{Piece}
+use Rattle.publication.specs.Kinds.{combiner, as_combiner, with_pieces, no_walk, HasOthers, looks_at_lock, seizing, Seized, seizes, releasing, releases}
 use Rattle.publication.specs.declared.view.View.{View}
 use Rattle.publication.specs.declared.slot.Load.{Load}
 use Rattle.publication.specs.declared.slot.SlotValue.{SlotValue}
 use Rattle.publication.specs.declared.slot.SlotValue.TheVariants.{LockTable}
 use Rattle.publication.proofs.Lists.{at_there, at_home}
-use Rattle.publication.proofs.SeatViews.{front_of, book_of}
+use Rattle.publication.proofs.SeatViews.{front_of, book_of, pieces_of_seat}
+use Rattle.publication.proofs.Pieces.{own_added, others_kept, within_added}
 use Rattle.publication.proofs.Accounts.{account-whole}
 use Rattle.publication.proofs.SessionKinds.{Goes, seated, unmoved}
 use Rattle.publication.proofs.UnchangedList.{links_kept, aside}
@@ -42,10 +45,10 @@ module _ (i : ℕ) (v : View) (is : v.number ≡ i) (some_number : 0 < i) (s : B
   book_here = ap (λ (u : View). u.combiner.has_book) is_me
 
   -- The publication list doesn't change, if no record is unlinked and no walk has begun.
-  still_listed : (n : ℕ) (at : opt.Option SlotValue) (front : List Entry) (d : Combiner) → l.off ≡ 0
-      → IsLinked record { words = set s.words (word_of 0) n; homes = set s.homes 0 at; views = set s.views i (as_combiner v front d (no_walk v.listing)) }
-  still_listed n at front d none_off =
-      let u : View = as_combiner v front d (no_walk v.listing) in
+  still_listed : (n : ℕ) (at : opt.Option SlotValue) (front : List Entry) (d : Combiner) (q : Taken) → l.off ≡ 0
+      → IsLinked record { words = set s.words (word_of 0) n; homes = set s.homes 0 at; views = set s.views i (with_pieces (as_combiner v front d (no_walk v.listing)) q) }
+  still_listed n at front d q none_off =
+      let u : View = with_pieces (as_combiner v front d (no_walk v.listing)) q in
       let ws : List ℕ = set s.words (word_of 0) n in
       let hs : List (opt.Option SlotValue) = set s.homes 0 at in
       let same : (j : ℕ) → 0 < j → get_or ws (word_of j) 0 ≡ word s j = λ j some. get_or-set_other s.words (word_of 0) (word_of j) n 0 (λ e. omega (arith, e)) in
@@ -72,7 +75,10 @@ module _ (i : ℕ) (v : View) (is : v.number ≡ i) (some_number : 0 < i) (s : B
     nobody : (k : ℕ) → (seat s k).combiner.has_book ≢ true
     nobody k has = let b = o.books k has in absurd (omega (arith, b.lock_is, b.session))
 
-    seize_step : IsLockStep s o i v 0 i opt.none o.history (combiner v.combiner true v.combiner.opened 0) (no_walk v.listing) me some_number
+    own_now : v.pieces.own ≡ pieces_of i o.pieces.all
+    own_now = (pieces_of_seat s o i v me).own (λ e. omega arith) ∙ ap (λ (j : ℕ). pieces_of j o.pieces.all) is
+
+    seize_step : IsLockStep s o i v 0 i opt.none o.history (combiner v.combiner true v.combiner.opened 0) (no_walk v.listing) (record { own = v.pieces.own; all = o.pieces.all }) me some_number
     seize_step = record {
       lock = refl;
       whole = refl;
@@ -83,27 +89,35 @@ module _ (i : ℕ) (v : View) (is : v.number ≡ i) (some_number : 0 < i) (s : B
       free = λ z. absurd (omega arith);
       taken = λ _. (refl, refl, small, refl);
       mine_then = λ _. refl;
+      pieces = o.pieces.all;
+      within = o.pieces.within;
+      own_pieces = own_now;
+      other_pieces = λ j ne. refl;
+      known = λ _. refl;
+      noted = λ z. absurd (omega arith);
     }
 
-    seized : (load : Load) → IsHome o.history o.slots load → Seized v o.slots load
-    seized load home = record {
+    seized : (load : Load) → IsHome o.history o.slots load → load.pieces.items ≡ o.pieces.all → Seized v o.slots load
+    seized load home noted_all = record {
       lacked = false_from_ne_true v.combiner.has_book (λ has. nobody i (book_here ∙ has));
-      home = record { history = refl; sessions = home.sessions; empty = home.empty; room = home.room; ages = home.ages; past = home.past };
+      home = record { history = refl; sessions = home.sessions; empty = home.empty; room = home.room; ages = home.ages; past = home.past; pieces = home.pieces; in_a_row = home.in_a_row };
       legal = subst IsLegal (sym home.history) o.legal;
       longer = subst (λ (f : List Entry). IsPrefix v.front f) (sym home.history) (front_of s o i v me);
       accounted = subst (λ (f : List Entry). IsAccountedIn f v.number v.own.collected v.own.pending) (sym home.history) (account-whole s o i v me some_number (λ e. omega arith));
+      pieces = own_now ∙ (ap (λ (j : ℕ). pieces_of j o.pieces.all) (sym is) ∙ ap (pieces_of v.number) (sym noted_all));
     }
 
     seize_won : (more : List (ℕ × SlotValue)) → Goes s 0 i (v, more) (seizes (step o.slots 0 FREE i opt.none) (v, more)) i
-    seize_won more = let t = o.free hit in let load = t.0 in (
-      seizing v load.value.book.history,
+    seize_won more = let t = o.free hit in let load = t.0 in let noted_all : load.value.pieces.items ≡ o.pieces.all = ap pieces_in (sym t.1) ∙ o.pieces.home hit in (
+      seizing v load.value.book.history load.value.pieces.items,
       takes 0 (LockTable load),
       at_home s.homes 0 (LockTable load) t.1,
-      subst (λ (f : List Entry). IsRuled record { words = set s.words (word_of 0) i; homes = set s.homes 0 opt.none; views = set s.views i (seizing v f) }) (sym t.2.history) (record {
-        records = relocked s o i v 0 i opt.none o.history (combiner v.combiner true v.combiner.opened 0) (no_walk v.listing) me some_number seize_step;
-        list = still_listed i opt.none o.history (combiner v.combiner true v.combiner.opened 0) (l.whole hit);
-      }),
-      ((λ _. (load, refl, seized load.value t.2)), λ miss. absurd (miss hit)),
+      subst (λ (f : List Entry). IsRuled record { words = set s.words (word_of 0) i; homes = set s.homes 0 opt.none; views = set s.views i (seizing v f load.value.pieces.items) }) (sym t.2.history)
+          (subst (λ (ps : List Piece). IsRuled record { words = set s.words (word_of 0) i; homes = set s.homes 0 opt.none; views = set s.views i (seizing v o.history ps) }) (sym noted_all) (record {
+            records = relocked s o i v 0 i opt.none o.history (combiner v.combiner true v.combiner.opened 0) (no_walk v.listing) (record { own = v.pieces.own; all = o.pieces.all }) me some_number seize_step;
+            list = still_listed i opt.none o.history (combiner v.combiner true v.combiner.opened 0) (record { own = v.pieces.own; all = o.pieces.all }) (l.whole hit);
+          })),
+      ((λ _. (load, refl, seized load.value t.2 noted_all)), λ miss. absurd (miss hit)),
     )
 
   seize_lost : (more : List (ℕ × SlotValue)) → word s 0 ≢ FREE → Goes s 0 i (v, more) (seizes (step o.slots 0 FREE i opt.none) (v, more)) (word s 0)
@@ -114,7 +128,18 @@ module _ (i : ℕ) (v : View) (is : v.number ≡ i) (some_number : 0 < i) (s : B
 
   -- release
 
-  module _ (has : v.combiner.has_book ≡ true) (load : Box Load) (full : IsHome v.front o.slots load.value) (none : IsNothingOpened v.combiner) (settled : v.listing.off ≡ 0) where
+  module _ (has : v.combiner.has_book ≡ true) (load : Box Load) (full : IsHome v.front o.slots load.value) (took : HasAdded v.number v.pieces.all load.value.pieces.items) (none : IsNothingOpened v.combiner) (settled : v.listing.off ≡ 0) where
+    -- What the session knows of pieces afterwards.
+    abbrev now_taken : Taken
+    now_taken = record { own = v.pieces.own ++ added v.pieces.all load.value.pieces.items; all = [] }
+
+    known_all : v.pieces.all ≡ o.pieces.all
+    known_all = (pieces_of_seat s o i v me).known has
+
+    -- The session added its pieces to those that were taken before.
+    took_more : HasAdded i o.pieces.all load.value.pieces.items
+    took_more = subst (λ (ps : List Piece). HasAdded i ps load.value.pieces.items) known_all (subst (λ (j : ℕ). HasAdded j v.pieces.all load.value.pieces.items) is took)
+
     none_off : l.off ≡ 0
     none_off = sym (subst (λ (u : View). u.combiner.has_book ≡ true → IsWalking l.list l.off l.before u.listing) is_me (l.walkers i) has).off_is ∙ settled
 
@@ -127,7 +152,7 @@ module _ (i : ℕ) (v : View) (is : v.number ≡ i) (some_number : 0 < i) (s : B
     none_here : IsNothingOpened (seat s i).combiner
     none_here = subst (λ (u : View). IsNothingOpened u.combiner) (sym is_me) none
 
-    release_step : IsLockStep s o i v 0 FREE (opt.some (LockTable load)) o.history (combiner v.combiner false v.combiner.opened 0) (no_walk v.listing) me some_number
+    release_step : IsLockStep s o i v 0 FREE (opt.some (LockTable load)) o.history (combiner v.combiner false v.combiner.opened 0) (no_walk v.listing) now_taken me some_number
     release_step = record {
       lock = refl;
       whole = refl;
@@ -137,23 +162,30 @@ module _ (i : ℕ) (v : View) (is : v.number ≡ i) (some_number : 0 < i) (s : B
           (λ e. subst (λ (l : ℕ). IsNothingOpened (seat s l).combiner) (sym e) none_here)
           (λ ne j call shown. nobody_else k ne (o.opens k j call shown).book);
       alone = nobody_else;
-      free = λ _. (load, refl, record { history = full.history ∙ book.whole; sessions = full.sessions; empty = full.empty; room = full.room; ages = full.ages; past = full.past });
+      free = λ _. (load, refl, record { history = full.history ∙ book.whole; sessions = full.sessions; empty = full.empty; room = full.room; ages = full.ages; past = full.past; pieces = full.pieces; in_a_row = full.in_a_row });
       taken = λ z. absurd (z refl);
       mine_then = λ e. absurd (cc e);
+      pieces = load.value.pieces.items;
+      within = within_added i o.pieces.all load.value.pieces.items took_more o.slots (length s.views) some_number small (at_there s.views i v blank me).1 o.pieces.within;
+      own_pieces = ap (λ (ps : List Piece). ps ++ added v.pieces.all load.value.pieces.items) ((pieces_of_seat s o i v me).own (λ e. omega arith) ∙ ap (λ (j : ℕ). pieces_of j o.pieces.all) is)
+          ∙ (ap (λ (ps : List Piece). pieces_of i o.pieces.all ++ added ps load.value.pieces.items) known_all ∙ sym (own_added i o.pieces.all load.value.pieces.items took_more));
+      other_pieces = others_kept i o.pieces.all load.value.pieces.items took_more;
+      known = λ e. absurd (cc e);
+      noted = λ _. refl;
     }
 
     release_goes : (more : List (ℕ × SlotValue)) → Goes s 0 i (v, (0, LockTable load) ∷ more) (λ _. releases (step o.slots 0 FREE 0 opt.none) (v, (0, LockTable load) ∷ more) FREE) FREE
     release_goes more = (
-      releasing v,
+      releasing v load.value.pieces.items,
       gives,
       tt,
       subst (λ (f : List Entry). IsRuled record {
         words = set s.words (word_of 0) FREE;
         homes = set s.homes 0 (opt.some (LockTable load));
-        views = set s.views i (as_combiner v f (combiner v.combiner false v.combiner.opened 0) (no_walk v.listing));
+        views = set s.views i (with_pieces (as_combiner v f (combiner v.combiner false v.combiner.opened 0) (no_walk v.listing)) now_taken);
       }) (sym book.whole) (record {
-        records = relocked s o i v 0 FREE (opt.some (LockTable load)) o.history (combiner v.combiner false v.combiner.opened 0) (no_walk v.listing) me some_number release_step;
-        list = still_listed FREE (opt.some (LockTable load)) o.history (combiner v.combiner false v.combiner.opened 0) none_off;
+        records = relocked s o i v 0 FREE (opt.some (LockTable load)) o.history (combiner v.combiner false v.combiner.opened 0) (no_walk v.listing) now_taken me some_number release_step;
+        list = still_listed FREE (opt.some (LockTable load)) o.history (combiner v.combiner false v.combiner.opened 0) now_taken none_off;
       }),
       refl,
     )
@@ -176,7 +208,7 @@ module _ (slots id : ℕ) (v : View) (is : v.number ≢ 0) (has : v.combiner.has
   some_number = omega arith
 
   -- Release keeps the rule, for a combiner with no record opened or unlinked and a load fit to go home.
-  pub release_kept : (load : Box Load) (more : List (ℕ × SlotValue)) → IsHome v.front slots load.value → IsNothingOpened v.combiner → v.listing.off ≡ 0
+  pub release_kept : (load : Box Load) (more : List (ℕ × SlotValue)) → IsHome v.front slots load.value → HasAdded v.number v.pieces.all load.value.pieces.items → IsNothingOpened v.combiner → v.listing.off ≡ 0
       → Allows IsRuled slots id (v, (0, LockTable load) ∷ more) 0 (λ _. FREE) (λ _. releases (step slots 0 FREE 0 opt.none) (v, (0, LockTable load) ∷ more) FREE)
-  release_kept load more full none settled = seated slots id v.number 0 v ((0, LockTable load) ∷ more) (λ _. FREE) (λ _. releases (step slots 0 FREE 0 opt.none) (v, (0, LockTable load) ∷ more) FREE) refl some_number
-      (λ s o l me small wide e. release_goes v.number v refl some_number s o l me small has load (subst (λ (n : ℕ). IsHome v.front n load.value) (sym e) full) none settled more)
+  release_kept load more full took none settled = seated slots id v.number 0 v ((0, LockTable load) ∷ more) (λ _. FREE) (λ _. releases (step slots 0 FREE 0 opt.none) (v, (0, LockTable load) ∷ more) FREE) refl some_number
+      (λ s o l me small wide e. release_goes v.number v refl some_number s o l me small has load (subst (λ (n : ℕ). IsHome v.front n load.value) (sym e) full) took none settled more)

@@ -13,13 +13,14 @@ use Rattle.lock_rules.specs.declared.calls.Entry.{Entry}
 use Rattle.publication.specs.Words.{word_of, END, OUT}
 use Rattle.publication.specs.List.{link, belongs, IsLinked, IsRuled}
 use Rattle.publication.specs.Views.{Own}
-use Rattle.publication.specs.Rule.{BoardState, blank, apart, AreTrue, fresh, own_at, announced, maker, new_session, word, home, seat, IsHome, IsVacant, RecordState, HasBook, IsOpened, IsSession, IsMaker, IsOrderly}
+use Rattle.publication.specs.Rule.{BoardState, blank, apart, AreTrue, fresh, own_at, announced, maker, new_session, word, home, seat, IsHome, IsVacant, RecordState, HasBook, IsOpened, IsSession, IsMaker, HasPieces, IsOrderly}
 use Rattle.publication.specs.Rule.RecordState.{vacant}
 use Rattle.publication.specs.declared.view.View.{View}
 use Rattle.publication.specs.declared.slot.Load.{Load}
 use Rattle.publication.specs.declared.slot.SlotValue.TheVariants.{Empty, LockTable}
 use Rattle.publication.proofs.Lists.{at_there, each_set, each_snoc, prefix_self, same_all, past_end}
 use Rattle.publication.proofs.Others.{StaysGone, still-true}
+use Rattle.publication.proofs.Pieces.{unmade_none, knows_none, pieces_kept}
 use Rattle.publication.proofs.UnchangedList.{Keeps, seen_listed, same_seat, unseated}
 use Rattle.publication.proofs.LockKinds.{nothing_at}
 
@@ -90,8 +91,8 @@ module _ (n : ℕ) (load : Box Load) (ready : IsHome [] (n + 1) load.value) wher
     walkers = λ k has. absurd (each (λ u. u.combiner.has_book ≡ true → ⊥) (λ e. cc e) (λ e. cc e) k has);
   }
 
-  in_order : IsOrderly laid_out
-  in_order = record {
+  in_order : load.value.pieces.items ≡ [] → IsOrderly laid_out
+  in_order untaken = record {
     history = [];
     slots = n + 1;
     owns = replicate (n + 1) fresh;
@@ -113,11 +114,17 @@ module _ (n : ℕ) (load : Box Load) (ready : IsHome [] (n + 1) load.value) wher
     taken = λ some_lock. absurd (some_lock (words_zero 0));
     opens = λ k j call is. absurd (each (λ u. get_elem? u.combiner.opened j ≡ opt.some (Some call) → ⊥) (nothing_at 0 j call) (nothing_at 0 j call) k is);
     opened = λ j some_session is. absurd (omega (arith, words_zero j));
+    pieces = record {
+      all = [];
+      within = λ k d few. absurd (omega arith);
+      seats = each (HasPieces []) (knows_none [] first refl refl refl) (knows_none [] blank refl refl refl);
+      home = λ _. untaken;
+    };
   }
 
   -- A new board has the rule.
-  pub begins : IsRuled laid_out
-  begins = record { records = in_order; list = none_listed }
+  pub begins : load.value.pieces.items ≡ [] → IsRuled laid_out
+  begins untaken = record { records = in_order untaken; list = none_listed }
 
 -- The first seat of a board that has the rule makes one more session.
 module _ (slots made : ℕ) (some_left : made + 1 < slots) (s : BoardState) (o : IsOrderly s) (me : get_elem? s.views 0 ≡ opt.some (maker slots made)) where
@@ -244,6 +251,13 @@ module _ (slots made : ℕ) (some_left : made + 1 < slots) (s : BoardState) (o :
     taken = λ some_lock. let q = o.taken some_lock in (still_has (word s 0) q.0, q.1, q.2);
     opens = opens_after;
     opened = λ j some_session is. let p = o.opened j some_session is in (p.0, still_open j p.0 (word s 0) p.1);
+    pieces = pieces_kept o.slots s enrolled o.pieces (omega (arith, one_more)) (λ e. (e, refl)) (each_seat (λ k u. HasPieces o.pieces.all u)
+        (record {
+          own = λ _. sym (unmade_none o.slots (length s.views) (made + 1) o.pieces.all o.pieces.within (omega (arith, seats)));
+          handed = λ p x at. absurd (opt.some-ne-none x (sym at));
+          known = λ has. absurd (cc has);
+        })
+        (knows_none o.pieces.all more refl refl refl) (λ k ne. o.pieces.seats k));
   }
 
   -- The publication list doesn't change.

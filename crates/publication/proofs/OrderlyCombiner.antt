@@ -7,30 +7,34 @@ use mathlib.Core.List.{IsPrefix}
 use native.Mathlib.Decide.{ℕ_discrete}
 use lib.ListN.{get_elem?}
 use Rattle.std.specs.Global.{Box}
+use Rattle.std.specs.Prelude.{All}
 use Rattle.lock_rules.specs.declared.calls.Call.{Call}
 use Rattle.lock_rules.specs.declared.calls.Entry.{Entry}
 use Rattle.lock_rules.specs.Legal.{IsLegal}
 use Rattle.publication.specs.Words.{word_of, FREE, BUSY}
-use Rattle.publication.specs.Views.{Own, Combiner, Listing, Others, asks}
-use Rattle.publication.specs.Rule.{blank, BoardState, word, home, seat, fresh, own_at, announced, IsHome, RecordState, HasBook, IsOpened, IsSession, IsMaker, AreTrue, IsOrderly}
-use Rattle.publication.specs.Kinds.{as_combiner}
+use Rattle.publication.specs.Pieces.{pieces_of}
+use Rattle.publication.specs.Views.{Own, Combiner, Listing, Handed, Others, Taken, asks}
+use Rattle.publication.specs.Rule.{blank, BoardState, word, home, seat, fresh, own_at, announced, IsHome, RecordState, HasBook, IsOpened, IsSession, IsMaker, AreTrue, pieces_in, IsOfSession, HasPieces, IsOrderly}
+use Rattle.publication.specs.Kinds.{as_combiner, with_pieces}
+use Rattle.publication.specs.declared.piece.Piece.{Piece}
 use Rattle.publication.specs.declared.view.View.{View}
 use Rattle.publication.specs.declared.slot.Load.{Load}
 use Rattle.publication.specs.declared.slot.SlotValue.{SlotValue}
 use Rattle.publication.specs.declared.slot.SlotValue.TheVariants.{Empty, LockTable}
 use Rattle.publication.proofs.Lists.{at_there, each_set, prefix_self, prefix_trans}
-use Rattle.publication.proofs.SeatViews.{session_of, heard_few, others_of, book_of, opened_of}
+use Rattle.publication.proofs.SeatViews.{session_of, heard_few, others_of, book_of, opened_of, pieces_of_seat}
 use Rattle.publication.proofs.Others.{still-true}
+use Rattle.publication.proofs.Pieces.{pieces_kept}
 
 -- The combiner has opened no record.
 abbrev pub IsNothingOpened : Combiner → Type 0
 IsNothingOpened c = (j : ℕ) (call : Call) → get_elem? c.opened j ≢ opt.some (Some call)
 
--- Seat k, with view v, changes word x, slot x, its front, its combiner's part and its listing.
-module _ (s : BoardState) (o : IsOrderly s) (k : ℕ) (v : View) (x n : ℕ) (at : opt.Option SlotValue) (front : List Entry) (d : Combiner) (l : Listing) (me : get_elem? s.views k ≡ opt.some v) (mine : 0 < k) where
+-- Seat k, with view v, changes word x, slot x, its front, its combiner's part, its listing and what it knows of pieces.
+module _ (s : BoardState) (o : IsOrderly s) (k : ℕ) (v : View) (x n : ℕ) (at : opt.Option SlotValue) (front : List Entry) (d : Combiner) (l : Listing) (q : Taken) (me : get_elem? s.views k ≡ opt.some v) (mine : 0 < k) where
   -- The combiner's view after the step.
   abbrev u : View
-  u = as_combiner v front d l
+  u = with_pieces (as_combiner v front d l) q
 
   -- The board after the step.
   abbrev after : BoardState
@@ -132,6 +136,7 @@ module _ (s : BoardState) (o : IsOrderly s) (k : ℕ) (v : View) (x n : ℕ) (at
     pub new_busy : n ≡ BUSY → (call : Call) × (get_elem? d.opened x ≡ opt.some (Some call))
     pub stands : RecordState h x n at (own_at o.owns x)
     pub grow : (j w : ℕ) (a : opt.Option SlotValue) (y : Own) → j ≢ x → RecordState o.history j w a y → RecordState h j w a y
+    pub pieces : q ≡ v.pieces
 
   module _ (h : List Entry) (t : IsRecordStep h) where
     book_before : HasBook o.history (word s 0) k v
@@ -207,10 +212,15 @@ module _ (s : BoardState) (o : IsOrderly s) (k : ℕ) (v : View) (x n : ℕ) (at
       taken = λ _. let r = o.taken (λ none. omega (arith, book_before.lock_is)) in with_book lock_after t.still (omega (arith, r.1, book_before.lock_is)) (home_other 0 not_lock ∙ r.2);
       opens = opens_kept (λ j call is. dite (ℕ_discrete j x) (λ e. open_here j call e is) (λ ne. open_other j call ne is)) (λ i ne j call is. alone i ne (o.opens i j call is).book);
       opened = opened_after;
+      pieces = pieces_kept o.slots s after o.pieces (omega (arith, seats_kept)) (λ none. absurd (omega (arith, lock_after)))
+          (each_set s.views k u blank (λ j y. HasPieces o.pieces.all y) sits
+          (let p = pieces_of_seat s o k v me in record { own = λ some. ap (λ (y : Taken). y.own) t.pieces ∙ p.own some; handed = p.handed; known = λ _. ap (λ (y : Taken). y.all) t.pieces ∙ p.known t.has })
+          (λ j ne. o.pieces.seats j));
     }
 
   -- What a step on the lock word has to show: no seat has opened a record, before or after; no other seat has the
-  -- book; the book is at home if the word is FREE, else this seat has it.
+  -- book; the book is at home if the word is FREE, else this seat has it. Of the pieces afterwards, this session's own are
+  -- those that it took, and no other session has others than before; the load notes them, or this seat knows them.
   pub record IsLockStep : Type 0 where
     pub lock : x ≡ 0
     pub whole : front ≡ o.history
@@ -221,6 +231,12 @@ module _ (s : BoardState) (o : IsOrderly s) (k : ℕ) (v : View) (x n : ℕ) (at
     pub free : n ≡ FREE → (l : Box Load) × (at ≡ opt.some (LockTable l)) × IsHome o.history o.slots l.value
     pub taken : n ≢ FREE → (n ≡ k) × (d.has_book ≡ true) × (k < o.slots) × (at ≡ opt.none)
     pub mine_then : d.has_book ≡ true → n ≡ k
+    pub pieces : List Piece
+    pub within : All (IsOfSession o.slots (length s.views)) pieces
+    pub own_pieces : q.own ≡ pieces_of k pieces
+    pub other_pieces : (j : ℕ) → j ≢ k → pieces_of j pieces ≡ pieces_of j o.pieces.all
+    pub known : d.has_book ≡ true → q.all ≡ pieces
+    pub noted : n ≡ FREE → pieces_in at ≡ pieces
 
   module _ (t : IsLockStep) where
     not_record : (j : ℕ) → 0 < j → j ≢ x
@@ -234,6 +250,24 @@ module _ (s : BoardState) (o : IsOrderly s) (k : ℕ) (v : View) (x n : ℕ) (at
 
     slot_now : home after 0 ≡ at
     slot_now = ap (home after) (sym t.lock) ∙ home_here few
+
+    -- A session that was handed in isn't this one.
+    not_handed : (x : Others) → AreTrue o.history s o.slots o.owns x → (p : ℕ) (y : Handed) → get_elem? x.handed p ≡ opt.some y → y.number ≢ k
+    not_handed x true_of p y is e = absurd (let gone : (seat s k).number ≡ 0 = ap (λ (j : ℕ). (seat s j).number) (sym e) ∙ (true_of.handed p y is).gone in omega (arith, gone, ap (λ (y : View). y.number) is_me, t.named))
+
+    pieces_here : HasPieces t.pieces u
+    pieces_here = let p = pieces_of_seat s o k v me in record {
+      own = λ _. t.own_pieces ∙ ap (λ (j : ℕ). pieces_of j t.pieces) (sym t.named);
+      handed = λ i x is. p.handed i x is ∙ sym (t.other_pieces x.number (not_handed v.others (others_of s o k v me) i x is));
+      known = t.known;
+    }
+
+    pieces_there : (j : ℕ) → j ≢ k → HasPieces t.pieces (seat s j)
+    pieces_there j ne = let p = o.pieces.seats j in record {
+      own = λ some. p.own some ∙ sym (t.other_pieces (seat s j).number (λ e. ne (sym (o.sessions j some).is ∙ e)));
+      handed = λ i x is. p.handed i x is ∙ sym (t.other_pieces x.number (not_handed (seat s j).others (o.others j) i x is));
+      known = λ has. absurd (t.alone j ne has);
+    }
 
     none_here : IsNothingOpened d
     none_here j call is = t.none k j call (ap (λ (y : View). get_elem? y.combiner.opened j) is_me ∙ (sym (ap (λ (l : List (Option Call)). get_elem? l j) t.same) ∙ is))
@@ -262,4 +296,10 @@ module _ (s : BoardState) (o : IsOrderly s) (k : ℕ) (v : View) (x n : ℕ) (at
       taken = λ some_now. let r = t.taken (λ z. some_now (lock_now ∙ z)) in with_book (lock_now ∙ r.0) r.1 r.2 (slot_now ∙ r.3);
       opens = opens_kept (λ j call is. absurd (none_here j call is)) (λ i ne. t.none i);
       opened = λ j some_session is. let r = o.opened j some_session (sym (word_other j (not_record j some_session)) ∙ is) in absurd (t.none (word s 0) j r.0 r.1);
+      pieces = record {
+        all = t.pieces;
+        within = subst (λ (n : ℕ). All (IsOfSession o.slots n) t.pieces) (sym seats_kept) t.within;
+        seats = each_set s.views k u blank (λ j y. HasPieces t.pieces y) sits pieces_here pieces_there;
+        home = λ free_now. ap pieces_in slot_now ∙ t.noted (sym lock_now ∙ free_now);
+      };
     }

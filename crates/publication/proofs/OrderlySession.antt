@@ -9,13 +9,14 @@ use Rattle.lock_rules.specs.declared.calls.Call.{Call}
 use Rattle.lock_rules.specs.declared.calls.Entry.{Entry}
 use Rattle.publication.specs.Words.{word_of, BUSY}
 use Rattle.publication.specs.Views.{Own, Combiner, Listing, Others}
-use Rattle.publication.specs.Rule.{blank, BoardState, word, home, seat, fresh, own_at, announced, RecordState, HasBook, IsOpened, IsSession, IsMaker, AreTrue, IsOrderly}
+use Rattle.publication.specs.Rule.{blank, BoardState, word, home, seat, fresh, own_at, announced, RecordState, HasBook, IsOpened, IsSession, IsMaker, AreTrue, HasPieces, IsOrderly}
 use Rattle.publication.specs.Kinds.{as_session}
 use Rattle.publication.specs.declared.view.View.{View}
 use Rattle.publication.specs.declared.slot.SlotValue.{SlotValue}
 use Rattle.publication.proofs.Lists.{at_there, each_set, prefix_self}
-use Rattle.publication.proofs.SeatViews.{session_of, heard_few, others_of, book_of}
+use Rattle.publication.proofs.SeatViews.{session_of, heard_few, others_of, book_of, pieces_of_seat}
 use Rattle.publication.proofs.Others.{still-true}
+use Rattle.publication.proofs.Pieces.{pieces_kept}
 
 -- Session i, whose seat has view v, changes its state word, its slot, its front, its own calls, its heard counts and
 -- its listing.
@@ -201,4 +202,6 @@ module _ (s : BoardState) (o : IsOrderly s) (i : ℕ) (v : View) (n : ℕ) (at :
       taken = taken_after;
       opens = opens_after;
       opened = opened_after;
+      pieces = pieces_kept o.slots s after o.pieces (omega (arith, length-set s.views i u)) (λ none. (sym (word_other 0 not_lock) ∙ none, home_other 0 not_lock))
+          (each_set s.views i u blank (λ j x. HasPieces o.pieces.all x) sits (let t = pieces_of_seat s o i v me in record { own = t.own; handed = t.handed; known = t.known }) (λ j ne. o.pieces.seats j));
     }

@@ -61,7 +61,7 @@ module _ (i : ℕ) (v : View) (is : v.number ≡ i) (some_number : 0 < i) (s : B
       → ((k : ℕ) → k ≢ j → get_elem? d.opened k ≡ get_elem? v.combiner.opened k) → ((k : ℕ) → 0 < k → k ≢ j → v.combiner.hand ≢ k)
       → ((call : Call) → get_elem? d.opened j ≡ opt.some (Some call) → (n ≡ BUSY) × ((floor : ℕ) × ((own_at o.owns j).pending ≡ Some (asks call floor))) × (d.hand ≢ j → at ≡ opt.some Empty))
       → (n ≡ BUSY → (call : Call) × (get_elem? d.opened j ≡ opt.some (Some call)))
-      → RecordState o.history j n at (own_at o.owns j) → IsRecordStep s o i v j n at v.front d v.listing me some_number o.history
+      → RecordState o.history j n at (own_at o.owns j) → IsRecordStep s o i v j n at v.front d v.listing v.pieces me some_number o.history
   same_history n at d still as_wide others hands new_open new_busy stands = record {
     has = has;
     still = still;
@@ -78,6 +78,7 @@ module _ (i : ℕ) (v : View) (is : v.number ≡ i) (some_number : 0 < i) (s : B
     new_busy = new_busy;
     stands = stands;
     grow = λ k w a u ne t. t;
+    pieces = refl;
   }
 
   own_is : v.own ≡ own_at o.owns i
@@ -130,7 +131,7 @@ module _ (i : ℕ) (v : View) (is : v.number ≡ i) (some_number : 0 < i) (s : B
     now_open : get_elem? (set v.combiner.opened j (Some call)) j ≡ opt.some (Some call)
     now_open = set_here v.combiner.opened j (Some call) (omega arith)
 
-    open_step : v.combiner.hand ≡ 0 → IsRecordStep s o i v j BUSY opt.none v.front (combiner v.combiner true (set v.combiner.opened j (Some call)) j) v.listing me some_number o.history
+    open_step : v.combiner.hand ≡ 0 → IsRecordStep s o i v j BUSY opt.none v.front (combiner v.combiner true (set v.combiner.opened j (Some call)) j) v.listing v.pieces me some_number o.history
     open_step empty = same_history BUSY opt.none (combiner v.combiner true (set v.combiner.opened j (Some call)) j) refl (length-set v.combiner.opened j (Some call))
         (λ k ne. set_else v.combiner.opened j k (Some call) ne)
         (λ k some ne e. absurd (omega arith))
@@ -167,7 +168,7 @@ module _ (i : ℕ) (v : View) (is : v.number ≡ i) (some_number : 0 < i) (s : B
       takes j (PostedCall call),
       at_home s.homes j (PostedCall call) f.asked,
       record {
-        records = combined s o i v j BUSY opt.none v.front (combiner v.combiner true (set v.combiner.opened j (Some call)) j) v.listing me some_number o.history (open_step empty);
+        records = combined s o i v j BUSY opt.none v.front (combiner v.combiner true (set v.combiner.opened j (Some call)) j) v.listing v.pieces me some_number o.history (open_step empty);
         list = still_listed BUSY opt.none v.front (combiner v.combiner true (set v.combiner.opened j (Some call)) j) (as_pending POSTED hit BUSY (λ b. refl));
       },
       ((λ _. (call, refl, opened_now hit)), λ miss. absurd (miss hit)),
@@ -199,7 +200,7 @@ module _ (i : ℕ) (v : View) (is : v.number ≡ i) (some_number : 0 < i) (s : B
     )
 
     hand_step : (at : opt.Option SlotValue) (hand : ℕ) → (hand ≢ j → at ≡ opt.some Empty) → ((k : ℕ) → 0 < k → k ≢ j → v.combiner.hand ≢ k)
-        → IsRecordStep s o i v j (word s j) at v.front (combiner v.combiner true v.combiner.opened hand) v.listing me some_number o.history
+        → IsRecordStep s o i v j (word s j) at v.front (combiner v.combiner true v.combiner.opened hand) v.listing v.pieces me some_number o.history
     hand_step at hand empty_slot hands = same_history (word s j) at (combiner v.combiner true v.combiner.opened hand) refl refl (λ k ne. refl) hands (still_open at hand empty_slot)
         (λ _. (call, shown))
         (busy call was.call_of.0 record { is = was.is_busy; some = busy_is.some; early = busy_is.early; publishes = busy_is.publishes; calls = busy_is.calls })
@@ -210,7 +211,7 @@ module _ (i : ℕ) (v : View) (is : v.number ≡ i) (some_number : 0 < i) (s : B
       gives,
       tt,
       record {
-        records = combined s o i v j (word s j) (opt.some Empty) v.front (combiner v.combiner true v.combiner.opened 0) v.listing me some_number o.history
+        records = combined s o i v j (word s j) (opt.some Empty) v.front (combiner v.combiner true v.combiner.opened 0) v.listing v.pieces me some_number o.history
             (hand_step (opt.some Empty) 0 (λ away. refl) (λ k some ne e. ne (sym e ∙ held)));
         list = still_listed (word s j) (opt.some Empty) v.front (combiner v.combiner true v.combiner.opened 0) (λ b. refl);
       },
@@ -223,7 +224,7 @@ module _ (i : ℕ) (v : View) (is : v.number ≡ i) (some_number : 0 < i) (s : B
       takes j Empty,
       at_home s.homes j Empty (was.empty_slot (λ e. omega arith)),
       record {
-        records = combined s o i v j (word s j) opt.none v.front (combiner v.combiner true v.combiner.opened j) v.listing me some_number o.history
+        records = combined s o i v j (word s j) opt.none v.front (combiner v.combiner true v.combiner.opened j) v.listing v.pieces me some_number o.history
             (hand_step opt.none j (λ away. absurd (away refl)) (λ k some ne e. absurd (omega arith)));
         list = still_listed (word s j) opt.none v.front (combiner v.combiner true v.combiner.opened j) (λ b. refl);
       },
@@ -243,7 +244,7 @@ module _ (i : ℕ) (v : View) (is : v.number ≡ i) (some_number : 0 < i) (s : B
     abbrev put_back : Combiner
     put_back = record { has_book = true; opened = set v.combiner.opened j None; hand = 0; put_backs = v.combiner.put_backs + 1 }
 
-    put_back_step : v.combiner.hand ≡ j → IsRecordStep s o i v j POSTED (opt.some (PostedCall call)) v.front put_back v.listing me some_number o.history
+    put_back_step : v.combiner.hand ≡ j → IsRecordStep s o i v j POSTED (opt.some (PostedCall call)) v.front put_back v.listing v.pieces me some_number o.history
     put_back_step held = same_history POSTED (opt.some (PostedCall call)) put_back refl (length-set v.combiner.opened j None)
         (λ k ne. set_else v.combiner.opened j k None ne) (λ k some ne e. ne (sym e ∙ held)) (λ c there. absurd (no_more c there)) (λ two. absurd (omega arith))
         (posted call was.call_of.0 record { is = refl; some = busy_is.some; asked = refl; early = busy_is.early; publishes = busy_is.publishes; calls = busy_is.calls })
@@ -255,7 +256,7 @@ module _ (i : ℕ) (v : View) (is : v.number ≡ i) (some_number : 0 < i) (s : B
       gives,
       tt,
       record {
-        records = combined s o i v j POSTED (opt.some (PostedCall call)) v.front put_back v.listing me some_number o.history (put_back_step held);
+        records = combined s o i v j POSTED (opt.some (PostedCall call)) v.front put_back v.listing v.pieces me some_number o.history (put_back_step held);
         list = still_listed POSTED (opt.some (PostedCall call)) v.front put_back (as_pending BUSY was.is_busy POSTED (λ b. refl));
       },
       ap (λ (k : ℕ). (putting_back v k, more)) (sym held),
@@ -280,7 +281,7 @@ module _ (i : ℕ) (v : View) (is : v.number ≡ i) (some_number : 0 < i) (s : B
         calls = calls-mine j v.front call reply ∙ ap (λ (cs : List Answered). cs ++ answer (length v.front) call reply ∷ []) (ap (calls_of j) book.whole ∙ busy_is.calls);
       }
 
-      answer_step : v.combiner.hand ≡ j → IsRecordStep s o i v j SERVED (opt.some (ServedReply (length v.front) reply)) longer cleared v.listing me some_number longer
+      answer_step : v.combiner.hand ≡ j → IsRecordStep s o i v j SERVED (opt.some (ServedReply (length v.front) reply)) longer cleared v.listing v.pieces me some_number longer
       answer_step held = record {
         has = has;
         still = refl;
@@ -297,6 +298,7 @@ module _ (i : ℕ) (v : View) (is : v.number ≡ i) (some_number : 0 < i) (s : B
         new_busy = λ two. absurd (omega arith);
         stands = served_now;
         grow = λ k w a u ne t. subst (λ (f : List Entry). RecordState f k w a u) (sym longer_is) (grown o.history k j call reply ne t);
+        pieces = refl;
       }
 
       call_is : call_at v j ≡ call
@@ -320,7 +322,7 @@ module _ (i : ℕ) (v : View) (is : v.number ≡ i) (some_number : 0 < i) (s : B
         gives,
         tt,
         rw call_is (record {
-          records = combined s o i v j SERVED (opt.some (ServedReply (length v.front) reply)) longer cleared v.listing me some_number longer (answer_step held);
+          records = combined s o i v j SERVED (opt.some (ServedReply (length v.front) reply)) longer cleared v.listing v.pieces me some_number longer (answer_step held);
           list = still_listed SERVED (opt.some (ServedReply (length v.front) reply)) longer cleared (as_pending BUSY was.is_busy SERVED (λ b. refl));
         }),
         (ap (λ (k : ℕ). (answering v k (call_at v k) reply, more)) (sym held), rw call_is account_after),

@@ -4,7 +4,7 @@ use mathlib.Core.Option as opt
 use mathlib.Core.List.{IsPrefix}
 use lib.ListN.{get_elem?}
 use Rattle.lock_rules.specs.declared.calls.Call.{Call}
-use Rattle.publication.specs.Rule.{blank, BoardState, word, seat, own_at, announced, HasBook, IsOpened, IsSession, AreTrue, IsOrderly}
+use Rattle.publication.specs.Rule.{blank, BoardState, word, seat, own_at, announced, HasBook, IsOpened, IsSession, AreTrue, HasPieces, IsOrderly}
 use Rattle.publication.specs.declared.view.View.{View}
 use Rattle.publication.proofs.Lists.{at_there}
 
@@ -28,6 +28,10 @@ module _ (s : BoardState) (o : IsOrderly s) (k : ℕ) (v : View) (me : get_elem?
   -- What the seat knows of others is true.
   pub others_of : AreTrue o.history s o.slots o.owns v.others
   others_of = subst (λ (u : View). AreTrue o.history s o.slots o.owns u.others) seat_of (o.others k)
+
+  -- What it knows of the pieces that were taken is true.
+  pub pieces_of_seat : HasPieces o.pieces.all v
+  pieces_of_seat = subst (HasPieces o.pieces.all) seat_of (o.pieces.seats k)
 
   -- The combiner's number is in the lock word.
   pub book_of : v.combiner.has_book ≡ true → HasBook o.history (word s 0) k v

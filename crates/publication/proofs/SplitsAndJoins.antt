@@ -5,15 +5,17 @@ use mathlib.Core.List.{IsPrefix}
 use lib.ListN.{get_elem?}
 use Rattle.atomic_table.specs.Table.{Splits, Joins}
 use Rattle.lock_rules.specs.declared.calls.Entry.{Entry}
-use Rattle.publication.specs.Views.{Own, Others}
-use Rattle.publication.specs.Rule.{blank, BoardState, word, home, seat, own_at, announced, RecordState, IsSession, IsMaker, IsHanded, AreTrue, IsOrderly}
+use Rattle.publication.specs.Pieces.{pieces_of}
+use Rattle.publication.specs.Views.{Own, Handed, Others}
+use Rattle.publication.specs.Rule.{blank, BoardState, word, home, seat, own_at, announced, RecordState, IsSession, IsMaker, IsHanded, AreTrue, HasPieces, IsOrderly}
 use Rattle.publication.specs.List.{belongs, IsLinked, IsRuled}
 use Rattle.publication.specs.Kinds.{copy_with, copy_of, front_copy_of, as_hearer, joined, handed_in, gathered}
 use Rattle.publication.specs.declared.view.View.{View}
 use Rattle.atomic_table.proofs.Lists.{set_again, set_else}
 use Rattle.publication.proofs.Lists.{at_there, at_pushed, each_set, each_snoc, past_end}
-use Rattle.publication.proofs.SeatViews.{seat_of, session_of, front_of, heard_few, book_of, whole_of}
+use Rattle.publication.proofs.SeatViews.{seat_of, session_of, front_of, heard_few, book_of, whole_of, pieces_of_seat}
 use Rattle.publication.proofs.Others.{StaysGone}
+use Rattle.publication.proofs.Pieces.{knows_none}
 use Rattle.publication.proofs.LongerFronts.{maxes-at}
 use Rattle.publication.proofs.NewBoards.{told_nothing}
 use Rattle.publication.proofs.ChangedViews.{viewed, Sits, sits-same, sits-others, reviewed}
@@ -29,6 +31,10 @@ session_on s o k v front heard others t = record { own_is = t.own_is; is = t.is;
 
 -- Seat `id` learns more.
 module _ (s : BoardState) (o : IsOrderly s) (id : ℕ) (v : View) (front : List Entry) (heard : List ℕ) (others : Others) (me : get_elem? s.views id ≡ opt.some v) where
+  -- The pieces of the sessions that it knows to be handed in are those that they took.
+  abbrev KnowsPieces : Type 0
+  KnowsPieces = (p : ℕ) (x : Handed) → get_elem? others.handed p ≡ opt.some x → x.pieces ≡ pieces_of x.number o.pieces.all
+
   -- The view of the seat once it learned more.
   abbrev u : View
   u = as_hearer v front heard others
@@ -37,8 +43,8 @@ module _ (s : BoardState) (o : IsOrderly s) (id : ℕ) (v : View) (front : List 
   is_me = (at_there s.views id v blank me).0
 
   sits_here : (vs : List View) → IsPrefix front o.history → (v.combiner.has_book ≡ true → front ≡ o.history) → ((j : ℕ) → get_or heard j 0 ≤ announced (own_at o.owns j))
-      → AreTrue o.history (viewed s o vs) o.slots o.owns others → Sits s o vs id u
-  sits_here vs begins whole hears tells = record {
+      → AreTrue o.history (viewed s o vs) o.slots o.owns others → KnowsPieces → Sits s o vs id u
+  sits_here vs begins whole hears tells took = record {
     front = begins;
     heard = hears;
     others = tells;
@@ -46,13 +52,14 @@ module _ (s : BoardState) (o : IsOrderly s) (id : ℕ) (v : View) (front : List 
     session = λ some_number. session_on s o id v front heard others (session_of s o id v me some_number);
     book = λ has. let t = book_of s o id v me has in record { lock_is = t.lock_is; session = t.session; named = t.named; whole = whole has };
     combiner = inl (ap (λ (x : View). x.combiner) (sym is_me));
+    pieces = let p = pieces_of_seat s o id v me in record { own = p.own; handed = took; known = p.known };
   }
 
   -- A seat that learns a front of the history, and heard counts not above what was announced, keeps the rule of the
   -- records.
   pub learned : IsPrefix front o.history → (v.combiner.has_book ≡ true → front ≡ o.history) → ((j : ℕ) → get_or heard j 0 ≤ announced (own_at o.owns j))
-      → AreTrue o.history (viewed s o (set s.views id u)) o.slots o.owns others → IsOrderly (viewed s o (set s.views id u))
-  learned begins whole hears tells =
+      → AreTrue o.history (viewed s o (set s.views id u)) o.slots o.owns others → KnowsPieces → IsOrderly (viewed s o (set s.views id u))
+  learned begins whole hears tells took =
       let vs : List View = set s.views id u in
       let sits : id < length s.views = (at_there s.views id v blank me).1 in
       let long : length vs ≡ length s.views = length-set s.views id u in
@@ -61,7 +68,7 @@ module _ (s : BoardState) (o : IsOrderly s) (id : ℕ) (v : View) (front : List 
       (subst (λ (n : ℕ). IsMaker o.slots n (get_or vs 0 blank)) (sym long) (each_set s.views id u blank (λ j x. j ≡ 0 → IsMaker o.slots (length s.views) x) sits
       (λ e. makes_on o.slots (length s.views) v front heard others (subst (λ (x : View). IsMaker o.slots (length s.views) x) (ap (seat s) (sym e) ∙ is_me) o.makes))
       (λ j ne e. subst (λ (i : ℕ). IsMaker o.slots (length s.views) (seat s i)) (sym e) o.makes) 0 refl))
-      (each_set s.views id u blank (Sits s o vs) sits (sits_here vs begins whole hears tells) (λ k ne. sits-same s o vs (omega arith) gone k))
+      (each_set s.views id u blank (Sits s o vs) sits (sits_here vs begins whole hears tells took) (λ k ne. sits-same s o vs (omega arith) gone k))
 
   -- It also takes in seat `other`, which ends.
   module _ (other : ℕ) (w : View) (apart_from : ¬ (other ≡ id)) (with : get_elem? (set s.views id u) other ≡ opt.some w) where
@@ -94,8 +101,8 @@ module _ (s : BoardState) (o : IsOrderly s) (id : ℕ) (v : View) (front : List 
 
     -- The join keeps the rule of the records.
     pub merged : other ≢ 0 → w.own.pending ≡ None → w.combiner.has_book ≡ false → IsPrefix front o.history → (v.combiner.has_book ≡ true → front ≡ o.history) → ((j : ℕ) → get_or heard j 0 ≤ announced (own_at o.owns j))
-        → AreTrue o.history (viewed s o joint) o.slots o.owns others → IsOrderly (viewed s o joint)
-    merged not_first settled no_book begins whole hears tells =
+        → AreTrue o.history (viewed s o joint) o.slots o.owns others → KnowsPieces → IsOrderly (viewed s o joint)
+    merged not_first settled no_book begins whole hears tells took =
         let long = long_joint in
         reviewed s o joint (omega arith)
         (subst (λ (n : ℕ). IsMaker o.slots n (get_or joint 0 blank)) (sym long) (each (λ j x. j ≡ 0 → IsMaker o.slots (length s.views) x) (λ e. absurd (not_first e))
@@ -110,8 +117,9 @@ module _ (s : BoardState) (o : IsOrderly s) (id : ℕ) (v : View) (front : List 
           session = λ some_number. absurd (some_number refl);
           book = λ e. absurd (cc e);
           combiner = inr (ap (λ (x : View). x.combiner.has_book) is_other ∙ no_book, refl);
+          pieces = knows_none o.pieces.all blank refl refl refl;
         })
-        (sits_here joint begins whole hears tells) (λ k a b. sits-same s o joint (omega arith) gone_joint k))
+        (sits_here joint begins whole hears tells took) (λ k a b. sits-same s o joint (omega arith) gone_joint k))
 
 -- A seat that learns doesn't change the publication list.
 pub learned_listed : (s : BoardState) (l : IsLinked s) (id : ℕ) (v : View) (front : List Entry) (heard : List ℕ) (others : Others) → get_elem? s.views id ≡ opt.some v
@@ -163,7 +171,8 @@ joins_copy id v other w no_number no_slots no_book idle s r me apart_from with =
             all_made = λ is. ⊎_elim was.all_made theirs.all_made (either_of v.others.all_made w.others.all_made is);
             beside = subst (λ (x : View). IsPrefix x.front o.history) w_is (o.fronts other);
             handed = was.handed;
-          });
+          })
+          (pieces_of_seat s o id v me).handed;
       list = merged_listed s r.list id v v.front hs k other w me with (λ b some is.
           ap (λ (y : View). belongs (word s other) y.own.listed) w_is ∙ (ap (λ (y : Bool). belongs (word s other) y) idle.1 ∙ is));
     }
@@ -189,6 +198,7 @@ gathers id v other w some_number settled no_book s r me apart_from with =
       collected = ap (λ x. x.collected) own_is;
       begins = subst (λ (x : View). IsPrefix x.front o.history) w_is (o.fronts other);
     } in
+    let took_now : w.pieces.own ≡ pieces_of w.number o.pieces.all = (subst (HasPieces o.pieces.all) w_is (o.pieces.seats other)).own some_number in
     let stands : RecordState o.history other (word s other) (home s other) w.own = subst (λ (y : Own). RecordState o.history other (word s other) (home s other) y) (sym t.own_is) (o.stands other (omega (arith, t.is)) t.small) in
     record {
       records =
@@ -199,7 +209,8 @@ gathers id v other w some_number settled no_book s r me apart_from with =
             all_made = was.all_made;
             beside = was.beside;
             handed = λ p x at. ⊎_elim (was.handed p x) (λ new. subst (IsHanded o.history (viewed s o vs) o.slots o.owns) new now) (at_pushed v.others.handed (handed_in w) p x at);
-          });
+          })
+          (λ p x at. ⊎_elim ((pieces_of_seat s o id v me).handed p x) (λ new. subst (λ (y : Handed). y.pieces ≡ pieces_of y.number o.pieces.all) new took_now) (at_pushed v.others.handed (handed_in w) p x at));
       list = merged_listed s r.list id v v.front v.heard k other w me with (λ b some is.
           ap (λ (y : View). belongs (word s other) y.own.listed) w_is ∙ idle_belongs stands settled false w.own.listed b is);
     }
@@ -227,6 +238,7 @@ splits_with id v heard all_made few s r me =
             session = λ some_number. absurd (some_number refl);
             book = λ e. absurd (cc e);
             combiner = inr (ap (λ (x : View). x.combiner.has_book) (past_end s.views blank), refl);
+            pieces = knows_none o.pieces.all b refl refl refl;
           })
           (sits-same s o vs (omega arith) gone));
       list = seen_listed s l vs (each (Keeps s (viewed_as s l vs) l)

@@ -51,7 +51,7 @@ module _ (i : ℕ) (v : View) (is : v.number ≡ i) (some_number : 0 < i) (s : B
   module _ (b n : ℕ) (to : Listing) (on : IsOn b l.list) (same_head_seen : to.head_seen ≡ v.listing.head_seen) where
     -- The combiner's view after the step.
     abbrev u : View
-    u = record { number = v.number; slots = v.slots; made = v.made; front = v.front; own = v.own; combiner = v.combiner; heard = v.heard; listing = to; others = v.others }
+    u = record { number = v.number; slots = v.slots; made = v.made; front = v.front; own = v.own; combiner = v.combiner; heard = v.heard; listing = to; others = v.others; pieces = v.pieces }
 
     -- The words after the step.
     abbrev ws : List ℕ
@@ -194,7 +194,7 @@ module _ (i : ℕ) (v : View) (is : v.number ≡ i) (some_number : 0 < i) (s : B
     marked_here : word marked_state w ≡ OUT
     marked_here = get_or-set_same s.words (word_of w) OUT 0 (omega (arith, few, o.words_are))
 
-    mark_step : word s w ≡ EMPTY → IsRecordStep s o i v w OUT (home s w) v.front v.combiner (none_unlinked v).listing me some_number o.history
+    mark_step : word s w ≡ EMPTY → IsRecordStep s o i v w OUT (home s w) v.front v.combiner (none_unlinked v).listing v.pieces me some_number o.history
     mark_step hit = record {
       has = has;
       still = has;
@@ -211,11 +211,12 @@ module _ (i : ℕ) (v : View) (is : v.number ≡ i) (some_number : 0 < i) (s : B
       new_busy = λ e. absurd (omega arith);
       stands = let t = is_empty (o.stands w some_off few) hit in vacant record { is = inr refl; none = t.none; out = t.out; empty_slot = t.empty_slot; publishes = t.publishes; calls = t.calls };
       grow = λ j x a y ne t. t;
+      pieces = refl;
     }
 
     mark_records : word s w ≡ EMPTY → IsOrderly marked_state
     mark_records hit = subst (λ (hs : List (opt.Option SlotValue)). IsOrderly record { words = set s.words (word_of w) OUT; homes = hs; views = set s.views i (none_unlinked v) }) (set-get_or s.homes w opt.none)
-        (combined s o i v w OUT (home s w) v.front v.combiner (none_unlinked v).listing me some_number o.history (mark_step hit))
+        (combined s o i v w OUT (home s w) v.front v.combiner (none_unlinked v).listing v.pieces me some_number o.history (mark_step hit))
 
     -- Whether any other record has to be on the list doesn't change.
     marked_claims : (j : ℕ) → j ≢ w → is_listed marked_state j ≡ is_listed s j

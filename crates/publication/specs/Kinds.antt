@@ -44,9 +44,11 @@ use Rattle.lock_rules.specs.declared.calls.Reply.TheVariants.{Clear}
 use Rattle.lock_rules.specs.declared.calls.Entry.{Entry}
 use Rattle.lock_rules.specs.Legal.{Answered, IsLegal, calls_of}
 use Rattle.publication.specs.Words.{session_of_word, END, FREE, POSTED, SERVED, CLOSED, EMPTY}
-use Rattle.publication.specs.Views.{Pending, Own, Combiner, Listing, Handed, Others, IsAccountedIn, entry, answer, asks}
-use Rattle.publication.specs.Rule.{fresh, no_combiner, unwalked, apart, IsHome, announced, heard_of}
+use Rattle.publication.specs.Pieces.{pieces_of, added}
+use Rattle.publication.specs.Views.{Pending, Own, Combiner, Listing, Handed, Others, Taken, IsAccountedIn, entry, answer, asks}
+use Rattle.publication.specs.Rule.{fresh, no_combiner, no_pieces, unwalked, apart, pieces_in, IsHome, announced, heard_of}
 use Rattle.publication.specs.List.{IsOn, AreApart, head_of, behind, without, with_behind}
+use Rattle.publication.specs.declared.piece.Piece.{Piece}
 use Rattle.publication.specs.declared.view.View.{View}
 use Rattle.publication.specs.declared.slot.Load.{Load}
 use Rattle.publication.specs.declared.slot.SlotValue.{SlotValue}
@@ -75,11 +77,15 @@ combiner c has_book opened hand = record { has_book = has_book; opened = opened;
 
 -- The view after a step of the session itself.
 abbrev pub as_session : View → List Entry → Own → List ℕ → Listing → View
-as_session v front o heard l = record { number = v.number; slots = v.slots; made = v.made; front = front; own = o; combiner = v.combiner; heard = heard; listing = l; others = v.others }
+as_session v front o heard l = record { number = v.number; slots = v.slots; made = v.made; front = front; own = o; combiner = v.combiner; heard = heard; listing = l; others = v.others; pieces = v.pieces }
 
 -- The view after a step of the combiner.
 abbrev pub as_combiner : View → List Entry → Combiner → Listing → View
-as_combiner v front c l = record { number = v.number; slots = v.slots; made = v.made; front = front; own = v.own; combiner = c; heard = v.heard; listing = l; others = v.others }
+as_combiner v front c l = record { number = v.number; slots = v.slots; made = v.made; front = front; own = v.own; combiner = c; heard = v.heard; listing = l; others = v.others; pieces = v.pieces }
+
+-- The view with other pieces.
+abbrev pub with_pieces : View → Taken → View
+with_pieces v t = record { number = v.number; slots = v.slots; made = v.made; front = v.front; own = v.own; combiner = v.combiner; heard = v.heard; listing = v.listing; others = v.others; pieces = t }
 
 -- The listing while no exchange of the head word is due: no head is noted.
 abbrev pub forget_head : Listing → Listing
@@ -202,34 +208,40 @@ HasOthers slots v = v.combiner.has_book ≡ false → 2 < slots
 abbrev pub looks_at_lock : Kind
 looks_at_lock st m found n = (n ≡ m) × (found ≢ FREE → HasOthers st.slots m.0)
 
--- The session is the combiner, and knows the whole history, which is the book's.
-abbrev pub seizing : View → List Entry → View
-seizing v front = as_combiner v front (combiner v.combiner true v.combiner.opened 0) (no_walk v.listing)
+-- The session is the combiner, and knows the whole history, which is the book's, and all pieces of it that were taken.
+abbrev pub seizing : View → List Entry → List Piece → View
+seizing v front all = with_pieces (as_combiner v front (combiner v.combiner true v.combiner.opened 0) (no_walk v.listing)) (record { own = v.pieces.own; all = all })
 
 -- What a session learns when it becomes the combiner: it was not the combiner, the load is as it has to be at home,
 -- and the book's history is legal, continues the known front, and has the calls that the session collected, or those and
--- its pending call.
+-- its pending call; and of the pieces that were taken, those of the session are the ones that it took.
 pub record Seized (v : View) (slots : ℕ) (load : Load) : Type 0 where
   pub lacked : v.combiner.has_book ≡ false
   pub home : IsHome load.book.history slots load
   pub legal : IsLegal load.book.history
   pub longer : IsPrefix v.front load.book.history
   pub accounted : IsAccountedIn load.book.history v.number v.own.collected v.own.pending
+  pub pieces : v.pieces.own ≡ pieces_of v.number load.pieces.items
 
 -- Seize: if the lock word is FREE, the session takes the load; else nothing changes.
 abbrev pub seizes : Kind
-seizes st m found n = (found ≡ FREE → (load : Box Load) × (n ≡ (seizing m.0 load.value.book.history, (0, LockTable load) ∷ m.1)) × Seized m.0 st.slots load.value)
+seizes st m found n = (found ≡ FREE → (load : Box Load) × (n ≡ (seizing m.0 load.value.book.history load.value.pieces.items, (0, LockTable load) ∷ m.1)) × Seized m.0 st.slots load.value)
     × (found ≢ FREE → (n ≡ m) × HasOthers st.slots m.0)
 
 -- Release.
 
--- The session isn't the combiner any more.
-abbrev pub releasing : View → View
-releasing v = as_combiner v v.front (combiner v.combiner false v.combiner.opened 0) (no_walk v.listing)
+-- The session isn't the combiner any more. The pieces that it took meanwhile are its own.
+abbrev pub releasing : View → List Piece → View
+releasing v all = with_pieces (as_combiner v v.front (combiner v.combiner false v.combiner.opened 0) (no_walk v.listing)) (record { own = v.pieces.own ++ added v.pieces.all all; all = [] })
+
+-- The pieces that are noted in the load in the slot taken last; none if no load is there.
+abbrev pub noted : List (ℕ × SlotValue) → List Piece
+noted [] = []
+noted (x ∷ xs) = pieces_in (opt.some x.1)
 
 -- Release: the load goes back into the lock's slot.
 abbrev pub releases : Kind
-releases st m found n = n ≡ (releasing m.0, rest m.1)
+releases st m found n = n ≡ (releasing m.0 (noted m.1), rest m.1)
 
 -- Walk the publication list.
 
@@ -389,11 +401,11 @@ puts_back st m found n = n ≡ (putting_back m.0 m.0.combiner.hand, rest m.1)
 
 -- The view after a seat learned from another.
 abbrev pub as_hearer : View → List Entry → List ℕ → Others → View
-as_hearer v front heard others = record { number = v.number; slots = v.slots; made = v.made; front = front; own = v.own; combiner = v.combiner; heard = heard; listing = v.listing; others = others }
+as_hearer v front heard others = record { number = v.number; slots = v.slots; made = v.made; front = front; own = v.own; combiner = v.combiner; heard = heard; listing = v.listing; others = others; pieces = v.pieces }
 
 -- A new seat that knows the front of the history that this one knows, these numbers of published calls, and nothing else.
 abbrev pub copy_with : View → List ℕ → View
-copy_with v heard = record { number = 0; slots = 0; made = 0; front = v.front; own = fresh; combiner = no_combiner 0; heard = heard; listing = unwalked; others = apart true }
+copy_with v heard = record { number = 0; slots = 0; made = 0; front = v.front; own = fresh; combiner = no_combiner 0; heard = heard; listing = unwalked; others = apart true; pieces = no_pieces }
 
 -- A new seat that knows what this one does of the history and of what is published.
 abbrev pub copy_of : View → View
@@ -472,7 +484,7 @@ leaves st m found n = n ≡ (leaving m.0, rest m.1)
 
 -- What the closing seat keeps of a session that is handed in.
 abbrev pub handed_in : View → Handed
-handed_in w = record { number = w.number; collected = w.own.collected; front = w.front }
+handed_in w = record { number = w.number; collected = w.own.collected; front = w.front; pieces = w.pieces.own }
 
 -- The session is added to those that were handed in.
 abbrev pub gathered : View → View → View

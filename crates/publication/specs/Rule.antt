@@ -1,18 +1,21 @@
 -- The rule of the publication records, which holds between any two atomic steps. Number 0 is the lock's, number i is
 -- that of session i's record; each has a state word and a slot. A slot is a place for one value: the value is at home
 -- in the table, or out with the one seat that took it. List.antt has the rule of the publication list.
-use Rattle.std.specs.Prelude.{◌≡◌, ◌≢◌, ℕ, ◌+◌, ◌^◌, ◌<◌, ◌≤◌, ◌⊎◌, nat_le, ◌&&◌, Bool, true, false, cond, is_some, Some, None, List, [], ◌∷◌, ◌++◌, length, slice_index, slice_index_or, replicate, vec_len, vec_capacity}
+use Rattle.std.specs.Prelude.{◌≡◌, ◌≢◌, ℕ, ◌+◌, ◌^◌, ◌<◌, ◌≤◌, ◌⊎◌, nat_le, ◌&&◌, Bool, true, false, cond, is_some, Some, None, List, [], ◌∷◌, ◌++◌, length, slice_index, slice_index_or, replicate, vec_len, vec_capacity, All}
 use mathlib.Core.Option as opt
 use mathlib.Core.List.{IsPrefix}
 use lib.ListN.{get_elem?}
 use Rattle.atomic_table.specs.Table.{State}
 use Rattle.std.specs.Global.{Box}
+use Rattle.trimmed_list.specs.declared.trimmed_list.TheConstants.{NO_BOUND}
 use Rattle.lock_rules.specs.declared.calls.Call.{Call}
 use Rattle.lock_rules.specs.declared.calls.Reply.{Reply}
 use Rattle.lock_rules.specs.declared.calls.Entry.{Entry}
 use Rattle.lock_rules.specs.Legal.{IsLegal, calls_of}
 use Rattle.publication.specs.Words.{word_of, FREE, OUT, POSTED, BUSY, SERVED, CLOSED, EMPTY}
-use Rattle.publication.specs.Views.{Own, Combiner, Listing, Handed, Others, entry, answer, asks}
+use Rattle.publication.specs.Pieces.{pieces_of, AreInOrder, AreInARow}
+use Rattle.publication.specs.Views.{Own, Combiner, Listing, Handed, Others, Taken, entry, answer, asks}
+use Rattle.publication.specs.declared.piece.Piece.{Piece}
 use Rattle.publication.specs.declared.view.View.{View}
 use Rattle.publication.specs.declared.slot.Load.{Load}
 use Rattle.publication.specs.declared.slot.SlotValue.{SlotValue}
@@ -32,21 +35,25 @@ no_combiner slots = record { has_book = false; opened = replicate slots None; ha
 abbrev pub unwalked : Listing
 unwalked = record { head_seen = None; route = []; off = 0; before = 0; tries = 0 }
 
+-- A session that has taken no piece of the history, and isn't the combiner.
+abbrev pub no_pieces : Taken
+no_pieces = record { own = []; all = [] }
+
 -- Nothing is known of other seats except whether all sessions are made.
 abbrev pub apart : Bool → Others
 apart all_made = record { all_made = all_made; beside = []; handed = [] }
 
 -- The first seat, which makes the sessions, after it has made `made` of them.
 abbrev pub maker : ℕ → ℕ → View
-maker slots made = record { number = 0; slots = slots; made = made; front = []; own = fresh; combiner = no_combiner 0; heard = []; listing = unwalked; others = apart (nat_le slots (made + 1)) }
+maker slots made = record { number = 0; slots = slots; made = made; front = []; own = fresh; combiner = no_combiner 0; heard = []; listing = unwalked; others = apart (nat_le slots (made + 1)); pieces = no_pieces }
 
 -- The view of a seat that doesn't exist, or was joined into another.
 abbrev pub blank : View
-blank = record { number = 0; slots = 0; made = 0; front = []; own = fresh; combiner = no_combiner 0; heard = []; listing = unwalked; others = apart false }
+blank = record { number = 0; slots = 0; made = 0; front = []; own = fresh; combiner = no_combiner 0; heard = []; listing = unwalked; others = apart false; pieces = no_pieces }
 
 -- The seat of a session that was just made.
 abbrev pub new_session : ℕ → ℕ → View
-new_session slots number = record { number = number; slots = slots; made = 0; front = []; own = fresh; combiner = no_combiner slots; heard = replicate slots 0; listing = unwalked; others = apart false }
+new_session slots number = record { number = number; slots = slots; made = 0; front = []; own = fresh; combiner = no_combiner slots; heard = replicate slots 0; listing = unwalked; others = apart false; pieces = no_pieces }
 
 -- Parts of the board's state.
 
@@ -142,8 +149,9 @@ pub data RecordState (h : List Entry) (i w : ℕ) (slot : opt.Option SlotValue) 
 -- The book (the lock table with its history), and the opened records.
 
 -- A load that may go back into the lock's slot: the book has this history and one session fewer than there are slots,
--- the row is empty and has room for one item a session, and there is one age a session, none of them beyond the number of
--- passes.
+-- the row is empty and has room for one item a session, there is one age a session, none of them beyond the number of
+-- passes, and the pieces of the history that were taken follow one another up to the place before which entries were let go:
+-- without a gap if the book has no bound, since then nothing is let go but what is taken.
 pub record IsHome (h : List Entry) (slots : ℕ) (l : Load) : Type 0 where
   pub history : l.book.history ≡ h
   pub sessions : l.book.sessions + 1 ≡ slots
@@ -151,6 +159,8 @@ pub record IsHome (h : List Entry) (slots : ℕ) (l : Load) : Type 0 where
   pub room : l.book.sessions ≤ vec_capacity l.row
   pub ages : vec_len l.ages ≡ l.book.sessions
   pub past : (i : ℕ) → slice_index l.ages.items i ≤ l.passes
+  pub pieces : AreInOrder 0 l.pieces.items l.book.cut
+  pub in_a_row : l.book.bound ≡ NO_BOUND → AreInARow 0 l.pieces.items l.book.cut
 
 -- Session k is the combiner: the lock word is its number, and it knows the whole history.
 pub record HasBook (h : List Entry) (lock k : ℕ) (v : View) : Type 0 where
@@ -206,6 +216,38 @@ pub record AreTrue (h : List Entry) (s : BoardState) (slots : ℕ) (owns : List 
   pub beside : IsPrefix others.beside h
   pub handed : (p : ℕ) (x : Handed) → get_elem? others.handed p ≡ opt.some x → IsHanded h s slots owns x
 
+-- The pieces of the history that sessions took.
+
+-- What a seat knows of the pieces is true: a session's own pieces are those that it took; so are those of the sessions
+-- handed in to it; and the combiner knows all.
+pub record HasPieces (all : List Piece) (v : View) : Type 0 where
+  pub own : v.number ≢ 0 → v.pieces.own ≡ pieces_of v.number all
+  pub handed : (p : ℕ) (x : Handed) → get_elem? v.others.handed p ≡ opt.some x → x.pieces ≡ pieces_of x.number all
+  pub known : v.combiner.has_book ≡ true → v.pieces.all ≡ all
+
+-- The pieces that are noted in the load in a slot; none if no load is there.
+abbrev pub pieces_in : opt.Option SlotValue → List Piece
+pieces_in opt.none = []
+pieces_in (opt.some Empty) = []
+pieces_in (opt.some (PostedCall call)) = []
+pieces_in (opt.some (ServedReply place reply)) = []
+pieces_in (opt.some (LockTable load)) = load.value.pieces.items
+
+-- The piece was taken by a session of the board, and one that is made.
+abbrev pub IsOfSession : ℕ → ℕ → Piece → Type 0
+IsOfSession slots seats p = (0 < p.session) × (p.session < slots) × (p.session < seats)
+
+-- What holds of the pieces between any two atomic steps.
+pub record ArePieces (slots : ℕ) (s : BoardState) : Type 0 where
+  -- all pieces that were taken, in order
+  pub all : List Piece
+  -- each was taken by a session
+  pub within : All (IsOfSession slots (length s.views)) all
+  -- what each seat knows of them is true
+  pub seats : (k : ℕ) → HasPieces all (seat s k)
+  -- lock word FREE: the load notes them
+  pub home : word s 0 ≡ FREE → pieces_in (home s 0) ≡ all
+
 -- The rule. While the combiner has the book, the book may be ahead of the history by calls that were performed and not
 -- answered yet. When the book goes home, its history is the board's.
 
@@ -251,3 +293,5 @@ pub record IsOrderly (s : BoardState) : Type 0 where
   pub opens : (k j : ℕ) (call : Call) → get_elem? (seat s k).combiner.opened j ≡ opt.some (Some call) → IsOpened s owns (seat s k).combiner j call
   -- a record that is BUSY was opened by the session that the lock word names
   pub opened : (j : ℕ) → 0 < j → word s j ≡ BUSY → (call : Call) × (get_elem? (seat s (word s 0)).combiner.opened j ≡ opt.some (Some call))
+  -- the pieces of the history that sessions took are noted, and each session knows its own
+  pub pieces : ArePieces slots s

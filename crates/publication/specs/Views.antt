@@ -8,6 +8,7 @@ use Rattle.lock_rules.specs.declared.calls.Call.{Call}
 use Rattle.lock_rules.specs.declared.calls.Reply.{Reply}
 use Rattle.lock_rules.specs.declared.calls.Entry.{Entry}
 use Rattle.lock_rules.specs.Legal.{Answered, calls_of}
+use Rattle.publication.specs.declared.piece.Piece.{Piece}
 
 -- A call that its session has published and not collected yet. `floor` is the number of history entries that the
 -- session knew when it published the call.
@@ -62,6 +63,8 @@ pub record Handed : Type 0 where
   pub collected : List Answered
   -- the front of the history that it knew
   pub front : List Entry
+  -- the pieces of the history that it took, in order
+  pub pieces : List Piece
 
 -- What a seat knows of the other seats.
 pub record Others : Type 0 where
@@ -71,6 +74,13 @@ pub record Others : Type 0 where
   pub beside : List Entry
   -- the sessions whose seats were joined into this one to close the board, in that order
   pub handed : List Handed
+
+-- What a session knows of the pieces of the history that were taken.
+pub record Taken : Type 0 where
+  -- the pieces that it took, in order
+  pub own : List Piece
+  -- while it is the combiner: the pieces that all sessions took before, in order
+  pub all : List Piece
 
 -- What contracts see of a board: which table it is, and its number of sessions.
 pub record BoardView : Type 0 where
@@ -105,6 +115,10 @@ pub record TicketView : Type 0 where
   pub tries : ℕ
   -- how many calls that it had opened as the combiner it posted again
   pub put_backs : ℕ
+  -- the pieces of the history that the session took, in order
+  pub pieces : List Piece
+  -- while it is the combiner: the pieces that all sessions took before, in order
+  pub taken : List Piece
 
 -- What contracts see of a session's knowledge that travels apart from its ticket.
 pub record KnowledgeView : Type 0 where

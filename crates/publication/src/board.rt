@@ -8,8 +8,8 @@ ghost use Rattle.publication.specs.inner.Tickets.{IsBoard};
 ghost use Rattle.publication.specs.Views.{entry, answer, asks};
 ghost use Rattle.publication.specs.Rule.{maker, new_session};
 ghost use Rattle.publication.specs.Kinds.{Took};
-ghost use Rattle.publication.specs.Boards.{IsOf, heard_from, published_by, new_ticket, new_tickets, publishing, enlisted, tried, IsUnlisted, IsEachOnce, IsSettled, AccountsFor};
-ghost use Rattle.publication.specs.inner.Closing.{is_settled, handed_by, WereHanded, AreEnded};
+ghost use Rattle.publication.specs.Boards.{IsOf, heard_from, published_by, new_ticket, new_tickets, publishing, enlisted, tried, IsUnlisted, IsEachOnce, IsSettled, AccountsFor, TookPieces};
+ghost use Rattle.publication.specs.inner.Closing.{is_settled, handed_by, WereHanded, AreEnded, TookHanded};
 
 mod combiner;
 mod knowledge;
@@ -23,6 +23,7 @@ use crate::steps::{Seat, Shared};
 use crate::view::View;
 use crate::words::{END, HEAD, WORDS_APART};
 use atomic_table::{Refused, Table};
+use ghost_list::GhostList;
 pub use knowledge::Knowledge;
 use lock_desk::{Book, Call, NoMemory, Reply};
 use std::alloc::{AllocError, Global};
@@ -205,6 +206,8 @@ impl Board {
         ensures tickets { IfOk result (λ made. made.1.items ≡ new_tickets made.0.id book.sessions book.sessions) }
     {
         let sessions = book.sessions();
+        // shows that an empty history has no cut above 0
+        let _first = book.first_kept();
         let row = Vec::with_capacity(alloc, usize::from(sessions))?;
         let ages = vec![in alloc; 0u64; usize::from(sessions)]?;
         let load = Load {
@@ -212,6 +215,7 @@ impl Board {
             row,
             passes: 0,
             ages,
+            pieces: GhostList::new(),
         };
         let load = Box::new(alloc, load)?;
         let mut words = vec![in alloc; 0u64; (usize::from(sessions) + 1) * WORDS_APART]?;
@@ -389,6 +393,7 @@ impl Board {
         ensures sessions { result.sessions ≡ self.sessions }
         ensures legal { IsLegal result.history }
         ensures ends { AreEnded result.history closing.me.0.others.handed }
+        ensures pieces { TookHanded result closing.me.0.others.handed }
     {
         let Board { table, sessions: _ } = self;
         close_table(table, closing)
@@ -406,6 +411,7 @@ impl Board {
         ensures sessions { IfOk result (λ book. book.sessions ≡ self.sessions) }
         ensures legal { IfOk result (λ book. IsLegal book.history) }
         ensures accounts { IfOk result (λ book. All (AccountsFor book.history) tickets.items) }
+        ensures pieces { IfOk result (λ book. TookPieces book tickets.items) }
         ensures back { IfErr result (λ refused. (refused.1 ≡ self) × (refused.2.items ≡ tickets.items)) }
         ensures missing { IfErr result (λ refused. refused.0 ≡ CloseFault.Missing → ¬ (IsEachOnce self.sessions tickets.items)) }
         ensures unsettled { IfErr result (λ refused. refused.0 ≡ CloseFault.Unsettled → IsEachOnce self.sessions tickets.items × ¬ (All IsSettled tickets.items)) }

@@ -4,7 +4,7 @@ ghost use Rattle.std.specs.List.{list_all};
 ghost use Rattle.lock_rules.specs.declared.calls.TheConstants.{MAX_SESSIONS};
 ghost use Rattle.lock_rules.specs.Legal.{IsLegal};
 ghost use Rattle.publication.specs.Boards.{IsEachOnce};
-ghost use Rattle.publication.specs.inner.Closing.{is_settled, WereHanded, AreEnded};
+ghost use Rattle.publication.specs.inner.Closing.{is_settled, WereHanded, AreEnded, TookHanded};
 
 use crate::board::Ticket;
 use crate::kinds::BoardRule;
@@ -62,6 +62,7 @@ pub(crate) fn close_table(
     ensures sessions { result.sessions + 1 ≡ table.shared.table_id.slots }
     ensures legal { IsLegal result.history }
     ensures ends { AreEnded result.history closing.me.0.others.handed }
+    ensures pieces { TookHanded result closing.me.0.others.handed }
 {
     let mut closed = table.close_with(closing);
     let held = closed.take(0);
@@ -79,6 +80,7 @@ pub(crate) fn close_table(
         row: _,
         passes: _,
         ages: _,
+        pieces: _,
     } = Box::into_inner(load);
     book
 }

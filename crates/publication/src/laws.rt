@@ -115,7 +115,7 @@ pub fn the_state_says_the_history()
 /// A board opens with the rule, an empty history, and no session that has collected or published anything. The book has
 /// no history yet, and the load is as it has to be at home.
 pub fn boards_open_with_an_empty_history()
-    ensures ruled { (n : ℕ) (load : Box Load) → IsHome [] (n + 1) load.value → IsRuled (new_board n load) }
+    ensures ruled { (n : ℕ) (load : Box Load) → IsHome [] (n + 1) load.value → load.value.pieces.items ≡ [] → IsRuled (new_board n load) }
     ensures empty { (n : ℕ) (load : Box Load) → IsHome [] (n + 1) load.value → history_of (new_board n load) ≡ [] }
     ensures nobody { (n : ℕ) (load : Box Load) (i : ℕ) (answers : List Answered) (pending : Option Pending) →
         HasCollected (new_board n load) i answers pending → ⊥ }

@@ -15,6 +15,8 @@ mod kinds;
 pub mod laws;
 pub mod list_laws;
 mod new_board;
+mod piece;
+pub mod piece_laws;
 mod roll;
 mod slot;
 mod steps;
@@ -23,5 +25,6 @@ mod words;
 
 pub use board::{Board, Knowledge, Posted, Ticket};
 pub use closing::CloseFault;
+pub use piece::Piece;
 pub use roll::Roll;
 pub use slot::Load;

@@ -5,6 +5,7 @@ ghost use mathlib.Core.List.{IsPrefix};
 ghost use Rattle.atomic_table.specs.Table.{rest};
 ghost use Rattle.lock_rules.specs.Legal.{IsLegal};
 ghost use Rattle.publication.specs.Views.{IsAccountedIn, entry};
+ghost use Rattle.publication.specs.Pieces.{HasAdded};
 ghost use Rattle.publication.specs.Rule.{IsHome};
 ghost use Rattle.publication.specs.List.{IsOn, AreApart, first_of, behind};
 ghost use Rattle.publication.specs.Kinds.{IsUnanswered, HasOthers, HasAnother, HasEntered, opened_in, call_at, posting, enlisting, losing_head, routing, bypassing, none_unlinked, relinking, IsRoute, MeetsAll, HasTaken, Seized, seizing, releasing, opening, Opened, in_hand, answering, putting_back, copy_of, joined, hearing, comparing, Learned, retiring, gathered};
@@ -248,7 +249,7 @@ pub(crate) fn seize_load(shared: &Shared, seat: &mut Seat, number: u64) -> Optio
     requires board { IsBoard shared.now.table_id }
     requires mine { (seat.old.me.0.number ≡ number) × (0 < number) }
     ensures ours { seat.new.table_id ≡ seat.old.table_id }
-    ensures some { IfSome result (λ load. (seat.new.me ≡ (seizing seat.old.me.0 load.value.book.history, (0, SlotValue.Empty) ∷ seat.old.me.1))
+    ensures some { IfSome result (λ load. (seat.new.me ≡ (seizing seat.old.me.0 load.value.book.history load.value.pieces.items, (0, SlotValue.Empty) ∷ seat.old.me.1))
         × Seized seat.old.me.0 shared.now.table_id.slots load.value) }
     ensures none { IfNone result ((seat.new.me ≡ seat.old.me) × HasOthers shared.now.table_id.slots seat.old.me.0) }
 {
@@ -272,10 +273,11 @@ pub(crate) fn release_load(shared: &Shared, seat: &mut Seat, load: Box<Load>)
     requires mine { (seat.old.me.0.number ≢ 0) × (seat.old.me.0.combiner.has_book ≡ true) }
     requires none { (j : _) → opened_in seat.old.me.0 j ≡ None }
     requires home { IsHome seat.old.me.0.front shared.now.table_id.slots load.value }
+    requires took { HasAdded seat.old.me.0.number seat.old.me.0.pieces.all load.value.pieces.items }
     requires whole { seat.old.me.0.listing.off ≡ 0 }
     requires carried { seat.old.me.1 ≡ (0, SlotValue.Empty) ∷ rest seat.old.me.1 }
     ensures ours { seat.new.table_id ≡ seat.old.table_id }
-    ensures step { seat.new.me ≡ (releasing seat.old.me.0, rest seat.old.me.1) }
+    ensures step { seat.new.me ≡ (releasing seat.old.me.0 load.value.pieces.items, rest seat.old.me.1) }
 {
     drop(shared.exchange(seat, 0, SlotValue::LockTable(load)));
     shared.store::<Release>(seat, 0, FREE);

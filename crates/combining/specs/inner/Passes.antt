@@ -9,6 +9,7 @@ use Rattle.lock_desk.specs.Batches.{IsItemWithin, item_of}
 use Rattle.publication.specs.Views.{TicketView}
 use Rattle.publication.specs.Boards.{opened_at, heard_from, published_by}
 use Rattle.publication.specs.List.{IsOn, behind}
+use Rattle.publication.specs.declared.slot.Load.{Load}
 
 -- The row has the call of each opened record exactly once: with the items closed one after another, no record is left
 -- open.
@@ -68,3 +69,9 @@ pub record IsBookInHand (sessions : ℕ) (book : BookView) (t : TicketView) (una
   pub entries : List Entry
   pub performed : unanswered ≡ map item_of entries
   pub history : book.history ≡ t.front ++ entries
+
+-- The pass took no piece of the history, and nothing of the book's history was let go that its bound doesn't let go.
+pub record HasTakenNothing (before after : Load) : Type 0 where
+  pub pieces : after.pieces.items ≡ before.pieces.items
+  pub cut : after.book.cut ≡ before.book.cut
+  pub bound : after.book.bound ≡ before.book.bound

@@ -1,11 +1,15 @@
 -- What the closing seat keeps of each ticket that is joined into it. Only private contracts cite these definitions;
 -- the public contracts say the same facts of the tickets.
-use Rattle.std.specs.Prelude.{◌≡◌, ℕ, ◌<◌, ◌&&◌, Bool, not, is_some, List}
+use Rattle.std.specs.Prelude.{◌≡◌, ℕ, ◌<◌, ◌≤◌, ◌&&◌, Bool, not, is_some, List, All}
 use mathlib.Core.Option as opt
 use mathlib.Core.List.{IsPrefix}
 use lib.ListN.{get_elem?}
 use Rattle.lock_rules.specs.declared.calls.Entry.{Entry}
 use Rattle.lock_rules.specs.Legal.{calls_of}
+use Rattle.trimmed_list.specs.declared.trimmed_list.TheConstants.{NO_BOUND}
+use Rattle.lock_desk.specs.BookView.{BookView}
+use Rattle.publication.specs.declared.piece.Piece.{Piece}
+use Rattle.publication.specs.Pieces.{pieces_of, AreInOrder, AreInARow}
 use Rattle.publication.specs.Views.{TicketView, Handed}
 
 -- Whether the session has no call pending and isn't the combiner.
@@ -14,7 +18,7 @@ is_settled ticket = not (is_some ticket.pending) && not ticket.has_book
 
 -- What the closing seat keeps of a ticket.
 abbrev pub handed_by : TicketView → Handed
-handed_by ticket = record { number = ticket.number; collected = ticket.collected; front = ticket.front }
+handed_by ticket = record { number = ticket.number; collected = ticket.collected; front = ticket.front; pieces = ticket.pieces }
 
 -- Each session, that is each number above 0 and below `slots`, was handed in.
 abbrev pub WereHanded : ℕ → List Handed → Type 0
@@ -29,3 +33,11 @@ pub record Ends (history : List Entry) (x : Handed) : Type 0 where
 -- The history agrees with each session in the list.
 abbrev pub AreEnded : List Entry → List Handed → Type 0
 AreEnded history handed = (p : ℕ) (x : Handed) → get_elem? handed p ≡ opt.some x → Ends history x
+
+-- The pieces of the history that the sessions in the list took before the book came out of the board.
+pub record TookHanded (book : BookView) (handed : List Handed) : Type 0 where
+  pub all : List Piece
+  pub within : All (λ p. (1 ≤ p.session) × (p.session ≤ book.sessions)) all
+  pub each : (p : ℕ) (x : Handed) → get_elem? handed p ≡ opt.some x → x.pieces ≡ pieces_of x.number all
+  pub in_order : AreInOrder 0 all book.cut
+  pub in_a_row : book.bound ≡ NO_BOUND → AreInARow 0 all book.cut

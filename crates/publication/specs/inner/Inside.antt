@@ -36,6 +36,8 @@ ticket_view_of t = record {
   route = t.seat.me.0.listing.route;
   tries = t.seat.me.0.listing.tries;
   put_backs = t.seat.me.0.combiner.put_backs;
+  pieces = t.seat.me.0.pieces.own;
+  taken = t.seat.me.0.pieces.all;
 }
 
 -- The ticket's number is one of the board's sessions, and its seat is in the state that its fields record.

@@ -40,6 +40,7 @@ pub record IsBetweenCalls (m : Seated) (number seen : ℕ) (has_book is_pending 
   pub no_head_seen : m.0.listing.head_seen ≡ None
   pub whole : m.0.listing.off ≡ 0
   pub routed : has_book ≡ false → m.0.listing.route ≡ []
+  pub unknown : has_book ≡ false → m.0.pieces.all ≡ []
   pub carried : m.1 ≡ book_slot has_book (own_slot is_pending number)
 
 -- The session is the combiner, and has no record's slot in hand.

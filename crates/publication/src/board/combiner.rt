@@ -5,6 +5,7 @@ ghost use Rattle.std.specs.Prelude.{◌≡◌, ◌≢◌, ◌+◌, ◌^◌, ◌<
 ghost use mathlib.Core.List.{IsPrefix};
 ghost use Rattle.lock_rules.specs.Legal.{IsLegal, calls_of};
 ghost use Rattle.publication.specs.Views.{entry, answer};
+ghost use Rattle.publication.specs.Pieces.{pieces_of, HasAdded, added};
 ghost use Rattle.publication.specs.Rule.{IsHome};
 ghost use Rattle.publication.specs.List.{IsOn, first_of, behind, without};
 ghost use Rattle.publication.specs.Kinds.{IsRoute};
@@ -23,11 +24,15 @@ impl Board {
         ensures ticket { IfSome result (λ load. ticket.new ≡ record ticket.old {
           front = load.value.book.history;
           has_book = true;
+          taken = load.value.pieces.items;
         }) }
         ensures home { IfSome result (λ load. IsHome load.value.book.history (self.now.sessions + 1) load.value) }
         ensures legal { IfSome result (λ load. IsLegal load.value.book.history) }
+        ensures short { IfSome result (λ load. length load.value.book.history < 2 ^ 64) }
         ensures longer { IfSome result (λ load. IsPrefix ticket.old.front load.value.book.history) }
         ensures lacked { IfSome result (λ _. ticket.old.has_book ≡ false) }
+        ensures pieces { IfSome result (λ load. ticket.old.pieces ≡ pieces_of ticket.old.number load.value.pieces.items) }
+        ensures untaken { IfSome result (λ _. ticket.old.taken ≡ []) }
         ensures none { IfNone result (ticket.new ≡ ticket.old) }
         ensures others { IfNone result (ticket.old.has_book ≡ false → 1 < self.now.sessions) }
         ensures number { IsNumber self.now ticket.old.number }
@@ -45,13 +50,20 @@ impl Board {
     }
 
     /// Gives the lock table back and stops being the combiner. Needs the history that the board has, an empty row,
-    /// and no record opened.
+    /// and no record opened. The load notes the pieces of the history that were taken before, and behind them those
+    /// that this session took as the combiner.
     pub fn release(&self, ticket: &mut Ticket, load: Box<Load>)
         requires ours { IsOf self.now ticket.old }
         requires has { ticket.old.has_book ≡ true }
         requires none { OpensNone ticket.old }
         requires home { IsHome ticket.old.front (self.now.sessions + 1) load.value }
-        ensures ticket { ticket.new ≡ record ticket.old { has_book = false; route = [] } }
+        requires took { HasAdded ticket.old.number ticket.old.taken load.value.pieces.items }
+        ensures ticket { ticket.new ≡ record ticket.old {
+          has_book = false;
+          route = [];
+          pieces = ticket.old.pieces ++ added ticket.old.taken load.value.pieces.items;
+          taken = [];
+        } }
         ensures calls { HasCallsOf ticket.new.front ticket.new }
     {
         steps::release_load(&self.table.shared, &mut ticket.seat, load);

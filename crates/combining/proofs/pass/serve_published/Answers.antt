@@ -36,7 +36,8 @@ returns-clause-home c =
     let after = c.serve_opened-pass.new.session in
     let since = sessions_since (length c.args.session.now.front) c.clean_up.new.session.front in
     let ages : load.ages.items ≡ noted old.ages.items since load.passes = search rules in
-    let rises : old.passes ≤ load.passes = search rules in (
+    let rises : old.passes ≤ load.passes = search rules in
+    let none = c.serve_opened-pass.ensures.taken in (
       record {
         history = in_hand c.args.board.now.sessions load.book after c.serve_opened-pass.ensures.book ∙ sym (ap (λ (t : TicketView). t.front) c.clean_up.ensures.session);
         sessions = search rules;
@@ -44,6 +45,8 @@ returns-clause-home c =
         room = search rules;
         ages = search rules;
         past = λ i. subst (λ (l : List ℕ). get_or l i 0 ≤ load.passes) (sym ages) (noted-past old.ages.items since load.passes (λ n. omega (arith, c.requires.home.0.past n, rises)) i);
+        pieces = rw (none.pieces, none.cut) c.requires.home.0.pieces;
+        in_a_row = rw (none.pieces, none.cut, none.bound) c.requires.home.0.in_a_row;
       },
       search rules,
     )

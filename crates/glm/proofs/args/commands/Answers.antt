@@ -1,7 +1,7 @@
 use Rattle.std.proofs.Common.{ap, ap₂, ◌≡◌, ◌∙◌, codes, true}
 use Rattle.std.proofs.lemmas.Result.{IfOk-weaker}
 use Rattle.clap.specs.Simple.{App, Shape, app_of, app_of_fields, new_app, on_top, with_rule, with_subcommand}
-use Rattle.glm.specs.CommandLine.{command_for_sessions, turns_option}
+use Rattle.glm.specs.CommandLine.{command_for_sessions, stream_flag, turns_option}
 use Rattle.glm.proofs.args.commands.Goals as goal
 
 -- sets that a command is required and that there is a version
@@ -17,9 +17,9 @@ returns c =
     let top : app_of c.subcommand_required.result ≡ wants_command (new_app (codes "glm")) =
     ap app_of_fields c.subcommand_required.ensures ∙ ap (on_top (λ s. record s { subcommand_required = true })) (ap app_of_fields c.after_help.ensures
     ∙ ap app_of_fields c.version.ensures ∙ ap (on_top (λ s. record s { has_version = true })) (ap app_of_fields c.about.ensures ∙ c.new.ensures.app)) in
-    let one : app_of c.in_ok-subcommand.field-0 ≡ with_subcommand (wants_command (new_app (codes "glm"))) (command_for_sessions (codes "replay")).top =
+    let one : app_of c.in_ok-subcommand.field-0 ≡ with_subcommand (wants_command (new_app (codes "glm"))) (with_rule (command_for_sessions (codes "replay")) stream_flag).top =
     c.in_ok-subcommand.ensures.shape c.in_ok-replay.ensures.own ∙ ap₂ with_subcommand top (ap top_of c.in_ok-replay.ensures.app) in
-    let two : app_of c.in_ok-subcommand-2.field-0 ≡ with_subcommand (with_subcommand (wants_command (new_app (codes "glm"))) (command_for_sessions (codes "replay")).top) (with_rule (command_for_sessions (codes "run")) turns_option).top =
+    let two : app_of c.in_ok-subcommand-2.field-0 ≡ with_subcommand (with_subcommand (wants_command (new_app (codes "glm"))) (with_rule (command_for_sessions (codes "replay")) stream_flag).top) (with_rule (command_for_sessions (codes "run")) turns_option).top =
     c.in_ok-subcommand-2.ensures.shape c.in_ok-run.ensures.own ∙ ap₂ with_subcommand one (ap top_of c.in_ok-run.ensures.app) in
     IfOk-weaker c.subcommand-3.result _ _
     (λ command h. h.shape c.in_ok-check.ensures.own ∙ ap₂ with_subcommand two (ap top_of c.in_ok-check.ensures.app)) c.subcommand-3.ensures

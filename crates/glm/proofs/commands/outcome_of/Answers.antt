@@ -2,13 +2,27 @@ use Rattle.std.proofs.Common.{rules}
 use Rattle.glm.proofs.commands.outcome_of.Goals as goal
 
 -- each outcome has what the words ask for and what the command's contract ensures
-pub returns-in-Ok-Some-Replay : goal.returns-in-Ok-Some-Replay
-returns-in-Ok-Some-Replay c c' =
+pub returns-in-Ok-Some-Replay-default-Whole : goal.returns-in-Ok-Some-Replay-default-Whole
+returns-in-Ok-Some-Replay-default-Whole c c' =
     let done = c'.replay.ensures in
     record {
-      sessions = c'.in-Ok-Some-Replay.sessions;
+      sessions = c'.in-Ok-Some-Replay-default-Whole.sessions;
       asked = search rules;
       kept = done.kept;
+      part = done.part;
+      served = done.served;
+      faults = done.faults;
+      replays = done.replays;
+    }
+
+pub returns-in-Ok-Some-Replay-default-InPieces : goal.returns-in-Ok-Some-Replay-default-InPieces
+returns-in-Ok-Some-Replay-default-InPieces c c' =
+    let done = c'.replay_in_pieces.ensures in
+    record {
+      sessions = c'.in-Ok-Some-Replay-default-InPieces.sessions;
+      asked = search rules;
+      kept = done.kept;
+      front = done.front;
       part = done.part;
       served = done.served;
       faults = done.faults;

@@ -35,15 +35,27 @@ unnumbered words found text fault whole is given wrong = record {
 
 pub returns-clause-left_out : goal.returns-clause-left_out
 unfolding clap_on_literals
-returns-clause-left_out c = record { whole = refl; request_is = (refl, numeral_given (codes "sessions") (codes "256") MAX_SESSIONS 256 _ (omega arith) refl refl (search rules)) }
+returns-clause-left_out c = record { whole = refl; request_is = (refl, numeral_given (codes "sessions") (codes "256") MAX_SESSIONS 256 _ (omega arith) refl refl (search rules), λ flag. let no : Some (codes "false") ≡ Some (codes "true") = flag in cc) }
 
 pub returns-clause-apart : goal.returns-clause-apart
 unfolding clap_on_literals
-returns-clause-apart c = record { whole = refl; request_is = (refl, numeral_given (codes "sessions") (codes "7") MAX_SESSIONS 7 _ (omega arith) refl refl (search rules)) }
+returns-clause-apart c = record { whole = refl; request_is = (refl, numeral_given (codes "sessions") (codes "7") MAX_SESSIONS 7 _ (omega arith) refl refl (search rules), λ flag. let no : Some (codes "false") ≡ Some (codes "true") = flag in cc) }
 
 pub returns-clause-attached : goal.returns-clause-attached
 unfolding clap_on_literals
-returns-clause-attached c = record { whole = refl; request_is = (refl, numeral_given (codes "sessions") (codes "1024") MAX_SESSIONS 1024 _ (omega arith) refl refl (search rules)) }
+returns-clause-attached c = record { whole = refl; request_is = (refl, numeral_given (codes "sessions") (codes "1024") MAX_SESSIONS 1024 _ (omega arith) refl refl (search rules), λ flag. let no : Some (codes "false") ≡ Some (codes "true") = flag in cc) }
+
+pub returns-clause-stream : goal.returns-clause-stream
+unfolding clap_on_literals
+returns-clause-stream c = record { whole = refl; request_is = (refl, numeral_given (codes "sessions") (codes "256") MAX_SESSIONS 256 _ (omega arith) refl refl (search rules), refl) }
+
+pub returns-clause-stream_sessions : goal.returns-clause-stream_sessions
+unfolding clap_on_literals
+returns-clause-stream_sessions c = record { whole = refl; request_is = (refl, numeral_given (codes "sessions") (codes "7") MAX_SESSIONS 7 _ (omega arith) refl refl (search rules), refl) }
+
+pub returns-clause-check_stream : goal.returns-clause-check_stream
+unfolding clap_on_literals
+returns-clause-check_stream c = faulty _ UnknownArgument [] refl (search rules) (search rules)
 
 pub returns-clause-plus : goal.returns-clause-plus
 unfolding clap_on_literals

@@ -1,16 +1,11 @@
-use Rattle.std.proofs.Common.{◌≡◌, ◌∙◌, ℕ, ◌-◌, List, ◌++◌, Option, Result, Ok, Err, length, take, drop, sym, ap, subst, append_assoc, take-append-drop}
-use lib.Seq.{take-append_seam}
+use Rattle.std.proofs.Common.{◌≡◌, ◌∙◌, ℕ, ◌-◌, List, ◌++◌, Option, Result, Ok, Err, length, take, drop, sym, ap, append_assoc, take-append-drop}
 use Rattle.std.proofs.lemmas.List.{take_rest}
 use Rattle.std.specs.Io.KnownBytes.{Appends, WriteAppends}
 use Rattle.std.proofs.KnownBytes.{Appends-trans, Appends-kept}
 use Rattle.glm.specs.Written.{AppendsPart}
+use Rattle.glm.proofs.Written.{part_of}
 use Rattle.glm.proofs.writing.write_text.Goals as goal
 use Rattle.glm.proofs.writing.write_text.Goals.{in-Ok, in-Err}
-
--- what stands before the rest of a text is a part of it
-part_of : (a b : Option (List ℕ)) (text done rest : List ℕ) → text ≡ done ++ rest → Appends a b done → AppendsPart a b text
-part_of a b text done rest split before =
-    (length done, subst (Appends a b) (sym (ap (take (length done)) split ∙ take-append_seam done rest)) before)
 
 -- one more write, whether it fails or not, leaves a part of the text written
 part_after : {E : Type 0} (a b c : Option (List ℕ)) (result : Result ℕ E) (text done rest : List ℕ) → text ≡ done ++ rest

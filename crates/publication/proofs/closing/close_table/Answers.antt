@@ -1,4 +1,4 @@
-use Rattle.std.proofs.Common.{rules, ◌≡◌, ◌∙◌, List, length, sym}
+use Rattle.std.proofs.Common.{rules, ◌≡◌, ◌∙◌, List, length, sym, arith}
 use Rattle.std.specs.Slots.{slots_items}
 use mathlib.Core.Option as opt
 use Rattle.publication.specs.declared.slot.SlotValue.{SlotValue}
@@ -37,3 +37,20 @@ returns-clause-ends c =
     let long : length xs ≡ c.args.table.shared.table_id.slots = search rules in
     (last_load _ xs c.args.closing.id c.args.table.shared.table_id.slots c.args.closing.me.0 closed.ensures.values.2 long c.requires.all
     c.take-held.result c.take-held.ensures.value c.in-LockTable.load c.in-LockTable.is c.into_inner-book.result c.into_inner-book.ensures).ends
+
+pub returns-clause-pieces : goal.returns-clause-pieces
+returns-clause-pieces c =
+    let closed = c.close_with-closed in
+    let xs : List SlotValue = slots_items closed.result.slots in
+    let slots = c.args.table.shared.table_id.slots in
+    let long : length xs ≡ slots = search rules in
+    let load = c.into_inner-book.result in
+    let last = last_load _ xs c.args.closing.id slots c.args.closing.me.0 closed.ensures.values.2 long c.requires.all
+    c.take-held.result c.take-held.ensures.value c.in-LockTable.load c.in-LockTable.is load c.into_inner-book.ensures in
+    record {
+      all = load.pieces.items;
+      within = λ k d few. let w = last.within k d few in (omega (arith, w.0), omega (arith, w.1, last.home.sessions));
+      each = last.pieces;
+      in_order = last.home.pieces;
+      in_a_row = last.home.in_a_row;
+    }

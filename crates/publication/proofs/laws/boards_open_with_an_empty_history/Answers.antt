@@ -11,7 +11,7 @@ use Rattle.publication.proofs.NewBoards.{words_zero, begins}
 use Rattle.publication.proofs.laws.boards_open_with_an_empty_history.Goals as goal
 
 pub returns-clause-ruled : goal.returns-clause-ruled
-returns-clause-ruled c n load ready = begins n load ready
+returns-clause-ruled c n load ready untaken = begins n load ready untaken
 
 pub returns-clause-empty : goal.returns-clause-empty
 returns-clause-empty c n load ready =

@@ -13,5 +13,5 @@ store-requires c = let v = c.args.seat.now.me.0 in let n = c.args.shared.now.tab
   search rules,
   search rules,
   subst (λ (m : Seated). Allows IsRuled n id m 0 (λ _. FREE) (λ _. releases (step n 0 FREE 0 opt.none) m FREE)) (sym c.exchange.ensures.3)
-      (release_kept n id v c.requires.mine.0 c.requires.mine.1 c.args.load (rest c.args.seat.now.me.1) c.requires.home (λ j call. none_there v.combiner.opened j call (c.requires.none j)) c.requires.whole),
+      (release_kept n id v c.requires.mine.0 c.requires.mine.1 c.args.load (rest c.args.seat.now.me.1) c.requires.home c.requires.took (λ j call. none_there v.combiner.opened j call (c.requires.none j)) c.requires.whole),
 )

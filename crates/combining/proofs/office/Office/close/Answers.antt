@@ -25,5 +25,6 @@ returns-in-Ok-clause-ok c =
       accounts = accounts;
       within = within;
       count = counted n ts book.history all within accounts;
+      pieces = c.in-Ok.ensures.pieces;
     } in
     subst (λ (office : BoardView). IsClosed office ts book) c.self.view_is closed

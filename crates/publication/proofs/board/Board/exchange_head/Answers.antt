@@ -29,6 +29,7 @@ won m number seen has_book is_listed is_retired t =
       no_head_seen = refl;
       whole = t.whole;
       routed = t.routed;
+      unknown = t.unknown;
       carried = t.carried;
     }
 
@@ -52,6 +53,7 @@ lost m number seen has_book is_pending is_listed is_retired t = record {
   no_head_seen = refl;
   whole = t.whole;
   routed = t.routed;
+  unknown = t.unknown;
   carried = t.carried;
 }
 

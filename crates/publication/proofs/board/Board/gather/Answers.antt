@@ -2,8 +2,8 @@ use Rattle.std.proofs.Common.{rules, ◌≡◌, ◌+◌, ◌∷◌, ◌++◌, �
 use Rattle.std.specs.Prelude.{All}
 use Rattle.publication.specs.Views.{TicketView, Handed}
 use Rattle.publication.specs.Boards.{IsOf, IsSettled}
-use Rattle.publication.specs.inner.Closing.{handed_by, WereHanded, AreEnded}
-use Rattle.publication.proofs.Gathering.{map_push, all_before, settled_tells, were_handed, all_accounted}
+use Rattle.publication.specs.inner.Closing.{handed_by, WereHanded, AreEnded, TookHanded}
+use Rattle.publication.proofs.Gathering.{map_push, all_before, settled_tells, were_handed, all_accounted, all_took}
 use Rattle.publication.proofs.board.Board.gather.Goals as goal
 
 -- The closing seat took all tickets in, the last one behind the others.
@@ -49,3 +49,11 @@ returns-clause-accounts c =
     whole ts c.pop.new.self.items c.in-Some.last c.split_copy-closing.new.ticket (search rules) c.split_copy-closing.ensures.ticket c.split_copy-closing.result.me.0.others.handed c.join_tickets.new.closing.me.0.others.handed
     c.join_ticket.new.closing.me.0.others.handed c.split_copy-closing.ensures.seat.1 c.join_tickets.ensures.handed c.join_ticket.ensures.handed in
     all_accounted c.finish.result.history ts (subst (AreEnded c.finish.result.history) all c.finish.ensures.ends)
+
+pub returns-clause-pieces : goal.returns-clause-pieces
+returns-clause-pieces c =
+    let ts : List TicketView = c.args.tickets.items in
+    let all : c.join_ticket.new.closing.me.0.others.handed ≡ map handed_by ts =
+    whole ts c.pop.new.self.items c.in-Some.last c.split_copy-closing.new.ticket (search rules) c.split_copy-closing.ensures.ticket c.split_copy-closing.result.me.0.others.handed c.join_tickets.new.closing.me.0.others.handed
+    c.join_ticket.new.closing.me.0.others.handed c.split_copy-closing.ensures.seat.1 c.join_tickets.ensures.handed c.join_ticket.ensures.handed in
+    all_took c.finish.result ts (subst (TookHanded c.finish.result) all c.finish.ensures.pieces)

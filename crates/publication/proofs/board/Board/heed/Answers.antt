@@ -31,6 +31,7 @@ invariant_of-ticket c = let a = c.ticket.inside in let b = c.knowledge.inside in
             wide = omega (arith, t.wide, wider);
             all_made = ap (λ (x : Bool). x || true) t.all_made;
             accounted = c.heed_seat.ensures.learned.accounted t.accounted;
+            unknown = t.unknown;
             carried = t.carried;
           };
     }

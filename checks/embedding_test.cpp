@@ -1,0 +1,108 @@
+// Tests pelgaisti.hpp: each of its calls on a book and on an office, and the errors that they throw. Prints the line of each check
+// that fails, and last 'N passed, M failed'.
+#include "pelgaisti.hpp"
+
+#include <cstdio>
+#include <string>
+
+using pelgaisti::kind;
+using pelgaisti::mode;
+using pelgaisti::op;
+
+static int passed, failed;
+#define CHECK(condition) tell(condition, __LINE__, #condition)
+
+static void tell(bool is_so, int line, const char *condition) {
+    ++(is_so ? passed : failed);
+    if (!is_so) std::printf("%s:%d: %s\n", __FILE__, line, condition);
+}
+
+// Whether the call throws an error with this status, by its name.
+template <class Call> static bool throws(pelgaisti_status status, Call call) {
+    try {
+        call();
+    } catch (const pelgaisti::error &error) {
+        return error.status() == status && std::string(error.what()) == pelgaisti_status_name(status);
+    }
+    return false;
+}
+
+static void books() {
+    pelgaisti::book book{3};
+    CHECK(book.serve(1, {op::begin}).kind == kind::began && book.serve(2, {op::begin}).value == 2);
+    auto reply = book.serve(1, {op::commit});
+    CHECK(reply.kind == kind::committed && reply.value == 0);
+    reply = book.serve(1, {op::commit});
+    CHECK(reply.kind == kind::refused && reply.value == static_cast<std::uint64_t>(pelgaisti::refusal::no_transaction));
+    book.serve(1, {op::begin});
+    std::uint32_t level = 0;
+    CHECK(book.lock_path(1, {1, 2, 3}, mode::X, level).kind == kind::granted && level == 3);
+    CHECK(book.held(1, {1, 2}) == mode::IX && book.held(1, {1, 2, 3}) == mode::X && book.held(2, {1}) == mode::NL);
+    level = 0;
+    CHECK(book.lock_path(2, {1, 2}, mode::S, level).kind == kind::waiting && level == 1);
+    CHECK(book.waits_for(2, 1) && !book.waits_for(1, 2));
+    CHECK(book.blockers(2) == std::vector<std::uint32_t>{1} && book.blockers(3).empty());
+    const auto holders = book.holders({1});
+    CHECK(holders.size() == 2 && holders[0].session == 1 && holders[0].mode == PELGAISTI_IX && holders[1].mode == PELGAISTI_IS);
+    std::vector<pelgaisti_entry> batch(2);
+    batch[0].session = 1;
+    batch[0].call = pelgaisti::call{op::abort};
+    batch[1].session = 2;
+    batch[1].call = pelgaisti::call{op::poll};
+    CHECK(book.serve_batch(batch) == 2 && batch[0].reply.kind == PELGAISTI_ABORTED && batch[1].reply.kind == PELGAISTI_CLEAR);
+    CHECK(book.length() == 12 && book.first_kept() == 0 && book.history(10, 9).size() == 2 && book.history(99, SIZE_MAX).empty());
+    CHECK(book.history(0, SIZE_MAX).size() == 12 && book.history(0, SIZE_MAX)[4].call.op == PELGAISTI_BEGIN);
+    CHECK(book.take_history(2).size() == 2 && book.first_kept() == 2 && book.take_history(1)[0].reply.kind == PELGAISTI_COMMITTED);
+    CHECK(throws(PELGAISTI_LET_GO, [&] { book.history(2, 1); }));
+    book.keep_at_most(1);
+    CHECK(book.first_kept() == 11 && book.take_history(SIZE_MAX).size() == 1 && book.take_history(SIZE_MAX).empty());
+    CHECK(throws(PELGAISTI_NO_SUCH_SESSION, [&] { book.serve(4, {op::begin}); }));
+    CHECK(throws(PELGAISTI_NO_SUCH_LEVEL, [&] { book.serve(1, {op::lock, mode::S, {1, 2, 3, 4, 5, 6}}); }));
+    CHECK(throws(PELGAISTI_NO_SUCH_COUNT, [] { pelgaisti::book none{0}; }));
+}
+
+static void offices() {
+    pelgaisti::office office{2};
+    CHECK(office[0].perform({op::begin})->place == 0);
+    CHECK(!office[1].perform({op::begin}, 0) && throws(PELGAISTI_PENDING, [&] { office[1].perform({op::begin}); }));
+    CHECK(throws(PELGAISTI_PENDING, [&] { office.close(); }));
+    CHECK(office[1].resume()->reply.value == 2 && throws(PELGAISTI_NOTHING_PENDING, [&] { office[1].resume(); }));
+    office[0].publish({op::lock, mode::S, {7}});
+    CHECK(!office[0].collect() && office[1].serve()->served == 1 && office[0].collect()->reply.kind == kind::granted);
+    std::uint32_t level = 0;
+    CHECK(!office[1].lock_path({7, 8}, mode::X, level, 0) && level == 0);
+    CHECK(office[1].lock_path({7, 8}, mode::X, level)->reply.kind == kind::waiting && level == 0);
+    CHECK(office[0].perform({op::commit})->reply.kind == kind::committed);
+    CHECK(office[1].perform({op::poll})->reply.kind == kind::clear);
+    CHECK(office[1].lock_path({7, 8}, mode::X, level)->reply.kind == kind::granted && level == 2);
+    office[0].hear(office[1]);
+    office[0].retire();
+    CHECK(throws(PELGAISTI_RETIRED, [&] { office[0].publish({op::begin}); }));
+    auto book = office.close();
+    CHECK(book->held(2, {7, 8}) == mode::X && book->length() == 8 && book->first_kept() == 0);
+    pelgaisti::office keeping{1, 1};
+    CHECK(keeping[0].perform({op::begin}) && keeping[0].perform({op::commit}));
+    CHECK(keeping.close()->first_kept() == 1);
+    pelgaisti::office pieces{2};
+    std::uint64_t first = 9;
+    CHECK(pieces[0].perform({op::begin}) && pieces[1].perform({op::begin}));
+    auto piece = pieces[1].take_history(1, first);
+    CHECK(piece && piece->size() == 1 && first == 0 && piece->front().session == 1);
+    piece = pieces[0].take_history(9, first);
+    CHECK(piece && piece->size() == 1 && first == 1 && piece->front().session == 2);
+    CHECK(pieces.close()->first_kept() == 2);
+}
+
+static void names() {
+    CHECK(std::string(name(mode::U)) == "U" && std::string(name(op::release)) == "release");
+    CHECK(std::string(name(kind::clear)) == "clear" && std::string(name(static_cast<kind>(10))) == "unknown");
+    CHECK(std::string(name(pelgaisti::refusal::too_many_locks)) == "TooManyLocks");
+}
+
+int main() {
+    books();
+    offices();
+    names();
+    std::printf("%d passed, %d failed\n", passed, failed);
+    return failed != 0;
+}

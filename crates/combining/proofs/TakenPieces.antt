@@ -1,0 +1,83 @@
+-- A session that took the lock table for a moment, and gave it back.
+use Rattle.std.proofs.Common.{◌≡◌, ℕ, zero, suc, ◌+◌, ◌<◌, ◌≤◌, ◌⊎◌, inl, inr, ⊎_elim, Bool, true, false, List, [], ◌∷◌, ◌++◌, length, take, drop, min, refl, sym, ap, ◌∙◌, subst, arith, append-nil}
+use Rattle.std.proofs.lemmas.List.{take_all, length-drop, length-take}
+use Rattle.std.proofs.Math.Seq.{drop-append_seam}
+use Rattle.lock_rules.specs.declared.calls.Entry.{Entry}
+use Rattle.publication.specs.Pieces.{added}
+use Rattle.publication.specs.Views.{TicketView}
+use Rattle.publication.specs.Boards.{tried, enlisted}
+use Rattle.publication.specs.declared.piece.Piece.{Piece}
+use Rattle.combining.specs.Sessions.{HasTriedToList}
+
+-- A session that isn't the combiner is none afterwards, has begun no walk, and knows nothing of others' pieces.
+same_rest : (t : TicketView) (f : List Entry) (n : ℕ) (q : List Piece) → t.has_book ≡ false → t.route ≡ [] → t.taken ≡ []
+    → record t { front = f; put_backs = n; pieces = q; has_book = false; route = []; taken = [] } ≡ record t { front = f; put_backs = n; pieces = q }
+same_rest t f n q lacked no_walk untaken =
+    ap (λ (b : Bool). record t { front = f; put_backs = n; pieces = q; has_book = b; route = []; taken = [] }) (sym lacked)
+    ∙ (ap (λ (r : List ℕ). record t { front = f; put_backs = n; pieces = q; route = r; taken = [] }) (sym no_walk)
+    ∙ ap (λ (ps : List Piece). record t { front = f; put_backs = n; pieces = q; taken = ps }) (sym untaken))
+
+-- The session noted one piece meanwhile: it knows the history, and the piece is its own.
+pub noted_one : (t u w : TicketView) (h : List Entry) (all after : List Piece) (p : Piece) → u ≡ record t { front = h; has_book = true; taken = all }
+    → w ≡ record u { has_book = false; route = []; pieces = u.pieces ++ added u.taken after; taken = [] } → t.has_book ≡ false → t.route ≡ [] → t.taken ≡ []
+    → after ≡ all ++ p ∷ [] → w ≡ record t { front = w.front; pieces = t.pieces ++ p ∷ [] }
+noted_one t u w h all after p seized released lacked no_walk untaken noted =
+    let whole : w ≡ record t { front = h; has_book = false; route = []; pieces = t.pieces ++ added all after; taken = [] }
+    = released ∙ ap (λ (x : TicketView). record x { has_book = false; route = []; pieces = x.pieces ++ added x.taken after; taken = [] }) seized in
+    let one : added all after ≡ p ∷ [] = ap (added all) noted ∙ drop-append_seam all (p ∷ []) in
+    let front : w.front ≡ h = ap (λ (x : TicketView). x.front) whole in
+    whole ∙ (ap (λ (ps : List Piece). record t { front = h; has_book = false; route = []; pieces = t.pieces ++ ps; taken = [] }) one
+    ∙ (same_rest t h t.put_backs (t.pieces ++ p ∷ []) lacked no_walk untaken ∙ ap (λ (f : List Entry). record t { front = f; pieces = t.pieces ++ p ∷ [] }) (sym front)))
+
+-- The session made a pass meanwhile, and noted no piece.
+pub passed : (t u v w : TicketView) (h : List Entry) (all after : List Piece) → u ≡ record t { front = h; has_book = true; taken = all }
+    → v ≡ record u { front = v.front; route = v.route; put_backs = v.put_backs }
+    → w ≡ record v { has_book = false; route = []; pieces = v.pieces ++ added v.taken after; taken = [] } → t.has_book ≡ false → t.route ≡ [] → t.taken ≡ []
+    → after ≡ all → w ≡ record t { front = w.front; put_backs = w.put_backs }
+passed t u v w h all after seized served released lacked no_walk untaken same =
+    let late : v ≡ record t { front = v.front; has_book = true; taken = all; route = v.route; put_backs = v.put_backs }
+    = served ∙ ap (λ (x : TicketView). record x { front = v.front; route = v.route; put_backs = v.put_backs }) seized in
+    let whole : w ≡ record t { front = v.front; put_backs = v.put_backs; has_book = false; route = []; pieces = t.pieces ++ added all after; taken = [] }
+    = released ∙ ap (λ (x : TicketView). record x { has_book = false; route = []; pieces = x.pieces ++ added x.taken after; taken = [] }) late in
+    let none : added all after ≡ [] = ap (added all) (same ∙ sym (append-nil all)) ∙ drop-append_seam all [] in
+    let kept : t.pieces ++ added all after ≡ t.pieces = ap (λ (ps : List Piece). t.pieces ++ ps) none ∙ append-nil t.pieces in
+    let both : (v.front, v.put_backs) ≡ (w.front, w.put_backs) = sym (ap (λ (x : TicketView). (x.front, x.put_backs)) whole) in
+    whole ∙ (ap (λ (q : List Piece). record t { front = v.front; put_backs = v.put_backs; pieces = q; has_book = false; route = []; taken = [] }) kept
+    ∙ (same_rest t v.front v.put_backs t.pieces lacked no_walk untaken ∙ ap (λ (k : List Entry × ℕ). record t { front = k.0; put_backs = k.1 }) both))
+
+-- A try to have a call listed changes nothing of the known history.
+pub tried-front : (t u : TicketView) → HasTriedToList t u → u.front ≡ t.front
+tried-front t u h = ⊎_elim (λ unlisted. ⊎_elim (λ (e : u ≡ tried t). ap (λ (x : TicketView). x.front) e) (λ (e : u ≡ tried (enlisted t)). ap (λ (x : TicketView). x.front) e) unlisted.1)
+    (λ other. ap (λ (x : TicketView). x.front) other.1) h
+
+-- Nor of what the session is.
+pub tried-rest : (t u : TicketView) → HasTriedToList t u → (u.has_book ≡ t.has_book) × (u.route ≡ t.route)
+tried-rest t u h = ⊎_elim (λ unlisted. ⊎_elim (λ (e : u ≡ tried t). (ap (λ (x : TicketView). x.has_book) e, ap (λ (x : TicketView). x.route) e))
+    (λ (e : u ≡ tried (enlisted t)). (ap (λ (x : TicketView). x.has_book) e, ap (λ (x : TicketView). x.route) e)) unlisted.1)
+    (λ other. (ap (λ (x : TicketView). x.has_book) other.1, ap (λ (x : TicketView). x.route) other.1)) h
+
+-- which entries
+
+at_most : (m n : ℕ) → (m ≤ n) ⊎ (n < m)
+at_most zero n = inl (omega arith)
+at_most (suc m) zero = inr (omega arith)
+at_most (suc m) (suc n) = ⊎_elim (λ le. inl (omega (arith, le))) (λ more. inr (omega (arith, more))) (at_most m n)
+
+-- All entries from a place on, or none: they are the part of the history that begins there and is as long.
+pub all_or_none : (h entries : List Entry) (first most : ℕ) → first ≤ length h → (length h ≤ most → entries ≡ drop first h) → (most < length h → entries ≡ [])
+    → (entries ≡ take (length entries) (drop first h)) × (first + length entries ≤ length h)
+all_or_none h entries first most within all none = ⊎_elim
+    (λ few. let e = all few in (
+      e ∙ sym (take_all (length entries) (drop first h) (omega (arith, ap (λ (l : List Entry). length l) e))),
+      omega (arith, ap (λ (l : List Entry). length l) e, length-drop first h),
+    ))
+    (λ many. let e = none many in
+    (subst (λ (l : List Entry). l ≡ take (length l) (drop first h)) (sym e) refl, omega (arith, ap (λ (l : List Entry). length l) e)))
+    (at_most (length h) most)
+
+-- The first entries from a place on: they are the part of the history that begins there and is as long.
+pub first_ones : (h entries : List Entry) (first count : ℕ) → first ≤ length h → count ≤ length (drop first h) → entries ≡ take count (drop first h)
+    → (entries ≡ take (length entries) (drop first h)) × (first + length entries ≤ length h) × (length entries ≡ count)
+first_ones h entries first count within few is =
+    let long : length entries ≡ count = omega (arith, ap (λ (l : List Entry). length l) is, length-take count (drop first h), few) in
+    (is ∙ ap (λ (n : ℕ). take n (drop first h)) (sym long), omega (arith, long, few, length-drop first h), long)
