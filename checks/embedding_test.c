@@ -3,6 +3,7 @@
 #define _XOPEN_SOURCE 600
 #include "pelgaisti.h"
 #include <pthread.h>
+#include <semaphore.h>
 #include <sched.h>
 #include <stdio.h>
 #include <string.h>
@@ -316,7 +317,8 @@ static void calls_are_functions(void) {
 static void numbers_have_names(void) {
     static const char *const statuses[] = {"OK", "NO_MEMORY", "CLOSED", "NO_SUCH_SESSION", "NO_SUCH_OP", "NO_SUCH_LEVEL",
                                            "NO_SUCH_MODE", "OPEN", "NO_SUCH_COUNT", "PENDING", "NOTHING_PENDING", "NOT_SERVED",
-                                           "RETIRED", "ELSEWHERE", "OTHER_OFFICE", "MISSING", "COPIED", "NULL", "SAME", "LET_GO"};
+                                           "RETIRED", "ELSEWHERE", "OTHER_OFFICE", "MISSING", "COPIED", "NULL", "SAME", "LET_GO",
+                                           "NO_ROOM"};
     static const char *const modes[] = {"NL", "IS", "unknown", "IX", "unknown", "S", "unknown", "SIX", "unknown", "unknown",
                                         "unknown", "unknown", "unknown", "U", "unknown", "X", "unknown"};
     static const char *const ops[] = {"unknown", "begin", "lock", "convert", "poll", "release", "commit", "abort", "unknown"};
@@ -324,7 +326,7 @@ static void numbers_have_names(void) {
                                           "aborted", "refused", "unknown"};
     static const char *const refusals[] = {"unknown", "AlreadyOpen", "NoTransaction", "IsWaiting", "IsDoomed", "NothingAsked",
                                            "NotHeld", "ParentNotHeld", "ChildHeld", "TooManyLocks", "unknown"};
-    static const uint64_t off[] = {20, 255, 256, 65536, UINT32_MAX, (uint64_t)1 << 32, ((uint64_t)1 << 32) + 1, UINT64_MAX};
+    static const uint64_t off[] = {21, 255, 256, 65536, UINT32_MAX, (uint64_t)1 << 32, ((uint64_t)1 << 32) + 1, UINT64_MAX};
 
     for (size_t k = 0; k < COUNT(statuses); k++) CHECK(!strcmp(pelgaisti_status_name(k), statuses[k]));
     for (size_t k = 0; k < COUNT(modes); k++) CHECK(!strcmp(pelgaisti_mode_name(k), modes[k]));
@@ -939,6 +941,183 @@ static void pieces_are_the_history(void) {
     CHECK(pelgaisti_book_close(&book) == PELGAISTI_OK);
 }
 
+/* A book tells whose wait the last call has ended: two readers that a writer's commit grants, and nobody after the next call. */
+static void ended_waits_of_a_book(void) {
+    pelgaisti_book book = PELGAISTI_EMPTY;
+    pelgaisti_call begin = call_of(PELGAISTI_BEGIN, 0, 0, 0, 0), commit = call_of(PELGAISTI_COMMIT, 0, 0, 0, 0);
+    pelgaisti_call write = call_of(PELGAISTI_LOCK, PELGAISTI_X, 1, 1, 0), read = call_of(PELGAISTI_LOCK, PELGAISTI_S, 1, 1, 0);
+    pelgaisti_call poll = call_of(PELGAISTI_POLL, 0, 0, 0, 0);
+    pelgaisti_reply reply;
+    uint32_t list[3] = {77, 77, 77};
+    size_t count = 9;
+
+    CHECK(pelgaisti_book_ended(&book, list, 3, &count) == PELGAISTI_CLOSED && count == 9 && list[0] == 77);
+    CHECK(pelgaisti_book_open(&book, 3) == PELGAISTI_OK);
+    CHECK(pelgaisti_book_ended(NULL, list, 3, &count) == PELGAISTI_NULL);
+    CHECK(pelgaisti_book_ended(&book, NULL, 3, &count) == PELGAISTI_NULL);
+    CHECK(pelgaisti_book_ended(&book, list, 3, NULL) == PELGAISTI_NULL);
+    CHECK(pelgaisti_book_ended(&book, list, 3, &count) == PELGAISTI_OK && count == 0 && list[0] == 77);
+    for (uint32_t s = 1; s <= 3; s++) {
+        CHECK(pelgaisti_book_serve(&book, s, &begin, &reply) == PELGAISTI_OK);
+        CHECK(pelgaisti_book_serve(&book, s, s == 1 ? &write : &read, &reply) == PELGAISTI_OK);
+        CHECK(reply.kind == (s == 1 ? PELGAISTI_GRANTED : PELGAISTI_WAITING));
+    }
+    CHECK(pelgaisti_book_serve(&book, 1, &commit, &reply) == PELGAISTI_OK && reply.kind == PELGAISTI_COMMITTED);
+    CHECK(pelgaisti_book_ended(&book, NULL, 0, &count) == PELGAISTI_OK && count == 2);
+    CHECK(pelgaisti_book_ended(&book, list, 1, &count) == PELGAISTI_OK && count == 2 && list[1] == 77);
+    CHECK(pelgaisti_book_ended(&book, list, 3, &count) == PELGAISTI_OK && count == 2);
+    CHECK(list[0] != list[1] && list[0] + list[1] == 5 && (list[0] == 2 || list[0] == 3) && list[2] == 77);
+    CHECK(pelgaisti_book_serve(&book, 2, &poll, &reply) == PELGAISTI_OK && reply.kind == PELGAISTI_CLEAR);
+    CHECK(pelgaisti_book_ended(&book, list, 3, &count) == PELGAISTI_OK && count == 0);
+    CHECK(pelgaisti_book_close(&book) == PELGAISTI_OK);
+}
+
+/* A pass tells whose wait it has ended, whoever makes it, and the next pass tells nobody. */
+static void passes_tell(void) {
+    static pelgaisti_session sessions[2];
+    pelgaisti_book book = PELGAISTI_EMPTY;
+    pelgaisti_call begin = call_of(PELGAISTI_BEGIN, 0, 0, 0, 0), commit = call_of(PELGAISTI_COMMIT, 0, 0, 0, 0);
+    pelgaisti_call write = call_of(PELGAISTI_LOCK, PELGAISTI_X, 1, 1, 0);
+    pelgaisti_answer answer;
+    pelgaisti_pass pass = {9, 9};
+    uint32_t list[3] = {77, 77, 77};
+    size_t count = 9;
+
+    CHECK(pelgaisti_session_serve_telling(&sessions[0], &pass, list, 2, &count) == PELGAISTI_CLOSED);
+    CHECK(pelgaisti_office_open(sessions, 2) == PELGAISTI_OK);
+    CHECK(pelgaisti_session_serve_telling(NULL, &pass, list, 2, &count) == PELGAISTI_NULL);
+    CHECK(pelgaisti_session_serve_telling(&sessions[0], &pass, NULL, 2, &count) == PELGAISTI_NULL);
+    CHECK(pelgaisti_session_serve_telling(&sessions[0], &pass, list, 2, NULL) == PELGAISTI_NULL);
+    CHECK(pelgaisti_session_serve_telling(&sessions[0], &pass, list, 1, &count) == PELGAISTI_NO_ROOM);
+    CHECK(count == 9 && list[0] == 77 && pass.served == 9);
+    for (int s = 0; s < 2; s++) {
+        CHECK(pelgaisti_session_perform(&sessions[s], &begin, 10, &answer) == PELGAISTI_OK);
+        CHECK(pelgaisti_session_perform(&sessions[s], &write, 10, &answer) == PELGAISTI_OK);
+        CHECK(answer.reply.kind == (s == 0 ? PELGAISTI_GRANTED : PELGAISTI_WAITING));
+    }
+    CHECK(pelgaisti_session_publish(&sessions[0], &commit, NULL) == PELGAISTI_OK);
+    CHECK(pelgaisti_session_serve_telling(&sessions[1], &pass, list, 3, &count) == PELGAISTI_OK && pass.served == 1);
+    CHECK(pass.starved == 0 && count == 1 && list[0] == 2 && list[1] == 77);
+    CHECK(pelgaisti_session_collect(&sessions[0], &answer) == PELGAISTI_OK && answer.reply.kind == PELGAISTI_COMMITTED);
+    CHECK(pelgaisti_session_serve_telling(&sessions[0], NULL, list, 2, &count) == PELGAISTI_OK && count == 0);
+    CHECK(pelgaisti_session_hand_in(&sessions[1], &sessions[0]) == PELGAISTI_OK);
+    CHECK(pelgaisti_office_close(&sessions[0], &book) == PELGAISTI_OK);
+    CHECK(pelgaisti_book_close(&book) == PELGAISTI_OK);
+}
+
+/* Threads that sleep until a pass tells of them: many more than there are processors. */
+enum { SLEEPERS = 64, TRANSACTIONS = 100, DATABASES = 4 };
+static sem_t woken[SLEEPERS + 1];
+
+typedef struct sleeper {
+    pelgaisti_session *session;
+    uint32_t number;
+    uint64_t waits, bad;
+    uint32_t told[SLEEPERS];
+} sleeper;
+
+static void post(void *engine, uint32_t session) {
+    sem_t *semaphores = (sem_t *)engine;
+    sem_post(&semaphores[session]);
+}
+
+/* Makes a call, and posts the semaphore of each session whose wait a pass of this thread has ended. Returns the reply's kind. */
+static uint32_t call_and_wake(sleeper *j, uint32_t op, uint32_t database) {
+    pelgaisti_call call = call_of(op, PELGAISTI_X, 1, database, 0);
+    pelgaisti_waker waker = {post, woken, j->told, SLEEPERS};
+    pelgaisti_answer answer = {0, {0, 0}};
+    j->bad += pelgaisti_session_perform_waking(j->session, &call, UINT64_MAX, &waker, &answer) != PELGAISTI_OK;
+    return answer.reply.kind;
+}
+
+/* Locks a database exclusively. A request that waits sleeps, and polls once. Returns 0 if the transaction became a victim. */
+static int lock_asleep(sleeper *j, uint32_t database) {
+    uint32_t kind = call_and_wake(j, PELGAISTI_LOCK, database);
+    if (kind == PELGAISTI_WAITING) {
+        j->waits++;
+        while (sem_wait(&woken[j->number]) != 0) continue;
+        kind = call_and_wake(j, PELGAISTI_POLL, 0);
+        j->bad += kind != PELGAISTI_CLEAR && kind != PELGAISTI_DEADLOCK;
+    } else {
+        j->bad += kind != PELGAISTI_GRANTED && kind != PELGAISTI_DEADLOCK;
+    }
+    return kind != PELGAISTI_DEADLOCK;
+}
+
+/* A thread's transactions: each locks two databases, in either order, so that deadlocks come about, and commits or aborts. */
+static void *sleep_and_work(void *argument) {
+    sleeper *j = (sleeper *)argument;
+    for (uint32_t k = 0; k < TRANSACTIONS; k++) {
+        uint32_t one = (k + j->number) % DATABASES, other = (one + 1 + k % (DATABASES - 1)) % DATABASES;
+        j->bad += call_and_wake(j, PELGAISTI_BEGIN, 0) != PELGAISTI_BEGAN;
+        if (lock_asleep(j, one + 1) && lock_asleep(j, other + 1))
+            j->bad += call_and_wake(j, PELGAISTI_COMMIT, 0) != PELGAISTI_COMMITTED;
+        else
+            j->bad += call_and_wake(j, PELGAISTI_ABORT, 0) != PELGAISTI_ABORTED;
+    }
+    return NULL;
+}
+
+/* Each thread is woken once for each wait, no wake-up is left over, and the history has a poll for each wait and no other. */
+static void threads_sleep(void) {
+    static pelgaisti_session sessions[SLEEPERS];
+    static sleeper jobs[SLEEPERS];
+    static pelgaisti_entry entries[1000];
+    pelgaisti_book book = PELGAISTI_EMPTY;
+    pthread_t threads[SLEEPERS];
+    uint64_t waits = 0, polls = 0, victims = 0;
+    size_t count = 0;
+
+    CHECK(pelgaisti_office_open(sessions, SLEEPERS) == PELGAISTI_OK);
+    for (uint32_t t = 0; t < SLEEPERS; t++) {
+        jobs[t].session = &sessions[t];
+        jobs[t].number = t + 1;
+        CHECK(sem_init(&woken[t + 1], 0, 0) == 0);
+    }
+    for (int t = 0; t < SLEEPERS; t++) CHECK(pthread_create(&threads[t], NULL, sleep_and_work, &jobs[t]) == 0);
+    for (int t = 0; t < SLEEPERS; t++) CHECK(pthread_join(threads[t], NULL) == 0);
+    for (uint32_t t = 0; t < SLEEPERS; t++) {
+        int left = 9;
+        CHECK(jobs[t].bad == 0 && sem_getvalue(&woken[t + 1], &left) == 0 && left == 0);
+        CHECK(sem_destroy(&woken[t + 1]) == 0);
+        waits += jobs[t].waits;
+    }
+    for (int t = SLEEPERS - 1; t > 0; t--) CHECK(pelgaisti_session_hand_in(&sessions[t], &sessions[0]) == PELGAISTI_OK);
+    CHECK(pelgaisti_office_close(&sessions[0], &book) == PELGAISTI_OK);
+    for (uint64_t first = 0; pelgaisti_book_history(&book, first, entries, COUNT(entries), &count) == PELGAISTI_OK && count > 0;
+         first += count)
+        for (size_t k = 0; k < count; k++) {
+            polls += entries[k].call.op == PELGAISTI_POLL;
+            victims += entries[k].call.op == PELGAISTI_ABORT;
+        }
+    CHECK(polls == waits && waits > 0 && victims > 0);
+    CHECK(pelgaisti_book_close(&book) == PELGAISTI_OK);
+}
+
+/* What a waker has to have, and that its list is too small. */
+static void wakers_refuse(void) {
+    static pelgaisti_session sessions[2];
+    pelgaisti_book book = PELGAISTI_EMPTY;
+    pelgaisti_call begin = call_of(PELGAISTI_BEGIN, 0, 0, 0, 0);
+    pelgaisti_resource page = {3, {1, 2, 3}};
+    pelgaisti_answer answer = {7, {0, 0}};
+    uint32_t list[2], level = 0;
+    pelgaisti_waker nobody = {NULL, NULL, list, 2}, nowhere = {post, woken, NULL, 2}, small = {post, woken, list, 1};
+
+    CHECK(pelgaisti_office_open(sessions, 2) == PELGAISTI_OK);
+    CHECK(pelgaisti_session_perform_waking(&sessions[0], &begin, 9, &nobody, &answer) == PELGAISTI_NULL);
+    CHECK(pelgaisti_session_perform_waking(&sessions[0], &begin, 9, &nowhere, &answer) == PELGAISTI_NULL);
+    CHECK(pelgaisti_session_perform_waking(&sessions[0], NULL, 9, NULL, &answer) == PELGAISTI_NOTHING_PENDING);
+    CHECK(pelgaisti_session_perform_waking(&sessions[0], &begin, 9, &small, &answer) == PELGAISTI_NO_ROOM && answer.place == 7);
+    small.room = 2;
+    CHECK(pelgaisti_session_perform_waking(&sessions[0], NULL, 9, &small, &answer) == PELGAISTI_OK && answer.place == 0);
+    CHECK(pelgaisti_session_lock_path_waking(&sessions[0], &page, PELGAISTI_S, &level, 9, &small, &answer) == PELGAISTI_OK);
+    CHECK(level == 3 && answer.reply.kind == PELGAISTI_GRANTED && answer.place == 3);
+    CHECK(pelgaisti_session_hand_in(&sessions[1], &sessions[0]) == PELGAISTI_OK);
+    CHECK(pelgaisti_office_close(&sessions[0], &book) == PELGAISTI_OK);
+    CHECK(pelgaisti_book_close(&book) == PELGAISTI_OK);
+}
+
 int main(void) {
     books_refuse();
     books_serve();
@@ -955,6 +1134,10 @@ int main(void) {
     pieces_follow();
     threads_share();
     pieces_are_the_history();
+    ended_waits_of_a_book();
+    passes_tell();
+    threads_sleep();
+    wakers_refuse();
     printf("%d passed, %d failed\n", passed, failed);
     return failed != 0;
 }

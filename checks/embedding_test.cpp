@@ -50,6 +50,7 @@ static void books() {
     batch[1].session = 2;
     batch[1].call = pelgaisti::call{op::poll};
     CHECK(book.serve_batch(batch) == 2 && batch[0].reply.kind == PELGAISTI_ABORTED && batch[1].reply.kind == PELGAISTI_CLEAR);
+    CHECK(book.ended() == std::vector<std::uint32_t>{2});
     CHECK(book.length() == 12 && book.first_kept() == 0 && book.history(10, 9).size() == 2 && book.history(99, SIZE_MAX).empty());
     CHECK(book.history(0, SIZE_MAX).size() == 12 && book.history(0, SIZE_MAX)[4].call.op == PELGAISTI_BEGIN);
     CHECK(book.take_history(2).size() == 2 && book.first_kept() == 2 && book.take_history(1)[0].reply.kind == PELGAISTI_COMMITTED);
@@ -72,7 +73,10 @@ static void offices() {
     std::uint32_t level = 0;
     CHECK(!office[1].lock_path({7, 8}, mode::X, level, 0) && level == 0);
     CHECK(office[1].lock_path({7, 8}, mode::X, level)->reply.kind == kind::waiting && level == 0);
-    CHECK(office[0].perform({op::commit})->reply.kind == kind::committed);
+    static std::uint32_t told = 0;
+    std::uint32_t list[2];
+    pelgaisti::waker waker{[](void *, std::uint32_t session) { told = session; }, nullptr, list, 2};
+    CHECK(office[0].perform({op::commit}, UINT64_MAX, &waker)->reply.kind == kind::committed && told == 2);
     CHECK(office[1].perform({op::poll})->reply.kind == kind::clear);
     CHECK(office[1].lock_path({7, 8}, mode::X, level)->reply.kind == kind::granted && level == 2);
     office[0].hear(office[1]);

@@ -12,7 +12,8 @@ room for all words of the command line is only a hint, and if it is refused they
 have written whole pieces of its history, and some round has to see one piece written, and some round two. A run may also end with
 status 5, if the refusal kept a thread from starting, or with status 0, if it met the refusal by serving calls one after another:
 what it writes has to be a legal history in which each session's rows stand in their order. A run of one session has one try for
-each call: a pass that found no memory for the call ends the run. In further rounds of runs all later allocations are refused too: a
+each call: a pass that found no memory for the call ends the run. A run in pieces may also end with these statuses and whole rows
+of a legal history behind it, in which each session's rows are the first ones of its own. In further rounds of runs all later allocations are refused too: a
 run that goes on after its refusal fails. Threads allocate in any order, so a run's last rounds are the first three in a row without
 a refusal.
 
@@ -43,8 +44,11 @@ PIECE = 4096
 # the tests whose allocations are refused, by the crate: all whose names begin so
 TESTED = {
     "base_tests": ("traces::reports_the_row_in_which_memory_was_refused", "waits::refused_"),
-    "desk_tests": ("batches::", "books::", "kept::", "queues::", "refusals::", "refused_batches::"),
-    "office_tests": ("ages::", "boards::", "closing::", "dropping::", "hearing::", "listing::", "offices::", "refusals::"),
+    "desk_tests": ("batches::", "books::", "ended::", "kept::", "queues::", "refusals::", "refused_batches::"),
+    "office_tests": (
+        *("ages::", "boards::", "closing::", "direct::a_call_that_found_no_memory", "dropping::", "hearing::", "listing::"),
+        *("offices::", "refusals::", "telling::a_commit"),
+    ),
 }
 # except these: tests with threads, with two offices, and of the publication list, where a starved pass counts as a pass, which
 # don't make each refused call again; and tests with 1,024 sessions, which would take long, and of which the desk's are made with
@@ -62,6 +66,7 @@ LEFT_OUT = {
 }
 # what tests print of a refusal: for each of these texts there has to be a round that prints it and nothing else
 TOLD = {
+    "direct::a_call_that_found_no_memory_is_performed_by_the_next_try": {"starved"},
     "offices::a_call_that_found_no_memory_is_served_by_the_next_pass": {"starved"},
     "refusals::a_clean_up_keeps_the_record_of_a_call_that_found_no_memory": {"starved", "starved before"},
     "refusals::a_pass_that_found_no_memory_is_starved_or_serves_one_by_one": {"starved", "served all"},
@@ -210,6 +215,26 @@ def runs(rows):
     return is_right
 
 
+def runs_in_pieces(rows):
+    """Like `runs`, but whole rows of a legal history may have been written before the run ended."""
+    is_whole, calls = runs(rows), by_session(rows)
+
+    def is_right(ended):
+        status, output, errors = ended
+        if status == 0:
+            return is_whole(ended)
+        written = [line.partition(",")[2] for line in output.decode().splitlines()]
+        judged = subprocess.run([PROGRAM, "check"], input=output, capture_output=True, timeout=60)
+        return (
+            (status, errors) in ((REFUSED[0], REFUSED[2]), (UNSTARTED[0], UNSTARTED[2]))
+            and output[-1:] in (b"", b"\n")
+            and judged.stdout == b"legal %d\n" % len(written)
+            and all(made == calls[session][: len(made)] for session, made in by_session(written).items())
+        )
+
+    return is_right
+
+
 def trials_of_the_program():
     for name, rows in TRACES.items():
         trace, history = trace_of(rows), history_of(rows)
@@ -222,8 +247,13 @@ def trials_of_the_program():
             # a thread whose pass found no memory stops at once, not after its last try
             words = [PROGRAM, "run", "--turns", "1000"]
             yield Trial(f"run of {name}, all refused", words, runs(rows), trace, refuses_all=True, quiet=3)
+            words = [PROGRAM, "run", "--stream", "--turns", "1000"]
+            yield Trial(f"run --stream of {name}", words, runs_in_pieces(rows), trace, quiet=3)
+            yield Trial(f"run --stream of {name}, all refused", words, runs_in_pieces(rows), trace, refuses_all=True, quiet=3)
     words, history = [PROGRAM, "replay", "--stream"], history_of(THREE_PIECES)
     yield Trial("replay --stream of three pieces", words, ends_in_pieces(history), trace_of(THREE_PIECES))
+    words = [PROGRAM, "run", "--stream"]
+    yield Trial("run --stream of three pieces", words, runs_in_pieces(THREE_PIECES), trace_of(THREE_PIECES), quiet=3)
     illegal = (TOP / "examples/illegal.csv").read_bytes()
     yield Trial("check of a history that isn't legal", [PROGRAM, "check"], ends(3, b"illegal 2\n"), illegal)
     faulty = b"1,begin,,\n1,lock,01,S\n"

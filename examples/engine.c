@@ -1,7 +1,8 @@
 /*
  * A small engine: two tables of accounts, and four threads that move money between them. Each move locks the two records that it
- * changes, polls while it waits for a lock, and undoes its change if it is chosen as a deadlock's victim. The lock table keeps the
- * newest 1024 entries of its history, so that the engine takes no more memory the longer it runs.
+ * changes, sleeps while it waits for a lock, and undoes its change if it is chosen as a deadlock's victim. Whoever ends a wait wakes
+ * the thread that waits. The lock table keeps the newest 1024 entries of its history, so that the engine takes no more memory the
+ * longer it runs.
  *
  *     ./embed && cc examples/engine.c -Iout -Lout -lpelgaisti -lpthread -o engine && ./engine
  *
@@ -10,9 +11,9 @@
 #define _XOPEN_SOURCE 600 /* for barriers under -std=c99 */
 #include "pelgaisti.h"
 #include <pthread.h>
+#include <semaphore.h>
 #include <stdio.h>
 #include <stdlib.h>
-#include <time.h>
 
 /* The last record of each table is used only by the two moves that make a deadlock. */
 enum { TABLES = 2, RECORDS = 5, MEETING = 4, THREADS = 4, BALANCE = 100, KEPT = 1024 };
@@ -20,11 +21,17 @@ enum { TABLES = 2, RECORDS = 5, MEETING = 4, THREADS = 4, BALANCE = 100, KEPT = 
 static long accounts[TABLES][RECORDS];
 static pthread_barrier_t both_hold_one;
 
-/* A worker: its session, its number, how many moves it has to make and made, how often it was a victim, and how many calls it made. */
+/* For each session a semaphore, on which its thread sleeps while it waits for a lock. */
+static sem_t woken[THREADS + 1];
+
+/* A worker: its session, its number, how many moves it has to make and made, how often it was a victim, how often it waited and
+   polled, how many calls it made, and whom its passes wake, with room for their numbers. */
 typedef struct worker {
     pelgaisti_session *session;
-    unsigned number, moves, moved, victims;
+    unsigned number, moves, moved, victims, waits, polls;
     uint64_t calls;
+    pelgaisti_waker waker;
+    uint32_t told[THREADS];
 } worker;
 
 /* Prints what failed and ends the program. */
@@ -44,21 +51,26 @@ static pelgaisti_call plain(uint32_t op) {
 static pelgaisti_reply ask(worker *w, uint32_t op) {
     pelgaisti_call call = plain(op);
     pelgaisti_answer answer;
-    pelgaisti_status status = pelgaisti_session_perform(w->session, &call, UINT64_MAX, &answer);
+    pelgaisti_status status = pelgaisti_session_perform_waking(w->session, &call, UINT64_MAX, &w->waker, &answer);
     if (status != PELGAISTI_OK) stop("perform", pelgaisti_status_name(status));
     w->calls++;
     return answer.reply;
 }
 
-/* Sleeps before the next poll, at most a millisecond. Returns how long to sleep before the one after it. */
-static long sleep_before_poll(long nanoseconds) {
-    struct timespec time = {0, 0};
-    time.tv_nsec = nanoseconds;
-    nanosleep(&time, NULL);
-    return nanoseconds < 500000 ? 2 * nanoseconds : 1000000;
+/* Wakes the thread of a session. A pass of the calling thread has ended the session's wait. */
+static void wake(void *engine, uint32_t session) {
+    sem_t *semaphores = (sem_t *)engine;
+    sem_post(&semaphores[session]);
 }
 
-/* Locks a record exclusively, under intention locks on the database and the table. While a request on this path waits, polls until
+/* Sleeps until a pass has ended the wait of the worker's session, and asks how it has ended. */
+static pelgaisti_reply sleep_and_poll(worker *w) {
+    while (sem_wait(&woken[w->number + 1]) != 0) continue; /* a signal may end the sleep early */
+    w->polls++;
+    return ask(w, PELGAISTI_POLL);
+}
+
+/* Locks a record exclusively, under intention locks on the database and the table. While a request on this path waits, sleeps until
    it is granted, and then goes on. Returns 0 if the transaction became a victim. */
 static int lock_record(worker *w, uint32_t table, uint32_t record) {
     pelgaisti_resource resource = {3, {1, 0, 0}}; /* database 1 */
@@ -68,11 +80,13 @@ static int lock_record(worker *w, uint32_t table, uint32_t record) {
     while (level < resource.level) {
         uint32_t before = level;
         pelgaisti_answer answer;
-        pelgaisti_status status = pelgaisti_session_lock_path(w->session, &resource, PELGAISTI_X, &level, UINT64_MAX, &answer);
+        pelgaisti_status status =
+            pelgaisti_session_lock_path_waking(w->session, &resource, PELGAISTI_X, &level, UINT64_MAX, &w->waker, &answer);
         if (status != PELGAISTI_OK) stop("lock", pelgaisti_status_name(status));
         pelgaisti_reply reply = answer.reply;
         w->calls += level - before + (reply.kind != PELGAISTI_GRANTED); /* one call for each level that was locked */
-        for (long pause = 10000; reply.kind == PELGAISTI_WAITING; pause = sleep_before_poll(pause)) reply = ask(w, PELGAISTI_POLL);
+        w->waits += reply.kind == PELGAISTI_WAITING;
+        while (reply.kind == PELGAISTI_WAITING) reply = sleep_and_poll(w);
         if (reply.kind == PELGAISTI_DEADLOCK) return 0;
         if (reply.kind == PELGAISTI_REFUSED) stop("lock was refused", pelgaisti_refusal_name(reply.value));
     }
@@ -120,7 +134,7 @@ int main(int argc, char **argv) {
     pthread_t threads[THREADS];
     worker workers[THREADS];
     long sum = 0;
-    unsigned moves = argc > 1 ? (unsigned)strtoul(argv[1], NULL, 10) : 500, moved = 0, victims = 0;
+    unsigned moves = argc > 1 ? (unsigned)strtoul(argv[1], NULL, 10) : 500, moved = 0, victims = 0, waits = 0, polls = 0;
     uint64_t calls = 0;
 
     for (int t = 0; t < TABLES; t++)
@@ -129,15 +143,18 @@ int main(int argc, char **argv) {
     pelgaisti_status status = pelgaisti_office_open_keeping(sessions, THREADS, KEPT);
     if (status != PELGAISTI_OK) stop("open", pelgaisti_status_name(status));
     for (unsigned t = 0; t < THREADS; t++) {
-        worker w = {&sessions[t], t, moves, 0, 0, 0};
+        worker w = {&sessions[t], t, moves, 0, 0, 0, 0, 0, {wake, woken, workers[t].told, THREADS}, {0}};
         workers[t] = w;
-        pthread_create(&threads[t], NULL, work, &workers[t]);
+        sem_init(&woken[t + 1], 0, 0);
     }
+    for (unsigned t = 0; t < THREADS; t++) pthread_create(&threads[t], NULL, work, &workers[t]);
     for (unsigned t = 0; t < THREADS; t++) {
         pthread_join(threads[t], NULL);
         moved += workers[t].moved;
         victims += workers[t].victims;
         calls += workers[t].calls;
+        waits += workers[t].waits;
+        polls += workers[t].polls;
     }
 
     /* hand in the sessions and close the office, which leaves one history of all calls */
@@ -154,7 +171,7 @@ int main(int argc, char **argv) {
     for (int t = 0; t < TABLES; t++)
         for (int r = 0; r < RECORDS; r++) sum += accounts[t][r];
     int whole = length == calls && kept > 0 && first + kept == length && entries[kept - 1].reply.kind == PELGAISTI_COMMITTED;
-    printf("%u moves; the sum is %ld; a deadlock was undone: %s; the history has each call: %s\n", moved, sum,
-           victims > 0 ? "yes" : "no", whole ? "yes" : "no");
-    return !(moved == THREADS * moves && sum == TABLES * RECORDS * BALANCE && victims > 0 && whole);
+    printf("%u moves; the sum is %ld; a deadlock was undone: %s; the history has each call: %s; one poll for each wait: %s\n", moved,
+           sum, victims > 0 ? "yes" : "no", whole ? "yes" : "no", polls == waits ? "yes" : "no");
+    return !(moved == THREADS * moves && sum == TABLES * RECORDS * BALANCE && victims > 0 && whole && polls == waits);
 }

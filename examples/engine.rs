@@ -1,4 +1,5 @@
-//! The engine of `engine.c` in Rust, by `extern "C"`: two tables of accounts, and four threads that move money between them.
+//! The engine of `engine.c` in Rust, by `extern "C"`: two tables of accounts, and four threads that move money between them. Whoever
+//! ends a wait wakes the thread that waits.
 //! The types enforce the header's rules for handles: a handle is used only by `&mut`, is never moved, and its array outlives the
 //! threads.
 //!
@@ -6,7 +7,7 @@
 
 use std::ffi::c_void;
 use std::ptr::null_mut;
-use std::sync::Barrier;
+use std::sync::{Barrier, Condvar, Mutex};
 use std::sync::atomic::{AtomicI64, Ordering::Relaxed};
 use std::thread;
 
@@ -87,7 +88,8 @@ unsafe extern "C" {
     safe fn pelgaisti_raw_session_hand_in(session: &mut Handle, to: &mut Handle) -> u32;
     safe fn pelgaisti_raw_office_close(session: &mut Handle, book: &mut Handle) -> u32;
     safe fn pelgaisti_raw_session_publish(session: &mut Handle, call: &Call, posted: &mut u32) -> u32;
-    safe fn pelgaisti_raw_session_serve(session: &mut Handle, pass: &mut Pass) -> u32;
+    // Needs `room` numbers at `list`, as many as the office has sessions.
+    fn pelgaisti_raw_session_serve_telling(session: &mut Handle, pass: &mut Pass, list: *mut u32, room: usize, count: &mut usize) -> u32;
     safe fn pelgaisti_raw_session_collect(session: &mut Handle, answer: &mut Answer) -> u32;
 }
 
@@ -98,6 +100,28 @@ const BALANCE: i64 = 100;
 /// The last record of each table, which only the two moves that make a deadlock use.
 const MEETING: usize = 4;
 
+/// Where a session's thread sleeps while it waits for a lock: how often it was woken and hasn't slept since.
+#[derive(Default)]
+struct Bed {
+    woken: Mutex<u32>,
+    changed: Condvar,
+}
+
+impl Bed {
+    fn wake(&self) {
+        *self.woken.lock().unwrap() += 1;
+        self.changed.notify_one();
+    }
+
+    fn sleep(&self) {
+        let mut woken = self.woken.lock().unwrap();
+        while *woken == 0 {
+            woken = self.changed.wait(woken).unwrap();
+        }
+        *woken -= 1;
+    }
+}
+
 type Tables = [[AtomicI64; MEETING + 1]; 2];
 
 /// A thread of the engine, with its session.
@@ -105,18 +129,29 @@ struct Worker<'a> {
     session: &'a mut Handle,
     accounts: &'a Tables,
     both_hold_one: &'a Barrier,
+    beds: &'a [Bed; THREADS],
     number: u32,
     victims: u32,
 }
 
 impl Worker<'_> {
+    /// Serves once, and wakes the threads whose waits the pass has ended.
+    fn serve(&mut self) {
+        let (mut told, mut count) = ([0; THREADS], 0);
+        let at = told.as_mut_ptr();
+        let status = unsafe { pelgaisti_raw_session_serve_telling(self.session, &mut Pass::default(), at, THREADS, &mut count) };
+        if status == OK {
+            told[..count].iter().for_each(|session| self.beds[*session as usize - 1].wake());
+        }
+    }
+
     /// Publishes a call, then serves and collects until the answer is there.
     fn ask(&mut self, call: Call) -> Reply {
         let mut posted = 0;
         assert_eq!(pelgaisti_raw_session_publish(self.session, &call, &mut posted), OK);
         let mut answer = Answer::default();
         loop {
-            pelgaisti_raw_session_serve(self.session, &mut Pass::default());
+            self.serve();
             match pelgaisti_raw_session_collect(self.session, &mut answer) {
                 OK => return answer.reply,
                 status => assert_eq!(status, NOT_SERVED),
@@ -130,7 +165,7 @@ impl Worker<'_> {
         self.ask(Call { op, ..Call::default() })
     }
 
-    /// Locks a resource and polls until the lock is granted. Returns false if the transaction became a victim.
+    /// Locks a resource, and sleeps while the request waits. Returns false if the transaction became a victim.
     fn lock(&mut self, mode: u32, numbers: &[u32]) -> bool {
         let mut resource = Resource {
             level: numbers.len() as u32,
@@ -139,7 +174,7 @@ impl Worker<'_> {
         resource.numbers[..numbers.len()].copy_from_slice(numbers);
         let mut reply = self.ask(Call { op: LOCK, mode, resource });
         while reply.kind == WAITING {
-            thread::yield_now();
+            self.beds[self.number as usize].sleep();
             reply = self.plain(POLL);
         }
         assert!([GRANTED, CLEAR, DEADLOCK].contains(&reply.kind));
@@ -199,6 +234,7 @@ impl Worker<'_> {
 fn main() {
     let accounts: Tables = std::array::from_fn(|_| std::array::from_fn(|_| AtomicI64::new(BALANCE)));
     let both_hold_one = Barrier::new(2);
+    let beds: [Bed; THREADS] = Default::default();
     let mut sessions = [EMPTY; THREADS];
     let at = sessions.as_mut_ptr();
     assert_eq!(unsafe { pelgaisti_raw_office_open(at, THREADS, at as u64, u64::MAX) }, OK);
@@ -210,6 +246,7 @@ fn main() {
                     session,
                     accounts: &accounts,
                     both_hold_one: &both_hold_one,
+                    beds: &beds,
                     number,
                     victims: 0,
                 };

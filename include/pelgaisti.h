@@ -55,7 +55,7 @@
  * its comment lists the statuses; the first test that fails gives the status. A status other than PELGAISTI_OK means that nothing
  * has changed and nothing was written: no handle, no history, no memory that an argument points to. There are two exceptions: a
  * call that returns ELSEWHERE may put the session's record on the publication list, and COPIED closes the session's handle. The
- * calls made of several others say for themselves what they leave (pelgaisti_session_perform, .._lock_path).
+ * calls made of several others say for themselves what they leave (pelgaisti_session_perform, .._lock_path, .._waking).
  *
  * WHAT IS PROVED. Each function of the archive has a contract, which crates/pelgaisti_c states and proves: what PELGAISTI_OK means,
  * which other statuses the call can return, and what each of these implies. The inline functions of this header are tested, and so
@@ -109,7 +109,8 @@ typedef enum pelgaisti_status {
                                       tested] */
     PELGAISTI_NULL = 17,           /* a pointer is NULL and must not be [tested: only this header returns it] */
     PELGAISTI_SAME = 18,           /* both arguments are the same handle [tested: only this header returns it] */
-    PELGAISTI_LET_GO = 19          /* the entry at this place of the history was let go [let_go, exactly then] */
+    PELGAISTI_LET_GO = 19,         /* the entry at this place of the history was let go [let_go, exactly then] */
+    PELGAISTI_NO_ROOM = 20         /* the array has room for fewer sessions than the office has [room, exactly then] */
 } pelgaisti_status;
 
 /* The lock modes of Gray, Lorie, Putzolu and Traiger (1976), and U. The or of two codes is their least upper bound's code. */
@@ -280,7 +281,8 @@ PELGAISTI_ASSERT_(session, sizeof(pelgaisti_session) == 16 && offsetof(pelgaisti
 static inline const char *pelgaisti_status_name(uint64_t status) {
     static const char *const names[] = {"OK", "NO_MEMORY", "CLOSED", "NO_SUCH_SESSION", "NO_SUCH_OP", "NO_SUCH_LEVEL",
                                         "NO_SUCH_MODE", "OPEN", "NO_SUCH_COUNT", "PENDING", "NOTHING_PENDING", "NOT_SERVED",
-                                        "RETIRED", "ELSEWHERE", "OTHER_OFFICE", "MISSING", "COPIED", "NULL", "SAME", "LET_GO"};
+                                        "RETIRED", "ELSEWHERE", "OTHER_OFFICE", "MISSING", "COPIED", "NULL", "SAME", "LET_GO",
+                                        "NO_ROOM"};
     return status < sizeof names / sizeof *names ? names[status] : "unknown";
 }
 
@@ -330,6 +332,7 @@ uint32_t pelgaisti_raw_book_held(pelgaisti_book *book, uint32_t session, const p
 uint32_t pelgaisti_raw_book_waits_for(pelgaisti_book *book, uint32_t session, uint32_t other, uint32_t *edge);
 uint32_t pelgaisti_raw_book_holders(pelgaisti_book *book, const pelgaisti_resource *resource, pelgaisti_holder *list, size_t room,
                                     size_t *count);
+uint32_t pelgaisti_raw_book_ended(pelgaisti_book *book, uint32_t *list, size_t room, size_t *count);
 uint32_t pelgaisti_raw_book_length(pelgaisti_book *book, uint64_t *length);
 uint32_t pelgaisti_raw_book_history(pelgaisti_book *book, uint64_t first, pelgaisti_entry *entries, size_t room, size_t *count);
 uint32_t pelgaisti_raw_book_first_kept(pelgaisti_book *book, uint64_t *first);
@@ -341,6 +344,8 @@ uint32_t pelgaisti_raw_book_take_history(pelgaisti_book *book, uint64_t *first, 
 uint32_t pelgaisti_raw_office_open(pelgaisti_session *sessions, size_t count, uint64_t mark, uint64_t bound);
 uint32_t pelgaisti_raw_session_publish(pelgaisti_session *session, const pelgaisti_call *call, uint32_t *posted);
 uint32_t pelgaisti_raw_session_serve(pelgaisti_session *session, pelgaisti_pass *pass);
+uint32_t pelgaisti_raw_session_serve_telling(pelgaisti_session *session, pelgaisti_pass *pass, uint32_t *list, size_t room,
+                                             size_t *count);
 uint32_t pelgaisti_raw_session_collect(pelgaisti_session *session, pelgaisti_answer *answer);
 uint32_t pelgaisti_raw_session_take_history(pelgaisti_session *session, uint64_t *first, pelgaisti_entry *entries, size_t room,
                                             size_t *count);
@@ -477,6 +482,18 @@ static inline pelgaisti_status pelgaisti_book_blockers(pelgaisti_book *book, uin
     return PELGAISTI_OK;
 }
 
+/* Writes the first `room` of the sessions whose wait the last call or batch has ended to `list`, each once, in no particular order,
+   and the number of all of them to `count`: a request of the session that waited was granted, or its transaction became a
+   deadlock's victim. A poll of each tells which. The session of the call itself isn't among them: its reply tells. After a batch
+   they are those whose wait one of its calls has ended, also those that wait again since. `list` may be NULL if `room` is 0.
+   Requires `room` elements at `list`.
+   NULL, CLOSED. */
+static inline pelgaisti_status pelgaisti_book_ended(pelgaisti_book *book, uint32_t *list, size_t room, size_t *count) {
+    uint32_t none;
+    if (!book || !count || (!list && room)) return PELGAISTI_NULL;
+    return PELGAISTI_CALL_(pelgaisti_raw_book_ended(book, list ? list : &none, room, count));
+}
+
 /* Writes the number of entries of the history, those that were let go among them.
    NULL, CLOSED. */
 static inline pelgaisti_status pelgaisti_book_length(pelgaisti_book *book, uint64_t *length) {
@@ -606,6 +623,39 @@ static inline pelgaisti_status pelgaisti_session_serve(pelgaisti_session *sessio
     return PELGAISTI_CALL_(pelgaisti_raw_session_serve(session, pass ? pass : &unread));
 }
 
+/* Like pelgaisti_session_serve, and tells whose wait the pass has ended: writes the sessions, each once, in no particular order, to
+   `list`, and how many they are to `count`. They are those whose waiting request a call of another session in this pass granted, or
+   whose transaction it made a deadlock's victim. `room` is at least the office's number of sessions. With ELSEWHERE no pass was
+   made, and nobody is to be told. NO_MEMORY: no pass was made. Requires `room` elements at `list`.
+   NULL, CLOSED, NO_ROOM, NO_MEMORY, ELSEWHERE.
+
+   By this call threads sleep until their waits are over, in place of polling: each session has a semaphore, at first 0, all threads
+   serve by this call alone, and whoever is told of a session posts its semaphore. pelgaisti_session_perform_waking does so. A thread
+   whose answer is WAITING sleeps on the semaphore of its session and then polls once, as it makes any call:
+       static sem_t woken[SESSIONS + 1];
+       static void wake(void *engine, uint32_t session) { sem_post(&woken[session]); }
+       ...
+           pelgaisti_waker waker = {wake, NULL, told, SESSIONS};
+           pelgaisti_session_perform_waking(session, &lock, UINT64_MAX, &waker, &answer);
+           while (answer.reply.kind == PELGAISTI_WAITING) {
+               while (sem_wait(&woken[number]) != 0) continue;
+               pelgaisti_session_perform_waking(session, &poll, UINT64_MAX, &waker, &answer);
+           }
+   The poll tells CLEAR or DEADLOCK. A session that polls unasked or aborts while it waits may find its semaphore posted once too
+   often: then a poll after a sleep tells WAITING, and it sleeps again.
+
+   Why no wake-up is lost. (1) A wait ends by one entry of the history, which is another session's, and the pass that served this
+   entry tells of the session, also if the wait began in the same pass and its answer isn't collected yet [proved]. (2) Every
+   entry was served by one pass, and the thread that made the pass posts the semaphore [that is the caller's code]. (3) A
+   semaphore counts, so that a post before the thread sleeps wakes it as well [that is the system's]. (4) The next poll of a session
+   that was told of replies CLEAR or DEADLOCK, whatever others call before it [proved]. */
+static inline pelgaisti_status pelgaisti_session_serve_telling(pelgaisti_session *session, pelgaisti_pass *pass, uint32_t *list,
+                                                               size_t room, size_t *count) {
+    pelgaisti_pass unread;
+    if (!session || !list || !count) return PELGAISTI_NULL;
+    return PELGAISTI_CALL_(pelgaisti_raw_session_serve_telling(session, pass ? pass : &unread, list, room, count));
+}
+
 /* Takes the answer to the session's pending call, which is then no longer pending.
    NULL, CLOSED, NOTHING_PENDING, NOT_SERVED. */
 static inline pelgaisti_status pelgaisti_session_collect(pelgaisti_session *session, pelgaisti_answer *answer) {
@@ -694,19 +744,44 @@ static inline void pelgaisti_pause_(uint64_t look) {
     }
 }
 
+/* Whom a call's passes wake: `wake` is called with `engine` for each session whose wait a pass has ended, after the pass, by the
+   thread that made it. At `list` is room for the numbers of `room` sessions, which is at least the office's number of sessions. A
+   waker is used by one call at a time. */
+typedef struct pelgaisti_waker {
+    void (*wake)(void *engine, uint32_t session);
+    void *engine;
+    uint32_t *list;
+    size_t room;
+} pelgaisti_waker;
+
+/* Serves by pelgaisti_session_serve, or with a waker by pelgaisti_session_serve_telling, and wakes who is told of. */
+static inline pelgaisti_status pelgaisti_serve_waking_(pelgaisti_session *session, pelgaisti_pass *pass,
+                                                       const pelgaisti_waker *waker) {
+    pelgaisti_status status;
+    size_t count = 0;
+    if (!waker) return pelgaisti_session_serve(session, pass);
+    status = pelgaisti_session_serve_telling(session, pass, waker->list, waker->room, &count);
+    if (status == PELGAISTI_OK)
+        while (count > 0) waker->wake(waker->engine, waker->list[--count]);
+    return status;
+}
+
 /* Publishes the call, then serves and collects in turn until the answer is there, at most `turns` times. With NULL for `call` it
    goes on with the call that is pending. The answer may be WAITING: this call waits for an answer, not for a lock. Whoever waits
-   for a lock polls, and sleeps between two polls: 10 microseconds at first, and twice as long each time up to a millisecond.
-   NOT_SERVED: after so many turns there is no answer. NO_MEMORY: memory was refused in a pass of this session, and its call wasn't
-   served. With both the call is pending, and NULL for `call` goes on with it.
-   NULL (the session or the answer), CLOSED, NO_SUCH_OP, NO_SUCH_LEVEL, NO_SUCH_MODE, RETIRED, PENDING; NOTHING_PENDING with NULL
-   for `call`; NO_MEMORY, NOT_SERVED. */
-static inline pelgaisti_status pelgaisti_session_perform(pelgaisti_session *session, const pelgaisti_call *call, uint64_t turns,
-                                                         pelgaisti_answer *answer) {
+   for a lock sleeps until a pass wakes it, which pelgaisti_session_serve_telling explains. With NULL for `waker` the passes of this
+   call wake nobody: where threads sleep, none uses it so.
+   NOT_SERVED: after so many turns there is no answer. NO_MEMORY: memory was refused in a pass of this session or for the list of
+   whom it is to wake, and its call wasn't served. With both, and with NO_ROOM, the call is pending, and NULL for `call` goes on with
+   it.
+   NULL (the session, the answer, or what the waker has), CLOSED, NO_SUCH_OP, NO_SUCH_LEVEL, NO_SUCH_MODE, RETIRED, PENDING;
+   NOTHING_PENDING with NULL for `call`; NO_MEMORY, NO_ROOM, NOT_SERVED. */
+static inline pelgaisti_status pelgaisti_session_perform_waking(pelgaisti_session *session, const pelgaisti_call *call,
+                                                                uint64_t turns, const pelgaisti_waker *waker,
+                                                                pelgaisti_answer *answer) {
     pelgaisti_pass pass;
-    pelgaisti_status status;
+    pelgaisti_status status, served;
     uint64_t turn;
-    if (!session || !answer) return PELGAISTI_NULL;
+    if (!session || !answer || (waker && (!waker->wake || !waker->list))) return PELGAISTI_NULL;
     if (call) {
         status = pelgaisti_session_publish(session, call, NULL);
         if (status != PELGAISTI_OK) return status;
@@ -714,32 +789,50 @@ static inline pelgaisti_status pelgaisti_session_perform(pelgaisti_session *sess
     for (turn = 0; turn < turns; turn++) {
         if (turn > 0) pelgaisti_pause_(turn);
         pass.starved = 0;
-        pelgaisti_session_serve(session, &pass);
+        served = pelgaisti_serve_waking_(session, &pass, waker);
         status = pelgaisti_session_collect(session, answer);
         if (status != PELGAISTI_NOT_SERVED) return status;
         if (pass.starved) return PELGAISTI_NO_MEMORY;
+        if (served == PELGAISTI_NO_MEMORY || served == PELGAISTI_NO_ROOM) return served;
     }
     return PELGAISTI_NOT_SERVED;
 }
 
-/* Like pelgaisti_book_lock_path, for a session of an office: performs the calls one after another, each in at most `turns` turns,
-   and writes the last answer. A call that is pending is taken to be the one that an earlier call of this function has left, with
-   the same arguments.
-   NULL, NO_SUCH_LEVEL, and the statuses of pelgaisti_session_perform. */
-static inline pelgaisti_status pelgaisti_session_lock_path(pelgaisti_session *session, const pelgaisti_resource *resource,
-                                                           uint32_t mode, uint32_t *level, uint64_t turns,
-                                                           pelgaisti_answer *answer) {
+/* Performs a call as pelgaisti_session_perform_waking does, by passes that wake nobody. Whoever waits for a lock polls then, and
+   sleeps between two polls: 10 microseconds at first, and twice as long each time up to a millisecond.
+   NULL (the session or the answer), CLOSED, NO_SUCH_OP, NO_SUCH_LEVEL, NO_SUCH_MODE, RETIRED, PENDING; NOTHING_PENDING with NULL
+   for `call`; NO_MEMORY, NOT_SERVED. */
+static inline pelgaisti_status pelgaisti_session_perform(pelgaisti_session *session, const pelgaisti_call *call, uint64_t turns,
+                                                         pelgaisti_answer *answer) {
+    return pelgaisti_session_perform_waking(session, call, turns, NULL, answer);
+}
+
+/* Like pelgaisti_book_lock_path, for a session of an office: performs the calls one after another, each in at most `turns` turns by
+   passes that wake as the waker says, and writes the last answer. A call that is pending is taken to be the one that an earlier call
+   of this function has left, with the same arguments.
+   NULL, NO_SUCH_LEVEL, and the statuses of pelgaisti_session_perform_waking. */
+static inline pelgaisti_status pelgaisti_session_lock_path_waking(pelgaisti_session *session, const pelgaisti_resource *resource,
+                                                                  uint32_t mode, uint32_t *level, uint64_t turns,
+                                                                  const pelgaisti_waker *waker, pelgaisti_answer *answer) {
     if (!session || !resource || !level || !answer) return PELGAISTI_NULL;
     if (resource->level > PELGAISTI_LEVELS || *level >= resource->level) return PELGAISTI_NO_SUCH_LEVEL;
     while (*level < resource->level) {
         pelgaisti_call call = pelgaisti_path_call(resource, mode, *level);
-        pelgaisti_status status = pelgaisti_session_perform(session, &call, turns, answer);
-        if (status == PELGAISTI_PENDING) status = pelgaisti_session_perform(session, NULL, turns, answer);
+        pelgaisti_status status = pelgaisti_session_perform_waking(session, &call, turns, waker, answer);
+        if (status == PELGAISTI_PENDING) status = pelgaisti_session_perform_waking(session, NULL, turns, waker, answer);
         if (status != PELGAISTI_OK) return status;
         if (answer->reply.kind != PELGAISTI_GRANTED) break;
         *level += 1;
     }
     return PELGAISTI_OK;
+}
+
+/* Locks a path as pelgaisti_session_lock_path_waking does, by passes that wake nobody.
+   NULL, NO_SUCH_LEVEL, and the statuses of pelgaisti_session_perform. */
+static inline pelgaisti_status pelgaisti_session_lock_path(pelgaisti_session *session, const pelgaisti_resource *resource,
+                                                           uint32_t mode, uint32_t *level, uint64_t turns,
+                                                           pelgaisti_answer *answer) {
+    return pelgaisti_session_lock_path_waking(session, resource, mode, level, turns, NULL, answer);
 }
 
 #undef PELGAISTI_CALL_

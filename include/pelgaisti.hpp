@@ -23,6 +23,7 @@
 namespace pelgaisti {
 using std::size_t, std::uint32_t, std::uint64_t;
 using entry = pelgaisti_entry;
+using waker = pelgaisti_waker;
 enum class mode : uint32_t { NL = 0, IS = 1, IX = 3, S = 5, SIX = 7, X = 15, U = 13 };
 enum class op : uint32_t { begin = 1, lock, convert, poll, release, commit, abort };
 enum class kind : uint32_t { began = 1, granted, waiting, deadlock, clear, released, committed, aborted, refused };
@@ -32,7 +33,6 @@ inline const char *name(mode it) { return pelgaisti_mode_name(static_cast<uint64
 inline const char *name(op it) { return pelgaisti_op_name(static_cast<uint64_t>(it)); }
 inline const char *name(kind it) { return pelgaisti_reply_name(static_cast<uint64_t>(it)); }
 inline const char *name(refusal it) { return pelgaisti_refusal_name(static_cast<uint64_t>(it)); }
-
 // What a failed call throws: its status, with the status's name.
 class error : public std::exception {
     pelgaisti_status status_;
@@ -51,7 +51,6 @@ template <class T, class Call> std::vector<T> list_by(size_t room, Call call) {
     std::vector<T> list(room);
     return list.resize(made_by<size_t>([&](auto *count) { return call(list.data(), count); })), list;
 }
-
 // A path of 1 to PELGAISTI_LEVELS numbers; with another count of numbers the calls fail with NO_SUCH_LEVEL.
 struct resource : pelgaisti_resource {
     resource(std::initializer_list<uint32_t> path) : pelgaisti_resource{} {
@@ -69,14 +68,11 @@ struct reply {
     explicit reply(const pelgaisti_reply &it) : kind(static_cast<pelgaisti::kind>(it.kind)), value(it.value) {}
 };
 struct answer { uint64_t place; pelgaisti::reply reply; };
-// What can be neither copied nor moved.
 struct pinned { pinned() = default; pinned(const pinned &) = delete; pinned &operator=(const pinned &) = delete; };
-
 class book : pinned {
 public:
     explicit book(uint32_t sessions) { check(pelgaisti_book_open(&handle_, sessions)); }
     ~book() { static_cast<void>(pelgaisti_book_close(&handle_)); }
-
     pelgaisti::reply serve(uint32_t session, const pelgaisti::call &call) {
         return reply(made_by<pelgaisti_reply>([&](auto *made) { return pelgaisti_book_serve(&handle_, session, &call, made); }));
     }
@@ -86,18 +82,20 @@ public:
     }
     // Locks the ancestors of the resource in the mode that it needs there, and then the resource, from the level `level` on, which
     // it raises by 1 for each that is granted. It stops at the first reply other than granted.
-    pelgaisti::reply lock_path(uint32_t session, const pelgaisti::resource &resource, mode in, uint32_t &level) {
+    pelgaisti::reply lock_path(uint32_t session, const pelgaisti::resource &on, mode in, uint32_t &level) {
         const auto code = static_cast<uint32_t>(in);
         return reply(made_by<pelgaisti_reply>([&](auto *made) {
-            return pelgaisti_book_lock_path(&handle_, session, &resource, code, &level, made); }));
+            return pelgaisti_book_lock_path(&handle_, session, &on, code, &level, made); }));
     }
     bool waits_for(uint32_t session, uint32_t other) {
         return made_by<uint32_t>([&](auto *edge) { return pelgaisti_book_waits_for(&handle_, session, other, edge); }) != 0;
     }
-    // The sessions for which the session waits directly, by number.
+    // The sessions for which the session waits directly, by number; and those whose wait the last call or batch has ended.
     std::vector<uint32_t> blockers(uint32_t session) {
-        const size_t room = PELGAISTI_MAX_SESSIONS;
-        return list_by<uint32_t>(room, [&](auto *at, auto *n) { return pelgaisti_book_blockers(&handle_, session, at, room, n); });
+        return list_by<uint32_t>(all, [&](auto *at, auto *n) { return pelgaisti_book_blockers(&handle_, session, at, all, n); });
+    }
+    std::vector<uint32_t> ended() {
+        return list_by<uint32_t>(all, [&](auto *at, auto *n) { return pelgaisti_book_ended(&handle_, at, all, n); });
     }
     mode held(uint32_t session, const pelgaisti::resource &resource) {
         return mode(made_by<uint32_t>([&](auto *code) { return pelgaisti_book_held(&handle_, session, &resource, code); }));
@@ -130,30 +128,32 @@ private:
         const uint64_t all = length();
         return first >= all ? 0 : all - first < room ? static_cast<size_t>(all - first) : room;
     }
+    enum : size_t { all = PELGAISTI_MAX_SESSIONS };
     pelgaisti_book handle_ = PELGAISTI_EMPTY;
 };
 
 class session : pinned {
 public:
     void publish(const pelgaisti::call &call) { check(pelgaisti_session_publish(&handle_, &call, nullptr)); }
-    // One try to take the lock table; what the pass did, or nothing if another session has the table.
-    std::optional<pelgaisti_pass> serve() {
+    // One try to take the lock table; what the pass did, or nothing if another session has it. A waker is told whose wait ended.
+    std::optional<pelgaisti_pass> serve(const waker *wake = nullptr) {
         pelgaisti_pass pass{};
-        return elsewhere(pelgaisti_session_serve(&handle_, &pass)) ? std::nullopt : std::optional(pass);
+        return elsewhere(pelgaisti_serve_waking_(&handle_, &pass, wake)) ? std::nullopt : std::optional(pass);
     }
     // The answer to the pending call, or nothing if the session knows none yet.
     std::optional<answer> collect() { return told([&](auto *found) { return pelgaisti_session_collect(&handle_, found); }); }
     // Publishes the call, and serves and collects, at most `turns` times. Nothing, or NO_MEMORY: it is pending; resume() goes on.
-    std::optional<answer> perform(const pelgaisti::call &call, uint64_t turns = UINT64_MAX) {
-        return told([&](auto *found) { return pelgaisti_session_perform(&handle_, &call, turns, found); });
+    std::optional<answer> perform(const pelgaisti::call &call, uint64_t turns = UINT64_MAX, const waker *wake = nullptr) {
+        return told([&](auto *found) { return pelgaisti_session_perform_waking(&handle_, &call, turns, wake, found); });
     }
-    std::optional<answer> resume(uint64_t turns = UINT64_MAX) {
-        return told([&](auto *found) { return pelgaisti_session_perform(&handle_, nullptr, turns, found); });
+    std::optional<answer> resume(uint64_t turns = UINT64_MAX, const waker *wake = nullptr) {
+        return told([&](auto *found) { return pelgaisti_session_perform_waking(&handle_, nullptr, turns, wake, found); });
     }
     // Like book::lock_path, each call in at most `turns` turns. Nothing: a call is pending yet, and the same call goes on with it.
-    std::optional<answer> lock_path(const resource &resource, mode in, uint32_t &level, uint64_t turns = UINT64_MAX) {
-        const auto code = static_cast<uint32_t>(in);
-        return told([&](auto *found) { return pelgaisti_session_lock_path(&handle_, &resource, code, &level, turns, found); });
+    std::optional<answer> lock_path(const resource &on, mode in, uint32_t &level, uint64_t turns = UINT64_MAX,
+                                    const waker *wake = nullptr) {
+        const auto how = static_cast<uint32_t>(in);
+        return told([&](auto *it) { return pelgaisti_session_lock_path_waking(&handle_, &on, how, &level, turns, wake, it); });
     }
     // Takes up to `room` of the oldest entries that are kept, from the place `first` on; nothing if another session has the table.
     std::optional<std::vector<entry>> take_history(size_t room, uint64_t &first) {

@@ -2,7 +2,7 @@
 
 use crate::calls::{Call, Mode, Reply, Resource};
 use crate::error::{done, same_version, Error};
-use crate::ffi::{self, RawEntry, RawHandle, RawHolder, RawReply};
+use crate::ffi::{self, RawEntry, RawHandle, RawHolder, RawReply, MAX_SESSIONS};
 use std::cell::UnsafeCell;
 
 /// A lock table with the history of its calls, for one thread at a time: it may move to another thread, and isn't shared.
@@ -138,6 +138,30 @@ impl Book {
         self.waits_for(session, session)?;
         let others = (1..).map_while(|other| Some((other, self.waits_for(session, other).ok()?)));
         Ok(others.filter(|it| it.1).map(|it| it.0).collect())
+    }
+
+    /// The sessions whose wait the last call or batch has ended, each once, in no particular order: a request of theirs that waited
+    /// was granted, or their transaction became a deadlock's victim. A poll of each tells which. The session of the call itself
+    /// isn't among them.
+    ///
+    ///     # use pelgaisti::{Book, Call, Mode, Reply, Resource};
+    ///     let mut book = Book::open(2)?;
+    ///     let database = Resource::new(&[7]).unwrap();
+    ///     for session in 1..=2 {
+    ///         book.serve(session, &Call::Begin)?;
+    ///         book.serve(session, &Call::Lock(database, Mode::X))?;
+    ///     }
+    ///     assert_eq!(book.ended(), []);
+    ///     book.serve(1, &Call::Commit)?;
+    ///     assert_eq!(book.ended(), [2]);
+    ///     # Ok::<(), pelgaisti::Error>(())
+    pub fn ended(&self) -> Vec<u32> {
+        let mut list = vec![0; MAX_SESSIONS];
+        let mut count = 0;
+        let status = unsafe { ffi::pelgaisti_raw_book_ended(self.raw(), list.as_mut_ptr(), list.len(), &mut count) };
+        done(status).expect("an open book tells whose wait has ended");
+        list.truncate(count);
+        list
     }
 
     /// The mode that the session holds on the resource itself, `NL` if none. The mode of a waiting request doesn't count.

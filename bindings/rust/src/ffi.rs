@@ -6,6 +6,9 @@ use std::ffi::c_void;
 /// How many numbers a resource has room for.
 pub(crate) const LEVELS: usize = 5;
 
+/// The greatest number of sessions.
+pub(crate) const MAX_SESSIONS: usize = 1024;
+
 /// The header's version that these structs are of.
 pub(crate) const HEADER_VERSION: u32 = 3;
 
@@ -108,6 +111,7 @@ extern "C" {
         room: usize,
         count: *mut usize,
     ) -> u32;
+    pub(crate) fn pelgaisti_raw_book_ended(book: *mut RawHandle, list: *mut u32, room: usize, count: *mut usize) -> u32;
     pub(crate) fn pelgaisti_raw_book_length(book: *mut RawHandle, length: *mut u64) -> u32;
     pub(crate) fn pelgaisti_raw_book_first_kept(book: *mut RawHandle, first: *mut u64) -> u32;
     pub(crate) fn pelgaisti_raw_book_keep_at_most(book: *mut RawHandle, bound: u64) -> u32;
@@ -128,6 +132,13 @@ extern "C" {
     pub(crate) fn pelgaisti_raw_office_open(sessions: *mut RawHandle, count: usize, mark: u64, bound: u64) -> u32;
     pub(crate) fn pelgaisti_raw_session_publish(session: *mut RawHandle, call: *const RawCall, posted: *mut u32) -> u32;
     pub(crate) fn pelgaisti_raw_session_serve(session: *mut RawHandle, pass: *mut RawPass) -> u32;
+    pub(crate) fn pelgaisti_raw_session_serve_telling(
+        session: *mut RawHandle,
+        pass: *mut RawPass,
+        list: *mut u32,
+        room: usize,
+        count: *mut usize,
+    ) -> u32;
     pub(crate) fn pelgaisti_raw_session_take_history(
         session: *mut RawHandle,
         first: *mut u64,

@@ -3,7 +3,8 @@
 //! isn't, but its types keep the rules that the library asks of its callers.
 //!
 //! A [`Book`] is a lock table for one thread at a time. An [`Office`] is one that threads share, each by a [`Session`] of its
-//! own. No call blocks: a session that was told [`Reply::Waiting`] polls.
+//! own. No call blocks: a thread that was told [`Reply::Waiting`] sleeps until the pass of another wakes it, as
+//! [`Session::serve_waking`] tells, or polls.
 //!
 //!     use pelgaisti::{Book, Call, Mode, Reply, Resource};
 //!
@@ -19,7 +20,7 @@
 //!
 //! **Statuses that can't come.** A handle is open as long as its value lives, a call is one of [`Call`], and each value has
 //! handles of its own that never move: so the library's statuses CLOSED, OPEN, NO_SUCH_OP, NO_SUCH_LEVEL, NO_SUCH_MODE, NULL,
-//! SAME and COPIED have no counterpart in [`Error`]. If the library gives one of them all the same, the call panics.
+//! SAME, COPIED and NO_ROOM have no counterpart in [`Error`]. If the library gives one of them all the same, the call panics.
 #![deny(missing_docs)]
 
 mod book;

@@ -3,7 +3,7 @@
 use crate::book::{Book, Entry};
 use crate::calls::{Call, Mode, Reply, Resource};
 use crate::error::{done, same_version, Error};
-use crate::ffi::{self, RawAnswer, RawEntry, RawHandle, RawPass};
+use crate::ffi::{self, RawAnswer, RawEntry, RawHandle, RawPass, MAX_SESSIONS};
 use std::cell::UnsafeCell;
 use std::hint;
 use std::marker::PhantomData;
@@ -28,6 +28,8 @@ pub enum Office {}
 pub struct Session {
     handles: Arc<Handles>,
     index: usize,
+    // room for whose wait a pass has ended, from the first call on that tells it
+    told: Vec<u32>,
     // not Sync: a call uses the handle alone
     alone: PhantomData<std::cell::Cell<()>>,
 }
@@ -94,7 +96,7 @@ impl Office {
         // no two offices of a process have one mark
         static MARKS: AtomicU64 = AtomicU64::new(1);
         same_version()?;
-        if sessions == 0 || sessions > 1024 {
+        if sessions == 0 || sessions > MAX_SESSIONS {
             return Err(Error::NoSuchCount);
         }
         let handles: Vec<_> = (0..sessions).map(|_| UnsafeCell::new(RawHandle::EMPTY)).collect();
@@ -105,6 +107,7 @@ impl Office {
         let session = |index| Session {
             handles: handles.clone(),
             index,
+            told: Vec::new(),
             alone: PhantomData,
         };
         Ok((0..sessions).map(session).collect())
@@ -191,6 +194,39 @@ impl Session {
         })
     }
 
+    /// Serves as [`Session::serve`] does, and calls `wake` with the number of each session whose wait the pass has ended, after the
+    /// pass: a waiting request of theirs was granted, or their transaction became a deadlock's victim. Each is told once. A poll of
+    /// each tells which.
+    ///
+    /// By this call and those that are made of it, [`Session::perform_waking`] and the like, a thread that was told
+    /// [`Reply::Waiting`] sleeps in place of polling, until a pass of another thread wakes it. It polls then. All threads of the
+    /// office serve so.
+    ///
+    ///     # use pelgaisti::{Call, Mode, Office, Resource};
+    ///     let mut sessions = Office::open(2)?;
+    ///     for session in &mut sessions {
+    ///         session.perform(&Call::Begin, u64::MAX)?;
+    ///         session.perform(&Call::Lock(Resource::new(&[7]).unwrap(), Mode::X), u64::MAX)?;
+    ///     }
+    ///     sessions[0].publish(&Call::Commit)?;
+    ///     let mut told = Vec::new();
+    ///     sessions[0].serve_waking(|session| told.push(session))?;
+    ///     assert_eq!(told, [2]);
+    ///     # Ok::<(), pelgaisti::Error>(())
+    pub fn serve_waking(&mut self, wake: impl FnMut(usize)) -> Result<Pass, Error> {
+        if self.told.is_empty() {
+            self.told = vec![0; self.handles.0.len()];
+        }
+        let (mut pass, mut count) = (RawPass::default(), 0);
+        let (at, room) = (self.told.as_mut_ptr(), self.told.len());
+        done(unsafe { ffi::pelgaisti_raw_session_serve_telling(self.raw(), &mut pass, at, room, &mut count) })?;
+        self.told[..count].iter().map(|session| *session as usize).for_each(wake);
+        Ok(Pass {
+            served: pass.served,
+            starved: pass.starved != 0,
+        })
+    }
+
     /// Takes the answer to the pending call. [`Error::NotServed`]: the session knows none yet.
     ///
     ///     # use pelgaisti::{Call, Error, Office};
@@ -220,6 +256,19 @@ impl Session {
         self.resume(turns)
     }
 
+    /// Performs a call as [`Session::perform`] does, by passes that wake whose wait they have ended, as
+    /// [`Session::serve_waking`] does. After [`Error::NotServed`] and [`Error::NoMemory`] [`Session::resume_waking`] goes on.
+    ///
+    ///     # use pelgaisti::{Call, Office, Reply};
+    ///     let mut sessions = Office::open(2)?;
+    ///     let answer = sessions[1].perform_waking(&Call::Begin, u64::MAX, |_| unreachable!("nobody waits"))?;
+    ///     assert_eq!(answer.reply, Reply::Began(1));
+    ///     # Ok::<(), pelgaisti::Error>(())
+    pub fn perform_waking(&mut self, call: &Call, turns: u64, wake: impl FnMut(usize)) -> Result<Answer, Error> {
+        self.publish(call)?;
+        self.resume_waking(turns, wake)
+    }
+
     /// Goes on with a pending call as [`Session::perform`] does.
     ///
     ///     # use pelgaisti::{Call, Error, Office, Reply};
@@ -228,18 +277,34 @@ impl Session {
     ///     assert_eq!(sessions[1].resume(1)?.reply, Reply::Began(1));
     ///     # Ok::<(), pelgaisti::Error>(())
     pub fn resume(&mut self, turns: u64) -> Result<Answer, Error> {
+        self.resume_by(turns, Session::serve)
+    }
+
+    /// Goes on with a pending call as [`Session::perform_waking`] does.
+    ///
+    ///     # use pelgaisti::{Call, Error, Office, Reply};
+    ///     let mut sessions = Office::open(2)?;
+    ///     assert_eq!(sessions[1].perform(&Call::Begin, 0), Err(Error::NotServed));
+    ///     assert_eq!(sessions[1].resume_waking(1, |_| ())?.reply, Reply::Began(1));
+    ///     # Ok::<(), pelgaisti::Error>(())
+    pub fn resume_waking(&mut self, turns: u64, mut wake: impl FnMut(usize)) -> Result<Answer, Error> {
+        self.resume_by(turns, |session| session.serve_waking(&mut wake))
+    }
+
+    /// Serves by `serve` and collects in turn until the pending call is answered.
+    fn resume_by(&mut self, turns: u64, mut serve: impl FnMut(&mut Session) -> Result<Pass, Error>) -> Result<Answer, Error> {
         for turn in 0..turns {
             match turn {
                 0 => (),
                 1..=8 => (0..256).for_each(|_| hint::spin_loop()),
                 _ => thread::yield_now(),
             }
-            let pass = self.serve();
+            let pass = serve(self);
             match self.collect() {
                 Err(Error::NotServed) => (),
                 found => return found,
             }
-            if let Ok(Pass { starved: true, .. }) = pass {
+            if let Ok(Pass { starved: true, .. }) | Err(Error::NoMemory) = pass {
                 return Err(Error::NoMemory);
             }
         }
@@ -259,12 +324,48 @@ impl Session {
     ///     assert_eq!((answer.reply, answer.place, level), (Reply::Granted(Mode::S), 3, 3));
     ///     # Ok::<(), pelgaisti::Error>(())
     pub fn lock_path(&mut self, resource: Resource, mode: Mode, level: &mut usize, turns: u64) -> Result<Option<Answer>, Error> {
+        self.lock_path_by(resource, mode, level, |session| session.resume(turns))
+    }
+
+    /// Locks a path as [`Session::lock_path`] does, by passes that wake whose wait they have ended, as [`Session::serve_waking`]
+    /// does.
+    ///
+    ///     # use pelgaisti::{Call, Mode, Office, Resource};
+    ///     let mut sessions = Office::open(2)?;
+    ///     sessions[0].perform(&Call::Begin, u64::MAX)?;
+    ///     let mut level = 0;
+    ///     sessions[0].lock_path_waking(Resource::new(&[7, 2]).unwrap(), Mode::S, &mut level, u64::MAX, |_| ())?;
+    ///     assert_eq!(level, 2);
+    ///     # Ok::<(), pelgaisti::Error>(())
+    pub fn lock_path_waking(
+        &mut self,
+        resource: Resource,
+        mode: Mode,
+        level: &mut usize,
+        turns: u64,
+        mut wake: impl FnMut(usize),
+    ) -> Result<Option<Answer>, Error> {
+        self.lock_path_by(resource, mode, level, |session| session.resume_waking(turns, &mut wake))
+    }
+
+    /// Locks a path by `resume`, which performs a pending call.
+    fn lock_path_by(
+        &mut self,
+        resource: Resource,
+        mode: Mode,
+        level: &mut usize,
+        mut resume: impl FnMut(&mut Session) -> Result<Answer, Error>,
+    ) -> Result<Option<Answer>, Error> {
         let mut last = None;
         while let Some(call) = resource.path_call(mode, *level) {
-            let answer = match self.perform(&call, turns) {
-                Err(Error::Pending) => self.resume(turns)?,
-                other => other?,
-            };
+            match self.publish(&call) {
+                // the call that an earlier one has left
+                Err(Error::Pending) => (),
+                other => {
+                    other?;
+                }
+            }
+            let answer = resume(self)?;
             last = Some(answer);
             if !matches!(answer.reply, Reply::Granted(_)) {
                 break;

@@ -21,15 +21,17 @@ fn the_version_is_written_to_the_output(rt: HostRuntime) -> Result<(), Fail> {
     Ok(())
 }
 
-/// A number with a leading zero or a plus sign is a usage error, for each option and command that is tried.
+/// A number with a leading zero or a plus sign is a usage error, for each option and command that is tried, and so are as
+/// many sessions as an office has for a run in pieces.
 #[test]
 fn option_numbers_have_no_sign_and_no_leading_zero(rt: HostRuntime) -> Result<(), Fail> {
     let message =
-        "error: a number is written with digits alone, with no sign and no zero before it\n\nFor more information, try '--help'.\n";
+        "error: a number is written with digits alone, with no sign and no zero before it, and 'run --stream' has at most 1023\nsessions\n\nFor more information, try '--help'.\n";
     for words in [
         ["replay", "--sessions", "01"].as_slice(),
         ["check", "--sessions=+1"].as_slice(),
         ["run", "--turns", "010"].as_slice(),
+        ["run", "--stream", "--sessions=1024"].as_slice(),
     ] {
         want_errors(&rt, &rt, words, "", 2, message)?;
     }
@@ -102,10 +104,10 @@ fn help_names_every_mode(rt: HostRuntime) -> Result<(), Fail> {
     Ok(())
 }
 
-/// The help of `replay` names the flag `--stream`, and that of the other commands doesn't.
+/// The help of `replay` and `run` names the flag `--stream`, and that of `check` doesn't.
 #[test]
 fn help_names_the_flag_of_a_command(rt: HostRuntime) -> Result<(), Fail> {
-    for (command, has_flag) in [("replay", true), ("run", false), ("check", false)] {
+    for (command, has_flag) in [("replay", true), ("run", true), ("check", false)] {
         for option in ["--help", "-h"] {
             let ran = run_words(&rt, &[command, option], b"".as_slice())?;
             let text = str::from_utf8(&ran.output).map_err(|_| "no text")?;

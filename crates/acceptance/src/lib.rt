@@ -34,6 +34,8 @@ mod reader_faults;
 #[cfg(test)]
 mod replays;
 #[cfg(test)]
+mod runs_in_pieces;
+#[cfg(test)]
 mod threaded_runs;
 #[cfg(test)]
 mod updates;

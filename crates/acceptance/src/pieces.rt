@@ -17,11 +17,11 @@ const WORDS: [&str; 3] = ["glm", "replay", "--stream"];
 
 /// A writer that takes all bytes, and counts the line feeds of each call.
 #[derive(Drop)]
-struct Counting {
+pub(crate) struct Counting {
     /// The bytes that were taken.
-    taken: Vec<u8>,
+    pub taken: Vec<u8>,
     /// The number of line feeds in the bytes of each call.
-    lines: Vec<u64>,
+    pub lines: Vec<u64>,
 }
 
 impl Write for Counting {
@@ -131,7 +131,11 @@ fn a_faulty_row_is_reported_before_a_piece_is_written(rt: HostRuntime) -> Result
     poll_up_to(&mut built, PIECE_ENTRIES)?;
     built.trace.write_all(b"1,lock,1\n")?;
     let trace = str::from_utf8(&built.trace).map_err(|_| "no text")?;
-    for words in [["replay"].as_slice(), ["replay", "--stream"].as_slice()] {
+    for words in [
+        ["replay"].as_slice(),
+        ["replay", "--stream"].as_slice(),
+        ["run", "--stream"].as_slice(),
+    ] {
         want_errors(&rt, &rt, words, trace, 1, "glm: row 4097: Shape\n")?;
     }
     Ok(())

@@ -14,7 +14,7 @@ use std::test::Fail;
 use std::thread::Threads;
 
 /// The greatest number of tries for each answer in these tests.
-const TURNS: u64 = 1_000_000_000;
+pub(crate) const TURNS: u64 = 1_000_000_000;
 
 /// A trace of one session.
 pub(crate) const TREE: &str = "1,begin,,\n1,lock,1,IX\n1,lock,1/2,IX\n1,lock,1/2/3,X\n1,commit,,\n";
@@ -72,7 +72,7 @@ fn want_rows_of_each(
 }
 
 /// Expects the history to be legal, and each session's calls in it to be its rows in the trace.
-fn want_run_of(
+pub(crate) fn want_run_of(
     rt: &(impl AllocGlobal + Threads + Wait),
     abort: &impl Abort,
     trace: &[u8],
@@ -287,7 +287,7 @@ fn row(
 }
 
 /// Returns a trace of `sessions` sessions with `each` rows each, one row of every session in turn.
-fn many_rows(
+pub(crate) fn many_rows(
     rt: &(impl AllocGlobal + Threads + Wait),
     sessions: u16,
     each: u64,

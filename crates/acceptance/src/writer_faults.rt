@@ -28,13 +28,13 @@ impl Write for Full {
 
 /// A writer that takes at most `piece` bytes in each of `calls` calls, and then fails.
 #[derive(Drop)]
-struct Short {
+pub(crate) struct Short {
     /// The bytes that were taken.
-    taken: Vec<u8>,
+    pub taken: Vec<u8>,
     /// The number of calls that are left.
-    calls: usize,
+    pub calls: usize,
     /// The number of bytes that a call takes at most.
-    piece: usize,
+    pub piece: usize,
 }
 
 impl Write for Short {

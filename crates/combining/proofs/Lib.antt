@@ -10,3 +10,6 @@ pub mod NotedAges
 pub mod AnswerCount
 pub mod PendingSessions
 pub mod TakenPieces
+pub mod EndedWaits
+pub mod WakesTold
+pub mod OwnCalls

@@ -120,6 +120,10 @@ no-entries : (es : List Entry) → [] ≡ map item_of es → es ≡ []
 no-entries [] p = refl
 no-entries (e ∷ es) p = absurd (cc p)
 
+-- Once each performed call is answered, the book's history is the one that the combiner knows.
+pub in-hand : (n : ℕ) (book : BookView) (t : TicketView) → IsBookInHand n book t [] → book.history ≡ t.front
+in-hand n book t b = b.history ∙ (ap (λ (es : List Entry). t.front ++ es) (no-entries b.entries b.performed) ∙ append-nil t.front)
+
 -- Items made of entries are of the entries' sessions.
 sessions-same : (es : List Entry) → map (λ (e : Entry). e.session) es ≡ sessions_of (map item_of es)
 sessions-same [] = refl
@@ -129,8 +133,7 @@ sessions-same (e ∷ es) = ap (λ (js : List ℕ). e.session ∷ js) (sessions-s
 pub all-entered : (n : ℕ) (book : BookView) (t u : TicketView) (row : List Item) → IsBookInHand n book t row → IsBookInHand n book u []
     → sessions_since (length t.front) u.front ≡ sessions_of row
 all-entered n book t u row before after =
-    let none = no-entries after.entries after.performed in
-    let whole : u.front ≡ t.front ++ before.entries = sym (after.history ∙ (ap (λ (es : List Entry). u.front ++ es) none ∙ append-nil u.front)) ∙ before.history in
+    let whole : u.front ≡ t.front ++ before.entries = sym (in-hand n book u after) ∙ before.history in
     let gained : drop (length t.front) u.front ≡ before.entries = ap (λ (f : List Entry). drop (length t.front) f) whole ∙ drop-append_seam t.front before.entries in
     ap (λ (es : List Entry). map (λ (e : Entry). e.session) es) gained ∙ (sessions-same before.entries ∙ ap sessions_of (sym before.performed))
 

@@ -1,5 +1,5 @@
 -- A session that took the lock table for a moment, and gave it back.
-use Rattle.std.proofs.Common.{◌≡◌, ℕ, zero, suc, ◌+◌, ◌<◌, ◌≤◌, ◌⊎◌, inl, inr, ⊎_elim, Bool, true, false, List, [], ◌∷◌, ◌++◌, length, take, drop, min, refl, sym, ap, ◌∙◌, subst, arith, append-nil}
+use Rattle.std.proofs.Common.{◌≡◌, ℕ, zero, suc, ◌+◌, ◌<◌, ◌≤◌, ◌⊎◌, inl, inr, ⊎_elim, Bool, true, false, List, [], ◌∷◌, ◌++◌, length, take, drop, refl, sym, ap, ◌∙◌, subst, arith, append-nil}
 use Rattle.std.proofs.lemmas.List.{take_all, length-drop, length-take}
 use Rattle.std.proofs.Math.Seq.{drop-append_seam}
 use Rattle.lock_rules.specs.declared.calls.Entry.{Entry}
@@ -7,7 +7,10 @@ use Rattle.publication.specs.Pieces.{added}
 use Rattle.publication.specs.Views.{TicketView}
 use Rattle.publication.specs.Boards.{tried, enlisted}
 use Rattle.publication.specs.declared.piece.Piece.{Piece}
-use Rattle.combining.specs.Sessions.{HasTriedToList}
+use Rattle.lock_rules.specs.Legal.{IsLegal}
+use Rattle.publication.specs.declared.slot.Load.{Load}
+use Rattle.combining.specs.Sessions.{HasTriedToList, IsPassed}
+use Rattle.combining.specs.inner.Passes.{HasMadePass}
 
 -- A session that isn't the combiner is none afterwards, has begun no walk, and knows nothing of others' pieces.
 same_rest : (t : TicketView) (f : List Entry) (n : ℕ) (q : List Piece) → t.has_book ≡ false → t.route ≡ [] → t.taken ≡ []
@@ -29,21 +32,46 @@ noted_one t u w h all after p seized released lacked no_walk untaken noted =
     whole ∙ (ap (λ (ps : List Piece). record t { front = h; has_book = false; route = []; pieces = t.pieces ++ ps; taken = [] }) one
     ∙ (same_rest t h t.put_backs (t.pieces ++ p ∷ []) lacked no_walk untaken ∙ ap (λ (f : List Entry). record t { front = f; pieces = t.pieces ++ p ∷ [] }) (sym front)))
 
+-- The session took the lock table and made a pass, and noted no piece.
+pub made : (t u v : TicketView) (h : List Entry) (all after : List Piece) → u ≡ record t { front = h; has_book = true; taken = all }
+    → v ≡ record u { front = v.front; route = v.route; put_backs = v.put_backs } → after ≡ all
+    → v ≡ record t { front = v.front; has_book = true; route = v.route; put_backs = v.put_backs; taken = after }
+made t u v h all after seized served same =
+    served ∙ (ap (λ (x : TicketView). record x { front = v.front; route = v.route; put_backs = v.put_backs }) seized
+    ∙ ap (λ (ps : List Piece). record t { front = v.front; has_book = true; route = v.route; put_backs = v.put_backs; taken = ps }) (sym same))
+
+-- Giving the lock table back notes no piece if none was taken meanwhile.
+pub gave_back : (v w : TicketView) (after : List Piece) → w ≡ record v { has_book = false; route = []; pieces = v.pieces ++ added v.taken after; taken = [] } → v.taken ≡ after
+    → w ≡ record v { has_book = false; route = []; taken = [] }
+gave_back v w after released same =
+    let none : added v.taken after ≡ [] = ap (added v.taken) (sym same ∙ sym (append-nil v.taken)) ∙ drop-append_seam v.taken [] in
+    let kept : v.pieces ++ added v.taken after ≡ v.pieces = ap (λ (ps : List Piece). v.pieces ++ ps) none ∙ append-nil v.pieces in
+    released ∙ ap (λ (q : List Piece). record v { has_book = false; route = []; pieces = q; taken = [] }) kept
+
 -- The session made a pass meanwhile, and noted no piece.
-pub passed : (t u v w : TicketView) (h : List Entry) (all after : List Piece) → u ≡ record t { front = h; has_book = true; taken = all }
-    → v ≡ record u { front = v.front; route = v.route; put_backs = v.put_backs }
-    → w ≡ record v { has_book = false; route = []; pieces = v.pieces ++ added v.taken after; taken = [] } → t.has_book ≡ false → t.route ≡ [] → t.taken ≡ []
-    → after ≡ all → w ≡ record t { front = w.front; put_backs = w.put_backs }
-passed t u v w h all after seized served released lacked no_walk untaken same =
-    let late : v ≡ record t { front = v.front; has_book = true; taken = all; route = v.route; put_backs = v.put_backs }
-    = served ∙ ap (λ (x : TicketView). record x { front = v.front; route = v.route; put_backs = v.put_backs }) seized in
-    let whole : w ≡ record t { front = v.front; put_backs = v.put_backs; has_book = false; route = []; pieces = t.pieces ++ added all after; taken = [] }
-    = released ∙ ap (λ (x : TicketView). record x { has_book = false; route = []; pieces = x.pieces ++ added x.taken after; taken = [] }) late in
-    let none : added all after ≡ [] = ap (added all) (same ∙ sym (append-nil all)) ∙ drop-append_seam all [] in
-    let kept : t.pieces ++ added all after ≡ t.pieces = ap (λ (ps : List Piece). t.pieces ++ ps) none ∙ append-nil t.pieces in
+passed : (t v w : TicketView) (all : List Piece) → v ≡ record t { front = v.front; has_book = true; route = v.route; put_backs = v.put_backs; taken = all }
+    → w ≡ record v { has_book = false; route = []; taken = [] } → t.has_book ≡ false → t.route ≡ [] → t.taken ≡ [] → w ≡ record t { front = w.front; put_backs = w.put_backs }
+passed t v w all late released lacked no_walk untaken =
+    let whole : w ≡ record t { front = v.front; put_backs = v.put_backs; has_book = false; route = []; taken = [] }
+    = released ∙ ap (λ (x : TicketView). record x { has_book = false; route = []; taken = [] }) late in
     let both : (v.front, v.put_backs) ≡ (w.front, w.put_backs) = sym (ap (λ (x : TicketView). (x.front, x.put_backs)) whole) in
-    whole ∙ (ap (λ (q : List Piece). record t { front = v.front; put_backs = v.put_backs; pieces = q; has_book = false; route = []; taken = [] }) kept
-    ∙ (same_rest t v.front v.put_backs t.pieces lacked no_walk untaken ∙ ap (λ (k : List Entry × ℕ). record t { front = k.0; put_backs = k.1 }) both))
+    whole ∙ (same_rest t v.front v.put_backs t.pieces lacked no_walk untaken ∙ ap (λ (k : List Entry × ℕ). record t { front = k.0; put_backs = k.1 }) both)
+
+-- A pass that was made and ended.
+pub pass-ended : (n : ℕ) (before mid after : TicketView) (load : Load) (served : ℕ) → HasMadePass n before mid load served → after ≡ record mid { has_book = false; route = []; taken = [] }
+    → IsPassed before after served
+pass-ended n before mid after load served m released =
+    let front : after.front ≡ mid.front = ap (λ (x : TicketView). x.front) released in
+    record {
+      between = m.between;
+      is_tried = m.is_tried;
+      session = passed m.between mid after load.pieces.items m.session released m.lacked.0 m.lacked.1 m.lacked.2;
+      others = m.others;
+      own = m.own;
+      front = front ∙ m.front;
+      count = m.count;
+      legal = subst IsLegal (sym front) m.legal;
+    }
 
 -- A try to have a call listed changes nothing of the known history.
 pub tried-front : (t u : TicketView) → HasTriedToList t u → u.front ≡ t.front

@@ -1,9 +1,10 @@
 -- What contracts see of an office and its sessions.
-use Rattle.std.specs.Prelude.{◌≡◌, ◌≢◌, ◌⊎◌, ℕ, ◌+◌, ◌<◌, ◌≤◌, max, false, Some, None, List, [], ◌∷◌, ◌++◌, length}
+use Rattle.std.specs.Prelude.{◌≡◌, ◌≢◌, ◌⊎◌, ℕ, ◌+◌, ◌<◌, ◌≤◌, max, cond, Bool, true, false, Some, None, List, [], ◌∷◌, ◌++◌, length}
 use mathlib.Core.Option as opt
 use mathlib.Core.List.{IsPrefix}
 use lib.ListN.{get_elem?}
 use Rattle.lock_rules.specs.declared.calls.Call.{Call}
+use Rattle.lock_rules.specs.declared.calls.Call.TheVariants.{Release, Commit, Abort}
 use Rattle.lock_rules.specs.declared.calls.Reply.{Reply}
 use Rattle.lock_rules.specs.declared.calls.Entry.{Entry}
 use Rattle.lock_rules.specs.Legal.{IsLegal, calls_of}
@@ -87,4 +88,40 @@ pub record IsCollected (before after : TicketView) (place : ℕ) (reply : Reply)
   -- the entry's place is not below the number of entries that the session knew when it published the call
   pub late : floor ≤ place
   -- the session's calls in the known history are those that it collected
+  pub calls : calls_of before.number after.front ≡ after.collected
+
+-- Whether the call gives locks back: a release, a commit or an abort.
+abbrev pub gives_back : Call → Bool
+gives_back (Release resource) = true
+gives_back Commit = true
+gives_back Abort = true
+gives_back _ = false
+
+-- The session performed a call of its own, which it didn't publish, in a pass. It then knows the entries added before this
+-- pass, followed by those that this pass added: the call's own, and ahead of it or behind it those of `served` calls that
+-- were published. The pass may have put calls back.
+pub record IsPerformed (before after : TicketView) (call : Call) (place : ℕ) (reply : Reply) (served : ℕ) : Type 0 where
+  pub session : after ≡ record before {
+    front = after.front;
+    collected = before.collected ++ answer place call reply ∷ [];
+    put_backs = after.put_backs;
+  }
+  pub others : List Entry
+  pub ahead : List Entry
+  pub behind : List Entry
+  pub front : after.front ≡ (before.front ++ others ++ ahead) ++ entry before.number call reply ∷ behind
+  pub place_is : place ≡ length (before.front ++ others ++ ahead)
+  pub count : length ahead + length behind ≡ served
+  -- a call that gives locks back is the first of the pass, any other call the last
+  pub order : cond (gives_back call) ahead behind ≡ []
+  pub legal : IsLegal after.front
+  -- the session's calls in the known history are those that it collected
+  pub calls : calls_of before.number after.front ≡ after.collected
+
+-- A pass by an idle session, whose own call was not performed. The session may know more of the history, and the pass may
+-- have put calls back. The session's calls in the known history are those that it collected before.
+pub record IsRefused (before after : TicketView) : Type 0 where
+  pub session : after ≡ record before { front = after.front; put_backs = after.put_backs }
+  pub longer : IsPrefix before.front after.front
+  pub legal : IsLegal after.front
   pub calls : calls_of before.number after.front ≡ after.collected

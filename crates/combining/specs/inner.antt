@@ -1,2 +1,3 @@
 pub mod Passes
 pub mod Ages
+pub mod OwnCalls

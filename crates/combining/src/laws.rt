@@ -10,6 +10,7 @@ ghost use Rattle.publication.specs.Views.{BoardView, TicketView};
 ghost use Rattle.publication.specs.Boards.{HasCallsOf};
 ghost use Rattle.publication.specs.HoldsAsTold.{HoldsAsTold, ReadsAsTold, WritesAsTold};
 ghost use Rattle.combining.specs.Closed.{IsClosed, IsOneHistory};
+ghost use Rattle.combining.specs.Ended.{AreEndedBy, AreWakesTold};
 
 use lock_rules::laws;
 use publication::laws::one_history_tells_what_goes_together;
@@ -47,4 +48,13 @@ pub fn told_locks_go_together()
         ReadsAsTold other.collected other.pending x ⊎ WritesAsTold other.collected other.pending x → ⊥ }
 {
     one_history_tells_what_goes_together();
+}
+
+/// Why a session that waits may sleep until a pass tells it. A pass tells each session whose wait its calls have ended: one that
+/// waited before the pass or came to wait in it, made no call since, and waits no more behind it. A told session learns by its
+/// next poll how its wait has ended: `Clear` or `Deadlock`, whatever others call in between.
+pub fn no_wake_up_is_lost()
+    ensures { (sessions : ℕ) (front own : List Entry) (list : List ℕ) → AreEndedBy sessions front own list → AreWakesTold sessions front own list }
+{
+    laws::ended_waits_are_told_by_polls();
 }

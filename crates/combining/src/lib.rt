@@ -6,9 +6,11 @@
 #![tactic(auto)]
 
 mod clean_up;
+mod ended;
 pub mod laws;
 mod office;
 mod pass;
 
-pub use office::{Answer, HistoryPiece, Office, OpenFault, Turn};
+pub use ended::Ended;
+pub use office::{Answer, HistoryPiece, Office, OpenFault, Performed, Turn};
 pub use publication::{CloseFault, Knowledge, Posted, Ticket as Session};

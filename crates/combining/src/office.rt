@@ -8,10 +8,15 @@ ghost use Rattle.publication.specs.Kinds.{longer, maxes};
 ghost use Rattle.publication.specs.Boards.{HasCallsOf, heard_from, known_by, published_by, publishing, enlisted, tried, IsUnlisted, new_tickets, IsEachOnce};
 ghost use Rattle.combining.specs.Sessions.{IsSessionOf, IsIdle, HasNothingPending, IsPendingServed, HasTriedToList, IsPassed, IsCollected, HasTakenPiece};
 ghost use Rattle.combining.specs.Closed.{IsClosed};
+ghost use Rattle.combining.specs.Ended.{AreToldBy};
 
-use crate::pass::serve_published;
+mod passes;
+mod perform;
+
+use crate::ended::Ended;
 use lock_desk::{Book, Call, Entry, MOST_DROPPED, NO_BOUND, NoMemory, Reply};
 use lock_rules::MAX_SESSIONS;
+pub use perform::Performed;
 use publication::{Board, CloseFault, Knowledge, Piece, Posted, Ticket as Session};
 use std::alloc::Global;
 use std::marker::Model;
@@ -88,7 +93,7 @@ impl Model for Office {
 
 impl Office {
     /// Opens an office with an empty lock table, and returns it with its sessions 1 to `sessions` in order, all idle.
-    /// Only this call and `serve` take memory.
+    /// Only this call, `serve`, `serve_telling` and `perform` take memory.
     pub fn open(alloc: Global, sessions: u16) -> Result<(Office, Vec<Session>), OpenFault>
         ensures none { (result ≡ Err OpenFault.NoSessions) ↔ (sessions ≡ 0) }
         ensures many { (result ≡ Err OpenFault.TooManySessions) ↔ (MAX_SESSIONS < sessions) }
@@ -143,18 +148,6 @@ impl Office {
         self.board.post(session, call)
     }
 
-    /// Tries once to have the session's pending call listed, if it has one that isn't.
-    fn enlist(&self, session: &mut Session)
-        requires ours { IsSessionOf self.now session.old }
-        ensures ours { IsSessionOf self.now session.new }
-        ensures tried { HasTriedToList session.old session.new }
-        ensures heard { (j : _) → heard_from session.old j ≤ heard_from session.new j }
-    {
-        if session.is_unlisted() {
-            self.board.enlist(session);
-        }
-    }
-
     /// Tries once to become the combiner, and if it does, makes a pass: serves every listed call and the session's
     /// own, until memory is refused for a call. The session need not be pending. If its call isn't listed, it first
     /// tries once to have it listed.
@@ -174,15 +167,45 @@ impl Office {
         ensures heard { (served j : _) → result ≡ Turn.Pass served false → 0 < j → j ≤ self.now.sessions
             → heard_from session.old j ≤ length (calls_of j session.new.front) }
     {
-        self.enlist(session);
-        let Some(mut load) = self.board.seize(session) else {
-            return Turn::Elsewhere;
-        };
-        let pass = serve_published(&self.board, session, &mut load);
-        self.board.release(session, load);
-        Turn::Pass {
-            served: pass.served,
-            starved: pass.starved,
+        match self.make_pass(session) {
+            Some(made) => self.end_pass(session, made),
+            None => Turn::Elsewhere,
+        }
+    }
+
+    /// Serves as `serve` does, and tells whose wait the pass has ended: the sessions, other than that of the call, whose
+    /// waiting request a call of this pass granted, or whose transaction it made a deadlock victim. Each is told once, also
+    /// one that waits again since. `ended` is empty afterwards if the session did not become the combiner.
+    ///
+    /// A thread that was told `Waiting` need not poll until a pass tells its session: whoever made that pass wakes it, and
+    /// its next poll tells how the wait has ended (`laws::no_wake_up_is_lost`). `ended` has room for all sessions of the
+    /// office, so that the call takes no memory beyond what `serve` takes. That a pass tells whose wait it has ended is this
+    /// project's own.
+    pub fn serve_telling(&self, session: &mut Session, ended: &mut Ended) -> Turn
+        requires ours { IsSessionOf self.now session.old }
+        requires room { self.now.sessions ≤ ended.old.room }
+        ensures ours { IsSessionOf self.now session.new }
+        ensures elsewhere { result ≡ Turn.Elsewhere → HasTriedToList session.old session.new × (1 < self.now.sessions) }
+        ensures pass { (served : _) (starved : _) → result ≡ Turn.Pass served starved → IsPassed session.old session.new served }
+        ensures starved { (served : _) (starved : _) → result ≡ Turn.Pass served starved → IsTrue starved ↔ (session.old.put_backs < session.new.put_backs) }
+        ensures rises { (j : _) → heard_from session.old j ≤ heard_from session.new j }
+        ensures calls { HasCallsOf session.new.front session.new }
+        ensures own { (served : _) → result ≡ Turn.Pass served false → session.old.pending ≢ None → IsPendingServed session.new }
+        ensures heard { (served j : _) → result ≡ Turn.Pass served false → 0 < j → j ≤ self.now.sessions
+            → heard_from session.old j ≤ length (calls_of j session.new.front) }
+        ensures told { (served : _) (starved : _) → result ≡ Turn.Pass served starved → AreToldBy self.now.sessions served session.new.front ended.new.list }
+        ensures none { result ≡ Turn.Elsewhere → ended.new.list ≡ [] }
+        ensures room { ended.new.room ≡ ended.old.room }
+    {
+        match self.make_pass(session) {
+            Some(made) => {
+                ended.replace(made.load.book.ended());
+                self.end_pass(session, made)
+            }
+            None => {
+                ended.clear();
+                Turn::Elsewhere
+            }
         }
     }
 

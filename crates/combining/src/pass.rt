@@ -1,17 +1,19 @@
 //! A pass of the combiner: it walks the publication list, opens the records in which calls are posted, performs the
-//! calls and answers them.
+//! calls and answers them. It may perform a call of its own besides, without its record.
 
-ghost use Rattle.std.specs.Prelude.{◌≡◌, ◌≢◌, ◌+◌, ◌-◌, ◌^◌, ◌<◌, ◌≤◌, ◌↔◌, min, [], true, false, IsTrue, Some, None, length, take, drop, vec_len, vec_capacity, All};
+ghost use Rattle.std.specs.Prelude.{◌≡◌, ◌≢◌, ◌+◌, ◌-◌, ◌^◌, ◌<◌, ◌≤◌, ◌↔◌, min, [], true, false, IsTrue, Some, None, IfSome, IfNone, length, take, drop, vec_len, vec_capacity, All};
 ghost use mathlib.Core.List.{IsPrefix};
 ghost use Rattle.lock_rules.specs.Legal.{IsLegal, calls_of};
 ghost use Rattle.lock_desk.specs.Batches.{IsItemWithin};
 ghost use Rattle.publication.specs.Boards.{IsOf, IsNumber, OpensNone, heard_from, published_by};
 ghost use Rattle.publication.specs.Rule.{IsHome};
-ghost use Rattle.combining.specs.inner.Passes.{AreOpened, HasCalls, KeepsCalls, IsVisited, HasVisitedOpened, IsSameSession, IsAfterRow, IsBookInHand, HasTakenNothing};
+ghost use Rattle.combining.specs.inner.Passes.{AreOpened, HasCalls, KeepsCalls, IsVisited, HasVisitedOpened, IsSameSession, IsAfterRow, IsBookInHand, HasTakenNothing, ended_behind};
+ghost use Rattle.combining.specs.Sessions.{IsIdle, gives_back};
+ghost use Rattle.combining.specs.inner.OwnCalls.{IsOwnEntered, IsPassWithOwn};
 ghost use Rattle.combining.specs.inner.Ages.{sessions_of, sessions_since, noted};
 
 use crate::clean_up::{clean_up, note_served};
-use lock_desk::{Book, Call, Item};
+use lock_desk::{Book, Call, Item, Reply};
 use publication::{Board, Load, Ticket};
 
 /// The outcome of a pass.
@@ -23,8 +25,19 @@ pub(crate) struct Pass {
     pub starved: bool,
 }
 
+/// A pass that a session has made: its outcome, and what the session took from the lock's slot and has to give back.
+#[derive(Drop)]
+pub(crate) struct MadePass {
+    /// The outcome.
+    pub pass: Pass,
+    /// The lock table, and what passes work with.
+    pub load: Box<Load>,
+}
+
 /// Whether the call releases locks. Such calls are served before the others, because they make room for requests.
-fn gives_locks_back(call: &Call) -> bool {
+fn gives_locks_back(call: &Call) -> bool
+    ensures { result ≡ gives_back call.now }
+{
     matches!(call, Call::Release(_) | Call::Commit | Call::Abort)
 }
 
@@ -150,6 +163,7 @@ fn serve_row(board: &Board, session: &mut Ticket, book: &mut Book, row: &mut Vec
     ensures served { (result ≤ vec_len row.new) × (length session.new.front ≡ length session.old.front + result) }
     ensures whose { sessions_since (length session.old.front) session.new.front ≡ sessions_of (take result row.new.items) }
     ensures calls { KeepsCalls session.old session.new }
+    ensures ended { book.new.ended ≡ ended_behind board.now.sessions session.old.front (drop (length session.old.front) session.new.front) }
 {
     let served = book.serve_batch(row.as_mut_slice());
     answer_row(board, session, book, row.as_slice(), served);
@@ -191,6 +205,7 @@ fn serve_opened(board: &Board, session: &mut Ticket, load: &mut Load) -> Pass
     ensures taken { HasTakenNothing load.old load.new }
     ensures ages { load.new.ages.items ≡ noted load.old.ages.items (sessions_since (length session.old.front) session.new.front) load.old.passes }
     ensures len { vec_len load.new.ages ≡ vec_len load.old.ages }
+    ensures ended { load.new.book.ended ≡ ended_behind board.now.sessions session.old.front (drop (length session.old.front) session.new.front) }
 {
     let served = serve_row(board, session, &mut load.book, &mut load.row);
     put_back_row(board, session, &load.row[served..]);
@@ -217,6 +232,7 @@ pub(crate) fn serve_published(board: &Board, session: &mut Ticket, load: &mut Lo
     ensures passes { load.new.passes ≡ min (load.old.passes + 1) (2 ^ 64 - 1) }
     ensures taken { load.new.pieces.items ≡ load.old.pieces.items }
     ensures ages { load.new.ages.items ≡ noted load.old.ages.items (sessions_since (length session.old.front) session.new.front) load.new.passes }
+    ensures ended { load.new.book.ended ≡ ended_behind board.now.sessions session.old.front (drop (length session.old.front) session.new.front) }
 {
     load.passes = load.passes.saturating_add(1);
     open_records(board, session, &mut load.row);
@@ -224,4 +240,107 @@ pub(crate) fn serve_published(board: &Board, session: &mut Ticket, load: &mut Lo
     load.row.clear();
     clean_up(board, session, load.ages.as_slice(), load.passes);
     pass
+}
+
+/// Performs a call of the combiner's own session, which has not published it, and enters it into the history. Returns its
+/// place in the history and the reply; `None`, with nothing changed, if memory is refused.
+fn perform_own(
+    board: &Board,
+    session: &mut Ticket,
+    load: &mut Load,
+    call: Call,
+) -> Option<(u64, Reply)>
+    requires ours { IsOf board.now session.old × (session.old.has_book ≡ true) }
+    requires number { IsNumber board.now session.old.number }
+    requires idle { IsIdle session.old }
+    requires home { IsHome session.old.front (board.now.sessions + 1) load.old × IsLegal session.old.front }
+    ensures some { IfSome result (λ r. IsOwnEntered session.old session.new call r.0 r.1) }
+    ensures none { IfNone result (session.new ≡ session.old) }
+    ensures home { IsHome session.new.front (board.now.sessions + 1) load.new × IsLegal session.new.front }
+    ensures taken { load.new.pieces.items ≡ load.old.pieces.items }
+{
+    let asked = call;
+    let Ok(reply) = load.book.serve(session.number(), call) else {
+        return None;
+    };
+    // the history is legal, and its length fits into 64 bits, so there is room for this entry
+    let _length = load.book.history().len();
+    let _served = load.book.served();
+    let place = board.enter(session, asked, reply);
+    Some((place, reply))
+}
+
+/// Performs a call of the combiner's own and then runs a pass.
+fn serve_own_first(
+    board: &Board,
+    session: &mut Ticket,
+    load: &mut Load,
+    call: Call,
+) -> (Pass, Option<(u64, Reply)>)
+    requires ours { IsOf board.now session.old × (session.old.has_book ≡ true) × OpensNone session.old }
+    requires number { IsNumber board.now session.old.number }
+    requires idle { IsIdle session.old }
+    requires home { IsHome session.old.front (board.now.sessions + 1) load.old × IsLegal session.old.front }
+    ensures performed { IfSome result.1 (λ r. IsPassWithOwn true session.old session.new call r.0 r.1 result.0.served) }
+    ensures refused { IfNone result.1 (session.new ≡ record session.old { front = session.new.front; route = session.new.route; put_backs = session.new.put_backs }) }
+    ensures longer { IsPrefix session.old.front session.new.front }
+    ensures starved { IsTrue result.0.starved ↔ (session.old.put_backs < session.new.put_backs) }
+    ensures heard { result.0.starved ≡ false → (j : _) → 0 < j → j ≤ board.now.sessions → heard_from session.old j ≤ length (calls_of j session.new.front) }
+    ensures home { IsHome session.new.front (board.now.sessions + 1) load.new × IsLegal session.new.front }
+    ensures taken { load.new.pieces.items ≡ load.old.pieces.items }
+{
+    let answer = perform_own(board, session, load, call);
+    (serve_published(board, session, load), answer)
+}
+
+/// Runs a pass and then performs a call of the combiner's own.
+fn serve_own_last(
+    board: &Board,
+    session: &mut Ticket,
+    load: &mut Load,
+    call: Call,
+) -> (Pass, Option<(u64, Reply)>)
+    requires ours { IsOf board.now session.old × (session.old.has_book ≡ true) × OpensNone session.old }
+    requires number { IsNumber board.now session.old.number }
+    requires idle { IsIdle session.old }
+    requires home { IsHome session.old.front (board.now.sessions + 1) load.old × IsLegal session.old.front }
+    ensures performed { IfSome result.1 (λ r. IsPassWithOwn false session.old session.new call r.0 r.1 result.0.served) }
+    ensures refused { IfNone result.1 (session.new ≡ record session.old { front = session.new.front; route = session.new.route; put_backs = session.new.put_backs }) }
+    ensures longer { IsPrefix session.old.front session.new.front }
+    ensures starved { IsTrue result.0.starved ↔ (session.old.put_backs < session.new.put_backs) }
+    ensures heard { result.0.starved ≡ false → (j : _) → 0 < j → j ≤ board.now.sessions → heard_from session.old j ≤ length (calls_of j session.new.front) }
+    ensures home { IsHome session.new.front (board.now.sessions + 1) load.new × IsLegal session.new.front }
+    ensures taken { load.new.pieces.items ≡ load.old.pieces.items }
+{
+    let pass = serve_published(board, session, load);
+    let answer = perform_own(board, session, load, call);
+    (pass, answer)
+}
+
+/// Runs a pass in which the combiner performs a call of its own, which it has not published: ahead of the others if the
+/// call gives locks back, else behind them. Returns the pass, and of the own call its place and reply; `None` if memory is
+/// refused for it.
+pub(crate) fn serve_with_own(
+    board: &Board,
+    session: &mut Ticket,
+    load: &mut Load,
+    call: Call,
+) -> (Pass, Option<(u64, Reply)>)
+    requires ours { IsOf board.now session.old × (session.old.has_book ≡ true) × OpensNone session.old }
+    requires number { IsNumber board.now session.old.number }
+    requires idle { IsIdle session.old }
+    requires home { IsHome session.old.front (board.now.sessions + 1) load.old × IsLegal session.old.front }
+    ensures performed { IfSome result.1 (λ r. IsPassWithOwn (gives_back call) session.old session.new call r.0 r.1 result.0.served) }
+    ensures refused { IfNone result.1 (session.new ≡ record session.old { front = session.new.front; route = session.new.route; put_backs = session.new.put_backs }) }
+    ensures longer { IsPrefix session.old.front session.new.front }
+    ensures starved { IsTrue result.0.starved ↔ (session.old.put_backs < session.new.put_backs) }
+    ensures heard { result.0.starved ≡ false → (j : _) → 0 < j → j ≤ board.now.sessions → heard_from session.old j ≤ length (calls_of j session.new.front) }
+    ensures home { IsHome session.new.front (board.now.sessions + 1) load.new × IsLegal session.new.front }
+    ensures taken { load.new.pieces.items ≡ load.old.pieces.items }
+{
+    if gives_locks_back(&call) {
+        serve_own_first(board, session, load, call)
+    } else {
+        serve_own_last(board, session, load, call)
+    }
 }

@@ -66,11 +66,10 @@ fn want_batch(rt: &impl Abort, book: &mut Book, items: &mut [Item], entries: &[E
     assert_eq!(rt; book.history(), entries);
 }
 
-/// A batch with a wait and a promotion gives the replies and the history of its calls in order.
-#[test]
-fn a_batch_is_served_in_order(rt: HostRuntime) -> Result<(), Fail> {
-    let entries = wanted(rt.alloc(), BATCH)?;
+/// Serves the calls of `BATCH` as a batch, and expects the replies and the history of `BATCH`.
+fn want_all_in_order(rt: &impl Abort, alloc: Global, book: &mut Book) -> Result<(), Fail> {
     let one = resource(1)?;
+    let entries = wanted(alloc, BATCH)?;
     let mut items = [
         item(1, Call::Begin),
         item(2, Call::Begin),
@@ -79,13 +78,19 @@ fn a_batch_is_served_in_order(rt: HostRuntime) -> Result<(), Fail> {
         item(1, Call::Commit),
         item(2, Call::Poll),
     ];
-    let mut book = new_book(&rt, rt.alloc(), 2)?;
-    want_batch(&rt, &mut book, &mut items, &entries);
+    want_batch(rt, book, &mut items, &entries);
     Ok(())
 }
 
+/// A batch with a wait and a promotion gives the replies and the history of its calls in order.
+#[test]
+fn a_batch_is_served_in_order(rt: HostRuntime) -> Result<(), Fail> {
+    let mut book = new_book(&rt, rt.alloc(), 2)?;
+    want_all_in_order(&rt, rt.alloc(), &mut book)
+}
+
 /// Begins a transaction in each session.
-fn begin_all(rt: &impl Abort, book: &mut Book) -> Result<(), NoMemory> {
+pub(crate) fn begin_all(rt: &impl Abort, book: &mut Book) -> Result<(), NoMemory> {
     let sessions = book.sessions();
     for session in 1..sessions + 1 {
         serve(rt, book, session, Call::Begin)?;

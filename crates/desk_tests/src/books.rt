@@ -88,18 +88,35 @@ pub(crate) fn wanted(alloc: Global, text: &str) -> Result<Vec<Entry>, TraceFault
     }
 }
 
-/// Serves the calls of a history on a new book of `sessions` sessions, and expects its replies and this history.
+/// Serves the calls of a history on a new book, and expects its replies and this history.
 pub(crate) fn serve_text(
     rt: &impl Abort,
     alloc: Global,
+    book: &mut Book,
+    text: &str,
+) -> Result<(), Fail> {
+    let entries = wanted(alloc, text)?;
+    serve_all(rt, book, &entries)?;
+    assert_eq!(rt; book.history(), entries.as_slice());
+    Ok(())
+}
+
+/// Like `serve_text`, on a new book that must have `sessions` sessions.
+fn want_sessions_and_text(
+    rt: &impl Abort,
+    alloc: Global,
+    book: &mut Book,
     sessions: u16,
     text: &str,
-) -> Result<Book, Fail> {
-    let entries = wanted(alloc, text)?;
+) -> Result<(), Fail> {
+    assert_eq!(rt; book.sessions(), sessions);
+    serve_text(rt, alloc, book, text)
+}
+
+/// Makes a book of `sessions` sessions and serves the calls of a history, whose replies and entries it expects.
+fn want_text(rt: &impl Abort, alloc: Global, sessions: u16, text: &str) -> Result<(), Fail> {
     let mut book = new_book(rt, alloc, sessions)?;
-    serve_all(rt, &mut book, &entries)?;
-    assert_eq!(rt; book.history(), entries.as_slice());
-    Ok(book)
+    want_sessions_and_text(rt, alloc, &mut book, sessions, text)
 }
 
 /// Serves the calls of a text on the book, and expects the replies of the text.
@@ -145,9 +162,7 @@ const ARRIVALS: &str = "0,1,begin,,,began,1
 /// A compatible request doesn't overtake a waiting one.
 #[test]
 fn requests_are_granted_in_order_of_arrival(rt: HostRuntime) -> Result<(), Fail> {
-    let book = serve_text(&rt, rt.alloc(), 3, ARRIVALS)?;
-    assert_eq!(rt; book.sessions(), 3);
-    Ok(())
+    want_text(&rt, rt.alloc(), 3, ARRIVALS)
 }
 
 /// Calls that fail one test or several.
@@ -175,8 +190,7 @@ const REFUSALS: &str = "0,1,lock,1,NL,refused,NoTransaction
 /// A refusal names the first test that the call fails.
 #[test]
 fn refusals_are_tested_in_order(rt: HostRuntime) -> Result<(), Fail> {
-    let _book = serve_text(&rt, rt.alloc(), 2, REFUSALS)?;
-    Ok(())
+    want_text(&rt, rt.alloc(), 2, REFUSALS)
 }
 
 /// A commit frees a resource on which IX, IS and S wait, in this order.
@@ -198,8 +212,7 @@ const PROMOTION: &str = "0,1,begin,,,began,1
 /// A promotion grants the longest front of the queue that is compatible: IX and IS, and not S.
 #[test]
 fn a_promotion_grants_all_that_fit_together(rt: HostRuntime) -> Result<(), Fail> {
-    let _book = serve_text(&rt, rt.alloc(), 4, PROMOTION)?;
-    Ok(())
+    want_text(&rt, rt.alloc(), 4, PROMOTION)
 }
 
 /// Locks the databases 0 to `count - 1` in IS, in session 1.
@@ -229,6 +242,7 @@ const FULL: &str = "0,1,lock,4096,X,refused,TooManyLocks
 
 /// Takes 4096 locks and serves `FULL`.
 fn fill_transaction(rt: &impl Abort, alloc: Global, book: &mut Book) -> Result<(), Fail> {
+    serve_text(rt, alloc, book, ONE_SHARED)?;
     lock_databases(rt, book, 4096)?;
     serve_more(rt, alloc, book, FULL)?;
     assert_eq!(rt; book.history().len(), 4106);
@@ -238,7 +252,7 @@ fn fill_transaction(rt: &impl Abort, alloc: Global, book: &mut Book) -> Result<(
 /// Lock 4097 is refused with `TooManyLocks`, and a conversion of a held lock isn't.
 #[test]
 fn a_transaction_holds_4096_locks_and_no_more(rt: HostRuntime) -> Result<(), Fail> {
-    let mut book = serve_text(&rt, rt.alloc(), 2, ONE_SHARED)?;
+    let mut book = new_book(&rt, rt.alloc(), 2)?;
     fill_transaction(&rt, rt.alloc(), &mut book)
 }
 
@@ -269,7 +283,8 @@ fn release_records(rt: &impl Abort, book: &mut Book, backwards: bool) -> Result<
 }
 
 /// Locks and releases everything twice, once in each order.
-fn release_both_ways(rt: &impl Abort, book: &mut Book) -> Result<(), Fail> {
+fn release_both_ways(rt: &impl Abort, alloc: Global, book: &mut Book) -> Result<(), Fail> {
+    serve_text(rt, alloc, book, BEGUN)?;
     lock_records(rt, book)?;
     release_records(rt, book, false)?;
     lock_records(rt, book)?;
@@ -282,8 +297,8 @@ const BEGUN: &str = "0,1,begin,,,began,1\n";
 /// 4095 children are released in rising and in falling order, each while the parent's release is still refused.
 #[test]
 fn locks_are_released_in_either_order(rt: HostRuntime) -> Result<(), Fail> {
-    let mut book = serve_text(&rt, rt.alloc(), 1, BEGUN)?;
-    release_both_ways(&rt, &mut book)
+    let mut book = new_book(&rt, rt.alloc(), 1)?;
+    release_both_ways(&rt, rt.alloc(), &mut book)
 }
 
 /// Session 1 converts to SIX while session 2 holds S and session 3 waits for X.
@@ -315,8 +330,14 @@ const TWO_READERS: &str = "0,1,begin,,,began,1
 6,1,lock,1,IX,waiting,
 ";
 
-/// Expects the mode held before and after the conversion is granted.
-fn the_conversion_is_granted(rt: &impl Abort, alloc: Global, book: &mut Book) -> Result<(), Fail> {
+/// Serves the calls of a text in which the conversion waits, and expects the mode held before and after it is granted.
+fn the_conversion_is_granted(
+    rt: &impl Abort,
+    alloc: Global,
+    book: &mut Book,
+    text: &str,
+) -> Result<(), Fail> {
+    serve_text(rt, alloc, book, text)?;
     want_held(rt, book, 1, Some(Mode::S))?;
     serve_more(rt, alloc, book, CONVERSION_IS_GRANTED)?;
     want_held(rt, book, 1, Some(Mode::SIX))?;
@@ -324,18 +345,22 @@ fn the_conversion_is_granted(rt: &impl Abort, alloc: Global, book: &mut Book) ->
     want_held(rt, book, 3, None)
 }
 
+/// Like `the_conversion_is_granted`, on a new book of three sessions.
+fn a_conversion_is_granted(rt: &impl Abort, alloc: Global, text: &str) -> Result<(), Fail> {
+    let mut book = new_book(rt, alloc, 3)?;
+    the_conversion_is_granted(rt, alloc, &mut book, text)
+}
+
 /// A conversion that waits is granted before a new request that arrived earlier.
 #[test]
 fn conversions_wait_ahead_of_fresh_requests(rt: HostRuntime) -> Result<(), Fail> {
-    let mut book = serve_text(&rt, rt.alloc(), 3, CONVERSION_WAITS)?;
-    the_conversion_is_granted(&rt, rt.alloc(), &mut book)
+    a_conversion_is_granted(&rt, rt.alloc(), CONVERSION_WAITS)
 }
 
 /// A waiting conversion leaves the held mode unchanged until it is granted.
 #[test]
 fn a_conversion_is_held_once_it_is_granted(rt: HostRuntime) -> Result<(), Fail> {
-    let mut book = serve_text(&rt, rt.alloc(), 3, TWO_READERS)?;
-    the_conversion_is_granted(&rt, rt.alloc(), &mut book)
+    a_conversion_is_granted(&rt, rt.alloc(), TWO_READERS)
 }
 
 /// Aborts of sessions that wait.
@@ -355,12 +380,18 @@ const ABORTS: &str = "0,1,begin,,,began,1
 13,2,abort,,,aborted,0
 ";
 
+/// Serves the calls of `ABORTS`, and expects the holders of the databases.
+fn the_waiting_sessions_abort(rt: &impl Abort, alloc: Global, book: &mut Book) -> Result<(), Fail> {
+    serve_text(rt, alloc, book, ABORTS)?;
+    want_holders(rt, alloc, book, 1, &[(1, Mode::X)])?;
+    want_holders(rt, alloc, book, 2, &[(3, Mode::X)])
+}
+
 /// An abort of a waiting session removes its request and releases its locks, and others are promoted.
 #[test]
 fn an_abort_drops_the_request_and_the_locks(rt: HostRuntime) -> Result<(), Fail> {
-    let book = serve_text(&rt, rt.alloc(), 3, ABORTS)?;
-    want_holders(&rt, rt.alloc(), &book, 1, &[(1, Mode::X)])?;
-    want_holders(&rt, rt.alloc(), &book, 2, &[(3, Mode::X)])
+    let mut book = new_book(&rt, rt.alloc(), 3)?;
+    the_waiting_sessions_abort(&rt, rt.alloc(), &mut book)
 }
 
 /// Locks and releases of a database, a file and a page, some without their parents or before their children.
@@ -389,8 +420,7 @@ const PARENTS: &str = "0,1,release,1,,refused,NoTransaction
 /// A lock without its parent's lock and a release before a child's release are refused.
 #[test]
 fn locks_need_their_parents_and_are_released_from_the_leaves(rt: HostRuntime) -> Result<(), Fail> {
-    let _book = serve_text(&rt, rt.alloc(), 1, PARENTS)?;
-    Ok(())
+    want_text(&rt, rt.alloc(), 1, PARENTS)
 }
 
 /// Two readers wait for a writer.
@@ -410,6 +440,7 @@ const WRITER_RELEASES: &str = "0,1,release,1,,released,
 
 /// Expects the writer to be the holder before its release, and the readers after it.
 fn the_writer_releases(rt: &impl Abort, alloc: Global, book: &mut Book) -> Result<(), Fail> {
+    serve_text(rt, alloc, book, WRITER)?;
     want_holders(rt, alloc, book, 2, &[])?;
     want_holders(rt, alloc, book, 1, &[(1, Mode::X)])?;
     serve_more(rt, alloc, book, WRITER_RELEASES)?;
@@ -419,7 +450,7 @@ fn the_writer_releases(rt: &impl Abort, alloc: Global, book: &mut Book) -> Resul
 /// A release grants the waiting readers, and `holders` lists them by session number.
 #[test]
 fn a_release_promotes_and_holders_are_listed(rt: HostRuntime) -> Result<(), Fail> {
-    let mut book = serve_text(&rt, rt.alloc(), 3, WRITER)?;
+    let mut book = new_book(&rt, rt.alloc(), 3)?;
     the_writer_releases(&rt, rt.alloc(), &mut book)
 }
 
@@ -447,6 +478,7 @@ const VICTIM_ABORTS: &str = "0,2,abort,,,aborted,1
 
 /// Expects the victim to hold its lock until its abort.
 fn the_victim_aborts(rt: &impl Abort, alloc: Global, book: &mut Book) -> Result<(), Fail> {
+    serve_text(rt, alloc, book, VICTIM)?;
     want_held(rt, book, 2, Some(Mode::S))?;
     serve_more(rt, alloc, book, VICTIM_ABORTS)?;
     want_held(rt, book, 2, Some(Mode::S))
@@ -455,6 +487,6 @@ fn the_victim_aborts(rt: &impl Abort, alloc: Global, book: &mut Book) -> Result<
 /// A victim's calls except poll and abort are refused, and it keeps its locks until it aborts.
 #[test]
 fn a_victim_keeps_its_locks_until_it_aborts(rt: HostRuntime) -> Result<(), Fail> {
-    let mut book = serve_text(&rt, rt.alloc(), 2, VICTIM)?;
+    let mut book = new_book(&rt, rt.alloc(), 2)?;
     the_victim_aborts(&rt, rt.alloc(), &mut book)
 }

@@ -59,11 +59,16 @@ fn keep_the_newest(
     Ok(())
 }
 
+/// Like `keep_the_newest`, with a new second book.
+fn keep_beside(rt: &impl Abort, alloc: Global, book: &mut Book, bound: usize) -> Result<(), Fail> {
+    let mut twin = new_book(rt, alloc, 2)?;
+    keep_the_newest(rt, book, &mut twin, bound)
+}
+
 /// Serves 20 rounds in a fresh book under a bound, and wants the newest entries.
 fn keep_in_a_fresh_book(rt: &impl Abort, alloc: Global, bound: usize) -> Result<(), Fail> {
     let mut book = new_book(rt, alloc, 2)?;
-    let mut twin = new_book(rt, alloc, 2)?;
-    keep_the_newest(rt, &mut book, &mut twin, bound)
+    keep_beside(rt, alloc, &mut book, bound)
 }
 
 /// With a bound the newest entries are kept, and replies are as without.
@@ -98,12 +103,17 @@ fn let_entries_go(rt: &impl Abort, book: &mut Book, twin: &mut Book) -> Result<(
     Ok(())
 }
 
+/// Like `let_entries_go`, with a new second book.
+fn let_entries_go_beside(rt: &impl Abort, alloc: Global, book: &mut Book) -> Result<(), Fail> {
+    let mut twin = new_book(rt, alloc, 2)?;
+    let_entries_go(rt, book, &mut twin)
+}
+
 /// What was let go stays so, whatever the bound is afterwards.
 #[test]
 fn entries_are_let_go_for_good(rt: HostRuntime) -> Result<(), Fail> {
     let mut book = new_book(&rt, rt.alloc(), 2)?;
-    let mut twin = new_book(&rt, rt.alloc(), 2)?;
-    let_entries_go(&rt, &mut book, &mut twin)
+    let_entries_go_beside(&rt, rt.alloc(), &mut book)
 }
 
 /// Serves two rounds, lets go of two entries, and takes the others.
@@ -144,10 +154,15 @@ fn take_pieces(
     Ok(())
 }
 
+/// Like `take_pieces`, with a new second book.
+fn take_pieces_beside(rt: &impl Abort, alloc: Global, book: &mut Book) -> Result<(), Fail> {
+    let mut twin = new_book(rt, alloc, 2)?;
+    take_pieces(rt, alloc, book, &mut twin)
+}
+
 /// Pieces that are taken follow one another, and the rest is still kept.
 #[test]
 fn pieces_follow_one_another(rt: HostRuntime) -> Result<(), Fail> {
     let mut book = new_book(&rt, rt.alloc(), 2)?;
-    let mut twin = new_book(&rt, rt.alloc(), 2)?;
-    take_pieces(&rt, rt.alloc(), &mut book, &mut twin)
+    take_pieces_beside(&rt, rt.alloc(), &mut book)
 }

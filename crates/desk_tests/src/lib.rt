@@ -7,6 +7,8 @@ mod batches;
 #[cfg(test)]
 mod books;
 #[cfg(test)]
+mod ended;
+#[cfg(test)]
 mod kept;
 #[cfg(test)]
 mod queues;

@@ -55,10 +55,9 @@ fn queue_up(rt: &impl Abort, book: &mut Book, one: Resource) -> Result<(), NoMem
 }
 
 /// Aborts one session in the middle of those that wait, and expects the others to be granted the lock in turn.
-fn abort_in_the_middle(rt: &impl Abort, alloc: Global, sessions: u16) -> Result<(), Fail> {
-    let mut made = new_book(rt, alloc, sessions)?;
-    let book = &mut made;
+fn abort_in_the_middle(rt: &impl Abort, book: &mut Book) -> Result<(), Fail> {
     let one = resource(1)?;
+    let sessions = book.sessions();
     let middle = sessions / 2;
     queue_up(rt, book, one)?;
     want_each(rt, book, middle, middle + 1, Call::Abort, Reply::Aborted(0))?;
@@ -70,16 +69,22 @@ fn abort_in_the_middle(rt: &impl Abort, alloc: Global, sessions: u16) -> Result<
     Ok(())
 }
 
+/// Like `abort_in_the_middle`, in a new book.
+fn abort_in_a_new_book(rt: &impl Abort, alloc: Global, sessions: u16) -> Result<(), Fail> {
+    let mut book = new_book(rt, alloc, sessions)?;
+    abort_in_the_middle(rt, &mut book)
+}
+
 /// Requests before and behind an aborted one keep their order.
 #[test]
 fn a_queue_of_254_goes_on_after_an_abort_in_its_middle(rt: HostRuntime) -> Result<(), Fail> {
-    abort_in_the_middle(&rt, rt.alloc(), 256)
+    abort_in_a_new_book(&rt, rt.alloc(), 256)
 }
 
 /// So do those of as many sessions as a book can have.
 #[test]
 fn a_queue_of_1022_goes_on_after_an_abort_in_its_middle(rt: HostRuntime) -> Result<(), Fail> {
-    abort_in_the_middle(&rt, rt.alloc(), 1024)
+    abort_in_a_new_book(&rt, rt.alloc(), 1024)
 }
 
 /// Locks database 1 in session 1, and database 2 shared by all sessions behind it except the last, who then wait for database 1.
@@ -100,11 +105,10 @@ fn build_cycles(
 
 /// Requests database 2 in X in session 1, which closes a cycle with each session that waits, and expects all of these to be
 /// victims.
-fn ask_for_what_all_hold(rt: &impl Abort, alloc: Global, sessions: u16) -> Result<(), Fail> {
-    let mut made = new_book(rt, alloc, sessions)?;
-    let book = &mut made;
+fn ask_for_what_all_hold(rt: &impl Abort, book: &mut Book) -> Result<(), Fail> {
     let one = resource(1)?;
     let two = resource(2)?;
+    let sessions = book.sessions();
     build_cycles(rt, book, one, two)?;
     // session 1 is the oldest; it waits until the victims abort
     let asked = Call::Lock(two, Mode::X);
@@ -116,14 +120,20 @@ fn ask_for_what_all_hold(rt: &impl Abort, alloc: Global, sessions: u16) -> Resul
     Ok(())
 }
 
+/// Like `ask_for_what_all_hold`, in a new book.
+fn ask_in_a_new_book(rt: &impl Abort, alloc: Global, sessions: u16) -> Result<(), Fail> {
+    let mut book = new_book(rt, alloc, sessions)?;
+    ask_for_what_all_hold(rt, &mut book)
+}
+
 /// One request closes a cycle with each of 254 sessions, and all of these are victims.
 #[test]
 fn one_call_has_254_victims(rt: HostRuntime) -> Result<(), Fail> {
-    ask_for_what_all_hold(&rt, rt.alloc(), 256)
+    ask_in_a_new_book(&rt, rt.alloc(), 256)
 }
 
 /// So does one with each of 1,022 sessions.
 #[test]
 fn one_call_has_1022_victims(rt: HostRuntime) -> Result<(), Fail> {
-    ask_for_what_all_hold(&rt, rt.alloc(), 1024)
+    ask_in_a_new_book(&rt, rt.alloc(), 1024)
 }

@@ -116,11 +116,21 @@ fn want_entries(
     Ok(())
 }
 
+/// Like `want_entries`, in a new book.
+fn want_entries_of(
+    rt: &impl Abort,
+    alloc: Global,
+    sessions: u16,
+    entries: &[Entry],
+) -> Result<(), Fail> {
+    let mut book = new_book(rt, alloc, sessions)?;
+    want_entries(rt, alloc, &mut book, entries)
+}
+
 /// Serves the calls of the text in a new book, and expects the replies of the text.
 fn want_text(rt: &impl Abort, alloc: Global, sessions: u16, text: &str) -> Result<(), Fail> {
     let entries = wanted(alloc, text)?;
-    let mut book = new_book(rt, alloc, sessions)?;
-    want_entries(rt, alloc, &mut book, &entries)
+    want_entries_of(rt, alloc, sessions, &entries)
 }
 
 /// A session locks down the tree, and commits.
@@ -244,8 +254,7 @@ fn crowd(alloc: Global) -> Result<Vec<Entry>, Fail> {
 #[test]
 fn a_refused_commit_promotes_nobody(rt: HostRuntime) -> Result<(), Fail> {
     let entries = crowd(rt.alloc())?;
-    let mut book = new_book(&rt, rt.alloc(), 256)?;
-    want_entries(&rt, rt.alloc(), &mut book, &entries)
+    want_entries_of(&rt, rt.alloc(), 256, &entries)
 }
 
 /// Six sessions hold database 1.
@@ -293,11 +302,17 @@ fn want_six_holders(rt: &impl Abort, alloc: Global, book: &Book) -> Result<(), F
     Ok(())
 }
 
+/// Serves the calls of `SIX_HOLDERS`, and expects the six holders in a list.
+fn list_six_holders(rt: &impl Abort, alloc: Global, book: &mut Book) -> Result<(), Fail> {
+    serve_text(rt, alloc, book, SIX_HOLDERS)?;
+    want_six_holders(rt, alloc, book)
+}
+
 /// A list of holders keeps what it has if memory is refused, and has the holders at the second asking.
 #[test]
 fn a_refused_list_of_holders_is_unchanged(rt: HostRuntime) -> Result<(), Fail> {
-    let book = serve_text(&rt, rt.alloc(), 6, SIX_HOLDERS)?;
-    want_six_holders(&rt, rt.alloc(), &book)
+    let mut book = new_book(&rt, rt.alloc(), 6)?;
+    list_six_holders(&rt, rt.alloc(), &mut book)
 }
 
 /// Makes a book of 1,024 sessions, a second time if memory is refused. Returns whether it was.
@@ -311,14 +326,24 @@ fn made_book(alloc: Global) -> Result<(Book, bool), NoMemory> {
     }
 }
 
+/// Expects the book to have 1,024 sessions and no history.
+fn want_new(rt: &impl Abort, book: &Book) {
+    assert_eq!(rt; book.sessions(), 1024);
+    assert!(rt; book.history().is_empty());
+}
+
+/// Makes a book, and expects it to be new. Returns whether memory was refused for it.
+fn was_book_refused(rt: &impl Abort, alloc: Global) -> Result<bool, NoMemory> {
+    let (book, was_refused) = made_book(alloc)?;
+    want_new(rt, &book);
+    Ok(was_refused)
+}
+
 /// Each allocation of a new book may be refused, and the next try makes the book. Prints a line if one was, for the check
 /// that refuses each allocation in turn. Nothing else allocates here.
 #[test]
 fn a_refused_book_is_made_at_the_second_try(rt: HostRuntime) -> Result<(), Fail> {
-    let (book, was_refused) = made_book(rt.alloc())?;
-    assert_eq!(rt; book.sessions(), 1024);
-    assert!(rt; book.history().is_empty());
-    if was_refused {
+    if was_book_refused(&rt, rt.alloc())? {
         println!(&rt; "refused")?;
     }
     Ok(())

@@ -9,44 +9,17 @@ use Rattle.lock_tree.specs.declared.numeral.NumeralFault.{NumeralFault}
 use Rattle.glm.proofs.Gives.{numeral_not_given}
 use Rattle.lock_rules.specs.declared.calls.TheConstants.{MAX_SESSIONS}
 use Rattle.glm.specs.declared.args.TheConstants.{MAX_TURNS}
+use Rattle.glm.specs.declared.running_in_pieces.TheConstants.{MAX_STREAMED_SESSIONS}
 use Rattle.glm.specs.declared.args.Delivery.{Delivery}
 use Rattle.glm.specs.declared.args.Delivery.TheVariants as delivery
 use Rattle.glm.specs.declared.args.Request.{Request}
 use Rattle.glm.specs.declared.args.Request.TheVariants as request
-use Rattle.glm.specs.CommandLine.{Ask, Gives, IsRequest, IsRequestIn, Wants, faults_of, glm_command}
+use Rattle.glm.specs.CommandLine.{Ask, Gives, IsRequest, HasFlag, IsRequestIn, Wants, faults_of, glm_command, most_sessions}
 
--- no request is in the options if they give no number of sessions
-pub no_sessions : (name : Text) (rows : List Row) → ((n : ℕ) → ¬ Gives (codes "sessions") MAX_SESSIONS rows n)
-    → (asked : Request) → ¬ IsRequest (Some (name, rows)) asked
-no_sessions name rows none (request.Replay n d) is = none n is.1
-no_sessions name rows none (request.Run n t) is = none n is.1
-no_sessions name rows none (request.Check n) is = none n is.1
-
--- no request is in the options of `run` if they give no number of turns
-pub no_turns : (name : Text) (rows : List Row) → name ≡ codes "run" → ((n : ℕ) → ¬ Gives (codes "turns") MAX_TURNS rows n)
-    → (asked : Request) → ¬ IsRequest (Some (name, rows)) asked
-no_turns name rows run none (request.Replay n d) is = let bad : codes "run" ≡ codes "replay" = sym run ∙ is.0 in cc
-no_turns name rows run none (request.Run n t) is = none t is.2
-no_turns name rows run none (request.Check n) is = let bad : codes "run" ≡ codes "check" = sym run ∙ is.0 in cc
-
--- no request has a name other than `replay`, `run` and `check`
-pub no_name : (name : Text) (rows : List Row) → name ≢ codes "replay" → name ≢ codes "run" → name ≢ codes "check"
-    → (asked : Request) → ¬ IsRequest (Some (name, rows)) asked
-no_name name rows replay run check (request.Replay n d) is = replay is.0
-no_name name rows replay run check (request.Run n t) is = run is.0
-no_name name rows replay run check (request.Check n) is = check is.0
-
--- the text of the option `--sessions` of the command that was found
-abbrev pub sessions_text : Option (Text × List Row) → Option Text
-sessions_text None = None
-sessions_text (Some found) = first_of (codes "sessions") found.1
-
--- no request is in a command whose `--sessions` isn't read as a number
-pub no_such_sessions : (found : Option (Text × List Row)) (text : Text) (fault : NumeralFault) → sessions_text found ≡ Some text
-    → reading_of_numeral MAX_SESSIONS text ≡ Err fault → (asked : Request) → ¬ IsRequest found asked
-no_such_sessions None text fault is wrong asked h = h
-no_such_sessions (Some found) text fault is wrong asked h =
-    no_sessions found.0 found.1 (numeral_not_given _ text MAX_SESSIONS found.1 (omega arith) is (λ m read some. let bad : Ok m ≡ Err fault = sym read ∙ wrong in cc)) asked h
+-- a number of sessions that a run takes is one that a command takes
+pub as_sessions : (rows : List Row) (d : Delivery) (n : ℕ) → Gives (codes "sessions") (most_sessions d) rows n → Gives (codes "sessions") MAX_SESSIONS rows n
+as_sessions rows delivery.Whole n given = given
+as_sessions rows delivery.InPieces n given = record { given = given.given; some = given.some; few = omega (arith, given.few) }
 
 -- an option gives at most one number
 pub gives-one : (option : Text) (greatest : ℕ) (rows : List Row) (m n : ℕ) → greatest < 2 ^ 64
@@ -71,18 +44,64 @@ delivery-one rows delivery.Whole delivery.InPieces a b = absurd (a b)
 delivery-one rows delivery.InPieces delivery.Whole a b = absurd (b a)
 delivery-one rows delivery.InPieces delivery.InPieces a b = refl
 
+-- no request is in the options if they give no number of sessions
+pub no_sessions : (name : Text) (rows : List Row) → ((n : ℕ) → ¬ Gives (codes "sessions") MAX_SESSIONS rows n)
+    → (asked : Request) → ¬ IsRequest (Some (name, rows)) asked
+no_sessions name rows none (request.Replay n d) is = none n is.1
+no_sessions name rows none (request.Run n t d) is = none n (as_sessions rows d n is.1)
+no_sessions name rows none (request.Check n) is = none n is.1
+
+-- no request is in the options of `run` if they give no number of turns
+pub no_turns : (name : Text) (rows : List Row) → name ≡ codes "run" → ((n : ℕ) → ¬ Gives (codes "turns") MAX_TURNS rows n)
+    → (asked : Request) → ¬ IsRequest (Some (name, rows)) asked
+no_turns name rows run none (request.Replay n d) is = let bad : codes "run" ≡ codes "replay" = sym run ∙ is.0 in cc
+no_turns name rows run none (request.Run n t d) is = none t is.2
+no_turns name rows run none (request.Check n) is = let bad : codes "run" ≡ codes "check" = sym run ∙ is.0 in cc
+
+-- no request is in the options of a run that want the history in pieces, and the greatest number of sessions
+pub no_streamed : (name : Text) (rows : List Row) (n : ℕ) → name ≡ codes "run" → Gives (codes "sessions") MAX_SESSIONS rows n → MAX_STREAMED_SESSIONS < n
+    → HasFlag (codes "stream") rows → (asked : Request) → ¬ IsRequest (Some (name, rows)) asked
+no_streamed name rows n run given many flag (request.Replay m d) is = let bad : codes "run" ≡ codes "replay" = sym run ∙ is.0 in cc
+no_streamed name rows n run given many flag (request.Run m t delivery.Whole) is = is.3 flag
+no_streamed name rows n run given many flag (request.Run m t delivery.InPieces) is =
+    let same : m ≡ n = sessions-one rows m n (as_sessions rows delivery.InPieces m is.1) given in
+    omega (arith, same, many, is.1.few)
+no_streamed name rows n run given many flag (request.Check m) is = let bad : codes "run" ≡ codes "check" = sym run ∙ is.0 in cc
+
+-- no request has a name other than `replay`, `run` and `check`
+pub no_name : (name : Text) (rows : List Row) → name ≢ codes "replay" → name ≢ codes "run" → name ≢ codes "check"
+    → (asked : Request) → ¬ IsRequest (Some (name, rows)) asked
+no_name name rows replay run check (request.Replay n d) is = replay is.0
+no_name name rows replay run check (request.Run n t d) is = run is.0
+no_name name rows replay run check (request.Check n) is = check is.0
+
+-- the text of the option `--sessions` of the command that was found
+abbrev pub sessions_text : Option (Text × List Row) → Option Text
+sessions_text None = None
+sessions_text (Some found) = first_of (codes "sessions") found.1
+
+-- no request is in a command whose `--sessions` isn't read as a number
+pub no_such_sessions : (found : Option (Text × List Row)) (text : Text) (fault : NumeralFault) → sessions_text found ≡ Some text
+    → reading_of_numeral MAX_SESSIONS text ≡ Err fault → (asked : Request) → ¬ IsRequest found asked
+no_such_sessions None text fault is wrong asked h = h
+no_such_sessions (Some found) text fault is wrong asked h =
+    no_sessions found.0 found.1 (numeral_not_given _ text MAX_SESSIONS found.1 (omega arith) is (λ m read some. let bad : Ok m ≡ Err fault = sym read ∙ wrong in cc)) asked h
+
 -- a name with its options is at most one request
 one-in : (name : Text) (rows : List Row) (r q : Request) → IsRequestIn name rows r → IsRequestIn name rows q → r ≡ q
 one-in name rows (request.Replay m d) (request.Replay n e) a b =
     ap₂ (λ k l. request.Replay k l) (sessions-one rows m n a.1 b.1) (delivery-one rows d e a.2 b.2)
-one-in name rows (request.Replay m d) (request.Run n t) a b = let bad : codes "replay" ≡ codes "run" = sym a.0 ∙ b.0 in cc
+one-in name rows (request.Replay m d) (request.Run n t e) a b = let bad : codes "replay" ≡ codes "run" = sym a.0 ∙ b.0 in cc
 one-in name rows (request.Replay m d) (request.Check n) a b = let bad : codes "replay" ≡ codes "check" = sym a.0 ∙ b.0 in cc
-one-in name rows (request.Run m u) (request.Replay n e) a b = let bad : codes "run" ≡ codes "replay" = sym a.0 ∙ b.0 in cc
-one-in name rows (request.Run m u) (request.Run n t) a b =
-    ap₂ (λ k l. request.Run k l) (sessions-one rows m n a.1 b.1) (turns-one rows u t a.2 b.2)
-one-in name rows (request.Run m u) (request.Check n) a b = let bad : codes "run" ≡ codes "check" = sym a.0 ∙ b.0 in cc
+one-in name rows (request.Run m u d) (request.Replay n e) a b = let bad : codes "run" ≡ codes "replay" = sym a.0 ∙ b.0 in cc
+one-in name rows (request.Run m u d) (request.Run n t e) a b =
+    let same : m ≡ n = sessions-one rows m n (as_sessions rows d m a.1) (as_sessions rows e n b.1) in
+    let tries : u ≡ t = turns-one rows u t a.2 b.2 in
+    let way : d ≡ e = delivery-one rows d e a.3 b.3 in
+    cc
+one-in name rows (request.Run m u d) (request.Check n) a b = let bad : codes "run" ≡ codes "check" = sym a.0 ∙ b.0 in cc
 one-in name rows (request.Check m) (request.Replay n e) a b = let bad : codes "check" ≡ codes "replay" = sym a.0 ∙ b.0 in cc
-one-in name rows (request.Check m) (request.Run n t) a b = let bad : codes "check" ≡ codes "run" = sym a.0 ∙ b.0 in cc
+one-in name rows (request.Check m) (request.Run n t e) a b = let bad : codes "check" ≡ codes "run" = sym a.0 ∙ b.0 in cc
 one-in name rows (request.Check m) (request.Check n) a b = ap (λ k. request.Check k) (sessions-one rows m n a.1 b.1)
 
 -- a command that was found is at most one request
@@ -99,6 +118,12 @@ one_replay (Some found) m n d a b = sessions-one found.1 m n a.1 b.1
 pub not_both : (found : Option (Text × List Row)) (m n : ℕ) → IsRequest found (request.Replay m delivery.Whole) → ¬ IsRequest found (request.Replay n delivery.InPieces)
 not_both None m n a b = a
 not_both (Some found) m n a b = a.2 b.2
+
+-- a run that was found wants the history delivered in one way
+pub not_both_of_runs : (found : Option (Text × List Row)) (m n t u : ℕ) → IsRequest found (request.Run m t delivery.Whole)
+    → ¬ IsRequest found (request.Run n u delivery.InPieces)
+not_both_of_runs None m n t u a b = a
+not_both_of_runs (Some found) m n t u a b = a.3 b.3
 
 -- a request in the name and options is a request in the parsed command
 pub requests_moved : (found : Option (Text × List Row)) (name : Text) (rows : List Row) (r : Option Request) → found ≡ Some (name, rows)

@@ -9,5 +9,8 @@ pub mod IsVerdict
 pub mod PartsWritten
 pub mod ServedRows
 pub mod Silent
+pub mod Streamed
+pub mod StreamedRun
 pub mod UnderWay
 pub mod Written
+pub mod WrittenUpTo

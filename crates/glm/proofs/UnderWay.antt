@@ -1,7 +1,7 @@
 -- A replay in pieces on its way: the rows that were served, and the text that was written.
-use Rattle.std.proofs.Common.{◌≡◌, ◌∙◌, ℕ, ◌+◌, ◌-◌, ◌^◌, ◌<◌, ◌≤◌, append_assoc, List, [], ◌∷◌, ◌++◌, Option, length, length-append, length-take-le, take, drop, map, refl, sym, ap, subst, take-append-drop, take_all, take-suc, get_or, add-one, arith, rules}
+use Rattle.std.proofs.Common.{◌≡◌, ◌∙◌, ℕ, ◌+◌, ◌-◌, ◌^◌, ◌<◌, ◌≤◌, append_assoc, List, [], ◌∷◌, ◌++◌, Option, length, length-append, length-take-le, take, drop, map, refl, sym, ap, subst, take-append-drop, take_all, take-suc, get_or, add-one, arith}
 use Rattle.std.proofs.lemmas.List.{map-append, take-append-le, length-map, take-map}
-use Rattle.std.specs.Io.KnownBytes.{Appends, Keeps}
+use Rattle.std.specs.Io.KnownBytes.{Appends}
 use Rattle.std.proofs.KnownBytes.{Appends-kept, Appends-nil, Appends-trans}
 use Rattle.lock_desk.specs.BookView.{BookView, first_kept_by}
 use Rattle.lock_rules.specs.declared.calls.Reply.{Reply}
@@ -11,7 +11,6 @@ use Rattle.lock_rules.specs.Legal.{state_of, IsLegal}
 use Rattle.lock_rules.proofs.Histories.{legal-front, legal-push}
 use Rattle.lock_trace.specs.declared.rows.TraceRow.{TraceRow}
 use Rattle.lock_trace.specs.Histories.{row_of_entry, text_of_history, text_of_piece}
-use Rattle.lock_trace.proofs.Lines.{lines_append}
 use Rattle.glm.specs.declared.pieces.TheConstants.{PIECE_ENTRIES}
 use Rattle.glm.specs.declared.tool_fault.ToolFault.{ToolFault}
 use Rattle.glm.specs.declared.tool_fault.ToolFault.TheVariants as tool
@@ -67,9 +66,9 @@ one_more rows i row lt is =
     ap (λ (k : ℕ). take k rows) (add-one i) ∙ take-suc rows i row lt ∙ ap (λ (x : TraceRow). take i rows ++ x ∷ []) (sym is)
 
 -- one more row is served
-pub row_served : (n : ℕ) (rows : List TraceRow) (i : ℕ) (row : TraceRow) (reply : Reply) (b c : BookView) (old new : Option (List ℕ)) → i < length rows
+pub row_served : {told : List ℕ} (n : ℕ) (rows : List TraceRow) (i : ℕ) (row : TraceRow) (reply : Reply) (b c : BookView) (old new : Option (List ℕ)) → i < length rows
     → row ≡ get_or rows i row → IsUnderWay n (take i rows) b old new → reply ≡ (step (state_of b.history) row.session row.call).reply
-    → c ≡ record b { history = b.history ++ record { session = row.session; call = row.call; reply = reply } ∷ [] }
+    → c ≡ record b { history = b.history ++ record { session = row.session; call = row.call; reply = reply } ∷ []; ended = told }
     → IsUnderWay n (take (i + 1) rows) c old new
 row_served n rows i row reply b c old new lt is way by_step more =
     let e : Entry = record { session = row.session; call = row.call; reply = reply } in

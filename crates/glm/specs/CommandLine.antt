@@ -9,6 +9,7 @@ use Rattle.clap.specs.declared.builder.value_parser.ValueParser.TheVariants as p
 use Rattle.clap.specs.declared.error.kind.ErrorKind.TheVariants.{DisplayHelp, DisplayVersion}
 use Rattle.lock_rules.specs.declared.calls.TheConstants.{MAX_SESSIONS}
 use Rattle.glm.specs.declared.args.TheConstants.{MAX_TURNS}
+use Rattle.glm.specs.declared.running_in_pieces.TheConstants.{MAX_STREAMED_SESSIONS}
 use Rattle.glm.specs.declared.args.Delivery.{Delivery}
 use Rattle.glm.specs.declared.args.Delivery.TheVariants as delivery
 use Rattle.glm.specs.declared.args.Request.{Request}
@@ -44,7 +45,7 @@ abbrev pub command_for_sessions : Text → App
 command_for_sessions name = with_rule (new_app name) sessions_option
 
 -- the program `glm`, which has a version and requires one of the commands `replay [--sessions N] [--stream]`,
--- `run [--sessions N] [--turns T]` and `check [--sessions N]`
+-- `run [--sessions N] [--turns T] [--stream]` and `check [--sessions N]`
 abbrev pub glm_command : App
 glm_command =
     with_subcommand
@@ -52,7 +53,7 @@ glm_command =
     (with_subcommand
     (on_top (λ s. record s { subcommand_required = true; has_version = true }) (new_app (codes "glm")))
     (with_rule (command_for_sessions (codes "replay")) stream_flag).top)
-    (with_rule (command_for_sessions (codes "run")) turns_option).top)
+    (with_rule (with_rule (command_for_sessions (codes "run")) turns_option) stream_flag).top)
     (command_for_sessions (codes "check")).top
 
 -- the parser's errors for the words; help and the version count as errors; empty if the words are a valid command
@@ -74,12 +75,17 @@ abbrev pub Wants : List Row → Delivery → Type 0
 Wants rows delivery.Whole = ¬ HasFlag (codes "stream") rows
 Wants rows delivery.InPieces = HasFlag (codes "stream") rows
 
+-- the greatest number of sessions of a run: one more session takes the history if it is written in pieces
+abbrev pub most_sessions : Delivery → ℕ
+most_sessions delivery.Whole = MAX_SESSIONS
+most_sessions delivery.InPieces = MAX_STREAMED_SESSIONS
+
 -- the parsed command, by its name and its options, is this request
 abbrev pub IsRequestIn : Text → List Row → Request → Type 0
 IsRequestIn name rows (request.Replay sessions asked) =
     (name ≡ codes "replay") × Gives (codes "sessions") MAX_SESSIONS rows sessions × Wants rows asked
-IsRequestIn name rows (request.Run sessions turns) =
-    (name ≡ codes "run") × Gives (codes "sessions") MAX_SESSIONS rows sessions × Gives (codes "turns") MAX_TURNS rows turns
+IsRequestIn name rows (request.Run sessions turns asked) =
+    (name ≡ codes "run") × Gives (codes "sessions") (most_sessions asked) rows sessions × Gives (codes "turns") MAX_TURNS rows turns × Wants rows asked
 IsRequestIn name rows (request.Check sessions) = (name ≡ codes "check") × Gives (codes "sessions") MAX_SESSIONS rows sessions
 
 -- the parser found a command, and the command is this request
@@ -100,9 +106,15 @@ AskReplay words sessions = Ask words (request.Replay sessions delivery.Whole)
 abbrev pub AskReplayInPieces : List Text → ℕ → Type 0
 AskReplayInPieces words sessions = Ask words (request.Replay sessions delivery.InPieces)
 
--- the words ask to run a trace on threads, with this number of sessions and at most `turns` tries for each answer
+-- the words ask to run a trace on threads, with this number of sessions and at most `turns` tries for each answer, and to write
+-- the history whole
 abbrev pub AskRun : List Text → ℕ → ℕ → Type 0
-AskRun words sessions turns = Ask words (request.Run sessions turns)
+AskRun words sessions turns = Ask words (request.Run sessions turns delivery.Whole)
+
+-- the words ask to run a trace on threads, with this number of sessions and at most `turns` tries for each answer, and to write
+-- the history in pieces
+abbrev pub AskRunInPieces : List Text → ℕ → ℕ → Type 0
+AskRunInPieces words sessions turns = Ask words (request.Run sessions turns delivery.InPieces)
 
 -- the words ask to check a history with this number of sessions
 abbrev pub AskCheck : List Text → ℕ → Type 0

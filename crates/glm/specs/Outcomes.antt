@@ -2,6 +2,7 @@
 use Rattle.std.specs.Prelude.{◌≡◌, ◌≢◌, ℕ, List, [], ◌∷◌, ◌++◌, Option, Some, Result, Ok, Err, IfOk, IfErr, codes, decimal}
 use Rattle.std.specs.Io.KnownBytes.{Keeps, Appends}
 use Rattle.clap.specs.Walk.{Text}
+use Rattle.lock_trace.specs.declared.faults.TraceFault.{TraceFault}
 use Rattle.glm.specs.declared.checking.Verdict.{Verdict}
 use Rattle.glm.specs.declared.checking.Verdict.TheVariants as verdict
 use Rattle.glm.specs.declared.tool_fault.ToolFault.{ToolFault}
@@ -9,9 +10,9 @@ use Rattle.glm.specs.declared.tool_fault.ToolFault.TheVariants as tool
 use Rattle.glm.specs.declared.outcomes.Outcome.{Outcome}
 use Rattle.glm.specs.declared.outcomes.Outcome.TheVariants as outcome
 use Rattle.glm.specs.declared.outcomes.TheConstants.{DONE, USAGE, ILLEGAL, NO_MEMORY, DEVICE}
-use Rattle.glm.specs.CommandLine.{AskReplay, AskReplayInPieces, AskRun, AskCheck, AskHelp, AskVersion, AskNothing}
+use Rattle.glm.specs.CommandLine.{AskReplay, AskReplayInPieces, AskRun, AskRunInPieces, AskCheck, AskHelp, AskVersion, AskNothing}
 use Rattle.glm.specs.Replays.{HasServed, HasServedFront, HasServedPart, IsFaultOfOneThread, Replays, ReplaysInPieces}
-use Rattle.glm.specs.Runs.{HasPerformed, HasPerformedPart, Runs}
+use Rattle.glm.specs.Runs.{HasPerformed, HasPerformedPart, HasWrittenFront, HasWrittenPart, Runs, RunsInPieces}
 use Rattle.glm.specs.Statuses.{status_for}
 use Rattle.glm.specs.Verdicts.{Checks, IsHistory}
 use Rattle.glm.specs.Written.{AppendsPart}
@@ -24,6 +25,8 @@ status_of_outcome (outcome.ReplayInPieces (Ok count)) = DONE
 status_of_outcome (outcome.ReplayInPieces (Err fault)) = status_for fault
 status_of_outcome (outcome.Run (Ok count)) = DONE
 status_of_outcome (outcome.Run (Err fault)) = status_for fault
+status_of_outcome (outcome.RunInPieces (Ok count)) = DONE
+status_of_outcome (outcome.RunInPieces (Err fault)) = status_for fault
 status_of_outcome (outcome.Check (Ok (verdict.Legal count))) = DONE
 status_of_outcome (outcome.Check (Ok (verdict.Illegal place))) = ILLEGAL
 status_of_outcome (outcome.Check (Err fault)) = status_for fault
@@ -65,6 +68,17 @@ pub record HasAnsweredRun (words : List Text) (input old new : Option (List ℕ)
   pub performed : IfOk answer (λ count. HasPerformed sessions count old new)
   pub runs : (bytes : List ℕ) → input ≡ Some bytes → Runs sessions bytes old new answer
 
+-- the words ask for a run on threads in pieces, and `answer` is its result; the output holds `old` before and `new` after
+pub record HasAnsweredRunInPieces (words : List Text) (input old new : Option (List ℕ)) (answer : Result ℕ ToolFault) : Type 0 where
+  pub sessions : ℕ
+  pub turns : ℕ
+  pub asked : AskRunInPieces words sessions turns
+  pub kept : IfErr answer (λ fault. (row : TraceFault) → fault ≡ tool.Trace row → Keeps old new)
+  pub front : IfErr answer (λ fault. fault ≢ tool.Device → HasWrittenFront old new)
+  pub part : IfErr answer (λ fault. fault ≡ tool.Device → HasWrittenPart old new)
+  pub performed : IfOk answer (λ count. HasPerformed sessions count old new)
+  pub runs : (bytes : List ℕ) → input ≡ Some bytes → RunsInPieces sessions bytes old new answer
+
 -- the line that is printed for a verdict
 abbrev pub text_of_verdict : Verdict → List ℕ
 text_of_verdict (verdict.Legal count) = codes "legal " ++ decimal count ++ 10 ∷ []
@@ -105,6 +119,7 @@ abbrev pub HasDone : List Text → Option (List ℕ) → Option (List ℕ) → O
 HasDone words input old new (outcome.Replay answer) = HasAnswered words input old new answer
 HasDone words input old new (outcome.ReplayInPieces answer) = HasAnsweredInPieces words input old new answer
 HasDone words input old new (outcome.Run answer) = HasAnsweredRun words input old new answer
+HasDone words input old new (outcome.RunInPieces answer) = HasAnsweredRunInPieces words input old new answer
 HasDone words input old new (outcome.Check answer) = HasAnsweredCheck words input old new answer
 HasDone words input old new outcome.HelpShown = AskHelp words
 HasDone words input old new outcome.HelpFailed = AskHelp words

@@ -12,6 +12,7 @@ use Rattle.glm.specs.Written.{AppendsPart}
 abbrev pub IsOutcomeOfError : ErrorKind → Option (List ℕ) → Option (List ℕ) → Outcome → Type 0
 IsOutcomeOfError kind old new (outcome.Replay answer) = ⊥
 IsOutcomeOfError kind old new (outcome.ReplayInPieces answer) = ⊥
+IsOutcomeOfError kind old new (outcome.RunInPieces answer) = ⊥
 IsOutcomeOfError kind old new (outcome.Run answer) = ⊥
 IsOutcomeOfError kind old new (outcome.Check answer) = ⊥
 IsOutcomeOfError kind old new outcome.HelpShown = kind ≡ error.DisplayHelp

@@ -48,3 +48,21 @@ Runs n bytes old new (Err tool.NoMemory) = IsTrace n bytes × Keeps old new
 Runs n bytes old new (Err tool.Device) = (rows : List TraceRow) × ((trace_of n bytes ≡ Ok rows) × HasRunPart rows old new)
 Runs n bytes old new (Err tool.GateShut) = IsTrace n bytes × Keeps old new
 Runs n bytes old new (Err tool.TurnLimit) = IsTrace n bytes × Keeps old new
+
+-- the output grew by the whole text of some legal history, and by nothing else
+abbrev pub HasWrittenFront : Option (List ℕ) → Option (List ℕ) → Type 0
+HasWrittenFront old new = (history : List Entry) × (IsLegal history × Appends old new (text_of_history history))
+
+-- the output grew by the first bytes of the text of some legal history, and by nothing else
+abbrev pub HasWrittenPart : Option (List ℕ) → Option (List ℕ) → Type 0
+HasWrittenPart old new = (history : List Entry) × (IsLegal history × AppendsPart old new (text_of_history history))
+
+-- the result of a run of these bytes that writes the history in pieces: as above, but that the whole text of a legal history
+-- was written before memory was refused or a thread stopped, and the beginning of such a text before a device failed
+abbrev pub RunsInPieces : ℕ → List ℕ → Option (List ℕ) → Option (List ℕ) → Result ℕ ToolFault → Type 0
+RunsInPieces n bytes old new (Ok count) = Runs n bytes old new (Ok count)
+RunsInPieces n bytes old new (Err (tool.Trace fault)) = Runs n bytes old new (Err (tool.Trace fault))
+RunsInPieces n bytes old new (Err tool.NoMemory) = IsTrace n bytes × HasWrittenFront old new
+RunsInPieces n bytes old new (Err tool.Device) = IsTrace n bytes × HasWrittenPart old new
+RunsInPieces n bytes old new (Err tool.GateShut) = IsTrace n bytes × HasWrittenFront old new
+RunsInPieces n bytes old new (Err tool.TurnLimit) = IsTrace n bytes × HasWrittenFront old new

@@ -11,6 +11,7 @@ ghost use Rattle.lock_rules.specs.declared.calls.TheConstants.{MAX_SESSIONS};
 ghost use Rattle.glm.specs.declared.args.Request.{Request as RequestValue};
 ghost use Rattle.glm.specs.CommandLine.{Ask, Gives, HasFlag, IsRequest, Wants, command_for_sessions, faults_of, glm_command, sessions_option, stream_flag, turns_option};
 
+use crate::running_in_pieces::MAX_STREAMED_SESSIONS;
 use crate::texts::{ABOUT_CHECK, ABOUT_REPLAY, ABOUT_RUN, STATUSES, VERSION};
 use clap::{Arg, ArgAction, ArgMatches, Command, Error, value_parser};
 use lock_rules::MAX_SESSIONS;
@@ -34,8 +35,9 @@ pub(crate) enum Delivery {
 pub(crate) enum Request {
     /// Replay a trace; holds the number of sessions, and how the history is written.
     Replay(u16, Delivery),
-    /// Run a trace on threads; holds the number of sessions, and the greatest number of tries for each answer.
-    Run(u16, u32),
+    /// Run a trace on threads; holds the number of sessions, the greatest number of tries for each answer, and how the history
+    /// is written.
+    Run(u16, u32, Delivery),
     /// Check a history; holds the number of sessions.
     Check(u16),
 }
@@ -66,7 +68,7 @@ fn turns_arg<'a>(alloc: Global) -> Arg<'a>
         .default_value("1000000000")
 }
 
-/// Defines the flag `--stream`, which `replay` has.
+/// Defines the flag `--stream`, which `replay` and `run` have.
 fn stream_arg<'a>(alloc: Global) -> Arg<'a>
     ensures rule { rule_of result ≡ stream_flag }
     ensures own { result.global ≡ false }
@@ -113,7 +115,7 @@ fn replay_command<'a>(alloc: Global) -> Result<Command<'a>, AllocError>
 
 /// Defines the command `run`. Fails if memory is refused.
 fn run_command<'a>(alloc: Global) -> Result<Command<'a>, AllocError>
-    ensures app { IfOk result (λ command. app_of command ≡ with_rule (command_for_sessions (codes "run")) turns_option) }
+    ensures app { IfOk result (λ command. app_of command ≡ with_rule (with_rule (command_for_sessions (codes "run")) turns_option) stream_flag) }
     ensures own { IfOk result (λ command. (fields_of command).has_globals ≡ false) }
 {
     let run = command_of(
@@ -122,7 +124,7 @@ fn run_command<'a>(alloc: Global) -> Result<Command<'a>, AllocError>
         "Performs a trace from standard input on threads, one for each session, and writes the history",
         ABOUT_RUN,
     )?;
-    run.arg(turns_arg(alloc))
+    run.arg(turns_arg(alloc))?.arg(stream_arg(alloc))
 }
 
 /// Defines the program's commands and their options. Fails if memory is refused.
@@ -218,8 +220,8 @@ fn delivery_of(given: &ArgMatches) -> Delivery
 }
 
 /// Returns the request of the command `name` with the options `given`, or `None` if there is no such command or a number
-/// isn't valid.
-#[tactic(auto, using(crate::proofs::Ask::no_sessions, crate::proofs::Ask::no_turns, crate::proofs::Ask::no_name))]
+/// isn't valid, as the greatest number of sessions isn't for a run whose history is written in pieces.
+#[tactic(auto, using(crate::proofs::Ask::no_sessions, crate::proofs::Ask::no_turns, crate::proofs::Ask::no_streamed, crate::proofs::Ask::no_name))]
 fn request_named(name: &str, given: &ArgMatches) -> Option<Request>
     ensures some { IfSome result (IsRequest (Some (name.now, rows_of (found_of given.now)))) }
     ensures none { IfNone result ((asked : RequestValue) → ¬ (IsRequest (Some (name.now, rows_of (found_of given.now))) asked)) }
@@ -234,7 +236,10 @@ fn request_named(name: &str, given: &ArgMatches) -> Option<Request>
         let Some(turns) = option_number(given, "turns", MAX_TURNS) else {
             return None;
         };
-        return Some(Request::Run(sessions, turns));
+        return match delivery_of(given) {
+            Delivery::InPieces if sessions > MAX_STREAMED_SESSIONS => None,
+            delivery => Some(Request::Run(sessions, turns, delivery)),
+        };
     }
     if name == "check" {
         return Some(Request::Check(sessions));

@@ -6,8 +6,8 @@ ghost use Rattle.clap.specs.Values.{kind_of};
 ghost use Rattle.clap.specs.Walk.{texts};
 ghost use Rattle.lock_rules.specs.declared.calls.TheConstants.{MAX_SESSIONS};
 ghost use Rattle.glm.specs.declared.outcomes.Outcome.{Outcome};
-ghost use Rattle.glm.specs.declared.outcomes.TheConstants.{DONE, ILLEGAL, NO_MEMORY, DEVICE};
-ghost use Rattle.glm.specs.CommandLine.{AskReplayInPieces};
+ghost use Rattle.glm.specs.declared.outcomes.TheConstants.{DONE, ILLEGAL, NO_MEMORY, DEVICE, STOPPED};
+ghost use Rattle.glm.specs.CommandLine.{AskReplayInPieces, AskRunInPieces};
 ghost use Rattle.glm.specs.Outcomes.{HasDone, HasPrintedPart, PrintsVerdict, status_of_outcome, text_of_verdict};
 ghost use Rattle.glm.specs.ParserErrors.{IsOutcomeOfError};
 ghost use Rattle.glm.specs.Replays.{IsFaultOfOneThread};
@@ -20,6 +20,7 @@ use crate::outcomes::Outcome;
 use crate::replaying::replay;
 use crate::replaying_in_pieces::replay_in_pieces;
 use crate::running::run;
+use crate::running_in_pieces::run_in_pieces;
 use crate::texts::{NOT_A_NUMERAL, VERSION_TEXT};
 use crate::tool_fault::ToolFault;
 use crate::writing::write_text;
@@ -107,9 +108,13 @@ fn outcome_of<'a, T: Threads + Wait, R: Read + Drop, W: Write, E: Write, G: Gate
         Ok(Some(Request::Replay(sessions, Delivery::InPieces))) => {
             Outcome::ReplayInPieces(replay_in_pieces(alloc, input, output, sessions))
         }
-        Ok(Some(Request::Run(sessions, turns))) => {
+        Ok(Some(Request::Run(sessions, turns, Delivery::Whole))) => {
             let turns = u64::from(turns);
             Outcome::Run(run(rt, alloc, input, output, sessions, turns, gate))
+        }
+        Ok(Some(Request::Run(sessions, turns, Delivery::InPieces))) => {
+            let turns = u64::from(turns);
+            Outcome::RunInPieces(run_in_pieces(rt, alloc, input, output, sessions, turns, gate))
         }
         Ok(Some(Request::Check(sessions))) => {
             Outcome::Check(write_verdict(alloc, input, output, sessions))
@@ -135,7 +140,8 @@ fn outcome_of<'a, T: Threads + Wait, R: Read + Drop, W: Write, E: Write, G: Gate
 ///
 /// A fault is reported in one line on `errors`, and a usage error in several lines. A failure of `errors` changes no
 /// status. `output` is written only with status 0, with status 3 (the verdict), with status 5 if the writer failed on the
-/// way, or with status 4 if memory was refused on the way of a replay that writes its history in pieces.
+/// way, with status 4 if memory was refused on the way of a replay or a run that writes its history in pieces, or with status
+/// 6 if such a run was stopped on its way.
 pub fn program<'a, T: Threads + Wait, R: Read + Drop, W: Write, E: Write, G: Gate>(
     rt: &T,
     alloc: Global,
@@ -149,9 +155,11 @@ pub fn program<'a, T: Threads + Wait, R: Read + Drop, W: Write, E: Write, G: Gat
     ensures outcome { (outcome : Outcome) × (result ≡ status_of_outcome outcome)
         × HasDone (texts words.entry.now) (R.remaining input) (W.contents output.old) (W.contents output.new) outcome }
     ensures status { IsStatus result }
-    ensures silent { ((n : ℕ) → ¬ (AskReplayInPieces (texts words.entry.now) n))
+    ensures silent { ((n : ℕ) → ¬ (AskReplayInPieces (texts words.entry.now) n)) → ((n turns : ℕ) → ¬ (AskRunInPieces (texts words.entry.now) n turns))
         → result ≢ DONE → result ≢ ILLEGAL → result ≢ DEVICE → Keeps (W.contents output.old) (W.contents output.new) }
-    ensures silent_in_pieces { result ≢ DONE → result ≢ ILLEGAL → result ≢ DEVICE → result ≢ NO_MEMORY
+    ensures silent_in_pieces { ((n turns : ℕ) → ¬ (AskRunInPieces (texts words.entry.now) n turns))
+        → result ≢ DONE → result ≢ ILLEGAL → result ≢ DEVICE → result ≢ NO_MEMORY → Keeps (W.contents output.old) (W.contents output.new) }
+    ensures silent_always { result ≢ DONE → result ≢ ILLEGAL → result ≢ DEVICE → result ≢ NO_MEMORY → result ≢ STOPPED
         → Keeps (W.contents output.old) (W.contents output.new) }
 {
     let outcome = outcome_of(words, rt, alloc, gate, input, output, errors);

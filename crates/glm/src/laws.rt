@@ -6,7 +6,8 @@ ghost use Rattle.lock_rules.specs.declared.calls.TheConstants.{MAX_SESSIONS};
 ghost use Rattle.lock_trace.specs.declared.rows.TraceRow.{TraceRow as RowValue};
 ghost use Rattle.glm.specs.declared.args.Request.{Request as RequestValue};
 ghost use Rattle.glm.specs.declared.args.TheConstants.{MAX_TURNS};
-ghost use Rattle.glm.specs.CommandLine.{Ask, AskCheck, AskHelp, AskNothing, AskReplay, AskReplayInPieces, AskRun, AskVersion};
+ghost use Rattle.glm.specs.declared.running_in_pieces.TheConstants.{MAX_STREAMED_SESSIONS};
+ghost use Rattle.glm.specs.CommandLine.{Ask, AskCheck, AskHelp, AskNothing, AskReplay, AskReplayInPieces, AskRun, AskRunInPieces, AskVersion};
 ghost use Rattle.glm.specs.Replays.{HasReplayedFront, HasReplayedPart, IsTextFor};
 
 /// A command line asks for at most one command with its numbers. A command line that asks for a command asks neither for
@@ -15,13 +16,15 @@ pub fn words_ask_for_one_thing()
     ensures one { (words : List Text) (r q : RequestValue) → Ask words r → Ask words q → r ≡ q }
     ensures sessions { (words : List Text) (m n : ℕ) → AskReplay words m → AskReplay words n → m ≡ n }
     ensures whole_or_pieces { (words : List Text) (m n : ℕ) → AskReplay words m → ¬ AskReplayInPieces words n }
+    ensures run_whole_or_pieces { (words : List Text) (m n t u : ℕ) → AskRun words m t → ¬ AskRunInPieces words n u }
     ensures command_or_help { (words : List Text) (r : RequestValue) → Ask words r → ¬ AskHelp words }
     ensures command_or_version { (words : List Text) (r : RequestValue) → Ask words r → ¬ AskVersion words }
     ensures replay_or_help { (words : List Text) (n : ℕ) → AskReplay words n → ¬ AskHelp words }
 {}
 
 /// Command lines with what they ask for. If the number of sessions is left out, it is 256; if the number of tries is, it is
-/// the greatest. A number below 1 or above the greatest is refused, and so is one with a plus sign or a leading zero.
+/// the greatest. A number below 1 or above the greatest is refused, and so is one with a plus sign or a leading zero. A run in
+/// pieces has one session fewer at most.
 pub fn words_ask_as_documented()
     ensures left_out { AskReplay (codes "glm" ∷ codes "replay" ∷ []) 256 }
     ensures apart { AskReplay (codes "glm" ∷ codes "replay" ∷ codes "--sessions" ∷ codes "7" ∷ []) 7 }
@@ -42,6 +45,9 @@ pub fn words_ask_as_documented()
     ensures version_short { AskVersion (codes "glm" ∷ codes "-V" ∷ []) }
     ensures run { AskRun (codes "glm" ∷ codes "run" ∷ []) 256 MAX_TURNS }
     ensures run_turns { AskRun (codes "glm" ∷ codes "run" ∷ codes "--turns" ∷ codes "9" ∷ codes "--sessions=2" ∷ []) 2 9 }
+    ensures run_stream { AskRunInPieces (codes "glm" ∷ codes "run" ∷ codes "--stream" ∷ []) 256 MAX_TURNS }
+    ensures run_stream_most { AskRunInPieces (codes "glm" ∷ codes "run" ∷ codes "--sessions=1023" ∷ codes "--stream" ∷ []) MAX_STREAMED_SESSIONS MAX_TURNS }
+    ensures run_stream_too_many { AskNothing (codes "glm" ∷ codes "run" ∷ codes "--stream" ∷ codes "--sessions=1024" ∷ []) }
     ensures no_turns { AskNothing (codes "glm" ∷ codes "run" ∷ codes "--turns=0" ∷ []) }
     ensures too_many_turns { AskNothing (codes "glm" ∷ codes "run" ∷ codes "--turns=1000000001" ∷ []) }
     ensures replay_turns { AskNothing (codes "glm" ∷ codes "replay" ∷ codes "--turns=9" ∷ []) }

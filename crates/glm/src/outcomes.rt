@@ -39,6 +39,8 @@ pub(crate) enum Outcome {
     ReplayInPieces(Result<u64, ToolFault>),
     /// The result of the run on threads that was asked for.
     Run(Result<u64, ToolFault>),
+    /// The result of the run on threads in pieces that was asked for.
+    RunInPieces(Result<u64, ToolFault>),
     /// The result of the check that was asked for. A verdict was also written to the output.
     Check(Result<Verdict, ToolFault>),
     /// Help was asked for, and written.
@@ -86,14 +88,16 @@ impl Outcome {
         ensures { result ≡ status_of_outcome self.now }
     {
         match self {
-            Outcome::Replay(Ok(_)) | Outcome::ReplayInPieces(Ok(_)) | Outcome::Run(Ok(_)) => DONE,
+            Outcome::Replay(Ok(_)) | Outcome::ReplayInPieces(Ok(_)) => DONE,
+            Outcome::Run(Ok(_)) | Outcome::RunInPieces(Ok(_)) => DONE,
             Outcome::HelpShown | Outcome::VersionShown => DONE,
             Outcome::Check(Ok(Verdict::Legal(_))) => DONE,
             Outcome::Check(Ok(Verdict::Illegal(_))) => ILLEGAL,
             Outcome::Replay(Err(fault)) | Outcome::ReplayInPieces(Err(fault)) => {
                 status_of_fault(fault)
             }
-            Outcome::Run(Err(fault)) | Outcome::Check(Err(fault)) => status_of_fault(fault),
+            Outcome::Run(Err(fault)) | Outcome::RunInPieces(Err(fault)) => status_of_fault(fault),
+            Outcome::Check(Err(fault)) => status_of_fault(fault),
             Outcome::HelpFailed | Outcome::VersionFailed => DEVICE,
             Outcome::Misused => USAGE,
             Outcome::OutOfMemory => NO_MEMORY,
@@ -106,14 +110,17 @@ impl Outcome {
             Outcome::Replay(Err(fault)) | Outcome::ReplayInPieces(Err(fault)) => {
                 report_fault(fault, errors)
             }
-            Outcome::Run(Err(fault)) | Outcome::Check(Err(fault)) => report_fault(fault, errors),
+            Outcome::Run(Err(fault)) | Outcome::RunInPieces(Err(fault)) => {
+                report_fault(fault, errors)
+            }
+            Outcome::Check(Err(fault)) => report_fault(fault, errors),
             Outcome::HelpFailed | Outcome::VersionFailed => report_fault(
                 &ToolFault::Device,
                 errors,
             ),
             Outcome::OutOfMemory => report_fault(&ToolFault::NoMemory, errors),
             Outcome::Replay(Ok(_)) | Outcome::ReplayInPieces(Ok(_)) => {}
-            Outcome::Run(Ok(_)) | Outcome::Check(Ok(_)) => {}
+            Outcome::Run(Ok(_)) | Outcome::RunInPieces(Ok(_)) | Outcome::Check(Ok(_)) => {}
             Outcome::HelpShown | Outcome::VersionShown | Outcome::Misused => {}
         }
     }

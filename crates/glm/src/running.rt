@@ -22,7 +22,7 @@ use std::sync::Wait;
 use std::thread::Threads;
 
 /// Returns the greatest session number in the rows, or 1 if there are no rows.
-fn greatest_session(rows: &[TraceRow], sessions: u16) -> u16
+pub(crate) fn greatest_session(rows: &[TraceRow], sessions: u16) -> u16
     requires some { 0 < sessions }
     requires within { AreRows sessions rows.now }
     ensures some { 0 < result }

@@ -42,6 +42,11 @@ place,session,op,resource,mode,reply,value; 'glm help replay' shows a row of eac
   1,lock,1/2,S
   3,1,lock,1/2,S,granted,S
 
+With --stream the history is written in pieces of about 4096 rows while the threads are at work, and a piece leaves memory
+once it is written. Calls wait while 16384 rows are still to be written. One more session takes the history, so there
+are at most 1023 others. A row that is refused is still named before anything is written; if memory is refused, or tries
+run out, the rows that were served before may have been written.
+
 An example: glm run < examples/queue.csv";
 
 /// The beginning of the help of `check`.
@@ -71,9 +76,11 @@ pub(crate) const STATUSES: &str = "Exit status:
   5  reading or writing failed, or a thread couldn't be started
   6  a gate stayed shut, or tries ran out";
 
-/// The message for a number that the parser takes but that has a sign or a leading zero.
+/// The message for a number that the parser takes but that has a sign or a leading zero, or that is the greatest number of
+/// sessions for a run whose history is written in pieces.
 pub(crate) const NOT_A_NUMERAL: &str =
-    "error: a number is written with digits alone, with no sign and no zero before it
+    "error: a number is written with digits alone, with no sign and no zero before it, and 'run --stream' has at most 1023
+sessions
 
 For more information, try '--help'.
 ";

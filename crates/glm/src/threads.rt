@@ -12,6 +12,7 @@ use combining::{Office, Session};
 use lock_trace::TraceRow;
 use std::alloc::Global;
 use std::sync::Wait;
+use std::sync::atomic::{AtomicUsize, Ordering};
 use std::thread;
 use std::thread::{Promise, PromisedHandle, Scope, Threads};
 
@@ -50,7 +51,7 @@ pub(crate) enum Start<'a> {
     Idle(Session),
 }
 
-/// The body of a session's thread: performs the session's rows.
+/// The body of a session's thread: performs the session's rows, and counts the thread off at its end.
 #[tactic(auto, using(crate::proofs::IsPerformed::performed_known))]
 fn work<G: Gate>(
     office: &Office,
@@ -58,13 +59,16 @@ fn work<G: Gate>(
     rows: &[TraceRow],
     turns: u64,
     gate: &G,
+    at_work: &AtomicUsize,
 ) -> ThreadResult
     requires { IsNewSession office.now session }
     ensures { IsWorkOf office.now session.number rows.now result }
 {
     let mut session = session;
     let number = session.number();
-    match perform_rows(office, &mut session, number, rows, turns, gate) {
+    let performed = perform_rows(office, &mut session, number, rows, turns, gate);
+    at_work.fetch_sub(1, Ordering::SeqCst);
+    match performed {
         Ok(()) => ThreadResult {
             session,
             stop: None,
@@ -88,7 +92,8 @@ fn has_row(rows: &[TraceRow], number: u16) -> bool
     false
 }
 
-/// Starts the thread of a session, if the session has a row. Returns `None` if the thread couldn't be started.
+/// Starts the thread of a session, if the session has a row, and counts it among those at work. Returns `None` if the thread
+/// couldn't be started.
 #[tactic(auto, using(crate::proofs::IsPerformed::performed_none))]
 fn start_session<'s, E, G: Gate>(
     scope: &Scope<'s, E>,
@@ -97,6 +102,7 @@ fn start_session<'s, E, G: Gate>(
     rows: &'s [TraceRow],
     turns: u64,
     gate: &'s G,
+    at_work: &'s AtomicUsize,
 ) -> Option<Start<'s>>
     requires { IsNewSession office.now session }
     ensures start { IfSome result (IsStart office.now rows.now) }
@@ -113,22 +119,27 @@ fn start_session<'s, E, G: Gate>(
     };
     let worked = move || -> ThreadResult
         requires { IsNewSession office.now session }
-    { work(office, session, rows, turns, gate) };
+    { work(office, session, rows, turns, gate, at_work) };
+    at_work.fetch_add(1, Ordering::SeqCst);
     match scope.spawn_with(promise, worked) {
         Ok(handle) => Some(Start::Thread(handle)),
-        Err(_) => None,
+        Err(_) => {
+            at_work.fetch_sub(1, Ordering::SeqCst);
+            None
+        }
     }
 }
 
 /// Starts one thread for each session with a row. If one can't be started, returns the reason and drops that session and the
 /// ones after it.
-fn start_all<'s, E, G: Gate>(
+pub(crate) fn start_all<'s, E, G: Gate>(
     scope: &Scope<'s, E>,
     office: &'s Office,
     sessions: Vec<Session>,
     rows: &'s [TraceRow],
     turns: u64,
     gate: &'s G,
+    at_work: &'s AtomicUsize,
     started: &mut Vec<Start<'s>>,
 ) -> Option<Stop>
     requires new { All (IsNewSession office.now) sessions.items }
@@ -137,7 +148,7 @@ fn start_all<'s, E, G: Gate>(
     ensures all { result ≡ None → numbers_of_starts started.new.items ≡ numbers_of sessions.items }
 {
     for session in sessions {
-        let Some(start) = start_session(scope, office, session, rows, turns, gate) else {
+        let Some(start) = start_session(scope, office, session, rows, turns, gate, at_work) else {
             return Some(Stop::Device);
         };
         if started.push(start).is_err() {
@@ -192,6 +203,31 @@ fn append_finished(
     first_reason(reason, stop)
 }
 
+/// Waits for all started threads and returns their sessions in order. Fails with the reason to report if a thread stopped
+/// early, or if there is already a `reason` from before.
+pub(crate) fn join_all<R: Threads>(
+    rt: &R,
+    alloc: Global,
+    started: Vec<Start<'_>>,
+    reason: Option<Stop>,
+) -> Result<Vec<Session>, Stop>
+    ensures all { IfOk result (λ _. reason ≡ None) }
+    ensures numbers { (office : _) (rows : _) → All (IsStart office rows) started.entry.items
+        → IfOk result (λ done. numbers_of done.items ≡ numbers_of_starts started.entry.items) }
+    ensures performed { (office : _) (rows : _) → All (IsStart office rows) started.entry.items
+        → IfOk result (λ done. All (IsPerformed office rows) done.items) }
+{
+    let mut reason = reason;
+    let mut done = Vec::new(alloc);
+    for start in started {
+        reason = append_finished(&mut done, reason, join(rt, start));
+    }
+    match reason {
+        None => Ok(done),
+        Some(stop) => Err(stop),
+    }
+}
+
 /// Performs the sessions' rows in threads of this scope, waits for all of them, and returns the sessions in their order.
 /// Fails with the reason to report if a thread stopped early or couldn't be started.
 fn perform_within<'s, E, R: Threads, G: Gate>(
@@ -203,21 +239,24 @@ fn perform_within<'s, E, R: Threads, G: Gate>(
     rows: &'s [TraceRow],
     turns: u64,
     gate: &'s G,
+    at_work: &'s AtomicUsize,
 ) -> Result<Vec<Session>, Stop>
     requires { All (IsNewSession office.now) sessions.items }
     ensures numbers { IfOk result (λ done. numbers_of done.items ≡ numbers_of sessions.items) }
     ensures performed { IfOk result (λ done. All (IsPerformed office.now rows.now) done.items) }
 {
     let mut started = Vec::new(alloc);
-    let mut reason = start_all(scope, office, sessions, rows, turns, gate, &mut started);
-    let mut done = Vec::new(alloc);
-    for start in started {
-        reason = append_finished(&mut done, reason, join(rt, start));
-    }
-    match reason {
-        None => Ok(done),
-        Some(stop) => Err(stop),
-    }
+    let reason = start_all(
+        scope,
+        office,
+        sessions,
+        rows,
+        turns,
+        gate,
+        at_work,
+        &mut started,
+    );
+    join_all(rt, alloc, started, reason)
 }
 
 /// Performs the rows of each session in a thread of its own and returns all sessions in their order. Fails with the reason to
@@ -235,6 +274,8 @@ pub(crate) fn perform_all<R: Threads + Wait, G: Gate>(
     ensures numbers { IfOk result (λ done. numbers_of done.items ≡ numbers_of sessions.items) }
     ensures performed { IfOk result (λ done. All (IsPerformed office.now rows.now) done.items) }
 {
+    let count = AtomicUsize::new(0);
+    let at_work = &count;
     thread::scope(
         thread::scope_env(),
         rt,
@@ -242,6 +283,10 @@ pub(crate) fn perform_all<R: Threads + Wait, G: Gate>(
             requires { All (IsNewSession office.now) sessions.items }
             ensures numbers { IfOk result (λ done. numbers_of done.items ≡ numbers_of sessions.items) }
             ensures performed { IfOk result (λ done. All (IsPerformed office.entry.now rows.entry.now) done.items) }
-        { perform_within(scope, rt, alloc, office, sessions, rows, turns, gate) },
+        {
+            perform_within(
+                scope, rt, alloc, office, sessions, rows, turns, gate, at_work,
+            )
+        },
     )
 }

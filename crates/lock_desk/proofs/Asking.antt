@@ -43,13 +43,13 @@ module _ (d : LockTable) (s : ℕ) (locker new : Locker) (w : IsWhole d) {i : �
   seen-again : (r : List ℕ) (e : LockTable) → CellsBecame r (view_at r d) d.cells.entries e.cells.entries → (q : List ℕ) → view_at q e ≡ view_at q d
   seen-again r e b q = b.views q ∙ sym (same-view r q d.cells.entries)
 
-  module _ (r : List ℕ) (e : LockTable) (count : e.count ≡ d.count) (lockers : e.lockers.items ≡ set d.lockers.items i new) (b : CellsBecame r (view_at r d) d.cells.entries e.cells.entries) where
+  module _ (r : List ℕ) (e : LockTable) (count : e.count ≡ d.count) (lockers : e.lockers.items ≡ set d.lockers.items i new) (ended : e.ended ≡ d.ended) (b : CellsBecame r (view_at r d) d.cells.entries e.cells.entries) where
     standings-again : standings e ≡ standings d
     standings-again = ap standings_of lockers ∙ standings-same d.lockers.items s locker new lt at same
 
     -- nothing visible has changed
     pub room-same : IsSameSeen d e
-    room-same = record { count = count; standings_same = standings-again; views = seen-again r e b }
+    room-same = record { count = count; standings_same = standings-again; views = seen-again r e b; ended = ended }
 
     -- and the lock table is whole
     pub room-whole : IsWhole e
@@ -96,12 +96,12 @@ never-own d s r held idle =
 
 -- a cell that got room says the same
 
-pub there-same : (r : List ℕ) (d e : LockTable) → e.count ≡ d.count → e.lockers ≡ d.lockers → CellsBecame r (view_at r d) d.cells.entries e.cells.entries → IsSameSeen d e
-there-same r d e count lockers b = record { count = count; standings_same = ap (λ v. standings_of v.items) lockers; views = λ q. b.views q ∙ sym (same-view r q d.cells.entries) }
+pub there-same : (r : List ℕ) (d e : LockTable) → e.count ≡ d.count → e.lockers ≡ d.lockers → e.ended ≡ d.ended → CellsBecame r (view_at r d) d.cells.entries e.cells.entries → IsSameSeen d e
+there-same r d e count lockers ended b = record { count = count; standings_same = ap (λ v. standings_of v.items) lockers; views = λ q. b.views q ∙ sym (same-view r q d.cells.entries); ended = ended }
 
-pub there-whole : (r : List ℕ) (d e : LockTable) → e.count ≡ d.count → e.lockers ≡ d.lockers → CellsBecame r (view_at r d) d.cells.entries e.cells.entries → IsWhole d → IsWhole e
-there-whole r d e count lockers b w =
-    let same = there-same r d e count lockers b in
+pub there-whole : (r : List ℕ) (d e : LockTable) → e.count ≡ d.count → e.lockers ≡ d.lockers → e.ended ≡ d.ended → CellsBecame r (view_at r d) d.cells.entries e.cells.entries → IsWhole d → IsWhole e
+there-whole r d e count lockers ended b w =
+    let same = there-same r d e count lockers ended b in
     record {
       cells = b.kept;
       agree = λ x. subst (λ (v : View). DoAgree x v (standings e)) (sym (same.views x)) (subst (DoAgree x (view_at x d)) (sym same.standings_same) (w.agree x));
@@ -141,7 +141,7 @@ module _ (d : LockTable) (s : ℕ) (r : List ℕ) (m : Mode) (granted : Bool) (e
   }
 
   -- and the waits-for rows are right, if they follow the cell
-  pub asked-keeps : vec_len e.lockers ≡ vec_len d.lockers → e.count ≡ d.count → DoFollow (view_at r d) (view_after_asking (record { session = s; mode = m }) (view_at r d)) d.waits e.waits → IsReadyTable d → DoesKeep d e
-  asked-keeps len count rows k =
+  pub asked-keeps : vec_len e.lockers ≡ vec_len d.lockers → e.count ≡ d.count → length e.ended.places ≡ length d.ended.places → DoFollow (view_at r d) (view_after_asking (record { session = s; mode = m }) (view_at r d)) d.waits e.waits → IsReadyTable d → DoesKeep d e
+  asked-keeps len count sized rows k =
       let whole = asked-whole in
-      record { whole = whole; lockers = len; ready = ready-follow r (view_after_asking (record { session = s; mode = m }) (view_at r d)) d e w whole b.views len (has-asked count).transactions rows k }
+      record { whole = whole; lockers = len; ready = ready-follow r (view_after_asking (record { session = s; mode = m }) (view_at r d)) d e w whole b.views len sized (has-asked count).transactions rows k }

@@ -167,8 +167,8 @@ module _ (d : LockTable) (s : ℕ) (r : List ℕ) (locker new : Locker) (w : IsW
     }
 
     -- the lock table is whole, and the waits-for rows are right
-    pub cancel-keeps : vec_len e.lockers ≡ vec_len d.lockers → e.count ≡ d.count → DoFollow (view_at r d) (view_after_freeing claim.Request s (view_at r d)) d.waits e.waits → IsReadyTable d → DoesKeep d e
-    cancel-keeps len count rows k = freed-keeps d claim.Request s r locker new lt at gives w e (ap wanted_in gone) b agree granted len count rows k
+    pub cancel-keeps : vec_len e.lockers ≡ vec_len d.lockers → e.count ≡ d.count → length e.ended.places ≡ length d.ended.places → DoFollow (view_at r d) (view_after_freeing claim.Request s (view_at r d)) d.waits e.waits → IsReadyTable d → DoesKeep d e
+    cancel-keeps len count sized rows k = freed-keeps d claim.Request s r locker new lt at gives w e (ap wanted_in gone) b agree granted len count sized rows k
 
 -- cancelling changes nothing in a locker without a request
 pub cancelled-same : (locker new : Locker) → new.transaction ≡ locker.transaction → new.held ≡ locker.held → new.wanted ≡ None → wanted_in locker.wanted ≡ None → standing_of new ≡ standing_of locker
@@ -182,8 +182,8 @@ same-whole d e w lockers cells = record {
 }
 
 -- and nothing visible has changed
-pub same-seen : (d e : LockTable) → e.count ≡ d.count → standings e ≡ standings d → e.cells ≡ d.cells → IsSameSeen d e
-same-seen d e count lockers cells = record { count = count; standings_same = lockers; views = λ q. ap (λ cs. cell_view q cs.entries) cells }
+pub same-seen : (d e : LockTable) → e.count ≡ d.count → standings e ≡ standings d → e.cells ≡ d.cells → e.ended ≡ d.ended → IsSameSeen d e
+same-seen d e count lockers cells ended = record { count = count; standings_same = lockers; views = λ q. ap (λ cs. cell_view q cs.entries) cells; ended = ended }
 
 -- for a session that doesn't wait, no change is a cancelled request
 pub same-cancelled : (s : ℕ) (d e : LockTable) → IsWhole d → (standing s d).wanted ≡ None → e.count ≡ d.count → standings e ≡ standings d → e.cells ≡ d.cells → HasCancelled s d e

@@ -1,61 +1,57 @@
--- The invariant of a book, from its history and its lock table.
-use Rattle.std.proofs.Common.{◌≡◌, ℕ, zero, suc, ◌+◌, ◌≤◌, List, [], ◌∷◌, ◌++◌, length, map, refl, length-append, sym, ap, arith, subst}
+-- A lock table with its history: one call with its entry, and whose wait it has ended.
+use Rattle.std.proofs.Common.{◌≡◌, Bool, not, eqb, ◌&&◌, ◌||◌, ℕ, zero, suc, ◌+◌, ◌≤◌, List, [], ◌∷◌, ◌++◌, length, map, refl, length-append, sym, ap, ◌∙◌, arith, subst}
 use Rattle.std.specs.Prelude.{vec_len}
 use Rattle.std.specs.List.{All}
 use Rattle.std.proofs.lemmas.List.Elements.{All-push}
-use Rattle.waits_for.specs.declared.TheConstants.{MAX_SESSIONS}
 use Rattle.lock_rules.specs.declared.calls.Entry.{Entry}
 use Rattle.lock_rules.specs.declared.calls.Call.{Call}
 use Rattle.lock_rules.specs.declared.calls.Reply.{Reply}
+use Rattle.lock_rules.specs.State as rules
+use Rattle.lock_rules.specs.Ended.{has_ended, ended_waits}
 use Rattle.lock_rules.specs.Step.{step}
 use Rattle.lock_rules.specs.Legal.{state_of, IsLegal}
 use Rattle.lock_rules.proofs.Histories.{legal-push, state_of-push}
-use Rattle.lock_desk.specs.declared.book.Book.TheInside.{Inside}
 use Rattle.lock_desk.specs.declared.lockers.Locker.{Locker}
 use Rattle.lock_desk.specs.inner.Lockers.{no_standing, standing_of, standings_of, standing_at}
-use Rattle.lock_desk.specs.inner.Changes.{IsWhole}
+use Rattle.lock_desk.specs.inner.Changes.{with_ended, with_listed, IsWhole, HasListed}
+use Rattle.lock_desk.specs.inner.Ended.{EndedView, is_listed, listed_in}
+use Rattle.lock_desk.specs.declared.lock_table.LockTable.{LockTable}
 use Rattle.lock_desk.specs.inner.Ready.{IsReadyTable}
 use Rattle.lock_desk.specs.inner.Shows.{Shows}
-use Rattle.lock_desk.specs.BookView.{IsEntryWithin}
-use Rattle.lock_desk.specs.inner.Invariant.{IsKept}
+use Rattle.lock_desk.specs.inner.Runs.{AreKept}
+use Rattle.lock_desk.specs.BookView.{BookView, IsEntryWithin}
+use Rattle.lock_desk.specs.inner.Invariant.{book_view_of, IsKept}
+use Rattle.lock_desk.specs.declared.book.Book.TheInside.{Inside}
+use Rattle.waits_for.specs.declared.TheConstants.{MAX_SESSIONS}
+use Rattle.lock_desk.proofs.EndedList.{same-numbers, none-listed}
+use Rattle.lock_desk.proofs.EndedWaits.{whole-relisted, ready-relisted, shows-relisted}
+use Rattle.lock_desk.proofs.Simulation.{waits-shown}
 
 -- after one more entry
-pub kept-more : (a : Inside) (es : List Entry) (session : ℕ) (call : Call) (reply : Reply) → a.history.items ≡ es ++ record { session = session; call = call; reply = reply } ∷ []
-    → 1 ≤ a.sessions → a.sessions ≤ MAX_SESSIONS → IsLegal es → All (IsEntryWithin a.sessions) es → 1 ≤ session → session ≤ a.sessions
-    → reply ≡ (step (state_of es) session call).reply → Shows a.lock_table (step (state_of es) session call).state → IsWhole a.lock_table → IsReadyTable a.lock_table → vec_len a.lock_table.lockers ≡ a.sessions → a.lock_table.count ≤ length es + 1 → a.marks.sessions ≡ a.sessions → IsKept a
-kept-more a es session call reply h any few legal within some most same shows whole ready lockers counted marked =
-    let e : Entry = record { session = session; call = call; reply = reply } in
-    record {
-      some = any;
-      few = few;
-      legal = subst IsLegal (sym h) (legal-push es e legal same);
-      within = subst (All (IsEntryWithin a.sessions)) (sym h) (All-push (IsEntryWithin a.sessions) es e within (record { some = some; within = most }));
-      shows = subst (λ (xs : List Entry). Shows a.lock_table (state_of xs)) (sym h) (subst (Shows a.lock_table) (sym (state_of-push es e)) shows);
+pub kept-more : (d e : LockTable) (es more : List Entry) (session : ℕ) (call : Call) (reply : Reply) → more ≡ es ++ record { session = session; call = call; reply = reply } ∷ []
+    → AreKept d es → 1 ≤ session → session ≤ vec_len d.lockers
+    → reply ≡ (step (state_of es) session call).reply → Shows e (step (state_of es) session call).state → IsWhole e → IsReadyTable e → vec_len e.lockers ≡ vec_len d.lockers → e.count ≤ d.count + 1 → AreKept e more
+kept-more d e es more session call reply h k some most same shows whole ready lockers counted =
+    let x : Entry = record { session = session; call = call; reply = reply } in
+    subst (AreKept e) (sym h) (record {
+      legal = legal-push es x k.legal same;
+      within = subst (λ (n : ℕ). All (IsEntryWithin n) (es ++ x ∷ [])) (sym lockers) (All-push (IsEntryWithin (vec_len d.lockers)) es x k.within (record { some = some; within = most }));
+      shows = subst (Shows e) (sym (state_of-push es x)) shows;
       whole = whole;
       ready = ready;
-      lockers = lockers;
-      counted = let n = ap length h in omega (arith, n, length-append es (e ∷ []), counted);
-      marked = marked;
-    }
+      counted = let n = k.counted in omega (arith, length-append es (x ∷ []), counted, n);
+    })
 
 -- with the same history
-pub kept-same : (a : Inside) (es : List Entry) → a.history.items ≡ es → 1 ≤ a.sessions → a.sessions ≤ MAX_SESSIONS → IsLegal es → All (IsEntryWithin a.sessions) es → Shows a.lock_table (state_of es) → IsWhole a.lock_table → IsReadyTable a.lock_table → vec_len a.lock_table.lockers ≡ a.sessions → (n : ℕ) → n ≡ (state_of es).count → n ≤ length es → a.marks.sessions ≡ a.sessions → IsKept a
-kept-same a es h any few legal within shows whole ready lockers n c least marked = record {
-  some = any;
-  few = few;
-  legal = subst IsLegal (sym h) legal;
-  within = subst (All (IsEntryWithin a.sessions)) (sym h) within;
-  shows = subst (λ (xs : List Entry). Shows a.lock_table (state_of xs)) (sym h) shows;
+pub kept-same : (d e : LockTable) (es more : List Entry) → more ≡ es → AreKept d es → Shows e (state_of es) → IsWhole e → IsReadyTable e → vec_len e.lockers ≡ vec_len d.lockers → AreKept e more
+kept-same d e es more h k shows whole ready lockers = subst (AreKept e) (sym h) (record {
+  legal = k.legal;
+  within = subst (λ (n : ℕ). All (IsEntryWithin n) es) (sym lockers) k.within;
+  shows = shows;
   whole = whole;
   ready = ready;
-  lockers = lockers;
-  counted = let k = ap length h in let m = shows.count in omega (arith, k, m, c, least);
-  marked = marked;
-}
-
--- one more entry is enough for one more transaction
-pub bound : {a b c : ℕ} → a ≤ b + 1 → b ≤ c → a ≤ c + 1
-bound h k = omega arith
+  counted = let n = k.counted in let a = shows.count in let b = k.shows.count in omega (arith, n, a, b);
+})
 
 -- one more locker without a transaction
 pub none-push : (ws : List Locker) (w : Locker) → ((s : ℕ) → standing_at s (standings_of ws) ≡ no_standing) → standing_of w ≡ no_standing → (s : ℕ) → standing_at s (standings_of (ws ++ w ∷ [])) ≡ no_standing
@@ -67,3 +63,75 @@ none-push ws w h e (suc s) = go ws (λ i. h (suc i)) s
     go [] k (suc i) = refl
     go (x ∷ xs) k zero = k zero
     go (x ∷ xs) k (suc i) = go xs (λ j. k (suc j)) i
+
+-- what is listed in addition has ended by the rules
+
+pub listed-ends : (s : ℕ) (d e : LockTable) (before after : rules.State) → IsWhole d → IsWhole e → Shows d before → Shows e after → HasListed s d e
+    → (u : ℕ) → is_listed e.ended u ≡ (is_listed d.ended u || has_ended s before after u)
+listed-ends s d e before after w x h k l u =
+    let o = waits-shown d before u w h in
+    let n = waits-shown e after u x k in
+    l.listed u ∙ (λ i. is_listed d.ended u || (not (eqb u s) && (o i && not (n i))))
+
+-- the invariant of a book: its lock table with its history, and a locker and a mark for each session
+
+pub kept-of : (a : Inside) → IsKept a → AreKept a.lock_table a.history.items
+kept-of a k = record {
+  legal = k.legal;
+  within = subst (λ (n : ℕ). All (IsEntryWithin n) a.history.items) (sym k.lockers) k.within;
+  shows = k.shows;
+  whole = k.whole;
+  ready = k.ready;
+  counted = k.counted;
+}
+
+pub of-kept : (a : Inside) → 1 ≤ a.sessions → a.sessions ≤ MAX_SESSIONS → AreKept a.lock_table a.history.items → vec_len a.lock_table.lockers ≡ a.sessions → a.marks.sessions ≡ a.sessions → IsKept a
+of-kept a some few k lockers marked = record {
+  some = some;
+  few = few;
+  legal = k.legal;
+  within = subst (λ (n : ℕ). All (IsEntryWithin n) a.history.items) lockers k.within;
+  shows = k.shows;
+  whole = k.whole;
+  ready = k.ready;
+  lockers = lockers;
+  counted = k.counted;
+  marked = marked;
+}
+
+-- another list of ended waits makes no difference
+pub kept-relisted : (d : LockTable) (v : EndedView) (es : List Entry) → length v.places ≡ length d.ended.places → AreKept d es → AreKept (with_ended v d) es
+kept-relisted d v es long k = record {
+  legal = k.legal;
+  within = k.within;
+  shows = shows-relisted d v (state_of es) k.shows;
+  whole = whole-relisted d v k.whole;
+  ready = ready-relisted d v long k.ready;
+  counted = k.counted;
+}
+
+-- in a table whose list was cleared, those are listed whose wait the call has ended
+pub listed-alone : (n s : ℕ) (before after : rules.State) (v w : EndedView) → length w.places ≡ n → v.count ≡ 0 → ((u : ℕ) → is_listed w u ≡ (is_listed v u || has_ended s before after u)) → listed_in w ≡ ended_waits n s before after
+listed-alone n s before after v w long none adds =
+    same-numbers (is_listed w) (has_ended s before after) 1 (length w.places) (λ u l k. adds u ∙ ap (λ (b : Bool). b || has_ended s before after u) (none-listed v none u))
+    ∙ ap (λ (m : ℕ). ended_waits m s before after) long
+
+-- the invariant, when as many sessions are listed as `n`
+pub relisted-kept : (a : Inside) (n : ℕ) (e : LockTable) → e ≡ with_listed n a.lock_table → IsKept a → IsKept (record { sessions = a.sessions; lock_table = e; history = a.history; marks = a.marks })
+relisted-kept a n e is k =
+    subst (λ (d : LockTable). IsKept (record { sessions = a.sessions; lock_table = d; history = a.history; marks = a.marks })) (sym is)
+    (of-kept _ k.some k.few (kept-relisted a.lock_table _ a.history.items refl (kept-of a k)) k.lockers k.marked)
+
+-- what contracts see of a book after a call
+pub entry-view : (a : Inside) (b : BookView) → book_view_of a ≡ b → (s : ℕ) (call : Call) (reply : Reply) (es : List Entry) (cut bound : ℕ) (ended : List ℕ)
+    → es ≡ a.history.items ++ record { session = s; call = call; reply = reply } ∷ [] → cut ≡ a.history.cut → bound ≡ a.history.bound
+    → ended ≡ ended_waits a.sessions s (state_of a.history.items) (step (state_of a.history.items) s call).state
+    → record { sessions = a.sessions; history = es; cut = cut; bound = bound; ended = ended } ≡ record b { history = b.history ++ record { session = s; call = call; reply = reply } ∷ []; ended = ended_waits b.sessions s (state_of b.history) (step (state_of b.history) s call).state }
+entry-view a b is s call reply es cut bound ended entries cuts bounds ends =
+    let n = ap (λ (t : BookView). t.sessions) is in
+    let h = ap (λ (t : BookView). t.history) is in
+    let history = entries ∙ (λ i. h i ++ record { session = s; call = call; reply = reply } ∷ []) in
+    let all_cut = cuts ∙ ap (λ (t : BookView). t.cut) is in
+    let all_bound = bounds ∙ ap (λ (t : BookView). t.bound) is in
+    let told = ends ∙ (λ i. ended_waits (n i) s (state_of (h i)) (step (state_of (h i)) s call).state) in
+    λ i. record { sessions = n i; history = history i; cut = all_cut i; bound = all_bound i; ended = told i }

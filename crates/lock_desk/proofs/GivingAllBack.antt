@@ -1,5 +1,5 @@
 -- A session gives back all its locks, the last one first.
-use Rattle.std.proofs.Common.{◌≡◌, ℕ, Bool, true, false, cond, inl, inr, List, [], ◌∷◌, ◌++◌, get_or, set, None, refl, sym, ◌∙◌, ap, subst, vec_len}
+use Rattle.std.proofs.Common.{◌≡◌, ℕ, Bool, true, false, cond, inl, inr, List, [], ◌∷◌, ◌++◌, get_or, set, None, refl, sym, ◌∙◌, ap, subst, length, vec_len}
 use Rattle.std.proofs.lemmas.Bool.{or_right}
 use Rattle.lock_tree.specs.Paths.{same_path}
 use Rattle.lock_rules.proofs.Lists.{same_path-refl, same_path_tells}
@@ -48,8 +48,8 @@ module _ (d : LockTable) (s : ℕ) (r : List ℕ) (locker new : Locker) (w : IsW
     }
 
     -- the lock table is whole, and the waits-for rows are right
-    pub back-keeps : vec_len e.lockers ≡ vec_len d.lockers → DoFollow (view_at r d) (view_after_freeing claim.Lock s (view_at r d)) d.waits e.waits → IsReadyTable d → DoesKeep d e
-    back-keeps len rows k = freed-keeps d claim.Lock s r locker new lt at gives w e none-left b agree granted len count rows k
+    pub back-keeps : vec_len e.lockers ≡ vec_len d.lockers → length e.ended.places ≡ length d.ended.places → DoFollow (view_at r d) (view_after_freeing claim.Lock s (view_at r d)) d.waits e.waits → IsReadyTable d → DoesKeep d e
+    back-keeps len sized rows k = freed-keeps d claim.Lock s r locker new lt at gives w e none-left b agree granted len count sized rows k
 
 -- lock after lock
 

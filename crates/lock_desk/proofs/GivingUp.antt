@@ -112,8 +112,8 @@ module _ (d : LockTable) (p : Claim) (s : ℕ) (r : List ℕ) (locker new : Lock
     }
 
     -- and the waits-for rows are right, if they follow the cell
-    pub freed-keeps : vec_len e.lockers ≡ vec_len d.lockers → e.count ≡ d.count → DoFollow (view_at r d) (view_after_freeing p s (view_at r d)) d.waits e.waits → IsReadyTable d → DoesKeep d e
-    freed-keeps len count rows k = record { whole = freed-whole; lockers = len; ready = ready-follow r (view_after_freeing p s (view_at r d)) d e w freed-whole b.views len (has-freed count).transactions rows k }
+    pub freed-keeps : vec_len e.lockers ≡ vec_len d.lockers → e.count ≡ d.count → length e.ended.places ≡ length d.ended.places → DoFollow (view_at r d) (view_after_freeing p s (view_at r d)) d.waits e.waits → IsReadyTable d → DoesKeep d e
+    freed-keeps len count sized rows k = record { whole = freed-whole; lockers = len; ready = ready-follow r (view_after_freeing p s (view_at r d)) d e w freed-whole b.views len sized (has-freed count).transactions rows k }
 
 -- what is given up
 

@@ -1,5 +1,5 @@
 -- One lock of a run is granted: the others can still be granted, and the lock table represents the next state.
-use Rattle.std.proofs.Common.{◌≡◌, ℕ, ◌≤◌, Bool, true, false, cond, eqb, ◌&&◌, ◌||◌, inl, inr, List, [], ◌∷◌, ◌++◌, length-append, set, Option, Some, None, sym, ◌∙◌, ap, arith, subst}
+use Rattle.std.proofs.Common.{◌≡◌, ℕ, ◌≤◌, Bool, true, false, cond, not, is_some, eqb, ◌&&◌, ◌||◌, inl, inr, List, [], ◌∷◌, ◌++◌, length-append, set, Option, Some, None, refl, sym, ◌∙◌, ap, arith, subst}
 use Rattle.std.specs.Prelude.{vec_len}
 use Rattle.std.specs.List.{All}
 use Rattle.std.proofs.Math.Bool.{or-true}
@@ -16,6 +16,8 @@ use Rattle.lock_rules.specs.declared.calls.Why.{Why}
 use Rattle.lock_rules.specs.Step.{target_of, is_held, first_failing, outcome_of, step}
 use Rattle.lock_rules.specs.Legal.{state_of}
 use Rattle.lock_rules.specs.Sound.{IsSound}
+use Rattle.lock_rules.specs.Ended.{has_ended}
+use Rattle.lock_rules.proofs.Sound.{eqb-swap}
 use Rattle.lock_rules.proofs.Lists.{same_path_tells, same_path-refl}
 use Rattle.lock_rules.proofs.Steps.{state-lawful}
 use Rattle.lock_rules.proofs.Histories.{legal-push, state_of-push}
@@ -24,13 +26,13 @@ use Rattle.lock_desk.specs.declared.cells.SessionMode.{SessionMode}
 use Rattle.lock_desk.specs.declared.lock_table.LockTable.{LockTable}
 use Rattle.lock_desk.specs.BookView.{IsEntryWithin}
 use Rattle.lock_desk.specs.inner.Cells.{View, is_nobody, has_session, mode_of, with_holder, fits_among, queue_with, can_grant, view_with_holder, view_after_asking}
-use Rattle.lock_desk.specs.inner.Lockers.{standing_at, standing_after_grant}
+use Rattle.lock_desk.specs.inner.Lockers.{Standing, standing_at, standing_after_grant}
 use Rattle.lock_desk.specs.inner.Changes.{view_at, standing, standings, mode_held, call_tests, IsWhole, DoesKeep, HasAsked}
 use Rattle.lock_desk.specs.inner.Shows.{Shows, DoesAnswer}
 use Rattle.lock_desk.specs.inner.Runs.{KeepsLockRooms, mode_asked, asker_of, CanJoin, CanGrant, GoesBeside, AreKept}
 use Rattle.lock_desk.proofs.Agreement.{other-standing}
 use Rattle.lock_desk.proofs.TableViews.{in_mode}
-use Rattle.lock_desk.proofs.Simulation.{tests-shown, lock-may, granted-answer}
+use Rattle.lock_desk.proofs.Simulation.{waits-shown, tests-shown, lock-may, granted-answer}
 use Rattle.lock_desk.proofs.RunItems.{join-same}
 
 -- holders
@@ -118,3 +120,17 @@ module _ (d e : LockTable) (h : List Entry) (i : Item) (r : List ℕ) (m : Mode)
         ready = k.ready;
         counted = let n = asked.count in let c = kept.counted in omega (arith, n, c, length-append h (x ∷ []));
       }
+
+  -- the grant ends no wait of another session
+  pub grant-ends-none : IsWhole e → standings e ≡ set (standings d) i.session (standing_after_grant r (standing i.session d)) → (u : ℕ) → has_ended i.session (state_of h) (step (state_of h) i.session i.call).state u ≡ false
+  grant-ends-none x own u =
+      let before = waits-shown d (state_of h) u kept.whole kept.shows in
+      let after = waits-shown e (step (state_of h) i.session i.call).state u x grant-answer.1 in
+      go (eqb u i.session) (rules.is_waiting (state_of h) u) (rules.is_waiting (step (state_of h) i.session i.call).state u)
+      (λ n. sym after ∙ (ap (λ (y : Standing). is_some y.wanted) (ap (standing_at u) own ∙ other-standing (standings d) i.session u (standing_after_grant r (standing i.session d)) (eqb-swap u i.session n)) ∙ before))
+    where
+      go : (b o n : Bool) → (b ≡ false → n ≡ o) → (not b && (o && not n)) ≡ false
+      go true o n f = refl
+      go false true true f = refl
+      go false true false f = absurd (let k = f refl in cc)
+      go false false n f = refl

@@ -24,11 +24,15 @@ pub mod ChildCounts
 pub mod LockLists
 -- the locker of a session whose request is granted
 pub mod LockerGrant
--- one grant of a promotion, in the cell and in the locker
-pub mod Promotions
+-- the list of ended waits: places, and which sessions are listed
+pub mod EndedList
 -- the lock table: each operation keeps cells and lockers in agreement
 -- agreement of lockers and cells after a change
 pub mod Agreement
+-- which sessions are listed because their wait has ended
+pub mod EndedWaits
+-- one grant of a promotion, in the cell and in the locker
+pub mod Promotions
 -- a session requests a resource
 pub mod Asking
 -- a session gives up a lock or its request

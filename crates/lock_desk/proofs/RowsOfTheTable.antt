@@ -20,6 +20,7 @@ use Rattle.lock_desk.specs.inner.Cells.{View, has_session, mode_of, is_nobody}
 use Rattle.lock_desk.specs.inner.Lockers.{Standing, standing_at, is_wanted, no_standing}
 use Rattle.lock_desk.specs.inner.Changes.{view_at, standings, standing, IsWhole, IsSameSeen}
 use Rattle.lock_desk.specs.inner.Blocking.{holder_blocks, is_ahead, target_blocks, view_blocks, blocks_at, blocks, IsSizedFor, IsWritten, DoFollow}
+use Rattle.lock_desk.specs.inner.Ended.{EndedView}
 use Rattle.lock_desk.specs.inner.Ready.{IsReadyTable}
 use Rattle.lock_desk.proofs.SessionsInRange.{numbered-whole, once-at}
 use Rattle.lock_desk.proofs.WritingWaits.{blocks-none}
@@ -121,14 +122,15 @@ module _ (r : List ℕ) (v : View) (d e : LockTable) (w : IsWhole d) (x : IsWhol
           idle = blocks-nowhere d w s u before
 
   -- the waits-for graph is current again
-  pub ready-follow : vec_len e.lockers ≡ vec_len d.lockers → ((u : ℕ) → (standing u e).transaction ≡ (standing u d).transaction) → DoFollow (view_at r d) v d.waits e.waits → IsReadyTable d → IsReadyTable e
-  ready-follow len transactions f k = record {
+  pub ready-follow : vec_len e.lockers ≡ vec_len d.lockers → length e.ended.places ≡ length d.ended.places → ((u : ℕ) → (standing u e).transaction ≡ (standing u d).transaction) → DoFollow (view_at r d) v d.waits e.waits → IsReadyTable d → IsReadyTable e
+  ready-follow len sized transactions f k = record {
     long = f.sessions ∙ (k.long ∙ sym len);
     ready = record {
       few = omega (arith, f.sessions, k.ready.few);
       sessions = refl;
       numbers = ap (λ ns. vec_len ns) f.numbers ∙ (k.ready.numbers ∙ sym f.sessions);
     };
+    listed = sized ∙ (k.listed ∙ sym len);
     filled = record {
       pairs = λ a b. f.pairs a b ∙ (ap (λ (o : Bool). (o && not (has_session (a + 1) (view_at r d).waiting)) || view_blocks (a + 1) (b + 1) v) (k.filled.pairs a b) ∙ sym (blocks-follow (a + 1) (b + 1)));
       numbers = λ a. ap (λ ns. slice_index_or ns.items a 0) f.numbers ∙ (k.filled.numbers a ∙ sym (ap number_in (transactions (a + 1))));
@@ -156,6 +158,7 @@ pub ready-same : (d e : LockTable) → IsSameSeen d e → vec_len e.lockers ≡ 
 ready-same d e same len waits k = record {
   long = ap (λ (x : Waits). x.rows.sessions) waits ∙ (k.long ∙ sym len);
   ready = subst (λ (x : Waits). IsSizedFor x.rows.sessions x) (sym waits) k.ready;
+  listed = ap (λ (v : EndedView). length v.places) same.ended ∙ (k.listed ∙ sym len);
   filled = record {
     pairs = λ a b. ap (λ (x : Waits). pairs_of x.rows a b) waits ∙ (k.filled.pairs a b ∙ sym (blocks-same (a + 1) (b + 1)));
     numbers = λ a. ap (λ (x : Waits). slice_index_or x.numbers.items a 0) waits ∙ (k.filled.numbers a ∙ sym (ap (λ (ss : List Standing). number_in (standing_at (a + 1) ss).transaction) same.standings_same));
@@ -170,13 +173,14 @@ ready-same d e same len waits k = record {
         go (Some q) = ap (view_blocks s u) (same.views q)
 
 -- if only transactions change, the graph stays current, given the new transaction numbers
-ready-transactions : (d e : LockTable) → IsWhole d → IsWhole e → ((q : List ℕ) → view_at q e ≡ view_at q d) → vec_len e.lockers ≡ vec_len d.lockers → e.waits.rows ≡ d.waits.rows → vec_len e.waits.numbers ≡ vec_len d.waits.numbers
+ready-transactions : (d e : LockTable) → IsWhole d → IsWhole e → ((q : List ℕ) → view_at q e ≡ view_at q d) → vec_len e.lockers ≡ vec_len d.lockers → length e.ended.places ≡ length d.ended.places → e.waits.rows ≡ d.waits.rows → vec_len e.waits.numbers ≡ vec_len d.waits.numbers
     → ((a : ℕ) → slice_index_or e.waits.numbers.items a 0 ≡ number_in (standing (a + 1) e).transaction) → IsReadyTable d → IsReadyTable e
-ready-transactions d e w x views len rows length numbers k =
+ready-transactions d e w x views len sized rows length numbers k =
     let sessions = ap (λ rs. rs.sessions) rows in
     record {
       long = sessions ∙ (k.long ∙ sym len);
       ready = record { few = omega (arith, sessions, k.ready.few); sessions = refl; numbers = length ∙ (k.ready.numbers ∙ sym sessions) };
+      listed = sized ∙ (k.listed ∙ sym len);
       filled = record {
         pairs = λ a b. ap (λ rs. pairs_of rs a b) rows ∙ (k.filled.pairs a b ∙ sym (blocks-unchanged (a + 1) (b + 1)));
         numbers = numbers;
@@ -204,15 +208,15 @@ numbers-changed d e s n o is transactions numbers k a = numbers a ∙ (go (eqb (
     go false = k.filled.numbers a
 
 -- the graph stays current when the transaction of a session begins or ends
-pub ready-numbered : (d e : LockTable) (s n : ℕ) (o : Option Transaction) → n ≡ number_in o → IsWhole d → IsWhole e → ((q : List ℕ) → view_at q e ≡ view_at q d) → vec_len e.lockers ≡ vec_len d.lockers → ((u : ℕ) → (standing u e).transaction ≡ cond (eqb u s) o (standing u d).transaction)
+pub ready-numbered : (d e : LockTable) (s n : ℕ) (o : Option Transaction) → n ≡ number_in o → IsWhole d → IsWhole e → ((q : List ℕ) → view_at q e ≡ view_at q d) → vec_len e.lockers ≡ vec_len d.lockers → length e.ended.places ≡ length d.ended.places → ((u : ℕ) → (standing u e).transaction ≡ cond (eqb u s) o (standing u d).transaction)
     → e.waits.rows ≡ d.waits.rows → vec_len e.waits.numbers ≡ vec_len d.waits.numbers → ((a : ℕ) → slice_index_or e.waits.numbers.items a 0 ≡ cond (eqb (a + 1) s) n (slice_index_or d.waits.numbers.items a 0)) → IsReadyTable d → IsReadyTable e
-ready-numbered d e s n o is w x views len transactions rows length numbers k = ready-transactions d e w x views len rows length (numbers-changed d e s n o is transactions numbers k) k
+ready-numbered d e s n o is w x views len sized transactions rows length numbers k = ready-transactions d e w x views len sized rows length (numbers-changed d e s n o is transactions numbers k) k
 
 -- the graph stays current when a transaction is doomed, which keeps its number
-pub ready-doomed : (d e : LockTable) (s : ℕ) → IsWhole d → IsWhole e → ((q : List ℕ) → view_at q e ≡ view_at q d) → vec_len e.lockers ≡ vec_len d.lockers → ((u : ℕ) → (standing u e).transaction ≡ cond (eqb u s) (doom (standing s d).transaction) (standing u d).transaction)
+pub ready-doomed : (d e : LockTable) (s : ℕ) → IsWhole d → IsWhole e → ((q : List ℕ) → view_at q e ≡ view_at q d) → vec_len e.lockers ≡ vec_len d.lockers → length e.ended.places ≡ length d.ended.places → ((u : ℕ) → (standing u e).transaction ≡ cond (eqb u s) (doom (standing s d).transaction) (standing u d).transaction)
     → e.waits ≡ d.waits → IsReadyTable d → IsReadyTable e
-ready-doomed d e s w x views len transactions waits k =
-    ready-transactions d e w x views len (ap (λ (y : Waits). y.rows) waits) (ap (λ (y : Waits). vec_len y.numbers) waits)
+ready-doomed d e s w x views len sized transactions waits k =
+    ready-transactions d e w x views len sized (ap (λ (y : Waits). y.rows) waits) (ap (λ (y : Waits). vec_len y.numbers) waits)
     (λ a. ap (λ (y : Waits). slice_index_or y.numbers.items a 0) waits ∙ (k.filled.numbers a ∙ (go a (eqb (a + 1) s) refl ∙ sym (ap number_in (transactions (a + 1)))))) k
   where
     same-number : (o : Option Transaction) → number_in o ≡ number_in (doom o)
@@ -224,10 +228,11 @@ ready-doomed d e s w x views len transactions waits k =
     go a false e = refl
 
 -- the graph of an empty table is current
-pub ready-new : (d : LockTable) → d.waits.rows.sessions ≡ vec_len d.lockers → IsSizedFor d.waits.rows.sessions d.waits → ((a b : ℕ) → pairs_of d.waits.rows a b ≡ false) → ((a : ℕ) → slice_index_or d.waits.numbers.items a 0 ≡ 0) → ((s : ℕ) → standing s d ≡ no_standing) → IsReadyTable d
-ready-new d long ready pairs numbers none = record {
+pub ready-new : (d : LockTable) → d.waits.rows.sessions ≡ vec_len d.lockers → length d.ended.places ≡ vec_len d.lockers → IsSizedFor d.waits.rows.sessions d.waits → ((a b : ℕ) → pairs_of d.waits.rows a b ≡ false) → ((a : ℕ) → slice_index_or d.waits.numbers.items a 0 ≡ 0) → ((s : ℕ) → standing s d ≡ no_standing) → IsReadyTable d
+ready-new d long listed ready pairs numbers none = record {
   long = long;
   ready = ready;
+  listed = listed;
   filled = record {
     pairs = λ a b. pairs a b ∙ sym (ap (λ (x : Standing). blocks_at (a + 1) (b + 1) d.cells.entries x.wanted) (none (a + 1)));
     numbers = λ a. numbers a ∙ sym (ap (λ (x : Standing). number_in x.transaction) (none (a + 1)));

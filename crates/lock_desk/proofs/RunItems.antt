@@ -200,4 +200,4 @@ run-granting d items from run g none rooms room = record {
 
 -- two changes that leave count, standings and views unchanged are one such change
 pub same-on : {d e f : LockTable} → IsSameSeen d e → IsSameSeen e f → IsSameSeen d f
-same-on h k = record { count = k.count ∙ h.count; standings_same = k.standings_same ∙ h.standings_same; views = λ q. k.views q ∙ h.views q }
+same-on h k = record { count = k.count ∙ h.count; standings_same = k.standings_same ∙ h.standings_same; views = λ q. k.views q ∙ h.views q; ended = k.ended ∙ h.ended }

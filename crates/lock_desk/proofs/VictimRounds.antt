@@ -99,7 +99,7 @@ pub record IsRound (n k s : ℕ) (st : rules.State) (d : LockTable) : Type 0 whe
   pub same : after_victims n s st ≡ after_victims (n - k) s state
 
 -- the same with another waits-for graph
-abbrev pub rewaited : (n k s : ℕ) (st : rules.State) (d : LockTable) (waits : Waits) → IsRound n k s st d → IsRound n k s st (record { count = d.count; lockers = d.lockers; cells = d.cells; waits = waits })
+abbrev pub rewaited : (n k s : ℕ) (st : rules.State) (d : LockTable) (waits : Waits) → IsRound n k s st d → IsRound n k s st (record { count = d.count; lockers = d.lockers; cells = d.cells; waits = waits; ended = d.ended })
 rewaited n k s st d waits r = record {
   state = r.state;
   shows = record { count = r.shows.count; transactions = r.shows.transactions; views = r.shows.views };

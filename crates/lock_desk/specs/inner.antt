@@ -8,6 +8,7 @@ pub mod ChildCounts
 pub mod LockLists
 pub mod Requests
 pub mod Lockers
+pub mod Ended
 pub mod Blocking
 pub mod Ready
 pub mod Changes

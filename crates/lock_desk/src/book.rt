@@ -1,21 +1,23 @@
 //! The book: the lock table with the history of its calls.
 
-ghost use Rattle.std.specs.Prelude.{◌≡◌, false, ◌+◌, ◌-◌, ◌<◌, ◌≤◌, List, [], ◌∷◌, ◌++◌, if◌then◌else◌, length, map, take, drop, min, IfOk, OnOk, OnErr};
+ghost use Rattle.std.specs.Prelude.{◌≡◌, ◌≢◌, ℕ, ◌↔◌, false, ◌+◌, ◌-◌, ◌<◌, ◌≤◌, List, [], ◌∷◌, ◌++◌, if◌then◌else◌, length, map, take, drop, min, Contains, slice_index, IfOk, OnOk, OnErr};
 ghost use Rattle.std.specs.List.{All};
 ghost use Rattle.lock_rules.specs.State.{held_mode, holders};
 ghost use Rattle.lock_rules.specs.Step.{step};
+ghost use Rattle.lock_rules.specs.Ended.{ended_waits};
 ghost use Rattle.lock_rules.specs.Waits.{waits_for};
 ghost use Rattle.lock_rules.specs.declared.calls.Entry.{Entry as EntryValue};
 ghost use Rattle.lock_rules.specs.Legal.{state_of, IsLegal};
 ghost use Rattle.lock_rules.specs.Laws.{DoesGrantStand, DoesDoomStand, DoesRequestStand};
 ghost use Rattle.lock_rules.specs.Lawful.{IsLawfulState};
-ghost use Rattle.lock_desk.specs.Batches.{IsItemWithin, entries_from, item_of};
+ghost use Rattle.lock_desk.specs.Batches.{IsItemWithin, entries_from, item_of, ended_waits_in};
 ghost use Rattle.lock_desk.specs.BookView.{IsEntryWithin, first_kept_by, kept_by};
 ghost use Rattle.lock_desk.specs.inner.Runs.{AreServed};
 ghost use Rattle.lock_desk.specs.declared.book.Item.{Item as ItemValue};
 
 use crate::lock_table::LockTable;
 use crate::lock_table::runs::{grant_run, resource_shared};
+use crate::recording::serve_recorded;
 use lock_modes::Mode;
 use lock_rules::{Call, Entry, MAX_SESSIONS, Reply, laws};
 use lock_tree::Resource;
@@ -26,8 +28,8 @@ use waits_for::Marks;
 
 /// A lock table with the history of the calls that it has served.
 ///
-/// Contracts see a book as its number of sessions, its history, and which entries of the history are kept in memory: those
-/// behind a cut, and of these the newest up to a bound. The history is always legal: each reply is the one that the
+/// Contracts see a book as its number of sessions, its history, which entries of the history are kept in memory: those
+/// behind a cut, and of these the newest up to a bound, and the sessions whose wait the last call has ended. The history is always legal: each reply is the one that the
 /// sequential lock manager of `lock_rules` gives in the state that the earlier entries lead to. Entries that are let go stay
 /// in the history that contracts see.
 #[derive(Drop)]
@@ -85,6 +87,7 @@ impl Book {
         ensures empty { IfOk result (λ book. book.history ≡ []) }
         ensures cut { IfOk result (λ book. book.cut ≡ 0) }
         ensures bound { IfOk result (λ book. book.bound ≡ NO_BOUND) }
+        ensures ended { IfOk result (λ book. book.ended ≡ []) }
     {
         let lock_table = LockTable::new(alloc, sessions)?;
         let marks = Marks::new(alloc, sessions)?;
@@ -204,6 +207,20 @@ impl Book {
         self.lock_table.waits_for(session, other)
     }
 
+    /// The sessions whose wait the last served call or batch has ended: their waiting request was granted, or their
+    /// transaction was made a deadlock victim. Each is there once, in no particular order.
+    ///
+    /// An engine wakes the threads of these sessions alone; a poll tells each of them which of the two it was. The session
+    /// of the call itself isn't among them: its reply tells. After a batch they are those whose wait one of its calls has
+    /// ended that was not their own, also those that wait again since. A batch of which nothing was served leaves none, a
+    /// call whose memory was refused leaves them as they were. That a call tells whose wait it ended is this project's own.
+    pub fn ended(&self) -> &[u16]
+        ensures ended { (u : ℕ) → Contains result.now u ↔ Contains self.now.ended u }
+        ensures once { (j k : ℕ) → j < k → k < length result.now → slice_index result.now j ≢ slice_index result.now k }
+    {
+        self.lock_table.ended()
+    }
+
     /// Replaces the contents of `list` by the sessions that hold `resource`, each with its mode, by session number.
     ///
     /// Fails with `NoMemory` if `list` would have to grow and memory is refused; its contents are unchanged then.
@@ -218,7 +235,7 @@ impl Book {
     ///
     /// The reply is the one that the sequential lock manager of `lock_rules` gives in the state that the history
     /// leads to. docs/RULES.md tells its rules, and which are from Gray, Lorie, Putzolu and Traiger (1976) and which
-    /// are this project's own choice. `session` is from 1 to `sessions()`.
+    /// are this project's own choice. `session` is from 1 to `sessions()`. `ended` tells whose wait the call has ended.
     ///
     /// Fails with `NoMemory` only if memory is refused. Every growth comes before the first change, so the book is
     /// unchanged then, and the same call may be made again. Begin, Poll, Release, Commit, Abort and refused calls
@@ -231,20 +248,18 @@ impl Book {
             IfOk result (λ reply. reply ≡ outcome.reply) }
         ensures entry { IfOk result (λ reply. self.new ≡ record self.old {
           history = self.old.history ++ record { session = session; call = call; reply = reply } ∷ [];
+          ended = ended_waits self.old.sessions session (state_of self.old.history) (step (state_of self.old.history) session call).state;
         }) }
         ensures err { OnErr result (self.new ≡ self.old) }
     {
-        // Inlined, so that a batch of one call is as quick as the call by itself.
-        self.history.reserve(1)?;
-        let asked = call;
-        let reply = self.lock_table.serve(session, call)?;
-        let entry = Entry {
-            session,
-            call: asked,
-            reply,
-        };
-        self.history.push_reserved(entry);
-        Ok(reply)
+        let listed = self.lock_table.clear_ended();
+        match serve_recorded(&mut self.lock_table, &mut self.history, session, call) {
+            Ok(reply) => Ok(reply),
+            Err(refused) => {
+                self.lock_table.restore_ended(listed);
+                Err(refused)
+            }
+        }
     }
 
     /// Serves the calls of `items` in order, and writes each reply into its item. Returns how many items it served.
@@ -257,13 +272,23 @@ impl Book {
         ensures count { result ≤ length items.old }
         ensures history { self.new ≡ record self.old {
           history = self.old.history ++ entries_from (state_of self.old.history) (take result items.old);
+          ended = ended_waits_in self.old.sessions (state_of self.old.history) (take result items.old);
         } }
         ensures items { items.new ≡ map item_of (entries_from (state_of self.old.history) (take result items.old)) ++ drop result items.old }
     {
+        self.forget_ended();
         if items.len() == 1 {
             return if self.serve_item(items, 0) { 1 } else { 0 };
         }
         self.serve_several(items)
+    }
+
+    /// Empties the list of ended waits.
+    #[inline(always)]
+    fn forget_ended(&mut self)
+        ensures { self.new ≡ record self.old { ended = [] } }
+    {
+        let _listed = self.lock_table.clear_ended();
     }
 
     /// Serves the items in order, run by run, and returns how many it served.
@@ -273,10 +298,11 @@ impl Book {
     #[inline(never)]
     fn serve_several(&mut self, items: &mut [Item]) -> usize
         requires within { All (IsItemWithin self.old.sessions) items.old }
+        requires none { self.old.ended ≡ [] }
         ensures sessions { self.new.sessions ≡ self.old.sessions }
         ensures cut { self.new.cut ≡ self.old.cut }
         ensures bound { self.new.bound ≡ self.old.bound }
-        ensures served { AreServed result items.old self.old.history self.new.history items.new }
+        ensures served { AreServed self.old.sessions result items.old self.old.history self.new.ended self.new.history items.new }
     {
         let mut served = 0;
         while served + 1 < items.len() {
@@ -309,11 +335,16 @@ impl Book {
         ensures bound { self.new.bound ≡ self.old.bound }
         ensures within { All (IsItemWithin self.new.sessions) items.new }
         ensures len { length items.new ≡ length items.old }
-        ensures served { (batch : List ItemValue) (start : List EntryValue) → AreServed at batch start self.old.history items.old
-            → AreServed (if result then at + 1 else at) batch start self.new.history items.new }
+        ensures served { (batch : List ItemValue) (start : List EntryValue) → AreServed self.old.sessions at batch start self.old.ended self.old.history items.old
+            → AreServed self.old.sessions (if result then at + 1 else at) batch start self.new.ended self.new.history items.new }
     {
         let asked = items[at];
-        let Ok(reply) = self.serve(asked.session, asked.call) else {
+        let Ok(reply) = serve_recorded(
+            &mut self.lock_table,
+            &mut self.history,
+            asked.session,
+            asked.call,
+        ) else {
             return false;
         };
         items[at].reply = Some(reply);
@@ -330,8 +361,8 @@ impl Book {
         ensures bound { self.new.bound ≡ self.old.bound }
         ensures within { All (IsItemWithin self.new.sessions) items.new }
         ensures further { result.out_of_memory ≡ false → from < result.served }
-        ensures served { (batch : List ItemValue) (start : List EntryValue) → AreServed from batch start self.old.history items.old
-            → AreServed result.served batch start self.new.history items.new }
+        ensures served { (batch : List ItemValue) (start : List EntryValue) → AreServed self.old.sessions from batch start self.old.ended self.old.history items.old
+            → AreServed self.old.sessions result.served batch start self.new.ended self.new.history items.new }
     {
         for served in from..upto {
             if !self.serve_item(items, served) {
@@ -360,8 +391,8 @@ impl Book {
         ensures bound { self.new.bound ≡ self.old.bound }
         ensures within { All (IsItemWithin self.new.sessions) items.new }
         ensures further { result.out_of_memory ≡ false → from < result.served }
-        ensures served { (batch : List ItemValue) (start : List EntryValue) → AreServed from batch start self.old.history items.old
-            → AreServed result.served batch start self.new.history items.new }
+        ensures served { (batch : List ItemValue) (start : List EntryValue) → AreServed self.old.sessions from batch start self.old.ended self.old.history items.old
+            → AreServed self.old.sessions result.served batch start self.new.ended self.new.history items.new }
     {
         let Some(run) = self
             .lock_table

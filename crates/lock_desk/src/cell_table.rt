@@ -7,9 +7,11 @@ ghost use Rattle.lock_desk.specs.declared.cells.Cell.{Cell as CellValue};
 ghost use Rattle.lock_desk.specs.inner.Cells.{no_view, view_of, has_session, mode_of, can_grant, is_granted, AreKeptCells, cell_at, cell_view, view_after_asking, view_after_giving_up, view_after_freeing, CellsBecame, ViewBecame, IsPlace, has_path, is_nobody, codes_unless_waited, view_with_holder, HasRoomAt};
 ghost use Rattle.lock_desk.specs.inner.Tables.{in_use, AreIdleFrom};
 ghost use Rattle.lock_desk.specs.inner.Lockers.{standings_of, AreSameOrGranted, DoAgree};
+ghost use Rattle.lock_desk.specs.inner.Ended.{DoList};
 ghost use Rattle.lock_desk.specs.inner.Blocking.{IsOfSessions, IsWritten, DoFollow};
 
 use crate::cells::{Cell, Claim, RequestStatus, SessionMode, is_same};
+use crate::ended::EndedWaits;
 use crate::lockers::Locker;
 use crate::promotion::promote;
 use crate::waits::{Waits, clear_queue_rows, update_rows, write_queue_rows};
@@ -298,12 +300,13 @@ impl CellTable {
 
     /// Gives up the lock or the request of `session` on `resource`, whose cell is at `place`.
     ///
-    /// Promotes the queue, rewrites the waits-for rows of the sessions that waited there or wait there now, and
-    /// vacates the cell if it is idle then. Does nothing without a cell.
+    /// Promotes the queue and lists in `ended` whom it grants, rewrites the waits-for rows of the sessions that waited
+    /// there or wait there now, and vacates the cell if it is idle then. Does nothing without a cell.
     pub(crate) fn free_at(
         &mut self,
         lockers: &mut Vec<Locker>,
         waits: &mut Waits,
+        ended: &mut EndedWaits,
         session: u16,
         place: Option<usize>,
         resource: Resource,
@@ -314,12 +317,14 @@ impl CellTable {
         requires agree { let left = view_after_giving_up claim session (cell_view resource self.old.entries) in
             DoAgree resource left (standings_of lockers.old.items) }
         requires long { waits.old.rows.sessions ≡ vec_len lockers.old }
+        requires sized { length ended.old.places ≡ vec_len lockers.old }
         requires within { IsOfSessions waits.old.rows.sessions (cell_view resource self.old.entries) }
         ensures cells { ViewBecame resource (view_after_freeing claim session) self.old.entries self.new.entries }
         ensures agree { let freed = view_after_freeing claim session (cell_view resource self.old.entries) in
             DoAgree resource freed (standings_of lockers.new.items) }
         ensures granted { AreSameOrGranted resource (standings_of lockers.old.items) (standings_of lockers.new.items) }
         ensures len { vec_len lockers.new ≡ vec_len lockers.old }
+        ensures listed { DoList 0 lockers.old.items lockers.new.items ended.old ended.new }
         ensures rows { let before = cell_view resource self.old.entries in
             DoFollow before (view_after_freeing claim session before) waits.old waits.new }
     {
@@ -332,7 +337,7 @@ impl CellTable {
         let cell = &mut self.cells[place];
         clear_queue_rows(waits, cell);
         cell.give_up(session, claim);
-        promote(cell, place, resource, lockers);
+        promote(cell, place, resource, lockers, ended);
         write_queue_rows(waits, cell);
         if cell.is_idle() {
             self.vacate(place);

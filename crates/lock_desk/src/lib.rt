@@ -11,17 +11,21 @@
 //!    - By session: a locker has the transaction, the waiting request and the locks of one session (`lockers.rt`). Its
 //!      list of locks counts, for each indexed lock, the children held below it (`locks.rt`).
 //!    - Across both: `promotion.rt` grants queued requests in a cell and in the lockers, `waits.rt` keeps the
-//!      waits-for graph, and `positions.rt` maps session numbers to list indices.
+//!      waits-for graph, `ended.rt` lists the sessions whose wait has ended, and `positions.rt` maps session numbers
+//!      to list indices.
 //! 2. The lock table: all cells, all lockers and the waits-for graph (`lock_table.rt`). `lock_table/calls.rt` serves
 //!    each kind of call: first the tests that can refuse it (`lock_table/refusals.rt`), then its effect.
-//!    `lock_table/requests.rt` has the effect of a lock or a conversion. `lock_table/runs.rt` grants several locks on
+//!    `lock_table/requests.rt` has the effect of a lock or a conversion, `lock_table/deadlocks.rt` resolves the
+//!    deadlocks that a wait closes. `lock_table/runs.rt` grants several locks on
 //!    one resource together, by the operations of `lock_table/grants.rt`.
-//! 3. The book: the lock table with its history (`book.rt`). It is all that callers see.
+//! 3. The book: the lock table with its history (`book.rt`). It is all that callers see. `recording.rt` serves one call and
+//!    adds it to the history.
 #![tactic(auto)]
 
 mod book;
 mod cell_table;
 mod cells;
+mod ended;
 mod holder_columns;
 mod holders;
 mod lock_table;
@@ -29,6 +33,7 @@ mod lockers;
 mod locks;
 mod positions;
 mod promotion;
+mod recording;
 mod waits;
 
 pub use book::{Book, Item};

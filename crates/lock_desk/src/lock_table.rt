@@ -1,20 +1,20 @@
 //! The lock table: all cells, all lockers and the waits-for graph, and the operations that change them together.
 
-ghost use Rattle.std.specs.Prelude.{◌≡◌, ℕ, ◌+◌, ◌-◌, ◌<◌, ◌≤◌, ◌&&◌, nat_le, List, None, is_some, if◌then◌else◌, map, length, IfOk, OnOk, OnErr, vec_len};
+ghost use Rattle.std.specs.Prelude.{◌≡◌, ◌≢◌, ◌↔◌, ℕ, ◌+◌, ◌-◌, ◌<◌, ◌≤◌, ◌&&◌, nat_le, List, None, is_some, if◌then◌else◌, map, length, Contains, slice_index, true, IfOk, OnOk, OnErr, vec_len};
 ghost use Rattle.waits_for.specs.Pairs.{pairs_of};
 ghost use Rattle.lock_rules.specs.declared.calls.Reply.TheVariants.{Waiting, Deadlock};
-ghost use Rattle.lock_rules.specs.State.{State, empty, doomed_in};
-ghost use Rattle.lock_rules.specs.Waits.{after_victims};
-ghost use Rattle.lock_rules.specs.Sound.{IsNumbered, IsSound};
+ghost use Rattle.lock_rules.specs.State.{empty, doomed_in};
 ghost use Rattle.lock_desk.specs.inner.Cells.{pair_of, IsPlace};
 ghost use Rattle.lock_desk.specs.declared.cells.Claim.TheVariants as claim;
 ghost use Rattle.lock_desk.specs.inner.ChildCounts.{has_child};
 ghost use Rattle.lock_desk.specs.inner.Lockers.{standing_of};
-ghost use Rattle.lock_desk.specs.inner.Changes.{view_at, standing, IsWhole, DoesKeep, mode_held, CanRelease, HasFreed, HasGivenBack, HasGivenBackAll, HasCancelled, HasDoomed, HasBegun, HasEnded};
+ghost use Rattle.lock_desk.specs.inner.Changes.{view_at, standing, with_listed, IsWhole, DoesKeep, mode_held, CanRelease, HasFreed, HasGivenBack, HasGivenBackAll, HasCancelled, HasBegun, HasEnded, HasListed};
+ghost use Rattle.lock_desk.specs.inner.Ended.{is_listed, waits_at};
 ghost use Rattle.lock_desk.specs.inner.Ready.{IsReadyTable};
 ghost use Rattle.lock_desk.specs.inner.Shows.{Shows};
 
 mod calls;
+mod deadlocks;
 mod grants;
 mod refusals;
 mod requests;
@@ -22,9 +22,10 @@ pub(crate) mod runs;
 
 use crate::cell_table::CellTable;
 use crate::cells::Claim;
+use crate::ended::EndedWaits;
 use crate::lockers::Locker;
 use crate::positions::position_of;
-use crate::waits::{Waits, has_edge, new_waits, set_number, victim};
+use crate::waits::{Waits, has_edge, new_waits, set_number};
 use lock_modes::Mode;
 use lock_rules::{MAX_LOCKS, MAX_SESSIONS, Reply};
 use lock_tree::Resource;
@@ -45,6 +46,8 @@ pub struct LockTable {
     cells: CellTable,
     /// The waits-for graph, and the number of each open transaction.
     waits: Waits,
+    /// The sessions whose wait the last call or batch has ended.
+    ended: EndedWaits,
 }
 
 impl LockTable {
@@ -56,8 +59,10 @@ impl LockTable {
         ensures whole { IfOk result IsWhole }
         ensures ready { IfOk result IsReadyTable }
         ensures lockers { IfOk result (λ lock_table. vec_len lock_table.lockers ≡ sessions) }
+        ensures none { IfOk result (λ lock_table. lock_table.ended.count ≡ 0) }
     {
         let waits = new_waits(alloc, sessions)?;
+        let ended = EndedWaits::new(alloc, sessions)?;
         let mut lockers = Vec::new(alloc);
         for _locker in 0..sessions {
             lockers.push(Locker::new(alloc))?;
@@ -67,7 +72,33 @@ impl LockTable {
             lockers,
             cells: CellTable::new(alloc),
             waits,
+            ended,
         })
+    }
+
+    /// The sessions whose wait has ended since the list was cleared.
+    pub(crate) fn ended(&self) -> &[u16]
+        ensures listed { (u : ℕ) → Contains result.now u ↔ (is_listed self.now.ended u ≡ true) }
+        ensures once { (j k : ℕ) → j < k → k < length result.now → slice_index result.now j ≢ slice_index result.now k }
+    {
+        self.ended.list()
+    }
+
+    /// Clears the list of ended waits, and returns how many sessions it had.
+    pub(crate) fn clear_ended(&mut self) -> u16
+        ensures count { result ≡ self.old.ended.count }
+        ensures few { result ≤ length self.new.ended.places }
+        ensures cleared { self.new ≡ with_listed 0 self.old }
+    {
+        self.ended.clear()
+    }
+
+    /// Lists again the `count` sessions that were listed before `clear_ended`, if no wait has ended since.
+    pub(crate) fn restore_ended(&mut self, count: u16)
+        requires { count ≤ length self.old.ended.places }
+        ensures { self.new ≡ with_listed count self.old }
+    {
+        self.ended.restore(count);
     }
 
     /// The locker of `session`.
@@ -153,6 +184,7 @@ impl LockTable {
         requires place { IsPlace resource self.old.cells.entries place }
         requires can { CanRelease session resource self.old }
         ensures freed { HasFreed claim.Lock session resource self.old self.new }
+        ensures listed { HasListed session self.old self.new }
         ensures kept { DoesKeep self.old self.new }
     {
         let locker = &mut self.lockers[position_of(session)];
@@ -160,6 +192,7 @@ impl LockTable {
         self.cells.free_at(
             &mut self.lockers,
             &mut self.waits,
+            &mut self.ended,
             session,
             place,
             resource,
@@ -177,6 +210,7 @@ impl LockTable {
         requires idle { (standing session self.old).wanted ≡ None }
         requires holds { 0 < length (standing session self.old).held }
         ensures back { HasGivenBack session self.old self.new }
+        ensures listed { HasListed session self.old self.new }
         ensures kept { DoesKeep self.old self.new }
     {
         let locker = &mut self.lockers[position_of(session)];
@@ -185,6 +219,7 @@ impl LockTable {
             self.cells.free_at(
                 &mut self.lockers,
                 &mut self.waits,
+                &mut self.ended,
                 session,
                 place,
                 last.resource,
@@ -204,6 +239,7 @@ impl LockTable {
         ensures locks { result ≡ length (standing session self.old).held }
         ensures none { length (standing session self.new).held ≡ 0 }
         ensures back { HasGivenBackAll session self.old self.new }
+        ensures listed { HasListed session self.old self.new }
         ensures kept { DoesKeep self.old self.new }
     {
         let locker = self.locker(session);
@@ -223,6 +259,7 @@ impl LockTable {
         requires room { self.old.count < 18446744073709551615 }
         ensures number { result ≡ self.old.count + 1 }
         ensures begun { HasBegun session self.old self.new }
+        ensures listed { HasListed session self.old self.new }
         ensures kept { DoesKeep self.old self.new }
     {
         self.count += 1;
@@ -232,27 +269,33 @@ impl LockTable {
         self.count
     }
 
-    /// Removes the request of `session`, if it waits, and promotes the queue that the request was in.
-    fn cancel(&mut self, session: u16)
+    /// Removes the request of `session`, if it waits, and promotes the queue that the request was in. Returns whether it
+    /// waited.
+    fn cancel(&mut self, session: u16) -> bool
         requires some { 1 ≤ session }
         requires within { session ≤ vec_len self.old.lockers }
         requires whole { IsWhole self.old }
         requires ready { IsReadyTable self.old }
+        ensures waited { result ≡ waits_at session self.old.lockers.items }
         ensures cancelled { HasCancelled session self.old self.new }
+        ensures listed { HasListed session self.old self.new }
         ensures kept { DoesKeep self.old self.new }
     {
         let locker = &mut self.lockers[position_of(session)];
-        if let Some(resource) = locker.cancel() {
-            let place = self.cells.place_of(resource);
-            self.cells.free_at(
-                &mut self.lockers,
-                &mut self.waits,
-                session,
-                place,
-                resource,
-                Claim::Request,
-            );
-        }
+        let Some(resource) = locker.cancel() else {
+            return false;
+        };
+        let place = self.cells.place_of(resource);
+        self.cells.free_at(
+            &mut self.lockers,
+            &mut self.waits,
+            &mut self.ended,
+            session,
+            place,
+            resource,
+            Claim::Request,
+        );
+        true
     }
 
     /// Ends the transaction of `session`, releases all its locks, and returns how many they were. The session must
@@ -266,6 +309,7 @@ impl LockTable {
         ensures locks { result ≡ length (standing session self.old).held }
         ensures few { result ≤ MAX_LOCKS }
         ensures ended { HasEnded session self.old self.new }
+        ensures listed { HasListed session self.old self.new }
         ensures kept { DoesKeep self.old self.new }
     {
         let locks = self.give_back_all(session);
@@ -285,49 +329,11 @@ impl LockTable {
         ensures locks { result ≡ length (standing session self.old).held }
         ensures few { result ≤ MAX_LOCKS }
         ensures ended { HasEnded session self.old self.new }
+        ensures listed { HasListed session self.old self.new }
         ensures kept { DoesKeep self.old self.new }
     {
         self.cancel(session);
         self.end(session)
-    }
-
-    /// Makes the transaction of `session` a deadlock's victim: removes its waiting request, and marks it doomed. It
-    /// keeps its locks.
-    fn doom(&mut self, session: u16)
-        requires some { 1 ≤ session }
-        requires within { session ≤ vec_len self.old.lockers }
-        requires whole { IsWhole self.old }
-        requires ready { IsReadyTable self.old }
-        ensures doomed { HasDoomed session self.old self.new }
-        ensures kept { DoesKeep self.old self.new }
-    {
-        self.cancel(session);
-        let locker = &mut self.lockers[position_of(session)];
-        locker.doom();
-    }
-
-    /// Dooms victims until `session` is on no cycle of the waits-for graph.
-    ///
-    /// Each victim is the youngest transaction on a cycle with `session`. A victim waited before and doesn't wait
-    /// any more, so there are at most as many victims as sessions, and the last round finds no cycle.
-    fn resolve_deadlocks(&mut self, session: u16)
-        requires some { 1 ≤ session }
-        requires within { session ≤ vec_len self.old.lockers }
-        requires whole { IsWhole self.old }
-        requires ready { IsReadyTable self.old }
-        ensures settled { (st : State) → IsSound st.table → IsNumbered st → Shows self.old st
-            → Shows self.new (after_victims (vec_len self.old.lockers + 1) session st) }
-        ensures whole { IsWhole self.new }
-        ensures ready { IsReadyTable self.new }
-        ensures count { self.new.count ≡ self.old.count }
-        ensures len { vec_len self.new.lockers ≡ vec_len self.old.lockers }
-    {
-        for _round in 0..self.lockers.len() + 1 {
-            let Some(chosen) = victim(&mut self.waits, session) else {
-                return;
-            };
-            self.doom(chosen);
-        }
     }
 
     /// The reply on the state of the session's transaction: `Deadlock` if it is a victim, `Waiting` if its request

@@ -36,3 +36,4 @@ pub mod Worked
 pub mod Updates
 pub mod RefusalNames
 pub mod OpNumbers
+pub mod Ended

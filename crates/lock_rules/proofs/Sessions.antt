@@ -55,12 +55,12 @@ begin-opens st s h = subst (λ (o : Outcome). (o.reply ≡ Began (st.count + 1))
 -- a poll
 
 -- the reply to a poll of a session with this transaction and this request
-abbrev told_of : Option Transaction → Option Claim → Reply
+abbrev pub told_of : Option Transaction → Option Claim → Reply
 told_of None r = Refused NoTransaction
 told_of (Some x) r = cond x.doomed Deadlock (cond (is_some r) Waiting Clear)
 
 -- a poll replies so
-poll-told : (st : State) (s : ℕ) → (step st s Poll).reply ≡ told_of (st.begun s) (request_of s st.table.requests)
+pub poll-told : (st : State) (s : ℕ) → (step st s Poll).reply ≡ told_of (st.begun s) (request_of s st.table.requests)
 poll-told st s = go (st.begun s) refl
   where
     go : (o : Option Transaction) → st.begun s ≡ o → (outcome_of (cond (not (is_some o)) (Some NoTransaction) None) st s Poll).reply ≡ told_of o (request_of s st.table.requests)

@@ -67,7 +67,7 @@ unserved u P t w n h = elim h [ inl a ↦ a | inr p ↦ absurd (none n p.1.waite
 -- promotions
 
 -- a grant leaves other sessions unchanged
-granted-other : (u : ℕ) (q : Claim) (t : Table) → eqb u q.session ≡ false → IsUnchanged u t (after_grant q.session q.resource q.mode t)
+pub granted-other : (u : ℕ) (q : Claim) (t : Table) → eqb u q.session ≡ false → IsUnchanged u t (after_grant q.session q.resource q.mode t)
 granted-other u q t n = record { held = λ x. mode_in-with_lock_other u q.session x q.resource q.mode t.held n; request = request_of-claims_but_other u q.session t.requests n }
 
 -- a grant of a session's request is a promotion of it

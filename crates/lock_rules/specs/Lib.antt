@@ -12,3 +12,4 @@ pub mod Examples
 pub mod Updates
 pub mod Names
 pub mod Kinds
+pub mod Ended

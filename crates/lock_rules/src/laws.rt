@@ -21,6 +21,7 @@ ghost use Rattle.lock_rules.specs.Legal.{Answered, IsLegal, state_of, asked_in, 
 ghost use Rattle.lock_rules.specs.Laws.{AreRepliesOfSteps, IsEntryOf, ArePlacesRising, IsRefusalExact, DoesRefusalKeep, IsGrantOf, DoesPromotionGrantLongest, IsFitExact, AreHoldersCompatible, DoesNobodyWaitNeedlessly, AreLocksUnderParents, AreRequestsUnderParents, AreChildrenHeld, IsAccessCompatible, DoesGrantStand, DoesDoomStand, DoesRequestStand, AreOwnersOpen, AreNumbersDistinct, AreNumbersCounted, AreWaitsExact, HasNoCircle, DoDoomedWaitForNothing, AreVictimsDetermined, AreHoldersListed, AreLocksOnce, IsOneRequestEach, AreLocksBounded};
 ghost use Rattle.lock_rules.specs.Effects.{DoesBeginOpen, DoesPollReport, IsLockAnswered, IsConvertAnswered, IsLockOfHeldConvert, IsGrantedHeld, IsConversionHeld, DoVictimsKeepTheirLocks, DoesDoomPromote, DoesReleaseTakeOneLock, DoesCommitTakeAllLocks, DoesAbortTakeAllLocks};
 ghost use Rattle.lock_rules.specs.Refusals.{refusals_of, AreRefusalsMeant, AreOthersAccepted, AreNumbersRising, DoTestsGiveRefusals, AreRefusalsLowest, AreConversionsUnbounded, DoesAbortNeedTransaction, IsClearCommitAccepted};
+ghost use Rattle.lock_rules.specs.Ended.{AreEndedListed, DoesNothingEndNone, AreEndedToldByPoll, AreOthersToldAsBefore};
 ghost use Rattle.lock_rules.specs.Lawful.{IsLawfulState};
 ghost use Rattle.lock_rules.specs.Examples.{with_reply, queue_in_order, promotion_stops, readers_together, promotion_in_order, intentions, refusals, down_the_tree, up_the_tree, release_promotes, release_of_one, asks_again, conversion_first, conversion_at_once, conversion_under_parent, abort_while_waiting, readers_that_convert, youngest_of_two, victim_in_the_way, conversions_that_meet, circle_through_the_queue, two_victims, begin_beside_others, polls, release_above_another, commit_of_four, conversion_to_the_upper_bound, conversion_needs_more_of_the_parent, parents_on_each_level, releases_promote_one_after_another, begins_again, polls_again, circle_of_five, three_victims, beside_the_circle};
 
@@ -257,6 +258,17 @@ pub fn victims_are_determined()
 pub fn victims_keep_their_locks()
     ensures keep { (history : List EntryValue) → DoVictimsKeepTheirLocks (state_of history) }
     ensures promotion { (st : State) → DoesDoomPromote st }
+{}
+
+/// The sessions whose wait a call has ended are those, other than its own, that had a waiting request before it and have none
+/// after it. A call after which all requests are as before has ended no wait. A session whose wait was ended is told so by a
+/// poll: Clear, and it holds what it asked for, or Deadlock. A poll tells every other session but the caller what it would
+/// have told it before the call.
+pub fn ended_waits_are_told_by_polls()
+    ensures listed { (n session : ℕ) (before after : State) → AreEndedListed n session before after }
+    ensures none { (st : State) → DoesNothingEndNone st }
+    ensures told { (history : List EntryValue) → AreEndedToldByPoll (state_of history) }
+    ensures others { (history : List EntryValue) → AreOthersToldAsBefore (state_of history) }
 {}
 
 /// Every state that a history leads to is lawful: all laws of tables and states hold in it, and those of the calls made

@@ -9,6 +9,8 @@ mod boards;
 #[cfg(test)]
 mod closing;
 #[cfg(test)]
+mod direct;
+#[cfg(test)]
 mod dropping;
 #[cfg(test)]
 mod hearing;
@@ -23,5 +25,7 @@ mod pieces;
 mod refusals;
 #[cfg(test)]
 mod steps;
+#[cfg(test)]
+mod telling;
 #[cfg(test)]
 mod threads;

@@ -20,6 +20,7 @@ pub(crate) fn database(number: u32) -> Result<Resource, Fail> {
 
 /// Opens an office. Tries a second time if memory is refused.
 pub(crate) fn new_office(alloc: Global, sessions: u16) -> Result<(Office, Vec<Session>), OpenFault>
+    ensures office { IfOk result (λ made. made.0.sessions ≡ sessions) }
     ensures sessions { IfOk result (λ made. made.1.items ≡ new_tickets made.0.id sessions sessions) }
     ensures ready { IfOk result (λ made. All (λ session. IsSessionOf made.0 session × IsIdle session) made.1.items) }
 {
@@ -166,7 +167,7 @@ fn collect_begun(rt: &impl Abort, office: &Office, only: &mut Session)
 }
 
 /// Closes the office with its only session, and expects the begin to be its whole history.
-fn want_one_begin(rt: &impl Abort, office: Office, only: Session, room: Vec<Session>)
+pub(crate) fn want_one_begin(rt: &impl Abort, office: Office, only: Session, room: Vec<Session>)
     requires ours { IsSessionOf office only }
     requires empty { room.items ≡ [] }
 {

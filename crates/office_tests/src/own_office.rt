@@ -23,6 +23,7 @@ pub fn poll_in_its_own_office(
     ensures second { IsSessionOf office.now second.new }
     ensures foreign { IsSessionOf other.now foreign.new }
 {
+    let _performed = office.perform(first, Call::Poll);
     let _posted = office.publish(first, Call::Poll);
     let _turn = office.serve(first);
     let answer = office.collect(first);

@@ -4,7 +4,7 @@ ghost use Rattle.std.specs.Prelude.{◌<◌, All, length};
 ghost use Rattle.combining.specs.Sessions.{IsSessionOf, IsIdle};
 
 use crate::offices::{answer, new_office, served_in_all};
-use combining::{Office, Posted, Session};
+use combining::{Office, Performed, Posted, Session};
 use lock_desk::{Call, Reply};
 use std::alloc::Global;
 use std::process::Abort;
@@ -21,6 +21,9 @@ pub(crate) enum Step {
     Collects(u64, Reply),
     /// Publishes this call, serves it in a pass that serves no other, and collects the answer with this place and this reply.
     CallsAlone(Call, u64, Reply),
+    /// Performs this call without publishing it, in a pass that serves this number of published calls. The answer has this
+    /// place and this reply.
+    PerformsAtOnce(Call, u64, Reply, u32),
     /// Polls in an open transaction, each time in a pass that serves no other call. The first poll has the first of these
     /// places, and the last poll has the place before the second one.
     PollsAlone(u64, u64),
@@ -61,6 +64,29 @@ fn call_alone(
     publish(rt, office, session, call);
     assert_eq!(rt; served_in_all(rt, office, session, starved), 1);
     assert_eq!(rt; office.collect(session), Some(answer(place, reply)));
+}
+
+/// Performs a call of an idle session without publishing it, and expects this answer and this number of published calls
+/// served.
+fn perform_at_once(
+    rt: &impl Abort,
+    office: &Office,
+    session: &mut Session,
+    call: Call,
+    place: u64,
+    reply: Reply,
+    served: u32,
+)
+    requires ours { IsSessionOf office.now session.old }
+    ensures ours { IsSessionOf office.now session.new }
+{
+    assert!(rt; session.is_idle());
+    let expected = Performed::Answered {
+        answer: answer(place, reply),
+        served,
+        starved: false,
+    };
+    assert_eq!(rt; office.perform(session, call), expected);
 }
 
 /// Polls at each place from `first` up to the one before `end`. Adds starved passes to `starved`.
@@ -127,6 +153,9 @@ fn perform_step(
         }
         Step::CallsAlone(call, place, reply) => call_alone(
             rt, office, session, call, place, reply, starved,
+        ),
+        Step::PerformsAtOnce(call, place, reply, served) => perform_at_once(
+            rt, office, session, call, place, reply, served,
         ),
         Step::PollsAlone(first, end) => poll_alone(rt, office, session, first, end, starved),
         Step::IsPending => find_nothing(rt, office, session, false),

@@ -3,7 +3,7 @@
 ghost use Rattle.std.specs.Prelude.{◌≡◌, All, IfOk, IfSome};
 ghost use Rattle.combining.specs.Sessions.{IsSessionOf, IsIdle};
 
-use combining::{Answer, Office, Session};
+use combining::{Answer, Office, Performed, Session};
 use lock_desk::{Book, Call, Entry, Mode, NoMemory, Reply, Resource, Why};
 use std::alloc::{AllocError, Global};
 use std::process::Abort;
@@ -21,6 +21,8 @@ enum Load {
     Polls,
     /// Random calls: begins, locks, polls, commits and aborts.
     Transactions,
+    /// The same random calls, each performed at once if no other session has the lock table.
+    TransactionsAtOnce,
 }
 
 /// A generator of the calls of one session, by pseudorandom numbers.
@@ -41,6 +43,14 @@ impl Caller {
         }
     }
 
+    /// Returns a generator of random calls.
+    pub(crate) fn transactions(seed: u64) -> Caller {
+        Caller {
+            load: Load::Transactions,
+            state: seed,
+        }
+    }
+
     /// Returns the next pseudorandom number, below 2^31.
     pub(crate) fn number(&mut self) -> u64 {
         self.state = self
@@ -51,10 +61,10 @@ impl Caller {
     }
 
     /// Returns the next call; locks are on three databases in X or S.
-    fn next(&mut self) -> Option<Call> {
-        let Load::Transactions = self.load else {
+    pub(crate) fn next(&mut self) -> Option<Call> {
+        if let Load::Polls = self.load {
             return Some(Call::Poll);
-        };
+        }
         let mode = if self.number() % 3 == 0 {
             Mode::X
         } else {
@@ -114,6 +124,32 @@ pub(crate) fn call(office: &Office, session: &mut Session, call: Call) -> Option
     None
 }
 
+/// Performs a call at once if no other session has the lock table, else publishes it and goes on as `call` does. Returns
+/// `None` if memory is refused for it, or after `TURNS` tries.
+fn call_at_once(office: &Office, session: &mut Session, asked: &Call) -> Option<Answer>
+    requires ours { IsSessionOf office.now session.old × IsIdle session.old }
+    ensures ours { IsSessionOf office.now session.new }
+    ensures idle { IfSome result (λ _. IsIdle session.new) }
+{
+    match office.perform(session, *asked) {
+        Performed::Answered { answer, .. } => Some(answer),
+        Performed::Starved => None,
+        Performed::Elsewhere => call(office, session, *asked),
+    }
+}
+
+/// Makes a call in the way of this load.
+fn call_as(office: &Office, session: &mut Session, load: Load, asked: &Call) -> Option<Answer>
+    requires ours { IsSessionOf office.now session.old × IsIdle session.old }
+    ensures ours { IsSessionOf office.now session.new }
+    ensures idle { IfSome result (λ _. IsIdle session.new) }
+{
+    if let Load::TransactionsAtOnce = load {
+        return call_at_once(office, session, asked);
+    }
+    call(office, session, *asked)
+}
+
 /// A session with the answers that it collected.
 #[derive(Drop)]
 struct Worked {
@@ -140,11 +176,10 @@ fn work(alloc: Global, office: &Office, session: Session, load: Load, calls: u64
         let Some(asked) = caller.next() else {
             break;
         };
-        let entered = asked;
-        let Some(answer) = call(office, &mut session, asked) else {
+        let Some(answer) = call_as(office, &mut session, load, &asked) else {
             break;
         };
-        if answers.push(with_answer(number, entered, answer)).is_err() {
+        if answers.push(with_answer(number, asked, answer)).is_err() {
             break;
         }
     }
@@ -294,6 +329,15 @@ fn want_replies_of_a_fresh_book(
 #[test]
 fn eight_threads_get_the_replies_of_one_book(rt: HostRuntime) -> Result<(), Fail> {
     let history = history_of_threads(&rt, rt.alloc(), 8, Load::Transactions, 1000)?;
+    assert_eq!(rt; history.len(), 8000);
+    want_replies_of_a_fresh_book(&rt, rt.alloc(), &history)?;
+    Ok(())
+}
+
+/// So are those of eight threads that perform their calls at once where they can.
+#[test]
+fn eight_threads_perform_their_calls_at_once(rt: HostRuntime) -> Result<(), Fail> {
+    let history = history_of_threads(&rt, rt.alloc(), 8, Load::TransactionsAtOnce, 1000)?;
     assert_eq!(rt; history.len(), 8000);
     want_replies_of_a_fresh_book(&rt, rt.alloc(), &history)?;
     Ok(())

@@ -2,7 +2,7 @@
 use Rattle.std.specs.Prelude.{◌≡◌, ◌≢◌, ℕ, ◌≤◌, ◌⊎◌, List, [], ◌∷◌, ◌++◌, length, take, ⊤}
 use Rattle.lock_rules.specs.Legal.{state_of}
 use Rattle.lock_desk.specs.declared.book.Item.{Item}
-use Rattle.lock_desk.specs.Batches.{entries_from}
+use Rattle.lock_desk.specs.Batches.{entries_from, ended_waits_in}
 use Rattle.lock_desk.specs.BookView.{BookView}
 use Rattle.pelgaisti_c.specs.declared.numbers.EntryNumbers.{EntryNumbers}
 use Rattle.pelgaisti_c.specs.declared.status.TheConstants.{NO_SUCH_SESSION, NO_SUCH_OP, NO_SUCH_MODE}
@@ -34,8 +34,9 @@ IsFirstFault book asked fault = (front : List EntryNumbers) × (bad : EntryNumbe
     × (asked ≡ front ++ bad ∷ rest) × ((items : List Item) × AreItems book front items) × IsItemFault book bad fault
 
 -- the first `count` calls were served, one after another: each of their numbers is now that of its entry in the history, which has
--- these entries at its end, and the numbers behind them are as they were
+-- these entries at its end, the numbers behind them are as they were, and the book tells whose wait these calls have ended
 abbrev pub IsBatchServed : BookView → BookView → List EntryNumbers → List EntryNumbers → ℕ → Type 0
 IsBatchServed before after asked answered count = (items : List Item) × AreItems before asked items × (count ≤ length asked)
     × (let entries = entries_from (state_of before.history) (take count items) in
-    (after ≡ record before { history = before.history ++ entries }) × (answered ≡ written numbers_of_entry count entries asked))
+    (after ≡ record before { history = before.history ++ entries; ended = ended_waits_in before.sessions (state_of before.history) (take count items) })
+    × (answered ≡ written numbers_of_entry count entries asked))

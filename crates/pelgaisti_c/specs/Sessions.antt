@@ -8,6 +8,7 @@ use Rattle.lock_rules.specs.Legal.{IsLegal, calls_of}
 use Rattle.publication.specs.Boards.{HasCallsOf, heard_from, publishing, enlisted, tried}
 use Rattle.publication.specs.Kinds.{longer, maxes}
 use Rattle.combining.specs.Sessions.{HasTriedToList, HasNothingPending, IsPassed, IsCollected, IsPendingServed, HasTakenPiece}
+use Rattle.combining.specs.Ended.{AreToldBy}
 use Rattle.pelgaisti_c.specs.declared.numbers.CallNumbers.{CallNumbers}
 use Rattle.pelgaisti_c.specs.declared.numbers.AnswerNumbers.{AnswerNumbers}
 use Rattle.pelgaisti_c.specs.declared.session_share.SessionShare.{SessionShare}
@@ -45,6 +46,13 @@ IsTurn before after served starved = IsPassed before.session after.session serve
     × (starved ≡ 0 → before.session.pending ≢ None → IsPendingServed after.session)
     × (starved ≡ 0 → (j : ℕ) → 0 < j → j ≤ before.sessions → heard_from before.session j ≤ length (calls_of j after.session.front))
     × IsSameOffice before after
+
+-- a pass as IsTurn says, and the sessions whose wait its calls have ended, each once: the array has their numbers at its front, and room
+-- for them all
+abbrev pub IsToldTurn : SessionShare → SessionShare → ℕ → ℕ → List ℕ → List ℕ → ℕ → Type 0
+IsToldTurn before after served starved places numbers count = IsTurn before after served starved
+    × ((told : List ℕ) × AreToldBy before.sessions served after.session.front told
+    × (numbers ≡ are_written (λ u. u) told places) × (count ≡ length told) × (count ≤ length places))
 
 -- the answer to the pending call is collected: the index of its entry in the history, and the reply there
 abbrev pub IsAnswered : SessionShare → SessionShare → AnswerNumbers → Type 0

@@ -8,7 +8,7 @@ ghost use Rattle.lock_rules.specs.Waits.{waits_for};
 ghost use Rattle.lock_rules.specs.declared.calls.Call.{Call};
 ghost use Rattle.lock_desk.specs.BookView.{BookView, first_kept_by, kept_by};
 ghost use Rattle.pelgaisti_c.specs.Numbers.{IsCall, IsCallFault, IsLevel, IsPath, numbers_of_entry, numbers_of_holder};
-ghost use Rattle.pelgaisti_c.specs.Calls.{IsSession, IsServed, are_written};
+ghost use Rattle.pelgaisti_c.specs.Calls.{IsSession, IsServed, AreListedOnce, are_written};
 ghost use Rattle.pelgaisti_c.specs.Batches.{AreItems, IsBatchServed, IsFirstFault};
 ghost use Rattle.lock_desk.specs.declared.book.Item.{Item};
 
@@ -30,7 +30,7 @@ pub extern "C" fn pelgaisti_raw_book_open(
     book: &mut BookHandle,
     sessions: u32,
 ) -> u32
-    ensures ok { result ≡ OK → (book.new.is_open ≡ 1) × (book.new.held.book ≡ Some (record { sessions = sessions; history = []; cut = 0; bound = NO_BOUND })) }
+    ensures ok { result ≡ OK → (book.new.is_open ≡ 1) × (book.new.held.book ≡ Some (record { sessions = sessions; history = []; cut = 0; bound = NO_BOUND; ended = [] })) }
     ensures failed { result ≢ OK → book.new ≡ book.old }
     ensures open { result ≡ OPEN ↔ (book.old.is_open ≡ 1) }
     ensures count { result ≡ NO_SUCH_COUNT → (book.old.is_open ≢ 1) × ¬ ((1 ≤ sessions) × (sessions ≤ MAX_SESSIONS)) }
@@ -200,6 +200,30 @@ pub extern "C" fn pelgaisti_raw_book_holders(
     let status = book_calls::holders(alloc, &boxed, resource, list, count);
     book.put(boxed);
     status
+}
+
+/// Writes the sessions whose wait the last call or batch has ended, each once, as many as `list` has room for, and the number
+/// of all of them to `count`.
+#[unsafe(no_mangle)]
+pub extern "C" fn pelgaisti_raw_book_ended(
+    alloc: Global,
+    book: &mut BookHandle,
+    list: &mut [u32],
+    count: &mut usize,
+) -> u32
+    ensures ok { result ≡ OK → (view : BookView) × (book.old.held.book ≡ Some view) × ((told : List ℕ) × AreListedOnce view.ended told
+        × (list.new ≡ are_written (λ u. u) told list.old) × (count.new ≡ length told)) }
+    ensures failed { result ≢ OK → (list.new ≡ list.old) × (count.new ≡ count.old) }
+    ensures same { (book.new.is_open ≡ book.old.is_open) × (book.new.held.book ≡ book.old.held.book) }
+    ensures closed { result ≡ CLOSED ↔ (book.old.is_open ≢ 1) }
+    ensures statuses { (result ≡ OK) ⊎ (result ≡ CLOSED) }
+{
+    let Some(boxed) = book.take(alloc) else {
+        return CLOSED;
+    };
+    book_calls::ended(&boxed, list, count);
+    book.put(boxed);
+    OK
 }
 
 /// Writes the number of calls that the book has served, also of those whose entries were let go.

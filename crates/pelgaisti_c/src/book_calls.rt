@@ -8,7 +8,7 @@ ghost use Rattle.lock_rules.specs.Waits.{waits_for as is_waited_for};
 ghost use Rattle.lock_rules.specs.declared.calls.Call.{Call as CallValue};
 ghost use Rattle.lock_desk.specs.BookView.{first_kept_by, kept_by};
 ghost use Rattle.pelgaisti_c.specs.Numbers.{IsCall, IsCallFault, IsLevel, IsPath, numbers_of_entry, numbers_of_holder};
-ghost use Rattle.pelgaisti_c.specs.Calls.{IsSession, IsServed, are_written};
+ghost use Rattle.pelgaisti_c.specs.Calls.{IsSession, IsServed, AreListedOnce, are_written};
 
 use crate::numbers::{
     CallNumbers, EntryNumbers, HolderNumbers, ReplyNumbers, ResourceNumbers, entry_numbers,
@@ -136,6 +136,26 @@ pub(crate) fn holders(
     write_holders(found.as_slice(), list);
     *count = found.len();
     OK
+}
+
+/// Writes the numbers of the first of these sessions, as many as `list` has room for.
+pub(crate) fn write_sessions(found: &[u16], list: &mut [u32])
+    ensures { list.new ≡ are_written (λ u. u) found.now list.old }
+{
+    let count = usize::min(found.len(), list.len());
+    for k in 0..count {
+        list[k] = u32::from(found[k]);
+    }
+}
+
+/// Writes the sessions whose wait the last call or batch has ended, as many as `list` has room for, and the number of all of
+/// them to `count`.
+pub(crate) fn ended(book: &Book, list: &mut [u32], count: &mut usize)
+    ensures { (told : List ℕ) × AreListedOnce book.now.ended told × (list.new ≡ are_written (λ u. u) told list.old) × (count.new ≡ length told) }
+{
+    let found = book.ended();
+    write_sessions(found, list);
+    *count = found.len();
 }
 
 /// Writes the numbers of the first entries, as many as `places` has room for. Returns the number of entries written.

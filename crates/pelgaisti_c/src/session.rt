@@ -1,18 +1,18 @@
 //! The exports over a session of an office.
 
-ghost use Rattle.std.specs.Prelude.{◌≡◌, ◌≢◌, ◌≤◌, ◌↔◌, ◌⊎◌, true, Some, None, length};
+ghost use Rattle.std.specs.Prelude.{◌≡◌, ◌≢◌, ◌<◌, ◌≤◌, ◌↔◌, ◌⊎◌, true, Some, None, length};
 ghost use Rattle.combining.specs.Sessions.{IsPendingServed};
 ghost use Rattle.lock_rules.specs.declared.calls.Call.{Call};
 ghost use Rattle.pelgaisti_c.specs.Numbers.{IsCall, IsCallFault};
-ghost use Rattle.pelgaisti_c.specs.Sessions.{IsPublished, IsTurn, IsElsewhere, IsAnswered, IsPieceTaken, IsHeard, IsRetired};
+ghost use Rattle.pelgaisti_c.specs.Sessions.{IsPublished, IsTurn, IsToldTurn, IsElsewhere, IsAnswered, IsPieceTaken, IsHeard, IsRetired};
 ghost use Rattle.pelgaisti_c.specs.declared.session_share.SessionShare.{SessionShare};
 
 use crate::numbers::{AnswerNumbers, CallNumbers, EntryNumbers, PassNumbers};
 use crate::session_calls;
 use crate::session_handle::SessionHandle;
 use crate::status::{
-    CLOSED, ELSEWHERE, NO_MEMORY, NO_SUCH_MODE, NO_SUCH_OP, NOT_SERVED, NOTHING_PENDING, OK,
-    OTHER_OFFICE, PENDING, RETIRED,
+    CLOSED, ELSEWHERE, NO_MEMORY, NO_ROOM, NO_SUCH_MODE, NO_SUCH_OP, NOT_SERVED, NOTHING_PENDING,
+    OK, OTHER_OFFICE, PENDING, RETIRED,
 };
 use std::alloc::Global;
 
@@ -66,6 +66,35 @@ pub extern "C" fn pelgaisti_raw_session_serve(
         return CLOSED;
     };
     let status = session_calls::serve(&mut share, pass);
+    session.put(share);
+    status
+}
+
+/// Serves as `pelgaisti_raw_session_serve` does, and writes the sessions whose wait the pass has ended, each once, to `list`,
+/// and how many they are to `count`. `list` has to have room for all sessions of the office.
+#[unsafe(no_mangle)]
+pub extern "C" fn pelgaisti_raw_session_serve_telling(
+    alloc: Global,
+    session: &mut SessionHandle,
+    pass: &mut PassNumbers,
+    list: &mut [u32],
+    count: &mut usize,
+) -> u32
+    ensures ok { result ≡ OK → (before after : SessionShare) × (session.old.held.share ≡ Some before) × (session.new.held.share ≡ Some after)
+        × IsToldTurn before after pass.new.served pass.new.starved list.old list.new count.new }
+    ensures failed { result ≢ OK → (pass.new ≡ pass.old) × (list.new ≡ list.old) × (count.new ≡ count.old) }
+    ensures open { session.new.is_open ≡ session.old.is_open }
+    ensures closed { result ≡ CLOSED ↔ (session.old.is_open ≢ 1) }
+    ensures room { result ≡ NO_ROOM ↔ ((share : SessionShare) × (session.old.held.share ≡ Some share) × (length list.old < share.sessions)) }
+    ensures kept { (result ≡ CLOSED) ⊎ ((result ≡ NO_ROOM) ⊎ (result ≡ NO_MEMORY)) → session.new.held.share ≡ session.old.held.share }
+    ensures elsewhere { result ≡ ELSEWHERE → (before after : SessionShare) × (session.old.held.share ≡ Some before) × (session.new.held.share ≡ Some after)
+        × IsElsewhere before after }
+    ensures statuses { (result ≡ OK) ⊎ ((result ≡ CLOSED) ⊎ ((result ≡ NO_ROOM) ⊎ ((result ≡ NO_MEMORY) ⊎ (result ≡ ELSEWHERE)))) }
+{
+    let Some(mut share) = session.take(alloc) else {
+        return CLOSED;
+    };
+    let status = session_calls::serve_telling(alloc, &mut share, pass, list, count);
     session.put(share);
     status
 }

@@ -1,23 +1,23 @@
 //! The calls of a session in numbers, on the share that a handle holds.
 
-ghost use Rattle.std.specs.Prelude.{◌≡◌, ◌≢◌, ◌<◌, ◌≤◌, ◌⊎◌, ◌↔◌, true, None, length};
+ghost use Rattle.std.specs.Prelude.{◌≡◌, ◌≢◌, ◌<◌, ◌≤◌, ◌⊎◌, ◌↔◌, ◌==◌, true, None, length};
 ghost use Rattle.combining.specs.Sessions.{IsPassed, IsPendingServed};
 ghost use Rattle.lock_rules.specs.Legal.{calls_of};
 ghost use Rattle.publication.specs.Boards.{HasCallsOf, heard_from};
 ghost use Rattle.lock_rules.specs.declared.calls.Call.{Call as CallValue};
 ghost use Rattle.pelgaisti_c.specs.Numbers.{IsCall, IsCallFault};
-ghost use Rattle.pelgaisti_c.specs.Sessions.{IsSameOffice, IsPublished, IsElsewhere, IsAnswered, IsPieceTaken, IsHeard, IsRetired};
+ghost use Rattle.pelgaisti_c.specs.Sessions.{IsSameOffice, IsPublished, IsElsewhere, IsToldTurn, IsAnswered, IsPieceTaken, IsHeard, IsRetired};
 
-use crate::book_calls::write_entries;
+use crate::book_calls::{write_entries, write_sessions};
 use crate::numbers::{
     AnswerNumbers, CallNumbers, EntryNumbers, PassNumbers, read_call, reply_numbers,
 };
 use crate::session_share::SessionShare;
 use crate::status::{
-    ELSEWHERE, NO_MEMORY, NO_SUCH_MODE, NO_SUCH_OP, NOT_SERVED, NOTHING_PENDING, OK, OTHER_OFFICE,
-    PENDING, RETIRED,
+    ELSEWHERE, NO_MEMORY, NO_ROOM, NO_SUCH_MODE, NO_SUCH_OP, NOT_SERVED, NOTHING_PENDING, OK,
+    OTHER_OFFICE, PENDING, RETIRED,
 };
-use combining::{Posted, Turn};
+use combining::{Ended, Posted, Turn};
 use std::alloc::Global;
 
 /// The session's record is on the publication list.
@@ -62,22 +62,14 @@ pub(crate) fn publish(share: &mut SessionShare, asked: &CallNumbers, posted: &mu
     OK
 }
 
-/// Tries once to become the combiner, and makes a pass if that succeeds.
-pub(crate) fn serve(share: &mut SessionShare, pass: &mut PassNumbers) -> u32
-    ensures passed { result ≡ OK → IsPassed share.old.session share.new.session pass.new.served }
+/// Writes the numbers of a pass. Returns the status of the turn.
+fn write_turn(turn: Turn, pass: &mut PassNumbers) -> u32
+    ensures ok { result ≡ OK → turn ≡ Turn.Pass pass.new.served (pass.new.starved == 1) }
     ensures starved { result ≡ OK → pass.new.starved ≤ 1 }
-    ensures put_back { result ≡ OK → (pass.new.starved ≡ 1) ↔ (share.old.session.put_backs < share.new.session.put_backs) }
-    ensures rises { (j : _) → heard_from share.old.session j ≤ heard_from share.new.session j }
-    ensures calls { HasCallsOf share.new.session.front share.new.session }
-    ensures own { result ≡ OK → pass.new.starved ≡ 0 → share.old.session.pending ≢ None → IsPendingServed share.new.session }
-    ensures heard { (j : _) → result ≡ OK → pass.new.starved ≡ 0 → 0 < j → j ≤ share.old.sessions
-        → heard_from share.old.session j ≤ length (calls_of j share.new.session.front) }
-    ensures same { IsSameOffice share.old share.new }
-    ensures failed { result ≢ OK → pass.new ≡ pass.old }
-    ensures elsewhere { result ≡ ELSEWHERE → IsElsewhere share.old share.new }
+    ensures failed { result ≢ OK → (turn ≡ Turn.Elsewhere) × (pass.new ≡ pass.old) }
     ensures statuses { (result ≡ OK) ⊎ (result ≡ ELSEWHERE) }
 {
-    match share.office.serve(&mut share.session) {
+    match turn {
         Turn::Elsewhere => ELSEWHERE,
         Turn::Pass {
             served,
@@ -94,6 +86,57 @@ pub(crate) fn serve(share: &mut SessionShare, pass: &mut PassNumbers) -> u32
             OK
         }
     }
+}
+
+/// Tries once to become the combiner, and makes a pass if that succeeds.
+pub(crate) fn serve(share: &mut SessionShare, pass: &mut PassNumbers) -> u32
+    ensures passed { result ≡ OK → IsPassed share.old.session share.new.session pass.new.served }
+    ensures starved { result ≡ OK → pass.new.starved ≤ 1 }
+    ensures put_back { result ≡ OK → (pass.new.starved ≡ 1) ↔ (share.old.session.put_backs < share.new.session.put_backs) }
+    ensures rises { (j : _) → heard_from share.old.session j ≤ heard_from share.new.session j }
+    ensures calls { HasCallsOf share.new.session.front share.new.session }
+    ensures own { result ≡ OK → pass.new.starved ≡ 0 → share.old.session.pending ≢ None → IsPendingServed share.new.session }
+    ensures heard { (j : _) → result ≡ OK → pass.new.starved ≡ 0 → 0 < j → j ≤ share.old.sessions
+        → heard_from share.old.session j ≤ length (calls_of j share.new.session.front) }
+    ensures same { IsSameOffice share.old share.new }
+    ensures failed { result ≢ OK → pass.new ≡ pass.old }
+    ensures elsewhere { result ≡ ELSEWHERE → IsElsewhere share.old share.new }
+    ensures statuses { (result ≡ OK) ⊎ (result ≡ ELSEWHERE) }
+{
+    let turn = share.office.serve(&mut share.session);
+    write_turn(turn, pass)
+}
+
+/// Serves as `serve` does, and writes the sessions whose wait the pass has ended to `list`, and how many they are to `count`.
+/// `list` has to have room for all sessions of the office.
+pub(crate) fn serve_telling(
+    alloc: Global,
+    share: &mut SessionShare,
+    pass: &mut PassNumbers,
+    list: &mut [u32],
+    count: &mut usize,
+) -> u32
+    ensures ok { result ≡ OK → IsToldTurn share.old share.new pass.new.served pass.new.starved list.old list.new count.new }
+    ensures failed { result ≢ OK → (pass.new ≡ pass.old) × (list.new ≡ list.old) × (count.new ≡ count.old) }
+    ensures elsewhere { result ≡ ELSEWHERE → IsElsewhere share.old share.new }
+    ensures room { result ≡ NO_ROOM ↔ (length list.old < share.old.sessions) }
+    ensures same { (result ≡ NO_ROOM) ⊎ (result ≡ NO_MEMORY) → share.new ≡ share.old }
+    ensures statuses { (result ≡ OK) ⊎ ((result ≡ NO_ROOM) ⊎ ((result ≡ NO_MEMORY) ⊎ (result ≡ ELSEWHERE))) }
+{
+    if list.len() < usize::from(share.sessions) {
+        return NO_ROOM;
+    }
+    let Ok(mut ended) = Ended::new(alloc, share.sessions) else {
+        return NO_MEMORY;
+    };
+    let turn = share.office.serve_telling(&mut share.session, &mut ended);
+    let status = write_turn(turn, pass);
+    if status == OK {
+        let told = ended.sessions();
+        write_sessions(told, list);
+        *count = told.len();
+    }
+    status
 }
 
 /// Takes the oldest entries of the history that the lock table keeps, as many as `places` has room for, and writes them there,

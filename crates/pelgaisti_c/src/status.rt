@@ -55,3 +55,6 @@ pub const COPIED: u32 = 16;
 
 /// The entry at this place of the history was let go. (17 and 18 are statuses of the header's own functions.)
 pub const LET_GO: u32 = 19;
+
+/// The array has room for fewer sessions than the office has.
+pub const NO_ROOM: u32 = 20;

@@ -1,5 +1,5 @@
 -- What each kind of step does to the history.
-use Rattle.std.proofs.Common.{◌≡◌, ◌≢◌, ℕ, ◌<◌, ◌==◌, true, false, Option, Some, List, [], ◌∷◌, ◌++◌, length, get_or, refl, sym, ap, subst, ◌∙◌, arith}
+use Rattle.std.proofs.Common.{◌≡◌, ◌≢◌, ℕ, ◌<◌, ◌==◌, true, false, Option, Some, None, List, [], ◌∷◌, ◌++◌, length, get_or, refl, sym, ap, subst, ◌∙◌, arith}
 use mathlib.Core.Option as opt
 use mathlib.Core.Logic.{dite}
 use native.Mathlib.Decide.{ℕ_discrete}
@@ -12,11 +12,12 @@ use Rattle.lock_rules.specs.declared.calls.Reply.{Reply}
 use Rattle.lock_rules.specs.declared.calls.Reply.TheVariants.{Clear}
 use Rattle.lock_rules.specs.declared.calls.Entry.{Entry}
 use Rattle.publication.specs.Words.{word_of, session_of_word, FREE, POSTED, SERVED, CLOSED, EMPTY}
-use Rattle.publication.specs.Views.{Own, entry, asks}
-use Rattle.publication.specs.Rule.{BoardState, word, home, seat, IsOrderly}
-use Rattle.publication.specs.Kinds.{Seated, started, asked, posting, linking, enlisting, losing_head, HasTaken, seizing, releasing, noted, routing, bypassing, none_unlinked, opened_in, opening, in_hand, called, call_at, replied, answering, putting_back, longer, learning, retiring, leaving}
+use Rattle.publication.specs.Views.{Own, entry, answer, asks}
+use Rattle.publication.specs.Rule.{blank, BoardState, word, home, seat, IsOrderly}
+use Rattle.publication.specs.Kinds.{Seated, started, asked, posting, linking, enlisting, losing_head, HasTaken, seizing, releasing, noted, routing, bypassing, none_unlinked, opened_in, opening, in_hand, called, call_at, replied, answering, putting_back, entering, longer, learning, retiring, leaving}
+use Rattle.publication.specs.Exclusion.{IsSeated}
 use Rattle.publication.specs.BoardHistory.{history_in}
-use Rattle.publication.specs.Runs.{StepName, start, post, look_at_head, link, enlist, look_for_reply, take_reply, look_at_lock, seize, release, walk, walk_on, unlink, mark_out, relink, look_at_record, open_record, lay, pick, answer_record, put_back, learn, compare, retire, leave, kind_of, LaysDownBook, StepRequires, CarriesOnlyItsOwn}
+use Rattle.publication.specs.Runs.{StepName, start, post, look_at_head, link, enlist, look_for_reply, take_reply, look_at_lock, seize, release, walk, walk_on, unlink, mark_out, relink, look_at_record, open_record, lay, pick, answer_record, put_back, enter, learn, compare, retire, leave, kind_of, LaysDownBook, StepRequires, CarriesOnlyItsOwn}
 use Rattle.publication.specs.declared.view.View.{View}
 use Rattle.publication.specs.declared.slot.Load.{Load}
 use Rattle.publication.specs.declared.slot.SlotValue.{SlotValue}
@@ -104,34 +105,35 @@ module _ (s : BoardState) (o : IsOrderly s) (at put id first second : ℕ) (m n 
       let len = length-begins m.0.front f k.mine in
       ap (λ (x : Seated). x.0.front) e ∙ (prefix_whole f o.history k.begins (omega (arith, len, ap (λ (l : List Entry). length l) whole)) ∙ sym whole))
 
-  -- No kind of step but the answer changes the history.
-  pub unchanged : (name : StepName) → name ≢ answer_record → StepRequires name at m → kind_of name (step (length s.homes) at first second opt.none) m found n → Same
-  unchanged start other asks told = calmly (started m.0) _ told refl refl
-  unchanged post other asks told = calmly (posting m.0 (asked m.1) (found == EMPTY)) _ told refl refl
-  unchanged look_at_head other asks told = same told.0
-  unchanged link other asks told = calmly (linking m.0 first) _ told refl refl
-  unchanged enlist other asks told = dite (ℕ_discrete found first) (λ e. calmly (enlisting m.0) _ (told.0 e) refl refl) (λ ne. calmly (losing_head m.0) _ (told.1 ne).0 refl refl)
-  unchanged look_for_reply other asks told = same told.0
-  unchanged take_reply other asks told = dite (ℕ_discrete found SERVED) (λ e. let x = told.0 e in taken asks e x.0 x.1 x.2) (λ ne. same (told.1 ne).0)
-  unchanged look_at_lock other asks told = same told.0
-  unchanged seize other asks told = dite (ℕ_discrete found FREE) (λ e. let x = told.0 e in seized asks e x.0 x.1) (λ ne. same (told.1 ne).0)
-  unchanged release other asks told = released asks.0 asks.1 told
-  unchanged walk other asks told = calmly (routing m.0 told.0) _ told.1 refl refl
-  unchanged walk_on other asks told = same told.0
-  unchanged unlink other asks told = calmly (bypassing m.0 (session_of_word at)) _ told refl refl
-  unchanged mark_out other asks told = dite (ℕ_discrete found EMPTY) (λ e. calmly (none_unlinked m.0) _ (told.0 e) refl refl)
+  -- No kind of step but the answer and the direct entry changes the history.
+  pub unchanged : (name : StepName) → name ≢ answer_record → ((call : Call) (reply : Reply) → name ≢ enter call reply) → StepRequires name at m → kind_of name (step (length s.homes) at first second opt.none) m found n → Same
+  unchanged start other direct asks told = calmly (started m.0) _ told refl refl
+  unchanged post other direct asks told = calmly (posting m.0 (asked m.1) (found == EMPTY)) _ told refl refl
+  unchanged look_at_head other direct asks told = same told.0
+  unchanged link other direct asks told = calmly (linking m.0 first) _ told refl refl
+  unchanged enlist other direct asks told = dite (ℕ_discrete found first) (λ e. calmly (enlisting m.0) _ (told.0 e) refl refl) (λ ne. calmly (losing_head m.0) _ (told.1 ne).0 refl refl)
+  unchanged look_for_reply other direct asks told = same told.0
+  unchanged take_reply other direct asks told = dite (ℕ_discrete found SERVED) (λ e. let x = told.0 e in taken asks e x.0 x.1 x.2) (λ ne. same (told.1 ne).0)
+  unchanged look_at_lock other direct asks told = same told.0
+  unchanged seize other direct asks told = dite (ℕ_discrete found FREE) (λ e. let x = told.0 e in seized asks e x.0 x.1) (λ ne. same (told.1 ne).0)
+  unchanged release other direct asks told = released asks.0 asks.1 told
+  unchanged walk other direct asks told = calmly (routing m.0 told.0) _ told.1 refl refl
+  unchanged walk_on other direct asks told = same told.0
+  unchanged unlink other direct asks told = calmly (bypassing m.0 (session_of_word at)) _ told refl refl
+  unchanged mark_out other direct asks told = dite (ℕ_discrete found EMPTY) (λ e. calmly (none_unlinked m.0) _ (told.0 e) refl refl)
       (λ ne. dite (ℕ_discrete found CLOSED) (λ e. calmly (none_unlinked m.0) _ (told.1 e) refl refl) (λ nc. same (told.2 ne nc)))
-  unchanged relink other asks told = calmly _ _ told refl refl
-  unchanged look_at_record other asks told = same told.0
-  unchanged open_record other asks told = dite (ℕ_discrete found POSTED) (λ e. let x = told.0 e in calmly (opening m.0 (session_of_word at) x.0) _ x.1 (sym asks) refl) (λ ne. same (told.1 ne).0)
-  unchanged lay other asks told = calmly (in_hand m.0 0) _ told (sym asks) refl
-  unchanged pick other asks told = calmly (in_hand m.0 (session_of_word at)) _ told (sym asks) refl
-  unchanged answer_record other asks told = absurd (other refl)
-  unchanged put_back other asks told = calmly (putting_back m.0 m.0.combiner.hand) _ told (sym asks) refl
-  unchanged learn other asks told = learns_no_more told.0
-  unchanged compare other asks told = same told.0
-  unchanged retire other asks told = calmly (retiring m.0) _ told refl refl
-  unchanged leave other asks told = calmly (leaving m.0) _ told refl refl
+  unchanged relink other direct asks told = calmly _ _ told refl refl
+  unchanged look_at_record other direct asks told = same told.0
+  unchanged open_record other direct asks told = dite (ℕ_discrete found POSTED) (λ e. let x = told.0 e in calmly (opening m.0 (session_of_word at) x.0) _ x.1 (sym asks) refl) (λ ne. same (told.1 ne).0)
+  unchanged lay other direct asks told = calmly (in_hand m.0 0) _ told (sym asks) refl
+  unchanged pick other direct asks told = calmly (in_hand m.0 (session_of_word at)) _ told (sym asks) refl
+  unchanged answer_record other direct asks told = absurd (other refl)
+  unchanged put_back other direct asks told = calmly (putting_back m.0 m.0.combiner.hand) _ told (sym asks) refl
+  unchanged (enter call reply) other direct asks told = absurd (direct call reply refl)
+  unchanged learn other direct asks told = learns_no_more told.0
+  unchanged compare other direct asks told = same told.0
+  unchanged retire other direct asks told = calmly (retiring m.0) _ told refl refl
+  unchanged leave other direct asks told = calmly (leaving m.0) _ told refl refl
 
   -- The answer appends its entry to the history.
   pub joins : (call : Call) → m.0.combiner.has_book ≡ true → opened_in m.0 m.0.combiner.hand ≡ Some call
@@ -147,3 +149,42 @@ module _ (s : BoardState) (o : IsOrderly s) (at put id first second : ℕ) (m n 
       let k = opened_of s o id m.0 me m.0.combiner.hand call (there_at m.0.combiner.opened m.0.combiner.hand call opened) in
       let f = k.call_of in
       (f.0, ap (λ (w : Own). w.pending) (o.waits m.0.combiner.hand (λ none. let g = f.1 in cc (g, none))) ∙ f.1)
+
+  -- A direct entry appends its entry to the history.
+  pub enters-history : (call : Call) (reply : Reply) → m.0.combiner.has_book ≡ true → n ≡ (entering m.0 call reply, m.1) → p.history ≡ o.history ++ entry m.0.number call reply ∷ []
+  enters-history call reply has e =
+      let whole : m.0.front ≡ o.history = whole_of s o id m.0 me has in
+      knows (ap (λ (x : Seated). x.0.combiner.has_book) e ∙ has) ∙ (ap (λ (x : Seated). x.0.front) e ∙ ap (λ (l : List Entry). l ++ entry m.0.number call reply ∷ []) whole)
+
+  -- Its session is the one that the lock word names, before and after.
+  pub names-combiner : m.0.combiner.has_book ≡ true → word s 0 ≡ m.0.number
+  names-combiner has = let b = book_of s o id m.0 me has in b.lock_is ∙ sym b.named
+
+  pub still-names : (call : Call) (reply : Reply) → m.0.combiner.has_book ≡ true → n ≡ (entering m.0 call reply, m.1) → word t 0 ≡ m.0.number
+  still-names call reply has e =
+      let b = book_of s o id m.0 me has in
+      (p.books id (ap (λ (x : View). x.combiner.has_book) (seat_after ∙ ap (λ (x : Seated). x.0) e) ∙ has)).lock_is ∙ sym b.named
+
+  -- Its session has no call pending before or after, and has collected the answer then.
+  pub seated-before : m.0.combiner.has_book ≡ true → m.0.own.pending ≡ None → IsSeated s m.0.number m.0.own.collected None
+  seated-before has none =
+      let b = book_of s o id m.0 me has in
+      let here : seat s m.0.number ≡ m.0 = ap (seat s) b.named ∙ (at_there s.views id m.0 blank me).0 in
+      record {
+        some = omega (arith, b.session, b.named);
+        named = ap (λ (x : View). x.number) here;
+        answers_are = ap (λ (x : View). x.own.collected) here;
+        pending_is = ap (λ (x : View). x.own.pending) here ∙ none;
+      }
+
+  pub seated-after : (call : Call) (reply : Reply) → m.0.combiner.has_book ≡ true → m.0.own.pending ≡ None → n ≡ (entering m.0 call reply, m.1)
+      → IsSeated t m.0.number (m.0.own.collected ++ answer (length o.history) call reply ∷ []) None
+  seated-after call reply has none e =
+      let b = book_of s o id m.0 me has in
+      let here : seat t m.0.number ≡ entering m.0 call reply = ap (seat t) b.named ∙ (seat_after ∙ ap (λ (x : Seated). x.0) e) in
+      record {
+        some = omega (arith, b.session, b.named);
+        named = ap (λ (x : View). x.number) here;
+        answers_are = ap (λ (x : View). x.own.collected) here ∙ ap (λ (l : List Entry). m.0.own.collected ++ answer (length l) call reply ∷ []) b.whole;
+        pending_is = ap (λ (x : View). x.own.pending) here ∙ none;
+      }

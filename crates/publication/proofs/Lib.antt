@@ -15,6 +15,7 @@ pub mod ListKinds
 pub mod UnlinkKinds
 pub mod LockKinds
 pub mod RecordKinds
+pub mod DirectEntries
 pub mod NewBoards
 pub mod LongerFronts
 pub mod ChangedViews

@@ -1,5 +1,5 @@
 -- The pieces of the history that sessions took: which are a session's, and that no step but a release adds any.
-use Rattle.std.proofs.Common.{◌≡◌, ◌≢◌, ℕ, ◌+◌, ◌<◌, ◌≤◌, ◌==◌, true, false, cond, List, [], ◌∷◌, ◌++◌, length, filter, get_or, set, refl, sym, ap, ◌∙◌, subst, arith, append-nil, take-append-drop}
+use Rattle.std.proofs.Common.{◌≡◌, ◌≢◌, ℕ, ◌<◌, ◌≤◌, ◌==◌, true, false, List, [], ◌∷◌, ◌++◌, length, get_or, refl, sym, ap, ◌∙◌, subst, arith, append-nil}
 use Rattle.std.specs.Prelude.{All}
 use Rattle.std.proofs.lemmas.Bool.Decides.{nat_tests}
 use Rattle.std.proofs.lemmas.List.Elements.{All-append, All-head, All-tail, filter-append}
@@ -9,7 +9,7 @@ use lib.ListN.{get_elem?}
 use Rattle.publication.specs.Words.{FREE}
 use Rattle.publication.specs.Pieces.{pieces_of, HasAdded, added}
 use Rattle.publication.specs.Views.{Handed}
-use Rattle.publication.specs.Rule.{blank, BoardState, word, home, seat, pieces_in, IsOfSession, HasPieces, ArePieces}
+use Rattle.publication.specs.Rule.{BoardState, word, home, seat, pieces_in, IsOfSession, HasPieces, ArePieces}
 use Rattle.publication.specs.declared.piece.Piece.{Piece}
 use Rattle.publication.specs.declared.view.View.{View}
 

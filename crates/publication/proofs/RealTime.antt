@@ -1,11 +1,13 @@
--- Runs: the history only grows, and calls published after a state get places behind its history.
-use Rattle.std.proofs.Common.{◌≡◌, ◌≢◌, ◌⊎◌, inl, inr, ℕ, zero, suc, ◌+◌, ◌<◌, ◌≤◌, cond, eqb, is_some, Bool, true, false, Option, Some, List, [], ◌∷◌, ◌++◌, length, get_or, set, slice_get, refl, sym, ap, subst, ◌∙◌, arith, append_assoc, length-append, Contains}
+-- Runs: the history only grows, and calls published or entered directly after a state get places behind its history.
+use Rattle.std.proofs.Common.{◌≡◌, ◌≢◌, ◌⊎◌, inl, inr, ℕ, zero, suc, ◌+◌, ◌<◌, ◌≤◌, cond, eqb, is_some, Bool, true, false, Option, Some, None, List, [], ◌∷◌, ◌++◌, length, get_or, set, slice_get, refl, sym, ap, subst, ◌∙◌, arith, append_assoc, length-append, Contains}
 use mathlib.Core.Option as opt
 use mathlib.Core.Logic.{dite}
 use mathlib.Core.List.{IsPrefix}
 use native.Mathlib.Decide.{ℕ_discrete}
 use lib.ListN.{get_elem?}
 use Rattle.atomic_table.specs.Table.{stepped}
+use Rattle.lock_rules.specs.declared.calls.Call.{Call}
+use Rattle.lock_rules.specs.declared.calls.Reply.{Reply}
 use Rattle.lock_rules.specs.declared.calls.Entry.{Entry}
 use Rattle.lock_rules.specs.Legal.{Answered, calls_from, calls_of}
 use Rattle.lock_rules.proofs.Members.{Member, contains-member, member-contains}
@@ -15,15 +17,15 @@ use Rattle.publication.specs.Views.{Pending, IsAccountedIn, entry, answer}
 use Rattle.publication.specs.Rule.{blank, BoardState, word, home, seat, own_at, IsOrderly}
 use Rattle.publication.specs.List.{IsRuled}
 use Rattle.publication.specs.Kinds.{replied}
-use Rattle.publication.specs.Exclusion.{HasCollected}
-use Rattle.publication.specs.BoardHistory.{history_of, IsAppended, IsAccounted}
-use Rattle.publication.specs.Runs.{StepName, answer_record, IsStep, IsSeatSplit, IsSeatJoin, IsMove, IsRun, stop, move, calls_published, RespectsRealTime}
+use Rattle.publication.specs.Exclusion.{IsSeated, HasCollected}
+use Rattle.publication.specs.BoardHistory.{history_of, IsAppended, IsEnteredDirectly, IsAccounted}
+use Rattle.publication.specs.Runs.{StepName, answer_record, enter, IsStep, IsSeatSplit, IsSeatJoin, IsMove, IsRun, stop, move, calls_made, RespectsRealTime}
 use Rattle.publication.specs.declared.view.View.{View}
 use Rattle.publication.proofs.Lists.{at_there, each_set, each_snoc, prefix_self, prefix_trans}
 use Rattle.publication.proofs.Accounts.{account-of}
 use Rattle.publication.proofs.ToldTogether.{own-of}
 use Rattle.publication.proofs.BoardHistory.{is-history, same-holder, same-home}
-use Rattle.publication.proofs.HistorySteps.{unchanged, joins, waits-for}
+use Rattle.publication.proofs.HistorySteps.{unchanged, joins, waits-for, enters-history, names-combiner, still-names, seated-before, seated-after}
 
 -- Moves that change views alone.
 
@@ -95,12 +97,12 @@ joined-unchanged s t o p c = (subst (λ (x : BoardState). (q : IsOrderly x) → 
 
 -- Steps, and the history that the states determine.
 
-pub step-unchanged : (name : StepName) (s t : BoardState) → name ≢ answer_record → IsRuled s → IsRuled t → IsStep name s t → history_of t ≡ history_of s
-step-unchanged name s t other r q c = sym (is-history t q.records) ∙ (go q.records ∙ is-history s r.records)
+pub step-unchanged : (name : StepName) (s t : BoardState) → name ≢ answer_record → ((call : Call) (reply : Reply) → name ≢ enter call reply) → IsRuled s → IsRuled t → IsStep name s t → history_of t ≡ history_of s
+step-unchanged name s t other direct r q c = sym (is-history t q.records) ∙ (go q.records ∙ is-history s r.records)
   where
     go : (p : IsOrderly t) → p.history ≡ r.records.history
     go p = (subst (λ (x : BoardState). (p : IsOrderly x) → p.history ≡ r.records.history) (sym c.is)
-        (λ p. unchanged s r.records c.at c.put c.id c.first c.second c.before c.after c.act p c.seated c.out c.valid c.carried name other c.asked c.told)) p
+        (λ p. unchanged s r.records c.at c.put c.id c.first c.second c.before c.after c.act p c.seated c.out c.valid c.carried name other direct c.asked c.told)) p
 
 pub step-joins : (s t : BoardState) → IsRuled s → IsRuled t → IsStep answer_record s t → (e : Entry) × IsAppended s t e
 step-joins s t r q c =
@@ -123,9 +125,41 @@ step-joins s t r q c =
     go p = (subst (λ (x : BoardState). (p : IsOrderly x) → p.history ≡ r.records.history ++ entry c.before.0.combiner.hand c.asked.1.0 (replied c.before.1) ∷ []) (sym c.is)
         (λ p. joins s r.records c.at c.put c.id c.first c.second c.before c.after c.act p c.seated c.out c.valid c.carried c.asked.1.0 c.asked.0 c.asked.1.1 c.told.0)) p
 
+pub step-enters : (call : Call) (reply : Reply) (s t : BoardState) → IsRuled s → IsRuled t → IsStep (enter call reply) s t → (session : ℕ) × IsEnteredDirectly s t (entry session call reply)
+step-enters call reply s t r q c =
+    let o = r.records in
+    let m = c.before.0 in
+    let has = c.asked.1 in
+    let none = c.asked.2 in
+    let e : Entry = entry m.number call reply in (
+      m.number,
+      record {
+        history = sym (is-history t q.records) ∙ (go q.records ∙ ap (λ (l : List Entry). l ++ e ∷ []) (is-history s o));
+        combiner = names-combiner s o c.at c.put c.id c.first c.second c.before c.after c.act (moved q.records) c.seated c.out c.valid c.carried has;
+        still = subst (λ (x : BoardState). word x 0 ≡ m.number) (sym c.is)
+            (still-names s o c.at c.put c.id c.first c.second c.before c.after c.act (moved q.records) c.seated c.out c.valid c.carried call reply has c.told.0);
+        answers = m.own.collected;
+        before = seated-before s o c.at c.put c.id c.first c.second c.before c.after c.act (moved q.records) c.seated c.out c.valid c.carried has none;
+        after = subst (λ (l : List Entry). IsSeated t m.number (m.own.collected ++ answer (length l) call reply ∷ []) None) (is-history s o)
+            (subst (λ (x : BoardState). IsSeated x m.number (m.own.collected ++ answer (length o.history) call reply ∷ []) None) (sym c.is)
+            (seated-after s o c.at c.put c.id c.first c.second c.before c.after c.act (moved q.records) c.seated c.out c.valid c.carried call reply has none c.told.0));
+      },
+    )
+  where
+    moved : IsOrderly t → IsOrderly (stepped s c.at c.put c.id c.before.1 c.after.0 c.act)
+    moved = subst IsOrderly c.is
+
+    go : (p : IsOrderly t) → p.history ≡ r.records.history ++ entry c.before.0.number call reply ∷ []
+    go p = (subst (λ (x : BoardState). (p : IsOrderly x) → p.history ≡ r.records.history ++ entry c.before.0.number call reply ∷ []) (sym c.is)
+        (λ p. enters-history s r.records c.at c.put c.id c.first c.second c.before c.after c.act p c.seated c.out c.valid c.carried call reply c.asked.1 c.told.0)) p
+
 is-answer : (name : StepName) → (name ≡ answer_record) ⊎ (name ≢ answer_record)
 is-answer answer_record = inl refl
 is-answer _ = inr (λ e. absurd (cc e))
+
+is-enter : (name : StepName) → ((call : Call) × (reply : Reply) × (name ≡ enter call reply)) ⊎ ((call : Call) (reply : Reply) → name ≢ enter call reply)
+is-enter (enter call reply) = inl (call, reply, refl)
+is-enter _ = inr (λ call reply e. absurd (cc e))
 
 same-begins : (f g : List Entry) → g ≡ f → IsPrefix f g
 same-begins f g e = subst (IsPrefix f) (sym e) (prefix_self f)
@@ -137,7 +171,10 @@ seats-unchanged s t r q (inr c) = sym (is-history t q.records) ∙ (joined-uncha
 pub move-begins : (s t : BoardState) → IsRuled s → IsRuled t → IsMove s t → IsPrefix (history_of s) (history_of t)
 move-begins s t r q (inl c) = elim (is-answer c.0) [
   | inl e ↦ let j = step-joins s t r q (subst (λ (n : StepName). IsStep n s t) e c.1) in (j.0 ∷ [], sym j.1.history)
-  | inr ne ↦ same-begins (history_of s) (history_of t) (step-unchanged c.0 s t ne r q c.1)
+  | inr ne ↦ elim (is-enter c.0) [
+    | inl e ↦ let j = step-enters e.0 e.1 s t r q (subst (λ (n : StepName). IsStep n s t) e.2 c.1) in (entry j.0 e.0 e.1 ∷ [], sym j.1.history)
+    | inr direct ↦ same-begins (history_of s) (history_of t) (step-unchanged c.0 s t ne direct r q c.1)
+  ]
 ]
 move-begins s t r q (inr c) = same-begins (history_of s) (history_of t) (seats-unchanged s t r q c)
 
@@ -217,13 +254,13 @@ in-second [] zs before y rest e le = subst (Member y) (sym e) (among before)
 in-second (a ∷ xs) zs [] y rest e le = absurd (omega arith)
 in-second (a ∷ xs) zs (b ∷ before) y rest e le = in-second xs zs before y rest (cc e) (omega arith)
 
-few : (s : BoardState) (i : ℕ) (answers : List Answered) (pending : Option Pending) → IsAccounted s i answers pending → length (calls_of i (history_of s)) ≤ calls_published answers pending
+few : (s : BoardState) (i : ℕ) (answers : List Answered) (pending : Option Pending) → IsAccounted s i answers pending → length (calls_of i (history_of s)) ≤ calls_made answers pending
 few s i answers pending (inl calls) = omega (arith, ap (λ (l : List Answered). length l) calls)
 few s i answers pending (inr k) = omega (arith, ap (λ (l : List Answered). length l) k.6, length-append answers (answer k.2 k.0 k.3 ∷ []), ap {B = ℕ} (λ (p : Option Pending). cond (is_some p) 1 0) k.4)
 
--- A call published after a state has a place behind the whole history of that state, collected or not.
+-- A call published or entered directly after a state has a place behind the whole history of that state, collected or not.
 pub behind-all : (s t : BoardState) → IsRuled s → IsRun s t → (j : ℕ) (mine later : List Answered) (my_pending later_pending : Option Pending) → HasCollected s j mine my_pending → HasCollected t j later later_pending
-    → (y : Answered) (before behind : List Answered) → calls_of j (history_of t) ≡ before ++ y ∷ behind → calls_published mine my_pending ≤ length before → length (history_of s) ≤ y.place
+    → (y : Answered) (before behind : List Answered) → calls_of j (history_of t) ≡ before ++ y ∷ behind → calls_made mine my_pending ≤ length before → length (history_of s) ≤ y.place
 behind-all s t r leads j mine later my_pending later_pending has then_has y before behind is le =
     let b = begins r leads in
     let n = few s j mine my_pending (accounted s r j mine my_pending has) in
@@ -235,7 +272,7 @@ behind-all s t r leads j mine later my_pending later_pending has then_has y befo
 
 -- The same for a collected call.
 behind-collected : (s t : BoardState) → IsRuled s → IsRun s t → (j : ℕ) (mine later : List Answered) (my_pending later_pending : Option Pending) → HasCollected s j mine my_pending → HasCollected t j later later_pending
-    → (y : Answered) (before behind : List Answered) → later ≡ before ++ y ∷ behind → calls_published mine my_pending ≤ length before → length (history_of s) ≤ y.place
+    → (y : Answered) (before behind : List Answered) → later ≡ before ++ y ∷ behind → calls_made mine my_pending ≤ length before → length (history_of s) ≤ y.place
 behind-collected s t r leads j mine later my_pending later_pending has then_has y before behind is le = elim (accounted t (still-ruled r leads) j later later_pending then_has) [
   | inl calls ↦ behind-all s t r leads j mine later my_pending later_pending has then_has y before behind (calls ∙ is) le
   | inr k ↦ behind-all s t r leads j mine later my_pending later_pending has then_has y before (behind ++ answer k.2 k.0 k.3 ∷ [])

@@ -12,7 +12,7 @@ use Rattle.publication.specs.Views.{Pending, Handed, answer}
 use Rattle.publication.specs.Rule.{blank, BoardState, seat}
 use Rattle.publication.specs.Kinds.{Seated, copy_of, joined, handed_in, gathered}
 use Rattle.publication.specs.Exclusion.{IsSeated, IsHandedIn, HasCollected}
-use Rattle.publication.specs.Runs.{StepName, start, post, look_at_head, link, enlist, look_for_reply, take_reply, look_at_lock, seize, release, walk, walk_on, unlink, mark_out, relink, look_at_record, open_record, lay, pick, answer_record, put_back, learn, compare, retire, leave, kind_of, IsStep, IsSeatSplit, IsSeatJoin, IsMove, IsRun, stop, move}
+use Rattle.publication.specs.Runs.{StepName, start, post, look_at_head, link, enlist, look_for_reply, take_reply, look_at_lock, seize, release, walk, walk_on, unlink, mark_out, relink, look_at_record, open_record, lay, pick, answer_record, put_back, enter, learn, compare, retire, leave, kind_of, IsStep, IsSeatSplit, IsSeatJoin, IsMove, IsRun, stop, move}
 use Rattle.publication.specs.declared.view.View.{View}
 use Rattle.publication.specs.declared.slot.SlotValue.{SlotValue}
 use Rattle.publication.proofs.Lists.{at_there, each_set, each_snoc, past_end, prefix_self, prefix_trans}
@@ -82,6 +82,8 @@ module _ (m n : Seated) where
   follows pick slots at first second found told = calmly _ _ told refl refl refl
   follows answer_record slots at first second found told = calmly _ _ told.0 refl refl refl
   follows put_back slots at first second found told = calmly _ _ told refl refl refl
+  follows (enter call reply) slots at first second found told =
+      subst (λ (y : Seated). Follows m.0 y.0) (sym told.0) ((λ _. (refl, (answer (length m.0.front) call reply ∷ [], refl))), prefix_self m.0.others.handed)
   follows learn slots at first second found told = calmly _ _ told.0 refl refl refl
   follows compare slots at first second found told = same told.0
   follows retire slots at first second found told = calmly _ _ told refl refl refl

@@ -1,13 +1,14 @@
 -- The state in which a board opens; the history of a board as a function of its state, and what it has of each session.
-use Rattle.std.specs.Prelude.{◌≡◌, ℕ, ◌+◌, ◌==◌, cond, Option, Some, List, [], ◌∷◌, ◌++◌, replicate, slice_set}
+use Rattle.std.specs.Prelude.{◌≡◌, ℕ, ◌+◌, ◌==◌, cond, Option, Some, None, List, [], ◌∷◌, ◌++◌, length, replicate, slice_set}
 use mathlib.Core.Option as opt
 use Rattle.std.specs.Global.{Box}
 use Rattle.atomic_table.specs.Table.{opening}
 use Rattle.lock_rules.specs.declared.calls.Entry.{Entry}
 use Rattle.lock_rules.specs.Legal.{Answered}
 use Rattle.publication.specs.Words.{word_of, FREE, END}
-use Rattle.publication.specs.Views.{Pending, IsAccountedIn}
+use Rattle.publication.specs.Views.{Pending, IsAccountedIn, answer}
 use Rattle.publication.specs.Rule.{maker, BoardState, word, home, seat}
+use Rattle.publication.specs.Exclusion.{IsSeated}
 use Rattle.publication.specs.declared.slot.Load.{Load}
 use Rattle.publication.specs.declared.slot.SlotValue.{SlotValue}
 use Rattle.publication.specs.declared.slot.SlotValue.TheVariants.{Empty, PostedCall, ServedReply, LockTable}
@@ -34,6 +35,17 @@ pub record IsAppended (s t : BoardState) (entry : Entry) : Type 0 where
   pub history : history_of t ≡ history_of s ++ entry ∷ []
   pub floor : ℕ
   pub pending : (seat s entry.session).own.pending ≡ Some (record { call = entry.call; floor = floor })
+
+-- The entry is appended to the history by a direct entry: it is a call of the session that the lock word names before and
+-- after. The session has no call pending before or after, and the answers that it has collected grow by this call's, whose
+-- place is the end of the history before.
+pub record IsEnteredDirectly (s t : BoardState) (entry : Entry) : Type 0 where
+  pub history : history_of t ≡ history_of s ++ entry ∷ []
+  pub combiner : word s 0 ≡ entry.session
+  pub still : word t 0 ≡ entry.session
+  pub answers : List Answered
+  pub before : IsSeated s entry.session answers None
+  pub after : IsSeated t entry.session (answers ++ answer (length (history_of s)) entry.call entry.reply ∷ []) None
 
 -- The calls of session i in the board's history are those that it collected, or those and its pending call.
 abbrev pub IsAccounted : BoardState → ℕ → List Answered → Option Pending → Type 0

@@ -23,6 +23,7 @@
 --   pick            the combiner's  that record's state word is read; the slot is taken again
 --   answer          the combiner's  that record, BUSY to SERVED; the reply goes into the slot; the history grows
 --   put back        the combiner's  that record, BUSY to POSTED; the call goes into the slot
+--   enter           the combiner's  the lock word is read; the history grows by a call of its own, which wasn't published
 --   split copy      a new seat's    the lock word is read; the new seat has a copy of what another seat knows
 --   split front     a new seat's    the lock word is read; the new seat has a copy of the front that another seat knows
 --   join copy       the learner's   the lock word is read; the copy is joined into the seat, and ends
@@ -395,6 +396,18 @@ putting_back v j = as_combiner v v.front (record { has_book = true; opened = sli
 -- Put back: the call of the record in hand is posted again, and the history stays as it is.
 abbrev pub puts_back : Kind
 puts_back st m found n = n ≡ (putting_back m.0 m.0.combiner.hand, rest m.1)
+
+-- Direct entry: the combiner enters a call of its own into the history, without its record. Publish, answer and take are
+-- one step.
+
+-- The call's entry is the last of the known history, and its answer is collected.
+abbrev pub entering : View → Call → Reply → View
+entering v call reply = as_session v (v.front ++ entry v.number call reply ∷ [])
+    (record { started = v.own.started; retired = v.own.retired; pending = v.own.pending; collected = v.own.collected ++ answer (length v.front) call reply ∷ []; listed = v.own.listed }) v.heard v.listing
+
+-- Enter this call with this reply: the session has collected all its calls in the longer history.
+abbrev pub enters : Call → Reply → Kind
+enters call reply st m found n = (n ≡ (entering m.0 call reply, m.1)) × (calls_of m.0.number n.0.front ≡ n.0.own.collected)
 
 -- Hear what another seat knows: a copy is split off that seat and joined into the hearing one, and a load then shows
 -- which front is the longer.

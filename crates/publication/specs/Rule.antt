@@ -77,8 +77,8 @@ seat s k = slice_index_or s.views k blank
 abbrev pub own_at : List Own → ℕ → Own
 own_at owns j = slice_index_or owns j fresh
 
--- How many calls of a session other sessions may have heard of: all that it published, without a pending call that
--- isn't listed.
+-- How many calls of a session other sessions may have heard of: all that it published or entered directly, without a
+-- pending call that isn't listed.
 abbrev pub announced : Own → ℕ
 announced o = length o.collected + cond (is_some o.pending && o.listed) 1 0
 

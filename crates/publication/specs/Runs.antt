@@ -1,23 +1,24 @@
 -- The moves of a board from one state to the next, runs of them, and the order in time that a run keeps.
-use Rattle.std.specs.Prelude.{◌≡◌, ◌⊎◌, ℕ, ◌+◌, ◌<◌, ◌≤◌, cond, is_some, true, Option, Some, List, [], ◌∷◌, ◌++◌, length, slice_index, slice_index_or, slice_set, Contains}
+use Rattle.std.specs.Prelude.{◌≡◌, ◌⊎◌, ℕ, ◌+◌, ◌<◌, ◌≤◌, cond, is_some, true, false, Option, Some, None, List, [], ◌∷◌, ◌++◌, length, slice_index, slice_index_or, slice_set, Contains}
 use mathlib.Core.Option as opt
 use lib.ListN.{get_elem?}
 use Rattle.std.specs.Global.{Box}
 use Rattle.atomic_table.specs.Table.{Act, Valid, carried_after, stepped, step}
 use Rattle.lock_rules.specs.declared.calls.Call.{Call}
+use Rattle.lock_rules.specs.declared.calls.Reply.{Reply}
 use Rattle.lock_rules.specs.Legal.{Answered}
 use Rattle.publication.specs.Words.{word_of}
 use Rattle.publication.specs.Views.{Pending}
 use Rattle.publication.specs.Rule.{blank, maker, new_session, BoardState}
 use Rattle.publication.specs.List.{IsRuled}
-use Rattle.publication.specs.Kinds.{Seated, Kind, starts, posts, looks_at_head, links, enlists, looks_for_reply, takes_reply, looks_at_lock, seizes, releases, walks, walks_on, unlinks, marks_out, relinks, looks_at_record, opened_in, opens, lays, picks, answers, puts_back, copy_of, front_copy_of, joined, learns, compares, retires, leaves, gathered}
+use Rattle.publication.specs.Kinds.{Seated, Kind, starts, posts, looks_at_head, links, enlists, looks_for_reply, takes_reply, looks_at_lock, seizes, releases, walks, walks_on, unlinks, marks_out, relinks, looks_at_record, opened_in, opens, lays, picks, answers, puts_back, enters, copy_of, front_copy_of, joined, learns, compares, retires, leaves, gathered}
 use Rattle.publication.specs.Exclusion.{HasCollected}
 use Rattle.publication.specs.declared.view.View.{View}
 use Rattle.publication.specs.declared.slot.Load.{Load}
 use Rattle.publication.specs.declared.slot.SlotValue.{SlotValue}
 use Rattle.publication.specs.declared.slot.SlotValue.TheVariants.{LockTable}
 
--- The kinds of step on a word, by name.
+-- The kinds of step on a word, by name. A direct entry names the call and the reply that it enters.
 pub data StepName : Type 0 where
   start : StepName
   post : StepName
@@ -40,6 +41,7 @@ pub data StepName : Type 0 where
   pick : StepName
   answer_record : StepName
   put_back : StepName
+  enter : Call → Reply → StepName
   learn : StepName
   compare : StepName
   retire : StepName
@@ -68,6 +70,7 @@ kind_of lay = lays
 kind_of pick = picks
 kind_of answer_record = answers
 kind_of put_back = puts_back
+kind_of (enter call reply) = enters call reply
 kind_of learn = learns
 kind_of compare = compares
 kind_of retire = retires
@@ -85,7 +88,8 @@ pub record LaysDownBook (m : Seated) : Type 0 where
   pub whole : load.value.book.history ≡ m.0.front
 
 -- What the board's calls see to before a step of a kind: the combiner's steps are made by the combiner, it answers a
--- record that it opened, a session takes the reply out of its own record, and the lock word is the one that is seized.
+-- record that it opened, a session takes the reply out of its own record, and the lock word is the one that is seized. A
+-- call is entered directly at a look at the lock word, by a combiner that may publish and has no call pending.
 abbrev pub StepRequires : StepName → ℕ → Seated → Type 0
 StepRequires take_reply at m = at ≡ word_of m.0.number
 StepRequires seize at m = at ≡ word_of 0
@@ -95,6 +99,7 @@ StepRequires lay at m = IsCombiner m
 StepRequires pick at m = IsCombiner m
 StepRequires answer_record at m = IsCombiner m × ((call : Call) × (opened_in m.0 m.0.combiner.hand ≡ Some call))
 StepRequires put_back at m = IsCombiner m
+StepRequires (enter call reply) at m = (at ≡ word_of 0) × IsCombiner m × (m.0.own.pending ≡ None) × (m.0.own.retired ≡ false)
 StepRequires _ at m = Unit {0}
 
 -- The seat carries slot k.
@@ -162,14 +167,15 @@ pub data IsRun : BoardState → BoardState → Type 0 where
   stop : {s : BoardState} → IsRun s s
   move : {s t u : BoardState} → IsMove s t → IsRuled t → IsRun t u → IsRun s u
 
--- How many calls a session with these answers and this pending call has published.
-abbrev pub calls_published : List Answered → Option Pending → ℕ
-calls_published answers pending = length answers + cond (is_some pending) 1 0
+-- How many calls a session with these answers and this pending call has made: those that it published, and those that it
+-- entered directly.
+abbrev pub calls_made : List Answered → Option Pending → ℕ
+calls_made answers pending = length answers + cond (is_some pending) 1 0
 
 -- An answer that any session had collected in state s has a lower place than each answer that a session collected by
--- state t to a call that it published after state s.
+-- state t to a call that it published, or entered directly, after state s.
 abbrev pub RespectsRealTime : BoardState → BoardState → Type 0
 RespectsRealTime s t = (i j : ℕ) (theirs mine later : List Answered) (their_pending my_pending later_pending : Option Pending)
     → HasCollected s i theirs their_pending → HasCollected s j mine my_pending → HasCollected t j later later_pending
     → (x y : Answered) (before after : List Answered) → Contains theirs x → later ≡ before ++ y ∷ after
-    → calls_published mine my_pending ≤ length before → x.place < y.place
+    → calls_made mine my_pending ≤ length before → x.place < y.place

@@ -25,7 +25,7 @@ pub record Own : Type 0 where
   pub retired : Bool
   -- the call that waits for its reply
   pub pending : Option Pending
-  -- the answers that it took, oldest first
+  -- the answers that it took, or got by a direct entry, oldest first
   pub collected : List Answered
   -- the call that it published last is listed, so a combiner's walk meets its record
   pub listed : Bool
@@ -97,7 +97,7 @@ pub record TicketView : Type 0 where
   pub front : List Entry
   -- the call that waits for its reply
   pub pending : Option Pending
-  -- the answers that the session took, oldest first
+  -- the answers that the session took, or got by a direct entry, oldest first
   pub collected : List Answered
   -- at each session's number, how many calls of that session are known to be published
   pub heard : List ℕ

@@ -4,6 +4,7 @@
 use crate::slot::SlotValue;
 use crate::view::View;
 use atomic_table::{Join, Play, Split, TableRule};
+use std::marker::{Brand, PhantomData};
 
 /// The rule that every step keeps, and what the first seat knows.
 #[derive(Clone, Copy)]
@@ -218,6 +219,39 @@ impl Play<SlotValue, View> for PutBack {
     ghost use Rattle.publication.specs.Kinds.{puts_back};
 
     ghost then = { puts_back };
+}
+
+/// The call and the reply that a direct entry enters into the history. Both are ghost values, so the step is one load of
+/// the lock word.
+pub trait DirectEntry {
+    ghost use Rattle.lock_rules.specs.declared.calls.Call.{Call};
+    ghost use Rattle.lock_rules.specs.declared.calls.Reply.{Reply};
+
+    ghost call: { Call };
+
+    ghost reply: { Reply };
+}
+
+/// Stands for any direct entry: whoever makes the step names the call and the reply.
+impl DirectEntry for Brand {
+    ghost use Rattle.lock_rules.specs.declared.calls.Call.TheVariants.{Poll};
+    ghost use Rattle.lock_rules.specs.declared.calls.Reply.TheVariants.{Clear};
+
+    ghost call = { Poll };
+
+    ghost reply = { Clear };
+}
+
+/// The combiner enters a call of its own into the history, without its record. No value of this type is made.
+pub struct Enter<E: DirectEntry> {
+    /// Uses the type parameter.
+    marker: PhantomData<E>,
+}
+
+impl<E: DirectEntry> Play<SlotValue, View> for Enter<E> {
+    ghost use Rattle.publication.specs.Kinds.{enters};
+
+    ghost then = { enters E.call E.reply };
 }
 
 /// A copy of what a seat knows is split off it.

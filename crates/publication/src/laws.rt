@@ -18,14 +18,14 @@ ghost use Rattle.lock_rules.specs.declared.calls.Reply.{Reply};
 ghost use Rattle.lock_rules.specs.declared.calls.Why.{Why};
 ghost use Rattle.lock_rules.specs.Legal.{Answered, IsLegal, state_of, calls_of};
 ghost use Rattle.lock_rules.specs.Laws.{HoldsAtLeast, GoTogether};
-ghost use Rattle.publication.specs.Views.{Pending, IsAccountedIn, answer, asks};
+ghost use Rattle.publication.specs.Views.{Pending, IsAccountedIn, entry, answer, asks};
 ghost use Rattle.publication.specs.Rule.{BoardState, seat, IsHome};
 ghost use Rattle.publication.specs.List.{IsRuled};
 ghost use Rattle.publication.specs.Kinds.{Seated};
 ghost use Rattle.publication.specs.HoldsAsTold.{AsksFor, KeepsLock, KeptLock, HoldsAsTold, ReadsAsTold, WritesAsTold};
 ghost use Rattle.publication.specs.Exclusion.{HasCollected, ToldModesGoTogether, IsToldExclusive, IsToldAccessCompatible};
-ghost use Rattle.publication.specs.BoardHistory.{new_board, history_of, IsAppended, IsAccounted};
-ghost use Rattle.publication.specs.Runs.{StepName, answer_record, kind_of, StepRequires, CarriesOnlyItsOwn, IsStep, IsSeatSplit, IsSeatJoin, IsRun, calls_published, RespectsRealTime};
+ghost use Rattle.publication.specs.BoardHistory.{new_board, history_of, IsAppended, IsEnteredDirectly, IsAccounted};
+ghost use Rattle.publication.specs.Runs.{StepName, answer_record, enter, kind_of, StepRequires, CarriesOnlyItsOwn, IsStep, IsSeatSplit, IsSeatJoin, IsRun, calls_made, RespectsRealTime};
 ghost use Rattle.publication.specs.declared.slot.Load.{Load};
 ghost use Rattle.publication.specs.declared.slot.SlotValue.{SlotValue};
 ghost use Rattle.publication.specs.declared.view.View.{View};
@@ -35,7 +35,7 @@ use lock_rules::laws;
 /// When a session holds a lock as told. It begins with the answer that grants the lock, or, after a wait, with the poll
 /// that is answered Clear. It lasts past each answer that gave nothing of the resource back, and while a call is
 /// pending that gives nothing of it back. It ends when the session publishes a commit, an abort or a release of the
-/// resource. The answer of that call doesn't bring it back, except a refusal.
+/// resource, or enters one directly. The answer of that call doesn't bring it back, except a refusal.
 pub fn what_is_told_begins_and_ends()
     ensures granted { (answers : List Answered) (call : Call) (place : ℕ) (r : List ℕ) (k m : Mode) →
         AsksFor call r k → HoldsAsTold (answers ++ answer place call (Granted m) ∷ []) None r m }
@@ -85,7 +85,7 @@ pub fn one_history_tells_what_goes_together()
 /// Mutual exclusion between any two atomic steps, whatever calls are posted, opened or served at that moment. No two
 /// sessions of a board were told that they hold one resource in modes that conflict in both orders. If a session was
 /// told that it may write a resource, outright or through an ancestor, no other was told that it may read or write it.
-/// A lock no longer counts from the step on that publishes a call which may give it back.
+/// A lock no longer counts from the step on that publishes a call which may give it back, or enters one directly.
 pub fn sessions_are_told_what_goes_together()
     ensures modes { (s : BoardState) → IsRuled s → ToldModesGoTogether s }
     ensures exclusive { (s : BoardState) → IsRuled s → IsToldExclusive s }
@@ -121,12 +121,17 @@ pub fn boards_open_with_an_empty_history()
         HasCollected (new_board n load) i answers pending → ⊥ }
 {}
 
-/// Only an answer changes the history: it appends one entry, the pending call of the session whose record it answers. No
-/// other step on a word changes it, and no split or join of seats.
-pub fn only_answers_change_the_history()
+/// Only an answer and a direct entry change the history, each by one entry at its end. An answer appends the pending call
+/// of the session whose record it answers. A direct entry appends a call of the session whose number is in the lock word,
+/// which has no call pending and then has the answer collected. No other step on a word changes the history, and no split
+/// or join of seats.
+pub fn only_answers_and_direct_entries_change_the_history()
     ensures others { (name : StepName) (s t : BoardState) →
-        name ≢ answer_record → IsRuled s → IsRuled t → IsStep name s t → history_of t ≡ history_of s }
+        name ≢ answer_record → ((call : Call) (reply : Reply) → name ≢ enter call reply) →
+        IsRuled s → IsRuled t → IsStep name s t → history_of t ≡ history_of s }
     ensures answers { (s t : BoardState) → IsRuled s → IsRuled t → IsStep answer_record s t → (entry : Entry) × IsAppended s t entry }
+    ensures entries { (call : Call) (reply : Reply) (s t : BoardState) → IsRuled s → IsRuled t → IsStep (enter call reply) s t →
+        (session : ℕ) × IsEnteredDirectly s t (entry session call reply) }
     ensures seats { (s t : BoardState) → IsRuled s → IsRuled t → IsSeatSplit s t ⊎ IsSeatJoin s t → history_of t ≡ history_of s }
 {}
 
@@ -148,13 +153,13 @@ pub fn sessions_go_on()
 {}
 
 /// The order of the history keeps real time. In a run the history only grows, at its end. A call that a session
-/// publishes after state `s` gets a place behind the whole history of `s`, whether or not its answer is collected. So an
-/// answer that any session had collected in `s` has a lower place than each call published after `s`, by whichever
-/// session, whether or not that one has heard of it.
+/// publishes, or enters directly, after state `s` gets a place behind the whole history of `s`, whether or not its answer
+/// is collected. So an answer that any session had collected in `s` has a lower place than each call published or entered
+/// directly after `s`, by whichever session, whether or not that one has heard of it.
 pub fn calls_stand_in_the_order_of_time()
     ensures grows { (s t : BoardState) → IsRuled s → IsRun s t → IsPrefix (history_of s) (history_of t) }
     ensures behind { (s t : BoardState) → IsRuled s → IsRun s t → (j : ℕ) (mine later : List Answered) (my_pending later_pending : Option Pending) →
         HasCollected s j mine my_pending → HasCollected t j later later_pending → (y : Answered) (before after : List Answered) →
-        calls_of j (history_of t) ≡ before ++ y ∷ after → calls_published mine my_pending ≤ length before → length (history_of s) ≤ y.place }
+        calls_of j (history_of t) ≡ before ++ y ∷ after → calls_made mine my_pending ≤ length before → length (history_of s) ≤ y.place }
     ensures in_time { (s t : BoardState) → IsRuled s → IsRun s t → RespectsRealTime s t }
 {}

@@ -3,18 +3,18 @@
 ghost use Rattle.std.specs.Prelude.{◌≡◌, ◌≢◌, ◌+◌, ◌^◌, ◌<◌, ◌∷◌, ◌++◌, [], true, false, Some, None, IfSome, IfNone, length, is_some};
 ghost use mathlib.Core.List.{IsPrefix};
 ghost use Rattle.atomic_table.specs.Table.{rest};
-ghost use Rattle.lock_rules.specs.Legal.{IsLegal};
+ghost use Rattle.lock_rules.specs.Legal.{IsLegal, calls_of};
 ghost use Rattle.publication.specs.Views.{IsAccountedIn, entry};
 ghost use Rattle.publication.specs.Pieces.{HasAdded};
 ghost use Rattle.publication.specs.Rule.{IsHome};
 ghost use Rattle.publication.specs.List.{IsOn, AreApart, first_of, behind};
-ghost use Rattle.publication.specs.Kinds.{IsUnanswered, HasOthers, HasAnother, HasEntered, opened_in, call_at, posting, enlisting, losing_head, routing, bypassing, none_unlinked, relinking, IsRoute, MeetsAll, HasTaken, Seized, seizing, releasing, opening, Opened, in_hand, answering, putting_back, copy_of, joined, hearing, comparing, Learned, retiring, gathered};
+ghost use Rattle.publication.specs.Kinds.{IsUnanswered, HasOthers, HasAnother, HasEntered, opened_in, call_at, posting, enlisting, losing_head, routing, bypassing, none_unlinked, relinking, IsRoute, MeetsAll, HasTaken, Seized, seizing, releasing, opening, Opened, in_hand, answering, putting_back, entering, copy_of, joined, hearing, comparing, Learned, retiring, gathered};
 ghost use Rattle.publication.specs.inner.Tickets.{IsBoard, IsAt, IsCombiner};
 
 use crate::kinds::{
-    Answer, BoardRule, Compare, Enlist, Gather, JoinCopy, Lay, Learn, Leave, Link, LookAtHead,
-    LookAtLock, LookAtRecord, LookForReply, MarkOut, Open, Pick, Post, PutBack, Release, Relink,
-    Retire, Seize, SplitCopy, SplitFront, Take, Unlink, Walk, WalkOn,
+    Answer, BoardRule, Compare, DirectEntry, Enlist, Enter, Gather, JoinCopy, Lay, Learn, Leave,
+    Link, LookAtHead, LookAtLock, LookAtRecord, LookForReply, MarkOut, Open, Pick, Post, PutBack,
+    Release, Relink, Retire, Seize, SplitCopy, SplitFront, Take, Unlink, Walk, WalkOn,
 };
 use crate::slot::{Load, SlotValue};
 use crate::view::View;
@@ -354,6 +354,28 @@ pub(crate) fn put_back_record(shared: &Shared, seat: &mut Seat, at: usize, call:
     shared.load::<Pick>(seat, at * WORDS_APART);
     drop(shared.exchange(seat, at, SlotValue::PostedCall(call)));
     shared.store::<PutBack>(seat, at * WORDS_APART, POSTED);
+}
+
+/// Enters a call of the combiner's own into the history, at a look at the lock word. No word is written. Needs a combiner
+/// with no call pending, and the reply that the sequential lock manager gives.
+pub(crate) fn enter_call<E: DirectEntry>(
+    shared: &Shared,
+    seat: &mut Seat,
+    _call: Call,
+    _reply: Reply,
+)
+    requires named { (_call ≡ E.call) × (_reply ≡ E.reply) }
+    requires ours { seat.old.table_id ≡ shared.now.table_id }
+    requires board { IsBoard shared.now.table_id }
+    requires mine { IsCombiner seat.old.me.0 }
+    requires idle { (is_some seat.old.me.0.own.pending ≡ false) × (seat.old.me.0.own.retired ≡ false) }
+    requires short { length seat.old.me.0.front + 1 < 2 ^ 64 }
+    requires legal { IsLegal (seat.old.me.0.front ++ entry seat.old.me.0.number _call _reply ∷ []) }
+    ensures ours { seat.new.table_id ≡ seat.old.table_id }
+    ensures step { seat.new.me ≡ (entering seat.old.me.0 _call _reply, seat.old.me.1) }
+    ensures calls { calls_of seat.old.me.0.number seat.new.me.0.front ≡ seat.new.me.0.own.collected }
+{
+    shared.load::<Enter<E>>(seat, 0);
 }
 
 /// Splits off a new seat that knows what this one knows of the history and of published calls.

@@ -1,15 +1,17 @@
 -- The state of a combiner in the middle of its pass.
-use Rattle.std.specs.Prelude.{◌≡◌, ◌≢◌, ◌⊎◌, ℕ, ◌+◌, ◌≤◌, cond, is_some, Option, Some, None, List, [], ◌∷◌, ◌++◌, length, map, slice_set, slice_index_or}
+use Rattle.std.specs.Prelude.{◌≡◌, ◌≢◌, ◌⊎◌, ℕ, ◌+◌, ◌≤◌, cond, is_some, true, false, Option, Some, None, List, [], ◌∷◌, ◌++◌, length, map, slice_set, slice_index_or}
 use Rattle.lock_rules.specs.declared.calls.Call.{Call}
 use Rattle.lock_rules.specs.declared.calls.Entry.{Entry}
-use Rattle.lock_rules.specs.Legal.{calls_of}
+use Rattle.lock_rules.specs.Legal.{IsLegal, calls_of, state_of}
 use Rattle.lock_desk.specs.declared.book.Item.{Item}
 use Rattle.lock_desk.specs.BookView.{BookView}
-use Rattle.lock_desk.specs.Batches.{IsItemWithin, item_of}
+use Rattle.lock_desk.specs.Batches.{IsItemWithin, item_of, ended_waits_in}
 use Rattle.publication.specs.Views.{TicketView}
 use Rattle.publication.specs.Boards.{opened_at, heard_from, published_by}
 use Rattle.publication.specs.List.{IsOn, behind}
+use Rattle.publication.specs.Rule.{IsHome}
 use Rattle.publication.specs.declared.slot.Load.{Load}
+use Rattle.combining.specs.Sessions.{HasTriedToList}
 
 -- The row has the call of each opened record exactly once: with the items closed one after another, no record is left
 -- open.
@@ -75,3 +77,29 @@ pub record HasTakenNothing (before after : Load) : Type 0 where
   pub pieces : after.pieces.items ≡ before.pieces.items
   pub cut : after.book.cut ≡ before.book.cut
   pub bound : after.book.bound ≡ before.book.bound
+
+-- The sessions from 1 to n whose wait the calls of these entries have ended, which follow this front of the history.
+abbrev pub ended_behind : ℕ → List Entry → List Entry → List ℕ
+ended_behind n front entries = ended_waits_in n (state_of front) (map item_of entries)
+
+-- The session has made a pass and still has the lock table. If its pending call wasn't listed, it first tried once more to
+-- have it listed. It knows the entries added before this pass, followed by those that this pass added, `served` of them;
+-- whose wait these have ended is what the book tells.
+pub record HasMadePass (sessions : ℕ) (before after : TicketView) (load : Load) (served : ℕ) : Type 0 where
+  pub between : TicketView
+  pub is_tried : HasTriedToList before between
+  pub session : after ≡ record between {
+    front = after.front;
+    has_book = true;
+    route = after.route;
+    put_backs = after.put_backs;
+    taken = load.pieces.items;
+  }
+  pub lacked : (between.has_book ≡ false) × (between.route ≡ []) × (between.taken ≡ [])
+  pub others : List Entry
+  pub own : List Entry
+  pub front : after.front ≡ before.front ++ others ++ own
+  pub count : length own ≡ served
+  pub home : IsHome after.front (sessions + 1) load
+  pub legal : IsLegal after.front
+  pub ended : load.book.ended ≡ ended_behind sessions (before.front ++ others) own

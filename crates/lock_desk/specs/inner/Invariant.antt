@@ -4,14 +4,21 @@ use Rattle.std.specs.List.{All}
 use Rattle.waits_for.specs.declared.TheConstants.{MAX_SESSIONS}
 use Rattle.lock_rules.specs.Legal.{state_of, IsLegal}
 use Rattle.lock_desk.specs.BookView.{BookView, IsEntryWithin}
+use Rattle.lock_desk.specs.inner.Ended.{listed_in}
 use Rattle.lock_desk.specs.inner.Changes.{IsWhole}
 use Rattle.lock_desk.specs.inner.Ready.{IsReadyTable}
 use Rattle.lock_desk.specs.inner.Shows.{Shows}
 use Rattle.lock_desk.specs.declared.book.Book.TheInside.{Inside}
 
--- what contracts see of a book: its number of sessions, its history, and which entries are kept
+-- what contracts see of a book: its number of sessions, its history, which entries are kept, and whose wait has ended
 abbrev pub book_view_of : Inside → BookView
-book_view_of a = record { sessions = a.sessions; history = a.history.items; cut = a.history.cut; bound = a.history.bound }
+book_view_of a = record {
+  sessions = a.sessions;
+  history = a.history.items;
+  cut = a.history.cut;
+  bound = a.history.bound;
+  ended = listed_in a.lock_table.ended;
+}
 
 -- the history is legal, the lock table represents the state that the history leads to, and there is a locker and a mark
 -- for each session

@@ -18,7 +18,7 @@ use Rattle.lock_desk.specs.declared.lock_table.LockTable.{LockTable}
 use Rattle.lock_desk.specs.declared.lock_table.runs.Run.{Run}
 use Rattle.lock_desk.specs.declared.lock_table.runs.RunTarget.{RunTarget}
 use Rattle.lock_desk.specs.BookView.{IsEntryWithin}
-use Rattle.lock_desk.specs.Batches.{entries_from, item_of}
+use Rattle.lock_desk.specs.Batches.{entries_from, item_of, ended_waits_in}
 use Rattle.lock_desk.specs.inner.Cells.{is_nobody, codes_among, codes_unless_waited, fits_among, IsPlace, HasRoomAt}
 use Rattle.lock_desk.specs.inner.Changes.{view_at, mode_held, call_tests, IsWhole}
 use Rattle.lock_desk.specs.inner.Ready.{IsReadyTable}
@@ -120,9 +120,10 @@ pub record AreKept (d : LockTable) (h : List Entry) : Type 0 where
   pub ready : IsReadyTable d
   pub counted : d.count ≤ length h
 
--- the first `k` items of a batch are served: their entries follow the history `start`, their replies are written, and
--- the other items are unchanged
-pub record AreServed (k : ℕ) (batch : List Item) (start : List Entry) (h : List Entry) (items : List Item) : Type 0 where
+-- the first `k` items of a batch are served in a book of `n` sessions: their entries follow the history `start`, their replies
+-- are written, the other items are unchanged, and the sessions whose wait they have ended are `ended`
+pub record AreServed (n k : ℕ) (batch : List Item) (start : List Entry) (ended : List ℕ) (h : List Entry) (items : List Item) : Type 0 where
   pub few : k ≤ length batch
   pub entries : h ≡ start ++ entries_from (state_of start) (take k batch)
   pub replies : items ≡ map item_of (entries_from (state_of start) (take k batch)) ++ drop k batch
+  pub waits : ended ≡ ended_waits_in n (state_of start) (take k batch)

@@ -7,7 +7,7 @@ ghost use Rattle.lock_rules.specs.State.{State};
 ghost use Rattle.lock_rules.specs.Step.{step};
 ghost use Rattle.lock_rules.specs.Sound.{IsNumbered, IsSound};
 ghost use Rattle.lock_desk.specs.inner.Cells.{IsPlace};
-ghost use Rattle.lock_desk.specs.inner.Changes.{IsWhole, DoesKeep, IsSameSeen};
+ghost use Rattle.lock_desk.specs.inner.Changes.{IsWhole, DoesKeep, IsSameSeen, HasListed};
 ghost use Rattle.lock_desk.specs.inner.Ready.{IsReadyTable};
 ghost use Rattle.lock_desk.specs.inner.Shows.{Shows, DoesAnswer};
 
@@ -51,6 +51,7 @@ impl LockTable {
         requires room { self.old.count < 18446744073709551615 }
         ensures step { (st : State) → IsSound st.table → IsNumbered st → Shows self.old st
             → DoesAnswer (step st session Begin) self.new result }
+        ensures listed { HasListed session self.old self.new }
         ensures count { self.new.count ≤ self.old.count + 1 }
         ensures kept { DoesKeep self.old self.new }
     {
@@ -75,6 +76,7 @@ impl LockTable {
         ensures step { (st : State) → IsSound st.table → IsNumbered st → Shows self.old st
             → IfOk result (DoesAnswer (step st session (Lock resource mode)) self.new) }
         ensures err { OnErr result (IsSameSeen self.old self.new) }
+        ensures listed { HasListed session self.old self.new }
         ensures count { self.new.count ≤ self.old.count + 1 }
         ensures kept { DoesKeep self.old self.new }
     {
@@ -104,6 +106,7 @@ impl LockTable {
         ensures step { (st : State) → IsSound st.table → IsNumbered st → Shows self.old st
             → IfOk result (DoesAnswer (step st session (Convert resource mode)) self.new) }
         ensures err { OnErr result (IsSameSeen self.old self.new) }
+        ensures listed { HasListed session self.old self.new }
         ensures count { self.new.count ≤ self.old.count + 1 }
         ensures kept { DoesKeep self.old self.new }
     {
@@ -126,6 +129,7 @@ impl LockTable {
         requires ready { IsReadyTable self.old }
         ensures step { (st : State) → IsSound st.table → IsNumbered st → Shows self.old st
             → DoesAnswer (step st session Poll) self.new result }
+        ensures listed { HasListed session self.old self.new }
         ensures count { self.new.count ≤ self.old.count + 1 }
         ensures kept { DoesKeep self.old self.new }
     {
@@ -143,6 +147,7 @@ impl LockTable {
         requires ready { IsReadyTable self.old }
         ensures step { (st : State) → IsSound st.table → IsNumbered st → Shows self.old st
             → DoesAnswer (step st session (Release resource)) self.new result }
+        ensures listed { HasListed session self.old self.new }
         ensures count { self.new.count ≤ self.old.count + 1 }
         ensures kept { DoesKeep self.old self.new }
     {
@@ -166,6 +171,7 @@ impl LockTable {
         requires ready { IsReadyTable self.old }
         ensures step { (st : State) → IsSound st.table → IsNumbered st → Shows self.old st
             → DoesAnswer (step st session Commit) self.new result }
+        ensures listed { HasListed session self.old self.new }
         ensures count { self.new.count ≤ self.old.count + 1 }
         ensures kept { DoesKeep self.old self.new }
     {
@@ -183,6 +189,7 @@ impl LockTable {
         requires ready { IsReadyTable self.old }
         ensures step { (st : State) → IsSound st.table → IsNumbered st → Shows self.old st
             → DoesAnswer (step st session Abort) self.new result }
+        ensures listed { HasListed session self.old self.new }
         ensures count { self.new.count ≤ self.old.count + 1 }
         ensures kept { DoesKeep self.old self.new }
     {
@@ -202,6 +209,8 @@ impl LockTable {
         ensures step { (st : State) → IsSound st.table → IsNumbered st → Shows self.old st
             → IfOk result (DoesAnswer (step st session call) self.new) }
         ensures err { (st : State) → Shows self.old st → OnErr result (Shows self.new st) }
+        ensures unlisted { OnErr result (self.new.ended ≡ self.old.ended) }
+        ensures listed { HasListed session self.old self.new }
         ensures count { self.new.count ≤ self.old.count + 1 }
         ensures whole { IsWhole self.new }
         ensures ready { IsReadyTable self.new }

@@ -71,6 +71,7 @@ impl LockTable {
         ensures place { IsPlace resource self.new.cells.entries (Some place) }
         ensures room { (n : ℕ) → HasRoomAt self.old.cells.entries place (n + 1) → HasRoomAt self.new.cells.entries place n }
         ensures others { KeepsLockRooms session self.old self.new }
+        ensures ended { self.new.ended ≡ self.old.ended }
     {
         let locker = &mut self.lockers[position_of(session)];
         locker.hold(resource, place);

@@ -1,5 +1,5 @@
-//! What the combiner does on the board: it takes the lock table and gives it back, walks the publication list, and
-//! opens, answers and puts back the records that it meets.
+//! What the combiner does on the board: it takes the lock table and gives it back, walks the publication list, opens,
+//! answers and puts back the records that it meets, and enters calls of its own without its record.
 
 ghost use Rattle.std.specs.Prelude.{◌≡◌, ◌≢◌, ◌+◌, ◌^◌, ◌<◌, ◌≤◌, ◌∷◌, ◌++◌, [], true, false, Some, None, IfSome, IfNone, length, slice_set};
 ghost use mathlib.Core.List.{IsPrefix};
@@ -15,6 +15,7 @@ use crate::board::{Board, Ticket};
 use crate::slot::Load;
 use crate::steps;
 use lock_desk::{Call, Reply};
+use std::marker::Brand;
 
 impl Board {
     /// Tries once to become the combiner, which has the lock table until `release`. Returns `None` if the lock word
@@ -151,6 +152,28 @@ impl Board {
             reply,
         );
         ticket.seen = place + 1;
+    }
+
+    /// Enters a call of the combiner's own session, which it has performed on the lock table and not published, into the
+    /// history. The call's entry becomes the last one, and its answer is collected at once. Returns the place of the entry.
+    /// The session must be idle. Its record stays as it is, and no word is written.
+    pub fn enter(&self, ticket: &mut Ticket, call: Call, reply: Reply) -> u64
+        requires ours { IsOf self.now ticket.old }
+        requires has { ticket.old.has_book ≡ true }
+        requires idle { (ticket.old.pending ≡ None) × (ticket.old.retired ≡ false) }
+        requires short { length ticket.old.front + 1 < 2 ^ 64 }
+        requires legal { IsLegal (ticket.old.front ++ entry ticket.old.number call reply ∷ []) }
+        ensures place { result ≡ length ticket.old.front }
+        ensures ticket { ticket.new ≡ record ticket.old {
+          front = ticket.old.front ++ entry ticket.old.number call reply ∷ [];
+          collected = ticket.old.collected ++ answer result call reply ∷ [];
+        } }
+        ensures calls { calls_of ticket.new.number ticket.new.front ≡ ticket.new.collected }
+    {
+        let entered = ticket.seen;
+        steps::enter_call::<Brand>(&self.table.shared, &mut ticket.seat, call, reply);
+        ticket.seen = entered + 1;
+        entered
     }
 
     /// Posts a call again that the combiner opened and hasn't performed.

@@ -1,11 +1,9 @@
-use Rattle.std.proofs.Common.{rules, ◌≡◌, ◌≤◌, ◌∙◌, ◌++◌, ◌∷◌, ℕ, List, [], get_or, length, map, refl, subst, arith, append-nil, sym, ap}
+use Rattle.std.proofs.Common.{rules, ◌≡◌, ◌≤◌, ◌∙◌, ℕ, List, get_or, length, subst, arith, sym, ap}
 use Rattle.lock_rules.specs.declared.calls.Entry.{Entry}
-use Rattle.lock_desk.specs.BookView.{BookView}
-use Rattle.lock_desk.specs.Batches.{item_of}
 use Rattle.publication.specs.Views.{TicketView}
-use Rattle.combining.specs.inner.Passes.{IsBookInHand}
 use Rattle.combining.specs.inner.Ages.{sessions_since, noted}
 use Rattle.combining.proofs.NotedAges.{noted-past}
+use Rattle.combining.proofs.PerformedCalls.{in-hand}
 use Rattle.combining.proofs.SameSession.{after_row-trans, after_row-none}
 use Rattle.combining.proofs.pass.serve_published.Goals as goal
 
@@ -21,14 +19,6 @@ returns-clause-session c =
     cleaned ∙ (ap (λ (t : TicketView). record t { route = last.route }) done
     ∙ ap (λ (k : List Entry × ℕ). record before { front = k.0; route = last.route; put_backs = k.1 }) (sym (ap (λ (t : TicketView). (t.front, t.put_backs)) cleaned)))
 
--- Once each performed call is answered, the book's history is the one that the combiner knows.
-in_hand : (sessions : ℕ) (book : BookView) (t : TicketView) → IsBookInHand sessions book t [] → book.history ≡ t.front
-in_hand sessions book t b = b.history ∙ (ap (λ (es : List Entry). t.front ++ es) (none b.entries b.performed) ∙ append-nil t.front)
-  where
-    none : (es : List Entry) → [] ≡ map item_of es → es ≡ []
-    none [] e = refl
-    none (x ∷ xs) e = absurd (cc e)
-
 pub returns-clause-home : goal.returns-clause-home
 returns-clause-home c =
     let old = c.args.load.now in
@@ -39,7 +29,7 @@ returns-clause-home c =
     let rises : old.passes ≤ load.passes = search rules in
     let none = c.serve_opened-pass.ensures.taken in (
       record {
-        history = in_hand c.args.board.now.sessions load.book after c.serve_opened-pass.ensures.book ∙ sym (ap (λ (t : TicketView). t.front) c.clean_up.ensures.session);
+        history = in-hand c.args.board.now.sessions load.book after c.serve_opened-pass.ensures.book ∙ sym (ap (λ (t : TicketView). t.front) c.clean_up.ensures.session);
         sessions = search rules;
         empty = search rules;
         room = search rules;

@@ -4,6 +4,7 @@ use Rattle.lock_rules.specs.Legal.{state_of}
 use Rattle.lock_desk.specs.declared.book.Item.{Item}
 use Rattle.lock_desk.specs.Batches.{IsItemWithin}
 use Rattle.combining.proofs.CleanUpWalk.{row-within}
+use Rattle.combining.proofs.EndedWaits.{row-ended}
 use Rattle.combining.proofs.PerformedCalls.{opened-performed}
 use Rattle.combining.proofs.pass.serve_row.Goals as goal
 
@@ -30,3 +31,9 @@ returns-clause-within c =
     let row = take c.args.row.now.len (b.new.items ++ drop (length b.new.items) c.args.row.now.items) in
     row-within n l row
     (opened-performed n l (state_of c.args.book.now.history) b.result c.args.row.now.len c.args.row.now.items c.as_mut_slice.result.now b.new.items row c.requires.row c.as_mut_slice.ensures.value b.ensures.items long refl)
+
+pub returns-clause-ended : goal.returns-clause-ended
+returns-clause-ended c =
+    let b = c.serve_batch-served in
+    row-ended c.args.board.now.sessions c.args.book.now b.new.self c.args.session.now c.answer_row.new.session (take b.result c.as_mut_slice.result.now)
+    c.requires.book c.answer_row.ensures.book b.ensures.history

@@ -19,7 +19,7 @@ returns c =
     ∙ ap app_of_fields c.version.ensures ∙ ap (on_top (λ s. record s { has_version = true })) (ap app_of_fields c.about.ensures ∙ c.new.ensures.app)) in
     let one : app_of c.in_ok-subcommand.field-0 ≡ with_subcommand (wants_command (new_app (codes "glm"))) (with_rule (command_for_sessions (codes "replay")) stream_flag).top =
     c.in_ok-subcommand.ensures.shape c.in_ok-replay.ensures.own ∙ ap₂ with_subcommand top (ap top_of c.in_ok-replay.ensures.app) in
-    let two : app_of c.in_ok-subcommand-2.field-0 ≡ with_subcommand (with_subcommand (wants_command (new_app (codes "glm"))) (with_rule (command_for_sessions (codes "replay")) stream_flag).top) (with_rule (command_for_sessions (codes "run")) turns_option).top =
+    let two : app_of c.in_ok-subcommand-2.field-0 ≡ with_subcommand (with_subcommand (wants_command (new_app (codes "glm"))) (with_rule (command_for_sessions (codes "replay")) stream_flag).top) (with_rule (with_rule (command_for_sessions (codes "run")) turns_option) stream_flag).top =
     c.in_ok-subcommand-2.ensures.shape c.in_ok-run.ensures.own ∙ ap₂ with_subcommand one (ap top_of c.in_ok-run.ensures.app) in
     IfOk-weaker c.subcommand-3.result _ _
     (λ command h. h.shape c.in_ok-check.ensures.own ∙ ap₂ with_subcommand two (ap top_of c.in_ok-check.ensures.app)) c.subcommand-3.ensures

@@ -5,5 +5,5 @@ use Rattle.glm.proofs.args.run_command.Goals as goal
 
 pub returns-clause-app : goal.returns-clause-app
 returns-clause-app c =
-    IfOk-weaker c.arg.result _ _
-    (λ command h. h.shape c.turns_arg.ensures.own ∙ ap₂ with_rule c.in_ok-run.ensures.app c.turns_arg.ensures.rule) c.arg.ensures
+    let tries = c.in_ok-arg.ensures.shape c.turns_arg.ensures.own ∙ ap₂ with_rule c.in_ok-run.ensures.app c.turns_arg.ensures.rule in
+    IfOk-weaker c.arg-2.result _ _ (λ command h. h.shape c.stream_arg.ensures.own ∙ ap₂ with_rule tries c.stream_arg.ensures.rule) c.arg-2.ensures

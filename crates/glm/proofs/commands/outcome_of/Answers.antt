@@ -29,14 +29,28 @@ returns-in-Ok-Some-Replay-default-InPieces c c' =
       replays = done.replays;
     }
 
-pub returns-in-Ok-Some-Run : goal.returns-in-Ok-Some-Run
-returns-in-Ok-Some-Run c c' =
+pub returns-in-Ok-Some-Run-default-default-Whole : goal.returns-in-Ok-Some-Run-default-default-Whole
+returns-in-Ok-Some-Run-default-default-Whole c c' =
     let done = c'.run.ensures in
     record {
-      sessions = c'.in-Ok-Some-Run.sessions;
-      turns = c'.in-Ok-Some-Run.turns;
+      sessions = c'.in-Ok-Some-Run-default-default-Whole.sessions;
+      turns = c'.in-Ok-Some-Run-default-default-Whole.turns;
       asked = search rules;
       kept = done.kept;
+      part = done.part;
+      performed = done.performed;
+      runs = done.runs;
+    }
+
+pub returns-in-Ok-Some-Run-default-default-InPieces : goal.returns-in-Ok-Some-Run-default-default-InPieces
+returns-in-Ok-Some-Run-default-default-InPieces c c' =
+    let done = c'.run_in_pieces.ensures in
+    record {
+      sessions = c'.in-Ok-Some-Run-default-default-InPieces.sessions;
+      turns = c'.in-Ok-Some-Run-default-default-InPieces.turns;
+      asked = search rules;
+      kept = done.kept;
+      front = done.front;
       part = done.part;
       performed = done.performed;
       runs = done.runs;

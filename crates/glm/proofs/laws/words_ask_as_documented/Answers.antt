@@ -10,9 +10,10 @@ use Rattle.lock_tree.specs.Numerals.{reading_of_numeral}
 use Rattle.lock_tree.specs.declared.numeral.NumeralFault.{NumeralFault}
 use Rattle.lock_tree.specs.declared.numeral.NumeralFault.TheVariants.{LeadingZero, NotANumber}
 use Rattle.lock_rules.specs.declared.calls.TheConstants.{MAX_SESSIONS}
-use Rattle.glm.specs.CommandLine.{AskNothing, IsRequest, faults_of, glm_command}
+use Rattle.glm.specs.CommandLine.{AskNothing, Gives, HasFlag, IsRequest, faults_of, glm_command}
 use Rattle.glm.specs.declared.args.TheConstants.{MAX_TURNS}
-use Rattle.glm.proofs.Ask.{no_such_sessions, sessions_text}
+use Rattle.glm.specs.declared.running_in_pieces.TheConstants.{MAX_STREAMED_SESSIONS}
+use Rattle.glm.proofs.Ask.{no_streamed, no_such_sessions, sessions_text}
 use Rattle.glm.proofs.Gives.{numeral_given}
 use Rattle.glm.proofs.laws.words_ask_as_documented.Goals as goal
 
@@ -29,6 +30,16 @@ unnumbered : (words : List Text) (found : Option (Text × List Row)) (text : Tex
     → subcommand_of glm_command words ≡ found → sessions_text found ≡ Some text → reading_of_numeral MAX_SESSIONS text ≡ Err fault → AskNothing words
 unnumbered words found text fault whole is given wrong = record {
   no_request = λ asked ask. no_such_sessions found text fault given wrong asked (subst (λ (f : Option (Text × List Row)). IsRequest f asked) is ask.request_is);
+  no_help = λ help. let bad : [] ≡ DisplayHelp ∷ [] = sym whole ∙ help in cc;
+  no_version = λ version. let bad : [] ≡ DisplayVersion ∷ [] = sym whole ∙ version in cc;
+}
+
+-- words without an error ask for nothing if they name a run in pieces, and the greatest number of sessions
+overfull : (words : List Text) (name : Text) (rows : List Row) → faults_of words ≡ [] → subcommand_of glm_command words ≡ Some (name, rows)
+    → name ≡ codes "run" → Gives (codes "sessions") MAX_SESSIONS rows MAX_SESSIONS → HasFlag (codes "stream") rows → AskNothing words
+overfull words name rows whole is run given flag = record {
+  no_request = λ asked ask. no_streamed name rows MAX_SESSIONS run given (omega arith) flag asked
+      (subst (λ (f : Option (Text × List Row)). IsRequest f asked) is ask.request_is);
   no_help = λ help. let bad : [] ≡ DisplayHelp ∷ [] = sym whole ∙ help in cc;
   no_version = λ version. let bad : [] ≡ DisplayVersion ∷ [] = sym whole ∙ version in cc;
 }
@@ -95,11 +106,24 @@ returns-clause-replay_help c = inl refl
 
 pub returns-clause-run : goal.returns-clause-run
 unfolding clap_on_literals
-returns-clause-run c = record { whole = refl; request_is = (refl, numeral_given (codes "sessions") (codes "256") MAX_SESSIONS 256 _ (omega arith) refl refl (search rules), numeral_given (codes "turns") (codes "1000000000") MAX_TURNS 1000000000 _ (omega arith) refl refl (search rules)) }
+returns-clause-run c = record { whole = refl; request_is = (refl, numeral_given (codes "sessions") (codes "256") MAX_SESSIONS 256 _ (omega arith) refl refl (search rules), numeral_given (codes "turns") (codes "1000000000") MAX_TURNS 1000000000 _ (omega arith) refl refl (search rules), λ flag. let no : Some (codes "false") ≡ Some (codes "true") = flag in cc) }
 
 pub returns-clause-run_turns : goal.returns-clause-run_turns
 unfolding clap_on_literals
-returns-clause-run_turns c = record { whole = refl; request_is = (refl, numeral_given (codes "sessions") (codes "2") MAX_SESSIONS 2 _ (omega arith) refl refl (search rules), numeral_given (codes "turns") (codes "9") MAX_TURNS 9 _ (omega arith) refl refl (search rules)) }
+returns-clause-run_turns c = record { whole = refl; request_is = (refl, numeral_given (codes "sessions") (codes "2") MAX_SESSIONS 2 _ (omega arith) refl refl (search rules), numeral_given (codes "turns") (codes "9") MAX_TURNS 9 _ (omega arith) refl refl (search rules), λ flag. let no : Some (codes "false") ≡ Some (codes "true") = flag in cc) }
+
+pub returns-clause-run_stream : goal.returns-clause-run_stream
+unfolding clap_on_literals
+returns-clause-run_stream c = record { whole = refl; request_is = (refl, numeral_given (codes "sessions") (codes "256") MAX_STREAMED_SESSIONS 256 _ (omega arith) refl refl (search rules), numeral_given (codes "turns") (codes "1000000000") MAX_TURNS 1000000000 _ (omega arith) refl refl (search rules), refl) }
+
+pub returns-clause-run_stream_most : goal.returns-clause-run_stream_most
+unfolding clap_on_literals
+returns-clause-run_stream_most c = record { whole = refl; request_is = (refl, numeral_given (codes "sessions") (codes "1023") MAX_STREAMED_SESSIONS 1023 _ (omega arith) refl refl (search rules), numeral_given (codes "turns") (codes "1000000000") MAX_TURNS 1000000000 _ (omega arith) refl refl (search rules), refl) }
+
+pub returns-clause-run_stream_too_many : goal.returns-clause-run_stream_too_many
+unfolding clap_on_literals
+returns-clause-run_stream_too_many c =
+    overfull _ _ _ refl refl refl (numeral_given (codes "sessions") (codes "1024") MAX_SESSIONS 1024 _ (omega arith) refl refl (search rules)) refl
 
 pub returns-clause-no_turns : goal.returns-clause-no_turns
 unfolding clap_on_literals

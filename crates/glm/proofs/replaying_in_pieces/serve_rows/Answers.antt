@@ -1,4 +1,4 @@
-use Rattle.std.proofs.Common.{◌≡◌, ◌∙◌, ◌+◌, ◌<◌, ◌≤◌, List, length, take, drop, ap, refl, sym, subst, take-append-drop, take_all, rules, arith}
+use Rattle.std.proofs.Common.{◌+◌, List, length, take, drop, ap, refl, sym, subst, take-append-drop, take_all, rules, arith}
 use Rattle.std.proofs.lemmas.Result.{IfErr-weaker, on_ok_weaker}
 use Rattle.lock_trace.specs.Rows.{IsRow}
 use Rattle.lock_trace.specs.declared.rows.TraceRow.{TraceRow}

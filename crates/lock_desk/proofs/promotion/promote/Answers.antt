@@ -1,7 +1,8 @@
-use Rattle.std.proofs.Common.{◌≡◌, suc, vec_len, drop, ◌∙◌, arith, ap, sym, refl}
+use Rattle.std.proofs.Common.{◌≡◌, suc, vec_len, drop, ◌∙◌, arith, ap, sym, refl, inl}
 use Rattle.lock_desk.specs.inner.Lockers.{standings_of}
 use Rattle.lock_desk.proofs.ResourceViews.{both, next-passed, next-within, promoted-next, once-next}
-use Rattle.lock_desk.proofs.Promotions.{grant-some, grant-within, grant-waits_locker, grant-agree, grant-same}
+use Rattle.lock_desk.proofs.Promotions.{grant-some, grant-within, grant-waits_locker, grant-agree, grant-same, grant-listed}
+use Rattle.lock_desk.proofs.EndedWaits.{list-on, list-none}
 use Rattle.lock_desk.proofs.promotion.promote.Goals as goal
 
 pub admit-shared-requires-clause-rising : goal.admit-shared-requires-clause-rising
@@ -56,4 +57,32 @@ loop-next-preserved c =
       agree = rw same agree;
       changed = grant-same r v _ c.in-Some.next lockers n k.agree c.index_mut-locker.result.now next c.index_mut-locker.ensures.value c.grant.new.self r c.grant.ensures refl (standings_of c.args.lockers.now.items) k.changed;
       len = k.len;
+      listed = list-on 0 c.args.lockers.now.items lockers _ c.args.ended.now c.loop-next.ended c.add.new.self k.listed
+          (grant-listed r v _ c.in-Some.next lockers n k.agree c.index_mut-locker.result.now next c.index_mut-locker.ensures.value c.grant.new.self r c.grant.ensures refl c.loop-next.ended c.add.new.self c.add.ensures.sized c.add.ensures.listed);
     }
+
+pub add-requires-clause-some : goal.add-requires-clause-some
+add-requires-clause-some c =
+    let n = next-passed c.loop-next.cell.holders.items c.loop-next.cell.waiting.items c.loop-next.granted c.in-Some.next c.admit-shared.new.self.holders.items (sym c.in-Some.is ∙ c.next_grant.ensures) c.admit-shared.ensures.holders in
+    grant-some c.args.resource _ _ c.in-Some.next c.loop-next.lockers.items n c.loop-next.invariant.agree c.loop-next.invariant.once
+
+pub add-requires-clause-within : goal.add-requires-clause-within
+add-requires-clause-within c =
+    let k = c.loop-next.invariant in
+    let n = next-passed c.loop-next.cell.holders.items c.loop-next.cell.waiting.items c.loop-next.granted c.in-Some.next c.admit-shared.new.self.holders.items (sym c.in-Some.is ∙ c.next_grant.ensures) c.admit-shared.ensures.holders in
+    let next : suc c.position_of.result ≡ c.in-Some.next.session = omega (arith, grant-some c.args.resource _ _ c.in-Some.next c.loop-next.lockers.items n k.agree k.once, c.position_of.ensures) in
+    let within = (grant-within c.args.resource _ _ c.in-Some.next c.loop-next.lockers.items n k.agree next).within in
+    omega (arith, next, within, c.loop-next.lockers.ok.0, k.len, k.listed.sized, c.requires.sized)
+
+pub loop-next-init : goal.loop-next-init
+loop-next-init c = record {
+  view = refl;
+  passed = omega arith;
+  room = omega (arith, c.requires.room);
+  shared = tt;
+  once = c.requires.once;
+  agree = c.requires.agree;
+  changed = λ s. inl refl;
+  len = refl;
+  listed = list-none 0 c.args.lockers.now.items c.args.ended.now;
+}

@@ -1,7 +1,6 @@
+use Rattle.std.proofs.Common.{◌≡◌, Bool, true, false, eqb, sym, ap, ◌∙◌}
+use Rattle.std.proofs.lemmas.Bool.Decides.{Decides-eqb}
 use Rattle.pelgaisti_c.proofs.session_calls.serve.Goals as goal
 
-pub returns-in-Pass-default-true-clause-passed : goal.returns-in-Pass-default-true-clause-passed
-returns-in-Pass-default-true-clause-passed c = λ _. c.serve.ensures.pass _ _ c.in-Pass-default-true.is
-
-pub returns-in-Pass-default-false-clause-passed : goal.returns-in-Pass-default-false-clause-passed
-returns-in-Pass-default-false-clause-passed c = λ _. c.serve.ensures.pass _ _ c.in-Pass-default-false.is
+pub returns-clause-passed : goal.returns-clause-passed
+returns-clause-passed c = λ e. c.serve-turn.ensures.pass _ _ (c.write_turn.ensures.ok e)

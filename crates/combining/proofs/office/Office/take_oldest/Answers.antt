@@ -1,9 +1,8 @@
-use Rattle.std.proofs.Common.{rules, ◌≡◌, ◌∙◌, ◌+◌, ◌-◌, max, ◌<◌, ◌≤◌, ◌++◌, ◌∷◌, ℕ, List, [], take, drop, min, length, sym, ap, subst, arith}
+use Rattle.std.proofs.Common.{rules, ◌≡◌, ◌∙◌, ◌+◌, ◌-◌, max, ◌≤◌, ◌++◌, ◌∷◌, List, [], take, drop, min, length, sym, ap, subst, arith}
 use mathlib.Core.List.{IsPrefix}
-use Rattle.trimmed_list.specs.declared.trimmed_list.TheConstants.{NO_BOUND, MOST_DROPPED}
+use Rattle.trimmed_list.specs.declared.trimmed_list.TheConstants.{NO_BOUND}
 use Rattle.lock_rules.specs.declared.calls.Entry.{Entry}
 use Rattle.lock_rules.specs.Legal.{IsLegal}
-use Rattle.publication.specs.Rule.{IsHome}
 use Rattle.publication.specs.declared.piece.Piece.{Piece}
 use Rattle.publication.proofs.PieceLaws.{one_more_in_order, one_more_in_a_row}
 use Rattle.combining.specs.declared.office.HistoryPiece.{HistoryPiece}

@@ -4,6 +4,7 @@ use Rattle.lock_desk.specs.BookView.{IsEntryWithin}
 use Rattle.lock_rules.specs.declared.calls.Entry.{Entry}
 use Rattle.lock_rules.specs.Legal.{IsLegal, state_of}
 use Rattle.lock_desk.specs.inner.Shows.{Shows}
+use Rattle.lock_desk.proofs.EndedList.{none-in}
 use Rattle.lock_desk.proofs.book.Book.new.Goals as goal
 
 pub invariant_of-result : goal.invariant_of-result
@@ -23,3 +24,6 @@ invariant_of-result c =
       counted = subst (λ (es : List Entry). c.in_ok-lock_table.lock_table.count ≤ length es) none (omega (arith, lock_table.shows.count));
       marked = marks.sessions;
     }
+
+pub returns-clause-ended : goal.returns-clause-ended
+returns-clause-ended c = none-in c.in_ok-lock_table.lock_table.ended c.in_ok-lock_table.ensures.none

@@ -1,32 +1,39 @@
-use Rattle.std.proofs.Common.{◌++◌, ◌∷◌, [], List, ◌≤◌, ◌∙◌, sym, ap, subst}
-use Rattle.lock_rules.specs.declared.calls.Entry.{Entry}
+use Rattle.std.proofs.Common.{◌≡◌, ◌∙◌, refl, sym, ap, subst, arith, vec_len, length}
 use Rattle.lock_rules.specs.Step.{step}
 use Rattle.lock_rules.specs.Legal.{state_of}
-use Rattle.lock_rules.proofs.Steps.{state-lawful}
-use Rattle.lock_rules.proofs.Owners.{state-numbered}
 use Rattle.lock_desk.specs.BookView.{BookView}
-use Rattle.lock_desk.proofs.BookInvariant.{kept-more, kept-same, bound}
+use Rattle.lock_desk.specs.declared.lock_table.LockTable.{LockTable}
+use Rattle.lock_desk.specs.inner.Runs.{AreKept}
+use Rattle.lock_desk.specs.inner.Invariant.{IsKept}
+use Rattle.lock_desk.proofs.BookInvariant.{kept-of, of-kept, kept-relisted, listed-alone, entry-view}
 use Rattle.lock_desk.proofs.book.Book.serve.Goals as goal
 
-pub invariant_of-self-in_err-reply : goal.invariant_of-self-in_err-reply
-invariant_of-self-in_err-reply c =
-    let k = c.self.invariant in
-    let es = c.self.inside.history.items in
-    kept-same _ es c.reserve.ensures.items k.some k.few k.legal k.within (c.in_err-reply.ensures.err (state_of es) k.shows) c.in_err-reply.ensures.whole c.in_err-reply.ensures.ready (c.in_err-reply.ensures.len ∙ k.lockers) c.self.inside.lock_table.count k.shows.count k.counted k.marked
+pub serve_recorded-requires-clause-within : goal.serve_recorded-requires-clause-within
+serve_recorded-requires-clause-within c =
+    omega (arith, c.requires.within, ap (λ (t : BookView). t.sessions) c.self.view_is, c.self.invariant.lockers, ap (λ (d : LockTable). vec_len d.lockers) c.clear_ended-listed.ensures.cleared)
 
-pub invariant_of-self-2 : goal.invariant_of-self-2
-invariant_of-self-2 c =
-    let k = c.self.invariant in
-    let es = c.self.inside.history.items in
-    let s = c.in_ok-reply.ensures.step (state_of es) (state-lawful es).sound (state-numbered es) k.shows in
-    let most = subst (λ (t : BookView). c.args.session ≤ t.sessions) (sym c.self.view_is) c.requires.within in
-    kept-more _ es c.args.session c.args.call c.in_ok-reply.reply
-    (c.push_reserved.ensures.items ∙ ap (λ (xs : List Entry). xs ++ record { session = c.args.session; call = c.args.call; reply = c.in_ok-reply.reply } ∷ []) c.in_ok-reserve.ensures.items)
-    k.some k.few k.legal k.within c.requires.some most s.0 s.1 c.in_ok-reply.ensures.whole c.in_ok-reply.ensures.ready (c.in_ok-reply.ensures.len ∙ k.lockers) (bound c.in_ok-reply.ensures.count k.counted) k.marked
+pub serve_recorded-requires-clause-kept : goal.serve_recorded-requires-clause-kept
+serve_recorded-requires-clause-kept c =
+    let a = c.self.inside in
+    subst (λ (d : LockTable). AreKept d a.history.items) (sym c.clear_ended-listed.ensures.cleared) (kept-relisted a.lock_table _ a.history.items refl (kept-of a c.self.invariant))
 
-pub returns-clause-reply : goal.returns-clause-reply
-returns-clause-reply c =
+pub returns-in-Ok-clause-entry : goal.returns-in-Ok-clause-entry
+returns-in-Ok-clause-entry c =
+    let a = c.self.inside in
     let k = c.self.invariant in
-    let es = c.self.inside.history.items in
-    let s = c.in_ok-reply.ensures.step (state_of es) (state-lawful es).sound (state-numbered es) k.shows in
-    s.0 ∙ ap (λ (t : BookView). (step (state_of t.history) c.args.session c.args.call).reply) c.self.view_is
+    let f = c.clear_ended-listed.new.self in
+    let e = c.serve_recorded.new.table in
+    let done = c.in-Ok.ensures in
+    let sized : length e.ended.places ≡ a.sessions
+    = done.kept.ready.listed ∙ (done.lockers ∙ (ap (λ (d : LockTable). vec_len d.lockers) c.clear_ended-listed.ensures.cleared ∙ k.lockers)) in
+    let st = state_of a.history.items in
+    let ends = listed-alone a.sessions c.args.session st (step st c.args.session c.args.call).state f.ended e.ended sized (ap (λ (d : LockTable). d.ended.count) c.clear_ended-listed.ensures.cleared) done.ended in
+    entry-view a c.args.self.now c.self.view_is c.args.session c.args.call c.in-Ok.reply c.serve_recorded.new.history.items _ _ _ done.entry done.cut done.bound ends
+
+pub invariant_of-self-in-Err : goal.invariant_of-self-in-Err
+invariant_of-self-in-Err c =
+    let k = c.self.invariant in
+    let e = c.serve_recorded.new.table in
+    let done = c.in-Err.ensures in
+    subst (λ (d : LockTable). IsKept (record { sessions = c.self.inside.sessions; lock_table = d; history = c.serve_recorded.new.history; marks = c.self.inside.marks })) (sym c.restore_ended.ensures)
+    (of-kept _ k.some k.few (kept-relisted e _ c.serve_recorded.new.history.items refl done.kept) (done.lockers ∙ (ap (λ (d : LockTable). vec_len d.lockers) c.clear_ended-listed.ensures.cleared ∙ k.lockers)) k.marked)

@@ -13,5 +13,5 @@ invariant-loop-served l = record {
   bound : l.self.bound ≡ l.initial.self.bound;
   within : All (IsItemWithin l.self.sessions) l.items;
   long : length l.items ≡ length l.initial.items;
-  served : (batch : List Item) (start : List Entry) → AreServed l.from batch start l.initial.self.history l.initial.items → AreServed l.served batch start l.self.history l.items;
+  served : (batch : List Item) (start : List Entry) → AreServed l.initial.self.sessions l.from batch start l.initial.self.ended l.initial.self.history l.initial.items → AreServed l.initial.self.sessions l.served batch start l.self.ended l.self.history l.items;
 }

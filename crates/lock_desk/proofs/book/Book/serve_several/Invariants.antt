@@ -10,7 +10,7 @@ invariant-loop-served l = record {
   cut : l.self.cut ≡ l.initial.self.cut;
   bound : l.self.bound ≡ l.initial.self.bound;
   within : All (IsItemWithin l.self.sessions) l.items;
-  served : AreServed l.served l.initial.items l.initial.self.history l.self.history l.items;
+  served : AreServed l.initial.self.sessions l.served l.initial.items l.initial.self.history l.self.ended l.self.history l.items;
 }
 
 abbrev pub decreases-loop-served : goal.decreases-loop-served

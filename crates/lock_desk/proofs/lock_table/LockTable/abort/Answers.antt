@@ -1,5 +1,6 @@
 use Rattle.lock_desk.proofs.Agreement.{keeps-on}
 use Rattle.lock_desk.proofs.BeginAndEnd.{ended-after}
+use Rattle.lock_desk.proofs.EndedWaits.{listed-on}
 use Rattle.lock_desk.proofs.lock_table.LockTable.abort.Goals as goal
 
 pub returns-clause-ended : goal.returns-clause-ended
@@ -7,3 +8,6 @@ returns-clause-ended c = ended-after c.args.session c.args.self.now c.cancel.new
 
 pub returns-clause-kept : goal.returns-clause-kept
 returns-clause-kept c = keeps-on c.cancel.ensures.kept c.end.ensures.kept
+
+pub returns-clause-listed : goal.returns-clause-listed
+returns-clause-listed c = listed-on c.args.session c.args.self.now c.cancel.new.self c.end.new.self c.cancel.ensures.listed c.end.ensures.listed

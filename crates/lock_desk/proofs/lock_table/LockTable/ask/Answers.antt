@@ -6,6 +6,7 @@ use Rattle.lock_desk.specs.inner.Changes.{mode_held, HasAsked}
 use Rattle.lock_desk.proofs.AfterStep.{first_state}
 use Rattle.lock_desk.proofs.Simulation.{granted-answer, waits-shown_first, waits-sound, waits-numbered, waits-answer}
 use Rattle.lock_desk.proofs.FewRequests.{few-waits}
+use Rattle.lock_desk.proofs.EndedWaits.{listed-on}
 use Rattle.lock_desk.proofs.lock_table.LockTable.ask.Goals as goal
 
 pub returns-in-Granted-clause-ask : goal.returns-in-Granted-clause-ask
@@ -34,6 +35,9 @@ returns-in-Waiting-clause-ask c = λ st i j h.
           let numbered = waits-numbered d c.request.new.self st s r c.args.mode m c.requires.whole i h c.requires.may target n k j in
           let long = c.requires.ready.long in
           let few = few-waits c.request.new.self (first_state st s r m false) c.request.ensures.kept.whole sound first c.args.self.now.waits.rows.sessions (omega (arith, long, c.request.ensures.kept.lockers, c.request.new.self.lockers.ok.0)) in
-          waits-answer d c.request.new.self st s r c.args.mode m c.requires.whole i h c.requires.may target n k (vec_len c.request.new.self.lockers + 1) c.resolve_deadlocks.new.self
-          (omega (arith, few, long, c.request.ensures.kept.lockers)) c.resolve_deadlocks.ensures.whole (c.resolve_deadlocks.ensures.settled (first_state st s r m false) sound numbered first) c.standing_reply.result c.standing_reply.ensures
+          waits-answer d c.request.new.self st s r c.args.mode m c.requires.whole i h c.requires.may target n k (vec_len c.request.new.self.lockers + 1) c.resolve_for.new.self
+          (omega (arith, few, long, c.request.ensures.kept.lockers)) c.resolve_for.ensures.whole (c.resolve_for.ensures.settled (first_state st s r m false) sound numbered first) c.standing_reply.result c.standing_reply.ensures
     ]
+
+pub returns-in-Waiting-clause-listed : goal.returns-in-Waiting-clause-listed
+returns-in-Waiting-clause-listed c = listed-on c.args.session c.args.self.now c.request.new.self c.resolve_for.new.self c.request.ensures.listed c.resolve_for.ensures.listed

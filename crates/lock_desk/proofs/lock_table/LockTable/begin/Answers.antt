@@ -7,6 +7,7 @@ use Rattle.lock_desk.specs.inner.Lockers.{standing_of}
 use Rattle.lock_desk.proofs.Asking.{within}
 use Rattle.lock_desk.proofs.BeginAndEnd.{told-whole, transaction-each, has-begun}
 use Rattle.lock_desk.proofs.RowsOfTheTable.{ready-numbered}
+use Rattle.lock_desk.proofs.EndedWaits.{list-own}
 use Rattle.lock_desk.proofs.lock_table.LockTable.begin.Goals as goal
 
 pub returns-clause-begun : goal.returns-clause-begun
@@ -27,11 +28,16 @@ returns-clause-kept c =
     let lt = within d s c.position_of.ensures c.requires.some c.requires.within in
     let at = c.index_mut-locker.ensures.value in
     let number = c.set_number.ensures in
-    let e : LockTable = record { count = d.count + 1; lockers = with_item d.lockers c.position_of.result new; cells = d.cells; waits = c.set_number.new.waits } in
+    let e : LockTable = record { count = d.count + 1; lockers = with_item d.lockers c.position_of.result new; cells = d.cells; waits = c.set_number.new.waits; ended = d.ended } in
     let whole = told-whole d s o locker new e c.requires.whole lt at (ap standing_of is) (ap (λ (x : Locker). x.held) is) (ap (λ (x : Locker). x.wanted) is) refl refl in
     record {
       whole = whole;
       lockers = search rules;
-      ready = ready-numbered d e s (d.count + 1) o refl c.requires.whole whole (λ q. refl) (search rules) (transaction-each d s o locker new e c.requires.whole lt at (ap standing_of is) (ap (λ (x : Locker). x.held) is) (ap (λ (x : Locker). x.wanted) is) refl refl)
+      ready = ready-numbered d e s (d.count + 1) o refl c.requires.whole whole (λ q. refl) (search rules) refl (transaction-each d s o locker new e c.requires.whole lt at (ap standing_of is) (ap (λ (x : Locker). x.held) is) (ap (λ (x : Locker). x.wanted) is) refl refl)
           number.rows number.len number.numbers c.requires.ready;
     }
+
+pub returns-clause-listed : goal.returns-clause-listed
+returns-clause-listed c =
+    let d = c.args.self.now in
+    list-own c.args.session d.lockers.items c.begin.new.self d.ended (within d c.args.session c.position_of.ensures c.requires.some c.requires.within).session

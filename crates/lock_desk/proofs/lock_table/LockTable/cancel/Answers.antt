@@ -1,4 +1,4 @@
-use Rattle.std.proofs.Common.{rules, arith, refl, sym, ◌∙◌, ap}
+use Rattle.std.proofs.Common.{rules, arith, refl, sym, ◌∙◌, ap, is_some}
 use Rattle.lock_desk.specs.inner.Lockers.{Standing}
 use Rattle.lock_desk.proofs.LockerStandings.{standing-here}
 use Rattle.lock_desk.proofs.Asking.{within}
@@ -6,6 +6,8 @@ use Rattle.lock_desk.proofs.Agreement.{standings-same}
 use Rattle.lock_desk.proofs.BeginAndEnd.{cancel-agree, cancelled-same, has-cancelled, cancel-keeps, same-seen, same-cancelled, same-whole}
 use Rattle.lock_desk.proofs.SessionsInRange.{numbered-whole}
 use Rattle.lock_desk.proofs.RowsOfTheTable.{ready-same}
+use Rattle.lock_desk.specs.inner.Requests.{wanted_in}
+use Rattle.lock_desk.proofs.EndedWaits.{list-own, list-freed}
 use Rattle.lock_desk.proofs.lock_table.LockTable.cancel.Goals as goal
 
 pub free_at-requires-clause-agree : goal.free_at-requires-clause-agree
@@ -13,18 +15,18 @@ free_at-requires-clause-agree c =
     cancel-agree c.args.self.now c.args.session c.in-Some.resource c.index_mut-locker.result.now c.cancel.new.self c.requires.whole (within c.args.self.now c.args.session c.position_of.ensures c.requires.some c.requires.within) c.index_mut-locker.ensures.value
     (sym c.in-Some.ensures.resource) c.in-Some.ensures.transaction c.in-Some.ensures.held c.in-Some.ensures.none
 
-pub returns-in-Some-clause-cancelled : goal.returns-in-Some-clause-cancelled
-returns-in-Some-clause-cancelled c =
+pub returns-clause-cancelled : goal.returns-clause-cancelled
+returns-clause-cancelled c =
     has-cancelled c.args.self.now c.args.session c.in-Some.resource c.index_mut-locker.result.now c.cancel.new.self c.requires.whole (within c.args.self.now c.args.session c.position_of.ensures c.requires.some c.requires.within) c.index_mut-locker.ensures.value
     (sym c.in-Some.ensures.resource) c.in-Some.ensures.transaction c.in-Some.ensures.held c.in-Some.ensures.none
     _ c.free_at.ensures.cells c.free_at.ensures.agree c.free_at.ensures.granted refl
 
-pub returns-in-Some-clause-kept : goal.returns-in-Some-clause-kept
-returns-in-Some-clause-kept c =
+pub returns-clause-kept : goal.returns-clause-kept
+returns-clause-kept c =
     cancel-keeps c.args.self.now c.args.session c.in-Some.resource c.index_mut-locker.result.now c.cancel.new.self c.requires.whole (within c.args.self.now c.args.session c.position_of.ensures c.requires.some c.requires.within) c.index_mut-locker.ensures.value
     (sym c.in-Some.ensures.resource) c.in-Some.ensures.transaction c.in-Some.ensures.held c.in-Some.ensures.none
     _ c.free_at.ensures.cells c.free_at.ensures.agree c.free_at.ensures.granted
-    (search rules) refl c.free_at.ensures.rows c.requires.ready
+    (search rules) refl c.free_at.ensures.listed.sized c.free_at.ensures.rows c.requires.ready
 
 pub free_at-requires-clause-within : goal.free_at-requires-clause-within
 free_at-requires-clause-within c = numbered-whole c.args.self.now c.args.self.now.waits.rows.sessions (omega (arith, c.requires.ready.long, c.args.self.now.lockers.ok.0)) c.requires.whole c.in-Some.resource
@@ -50,5 +52,27 @@ returns-in_default-clause-kept c =
     record {
       whole = same-whole d _ c.requires.whole lockers refl;
       lockers = search rules;
-      ready = ready-same d _ (same-seen d _ refl lockers refl) (search rules) refl c.requires.ready;
+      ready = ready-same d _ (same-seen d _ refl lockers refl refl) (search rules) refl c.requires.ready;
     }
+
+pub returns-clause-waited : goal.returns-clause-waited
+returns-clause-waited c =
+    let d = c.args.self.now in
+    let here = within d c.args.session c.position_of.ensures c.requires.some c.requires.within in
+    sym (ap (λ (x : Standing). is_some x.wanted) (standing-here d.lockers.items c.args.session c.index_mut-locker.result.now here c.index_mut-locker.ensures.value) ∙ ap is_some (sym c.in-Some.ensures.resource))
+
+pub returns-in_default-clause-waited : goal.returns-in_default-clause-waited
+returns-in_default-clause-waited c =
+    let d = c.args.self.now in
+    let here = within d c.args.session c.position_of.ensures c.requires.some c.requires.within in
+    sym (ap (λ (x : Standing). is_some x.wanted) (standing-here d.lockers.items c.args.session c.index_mut-locker.result.now here c.index_mut-locker.ensures.value) ∙ ap is_some (sym c.in_default.ensures.resource))
+
+pub returns-clause-listed : goal.returns-clause-listed
+returns-clause-listed c =
+    let d = c.args.self.now in
+    list-freed c.args.session d.lockers.items c.cancel.new.self _ d.ended _ (within d c.args.session c.position_of.ensures c.requires.some c.requires.within) (ap wanted_in c.in-Some.ensures.none) c.free_at.ensures.listed
+
+pub returns-in_default-clause-listed : goal.returns-in_default-clause-listed
+returns-in_default-clause-listed c =
+    let d = c.args.self.now in
+    list-own c.args.session d.lockers.items c.cancel.new.self d.ended (within d c.args.session c.position_of.ensures c.requires.some c.requires.within).session

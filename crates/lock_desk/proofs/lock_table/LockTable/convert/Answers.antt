@@ -6,6 +6,7 @@ use Rattle.lock_desk.proofs.Results.{on-err-from}
 use Rattle.lock_desk.proofs.LockerStandings.{standing-here}
 use Rattle.lock_desk.proofs.Asking.{within, idle-there, held-locker, there-same, there-whole, once-own, never-own, has-asked, asked-keeps}
 use Rattle.lock_desk.proofs.RowsOfTheTable.{ready-same, written-for}
+use Rattle.lock_desk.proofs.EndedWaits.{list-none, list-own}
 use Rattle.lock_desk.proofs.lock_table.LockTable.convert.Goals as goal
 
 pub ask-requires-clause-written : goal.ask-requires-clause-written
@@ -15,14 +16,14 @@ pub ask-requires-clause-idle : goal.ask-requires-clause-idle
 ask-requires-clause-idle c = idle-there c.args.session c.args.resource c.args.self.now c.requires.whole c.requires.can.idle
 
 pub returns-in_err-status-clause-err : goal.returns-in_err-status-clause-err
-returns-in_err-status-clause-err c = on-err-from c.from_residual.result (there-same c.args.resource c.args.self.now _ refl refl c.in_err-status.ensures.err)
+returns-in_err-status-clause-err c = on-err-from c.from_residual.result (there-same c.args.resource c.args.self.now _ refl refl refl c.in_err-status.ensures.err)
 
 pub returns-in_err-status-clause-kept : goal.returns-in_err-status-clause-kept
 returns-in_err-status-clause-kept c =
     record {
-      whole = there-whole c.args.resource c.args.self.now _ refl refl c.in_err-status.ensures.err c.requires.whole;
+      whole = there-whole c.args.resource c.args.self.now _ refl refl refl c.in_err-status.ensures.err c.requires.whole;
       lockers = search rules;
-      ready = ready-same c.args.self.now _ (there-same c.args.resource c.args.self.now _ refl refl c.in_err-status.ensures.err) refl c.in_err-status.ensures.unwritten c.requires.ready;
+      ready = ready-same c.args.self.now _ (there-same c.args.resource c.args.self.now _ refl refl refl c.in_err-status.ensures.err) refl c.in_err-status.ensures.unwritten c.requires.ready;
     }
 
 pub wait_for-requires-clause-kind : goal.wait_for-requires-clause-kind
@@ -43,7 +44,7 @@ returns-in-Waiting-clause-kept c =
     (once-own c.args.self.now c.args.session c.args.resource c.index_mut-locker.result.now c.wait_for.new.self _ (is_granted c.in_ok-status.status) (within c.args.self.now c.args.session c.position_of.ensures c.requires.some c.requires.within) c.index_mut-locker.ensures.value
     (subst (λ (b : Bool). standing_of c.wait_for.new.self ≡ standing_after_asking b c.args.resource (standing_of c.index_mut-locker.result.now)) (sym (ap is_granted c.in-Waiting.is)) c.wait_for.ensures) refl)
     c.in_ok-status.ensures.ok
-    (search rules) refl c.in_ok-status.ensures.rows c.requires.ready
+    (search rules) refl refl c.in_ok-status.ensures.rows c.requires.ready
 
 pub returns-in-Granted-clause-asked : goal.returns-in-Granted-clause-asked
 returns-in-Granted-clause-asked c =
@@ -58,4 +59,13 @@ returns-in-Granted-clause-kept c =
     (subst (λ (b : Bool). standings c.args.self.now ≡ set (standings c.args.self.now) c.args.session (standing_after_asking b c.args.resource (standing c.args.session c.args.self.now))) (sym (ap is_granted c.in-Granted.is))
     (never-own c.args.self.now c.args.session c.args.resource (held-locker c.args.session c.args.resource c.args.self.now c.requires.whole ∙ c.requires.can.held) c.requires.can.idle))
     c.in_ok-status.ensures.ok
-    (search rules) refl c.in_ok-status.ensures.rows c.requires.ready
+    (search rules) refl refl c.in_ok-status.ensures.rows c.requires.ready
+
+pub returns-in_err-status-clause-listed : goal.returns-in_err-status-clause-listed
+returns-in_err-status-clause-listed c = list-none c.args.session c.args.self.now.lockers.items c.args.self.now.ended
+
+pub returns-in-Granted-clause-listed : goal.returns-in-Granted-clause-listed
+returns-in-Granted-clause-listed c = list-none c.args.session c.args.self.now.lockers.items c.args.self.now.ended
+
+pub returns-in-Waiting-clause-listed : goal.returns-in-Waiting-clause-listed
+returns-in-Waiting-clause-listed c = list-own c.args.session c.args.self.now.lockers.items c.wait_for.new.self c.args.self.now.ended (within c.args.self.now c.args.session c.position_of.ensures c.requires.some c.requires.within).session

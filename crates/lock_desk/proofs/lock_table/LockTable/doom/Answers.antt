@@ -7,36 +7,45 @@ use Rattle.lock_desk.specs.inner.Lockers.{standing_of}
 use Rattle.lock_desk.proofs.Asking.{within}
 use Rattle.lock_desk.proofs.BeginAndEnd.{told-whole, transaction-each, has-doomed, doomed-each}
 use Rattle.lock_desk.proofs.RowsOfTheTable.{ready-doomed}
+use Rattle.lock_desk.proofs.EndedWaits.{list-on, list-wanted}
 use Rattle.lock_desk.proofs.lock_table.LockTable.doom.Goals as goal
 
 pub returns-clause-doomed : goal.returns-clause-doomed
 returns-clause-doomed c =
-    let f = c.cancel.new.self in
+    let f = c.end_wait.new.self in
     let s = c.args.session in
     let locker = c.index_mut-locker.result.now in
     let new = c.doom.new.self in
     let is = c.doom.ensures in
-    let e : LockTable = record { count = f.count; lockers = with_item f.lockers c.position_of.result new; cells = f.cells; waits = f.waits } in
-    let lt = within f s c.position_of.ensures c.requires.some (omega (arith, c.requires.within, c.cancel.ensures.kept.lockers)) in
+    let e : LockTable = record { count = f.count; lockers = with_item f.lockers c.position_of.result new; cells = f.cells; waits = f.waits; ended = f.ended } in
+    let lt = within f s c.position_of.ensures c.requires.some (omega (arith, c.requires.within, c.end_wait.ensures.kept.lockers)) in
     let at = c.index_mut-locker.ensures.value in
-    has-doomed s c.args.self.now f e c.cancel.ensures.cancelled refl (λ q. refl)
-    (doomed-each f s locker (doom locker.transaction) lt at refl e (transaction-each f s (doom locker.transaction) locker new e c.cancel.ensures.kept.whole lt at (ap standing_of is) (ap (λ (x : Locker). x.held) is) (ap (λ (x : Locker). x.wanted) is) refl refl))
+    has-doomed s c.args.self.now f e c.end_wait.ensures.cancelled refl (λ q. refl)
+    (doomed-each f s locker (doom locker.transaction) lt at refl e (transaction-each f s (doom locker.transaction) locker new e c.end_wait.ensures.kept.whole lt at (ap standing_of is) (ap (λ (x : Locker). x.held) is) (ap (λ (x : Locker). x.wanted) is) refl refl))
 
 pub returns-clause-kept : goal.returns-clause-kept
 returns-clause-kept c =
-    let f = c.cancel.new.self in
+    let f = c.end_wait.new.self in
     let s = c.args.session in
     let locker = c.index_mut-locker.result.now in
     let new = c.doom.new.self in
     let is = c.doom.ensures in
-    let e : LockTable = record { count = f.count; lockers = with_item f.lockers c.position_of.result new; cells = f.cells; waits = f.waits } in
-    let kept = c.cancel.ensures.kept in
+    let e : LockTable = record { count = f.count; lockers = with_item f.lockers c.position_of.result new; cells = f.cells; waits = f.waits; ended = f.ended } in
+    let kept = c.end_wait.ensures.kept in
     let lt = within f s c.position_of.ensures c.requires.some (omega (arith, c.requires.within, kept.lockers)) in
     let at = c.index_mut-locker.ensures.value in
     let whole = told-whole f s (doom locker.transaction) locker new e kept.whole lt at (ap standing_of is) (ap (λ (x : Locker). x.held) is) (ap (λ (x : Locker). x.wanted) is) refl refl in
     record {
       whole = whole;
       lockers = search rules;
-      ready = ready-doomed f e s kept.whole whole (λ q. refl) (search rules)
+      ready = ready-doomed f e s kept.whole whole (λ q. refl) (search rules) refl
           (doomed-each f s locker (doom locker.transaction) lt at refl e (transaction-each f s (doom locker.transaction) locker new e kept.whole lt at (ap standing_of is) (ap (λ (x : Locker). x.held) is) (ap (λ (x : Locker). x.wanted) is) refl refl)) refl kept.ready;
     }
+
+pub returns-clause-listed : goal.returns-clause-listed
+returns-clause-listed c =
+    let d = c.args.self.now in
+    let f = c.end_wait.new.self in
+    let s = c.args.session in
+    let here = within f s c.position_of.ensures c.requires.some (omega (arith, c.requires.within, c.end_wait.ensures.kept.lockers)) in
+    list-on 0 d.lockers.items f.lockers.items _ d.ended f.ended _ c.end_wait.ensures.listed (list-wanted 0 s f.lockers.items c.index_mut-locker.result.now c.doom.new.self f.ended here c.index_mut-locker.ensures.value (ap (λ (x : Locker). x.wanted) c.doom.ensures))

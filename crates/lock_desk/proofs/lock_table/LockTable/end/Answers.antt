@@ -6,6 +6,7 @@ use Rattle.lock_desk.specs.inner.Lockers.{standing_of}
 use Rattle.lock_desk.proofs.Asking.{within}
 use Rattle.lock_desk.proofs.BeginAndEnd.{few-at, told-whole, transaction-each, has-ended}
 use Rattle.lock_desk.proofs.RowsOfTheTable.{ready-numbered}
+use Rattle.lock_desk.proofs.EndedWaits.{list-on, list-own}
 use Rattle.lock_desk.proofs.lock_table.LockTable.end.Goals as goal
 
 pub returns-clause-few : goal.returns-clause-few
@@ -18,7 +19,7 @@ returns-clause-ended c =
     let locker = c.index_mut-locker.result.now in
     let new = c.end.new.self in
     let is = c.end.ensures in
-    let e : LockTable = record { count = f.count; lockers = with_item f.lockers c.position_of.result new; cells = f.cells; waits = c.set_number.new.waits } in
+    let e : LockTable = record { count = f.count; lockers = with_item f.lockers c.position_of.result new; cells = f.cells; waits = c.set_number.new.waits; ended = f.ended } in
     let lt = within f s c.position_of.ensures c.requires.some (omega (arith, c.requires.within, c.give_back_all-locks.ensures.kept.lockers)) in
     let at = c.index_mut-locker.ensures.value in
     let w = c.give_back_all-locks.ensures.kept.whole in
@@ -32,7 +33,7 @@ returns-clause-kept c =
     let locker = c.index_mut-locker.result.now in
     let new = c.end.new.self in
     let is = c.end.ensures in
-    let e : LockTable = record { count = f.count; lockers = with_item f.lockers c.position_of.result new; cells = f.cells; waits = c.set_number.new.waits } in
+    let e : LockTable = record { count = f.count; lockers = with_item f.lockers c.position_of.result new; cells = f.cells; waits = c.set_number.new.waits; ended = f.ended } in
     let kept = c.give_back_all-locks.ensures.kept in
     let lt = within f s c.position_of.ensures c.requires.some (omega (arith, c.requires.within, kept.lockers)) in
     let at = c.index_mut-locker.ensures.value in
@@ -41,6 +42,13 @@ returns-clause-kept c =
     record {
       whole = whole;
       lockers = search rules;
-      ready = ready-numbered f e s 0 None refl kept.whole whole (λ q. refl) (search rules) (transaction-each f s None locker new e kept.whole lt at (ap standing_of is) (ap (λ (x : Locker). x.held) is) (ap (λ (x : Locker). x.wanted) is) refl refl)
+      ready = ready-numbered f e s 0 None refl kept.whole whole (λ q. refl) (search rules) refl (transaction-each f s None locker new e kept.whole lt at (ap standing_of is) (ap (λ (x : Locker). x.held) is) (ap (λ (x : Locker). x.wanted) is) refl refl)
           number.rows number.len number.numbers kept.ready;
     }
+
+pub returns-clause-listed : goal.returns-clause-listed
+returns-clause-listed c =
+    let f = c.give_back_all-locks.new.self in
+    let s = c.args.session in
+    let here = within f s c.position_of.ensures c.requires.some (omega (arith, c.requires.within, c.give_back_all-locks.ensures.kept.lockers)) in
+    list-on s c.args.self.now.lockers.items f.lockers.items _ c.args.self.now.ended f.ended _ c.give_back_all-locks.ensures.listed (list-own s f.lockers.items c.end.new.self f.ended here.session)

@@ -47,5 +47,5 @@ returns-clause-kept c =
     asked-keeps d c.args.session r c.args.mode true _ c.requires.whole here c.requires.can.idle can
     (once-own d c.args.session r c.index_mut-locker.result.now c.hold.new.self _ true here c.index_mut-locker.ensures.value c.hold.ensures refl)
     (became-view r _ _ d.cells.entries _ after c.grant_at.ensures.granted)
-    (search rules) refl
+    (search rules) refl refl
     (quiet-follow (view_at r d) (view_after_asking asker (view_at r d)) d.waits _ refl c.requires.quiet (ap (λ (v : View). is_nobody v.waiting) (sym after) ∙ c.requires.quiet)) c.requires.ready

@@ -5,19 +5,20 @@ use Rattle.lock_desk.proofs.Results.{on-err-from}
 use Rattle.lock_desk.proofs.CellTable.{became-same}
 use Rattle.lock_desk.proofs.Asking.{within, idle-there, held-locker, mid-held, mid-under, room-same, room-whole, twice-own, has-asked, asked-keeps}
 use Rattle.lock_desk.proofs.RowsOfTheTable.{ready-same, written-for}
+use Rattle.lock_desk.proofs.EndedWaits.{list-own, list-twice}
 use Rattle.lock_desk.proofs.lock_table.LockTable.lock.Goals as goal
 
 pub returns-in_err-make_room-clause-err : goal.returns-in_err-make_room-clause-err
 returns-in_err-make_room-clause-err c =
     on-err-from c.from_residual.result
-    (room-same c.args.self.now c.args.session c.index_mut-locker.result.now c.make_room.new.self c.requires.whole (within c.args.self.now c.args.session c.position_of-position.ensures c.requires.some c.requires.within) c.index_mut-locker.ensures.value c.make_room.ensures.standing c.args.resource _ refl refl (became-same c.args.resource c.args.self.now.cells.entries c.requires.whole.cells))
+    (room-same c.args.self.now c.args.session c.index_mut-locker.result.now c.make_room.new.self c.requires.whole (within c.args.self.now c.args.session c.position_of-position.ensures c.requires.some c.requires.within) c.index_mut-locker.ensures.value c.make_room.ensures.standing c.args.resource _ refl refl refl (became-same c.args.resource c.args.self.now.cells.entries c.requires.whole.cells))
 
 pub returns-in_err-make_room-clause-kept : goal.returns-in_err-make_room-clause-kept
 returns-in_err-make_room-clause-kept c =
     record {
-      whole = room-whole c.args.self.now c.args.session c.index_mut-locker.result.now c.make_room.new.self c.requires.whole (within c.args.self.now c.args.session c.position_of-position.ensures c.requires.some c.requires.within) c.index_mut-locker.ensures.value c.make_room.ensures.standing c.args.resource _ refl refl (became-same c.args.resource c.args.self.now.cells.entries c.requires.whole.cells);
+      whole = room-whole c.args.self.now c.args.session c.index_mut-locker.result.now c.make_room.new.self c.requires.whole (within c.args.self.now c.args.session c.position_of-position.ensures c.requires.some c.requires.within) c.index_mut-locker.ensures.value c.make_room.ensures.standing c.args.resource _ refl refl refl (became-same c.args.resource c.args.self.now.cells.entries c.requires.whole.cells);
       lockers = search rules;
-      ready = ready-same c.args.self.now _ (room-same c.args.self.now c.args.session c.index_mut-locker.result.now c.make_room.new.self c.requires.whole (within c.args.self.now c.args.session c.position_of-position.ensures c.requires.some c.requires.within) c.index_mut-locker.ensures.value c.make_room.ensures.standing c.args.resource _ refl refl (became-same c.args.resource c.args.self.now.cells.entries c.requires.whole.cells)) (search rules) refl c.requires.ready;
+      ready = ready-same c.args.self.now _ (room-same c.args.self.now c.args.session c.index_mut-locker.result.now c.make_room.new.self c.requires.whole (within c.args.self.now c.args.session c.position_of-position.ensures c.requires.some c.requires.within) c.index_mut-locker.ensures.value c.make_room.ensures.standing c.args.resource _ refl refl refl (became-same c.args.resource c.args.self.now.cells.entries c.requires.whole.cells)) (search rules) refl c.requires.ready;
     }
 
 pub ask-requires-clause-written : goal.ask-requires-clause-written
@@ -29,14 +30,14 @@ ask-requires-clause-idle c = idle-there c.args.session c.args.resource c.args.se
 pub returns-in_err-status-clause-err : goal.returns-in_err-status-clause-err
 returns-in_err-status-clause-err c =
     on-err-from c.from_residual-in_err-status.result
-    (room-same c.args.self.now c.args.session c.index_mut-locker.result.now c.make_room.new.self c.requires.whole (within c.args.self.now c.args.session c.position_of-position.ensures c.requires.some c.requires.within) c.index_mut-locker.ensures.value c.make_room.ensures.standing c.args.resource _ refl refl c.in_err-status.ensures.err)
+    (room-same c.args.self.now c.args.session c.index_mut-locker.result.now c.make_room.new.self c.requires.whole (within c.args.self.now c.args.session c.position_of-position.ensures c.requires.some c.requires.within) c.index_mut-locker.ensures.value c.make_room.ensures.standing c.args.resource _ refl refl refl c.in_err-status.ensures.err)
 
 pub returns-in_err-status-clause-kept : goal.returns-in_err-status-clause-kept
 returns-in_err-status-clause-kept c =
     record {
-      whole = room-whole c.args.self.now c.args.session c.index_mut-locker.result.now c.make_room.new.self c.requires.whole (within c.args.self.now c.args.session c.position_of-position.ensures c.requires.some c.requires.within) c.index_mut-locker.ensures.value c.make_room.ensures.standing c.args.resource _ refl refl c.in_err-status.ensures.err;
+      whole = room-whole c.args.self.now c.args.session c.index_mut-locker.result.now c.make_room.new.self c.requires.whole (within c.args.self.now c.args.session c.position_of-position.ensures c.requires.some c.requires.within) c.index_mut-locker.ensures.value c.make_room.ensures.standing c.args.resource _ refl refl refl c.in_err-status.ensures.err;
       lockers = search rules;
-      ready = ready-same c.args.self.now _ (room-same c.args.self.now c.args.session c.index_mut-locker.result.now c.make_room.new.self c.requires.whole (within c.args.self.now c.args.session c.position_of-position.ensures c.requires.some c.requires.within) c.index_mut-locker.ensures.value c.make_room.ensures.standing c.args.resource _ refl refl c.in_err-status.ensures.err) (search rules) c.in_err-status.ensures.unwritten c.requires.ready;
+      ready = ready-same c.args.self.now _ (room-same c.args.self.now c.args.session c.index_mut-locker.result.now c.make_room.new.self c.requires.whole (within c.args.self.now c.args.session c.position_of-position.ensures c.requires.some c.requires.within) c.index_mut-locker.ensures.value c.make_room.ensures.standing c.args.resource _ refl refl refl c.in_err-status.ensures.err) (search rules) c.in_err-status.ensures.unwritten c.requires.ready;
     }
 
 pub returns-in-Granted-clause-asked : goal.returns-in-Granted-clause-asked
@@ -50,7 +51,7 @@ returns-in-Granted-clause-kept c =
     asked-keeps c.args.self.now c.args.session c.args.resource c.args.mode (is_granted c.in_ok-status.status) _ c.requires.whole (within c.args.self.now c.args.session c.position_of-position.ensures c.requires.some c.requires.within) c.requires.can.idle c.in_ok-status.ensures.granted
     (twice-own c.args.self.now c.args.session c.index_mut-locker.result.now c.make_room.new.self c.requires.whole (within c.args.self.now c.args.session c.position_of-position.ensures c.requires.some c.requires.within) c.index_mut-locker.ensures.value c.make_room.ensures.standing c.args.resource (is_granted c.in_ok-status.status) c.index_mut-locker-2.result.now c.hold.new.self _ c.index_mut-locker-2.ensures.value (subst (λ (b : Bool). standing_of c.hold.new.self ≡ standing_after_asking b c.args.resource (standing_of c.index_mut-locker-2.result.now)) (sym (ap is_granted c.in-Granted.is)) c.hold.ensures) refl)
     c.in_ok-status.ensures.ok
-    (search rules) refl c.in_ok-status.ensures.rows c.requires.ready
+    (search rules) refl refl c.in_ok-status.ensures.rows c.requires.ready
 
 pub returns-in-Waiting-clause-asked : goal.returns-in-Waiting-clause-asked
 returns-in-Waiting-clause-asked c =
@@ -63,7 +64,7 @@ returns-in-Waiting-clause-kept c =
     asked-keeps c.args.self.now c.args.session c.args.resource c.args.mode (is_granted c.in_ok-status.status) _ c.requires.whole (within c.args.self.now c.args.session c.position_of-position.ensures c.requires.some c.requires.within) c.requires.can.idle c.in_ok-status.ensures.granted
     (twice-own c.args.self.now c.args.session c.index_mut-locker.result.now c.make_room.new.self c.requires.whole (within c.args.self.now c.args.session c.position_of-position.ensures c.requires.some c.requires.within) c.index_mut-locker.ensures.value c.make_room.ensures.standing c.args.resource (is_granted c.in_ok-status.status) c.index_mut-locker-2.result.now c.wait_for.new.self _ c.index_mut-locker-2.ensures.value (subst (λ (b : Bool). standing_of c.wait_for.new.self ≡ standing_after_asking b c.args.resource (standing_of c.index_mut-locker-2.result.now)) (sym (ap is_granted c.in-Waiting.is)) c.wait_for.ensures) refl)
     c.in_ok-status.ensures.ok
-    (search rules) refl c.in_ok-status.ensures.rows c.requires.ready
+    (search rules) refl refl c.in_ok-status.ensures.rows c.requires.ready
 
 pub hold-requires-clause-new : goal.hold-requires-clause-new
 hold-requires-clause-new c =
@@ -80,3 +81,15 @@ hold-requires-clause-under c = mid-under c.args.self.now c.args.session c.index_
 
 pub wait_for-requires-clause-under : goal.wait_for-requires-clause-under
 wait_for-requires-clause-under c = mid-under c.args.self.now c.args.session c.index_mut-locker.result.now c.make_room.new.self c.requires.whole (within c.args.self.now c.args.session c.position_of-position.ensures c.requires.some c.requires.within) c.index_mut-locker.ensures.value c.make_room.ensures.standing c.args.resource c.index_mut-locker-2.result.now c.index_mut-locker-2.ensures.value c.requires.can.under
+
+pub returns-in_err-make_room-clause-listed : goal.returns-in_err-make_room-clause-listed
+returns-in_err-make_room-clause-listed c = list-own c.args.session c.args.self.now.lockers.items c.make_room.new.self c.args.self.now.ended (within c.args.self.now c.args.session c.position_of-position.ensures c.requires.some c.requires.within).session
+
+pub returns-in_err-status-clause-listed : goal.returns-in_err-status-clause-listed
+returns-in_err-status-clause-listed c = list-own c.args.session c.args.self.now.lockers.items c.make_room.new.self c.args.self.now.ended (within c.args.self.now c.args.session c.position_of-position.ensures c.requires.some c.requires.within).session
+
+pub returns-in-Granted-clause-listed : goal.returns-in-Granted-clause-listed
+returns-in-Granted-clause-listed c = list-twice c.args.session c.args.self.now.lockers.items c.make_room.new.self c.hold.new.self c.args.self.now.ended (within c.args.self.now c.args.session c.position_of-position.ensures c.requires.some c.requires.within).session
+
+pub returns-in-Waiting-clause-listed : goal.returns-in-Waiting-clause-listed
+returns-in-Waiting-clause-listed c = list-twice c.args.session c.args.self.now.lockers.items c.make_room.new.self c.wait_for.new.self c.args.self.now.ended (within c.args.self.now c.args.session c.position_of-position.ensures c.requires.some c.requires.within).session

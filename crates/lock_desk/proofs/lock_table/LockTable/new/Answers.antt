@@ -11,7 +11,7 @@ loop-locker-preserved c =
     let k = c.loop-locker.invariant in
     record {
       long = omega (arith, c.in_ok-push.ensures.len, k.long);
-      none = subst (λ (ws : List Locker). (s : ℕ) → standing_at s (standings_of ws) ≡ no_standing) (sym {A = List Locker} c.in_ok-push.ensures.items) (none-push c.loop-locker.lockers.items c.new.result k.none c.new.ensures);
+      none = subst (λ (ws : List Locker). (s : ℕ) → standing_at s (standings_of ws) ≡ no_standing) (sym {A = List Locker} c.in_ok-push.ensures.items) (none-push c.loop-locker.lockers.items c.new-in-loop-locker.result k.none c.new-in-loop-locker.ensures);
     }
 
 pub returns-clause-shows : goal.returns-clause-shows
@@ -24,4 +24,4 @@ returns-clause-shows c = record {
 pub returns-clause-ready : goal.returns-clause-ready
 returns-clause-ready c =
     let ready = c.in_ok-waits.ensures.ready in
-    ready-new _ (omega (arith, ready.sessions, c.loop-locker.invariant.long)) (subst (λ (n : ℕ). IsSizedFor n c.in_ok-waits.waits) (sym ready.sessions) ready) c.in_ok-waits.ensures.pairs c.in_ok-waits.ensures.numbers c.loop-locker.invariant.none
+    ready-new _ (omega (arith, ready.sessions, c.loop-locker.invariant.long)) (omega (arith, c.in_ok-ended.ensures.sized, c.loop-locker.invariant.long)) (subst (λ (n : ℕ). IsSizedFor n c.in_ok-waits.waits) (sym ready.sessions) ready) c.in_ok-waits.ensures.pairs c.in_ok-waits.ensures.numbers c.loop-locker.invariant.none

@@ -1,6 +1,7 @@
-use Rattle.std.proofs.Common.{◌+◌, vec_len, sym, ◌∙◌, arith, subst}
+use Rattle.std.proofs.Common.{rules, refl, ◌+◌, vec_len, sym, ◌∙◌, arith, subst}
 use Rattle.lock_desk.specs.declared.waits.Waits.{Waits}
 use Rattle.lock_desk.specs.inner.Ready.{IsReadyTable}
+use Rattle.lock_desk.proofs.EndedWaits.{listed-on, listed-none}
 use Rattle.lock_desk.proofs.VictimRounds.{rewaited, none-found, found, next-round, last-round}
 use Rattle.lock_desk.proofs.lock_table.LockTable.resolve_deadlocks.Goals as goal
 
@@ -15,12 +16,12 @@ returns-in_default-clause-settled c = λ st i j h.
 pub returns-in_default-clause-ready : goal.returns-in_default-clause-ready
 returns-in_default-clause-ready c =
     let d = c.loop-round.self in
-    subst (λ (w : Waits). IsReadyTable (record { count = d.count; lockers = d.lockers; cells = d.cells; waits = w })) (sym c.in_default.ensures.same) c.loop-round.invariant.ready
+    subst (λ (w : Waits). IsReadyTable (record { count = d.count; lockers = d.lockers; cells = d.cells; waits = w; ended = d.ended })) (sym c.in_default.ensures.same) c.loop-round.invariant.ready
 
 pub doom-requires-clause-ready : goal.doom-requires-clause-ready
 doom-requires-clause-ready c =
     let d = c.loop-round.self in
-    subst (λ (w : Waits). IsReadyTable (record { count = d.count; lockers = d.lockers; cells = d.cells; waits = w })) (sym c.in-Some.ensures.same) c.loop-round.invariant.ready
+    subst (λ (w : Waits). IsReadyTable (record { count = d.count; lockers = d.lockers; cells = d.cells; waits = w; ended = d.ended })) (sym c.in-Some.ensures.same) c.loop-round.invariant.ready
 
 pub loop-round-preserved : goal.loop-round-preserved
 loop-round-preserved c =
@@ -31,6 +32,7 @@ loop-round-preserved c =
       ready = c.doom.ensures.kept.ready;
       count = c.doom.ensures.doomed.count ∙ k.count;
       len = c.doom.ensures.kept.lockers ∙ k.len;
+      listed = listed-on 0 c.args.self.now d c.doom.new.self k.listed c.doom.ensures.listed;
       rounds = λ st i j h.
           let r = k.rounds st i j h in
           let y = c.in-Some.ensures.some in
@@ -38,3 +40,13 @@ loop-round-preserved c =
           next-round (vec_len c.args.self.now.lockers + 1) c.loop-round._round c.args.session c.in-Some.chosen st _ c.doom.new.self
           (rewaited (vec_len c.args.self.now.lockers + 1) c.loop-round._round c.args.session st d c.victim.new.waits r) (omega (arith, c.loop-round-test.true, c.len-round-end.ensures)) f.0 f.1 c.doom.ensures.doomed;
     }
+
+pub loop-round-init : goal.loop-round-init
+loop-round-init c = record {
+  whole = c.requires.whole;
+  ready = c.requires.ready;
+  count = refl;
+  len = refl;
+  listed = listed-none 0 c.args.self.now;
+  rounds = λ st i j h. search rules;
+}

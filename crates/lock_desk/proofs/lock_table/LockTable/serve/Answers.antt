@@ -7,3 +7,9 @@ returns-in-Lock-clause-err c = λ st h. on-err c.serve_lock.result _ _ c.serve_l
 
 pub returns-in-Convert-clause-err : goal.returns-in-Convert-clause-err
 returns-in-Convert-clause-err c = λ st h. on-err c.serve_convert.result _ _ c.serve_convert.ensures.err (λ k. same-shown c.args.self.now c.serve_convert.new.self st k h)
+
+pub returns-in-Lock-clause-unlisted : goal.returns-in-Lock-clause-unlisted
+returns-in-Lock-clause-unlisted c = on-err c.serve_lock.result _ _ c.serve_lock.ensures.err (λ k. k.ended)
+
+pub returns-in-Convert-clause-unlisted : goal.returns-in-Convert-clause-unlisted
+returns-in-Convert-clause-unlisted c = on-err c.serve_convert.result _ _ c.serve_convert.ensures.err (λ k. k.ended)

@@ -1,0 +1,67 @@
+//! What every way to serve has in common: the pass of a session, up to where it gives the lock table back, and its end.
+
+ghost use Rattle.std.specs.Prelude.{◌≡◌, ◌≢◌, ◌+◌, ◌<◌, ◌≤◌, ◌↔◌, [], true, false, IsTrue, None, IfSome, IfNone, length};
+ghost use Rattle.lock_rules.specs.Legal.{calls_of};
+ghost use Rattle.publication.specs.Rule.{IsHome};
+ghost use Rattle.publication.specs.Boards.{IsOf, OpensNone, HasCallsOf, heard_from};
+ghost use Rattle.combining.specs.Sessions.{IsSessionOf, IsPendingServed, HasTriedToList};
+ghost use Rattle.combining.specs.inner.Passes.{HasMadePass};
+
+use crate::office::{Office, Turn};
+use crate::pass::{MadePass, serve_published};
+use publication::Ticket as Session;
+
+impl Office {
+    /// Tries once to have the session's pending call listed, if it has one that isn't.
+    fn enlist(&self, session: &mut Session)
+        requires ours { IsSessionOf self.now session.old }
+        ensures ours { IsSessionOf self.now session.new }
+        ensures tried { HasTriedToList session.old session.new }
+        ensures heard { (j : _) → heard_from session.old j ≤ heard_from session.new j }
+    {
+        if session.is_unlisted() {
+            self.board.enlist(session);
+        }
+    }
+
+    /// Has the session's call listed, tries once to become the combiner, and if it does, makes a pass. The session then has
+    /// the lock table.
+    pub(crate) fn make_pass(&self, session: &mut Session) -> Option<MadePass>
+        requires ours { IsSessionOf self.now session.old }
+        ensures ours { IsOf self.now session.new }
+        ensures made { IfSome result (λ made. HasMadePass self.now.sessions session.old session.new made.load.value made.pass.served) }
+        ensures has { IfSome result (λ made. (session.new.has_book ≡ true) × (session.new.taken ≡ made.load.value.pieces.items)) }
+        ensures back { IfSome result (λ _. OpensNone session.new × (session.new.pending ≢ None → session.new.retired ≡ false)) }
+        ensures none { IfNone result (IsSessionOf self.now session.new × HasTriedToList session.old session.new × (1 < self.now.sessions)) }
+        ensures starved { IfSome result (λ made. IsTrue made.pass.starved ↔ (session.old.put_backs < session.new.put_backs)) }
+        ensures rises { (j : _) → heard_from session.old j ≤ heard_from session.new j }
+        ensures calls { IfNone result (HasCallsOf session.new.front session.new) }
+        ensures own { IfSome result (λ made. made.pass.starved ≡ false → session.old.pending ≢ None → IsPendingServed session.new) }
+        ensures heard { IfSome result (λ made. made.pass.starved ≡ false → (j : _) → 0 < j → j ≤ self.now.sessions
+            → heard_from session.old j ≤ length (calls_of j session.new.front)) }
+    {
+        self.enlist(session);
+        let mut load = self.board.seize(session)?;
+        let pass = serve_published(&self.board, session, &mut load);
+        Some(MadePass { pass, load })
+    }
+
+    /// Gives the lock table back after a pass.
+    pub(crate) fn end_pass(&self, session: &mut Session, made: MadePass) -> Turn
+        requires ours { IsOf self.now session.old × (session.old.has_book ≡ true) × OpensNone session.old }
+        requires live { session.old.pending ≢ None → session.old.retired ≡ false }
+        requires home { IsHome session.old.front (self.now.sessions + 1) made.load.value }
+        requires taken { session.old.taken ≡ made.load.value.pieces.items }
+        ensures ours { IsSessionOf self.now session.new }
+        ensures session { session.new ≡ record session.old { has_book = false; route = []; taken = [] } }
+        ensures calls { HasCallsOf session.new.front session.new }
+        ensures turn { result ≡ Turn.Pass made.pass.served made.pass.starved }
+    {
+        let MadePass { pass, load } = made;
+        self.board.release(session, load);
+        Turn::Pass {
+            served: pass.served,
+            starved: pass.starved,
+        }
+    }
+}

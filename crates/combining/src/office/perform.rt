@@ -1,0 +1,71 @@
+//! A call that its own session performs, without publishing it.
+
+ghost use Rattle.std.specs.Prelude.{◌≡◌, ◌<◌, ◌≤◌, ◌↔◌, false, IsTrue, length};
+ghost use Rattle.lock_rules.specs.Legal.{calls_of};
+ghost use Rattle.publication.specs.Boards.{HasCallsOf, heard_from};
+ghost use Rattle.combining.specs.Sessions.{IsSessionOf, IsIdle, IsPerformed, IsRefused};
+
+use crate::office::{Answer, Office};
+use crate::pass::serve_with_own;
+use lock_desk::Call;
+use publication::Ticket as Session;
+
+/// The outcome of one call of `perform`.
+#[derive(Clone, Copy, Debug, PartialEq, Eq)]
+pub enum Performed {
+    /// The session was the combiner: it performed the call, and made a pass.
+    Answered {
+        /// The place of the call's entry in the history, and the reply.
+        answer: Answer,
+        /// How many published calls the pass served.
+        served: u32,
+        /// Whether the pass put published calls back, because memory was refused for one.
+        starved: bool,
+    },
+    /// The session did not become the combiner, because another session had the lock table. Proved is that the office
+    /// has more than one session; that another one had the lock table is tested, not proved.
+    Elsewhere,
+    /// The session was the combiner and made a pass, but memory was refused for the call, which was not performed. That
+    /// memory was refused is tested, not proved.
+    Starved,
+}
+
+impl Office {
+    /// Tries once to become the combiner, and if it does, performs the call at once and makes a pass, as `serve` does. The
+    /// call is not published: its entry joins the history and its answer is collected at one step, and the session's
+    /// record stays as it is. A call that gives locks back is performed ahead of the published calls, any other call behind
+    /// them.
+    ///
+    /// `Elsewhere`: nothing changed, and the call may be published instead. `Starved`: the call is not in the history, and
+    /// may be performed again or published. The session is idle again in each case. Whose wait the pass has ended is told to
+    /// nobody: where threads sleep until `serve_telling` tells of them, no session performs calls so.
+    pub fn perform(&self, session: &mut Session, call: Call) -> Performed
+        requires ours { IsSessionOf self.now session.old }
+        requires idle { IsIdle session.old }
+        ensures ours { IsSessionOf self.now session.new }
+        ensures idle { IsIdle session.new }
+        ensures answered { (answer : _) (served : _) (starved : _) → result ≡ Performed.Answered answer served starved
+            → IsPerformed session.old session.new call answer.place answer.reply served }
+        ensures put_back { (answer : _) (served : _) (starved : _) → result ≡ Performed.Answered answer served starved
+            → IsTrue starved ↔ (session.old.put_backs < session.new.put_backs) }
+        ensures heard { (answer : _) (served j : _) → result ≡ Performed.Answered answer served false → 0 < j → j ≤ self.now.sessions
+            → heard_from session.old j ≤ length (calls_of j session.new.front) }
+        ensures elsewhere { result ≡ Performed.Elsewhere → (session.new ≡ session.old) × (1 < self.now.sessions) }
+        ensures refused { result ≡ Performed.Starved → IsRefused session.old session.new }
+        ensures calls { HasCallsOf session.new.front session.new }
+    {
+        let Some(mut load) = self.board.seize(session) else {
+            return Performed::Elsewhere;
+        };
+        let (pass, own) = serve_with_own(&self.board, session, &mut load, call);
+        self.board.release(session, load);
+        match own {
+            Some((place, reply)) => Performed::Answered {
+                answer: Answer { place, reply },
+                served: pass.served,
+                starved: pass.starved,
+            },
+            None => Performed::Starved,
+        }
+    }
+}

@@ -1,0 +1,38 @@
+use Rattle.std.proofs.Common.{◌++◌, ◌∷◌, [], List, ◌∙◌, sym, ap, subst}
+use Rattle.lock_rules.specs.declared.calls.Entry.{Entry}
+use Rattle.lock_rules.specs.Step.{step}
+use Rattle.lock_rules.specs.Legal.{state_of}
+use Rattle.lock_rules.proofs.Steps.{state-lawful}
+use Rattle.lock_rules.proofs.Owners.{state-numbered}
+use Rattle.lock_desk.proofs.BookInvariant.{kept-more, kept-same, listed-ends}
+use Rattle.lock_desk.proofs.recording.serve_recorded.Goals as goal
+
+pub returns-in_err-reply-clause-kept : goal.returns-in_err-reply-clause-kept
+returns-in_err-reply-clause-kept c =
+    let k = c.requires.kept in
+    let es = c.args.history.now.items in
+    let e = c.in_err-reply.ensures in
+    kept-same c.args.table.now c.serve.new.self es c.reserve.new.self.items c.reserve.ensures.items k (e.err (state_of es) k.shows) e.whole e.ready e.len
+
+pub returns-clause-kept : goal.returns-clause-kept
+returns-clause-kept c =
+    let k = c.requires.kept in
+    let es = c.args.history.now.items in
+    let e = c.in_ok-reply.ensures in
+    let s = e.step (state_of es) (state-lawful es).sound (state-numbered es) k.shows in
+    kept-more c.args.table.now c.serve.new.self es c.push_reserved.new.self.items c.args.session c.args.call c.in_ok-reply.reply
+    (c.push_reserved.ensures.items ∙ ap (λ (xs : List Entry). xs ++ record { session = c.args.session; call = c.args.call; reply = c.in_ok-reply.reply } ∷ []) c.in_ok-reserve.ensures.items)
+    k c.requires.some c.requires.within s.0 s.1 e.whole e.ready e.len e.count
+
+pub returns-clause-reply : goal.returns-clause-reply
+returns-clause-reply c =
+    let es = c.args.history.now.items in
+    (c.in_ok-reply.ensures.step (state_of es) (state-lawful es).sound (state-numbered es) c.requires.kept.shows).0
+
+pub returns-clause-ended : goal.returns-clause-ended
+returns-clause-ended c = λ u.
+    let k = c.requires.kept in
+    let es = c.args.history.now.items in
+    let e = c.in_ok-reply.ensures in
+    let s = e.step (state_of es) (state-lawful es).sound (state-numbered es) k.shows in
+    listed-ends c.args.session c.args.table.now c.serve.new.self (state_of es) (step (state_of es) c.args.session c.args.call).state k.whole e.whole k.shows s.1 c.serve.ensures.listed u

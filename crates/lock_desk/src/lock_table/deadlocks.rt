@@ -1,0 +1,92 @@
+//! Deadlocks: dooms a victim on each cycle of the waits-for graph, and lists the sessions whose wait that ends.
+
+ghost use Rattle.std.specs.Prelude.{◌≡◌, ◌+◌, ◌≤◌, vec_len};
+ghost use Rattle.lock_rules.specs.State.{State};
+ghost use Rattle.lock_rules.specs.Waits.{after_victims};
+ghost use Rattle.lock_rules.specs.Sound.{IsNumbered, IsSound};
+ghost use Rattle.lock_desk.specs.inner.Changes.{IsWhole, DoesKeep, HasCancelled, HasDoomed, HasListed};
+ghost use Rattle.lock_desk.specs.inner.Ready.{IsReadyTable};
+ghost use Rattle.lock_desk.specs.inner.Shows.{Shows};
+
+use crate::lock_table::LockTable;
+use crate::positions::position_of;
+use crate::waits::victim;
+
+impl LockTable {
+    /// Ends the wait of `session`, if it waits, by the call of another: removes its request, and lists the session.
+    fn end_wait(&mut self, session: u16)
+        requires some { 1 ≤ session }
+        requires within { session ≤ vec_len self.old.lockers }
+        requires whole { IsWhole self.old }
+        requires ready { IsReadyTable self.old }
+        ensures cancelled { HasCancelled session self.old self.new }
+        ensures listed { HasListed 0 self.old self.new }
+        ensures kept { DoesKeep self.old self.new }
+    {
+        if self.cancel(session) {
+            self.ended.add(session);
+        }
+    }
+
+    /// Makes the transaction of `session` a deadlock's victim: removes its waiting request, lists it among the ended
+    /// waits, and marks it doomed. It keeps its locks.
+    fn doom(&mut self, session: u16)
+        requires some { 1 ≤ session }
+        requires within { session ≤ vec_len self.old.lockers }
+        requires whole { IsWhole self.old }
+        requires ready { IsReadyTable self.old }
+        ensures doomed { HasDoomed session self.old self.new }
+        ensures listed { HasListed 0 self.old self.new }
+        ensures kept { DoesKeep self.old self.new }
+    {
+        self.end_wait(session);
+        let locker = &mut self.lockers[position_of(session)];
+        locker.doom();
+    }
+
+    /// Dooms victims until `session` is on no cycle of the waits-for graph.
+    ///
+    /// Each victim is the youngest transaction on a cycle with `session`. A victim waited before and doesn't wait
+    /// any more, so there are at most as many victims as sessions, and the last round finds no cycle.
+    fn resolve_deadlocks(&mut self, session: u16)
+        requires some { 1 ≤ session }
+        requires within { session ≤ vec_len self.old.lockers }
+        requires whole { IsWhole self.old }
+        requires ready { IsReadyTable self.old }
+        ensures settled { (st : State) → IsSound st.table → IsNumbered st → Shows self.old st
+            → Shows self.new (after_victims (vec_len self.old.lockers + 1) session st) }
+        ensures whole { IsWhole self.new }
+        ensures ready { IsReadyTable self.new }
+        ensures count { self.new.count ≡ self.old.count }
+        ensures len { vec_len self.new.lockers ≡ vec_len self.old.lockers }
+        ensures listed { HasListed 0 self.old self.new }
+    {
+        for _round in 0..self.lockers.len() + 1 {
+            let Some(chosen) = victim(&mut self.waits, session) else {
+                return;
+            };
+            self.doom(chosen);
+        }
+    }
+
+    /// Resolves the deadlocks of `session`, which calls: its own wait isn't listed, if it ends.
+    pub(super) fn resolve_for(&mut self, session: u16)
+        requires some { 1 ≤ session }
+        requires within { session ≤ vec_len self.old.lockers }
+        requires whole { IsWhole self.old }
+        requires ready { IsReadyTable self.old }
+        ensures settled { (st : State) → IsSound st.table → IsNumbered st → Shows self.old st
+            → Shows self.new (after_victims (vec_len self.old.lockers + 1) session st) }
+        ensures listed { HasListed session self.old self.new }
+        ensures whole { IsWhole self.new }
+        ensures ready { IsReadyTable self.new }
+        ensures count { self.new.count ≡ self.old.count }
+        ensures len { vec_len self.new.lockers ≡ vec_len self.old.lockers }
+    {
+        let was_listed = self.ended.has(session);
+        self.resolve_deadlocks(session);
+        if !was_listed {
+            self.ended.remove(session);
+        }
+    }
+}

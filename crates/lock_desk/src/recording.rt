@@ -1,0 +1,50 @@
+//! One call with its entry: serves it in the lock table, and adds it with its reply to the history.
+
+ghost use Rattle.std.specs.Prelude.{◌≡◌, ℕ, ◌≤◌, ◌||◌, [], ◌∷◌, ◌++◌, IfOk, OnErr, vec_len};
+ghost use Rattle.lock_rules.specs.Step.{step};
+ghost use Rattle.lock_rules.specs.Ended.{has_ended};
+ghost use Rattle.lock_rules.specs.Legal.{state_of};
+ghost use Rattle.lock_desk.specs.inner.Ended.{is_listed};
+ghost use Rattle.lock_desk.specs.inner.Runs.{AreKept};
+
+use crate::lock_table::LockTable;
+use lock_rules::{Call, Entry, Reply};
+use std::alloc::AllocError;
+use trimmed_list::TrimmedList;
+
+/// Serves one call of `session`, adds the call with its reply to the history, and lists the other sessions whose wait it has
+/// ended. If memory is refused, the history and the list are unchanged, and nothing that contracts see of the table changes.
+#[inline(always)]
+pub(crate) fn serve_recorded(
+    table: &mut LockTable,
+    history: &mut TrimmedList<Entry>,
+    session: u16,
+    call: Call,
+) -> Result<Reply, AllocError>
+    requires some { 1 ≤ session }
+    requires within { session ≤ vec_len table.old.lockers }
+    requires kept { AreKept table.old history.old.items }
+    ensures kept { AreKept table.new history.new.items }
+    ensures lockers { vec_len table.new.lockers ≡ vec_len table.old.lockers }
+    ensures cut { history.new.cut ≡ history.old.cut }
+    ensures bound { history.new.bound ≡ history.old.bound }
+    ensures reply { let outcome = step (state_of history.old.items) session call in
+        IfOk result (λ reply. reply ≡ outcome.reply) }
+    ensures entry { IfOk result (λ reply. history.new.items
+        ≡ history.old.items ++ record { session = session; call = call; reply = reply } ∷ []) }
+    ensures ended { let outcome = step (state_of history.old.items) session call in
+        IfOk result (λ _. (u : ℕ) → is_listed table.new.ended u
+        ≡ (is_listed table.old.ended u || has_ended session (state_of history.old.items) outcome.state u)) }
+    ensures err { OnErr result (history.new.items ≡ history.old.items) }
+    ensures unlisted { OnErr result (table.new.ended ≡ table.old.ended) }
+{
+    history.reserve(1)?;
+    let asked = call;
+    let reply = table.serve(session, call)?;
+    history.push_reserved(Entry {
+        session,
+        call: asked,
+        reply,
+    });
+    Ok(reply)
+}

@@ -1,0 +1,7 @@
+use Rattle.std.proofs.Common.{◌≤◌}
+use Rattle.combining.specs.Sessions.{IsSessionOf, IsIdle}
+use Rattle.office_tests.proofs.telling.work.Given as goal
+
+-- the session belongs to the office and is idle, and the list has room for all sessions
+abbrev pub invariant-loop-call : goal.invariant-loop-call
+invariant-loop-call l = IsSessionOf l.office l.worked.session × IsIdle l.worked.session × (l.office.sessions ≤ l.ended.room)

@@ -1,0 +1,14 @@
+use Rattle.publication.proofs.RealTime.{step-unchanged, step-joins, step-enters, seats-unchanged}
+use Rattle.publication.proofs.laws.only_answers_and_direct_entries_change_the_history.Goals as goal
+
+pub returns-clause-others : goal.returns-clause-others
+returns-clause-others c = step-unchanged
+
+pub returns-clause-answers : goal.returns-clause-answers
+returns-clause-answers c = step-joins
+
+pub returns-clause-entries : goal.returns-clause-entries
+returns-clause-entries c = step-enters
+
+pub returns-clause-seats : goal.returns-clause-seats
+returns-clause-seats c = seats-unchanged

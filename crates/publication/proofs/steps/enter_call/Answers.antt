@@ -1,0 +1,23 @@
+use Rattle.std.proofs.Common.{rules, arith, subst}
+use mathlib.Core.Option as opt
+use Rattle.atomic_table.specs.Table.{Allows, step}
+use Rattle.lock_rules.specs.declared.calls.Call.{Call}
+use Rattle.lock_rules.specs.declared.calls.Reply.{Reply}
+use Rattle.publication.specs.List.{IsRuled}
+use Rattle.publication.specs.Kinds.{enters}
+use Rattle.publication.proofs.DirectEntries.{enter_kept}
+use Rattle.publication.proofs.RecordStates.{lacks}
+use Rattle.publication.proofs.steps.enter_call.Goals as goal
+
+pub load-requires : goal.load-requires
+load-requires g c =
+    let m = c.args.seat.now.me in
+    let n = c.args.shared.now.table_id.slots in
+    let id = c.args.seat.now.id in
+    let mine = c.requires.mine in
+    let as_named = enter_kept n id m.0 m.1 (omega (arith, mine.session)) mine.book (lacks m.0.own.pending c.requires.idle.0) c.requires.idle.1 c.args._call c.args._reply c.requires.legal c.requires.short in (
+      search rules,
+      search rules,
+      subst (λ (x : Call). Allows IsRuled n id m 0 (λ y. y) (enters x g.E.DirectEntry.reply (step n 0 0 0 opt.none) m)) c.requires.named.0
+          (subst (λ (x : Reply). Allows IsRuled n id m 0 (λ y. y) (enters c.args._call x (step n 0 0 0 opt.none) m)) c.requires.named.1 as_named),
+    )
