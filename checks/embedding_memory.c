@@ -14,10 +14,13 @@ void *__wrap_realloc(void *at, size_t size);
 
 static long left = -1, refusals, failed;
 
-/* The session that tries to serve at the next allocation, and the status of that call. */
-static pelgaisti_session *meanwhile;
-static uint32_t told;
+/* The session that tries to serve at the next allocation, the one that tries to perform a call at once, and the statuses. */
+static pelgaisti_session *meanwhile, *other;
+static uint32_t told, at_once, telling, untold[3] = {77, 77, 77};
+static size_t uncounted = 99;
 static pelgaisti_pass unwritten;
+static pelgaisti_answer unanswered = {99, {77, 88}};
+static const pelgaisti_call begin = {PELGAISTI_BEGIN, 0, {0, {0}}};
 
 /* Counts down to the allocation to refuse. Each round refuses at most one. */
 static int is_refused(void) {
@@ -25,6 +28,8 @@ static int is_refused(void) {
         pelgaisti_session *session = meanwhile;
         meanwhile = NULL;
         told = pelgaisti_session_serve(session, &unwritten);
+        at_once = pelgaisti_session_perform_at_once(other, &begin, &unwritten, &unanswered);
+        telling = pelgaisti_session_perform_telling(other, &begin, &unwritten, &unanswered, untold, 3, &uncounted);
     }
     if (left != 0) {
         left -= left > 0;
@@ -48,9 +53,9 @@ void *__wrap_realloc(void *at, size_t size) { return is_refused() ? NULL : __rea
     } while (0)
 
 /* The calls that may lack memory, and how often memory was refused to each. */
-enum { BOOK_OPEN, BOOK_SERVE, BOOK_SERVE_BATCH, BOOK_HOLDERS, OFFICE_OPEN, SESSION_SERVE, HAND_IN, OFFICE_CLOSE, LACKING };
+enum { BOOK_OPEN, BOOK_SERVE, BOOK_SERVE_BATCH, BOOK_HOLDERS, OFFICE_OPEN, SESSION_SERVE, AT_ONCE, TELLING, HAND_IN, OFFICE_CLOSE, LACKING };
 static const char *const lacking[LACKING] = {"book_open", "book_serve", "book_serve_batch", "book_holders", "office_open", "session_serve",
-                                             "session_hand_in", "office_close"};
+                                             "session_perform_at_once", "session_perform_telling", "session_hand_in", "office_close"};
 static long lacked[LACKING];
 
 /* How many batches were refused memory behind the calls that they served. */
@@ -80,8 +85,6 @@ static pelgaisti_call call_of(uint32_t op, uint32_t mode, uint32_t number) {
     call.resource.numbers[0] = number;
     return call;
 }
-
-static const pelgaisti_call begin = {PELGAISTI_BEGIN, 0, {0, {0}}};
 
 enum { SESSIONS = 9, RESOURCES = 45, CALLS = 100 };
 
@@ -207,6 +210,24 @@ static void serve_five(pelgaisti_session *sessions, pelgaisti_call call, uint32_
         CHECK(pelgaisti_session_collect(&sessions[k], &answer) == PELGAISTI_OK && answer.reply.kind == kind);
 }
 
+/* Performs a call at once, again if memory is refused: then the call isn't in the history, and may be published. */
+static void perform_nth(pelgaisti_session *session, uint32_t k, uint64_t place) {
+    pelgaisti_call call = call_of(PELGAISTI_LOCK, PELGAISTI_IX, 300 + k);
+    pelgaisti_answer answer = {99, {77, 88}};
+    pelgaisti_pass pass = {99, 99};
+    uint32_t list[CLERKS] = {77}, status;
+    size_t count = 99;
+    int is_telling = k % 2;
+    status = is_telling ? pelgaisti_session_perform_telling(session, &call, &pass, &answer, list, CLERKS, &count)
+                        : pelgaisti_session_perform_at_once(session, &call, &pass, &answer);
+    if (is_lacking(is_telling ? TELLING : AT_ONCE, status)) {
+        CHECK(answer.place == 99 && pass.served == 99 && list[0] == 77 && count == (is_telling ? 0 : 99));
+        CHECK(pelgaisti_session_collect(session, &answer) == PELGAISTI_NOTHING_PENDING);
+        status = pelgaisti_session_perform_waking(session, &call, 1, NULL, &answer);
+    }
+    CHECK(status == PELGAISTI_OK && answer.place == place && answer.reply.kind == PELGAISTI_GRANTED);
+}
+
 static void offices(void) {
     pelgaisti_session sessions[CLERKS];
     pelgaisti_book book = PELGAISTI_EMPTY;
@@ -232,6 +253,7 @@ static void offices(void) {
         CHECK(pass.served == 1 && pass.starved == 0);
         CHECK(pelgaisti_session_collect(asker, &answer) == PELGAISTI_OK && answer.place == k);
     }
+    for (uint32_t k = 0; k < 40; k++) perform_nth(&sessions[k % CLERKS], k, 40 + k);
     for (uint32_t k = 0; k < 12; k++) serve_five(sessions, call_of(PELGAISTI_LOCK, PELGAISTI_IX, 100 + k), PELGAISTI_GRANTED);
     serve_five(sessions, call_of(PELGAISTI_COMMIT, 0, 0), PELGAISTI_COMMITTED);
     for (int k = CLERKS - 1; k > 0; k--) {
@@ -248,25 +270,28 @@ static void offices(void) {
         CHECK(pelgaisti_book_close(&book) == PELGAISTI_CLOSED);
         status = pelgaisti_office_close(&sessions[0], &book);
     }
-    CHECK(status == PELGAISTI_OK && length_of(&book) == 40 + 13 * CLERKS);
+    CHECK(status == PELGAISTI_OK && length_of(&book) == 80 + 13 * CLERKS);
     CHECK(pelgaisti_book_close(&book) == PELGAISTI_OK);
 }
 
-/* While one session makes a pass, which allocates, a serve of another session returns ELSEWHERE and writes nothing. The calls of
-   both sessions are answered afterwards. */
+/* While one session makes a pass, which allocates, a serve of another session returns ELSEWHERE and writes nothing, and so do the
+   calls that a third performs at once. The calls of both sessions are answered afterwards. */
 static void elsewhere(void) {
-    pelgaisti_session sessions[2] = {PELGAISTI_EMPTY, PELGAISTI_EMPTY};
+    pelgaisti_session sessions[3] = {PELGAISTI_EMPTY, PELGAISTI_EMPTY, PELGAISTI_EMPTY};
     pelgaisti_book book = PELGAISTI_EMPTY;
     pelgaisti_answer answer;
-    CHECK(pelgaisti_office_open(sessions, 2) == PELGAISTI_OK);
+    CHECK(pelgaisti_office_open(sessions, 3) == PELGAISTI_OK);
     for (int k = 0; k < 2; k++) CHECK(pelgaisti_session_publish(&sessions[k], &begin, NULL) == PELGAISTI_OK);
     unwritten.served = unwritten.starved = 99;
     meanwhile = &sessions[1];
+    other = &sessions[2];
     CHECK(pelgaisti_session_serve(&sessions[0], NULL) == PELGAISTI_OK);
     CHECK(!meanwhile && told == PELGAISTI_ELSEWHERE && unwritten.served == 99 && unwritten.starved == 99);
+    CHECK(at_once == PELGAISTI_ELSEWHERE && telling == PELGAISTI_ELSEWHERE && unanswered.place == 99 && untold[0] == 77 && uncounted == 99);
+    CHECK(pelgaisti_session_collect(&sessions[2], &answer) == PELGAISTI_NOTHING_PENDING);
     CHECK(pelgaisti_session_serve(&sessions[1], NULL) == PELGAISTI_OK);
     for (int k = 0; k < 2; k++) CHECK(pelgaisti_session_collect(&sessions[k], &answer) == PELGAISTI_OK && answer.reply.kind == PELGAISTI_BEGAN);
-    CHECK(pelgaisti_session_hand_in(&sessions[1], &sessions[0]) == PELGAISTI_OK);
+    for (int k = 1; k < 3; k++) CHECK(pelgaisti_session_hand_in(&sessions[k], &sessions[0]) == PELGAISTI_OK);
     CHECK(pelgaisti_office_close(&sessions[0], &book) == PELGAISTI_OK && length_of(&book) == 2);
     CHECK(pelgaisti_book_close(&book) == PELGAISTI_OK);
 }

@@ -1006,6 +1006,72 @@ static void passes_tell(void) {
     CHECK(pelgaisti_book_close(&book) == PELGAISTI_OK);
 }
 
+/* A call performed at once gives its answer without a publish, tells whose wait it has ended, and refuses as a publish does. The
+   statuses NO_MEMORY and ELSEWHERE are in embedding_memory.c. */
+static void calls_at_once(void) {
+    static pelgaisti_session sessions[3], closed;
+    pelgaisti_book book = PELGAISTI_EMPTY;
+    pelgaisti_call begin = call_of(PELGAISTI_BEGIN, 0, 0, 0, 0), commit = call_of(PELGAISTI_COMMIT, 0, 0, 0, 0);
+    pelgaisti_call write = call_of(PELGAISTI_LOCK, PELGAISTI_X, 1, 1, 0), poll = call_of(PELGAISTI_POLL, 0, 0, 0, 0);
+    pelgaisti_call offs[3];
+    const pelgaisti_status faults[3] = {PELGAISTI_NO_SUCH_OP, PELGAISTI_NO_SUCH_LEVEL, PELGAISTI_NO_SUCH_MODE};
+    pelgaisti_answer answer = {99, {77, 88}};
+    pelgaisti_pass pass = {9, 9};
+    uint32_t list[4] = {77, 77, 77, 77};
+    size_t count = 9;
+
+    offs[0] = call_of(0, 0, 0, 0, 0);
+    offs[1] = call_of(PELGAISTI_LOCK, PELGAISTI_S, 0, 1, 0);
+    offs[2] = call_of(PELGAISTI_LOCK, 2, 1, 1, 0);
+    CHECK(pelgaisti_office_open(sessions, 3) == PELGAISTI_OK);
+    CHECK(pelgaisti_session_perform_at_once(&closed, &begin, &pass, &answer) == PELGAISTI_CLOSED);
+    CHECK(pelgaisti_session_perform_at_once(NULL, &begin, &pass, &answer) == PELGAISTI_NULL);
+    CHECK(pelgaisti_session_perform_at_once(&sessions[0], NULL, &pass, &answer) == PELGAISTI_NULL);
+    CHECK(pelgaisti_session_perform_at_once(&sessions[0], &begin, &pass, NULL) == PELGAISTI_NULL);
+    CHECK(pelgaisti_session_perform_telling(&closed, &begin, &pass, &answer, list, 3, &count) == PELGAISTI_CLOSED);
+    CHECK(pelgaisti_session_perform_telling(NULL, &begin, &pass, &answer, list, 3, &count) == PELGAISTI_NULL);
+    CHECK(pelgaisti_session_perform_telling(&sessions[0], NULL, &pass, &answer, list, 3, &count) == PELGAISTI_NULL);
+    CHECK(pelgaisti_session_perform_telling(&sessions[0], &begin, &pass, NULL, list, 3, &count) == PELGAISTI_NULL);
+    CHECK(pelgaisti_session_perform_telling(&sessions[0], &begin, &pass, &answer, NULL, 3, &count) == PELGAISTI_NULL);
+    CHECK(pelgaisti_session_perform_telling(&sessions[0], &begin, &pass, &answer, list, 3, NULL) == PELGAISTI_NULL);
+    CHECK(pelgaisti_session_perform_telling(&sessions[0], &begin, &pass, &answer, list, 2, &count) == PELGAISTI_NO_ROOM);
+    CHECK(pelgaisti_session_perform_telling(&sessions[0], &offs[0], &pass, &answer, list, 2, &count) == PELGAISTI_NO_ROOM);
+    CHECK(pelgaisti_session_publish(&sessions[0], &begin, NULL) == PELGAISTI_OK);
+    for (int k = 0; k < 3; k++) {
+        CHECK(pelgaisti_session_perform_at_once(&sessions[0], &offs[k], &pass, &answer) == faults[k]);
+        CHECK(pelgaisti_session_perform_telling(&sessions[0], &offs[k], &pass, &answer, list, 3, &count) == faults[k]);
+    }
+    CHECK(pelgaisti_session_perform_at_once(&sessions[0], &poll, &pass, &answer) == PELGAISTI_PENDING);
+    CHECK(pelgaisti_session_perform_telling(&sessions[0], &poll, &pass, &answer, list, 3, &count) == PELGAISTI_PENDING);
+    CHECK(pass.served == 9 && pass.starved == 9 && answer.place == 99 && answer.reply.kind == 77 && list[0] == 77 && count == 9);
+
+    /* the published call goes first, since this one gives nothing back */
+    CHECK(pelgaisti_session_perform_at_once(&sessions[1], &begin, &pass, &answer) == PELGAISTI_OK);
+    CHECK(pass.served == 1 && pass.starved == 0 && answer.place == 1 && answer.reply.kind == PELGAISTI_BEGAN && answer.reply.value == 2);
+    CHECK(pelgaisti_session_collect(&sessions[1], &answer) == PELGAISTI_NOTHING_PENDING);
+    CHECK(pelgaisti_session_collect(&sessions[0], &answer) == PELGAISTI_OK && answer.place == 0);
+    CHECK(pelgaisti_session_perform_telling(&sessions[0], &write, NULL, &answer, list, 3, &count) == PELGAISTI_OK);
+    CHECK(answer.place == 2 && answer.reply.kind == PELGAISTI_GRANTED && count == 0 && list[0] == 77);
+    CHECK(pelgaisti_session_perform_at_once(&sessions[1], &write, NULL, &answer) == PELGAISTI_OK);
+    CHECK(answer.place == 3 && answer.reply.kind == PELGAISTI_WAITING);
+
+    /* a commit goes ahead of the published poll, and tells of the session that waits; the poll is served in its pass */
+    CHECK(pelgaisti_session_publish(&sessions[1], &poll, NULL) == PELGAISTI_OK);
+    CHECK(pelgaisti_session_perform_telling(&sessions[0], &commit, &pass, &answer, list, 4, &count) == PELGAISTI_OK);
+    CHECK(pass.served == 1 && answer.place == 4 && answer.reply.kind == PELGAISTI_COMMITTED);
+    CHECK(count == 1 && list[0] == 2 && list[1] == 77);
+    CHECK(pelgaisti_session_collect(&sessions[1], &answer) == PELGAISTI_OK && answer.reply.kind == PELGAISTI_CLEAR);
+    CHECK(pelgaisti_session_perform_telling(&sessions[1], &commit, &pass, &answer, list, 4, &count) == PELGAISTI_OK && count == 0);
+
+    CHECK(pelgaisti_session_retire(&sessions[2]) == PELGAISTI_OK);
+    CHECK(pelgaisti_session_perform_at_once(&sessions[2], &begin, &pass, &answer) == PELGAISTI_RETIRED);
+    CHECK(pelgaisti_session_perform_telling(&sessions[2], &begin, &pass, &answer, list, 3, &count) == PELGAISTI_RETIRED);
+    CHECK(pelgaisti_session_hand_in(&sessions[2], &sessions[0]) == PELGAISTI_OK);
+    CHECK(pelgaisti_session_hand_in(&sessions[1], &sessions[0]) == PELGAISTI_OK);
+    CHECK(pelgaisti_office_close(&sessions[0], &book) == PELGAISTI_OK);
+    CHECK(pelgaisti_book_close(&book) == PELGAISTI_OK);
+}
+
 /* Threads that sleep until a pass tells of them: many more than there are processors. */
 enum { SLEEPERS = 64, DATABASES = 4 };
 static sem_t woken[SLEEPERS + 1];
@@ -1158,6 +1224,7 @@ int main(int argc, char **argv) {
     pieces_are_the_history();
     ended_waits_of_a_book();
     passes_tell();
+    calls_at_once();
     threads_sleep();
     wakers_refuse();
     printf("%d passed, %d failed\n", passed, failed);

@@ -46,7 +46,8 @@ TESTED = {
     "base_tests": ("traces::reports_the_row_in_which_memory_was_refused", "waits::refused_"),
     "desk_tests": ("batches::", "books::", "ended::", "kept::", "queues::", "refusals::", "refused_batches::"),
     "office_tests": (
-        *("ages::", "boards::", "closing::", "direct::a_call_that_found_no_memory", "dropping::", "hearing::", "listing::"),
+        *("ages::", "boards::", "calling::a_whole_call_that_found_no_memory", "closing::"),
+        *("direct::a_call_that_found_no_memory", "dropping::", "hearing::", "listing::"),
         *("offices::", "refusals::", "telling::a_commit"),
     ),
 }
@@ -66,6 +67,7 @@ LEFT_OUT = {
 }
 # what tests print of a refusal: for each of these texts there has to be a round that prints it and nothing else
 TOLD = {
+    "calling::a_whole_call_that_found_no_memory_is_resumed": {"starved"},
     "direct::a_call_that_found_no_memory_is_performed_by_the_next_try": {"starved"},
     "offices::a_call_that_found_no_memory_is_served_by_the_next_pass": {"starved"},
     "refusals::a_clean_up_keeps_the_record_of_a_call_that_found_no_memory": {"starved", "starved before"},

@@ -22,9 +22,9 @@
  *     }
  *
  * A lock table comes in two forms. A BOOK is a lock table for one thread, or for an engine that guards it by a mutex of its own:
- * each call is answered at once. An OFFICE is a lock table that threads share. Each thread has a session. It publishes a call,
- * then serves and collects in turn until it has the answer. No call of the archive blocks. pelgaisti_session_perform makes these
- * calls in turn, as often as it is told.
+ * each call is answered at once. An OFFICE is a lock table that threads share. Each thread has a session. Where the lock table is
+ * free, it performs a call at once. Else it publishes the call, then serves and collects in turn until it has the answer. No call
+ * of the archive blocks. pelgaisti_session_perform makes these calls in turn, as often as it is told.
  *
  * RULES FOR THE CALLER. The library is proved, but no proof covers the C code that calls it. Some calls have further rules, in
  * their comments after "Requires".
@@ -44,18 +44,21 @@
  * contract, since contracts speak of the history and not of the caller's memory. It follows from the words by which an office
  * works, each step of which is sequentially consistent: a publish swaps the word of the session's record, and the combiner takes
  * the call by a compare-exchange of that word; a combiner gives the lock table on by a store of the lock word, and the next one
- * takes it by a compare-exchange; the answer that tells of the grant is a store of the word of the other session's record, and its
- * collect takes it by a compare-exchange. So the writes before the publish happen before the reads behind the collect, in the
- * sense of C11 and C++11. The calls lead into an archive, so that no compiler moves an access to shared memory across one. For a
- * book behind a mutex it is the mutex that does this.
+ * takes it by a compare-exchange; the answer that tells of the grant is a store of the word of the other session's record, and
+ * its collect takes it by a compare-exchange. A call that is performed at once is made between the compare-exchange of the lock
+ * word and its store. So the writes before the publish happen before the reads behind the collect, in the sense of C11 and C++11.
+ * The calls lead into an archive, so that no compiler moves an access to shared memory across one. For a book behind a mutex it
+ * is the mutex that does this.
  * ThreadSanitizer can't see the archive's steps. Built with -fsanitize=thread the functions of this header tell it of them: a
- * publish releases and a collect acquires, and what is done inside the archive is left out.
+ * publish releases and a collect acquires, a call that is performed at once does both, and what is done inside the archive is
+ * left out.
  *
  * STATUSES. Every call but pelgaisti_version returns a pelgaisti_status. A call tests its arguments first, in the order in which
  * its comment lists the statuses; the first test that fails gives the status. A status other than PELGAISTI_OK means that nothing
- * has changed and nothing was written: no handle, no history, no memory that an argument points to. There are two exceptions: a
- * call that returns ELSEWHERE may put the session's record on the publication list, and COPIED closes the session's handle. The
- * calls made of several others say for themselves what they leave (pelgaisti_session_perform, .._lock_path, .._waking).
+ * has changed and nothing was written: no handle, no history, no memory that an argument points to. There are three exceptions: a
+ * serve that returns ELSEWHERE may put the session's record on the publication list; COPIED closes the session's handle; and where
+ * memory was refused for a call that was to be performed at once, a pass was made that may have served other calls. The calls made
+ * of several others say for themselves what they leave (pelgaisti_session_perform, .._lock_path, .._waking).
  *
  * WHAT IS PROVED. Each function of the archive has a contract, which crates/pelgaisti_c states and proves: what PELGAISTI_OK means,
  * which other statuses the call can return, and what each of these implies. The inline functions of this header are tested, and so
@@ -87,7 +90,8 @@ extern "C" {
 typedef enum pelgaisti_status {
     PELGAISTI_OK = 0,              /* [ok, served, after: what the call did] */
     PELGAISTI_NO_MEMORY = 1,       /* memory was refused; the same call may be made again [memory, possible: all tests before it
-                                      passed, and nothing has changed; that memory was refused is tested] */
+                                      passed, and nothing has changed, or a pass was made without the call that was to be performed
+                                      at once; that memory was refused is tested] */
     PELGAISTI_CLOSED = 2,          /* the handle is closed [closed, exactly then] */
     PELGAISTI_NO_SUCH_SESSION = 3, /* the book has no session with this number [session] */
     PELGAISTI_NO_SUCH_OP = 4,      /* the op is not a pelgaisti_op [call] */
@@ -100,8 +104,9 @@ typedef enum pelgaisti_status {
     PELGAISTI_NOT_SERVED = 11,     /* the session knows no answer to its pending call: serve, and collect again [late; that the call
                                       isn't served yet is tested] */
     PELGAISTI_RETIRED = 12,        /* the session has retired and publishes no more calls [retired] */
-    PELGAISTI_ELSEWHERE = 13,      /* another session has the lock table: collect, or serve again [elsewhere: nothing has changed
-                                      but the listing; that another session has the table is tested] */
+    PELGAISTI_ELSEWHERE = 13,      /* another session has the lock table: collect, or serve again, or publish the call that was to be
+                                      performed at once [elsewhere: nothing has changed but the listing; that another session has the
+                                      table is tested] */
     PELGAISTI_OTHER_OFFICE = 14,   /* the two sessions belong to different offices [other_office: their marks differ] */
     PELGAISTI_MISSING = 15,        /* a session of the office was not handed in [missing] */
     PELGAISTI_COPIED = 16,         /* a handle was copied or moved, against the rules above; see pelgaisti_office_close [whole,
@@ -346,6 +351,10 @@ uint32_t pelgaisti_raw_session_publish(pelgaisti_session *session, const pelgais
 uint32_t pelgaisti_raw_session_serve(pelgaisti_session *session, pelgaisti_pass *pass);
 uint32_t pelgaisti_raw_session_serve_telling(pelgaisti_session *session, pelgaisti_pass *pass, uint32_t *list, size_t room,
                                              size_t *count);
+uint32_t pelgaisti_raw_session_perform_at_once(pelgaisti_session *session, const pelgaisti_call *call, pelgaisti_pass *pass,
+                                               pelgaisti_answer *answer);
+uint32_t pelgaisti_raw_session_perform_telling(pelgaisti_session *session, const pelgaisti_call *call, pelgaisti_pass *pass,
+                                               pelgaisti_answer *answer, uint32_t *list, size_t room, size_t *count);
 uint32_t pelgaisti_raw_session_collect(pelgaisti_session *session, pelgaisti_answer *answer);
 uint32_t pelgaisti_raw_session_take_history(pelgaisti_session *session, uint64_t *first, pelgaisti_entry *entries, size_t room,
                                             size_t *count);
@@ -626,12 +635,14 @@ static inline pelgaisti_status pelgaisti_session_serve(pelgaisti_session *sessio
 /* Like pelgaisti_session_serve, and tells whose wait the pass has ended: writes the sessions, each once, in no particular order, to
    `list`, and how many they are to `count`. They are those whose waiting request a call of another session in this pass granted, or
    whose transaction it made a deadlock's victim. `room` is at least the office's number of sessions. With ELSEWHERE no pass was
-   made, and nobody is to be told. NO_MEMORY: no pass was made. Requires `room` elements at `list`.
+   made, and nobody is to be told. NO_MEMORY: no pass was made. The session takes memory for the list at its first call that tells,
+   and keeps it [tested]. Requires `room` elements at `list`.
    NULL, CLOSED, NO_ROOM, NO_MEMORY, ELSEWHERE.
 
-   By this call threads sleep until their waits are over, in place of polling: each session has a semaphore, at first 0, all threads
-   serve by this call alone, and whoever is told of a session posts its semaphore. pelgaisti_session_perform_waking does so. A thread
-   whose answer is WAITING sleeps on the semaphore of its session and then polls once, as it makes any call:
+   By this call threads sleep until their waits are over, in place of polling: each session has a semaphore, at first 0, all
+   threads serve by this call and perform at once by pelgaisti_session_perform_telling alone, and whoever is told of a session
+   posts its semaphore. pelgaisti_session_perform_waking does so. A thread whose answer is WAITING sleeps on the semaphore of its
+   session and then polls once, as it makes any call:
        static sem_t woken[SESSIONS + 1];
        static void wake(void *engine, uint32_t session) { sem_post(&woken[session]); }
        ...
@@ -654,6 +665,42 @@ static inline pelgaisti_status pelgaisti_session_serve_telling(pelgaisti_session
     pelgaisti_pass unread;
     if (!session || !list || !count) return PELGAISTI_NULL;
     return PELGAISTI_CALL_(pelgaisti_raw_session_serve_telling(session, pass ? pass : &unread, list, room, count));
+}
+
+/* Tries once to take the lock table, without blocking, and if that succeeds, performs the session's call at once, in a pass that
+   serves the calls on the publication list too. The call is not published, and there is nothing to collect: the answer is written
+   here. A release, a commit or an abort is performed ahead of the published calls, any other call behind them. `served` of the
+   pass counts the published calls. ELSEWHERE: nothing has changed, and the call may be published. NO_MEMORY: memory was refused
+   for the call, which is not in the history; it may be made again, or published. A pass was made, and other calls may have been
+   served in it. Whose wait it has ended is told to nobody. `pass` may be NULL.
+   NULL, CLOSED, NO_SUCH_OP, NO_SUCH_LEVEL, NO_SUCH_MODE, RETIRED, PENDING, NO_MEMORY or ELSEWHERE. */
+static inline pelgaisti_status pelgaisti_session_perform_at_once(pelgaisti_session *session, const pelgaisti_call *call,
+                                                                 pelgaisti_pass *pass, pelgaisti_answer *answer) {
+    pelgaisti_pass unread;
+    pelgaisti_status status;
+    if (!session || !call || !answer) return PELGAISTI_NULL;
+    pelgaisti_released_(session);
+    status = PELGAISTI_CALL_(pelgaisti_raw_session_perform_at_once(session, call, pass ? pass : &unread, answer));
+    if (status == PELGAISTI_OK) pelgaisti_acquired_(session);
+    return status;
+}
+
+/* Like pelgaisti_session_perform_at_once, and tells whose wait the call and its pass have ended, as
+   pelgaisti_session_serve_telling tells it of a pass: writes the sessions to `list`, and how many they are to `count`. With
+   NO_MEMORY it writes them too, since the pass that was made without the call may have ended waits: whoever wakes threads wakes
+   them then as well. If memory was refused for the list of whom to tell, no pass was made, and `count` is 0. Requires `room`
+   elements at `list`.
+   NULL, CLOSED, NO_ROOM, NO_SUCH_OP, NO_SUCH_LEVEL, NO_SUCH_MODE, RETIRED, PENDING, NO_MEMORY or ELSEWHERE. */
+static inline pelgaisti_status pelgaisti_session_perform_telling(pelgaisti_session *session, const pelgaisti_call *call,
+                                                                 pelgaisti_pass *pass, pelgaisti_answer *answer, uint32_t *list,
+                                                                 size_t room, size_t *count) {
+    pelgaisti_pass unread;
+    pelgaisti_status status;
+    if (!session || !call || !answer || !list || !count) return PELGAISTI_NULL;
+    pelgaisti_released_(session);
+    status = PELGAISTI_CALL_(pelgaisti_raw_session_perform_telling(session, call, pass ? pass : &unread, answer, list, room, count));
+    if (status == PELGAISTI_OK) pelgaisti_acquired_(session);
+    return status;
 }
 
 /* Takes the answer to the session's pending call, which is then no longer pending.
@@ -766,25 +813,40 @@ static inline pelgaisti_status pelgaisti_serve_waking_(pelgaisti_session *sessio
     return status;
 }
 
-/* Publishes the call, then serves and collects in turn until the answer is there, at most `turns` times. With NULL for `call` it
-   goes on with the call that is pending. The answer may be WAITING: this call waits for an answer, not for a lock. Whoever waits
-   for a lock sleeps until a pass wakes it, which pelgaisti_session_serve_telling explains. With NULL for `waker` the passes of this
-   call wake nobody: where threads sleep, none uses it so.
-   NOT_SERVED: after so many turns there is no answer. NO_MEMORY: memory was refused in a pass of this session or for the list of
-   whom it is to wake, and its call wasn't served. With both, and with NO_ROOM, the call is pending, and NULL for `call` goes on with
-   it.
+/* Performs by pelgaisti_session_perform_at_once, or with a waker by pelgaisti_session_perform_telling, and wakes who is told of. */
+static inline pelgaisti_status pelgaisti_perform_waking_(pelgaisti_session *session, const pelgaisti_call *call,
+                                                         const pelgaisti_waker *waker, pelgaisti_answer *answer) {
+    pelgaisti_status status;
+    size_t count = 0;
+    if (!waker) return pelgaisti_session_perform_at_once(session, call, NULL, answer);
+    status = pelgaisti_session_perform_telling(session, call, NULL, answer, waker->list, waker->room, &count);
+    while (count > 0) waker->wake(waker->engine, waker->list[--count]);
+    return status;
+}
+
+/* Performs the call at once where the lock table is free. Where it isn't, publishes the call, then serves and collects in turn
+   until the answer is there, at most `turns` times. With 0 turns it only publishes the call. With NULL for `call` it goes on with
+   the call that is pending. The answer may be WAITING: this call waits for an answer, not for a lock. Whoever waits for a lock
+   sleeps until a pass wakes it, which pelgaisti_session_serve_telling explains. With NULL for `waker` the passes of this call
+   wake nobody: where threads sleep, none uses it so.
+   NOT_SERVED: after so many turns there is no answer. NO_MEMORY: memory was refused for the call, in a pass of this session or for
+   the list of whom it is to wake, and the call wasn't served. With both, and with NO_ROOM, the call is pending, and NULL for `call`
+   goes on with it.
    NULL (the session, the answer, or what the waker has), CLOSED, NO_SUCH_OP, NO_SUCH_LEVEL, NO_SUCH_MODE, RETIRED, PENDING;
    NOTHING_PENDING with NULL for `call`; NO_MEMORY, NO_ROOM, NOT_SERVED. */
 static inline pelgaisti_status pelgaisti_session_perform_waking(pelgaisti_session *session, const pelgaisti_call *call,
                                                                 uint64_t turns, const pelgaisti_waker *waker,
                                                                 pelgaisti_answer *answer) {
     pelgaisti_pass pass;
-    pelgaisti_status status, served;
+    pelgaisti_status status, served = PELGAISTI_ELSEWHERE;
     uint64_t turn;
     if (!session || !answer || (waker && (!waker->wake || !waker->list))) return PELGAISTI_NULL;
     if (call) {
+        if (turns > 0) served = pelgaisti_perform_waking_(session, call, waker, answer);
+        if (served != PELGAISTI_ELSEWHERE && served != PELGAISTI_NO_MEMORY && served != PELGAISTI_NO_ROOM) return served;
         status = pelgaisti_session_publish(session, call, NULL);
         if (status != PELGAISTI_OK) return status;
+        if (served != PELGAISTI_ELSEWHERE) return served;
     }
     for (turn = 0; turn < turns; turn++) {
         if (turn > 0) pelgaisti_pause_(turn);
@@ -798,8 +860,9 @@ static inline pelgaisti_status pelgaisti_session_perform_waking(pelgaisti_sessio
     return PELGAISTI_NOT_SERVED;
 }
 
-/* Performs a call as pelgaisti_session_perform_waking does, by passes that wake nobody. Whoever waits for a lock polls then, and
-   sleeps between two polls: 10 microseconds at first, and twice as long each time up to a millisecond.
+/* Performs a call as pelgaisti_session_perform_waking does, at once where the lock table is free, by passes that wake nobody.
+   Whoever waits for a lock polls then, and sleeps between two polls: 10 microseconds at first, and twice as long each time up to
+   a millisecond.
    NULL (the session or the answer), CLOSED, NO_SUCH_OP, NO_SUCH_LEVEL, NO_SUCH_MODE, RETIRED, PENDING; NOTHING_PENDING with NULL
    for `call`; NO_MEMORY, NOT_SERVED. */
 static inline pelgaisti_status pelgaisti_session_perform(pelgaisti_session *session, const pelgaisti_call *call, uint64_t turns,

@@ -142,7 +142,7 @@ public:
     }
     // The answer to the pending call, or nothing if the session knows none yet.
     std::optional<answer> collect() { return told([&](auto *found) { return pelgaisti_session_collect(&handle_, found); }); }
-    // Publishes the call, and serves and collects, at most `turns` times. Nothing, or NO_MEMORY: it is pending; resume() goes on.
+    // Performs the call at once, or publishes, serves and collects, at most `turns` times. Nothing, or NO_MEMORY: resume() goes on.
     std::optional<answer> perform(const pelgaisti::call &call, uint64_t turns = UINT64_MAX, const waker *wake = nullptr) {
         return told([&](auto *found) { return pelgaisti_session_perform_waking(&handle_, &call, turns, wake, found); });
     }

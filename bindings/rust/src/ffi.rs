@@ -139,6 +139,21 @@ extern "C" {
         room: usize,
         count: *mut usize,
     ) -> u32;
+    pub(crate) fn pelgaisti_raw_session_perform_at_once(
+        session: *mut RawHandle,
+        call: *const RawCall,
+        pass: *mut RawPass,
+        answer: *mut RawAnswer,
+    ) -> u32;
+    pub(crate) fn pelgaisti_raw_session_perform_telling(
+        session: *mut RawHandle,
+        call: *const RawCall,
+        pass: *mut RawPass,
+        answer: *mut RawAnswer,
+        list: *mut u32,
+        room: usize,
+        count: *mut usize,
+    ) -> u32;
     pub(crate) fn pelgaisti_raw_session_take_history(
         session: *mut RawHandle,
         first: *mut u64,

@@ -61,6 +61,13 @@ pub struct Answer {
     pub reply: Reply,
 }
 
+/// What has become of a call that was to be performed at once.
+enum Started {
+    Answered(Answer),
+    /// It is published.
+    Pending,
+}
+
 /// The sessions of an office that wasn't closed, and why.
 pub struct NotClosed {
     /// Why it wasn't closed.
@@ -214,17 +221,76 @@ impl Session {
     ///     assert_eq!(told, [2]);
     ///     # Ok::<(), pelgaisti::Error>(())
     pub fn serve_waking(&mut self, wake: impl FnMut(usize)) -> Result<Pass, Error> {
-        if self.told.is_empty() {
-            self.told = vec![0; self.handles.0.len()];
-        }
         let (mut pass, mut count) = (RawPass::default(), 0);
-        let (at, room) = (self.told.as_mut_ptr(), self.told.len());
+        let (at, room) = self.room_for_told();
         done(unsafe { ffi::pelgaisti_raw_session_serve_telling(self.raw(), &mut pass, at, room, &mut count) })?;
         self.told[..count].iter().map(|session| *session as usize).for_each(wake);
         Ok(Pass {
             served: pass.served,
             starved: pass.starved != 0,
         })
+    }
+
+    /// Where a call writes whose wait it has ended, and for how many sessions there is room.
+    fn room_for_told(&mut self) -> (*mut u32, usize) {
+        if self.told.is_empty() {
+            self.told = vec![0; self.handles.0.len()];
+        }
+        (self.told.as_mut_ptr(), self.told.len())
+    }
+
+    /// Performs a call at once, if the lock table is free and there are any turns. Otherwise publishes it, also if memory was
+    /// refused.
+    fn start(&mut self, call: &Call, turns: u64) -> Result<Started, Error> {
+        let (mut pass, mut answer) = (RawPass::default(), RawAnswer::default());
+        let at_once = match turns {
+            0 => Err(Error::Elsewhere),
+            _ => done(unsafe {
+                ffi::pelgaisti_raw_session_perform_at_once(self.raw(), &call.raw(), &mut pass, &mut answer)
+            }),
+        };
+        self.started(call, at_once, &answer)
+    }
+
+    /// Performs a call as `start` does, and wakes whose wait the call and its pass have ended, also if memory was refused.
+    fn start_waking(&mut self, call: &Call, turns: u64, wake: impl FnMut(usize)) -> Result<Started, Error> {
+        let (mut pass, mut answer, mut count) = (RawPass::default(), RawAnswer::default(), 0);
+        let (at, room) = self.room_for_told();
+        let at_once = match turns {
+            0 => Err(Error::Elsewhere),
+            _ => done(unsafe {
+                ffi::pelgaisti_raw_session_perform_telling(
+                    self.raw(),
+                    &call.raw(),
+                    &mut pass,
+                    &mut answer,
+                    at,
+                    room,
+                    &mut count,
+                )
+            }),
+        };
+        self.told[..count].iter().map(|session| *session as usize).for_each(wake);
+        self.started(call, at_once, &answer)
+    }
+
+    /// What has become of a call that was to be performed at once. Publishes it if it wasn't performed.
+    fn started(&mut self, call: &Call, at_once: Result<(), Error>, answer: &RawAnswer) -> Result<Started, Error> {
+        match at_once {
+            Ok(()) => Ok(Started::Answered(Answer {
+                place: answer.place,
+                reply: Reply::of(&answer.reply),
+            })),
+            Err(Error::Elsewhere) => {
+                self.publish(call)?;
+                Ok(Started::Pending)
+            }
+            Err(Error::NoMemory) => {
+                self.publish(call)?;
+                Err(Error::NoMemory)
+            }
+            Err(error) => Err(error),
+        }
     }
 
     /// Takes the answer to the pending call. [`Error::NotServed`]: the session knows none yet.
@@ -242,18 +308,21 @@ impl Session {
         })
     }
 
-    /// Publishes a call, then serves and collects in turn until its answer is there, at most `turns` times. The answer may be
-    /// [`Reply::Waiting`]: this waits for an answer, not for a lock. Between its first looks the processor pauses, and between
-    /// later ones the thread yields. [`Error::NotServed`]: after so many turns there is no answer. [`Error::NoMemory`]: memory
-    /// was refused in a pass of this session. After both the call is pending, and [`Session::resume`] goes on with it.
+    /// Performs a call at once where the lock table is free. Else publishes it, then serves and collects in turn until its answer
+    /// is there, at most `turns` times; with no turns it only publishes it. The answer may be [`Reply::Waiting`]: this waits for an
+    /// answer, not for a lock. Between its first looks the processor pauses, and between later ones the thread yields.
+    /// [`Error::NotServed`]: after so many turns there is no answer. [`Error::NoMemory`]: memory was refused for the call or in a
+    /// pass of this session. After both the call is pending, and [`Session::resume`] goes on with it.
     ///
     ///     # use pelgaisti::{Call, Office, Reply};
     ///     let mut sessions = Office::open(2)?;
     ///     assert_eq!(sessions[1].perform(&Call::Begin, u64::MAX)?.reply, Reply::Began(1));
     ///     # Ok::<(), pelgaisti::Error>(())
     pub fn perform(&mut self, call: &Call, turns: u64) -> Result<Answer, Error> {
-        self.publish(call)?;
-        self.resume(turns)
+        match self.start(call, turns)? {
+            Started::Answered(answer) => Ok(answer),
+            Started::Pending => self.resume(turns),
+        }
     }
 
     /// Performs a call as [`Session::perform`] does, by passes that wake whose wait they have ended, as
@@ -264,9 +333,11 @@ impl Session {
     ///     let answer = sessions[1].perform_waking(&Call::Begin, u64::MAX, |_| unreachable!("nobody waits"))?;
     ///     assert_eq!(answer.reply, Reply::Began(1));
     ///     # Ok::<(), pelgaisti::Error>(())
-    pub fn perform_waking(&mut self, call: &Call, turns: u64, wake: impl FnMut(usize)) -> Result<Answer, Error> {
-        self.publish(call)?;
-        self.resume_waking(turns, wake)
+    pub fn perform_waking(&mut self, call: &Call, turns: u64, mut wake: impl FnMut(usize)) -> Result<Answer, Error> {
+        match self.start_waking(call, turns, &mut wake)? {
+            Started::Answered(answer) => Ok(answer),
+            Started::Pending => self.resume_waking(turns, wake),
+        }
     }
 
     /// Goes on with a pending call as [`Session::perform`] does.
@@ -324,7 +395,11 @@ impl Session {
     ///     assert_eq!((answer.reply, answer.place, level), (Reply::Granted(Mode::S), 3, 3));
     ///     # Ok::<(), pelgaisti::Error>(())
     pub fn lock_path(&mut self, resource: Resource, mode: Mode, level: &mut usize, turns: u64) -> Result<Option<Answer>, Error> {
-        self.lock_path_by(resource, mode, level, |session| session.resume(turns))
+        self.lock_path_by(resource, mode, level, |session, call| match session.perform(call, turns) {
+            // the call that an earlier one has left
+            Err(Error::Pending) => session.resume(turns),
+            answer => answer,
+        })
     }
 
     /// Locks a path as [`Session::lock_path`] does, by passes that wake whose wait they have ended, as [`Session::serve_waking`]
@@ -345,27 +420,26 @@ impl Session {
         turns: u64,
         mut wake: impl FnMut(usize),
     ) -> Result<Option<Answer>, Error> {
-        self.lock_path_by(resource, mode, level, |session| session.resume_waking(turns, &mut wake))
+        self.lock_path_by(resource, mode, level, |session, call| {
+            match session.perform_waking(call, turns, &mut wake) {
+                // the call that an earlier one has left
+                Err(Error::Pending) => session.resume_waking(turns, &mut wake),
+                answer => answer,
+            }
+        })
     }
 
-    /// Locks a path by `resume`, which performs a pending call.
+    /// Locks a path by `perform`, which goes on with a call that is pending.
     fn lock_path_by(
         &mut self,
         resource: Resource,
         mode: Mode,
         level: &mut usize,
-        mut resume: impl FnMut(&mut Session) -> Result<Answer, Error>,
+        mut perform: impl FnMut(&mut Session, &Call) -> Result<Answer, Error>,
     ) -> Result<Option<Answer>, Error> {
         let mut last = None;
         while let Some(call) = resource.path_call(mode, *level) {
-            match self.publish(&call) {
-                // the call that an earlier one has left
-                Err(Error::Pending) => (),
-                other => {
-                    other?;
-                }
-            }
-            let answer = resume(self)?;
+            let answer = perform(self, &call)?;
             last = Some(answer);
             if !matches!(answer.reply, Reply::Granted(_)) {
                 break;

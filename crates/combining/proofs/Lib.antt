@@ -10,6 +10,8 @@ pub mod NotedAges
 pub mod AnswerCount
 pub mod PendingSessions
 pub mod TakenPieces
+pub mod ToldList
 pub mod EndedWaits
 pub mod WakesTold
 pub mod OwnCalls
+pub mod Turns

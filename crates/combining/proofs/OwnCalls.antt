@@ -1,5 +1,5 @@
 -- A pass in which the combiner performs a call of its own, ahead of the published calls or behind them.
-use Rattle.std.proofs.Common.{◌≡◌, ℕ, ◌+◌, true, false, Option, Some, None, IfSome, IfNone, List, [], ◌∷◌, ◌++◌, length, refl, sym, ap, ◌∙◌, subst, arith, append_assoc, append-nil, length-append}
+use Rattle.std.proofs.Common.{◌≡◌, ℕ, ◌+◌, Bool, true, false, Option, Some, None, IfSome, IfNone, List, [], ◌∷◌, ◌++◌, length, refl, sym, ap, ◌∙◌, subst, arith, append_assoc, append-nil, length-append}
 use mathlib.Core.List.{IsPrefix}
 use Rattle.lock_rules.specs.declared.calls.Call.{Call}
 use Rattle.lock_rules.specs.declared.calls.Reply.{Reply}
@@ -60,3 +60,10 @@ module _ (t u v : TicketView) (call : Call) (place : ℕ) (reply : Reply) (serve
 pub entered-longer : (t u : TicketView) (call : Call) (o : Option (ℕ × Reply)) → IfSome o (λ r. IsOwnEntered t u call r.0 r.1) → IfNone o (u ≡ t) → IsPrefix t.front u.front
 entered-longer t u call None own same = subst (λ (x : TicketView). IsPrefix t.front x.front) (sym same) (prefix_self t.front)
 entered-longer t u call (Some r) own same = (entry t.number call r.1 ∷ [], sym (ap (λ (x : TicketView). x.front) own.session))
+
+-- How many entries a pass with a call of one's own adds.
+pub pass-count : (first : Bool) (t v : TicketView) (call : Call) (place : ℕ) (reply : Reply) (served : ℕ) → IsPassWithOwn first t v call place reply served
+    → length v.front ≡ length t.front + (served + 1)
+pass-count first t v call place reply served p =
+    let whole = ap (λ (l : List Entry). length l) p.front in
+    omega (arith, whole, length-append (t.front ++ p.ahead) (entry t.number call reply ∷ p.behind), length-append t.front p.ahead, p.count)

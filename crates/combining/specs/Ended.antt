@@ -14,6 +14,10 @@ pub record EndedView : Type 0 where
   pub room : ℕ
   pub list : List ℕ
 
+-- No session is in the list twice.
+abbrev pub IsOnce : List ℕ → Type 0
+IsOnce list = (j k : ℕ) → j < k → k < length list → slice_index list j ≢ slice_index list k
+
 -- One of these entries, which follow this front of the history, has ended the wait of session u: the entry is another
 -- session's, and session u had a waiting request before the entry's call and has none after it.
 pub record HasEndedIn (front entries : List Entry) (u : ℕ) : Type 0 where
@@ -26,7 +30,7 @@ pub record HasEndedIn (front entries : List Entry) (u : ℕ) : Type 0 where
 -- The list has exactly the sessions from 1 to n whose wait one of these entries has ended, each once.
 pub record AreEndedBy (n : ℕ) (front entries : List Entry) (list : List ℕ) : Type 0 where
   pub listed : (u : ℕ) → Contains list u ↔ ((1 ≤ u) × (u ≤ n) × HasEndedIn front entries u)
-  pub once : (j k : ℕ) → j < k → k < length list → slice_index list j ≢ slice_index list k
+  pub once : IsOnce list
 
 -- The list has exactly the sessions whose wait a pass has ended, each once. The pass added the last `served` entries of
 -- the history.

@@ -2,5 +2,6 @@
 pub mod Sessions
 pub mod Closed
 pub mod Ended
+pub mod Calls
 -- What only private contracts cite.
 pub mod inner

@@ -1,3 +1,4 @@
 pub mod Passes
 pub mod Ages
 pub mod OwnCalls
+pub mod Told

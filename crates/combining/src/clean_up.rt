@@ -61,6 +61,7 @@ fn unlink_if_unused(
 }
 
 /// Walks on from the first record of the publication list, and takes off each unused record behind it.
+#[inline(never)]
 fn unlink_unused(board: &Board, session: &mut Ticket, first: u16, ages: &[u64], passes: u64)
     requires ours { IsOf board.now session.old × (session.old.has_book ≡ true) }
     requires ages { length ages.now ≡ board.now.sessions }

@@ -1,30 +1,31 @@
 //! The list of the sessions whose wait a pass has ended.
 
-ghost use Rattle.std.specs.Prelude.{◌≡◌, ◌≤◌, [], IfOk, length};
+ghost use Rattle.std.specs.Prelude.{◌≡◌, ◌⊎◌, ℕ, ◌<◌, ◌≤◌, ◌↔◌, ◌∷◌, ◌++◌, [], true, false, IfOk, length, All, Contains, slice_index_or};
+ghost use Rattle.combining.specs.Ended.{IsOnce};
 
-use lock_desk::NoMemory;
+use lock_desk::{Book, NoMemory};
 use std::alloc::Global;
 use std::marker::Model;
 
-/// A list in which `Office::serve_telling` tells whose wait a pass has ended. Contracts see its sessions, and for how many
-/// it has room. Only `new` takes memory.
+/// A list in which `Office::serve_telling` and `Office::perform_telling` tell whose wait a pass has ended. Contracts see its
+/// sessions, and for how many it has room. Only `new` takes memory.
 #[derive(Drop)]
 pub struct Ended {
-    /// How many sessions there is room for.
-    room: u16,
-    /// The sessions.
+    /// The sessions, each once.
     list: Vec<u16>,
+    /// Of each session from 1 on, by its number less one, whether it is in the list.
+    is_in: Vec<bool>,
 }
 
 impl Model for Ended {
-    ghost use Rattle.std.specs.Prelude.{◌≤◌, vec_len, vec_capacity};
     ghost use Rattle.combining.specs.Ended.{EndedView};
+    ghost use Rattle.combining.specs.inner.Told.{told_view_of, IsToldList};
 
     ghost Value = { EndedView };
 
-    ghost view = { λ ended. record { room = ended.room; list = ended.list.items } };
+    ghost view = { told_view_of };
 
-    ghost invariant = { λ ended. (vec_len ended.list ≤ ended.room) × (ended.room ≤ vec_capacity ended.list) };
+    ghost invariant = { IsToldList };
 }
 
 impl Ended {
@@ -35,13 +36,11 @@ impl Ended {
         ensures empty { IfOk result (λ ended. ended.list ≡ []) }
     {
         let list = Vec::with_capacity(alloc, usize::from(sessions))?;
-        Ok(Ended {
-            room: sessions,
-            list,
-        })
+        let is_in = vec![in alloc; false; usize::from(sessions)]?;
+        Ok(Ended { list, is_in })
     }
 
-    /// The sessions that the last `serve_telling` has told: each once, in no particular order.
+    /// The sessions that the last call has told: each once, in no particular order.
     pub fn sessions(&self) -> &[u16]
         ensures list { result.now ≡ self.now.list }
         ensures few { length result.now ≤ self.now.room }
@@ -49,21 +48,66 @@ impl Ended {
         self.list.as_slice()
     }
 
+    /// Removes the last session. Returns false if there is none.
+    fn remove_last(&mut self) -> bool
+        ensures room { self.new.room ≡ self.old.room }
+        ensures last { result ≡ true → (u : ℕ) × (self.old.list ≡ self.new.list ++ u ∷ []) }
+        ensures none { result ≡ false → self.new.list ≡ [] }
+    {
+        let Some(session) = self.list.pop() else {
+            return false;
+        };
+        self.is_in[usize::from(session) - 1] = false;
+        true
+    }
+
     /// Removes all sessions.
     pub(crate) fn clear(&mut self)
         ensures { self.new ≡ record self.old { list = [] } }
     {
-        self.list.clear();
+        while self.remove_last() {}
     }
 
-    /// Replaces the sessions by these.
-    pub(crate) fn replace(&mut self, sessions: &[u16])
-        requires few { length sessions.now ≤ self.old.room }
-        ensures { self.new ≡ record self.old { list = sessions.now } }
+    /// Adds `session`, if it isn't in the list.
+    fn add(&mut self, session: u16)
+        requires some { 1 ≤ session }
+        requires within { session ≤ self.old.room }
+        ensures room { self.new.room ≡ self.old.room }
+        ensures listed { (u : ℕ) → Contains self.new.list u ↔ (Contains self.old.list u ⊎ (u ≡ session)) }
     {
-        self.clear();
-        let Ok(()) = self.list.extend_from_slice(sessions) else {
+        let place = usize::from(session) - 1;
+        if self.is_in[place] {
+            return;
+        }
+        self.is_in[place] = true;
+        let Ok(()) = self.list.push(session) else {
             unreachable!()
         };
+    }
+
+    /// Adds these sessions, each if it isn't in the list.
+    fn add_all(&mut self, sessions: &[u16])
+        requires within { All (λ u. (1 ≤ u) × (u ≤ self.old.room)) sessions.now }
+        ensures room { self.new.room ≡ self.old.room }
+        ensures listed { (u : ℕ) → Contains self.new.list u ↔ (Contains self.old.list u ⊎ Contains sessions.now u) }
+        ensures once { IsOnce self.new.list }
+    {
+        for session in sessions {
+            self.add(*session);
+        }
+        // shows that no session is in the list twice
+        let _list = &self.list;
+    }
+
+    /// Adds the sessions whose wait the last calls have ended, by the book that served them. Adds none if it served none.
+    pub(crate) fn add_ended(&mut self, book: &Book, served: u32)
+        requires within { (u : ℕ) → 0 < served → Contains book.now.ended u → (1 ≤ u) × (u ≤ self.old.room) }
+        ensures room { self.new.room ≡ self.old.room }
+        ensures listed { (u : ℕ) → Contains self.new.list u ↔ (Contains self.old.list u ⊎ ((0 < served) × Contains book.now.ended u)) }
+        ensures once { IsOnce self.old.list → IsOnce self.new.list }
+    {
+        if served > 0 {
+            self.add_all(book.ended());
+        }
     }
 }

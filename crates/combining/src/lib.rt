@@ -5,12 +5,15 @@
 //! Every call returns without waiting for another thread. Nothing is claimed of progress, fairness or speed.
 #![tactic(auto)]
 
+mod calling;
 mod clean_up;
 mod ended;
 pub mod laws;
 mod office;
+mod own_call;
 mod pass;
 
+pub use calling::{Called, call, resume};
 pub use ended::Ended;
 pub use office::{Answer, HistoryPiece, Office, OpenFault, Performed, Turn};
 pub use publication::{CloseFault, Knowledge, Posted, Ticket as Session};

@@ -197,15 +197,13 @@ impl Office {
         ensures none { result ≡ Turn.Elsewhere → ended.new.list ≡ [] }
         ensures room { ended.new.room ≡ ended.old.room }
     {
+        ended.clear();
         match self.make_pass(session) {
             Some(made) => {
-                ended.replace(made.load.book.ended());
+                ended.add_ended(&made.load.book, made.pass.served);
                 self.end_pass(session, made)
             }
-            None => {
-                ended.clear();
-                Turn::Elsewhere
-            }
+            None => Turn::Elsewhere,
         }
     }
 

@@ -1,5 +1,5 @@
 //! A pass of the combiner: it walks the publication list, opens the records in which calls are posted, performs the
-//! calls and answers them. It may perform a call of its own besides, without its record.
+//! calls and answers them.
 
 ghost use Rattle.std.specs.Prelude.{◌≡◌, ◌≢◌, ◌+◌, ◌-◌, ◌^◌, ◌<◌, ◌≤◌, ◌↔◌, min, [], true, false, IsTrue, Some, None, IfSome, IfNone, length, take, drop, vec_len, vec_capacity, All};
 ghost use mathlib.Core.List.{IsPrefix};
@@ -7,13 +7,14 @@ ghost use Rattle.lock_rules.specs.Legal.{IsLegal, calls_of};
 ghost use Rattle.lock_desk.specs.Batches.{IsItemWithin};
 ghost use Rattle.publication.specs.Boards.{IsOf, IsNumber, OpensNone, heard_from, published_by};
 ghost use Rattle.publication.specs.Rule.{IsHome};
-ghost use Rattle.combining.specs.inner.Passes.{AreOpened, HasCalls, KeepsCalls, IsVisited, HasVisitedOpened, IsSameSession, IsAfterRow, IsBookInHand, HasTakenNothing, ended_behind};
-ghost use Rattle.combining.specs.Sessions.{IsIdle, gives_back};
-ghost use Rattle.combining.specs.inner.OwnCalls.{IsOwnEntered, IsPassWithOwn};
+ghost use Rattle.publication.specs.List.{IsOn};
+ghost use Rattle.publication.specs.Kinds.{IsRoute};
+ghost use Rattle.combining.specs.inner.Passes.{AreOpened, HasCalls, KeepsCalls, IsVisited, HasVisitedOpened, IsNext, HasMet, IsSameSession, IsAfterRow, IsBookInHand, HasTakenNothing, ended_behind};
+ghost use Rattle.combining.specs.Sessions.{gives_back};
 ghost use Rattle.combining.specs.inner.Ages.{sessions_of, sessions_since, noted};
 
 use crate::clean_up::{clean_up, note_served};
-use lock_desk::{Book, Call, Item, Reply};
+use lock_desk::{Book, Call, Item};
 use publication::{Board, Load, Ticket};
 
 /// The outcome of a pass.
@@ -35,7 +36,7 @@ pub(crate) struct MadePass {
 }
 
 /// Whether the call releases locks. Such calls are served before the others, because they make room for requests.
-fn gives_locks_back(call: &Call) -> bool
+pub(crate) fn gives_locks_back(call: &Call) -> bool
     ensures { result ≡ gives_back call.now }
 {
     matches!(call, Call::Release(_) | Call::Commit | Call::Abort)
@@ -43,6 +44,7 @@ fn gives_locks_back(call: &Call) -> bool
 
 /// Opens record `whose` if a call is posted there, and inserts an item for it into the row: after the first `givers`
 /// items, which release locks, if this call does too; else at the end.
+#[inline(always)]
 fn open_record(
     board: &Board,
     session: &mut Ticket,
@@ -80,7 +82,38 @@ fn open_record(
     }
 }
 
+/// Visits the records of the walk from `next` on, and opens each in which a call is posted.
+// Out of line, so that a pass that finds nobody on the list is short.
+#[inline(never)]
+fn open_walked(
+    board: &Board,
+    session: &mut Ticket,
+    row: &mut Vec<Item>,
+    givers: &mut usize,
+    next: Option<u16>,
+)
+    requires ours { IsOf board.now session.old × (session.old.has_book ≡ true) }
+    requires route { IsRoute (board.now.sessions + 1) session.old.route }
+    requires next { IsNext next session.old.route × HasMet next session.old }
+    requires row { AreOpened board.now.sessions session.old.opened row.old.items }
+    requires room { (board.now.sessions ≤ vec_capacity row.old) × (givers.old ≤ vec_len row.old) }
+    requires visited { HasVisitedOpened session.old }
+    ensures session { IsSameSession session.old session.new × (session.new.front ≡ session.old.front) }
+    ensures row { AreOpened board.now.sessions session.new.opened row.new.items }
+    ensures room { (board.now.sessions ≤ vec_capacity row.new) × (givers.new ≤ vec_len row.new) }
+    ensures calls { KeepsCalls session.old session.new }
+    ensures visited { HasVisitedOpened session.new }
+    ensures met { (j : _) → IsOn j session.old.route → IsVisited j session.new }
+{
+    let mut next = next;
+    while let Some(whose) = next {
+        open_record(board, session, row, givers, whose);
+        next = board.walk(session, Some(whose));
+    }
+}
+
 /// Walks the publication list from the head word to the end mark, and opens each record in which a call is posted.
+#[inline(always)]
 fn open_listed(board: &Board, session: &mut Ticket, row: &mut Vec<Item>, givers: &mut usize)
     requires ours { IsOf board.now session.old × (session.old.has_book ≡ true) }
     requires none { OpensNone session.old }
@@ -93,18 +126,20 @@ fn open_listed(board: &Board, session: &mut Ticket, row: &mut Vec<Item>, givers:
     ensures visited { HasVisitedOpened session.new }
     ensures met { (j : _) → 0 < j → j ≤ board.now.sessions → HasCalls (heard_from session.old j) j session.new }
 {
-    let mut next = board.walk(session, None);
-    while let Some(whose) = next {
-        open_record(board, session, row, givers, whose);
-        next = board.walk(session, Some(whose));
+    let next = board.walk(session, None);
+    if next.is_some() {
+        open_walked(board, session, row, givers, next);
     }
 }
 
-/// Visits the records on the publication list and then the combiner's own, and opens each in which a call is posted.
+/// Visits the records on the publication list, and then the combiner's own if its call is pending and not listed, and opens
+/// each in which a call is posted.
+#[inline(always)]
 fn open_records(board: &Board, session: &mut Ticket, row: &mut Vec<Item>)
     requires ours { IsOf board.now session.old × (session.old.has_book ≡ true) }
     requires number { IsNumber board.now session.old.number }
     requires none { OpensNone session.old }
+    requires listed { session.old.pending ≢ None → session.old.listed ≡ true → heard_from session.old session.old.number ≡ published_by session.old }
     requires row { (vec_len row.old ≡ 0) × (board.now.sessions ≤ vec_capacity row.old) }
     ensures session { IsSameSession session.old session.new × (session.new.front ≡ session.old.front) }
     ensures row { AreOpened board.now.sessions session.new.opened row.new.items }
@@ -117,7 +152,9 @@ fn open_records(board: &Board, session: &mut Ticket, row: &mut Vec<Item>)
     let _sessions = board.sessions();
     let mut givers = 0;
     open_listed(board, session, row, &mut givers);
-    open_record(board, session, row, &mut givers, session.number());
+    if session.is_unlisted() {
+        open_record(board, session, row, &mut givers, session.number());
+    }
 }
 
 /// Answers the first `served` calls of the row, in order, each with the reply in its item.
@@ -185,6 +222,7 @@ fn put_back_row(board: &Board, session: &mut Ticket, row: &[Item])
 
 /// Performs the calls of the row, answers those that were performed, and posts the others again. Notes the pass as the
 /// age of each session that it served.
+#[inline(never)]
 fn serve_opened(board: &Board, session: &mut Ticket, load: &mut Load) -> Pass
     requires ours { IsOf board.now session.old × (session.old.has_book ≡ true) }
     requires book { IsBookInHand board.now.sessions load.old.book session.old [] }
@@ -217,10 +255,46 @@ fn serve_opened(board: &Board, session: &mut Ticket, load: &mut Load) -> Pass
     }
 }
 
+/// Serves the row as `serve_opened` does, unless it is empty. Whose wait has ended is then what the book told before.
+#[inline(always)]
+fn serve_any(board: &Board, session: &mut Ticket, load: &mut Load) -> Pass
+    requires ours { IsOf board.now session.old × (session.old.has_book ≡ true) }
+    requires legal { IsLegal session.old.front }
+    requires book { IsBookInHand board.now.sessions load.old.book session.old [] }
+    requires row { AreOpened board.now.sessions session.old.opened load.old.row.items }
+    requires few { vec_len load.old.row < 65536 }
+    requires ages { vec_len load.old.ages ≡ board.now.sessions }
+    ensures session { IsAfterRow session.old session.new }
+    ensures none { OpensNone session.new }
+    ensures put_backs { session.new.put_backs + result.served ≡ session.old.put_backs + vec_len load.old.row }
+    ensures book { IsBookInHand board.now.sessions load.new.book session.new [] }
+    ensures longer { IsPrefix session.old.front session.new.front }
+    ensures legal { IsLegal session.new.front }
+    ensures served { length session.new.front ≡ length session.old.front + result.served }
+    ensures starved { IsTrue result.starved ↔ (result.served < vec_len load.old.row) }
+    ensures calls { result.starved ≡ false → KeepsCalls session.old session.new }
+    ensures room { vec_capacity load.new.row ≡ vec_capacity load.old.row }
+    ensures passes { load.new.passes ≡ load.old.passes }
+    ensures taken { HasTakenNothing load.old load.new }
+    ensures ages { load.new.ages.items ≡ noted load.old.ages.items (sessions_since (length session.old.front) session.new.front) load.old.passes }
+    ensures len { vec_len load.new.ages ≡ vec_len load.old.ages }
+    ensures ended { 0 < result.served → load.new.book.ended ≡ ended_behind board.now.sessions session.old.front (drop (length session.old.front) session.new.front) }
+{
+    if load.row.is_empty() {
+        return Pass {
+            served: 0,
+            starved: false,
+        };
+    }
+    serve_opened(board, session, load)
+}
+
 /// Runs a whole pass for a combiner that has the load, and leaves the load fit to be given back.
+#[inline(always)]
 pub(crate) fn serve_published(board: &Board, session: &mut Ticket, load: &mut Load) -> Pass
     requires ours { IsOf board.now session.old × (session.old.has_book ≡ true) × OpensNone session.old }
     requires number { IsNumber board.now session.old.number }
+    requires listed { session.old.pending ≢ None → session.old.listed ≡ true → heard_from session.old session.old.number ≡ published_by session.old }
     requires home { IsHome session.old.front (board.now.sessions + 1) load.old × IsLegal session.old.front }
     ensures session { session.new ≡ record session.old { front = session.new.front; route = session.new.route; put_backs = session.new.put_backs } }
     ensures starved { IsTrue result.starved ↔ (session.old.put_backs < session.new.put_backs) }
@@ -232,115 +306,12 @@ pub(crate) fn serve_published(board: &Board, session: &mut Ticket, load: &mut Lo
     ensures passes { load.new.passes ≡ min (load.old.passes + 1) (2 ^ 64 - 1) }
     ensures taken { load.new.pieces.items ≡ load.old.pieces.items }
     ensures ages { load.new.ages.items ≡ noted load.old.ages.items (sessions_since (length session.old.front) session.new.front) load.new.passes }
-    ensures ended { load.new.book.ended ≡ ended_behind board.now.sessions session.old.front (drop (length session.old.front) session.new.front) }
+    ensures ended { 0 < result.served → load.new.book.ended ≡ ended_behind board.now.sessions session.old.front (drop (length session.old.front) session.new.front) }
 {
     load.passes = load.passes.saturating_add(1);
     open_records(board, session, &mut load.row);
-    let pass = serve_opened(board, session, load);
+    let pass = serve_any(board, session, load);
     load.row.clear();
     clean_up(board, session, load.ages.as_slice(), load.passes);
     pass
-}
-
-/// Performs a call of the combiner's own session, which has not published it, and enters it into the history. Returns its
-/// place in the history and the reply; `None`, with nothing changed, if memory is refused.
-fn perform_own(
-    board: &Board,
-    session: &mut Ticket,
-    load: &mut Load,
-    call: Call,
-) -> Option<(u64, Reply)>
-    requires ours { IsOf board.now session.old × (session.old.has_book ≡ true) }
-    requires number { IsNumber board.now session.old.number }
-    requires idle { IsIdle session.old }
-    requires home { IsHome session.old.front (board.now.sessions + 1) load.old × IsLegal session.old.front }
-    ensures some { IfSome result (λ r. IsOwnEntered session.old session.new call r.0 r.1) }
-    ensures none { IfNone result (session.new ≡ session.old) }
-    ensures home { IsHome session.new.front (board.now.sessions + 1) load.new × IsLegal session.new.front }
-    ensures taken { load.new.pieces.items ≡ load.old.pieces.items }
-{
-    let asked = call;
-    let Ok(reply) = load.book.serve(session.number(), call) else {
-        return None;
-    };
-    // the history is legal, and its length fits into 64 bits, so there is room for this entry
-    let _length = load.book.history().len();
-    let _served = load.book.served();
-    let place = board.enter(session, asked, reply);
-    Some((place, reply))
-}
-
-/// Performs a call of the combiner's own and then runs a pass.
-fn serve_own_first(
-    board: &Board,
-    session: &mut Ticket,
-    load: &mut Load,
-    call: Call,
-) -> (Pass, Option<(u64, Reply)>)
-    requires ours { IsOf board.now session.old × (session.old.has_book ≡ true) × OpensNone session.old }
-    requires number { IsNumber board.now session.old.number }
-    requires idle { IsIdle session.old }
-    requires home { IsHome session.old.front (board.now.sessions + 1) load.old × IsLegal session.old.front }
-    ensures performed { IfSome result.1 (λ r. IsPassWithOwn true session.old session.new call r.0 r.1 result.0.served) }
-    ensures refused { IfNone result.1 (session.new ≡ record session.old { front = session.new.front; route = session.new.route; put_backs = session.new.put_backs }) }
-    ensures longer { IsPrefix session.old.front session.new.front }
-    ensures starved { IsTrue result.0.starved ↔ (session.old.put_backs < session.new.put_backs) }
-    ensures heard { result.0.starved ≡ false → (j : _) → 0 < j → j ≤ board.now.sessions → heard_from session.old j ≤ length (calls_of j session.new.front) }
-    ensures home { IsHome session.new.front (board.now.sessions + 1) load.new × IsLegal session.new.front }
-    ensures taken { load.new.pieces.items ≡ load.old.pieces.items }
-{
-    let answer = perform_own(board, session, load, call);
-    (serve_published(board, session, load), answer)
-}
-
-/// Runs a pass and then performs a call of the combiner's own.
-fn serve_own_last(
-    board: &Board,
-    session: &mut Ticket,
-    load: &mut Load,
-    call: Call,
-) -> (Pass, Option<(u64, Reply)>)
-    requires ours { IsOf board.now session.old × (session.old.has_book ≡ true) × OpensNone session.old }
-    requires number { IsNumber board.now session.old.number }
-    requires idle { IsIdle session.old }
-    requires home { IsHome session.old.front (board.now.sessions + 1) load.old × IsLegal session.old.front }
-    ensures performed { IfSome result.1 (λ r. IsPassWithOwn false session.old session.new call r.0 r.1 result.0.served) }
-    ensures refused { IfNone result.1 (session.new ≡ record session.old { front = session.new.front; route = session.new.route; put_backs = session.new.put_backs }) }
-    ensures longer { IsPrefix session.old.front session.new.front }
-    ensures starved { IsTrue result.0.starved ↔ (session.old.put_backs < session.new.put_backs) }
-    ensures heard { result.0.starved ≡ false → (j : _) → 0 < j → j ≤ board.now.sessions → heard_from session.old j ≤ length (calls_of j session.new.front) }
-    ensures home { IsHome session.new.front (board.now.sessions + 1) load.new × IsLegal session.new.front }
-    ensures taken { load.new.pieces.items ≡ load.old.pieces.items }
-{
-    let pass = serve_published(board, session, load);
-    let answer = perform_own(board, session, load, call);
-    (pass, answer)
-}
-
-/// Runs a pass in which the combiner performs a call of its own, which it has not published: ahead of the others if the
-/// call gives locks back, else behind them. Returns the pass, and of the own call its place and reply; `None` if memory is
-/// refused for it.
-pub(crate) fn serve_with_own(
-    board: &Board,
-    session: &mut Ticket,
-    load: &mut Load,
-    call: Call,
-) -> (Pass, Option<(u64, Reply)>)
-    requires ours { IsOf board.now session.old × (session.old.has_book ≡ true) × OpensNone session.old }
-    requires number { IsNumber board.now session.old.number }
-    requires idle { IsIdle session.old }
-    requires home { IsHome session.old.front (board.now.sessions + 1) load.old × IsLegal session.old.front }
-    ensures performed { IfSome result.1 (λ r. IsPassWithOwn (gives_back call) session.old session.new call r.0 r.1 result.0.served) }
-    ensures refused { IfNone result.1 (session.new ≡ record session.old { front = session.new.front; route = session.new.route; put_backs = session.new.put_backs }) }
-    ensures longer { IsPrefix session.old.front session.new.front }
-    ensures starved { IsTrue result.0.starved ↔ (session.old.put_backs < session.new.put_backs) }
-    ensures heard { result.0.starved ≡ false → (j : _) → 0 < j → j ≤ board.now.sessions → heard_from session.old j ≤ length (calls_of j session.new.front) }
-    ensures home { IsHome session.new.front (board.now.sessions + 1) load.new × IsLegal session.new.front }
-    ensures taken { load.new.pieces.items ≡ load.old.pieces.items }
-{
-    if gives_locks_back(&call) {
-        serve_own_first(board, session, load, call)
-    } else {
-        serve_own_last(board, session, load, call)
-    }
 }

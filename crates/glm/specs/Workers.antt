@@ -1,8 +1,10 @@
 -- The work of the threads of a run.
-use Rattle.std.specs.Prelude.{◌≡◌, ℕ, ◌+◌, ◌≤◌, nat_le, if◌then◌else◌, Bool, false, List, [], map, option_map, Option, Some, None}
+use Rattle.std.specs.Prelude.{◌≡◌, ℕ, ◌+◌, ◌≤◌, nat_le, if◌then◌else◌, Bool, true, false, List, [], map, option_map, Option, Some, None}
 use Rattle.lock_rules.specs.declared.calls.Call.{Call}
 use Rattle.publication.specs.Views.{BoardView, TicketView}
 use Rattle.combining.specs.Sessions.{IsSessionOf, IsIdle}
+use Rattle.combining.specs.declared.office.perform.Performed.{Performed}
+use Rattle.combining.specs.declared.office.perform.Performed.TheVariants as performed
 use Rattle.combining.specs.declared.office.Turn.{Turn}
 use Rattle.combining.specs.declared.office.Turn.TheVariants as turn
 use Rattle.lock_trace.specs.declared.rows.TraceRow.{TraceRow}
@@ -10,6 +12,8 @@ use Rattle.glm.specs.Statuses.{number_of_fault}
 use Rattle.glm.specs.Calls.{calls_answered, calls_of_rows}
 use Rattle.glm.specs.declared.tool_fault.ToolFault.{ToolFault}
 use Rattle.glm.specs.declared.tool_fault.ToolFault.TheVariants as tool
+use Rattle.glm.specs.declared.workers.Direct.{Direct}
+use Rattle.glm.specs.declared.workers.Direct.TheVariants as direct
 use Rattle.glm.specs.declared.workers.Stop.{Stop}
 use Rattle.glm.specs.declared.workers.Stop.TheVariants as stop
 use Rattle.glm.specs.declared.threads.ThreadResult.{ThreadResult}
@@ -34,6 +38,13 @@ calls_known session = record {
 abbrev pub is_starved_turn : Turn → Bool
 is_starved_turn turn.Elsewhere = false
 is_starved_turn (turn.Pass served starved) = starved
+
+-- what came of a try to perform a call at once: a pass that put calls back is starved, also if it performed this call
+abbrev pub direct_of : Performed → Direct
+direct_of (performed.Answered answer served true) = direct.Starved
+direct_of (performed.Answered answer served false) = direct.Answered
+direct_of performed.Elsewhere = direct.Elsewhere
+direct_of performed.Starved = direct.Starved
 
 -- at most `turns` more tries than `before`
 abbrev pub TriedAtMost : (ℕ → Type 0) → ℕ → ℕ → Type 0

@@ -4,7 +4,7 @@
 /// the same time, passes a gate of its own; the program passes `OpenGate`. Sessions are numbered from 1. The calls of a
 /// session are numbered from 0, in the order of its rows.
 pub trait Gate: Sync {
-    /// Runs before the call is published. It may wait for a limited time. Returns false if the gate stayed shut; the
+    /// Runs before the call is made. It may wait for a limited time. Returns false if the gate stayed shut; the
     /// thread of the session then stops, and the reason is the fault `GateShut`.
     fn enter(&self, session: u16, call: u64) -> bool;
 

@@ -3,11 +3,11 @@
 ghost use Rattle.std.specs.Prelude.{◌≡◌, ℕ, ◌+◌, ◌*◌, ◌<◌, ◌++◌, ◌∷◌, [], false, Some, None, Err, OnOk, length};
 ghost use Rattle.std.specs.Bool.{OnTrue};
 ghost use Rattle.glm.specs.Calls.{calls_of_rows};
-ghost use Rattle.glm.specs.Workers.{TriedAtMost, fault_of_stop, is_starved_turn, rank_of_stop};
+ghost use Rattle.glm.specs.Workers.{TriedAtMost, direct_of, fault_of_stop, is_starved_turn, rank_of_stop};
 
 use crate::call_gate::Gate;
 use crate::tool_fault::ToolFault;
-use combining::{Office, Session, Turn};
+use combining::{Office, Performed, Session, Turn};
 use lock_desk::Call;
 use lock_trace::TraceRow;
 use std::{hint, thread};
@@ -47,8 +47,20 @@ impl Stop {
     }
 }
 
-/// A shared lock table as a thread of a run uses it: publish a call, serve, collect the answer. Generic, so that the
-/// contracts of the work don't depend on the office. They hold for a service that counts its sessions' tries, too.
+/// What came of a try to perform a call at once.
+#[derive(Clone, Copy, Debug, PartialEq, Eq)]
+pub(crate) enum Direct {
+    /// The call is performed, and its answer collected.
+    Answered,
+    /// Another session has the lock table. The call may be published instead.
+    Elsewhere,
+    /// Memory was refused in the session's own pass: for this call, which isn't performed then, or for another session's.
+    Starved,
+}
+
+/// A shared lock table as a thread of a run uses it: perform a call at once, or publish it, serve, and collect the answer.
+/// Generic, so that the contracts of the work don't depend on the office. They hold for a service that counts its sessions'
+/// tries, too.
 pub(crate) trait Service: Sync {
     ghost use Rattle.std.specs.Prelude.{◌≡◌, ◌≢◌, ℕ, ◌+◌, ◌++◌, ◌∷◌, [], true, false, Some, None};
     ghost use Rattle.std.specs.Bool.{OnTrue, OnFalse};
@@ -64,7 +76,7 @@ pub(crate) trait Service: Sync {
     // the session's number, its pending call, and the calls whose answers it collected
     ghost calls: { Self.Session → Calls };
 
-    // the session tried this often to serve, and none of its passes was starved
+    // the session tried this often to serve or to perform at once, and none of its passes was starved
     ghost has_tried: { Self.Session → ℕ → Type 0 };
 
     // the session's last pass was starved
@@ -75,6 +87,19 @@ pub(crate) trait Service: Sync {
 
     // the answer to the session's pending call is in the history that it knows
     ghost is_served: { Self.Session → Type 0 };
+
+    /// Tries once to perform a call of the session, which has none pending, without publishing it. `Elsewhere` changes nothing
+    /// that the session knows of the history.
+    fn perform(&self, session: &mut Self::Session, call: Call) -> Direct
+        requires ours { is_of self.now session.old }
+        requires idle { (calls session.old).pending ≡ None }
+        ensures ours { is_of self.now session.new }
+        ensures answered { result ≡ Direct.Answered → calls session.new ≡ record (calls session.old) {
+          collected = (calls session.old).collected ++ call ∷ [];
+        } }
+        ensures elsewhere { result ≡ Direct.Elsewhere → (calls session.new ≡ calls session.old) × (known session.new ≡ known session.old) }
+        ensures tried { (tries : ℕ) → result ≢ Direct.Starved → has_tried session.old tries → has_tried session.new (tries + 1) }
+        ensures starved { result ≡ Direct.Starved → was_starved session.new };
 
     /// Publishes a call of the session, which has none pending.
     fn publish(&self, session: &mut Self::Session, call: Call)
@@ -130,6 +155,11 @@ impl Service for Office {
 
     ghost is_served = { IsPendingServed };
 
+    /// Performs the call as the combiner, or returns at once if another session is the combiner.
+    fn perform(&self, session: &mut Session, call: Call) -> Direct {
+        outcome_of(Office::perform(self, session, call))
+    }
+
     /// Publishes the call by the session's publication record.
     fn publish(&self, session: &mut Session, call: Call) {
         let _posted = Office::publish(self, session, call);
@@ -143,6 +173,24 @@ impl Service for Office {
     /// Takes the answer from the session's publication record, if it is there.
     fn collect(&self, session: &mut Session) -> bool {
         Office::collect(self, session).is_some()
+    }
+}
+
+/// What came of a try of an office to perform a call at once. A pass that found no memory for another session's call is
+/// starved, too, also if it performed the session's own.
+fn outcome_of(performed: Performed) -> Direct
+    ensures { result ≡ direct_of performed }
+{
+    match performed {
+        Performed::Answered { starved, .. } => {
+            if starved {
+                Direct::Starved
+            } else {
+                Direct::Answered
+            }
+        }
+        Performed::Elsewhere => Direct::Elsewhere,
+        Performed::Starved => Direct::Starved,
     }
 }
 
@@ -203,8 +251,41 @@ fn wait_for_answer<S: Service>(
     Err(Stop::TurnLimit)
 }
 
-/// Performs call number `place` of session `number`: enters the gate, publishes the call, waits for its answer and leaves
-/// the gate. Fails with `GateShut` if the gate stayed shut, or as `wait_for_answer` fails.
+/// Makes a call: tries once to perform it at once, and if another session has the lock table, publishes it and waits for its
+/// answer. Fails with `NoMemory` at the first pass of its own that is starved, and with `TurnLimit` after `turns` tries, of
+/// which the one to perform at once is the first.
+fn make_call<S: Service>(
+    service: &S,
+    session: &mut S::Session,
+    call: Call,
+    turns: u64,
+) -> Result<(), Stop>
+    requires ours { S.is_of service.now session.old }
+    requires idle { (S.calls session.old).pending ≡ None }
+    ensures ours { OnOk result (S.is_of service.now session.new) }
+    ensures performed { OnOk result (S.calls session.new ≡ record (S.calls session.old) {
+      collected = (S.calls session.old).collected ++ call ∷ [];
+    }) }
+    ensures tried { OnOk result ((before : ℕ) → S.has_tried session.old before → TriedAtMost (S.has_tried session.new) before turns) }
+    ensures limit { result ≡ Err Stop.TurnLimit → (before : ℕ) → S.has_tried session.old before → S.has_tried session.new (before + turns) }
+    ensures starved { result ≡ Err Stop.NoMemory → S.was_starved session.new }
+{
+    if turns == 0 {
+        return Err(Stop::TurnLimit);
+    }
+    let asked = call;
+    match service.perform(session, call) {
+        Direct::Answered => Ok(()),
+        Direct::Elsewhere => {
+            service.publish(session, asked);
+            wait_for_answer(service, session, turns - 1)
+        }
+        Direct::Starved => Err(Stop::NoMemory),
+    }
+}
+
+/// Performs call number `place` of session `number`: enters the gate, makes the call and leaves the gate. Fails with
+/// `GateShut` if the gate stayed shut, or as `make_call` fails.
 fn perform<S: Service, G: Gate>(
     service: &S,
     session: &mut S::Session,
@@ -227,8 +308,7 @@ fn perform<S: Service, G: Gate>(
     if !gate.enter(number, place) {
         return Err(Stop::GateShut);
     }
-    service.publish(session, call);
-    wait_for_answer(service, session, turns)?;
+    make_call(service, session, call, turns)?;
     gate.leave(number, place);
     Ok(())
 }

@@ -50,7 +50,7 @@ fn number(word: &str) -> Result<u64, Fault> {
 /// How threads share the lock table.
 #[derive(Clone, Copy)]
 enum Sharing {
-    /// Each thread publishes its calls in an office, and one thread at a time serves them.
+    /// Each thread makes its calls in an office, where one thread at a time performs calls.
     Office,
     /// Each thread locks a mutex for each call.
     Mutex,

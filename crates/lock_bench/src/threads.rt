@@ -8,15 +8,15 @@ ghost use Rattle.combining.specs.Sessions.{IsSessionOf, IsIdle};
 use crate::spans;
 use crate::spans::Span;
 use crate::timing::Fault;
-use combining::{Office, Session};
+use combining::{Called, Office, Session};
 use lock_desk::{Call, NoMemory};
 use lock_trace::TraceRow;
 use std::alloc::Global;
+use std::thread;
 use std::thread::Threads;
 use std::time::{Clock, Instant};
-use std::{hint, thread};
 
-/// The greatest number of looks for one answer.
+/// The greatest number of looks for the answer to one call.
 const LOOKS: u64 = 1_000_000_000;
 
 /// A row of a thread.
@@ -37,46 +37,19 @@ struct Job {
     rows: Vec<Row>,
 }
 
-/// Looks for the answer between two tries to become the combiner. Each look of a waiting session takes cache lines from the
-/// combiner, so most looks are at the session's own record only, and far apart.
-const LOOKS_PER_TRY: u64 = 8;
-
-/// The pause instructions of one spin between two looks.
-const PAUSES: u32 = 256;
-
-/// The looks between two yields of the processor.
-const LOOKS_PER_YIELD: u64 = 64;
-
-/// Backs off after a look: yields the processor after every `LOOKS_PER_YIELD` looks, and spins after the others.
-fn back_off(look: u64) {
-    if look % LOOKS_PER_YIELD == LOOKS_PER_YIELD - 1 {
-        thread::yield_now();
-        return;
-    }
-    for _pause in 0..PAUSES {
-        hint::spin_loop();
-    }
-}
-
-/// Publishes a call, and serves and collects until the answer is there. Returns false if no answer came within `LOOKS` looks.
+/// Makes a call: performs it at once if the lock table is free, else publishes it, and serves and looks for the answer. Returns
+/// false if no answer came within `LOOKS` looks, or if memory was refused.
 fn perform(office: &Office, session: &mut Session, call: Call) -> bool
     requires ours { IsSessionOf office.now session.old × IsIdle session.old }
     ensures ours { OnTrue result (IsSessionOf office.now session.new × IsIdle session.new) }
 {
-    let _posted = office.publish(session, call);
-    for look in 0..LOOKS {
-        if look % LOOKS_PER_TRY == 0 {
-            let _turn = office.serve(session);
-        }
-        if office.collect(session).is_some() {
-            return true;
-        }
-        back_off(look);
+    match combining::call(office, session, call, LOOKS) {
+        Called::Answered(_) => true,
+        Called::NotYet | Called::Starved => false,
     }
-    false
 }
 
-/// Performs a row by the session that it names. Returns false if there is no such session or no answer came.
+/// Performs a row by the session that it names. Returns false if there is no such session or the call wasn't answered.
 fn perform_row(office: &Office, sessions: &mut Vec<Session>, row: &Row) -> bool
     requires ours { All (λ session. IsSessionOf office.now session × IsIdle session) sessions.old.items }
     ensures ours { OnTrue result (All (λ session. IsSessionOf office.now session × IsIdle session) sessions.new.items) }

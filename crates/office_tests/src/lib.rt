@@ -7,9 +7,13 @@ mod ages;
 #[cfg(test)]
 mod boards;
 #[cfg(test)]
+mod calling;
+#[cfg(test)]
 mod closing;
 #[cfg(test)]
 mod direct;
+#[cfg(test)]
+mod direct_telling;
 #[cfg(test)]
 mod dropping;
 #[cfg(test)]

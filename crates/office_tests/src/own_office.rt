@@ -1,10 +1,10 @@
 //! Each call of an office with sessions of that office, while one of another office is at hand. The must-fail edits of this
 //! crate hand the other one over, which the contracts of the calls refuse.
 
-ghost use Rattle.std.specs.Prelude.{All};
+ghost use Rattle.std.specs.Prelude.{◌≤◌, All};
 ghost use Rattle.combining.specs.Sessions.{IsSessionOf, IsIdle};
 
-use combining::{Answer, Office, Session};
+use combining::{Answer, Called, Ended, Office, Session, call};
 use lock_desk::{Book, Call};
 
 /// Makes each call on two sessions of `office` once, and then a pass of `foreign`, which is a session of `other`. Returns the
@@ -31,6 +31,27 @@ pub fn poll_in_its_own_office(
     office.retire(second);
     let _turn = other.serve(foreign);
     answer
+}
+
+/// Performs a poll of a session of `office` at once, with a list for those whose wait it ends, makes a whole poll of the
+/// same session, and then a pass of `foreign`, which is a session of `other`.
+pub fn call_in_its_own_office(
+    office: &Office,
+    session: &mut Session,
+    other: &Office,
+    foreign: &mut Session,
+    ended: &mut Ended,
+) -> Called
+    requires session { IsSessionOf office.now session.old × IsIdle session.old }
+    requires foreign { IsSessionOf other.now foreign.old × IsIdle foreign.old }
+    requires room { office.now.sessions ≤ ended.old.room }
+    ensures session { IsSessionOf office.now session.new }
+    ensures foreign { IsSessionOf other.now foreign.new }
+{
+    let _performed = office.perform_telling(session, Call::Poll, ended);
+    let called = call(office, session, Call::Poll, 1);
+    let _turn = other.serve(foreign);
+    called
 }
 
 /// Closes two offices, each with its own sessions, and returns the books of those that were closed.

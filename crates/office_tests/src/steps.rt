@@ -4,7 +4,7 @@ ghost use Rattle.std.specs.Prelude.{◌<◌, All, length};
 ghost use Rattle.combining.specs.Sessions.{IsSessionOf, IsIdle};
 
 use crate::offices::{answer, new_office, served_in_all};
-use combining::{Office, Performed, Posted, Session};
+use combining::{Called, Office, Performed, Posted, Session};
 use lock_desk::{Call, Reply};
 use std::alloc::Global;
 use std::process::Abort;
@@ -24,6 +24,12 @@ pub(crate) enum Step {
     /// Performs this call without publishing it, in a pass that serves this number of published calls. The answer has this
     /// place and this reply.
     PerformsAtOnce(Call, u64, Reply, u32),
+    /// Makes this call by `combining::call`. The answer has this place and this reply.
+    Calls(Call, u64, Reply),
+    /// Resumes the published call, whose answer has this place and this reply.
+    Resumes(u64, Reply),
+    /// Resumes the published call for no turn: it stays pending, and the session sees no more of the history.
+    ResumesForNoTurn,
     /// Polls in an open transaction, each time in a pass that serves no other call. The first poll has the first of these
     /// places, and the last poll has the place before the second one.
     PollsAlone(u64, u64),
@@ -87,6 +93,79 @@ fn perform_at_once(
         starved: false,
     };
     assert_eq!(rt; office.perform(session, call), expected);
+}
+
+/// Expects the session's call to be pending, and resumes it for so many turns; a second time if memory is refused for a call.
+/// Adds a starved pass to `starved`.
+fn resume(
+    rt: &impl Abort,
+    office: &Office,
+    session: &mut Session,
+    turns: u64,
+    starved: &mut u32,
+) -> Called
+    requires ours { IsSessionOf office.now session.old }
+    ensures ours { IsSessionOf office.now session.new }
+{
+    assert!(rt; !session.is_idle() && !session.is_retired());
+    let called = combining::resume(office, session, turns);
+    let Called::Starved = called else {
+        return called;
+    };
+    *starved = starved.wrapping_add(1);
+    assert!(rt; !session.is_idle() && !session.is_retired());
+    combining::resume(office, session, turns)
+}
+
+/// Resumes the published call for one turn, which is enough if nobody else has the lock table, and expects this answer.
+fn resume_to_answer(
+    rt: &impl Abort,
+    office: &Office,
+    session: &mut Session,
+    place: u64,
+    reply: Reply,
+    starved: &mut u32,
+)
+    requires ours { IsSessionOf office.now session.old }
+    ensures ours { IsSessionOf office.now session.new }
+{
+    let expected = Called::Answered(answer(place, reply));
+    assert_eq!(rt; resume(rt, office, session, 1, starved), expected);
+    assert!(rt; session.is_idle());
+}
+
+/// Resumes the published call for no turn, and expects it to stay pending, and the session to have seen what it had.
+fn resume_for_no_turn(rt: &impl Abort, office: &Office, session: &mut Session, starved: &mut u32)
+    requires ours { IsSessionOf office.now session.old }
+    ensures ours { IsSessionOf office.now session.new }
+{
+    let seen = session.seen();
+    assert_eq!(rt; resume(rt, office, session, 0, starved), Called::NotYet);
+    assert!(rt; !session.is_idle() && session.seen() == seen);
+}
+
+/// Makes a call of an idle session by `combining::call`, and resumes it if memory is refused. Expects this answer.
+fn call_whole(
+    rt: &impl Abort,
+    office: &Office,
+    session: &mut Session,
+    call: Call,
+    place: u64,
+    reply: Reply,
+    starved: &mut u32,
+)
+    requires ours { IsSessionOf office.now session.old }
+    ensures ours { IsSessionOf office.now session.new }
+{
+    assert!(rt; session.is_idle());
+    let called = combining::call(office, session, call, 1);
+    if let Called::Starved = called {
+        *starved = starved.wrapping_add(1);
+        resume_to_answer(rt, office, session, place, reply, starved);
+        return;
+    }
+    assert_eq!(rt; called, Called::Answered(answer(place, reply)));
+    assert!(rt; session.is_idle());
 }
 
 /// Polls at each place from `first` up to the one before `end`. Adds starved passes to `starved`.
@@ -157,6 +236,11 @@ fn perform_step(
         Step::PerformsAtOnce(call, place, reply, served) => perform_at_once(
             rt, office, session, call, place, reply, served,
         ),
+        Step::Calls(call, place, reply) => call_whole(
+            rt, office, session, call, place, reply, starved,
+        ),
+        Step::Resumes(place, reply) => resume_to_answer(rt, office, session, place, reply, starved),
+        Step::ResumesForNoTurn => resume_for_no_turn(rt, office, session, starved),
         Step::PollsAlone(first, end) => poll_alone(rt, office, session, first, end, starved),
         Step::IsPending => find_nothing(rt, office, session, false),
         Step::IsIdle => find_nothing(rt, office, session, true),
@@ -167,7 +251,7 @@ fn perform_step(
 }
 
 /// Returns the index of the session with this number.
-fn index_of(rt: &impl Abort, sessions: &[Session], number: u16) -> usize
+pub(crate) fn index_of(rt: &impl Abort, sessions: &[Session], number: u16) -> usize
     ensures { result < length sessions.now }
 {
     let index = sessions

@@ -19,12 +19,20 @@ const TURNS: u64 = 1_000_000_000;
 const SESSIONS: u16 = 8;
 
 /// Creates a list with room for so many sessions. Tries a second time if memory is refused.
-fn new_list(alloc: Global, sessions: u16) -> Result<Ended, NoMemory>
+pub(crate) fn new_list(alloc: Global, sessions: u16) -> Result<Ended, NoMemory>
     ensures room { IfOk result (λ ended. ended.room ≡ sessions) }
 {
     match Ended::new(alloc, sessions) {
         Err(_) => Ended::new(alloc, sessions),
         other => other,
+    }
+}
+
+/// Expects the list to have these sessions, which are different, and no other.
+pub(crate) fn want_sessions(rt: &impl Abort, ended: &Ended, told: &[u16]) {
+    assert_eq!(rt; ended.sessions().len(), told.len());
+    for number in told {
+        assert!(rt; ended.sessions().contains(number));
     }
 }
 
@@ -56,10 +64,7 @@ fn want_told(
     else {
         panic!(rt; "a pass with memory");
     };
-    assert_eq!(rt; ended.sessions().len(), told.len());
-    for number in told {
-        assert!(rt; ended.sessions().contains(number));
-    }
+    want_sessions(rt, ended, told);
 }
 
 /// Begins a transaction and locks the database, and expects this reply to the lock.

@@ -3,7 +3,7 @@
 ghost use Rattle.std.specs.Prelude.{◌≡◌, All, IfOk, IfSome};
 ghost use Rattle.combining.specs.Sessions.{IsSessionOf, IsIdle};
 
-use combining::{Answer, Office, Performed, Session};
+use combining::{Answer, Called, Office, Performed, Session, resume};
 use lock_desk::{Book, Call, Entry, Mode, NoMemory, Reply, Resource, Why};
 use std::alloc::{AllocError, Global};
 use std::process::Abort;
@@ -23,6 +23,8 @@ enum Load {
     Transactions,
     /// The same random calls, each performed at once if no other session has the lock table.
     TransactionsAtOnce,
+    /// The same random calls, some made by `combining::call`, and some published, served and collected.
+    TransactionsMixed,
 }
 
 /// A generator of the calls of one session, by pseudorandom numbers.
@@ -138,16 +140,47 @@ fn call_at_once(office: &Office, session: &mut Session, asked: &Call) -> Option<
     }
 }
 
+/// Makes a call by `combining::call` with one turn, and goes on with it by `resume`. Returns `None` if memory is refused, or
+/// after `TURNS` turns.
+fn call_whole(office: &Office, session: &mut Session, asked: &Call) -> Option<Answer>
+    requires ours { IsSessionOf office.now session.old × IsIdle session.old }
+    ensures ours { IsSessionOf office.now session.new }
+    ensures idle { IfSome result (λ _. IsIdle session.new) }
+{
+    let called = match combining::call(office, session, *asked, 1) {
+        Called::Answered(answer) => return Some(answer),
+        Called::Starved => return None,
+        Called::NotYet => resume(office, session, TURNS),
+    };
+    match called {
+        Called::Answered(answer) => Some(answer),
+        Called::Starved | Called::NotYet => None,
+    }
+}
+
+/// Makes a call as `call_whole` does if the session has seen an even number of entries, else as `call` does.
+fn call_mixed(office: &Office, session: &mut Session, asked: &Call) -> Option<Answer>
+    requires ours { IsSessionOf office.now session.old × IsIdle session.old }
+    ensures ours { IsSessionOf office.now session.new }
+    ensures idle { IfSome result (λ _. IsIdle session.new) }
+{
+    if session.seen() % 2 == 0 {
+        return call_whole(office, session, asked);
+    }
+    call(office, session, *asked)
+}
+
 /// Makes a call in the way of this load.
 fn call_as(office: &Office, session: &mut Session, load: Load, asked: &Call) -> Option<Answer>
     requires ours { IsSessionOf office.now session.old × IsIdle session.old }
     ensures ours { IsSessionOf office.now session.new }
     ensures idle { IfSome result (λ _. IsIdle session.new) }
 {
-    if let Load::TransactionsAtOnce = load {
-        return call_at_once(office, session, asked);
+    match load {
+        Load::TransactionsAtOnce => call_at_once(office, session, asked),
+        Load::TransactionsMixed => call_mixed(office, session, asked),
+        Load::Polls | Load::Transactions => call(office, session, *asked),
     }
-    call(office, session, *asked)
 }
 
 /// A session with the answers that it collected.
@@ -338,6 +371,15 @@ fn eight_threads_get_the_replies_of_one_book(rt: HostRuntime) -> Result<(), Fail
 #[test]
 fn eight_threads_perform_their_calls_at_once(rt: HostRuntime) -> Result<(), Fail> {
     let history = history_of_threads(&rt, rt.alloc(), 8, Load::TransactionsAtOnce, 1000)?;
+    assert_eq!(rt; history.len(), 8000);
+    want_replies_of_a_fresh_book(&rt, rt.alloc(), &history)?;
+    Ok(())
+}
+
+/// So are those of eight threads that make some of their calls whole and publish the others.
+#[test]
+fn eight_threads_mix_whole_calls_and_published_ones(rt: HostRuntime) -> Result<(), Fail> {
+    let history = history_of_threads(&rt, rt.alloc(), 8, Load::TransactionsMixed, 1000)?;
     assert_eq!(rt; history.len(), 8000);
     want_replies_of_a_fresh_book(&rt, rt.alloc(), &history)?;
     Ok(())

@@ -4,3 +4,4 @@ pub mod HeldValues
 pub mod Writing
 pub mod Handles
 pub mod Batches
+pub mod Starved

@@ -7,7 +7,7 @@ use Rattle.lock_rules.specs.declared.calls.Entry.{Entry}
 use Rattle.lock_rules.specs.Legal.{IsLegal, calls_of}
 use Rattle.publication.specs.Boards.{HasCallsOf, heard_from, publishing, enlisted, tried}
 use Rattle.publication.specs.Kinds.{longer, maxes}
-use Rattle.combining.specs.Sessions.{HasTriedToList, HasNothingPending, IsPassed, IsCollected, IsPendingServed, HasTakenPiece}
+use Rattle.combining.specs.Sessions.{HasTriedToList, HasNothingPending, IsIdle, IsPassed, IsPerformed, IsRefused, IsCollected, IsPendingServed, HasTakenPiece}
 use Rattle.combining.specs.Ended.{AreToldBy}
 use Rattle.pelgaisti_c.specs.declared.numbers.CallNumbers.{CallNumbers}
 use Rattle.pelgaisti_c.specs.declared.numbers.AnswerNumbers.{AnswerNumbers}
@@ -47,12 +47,51 @@ IsTurn before after served starved = IsPassed before.session after.session serve
     × (starved ≡ 0 → (j : ℕ) → 0 < j → j ≤ before.sessions → heard_from before.session j ≤ length (calls_of j after.session.front))
     × IsSameOffice before after
 
--- a pass as IsTurn says, and the sessions whose wait its calls have ended, each once: the array has their numbers at its front, and room
+-- the sessions whose wait the last `served` calls of the history have ended, each once: the array has their numbers at its front, and room
 -- for them all
+abbrev pub AreToldIn : ℕ → ℕ → List Entry → List ℕ → List ℕ → ℕ → Type 0
+AreToldIn sessions served history places numbers count = (told : List ℕ) × AreToldBy sessions served history told
+    × (numbers ≡ are_written (λ u. u) told places) × (count ≡ length told) × (count ≤ length places)
+
+-- a pass as IsTurn says, and the sessions whose wait its calls have ended
 abbrev pub IsToldTurn : SessionShare → SessionShare → ℕ → ℕ → List ℕ → List ℕ → ℕ → Type 0
 IsToldTurn before after served starved places numbers count = IsTurn before after served starved
-    × ((told : List ℕ) × AreToldBy before.sessions served after.session.front told
-    × (numbers ≡ are_written (λ u. u) told places) × (count ≡ length told) × (count ≤ length places))
+    × AreToldIn before.sessions served after.session.front places numbers count
+
+-- the numbers encode a call, and the session may make one
+abbrev pub MayCall : SessionShare → CallNumbers → Type 0
+MayCall share asked = ((call : Call) × IsCall asked call) × IsIdle share.session
+
+-- the session performed the call that the numbers encode at once, in a pass that served so many other calls besides: the answer has the
+-- index of its entry in the history, and the reply there. `starved` is 1 exactly if the pass put a call back, and else 0. If it is 0, each
+-- call that the session had heard of is served
+abbrev pub IsPerformedAtOnce : SessionShare → SessionShare → CallNumbers → AnswerNumbers → ℕ → ℕ → Type 0
+IsPerformedAtOnce before after asked answer served starved = (call : Call) × (reply : Reply) × IsCall asked call
+    × (answer.reply ≡ numbers_of_reply reply) × IsIdle before.session
+    × IsPerformed before.session after.session call answer.place reply served × (starved ≤ 1)
+    × ((starved ≡ 1) ↔ (before.session.put_backs < after.session.put_backs)) × HasCallsOf after.session.front after.session
+    × (starved ≡ 0 → (j : ℕ) → 0 < j → j ≤ before.sessions → heard_from before.session j ≤ length (calls_of j after.session.front))
+    × IsSameOffice before after
+
+-- the session made a pass, in which the call that the numbers encode was not performed. The session is idle as before, and may know more of
+-- the history, which has of its own calls those that it collected
+abbrev pub IsRefusedAtOnce : SessionShare → SessionShare → CallNumbers → Type 0
+IsRefusedAtOnce before after asked = MayCall before asked × IsRefused before.session after.session × HasCallsOf after.session.front after.session
+    × IsSameOffice before after
+
+-- the call was performed at once, as IsPerformedAtOnce says, and the sessions whose wait it and the calls of the pass have ended
+abbrev pub IsToldPerformed : SessionShare → SessionShare → CallNumbers → AnswerNumbers → ℕ → ℕ → List ℕ → List ℕ → ℕ → Type 0
+IsToldPerformed before after asked answer served starved places numbers count = IsPerformedAtOnce before after asked answer served starved
+    × AreToldIn before.sessions (served + 1) after.session.front places numbers count
+
+-- the call was not performed in a pass, as IsRefusedAtOnce says, and the sessions whose wait the calls of the pass have ended
+abbrev pub IsToldRefused : SessionShare → SessionShare → CallNumbers → List ℕ → List ℕ → ℕ → Type 0
+IsToldRefused before after asked places numbers count = IsRefusedAtOnce before after asked
+    × ((served : ℕ) × AreToldIn before.sessions served after.session.front places numbers count)
+
+-- no pass was made: the share and the array are as before, and nobody is told of
+abbrev pub HasToldNobody : SessionShare → SessionShare → CallNumbers → List ℕ → List ℕ → ℕ → Type 0
+HasToldNobody before after asked places numbers count = MayCall before asked × (after ≡ before) × (numbers ≡ places) × (count ≡ 0)
 
 -- the answer to the pending call is collected: the index of its entry in the history, and the reply there
 abbrev pub IsAnswered : SessionShare → SessionShare → AnswerNumbers → Type 0

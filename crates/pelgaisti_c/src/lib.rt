@@ -21,6 +21,7 @@ mod session_calls;
 mod session_handle;
 mod session_share;
 mod status;
+mod told_list;
 mod version;
 
 pub use book_handle::BookHandle;

@@ -4,7 +4,7 @@ ghost use Rattle.std.specs.Prelude.{◌≡◌, ◌≢◌, ◌<◌, ◌≤◌, �
 ghost use Rattle.combining.specs.Sessions.{IsPendingServed};
 ghost use Rattle.lock_rules.specs.declared.calls.Call.{Call};
 ghost use Rattle.pelgaisti_c.specs.Numbers.{IsCall, IsCallFault};
-ghost use Rattle.pelgaisti_c.specs.Sessions.{IsPublished, IsTurn, IsToldTurn, IsElsewhere, IsAnswered, IsPieceTaken, IsHeard, IsRetired};
+ghost use Rattle.pelgaisti_c.specs.Sessions.{IsPublished, IsTurn, IsToldTurn, IsPerformedAtOnce, IsRefusedAtOnce, IsToldPerformed, IsToldRefused, HasToldNobody, MayCall, IsElsewhere, IsAnswered, IsPieceTaken, IsHeard, IsRetired};
 ghost use Rattle.pelgaisti_c.specs.declared.session_share.SessionShare.{SessionShare};
 
 use crate::numbers::{AnswerNumbers, CallNumbers, EntryNumbers, PassNumbers};
@@ -95,6 +95,75 @@ pub extern "C" fn pelgaisti_raw_session_serve_telling(
         return CLOSED;
     };
     let status = session_calls::serve_telling(alloc, &mut share, pass, list, count);
+    session.put(share);
+    status
+}
+
+/// Tries once to take the lock table and, if that succeeds, performs the call that the numbers encode at once, in a pass over the
+/// publication list. The session has to be idle, and is idle afterwards. With ELSEWHERE nothing has changed, and with NO_MEMORY the
+/// call is not in the history: in both cases it may be published instead.
+#[unsafe(no_mangle)]
+pub extern "C" fn pelgaisti_raw_session_perform_at_once(
+    alloc: Global,
+    session: &mut SessionHandle,
+    call: &CallNumbers,
+    pass: &mut PassNumbers,
+    answer: &mut AnswerNumbers,
+) -> u32
+    ensures ok { result ≡ OK → (before after : SessionShare) × (session.old.held.share ≡ Some before) × (session.new.held.share ≡ Some after)
+        × IsPerformedAtOnce before after call.now answer.new pass.new.served pass.new.starved }
+    ensures failed { result ≢ OK → (pass.new ≡ pass.old) × (answer.new ≡ answer.old) }
+    ensures same { result ≢ OK → result ≢ NO_MEMORY → session.new.held.share ≡ session.old.held.share }
+    ensures open { session.new.is_open ≡ session.old.is_open }
+    ensures closed { result ≡ CLOSED ↔ (session.old.is_open ≢ 1) }
+    ensures call { NO_SUCH_OP ≤ result → result ≤ NO_SUCH_MODE → (session.old.is_open ≡ 1) × IsCallFault call.now result }
+    ensures retired { result ≡ RETIRED → (share : SessionShare) × (session.old.held.share ≡ Some share) × (share.session.retired ≡ true) × ((asked : Call) × IsCall call.now asked) }
+    ensures pending { result ≡ PENDING → (share : SessionShare) × (session.old.held.share ≡ Some share) × (share.session.pending ≢ None) × ((asked : Call) × IsCall call.now asked) }
+    ensures memory { result ≡ NO_MEMORY → (before after : SessionShare) × (session.old.held.share ≡ Some before) × (session.new.held.share ≡ Some after)
+        × IsRefusedAtOnce before after call.now }
+    ensures elsewhere { result ≡ ELSEWHERE → (share : SessionShare) × (session.old.held.share ≡ Some share) × (2 ≤ share.sessions) × MayCall share call.now }
+    ensures statuses { (result ≡ OK) ⊎ ((result ≡ CLOSED) ⊎ ((result ≡ RETIRED) ⊎ ((result ≡ PENDING) ⊎ ((result ≡ NO_MEMORY) ⊎ ((result ≡ ELSEWHERE) ⊎ ((NO_SUCH_OP ≤ result) × (result ≤ NO_SUCH_MODE))))))) }
+{
+    let Some(mut share) = session.take(alloc) else {
+        return CLOSED;
+    };
+    let status = session_calls::perform_at_once(&mut share, call, pass, answer);
+    session.put(share);
+    status
+}
+
+/// Performs a call as `pelgaisti_raw_session_perform_at_once` does, and writes the sessions whose wait the call and its pass have
+/// ended, each once, to `list`, and how many they are to `count`. `list` has to have room for all sessions of the office. It writes
+/// them with NO_MEMORY too, since a pass in which memory was refused for the call has ended waits as well.
+#[unsafe(no_mangle)]
+pub extern "C" fn pelgaisti_raw_session_perform_telling(
+    alloc: Global,
+    session: &mut SessionHandle,
+    call: &CallNumbers,
+    pass: &mut PassNumbers,
+    answer: &mut AnswerNumbers,
+    list: &mut [u32],
+    count: &mut usize,
+) -> u32
+    ensures ok { result ≡ OK → (before after : SessionShare) × (session.old.held.share ≡ Some before) × (session.new.held.share ≡ Some after)
+        × IsToldPerformed before after call.now answer.new pass.new.served pass.new.starved list.old list.new count.new }
+    ensures failed { result ≢ OK → (pass.new ≡ pass.old) × (answer.new ≡ answer.old) }
+    ensures same { result ≢ OK → result ≢ NO_MEMORY → (session.new.held.share ≡ session.old.held.share) × (list.new ≡ list.old) × (count.new ≡ count.old) }
+    ensures open { session.new.is_open ≡ session.old.is_open }
+    ensures closed { result ≡ CLOSED ↔ (session.old.is_open ≢ 1) }
+    ensures room { result ≡ NO_ROOM ↔ ((share : SessionShare) × (session.old.held.share ≡ Some share) × (length list.old < share.sessions)) }
+    ensures call { NO_SUCH_OP ≤ result → result ≤ NO_SUCH_MODE → (session.old.is_open ≡ 1) × IsCallFault call.now result }
+    ensures retired { result ≡ RETIRED → (share : SessionShare) × (session.old.held.share ≡ Some share) × (share.session.retired ≡ true) × ((asked : Call) × IsCall call.now asked) }
+    ensures pending { result ≡ PENDING → (share : SessionShare) × (session.old.held.share ≡ Some share) × (share.session.pending ≢ None) × ((asked : Call) × IsCall call.now asked) }
+    ensures memory { result ≡ NO_MEMORY → (before after : SessionShare) × (session.old.held.share ≡ Some before) × (session.new.held.share ≡ Some after)
+        × (HasToldNobody before after call.now list.old list.new count.new ⊎ IsToldRefused before after call.now list.old list.new count.new) }
+    ensures elsewhere { result ≡ ELSEWHERE → (share : SessionShare) × (session.old.held.share ≡ Some share) × (2 ≤ share.sessions) × MayCall share call.now }
+    ensures statuses { (result ≡ OK) ⊎ ((result ≡ CLOSED) ⊎ ((result ≡ NO_ROOM) ⊎ ((result ≡ RETIRED) ⊎ ((result ≡ PENDING) ⊎ ((result ≡ NO_MEMORY) ⊎ ((result ≡ ELSEWHERE) ⊎ ((NO_SUCH_OP ≤ result) × (result ≤ NO_SUCH_MODE)))))))) }
+{
+    let Some(mut share) = session.take(alloc) else {
+        return CLOSED;
+    };
+    let status = session_calls::perform_telling(alloc, &mut share, call, pass, answer, list, count);
     session.put(share);
     status
 }

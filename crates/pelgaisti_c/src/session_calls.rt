@@ -1,12 +1,14 @@
 //! The calls of a session in numbers, on the share that a handle holds.
 
-ghost use Rattle.std.specs.Prelude.{◌≡◌, ◌≢◌, ◌<◌, ◌≤◌, ◌⊎◌, ◌↔◌, ◌==◌, true, None, length};
-ghost use Rattle.combining.specs.Sessions.{IsPassed, IsPendingServed};
+ghost use Rattle.std.specs.Prelude.{◌≡◌, ◌≢◌, ◌<◌, ◌≤◌, ◌⊎◌, ◌↔◌, ◌==◌, true, None, IfOk, IfErr, length};
+ghost use Rattle.combining.specs.Sessions.{IsIdle, IsPassed, IsPendingServed};
+ghost use Rattle.combining.specs.declared.office.Answer.{Answer};
 ghost use Rattle.lock_rules.specs.Legal.{calls_of};
 ghost use Rattle.publication.specs.Boards.{HasCallsOf, heard_from};
 ghost use Rattle.lock_rules.specs.declared.calls.Call.{Call as CallValue};
-ghost use Rattle.pelgaisti_c.specs.Numbers.{IsCall, IsCallFault};
-ghost use Rattle.pelgaisti_c.specs.Sessions.{IsSameOffice, IsPublished, IsElsewhere, IsToldTurn, IsAnswered, IsPieceTaken, IsHeard, IsRetired};
+ghost use Rattle.pelgaisti_c.specs.Calls.{are_written};
+ghost use Rattle.pelgaisti_c.specs.Numbers.{IsCall, IsCallFault, numbers_of_reply};
+ghost use Rattle.pelgaisti_c.specs.Sessions.{IsSameOffice, IsPublished, IsElsewhere, IsToldTurn, IsPerformedAtOnce, IsRefusedAtOnce, IsToldPerformed, IsToldRefused, HasToldNobody, MayCall, IsAnswered, IsPieceTaken, IsHeard, IsRetired};
 
 use crate::book_calls::{write_entries, write_sessions};
 use crate::numbers::{
@@ -17,7 +19,8 @@ use crate::status::{
     ELSEWHERE, NO_MEMORY, NO_ROOM, NO_SUCH_MODE, NO_SUCH_OP, NOT_SERVED, NOTHING_PENDING, OK,
     OTHER_OFFICE, PENDING, RETIRED,
 };
-use combining::{Ended, Posted, Turn};
+use combining::{Ended, Performed, Posted, Session, Turn};
+use lock_rules::Call;
 use std::alloc::Global;
 
 /// The session's record is on the publication list.
@@ -107,6 +110,17 @@ pub(crate) fn serve(share: &mut SessionShare, pass: &mut PassNumbers) -> u32
     write_turn(turn, pass)
 }
 
+/// Writes the sessions that a call has told to `list`, which has room for them, and how many they are to `count`.
+fn write_told(ended: &Ended, list: &mut [u32], count: &mut usize)
+    requires room { ended.now.room ≤ length list.old }
+    ensures list { list.new ≡ are_written (λ u. u) ended.now.list list.old }
+    ensures count { (count.new ≡ length ended.now.list) × (count.new ≤ length list.old) }
+{
+    let told = ended.sessions();
+    write_sessions(told, list);
+    *count = told.len();
+}
+
 /// Serves as `serve` does, and writes the sessions whose wait the pass has ended to `list`, and how many they are to `count`.
 /// `list` has to have room for all sessions of the office.
 pub(crate) fn serve_telling(
@@ -126,16 +140,132 @@ pub(crate) fn serve_telling(
     if list.len() < usize::from(share.sessions) {
         return NO_ROOM;
     }
-    let Ok(mut ended) = Ended::new(alloc, share.sessions) else {
+    let Some(mut ended) = share.told.take(alloc) else {
         return NO_MEMORY;
     };
     let turn = share.office.serve_telling(&mut share.session, &mut ended);
     let status = write_turn(turn, pass);
     if status == OK {
-        let told = ended.sessions();
-        write_sessions(told, list);
-        *count = told.len();
+        write_told(&ended, list, count);
     }
+    share.told.put(ended);
+    status
+}
+
+/// The call that the numbers encode, if the session may make it. Else the status of the first test that fails.
+fn call_of(session: &Session, asked: &CallNumbers) -> Result<Call, u32>
+    ensures ok { IfOk result (λ call. IsCall asked.now call × IsIdle session.now) }
+    ensures call { IfErr result (λ fault. NO_SUCH_OP ≤ fault → fault ≤ NO_SUCH_MODE → IsCallFault asked.now fault) }
+    ensures retired { IfErr result (λ fault. fault ≡ RETIRED → (session.now.retired ≡ true) × ((call : CallValue) × IsCall asked.now call)) }
+    ensures pending { IfErr result (λ fault. fault ≡ PENDING → (session.now.pending ≢ None) × ((call : CallValue) × IsCall asked.now call)) }
+    ensures faults { IfErr result (λ fault. (fault ≡ RETIRED) ⊎ ((fault ≡ PENDING) ⊎ ((NO_SUCH_OP ≤ fault) × (fault ≤ NO_SUCH_MODE)))) }
+{
+    let call = read_call(asked)?;
+    if session.is_retired() {
+        return Err(RETIRED);
+    }
+    if !session.is_idle() {
+        return Err(PENDING);
+    }
+    Ok(call)
+}
+
+/// Writes the numbers of a call that was performed at once, and of its pass. Returns the status.
+fn write_performed(performed: Performed, pass: &mut PassNumbers, answer: &mut AnswerNumbers) -> u32
+    ensures ok { result ≡ OK → (found : Answer) × (performed ≡ Performed.Answered found pass.new.served (pass.new.starved == 1))
+        × (answer.new.place ≡ found.place) × (answer.new.reply ≡ numbers_of_reply found.reply) }
+    ensures starved { result ≡ OK → pass.new.starved ≤ 1 }
+    ensures failed { result ≢ OK → (pass.new ≡ pass.old) × (answer.new ≡ answer.old) }
+    ensures memory { result ≡ NO_MEMORY → performed ≡ Performed.Starved }
+    ensures elsewhere { result ≡ ELSEWHERE → performed ≡ Performed.Elsewhere }
+    ensures statuses { (result ≡ OK) ⊎ ((result ≡ NO_MEMORY) ⊎ (result ≡ ELSEWHERE)) }
+{
+    match performed {
+        Performed::Elsewhere => ELSEWHERE,
+        Performed::Starved => NO_MEMORY,
+        Performed::Answered {
+            answer: given,
+            served,
+            starved,
+        } => {
+            let starved = if starved { 1 } else { 0 };
+            *pass = PassNumbers { served, starved };
+            *answer = AnswerNumbers {
+                place: given.place,
+                reply: reply_numbers(given.reply),
+            };
+            OK
+        }
+    }
+}
+
+/// Tries once to become the combiner, and if that succeeds, performs the call that the numbers encode at once, in a pass.
+pub(crate) fn perform_at_once(
+    share: &mut SessionShare,
+    asked: &CallNumbers,
+    pass: &mut PassNumbers,
+    answer: &mut AnswerNumbers,
+) -> u32
+    ensures ok { result ≡ OK → IsPerformedAtOnce share.old share.new asked.now answer.new pass.new.served pass.new.starved }
+    ensures failed { result ≢ OK → (pass.new ≡ pass.old) × (answer.new ≡ answer.old) }
+    ensures same { result ≢ OK → result ≢ NO_MEMORY → share.new ≡ share.old }
+    ensures call { NO_SUCH_OP ≤ result → result ≤ NO_SUCH_MODE → IsCallFault asked.now result }
+    ensures retired { result ≡ RETIRED → (share.old.session.retired ≡ true) × ((call : CallValue) × IsCall asked.now call) }
+    ensures pending { result ≡ PENDING → (share.old.session.pending ≢ None) × ((call : CallValue) × IsCall asked.now call) }
+    ensures memory { result ≡ NO_MEMORY → IsRefusedAtOnce share.old share.new asked.now }
+    ensures elsewhere { result ≡ ELSEWHERE → (2 ≤ share.old.sessions) × MayCall share.old asked.now }
+    ensures statuses { (result ≡ OK) ⊎ ((result ≡ RETIRED) ⊎ ((result ≡ PENDING) ⊎ ((result ≡ NO_MEMORY) ⊎ ((result ≡ ELSEWHERE) ⊎ ((NO_SUCH_OP ≤ result) × (result ≤ NO_SUCH_MODE)))))) }
+{
+    let call = match call_of(&share.session, asked) {
+        Ok(call) => call,
+        Err(fault) => return fault,
+    };
+    let performed = share.office.perform(&mut share.session, call);
+    write_performed(performed, pass, answer)
+}
+
+/// Performs a call as `perform_at_once` does, and writes the sessions whose wait the call and its pass have ended to `list`, and
+/// how many they are to `count`, also if memory was refused. `list` has to have room for all sessions of the office.
+pub(crate) fn perform_telling(
+    alloc: Global,
+    share: &mut SessionShare,
+    asked: &CallNumbers,
+    pass: &mut PassNumbers,
+    answer: &mut AnswerNumbers,
+    list: &mut [u32],
+    count: &mut usize,
+) -> u32
+    ensures ok { result ≡ OK → IsToldPerformed share.old share.new asked.now answer.new pass.new.served pass.new.starved list.old list.new count.new }
+    ensures failed { result ≢ OK → (pass.new ≡ pass.old) × (answer.new ≡ answer.old) }
+    ensures same { result ≢ OK → result ≢ NO_MEMORY → (share.new ≡ share.old) × (list.new ≡ list.old) × (count.new ≡ count.old) }
+    ensures room { result ≡ NO_ROOM ↔ (length list.old < share.old.sessions) }
+    ensures call { NO_SUCH_OP ≤ result → result ≤ NO_SUCH_MODE → IsCallFault asked.now result }
+    ensures retired { result ≡ RETIRED → (share.old.session.retired ≡ true) × ((call : CallValue) × IsCall asked.now call) }
+    ensures pending { result ≡ PENDING → (share.old.session.pending ≢ None) × ((call : CallValue) × IsCall asked.now call) }
+    ensures memory { result ≡ NO_MEMORY → HasToldNobody share.old share.new asked.now list.old list.new count.new
+        ⊎ IsToldRefused share.old share.new asked.now list.old list.new count.new }
+    ensures elsewhere { result ≡ ELSEWHERE → (2 ≤ share.old.sessions) × MayCall share.old asked.now }
+    ensures statuses { (result ≡ OK) ⊎ ((result ≡ NO_ROOM) ⊎ ((result ≡ RETIRED) ⊎ ((result ≡ PENDING) ⊎ ((result ≡ NO_MEMORY) ⊎ ((result ≡ ELSEWHERE) ⊎ ((NO_SUCH_OP ≤ result) × (result ≤ NO_SUCH_MODE))))))) }
+{
+    if usize::from(share.sessions) > list.len() {
+        return NO_ROOM;
+    }
+    let call = match call_of(&share.session, asked) {
+        Ok(call) => call,
+        Err(fault) => return fault,
+    };
+    let Some(mut ended) = share.told.take(alloc) else {
+        *count = 0;
+        return NO_MEMORY;
+    };
+    let performed = share
+        .office
+        .perform_telling(&mut share.session, call, &mut ended);
+    let status = write_performed(performed, pass, answer);
+    if status != ELSEWHERE {
+        write_told(&ended, list, count);
+    }
+    share.told.put(ended);
     status
 }
 

@@ -1,5 +1,5 @@
 -- The state of a combiner in the middle of its pass.
-use Rattle.std.specs.Prelude.{◌≡◌, ◌≢◌, ◌⊎◌, ℕ, ◌+◌, ◌≤◌, cond, is_some, true, false, Option, Some, None, List, [], ◌∷◌, ◌++◌, length, map, slice_set, slice_index_or}
+use Rattle.std.specs.Prelude.{◌≡◌, ◌≢◌, ◌⊎◌, ℕ, ◌+◌, ◌<◌, ◌≤◌, cond, is_some, true, false, Option, Some, None, List, [], ◌∷◌, ◌++◌, length, map, slice_set, slice_index_or}
 use Rattle.lock_rules.specs.declared.calls.Call.{Call}
 use Rattle.lock_rules.specs.declared.calls.Entry.{Entry}
 use Rattle.lock_rules.specs.Legal.{IsLegal, calls_of, state_of}
@@ -84,7 +84,7 @@ ended_behind n front entries = ended_waits_in n (state_of front) (map item_of en
 
 -- The session has made a pass and still has the lock table. If its pending call wasn't listed, it first tried once more to
 -- have it listed. It knows the entries added before this pass, followed by those that this pass added, `served` of them;
--- whose wait these have ended is what the book tells.
+-- whose wait these have ended is what the book tells, if there are any.
 pub record HasMadePass (sessions : ℕ) (before after : TicketView) (load : Load) (served : ℕ) : Type 0 where
   pub between : TicketView
   pub is_tried : HasTriedToList before between
@@ -102,4 +102,4 @@ pub record HasMadePass (sessions : ℕ) (before after : TicketView) (load : Load
   pub count : length own ≡ served
   pub home : IsHome after.front (sessions + 1) load
   pub legal : IsLegal after.front
-  pub ended : load.book.ended ≡ ended_behind sessions (before.front ++ others) own
+  pub ended : 0 < served → load.book.ended ≡ ended_behind sessions (before.front ++ others) own

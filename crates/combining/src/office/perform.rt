@@ -1,12 +1,14 @@
 //! A call that its own session performs, without publishing it.
 
-ghost use Rattle.std.specs.Prelude.{◌≡◌, ◌<◌, ◌≤◌, ◌↔◌, false, IsTrue, length};
+ghost use Rattle.std.specs.Prelude.{◌≡◌, ◌+◌, ◌<◌, ◌≤◌, ◌↔◌, [], ℕ, false, IsTrue, length};
 ghost use Rattle.lock_rules.specs.Legal.{calls_of};
 ghost use Rattle.publication.specs.Boards.{HasCallsOf, heard_from};
 ghost use Rattle.combining.specs.Sessions.{IsSessionOf, IsIdle, IsPerformed, IsRefused};
+ghost use Rattle.combining.specs.Ended.{AreToldBy};
 
+use crate::ended::Ended;
 use crate::office::{Answer, Office};
-use crate::pass::serve_with_own;
+use crate::own_call::{serve_with_own, serve_with_own_telling};
 use lock_desk::Call;
 use publication::Ticket as Session;
 
@@ -38,7 +40,7 @@ impl Office {
     ///
     /// `Elsewhere`: nothing changed, and the call may be published instead. `Starved`: the call is not in the history, and
     /// may be performed again or published. The session is idle again in each case. Whose wait the pass has ended is told to
-    /// nobody: where threads sleep until `serve_telling` tells of them, no session performs calls so.
+    /// nobody: where threads sleep until a pass tells of them, all calls are performed by `perform_telling`.
     pub fn perform(&self, session: &mut Session, call: Call) -> Performed
         requires ours { IsSessionOf self.now session.old }
         requires idle { IsIdle session.old }
@@ -58,6 +60,48 @@ impl Office {
             return Performed::Elsewhere;
         };
         let (pass, own) = serve_with_own(&self.board, session, &mut load, call);
+        self.board.release(session, load);
+        match own {
+            Some((place, reply)) => Performed::Answered {
+                answer: Answer { place, reply },
+                served: pass.served,
+                starved: pass.starved,
+            },
+            None => Performed::Starved,
+        }
+    }
+
+    /// Performs as `perform` does, and tells whose wait the pass and the call have ended, as `serve_telling` tells it of a pass:
+    /// the sessions whose waiting request one of these calls granted, or whose transaction it made a deadlock victim, but not
+    /// that of the call itself. Each is told once. `ended` is empty afterwards if the session did not become the combiner.
+    ///
+    /// `ended` has room for all sessions of the office, so that the call takes no memory beyond what `perform` takes.
+    pub fn perform_telling(&self, session: &mut Session, call: Call, ended: &mut Ended) -> Performed
+        requires ours { IsSessionOf self.now session.old }
+        requires idle { IsIdle session.old }
+        requires room { self.now.sessions ≤ ended.old.room }
+        ensures ours { IsSessionOf self.now session.new }
+        ensures idle { IsIdle session.new }
+        ensures answered { (answer : _) (served : _) (starved : _) → result ≡ Performed.Answered answer served starved
+            → IsPerformed session.old session.new call answer.place answer.reply served }
+        ensures put_back { (answer : _) (served : _) (starved : _) → result ≡ Performed.Answered answer served starved
+            → IsTrue starved ↔ (session.old.put_backs < session.new.put_backs) }
+        ensures heard { (answer : _) (served j : _) → result ≡ Performed.Answered answer served false → 0 < j → j ≤ self.now.sessions
+            → heard_from session.old j ≤ length (calls_of j session.new.front) }
+        ensures elsewhere { result ≡ Performed.Elsewhere → (session.new ≡ session.old) × (1 < self.now.sessions) }
+        ensures refused { result ≡ Performed.Starved → IsRefused session.old session.new }
+        ensures calls { HasCallsOf session.new.front session.new }
+        ensures told { (answer : _) (served : _) (starved : _) → result ≡ Performed.Answered answer served starved
+            → AreToldBy self.now.sessions (served + 1) session.new.front ended.new.list }
+        ensures told_refused { result ≡ Performed.Starved → (served : ℕ) × AreToldBy self.now.sessions served session.new.front ended.new.list }
+        ensures none { result ≡ Performed.Elsewhere → ended.new.list ≡ [] }
+        ensures room { ended.new.room ≡ ended.old.room }
+    {
+        ended.clear();
+        let Some(mut load) = self.board.seize(session) else {
+            return Performed::Elsewhere;
+        };
+        let (pass, own) = serve_with_own_telling(&self.board, session, &mut load, call, ended);
         self.board.release(session, load);
         match own {
             Some((place, reply)) => Performed::Answered {

@@ -11,10 +11,10 @@ pub returns-clause-session : goal.returns-clause-session
 returns-clause-session c =
     let before = c.args.session.now in
     let opened = c.open_records.new.session in
-    let after = c.serve_opened-pass.new.session in
+    let after = c.serve_any-pass.new.session in
     let last = c.clean_up.new.session in
     let done : after ≡ record before { front = after.front; route = after.route; put_backs = after.put_backs } =
-    after_row-none before after (after_row-trans before opened after c.open_records.ensures.session.0 c.serve_opened-pass.ensures.session) c.requires.ours.2 c.serve_opened-pass.ensures.none in
+    after_row-none before after (after_row-trans before opened after c.open_records.ensures.session.0 c.serve_any-pass.ensures.session) c.requires.ours.2 c.serve_any-pass.ensures.none in
     let cleaned : last ≡ record after { route = last.route } = c.clean_up.ensures.session in
     cleaned ∙ (ap (λ (t : TicketView). record t { route = last.route }) done
     ∙ ap (λ (k : List Entry × ℕ). record before { front = k.0; route = last.route; put_backs = k.1 }) (sym (ap (λ (t : TicketView). (t.front, t.put_backs)) cleaned)))
@@ -22,14 +22,14 @@ returns-clause-session c =
 pub returns-clause-home : goal.returns-clause-home
 returns-clause-home c =
     let old = c.args.load.now in
-    let load = c.serve_opened-pass.new.load in
-    let after = c.serve_opened-pass.new.session in
+    let load = c.serve_any-pass.new.load in
+    let after = c.serve_any-pass.new.session in
     let since = sessions_since (length c.args.session.now.front) c.clean_up.new.session.front in
     let ages : load.ages.items ≡ noted old.ages.items since load.passes = search rules in
     let rises : old.passes ≤ load.passes = search rules in
-    let none = c.serve_opened-pass.ensures.taken in (
+    let none = c.serve_any-pass.ensures.taken in (
       record {
-        history = in-hand c.args.board.now.sessions load.book after c.serve_opened-pass.ensures.book ∙ sym (ap (λ (t : TicketView). t.front) c.clean_up.ensures.session);
+        history = in-hand c.args.board.now.sessions load.book after c.serve_any-pass.ensures.book ∙ sym (ap (λ (t : TicketView). t.front) c.clean_up.ensures.session);
         sessions = search rules;
         empty = search rules;
         room = search rules;

@@ -20,4 +20,5 @@ invariant_of-to-2 c =
       theirs = subst (λ (l : List TicketView). All settled l) (sym items) (All-push settled (to.handed.items ++ share.handed.items) share.session (All-append settled to.handed.items share.handed.items to.theirs theirs) own);
       count = to.count;
       few = to.few;
+      room = to.room;
     }

@@ -15,4 +15,5 @@ invariant_of-share c =
       theirs = subst (λ (l : List TicketView). All P l) (sym none) none_handed;
       count = c.requires.count ∙ ap (λ (o : BoardView). o.sessions) (sym same);
       few = c.requires.few;
+      room = c.new-2.ensures;
     }

@@ -1,5 +1,3 @@
-use Rattle.std.proofs.Common.{◌≡◌, Bool, true, false, eqb, sym, ap, ◌∙◌}
-use Rattle.std.proofs.lemmas.Bool.Decides.{Decides-eqb}
 use Rattle.pelgaisti_c.proofs.session_calls.serve.Goals as goal
 
 pub returns-clause-passed : goal.returns-clause-passed

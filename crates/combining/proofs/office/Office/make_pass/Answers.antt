@@ -1,4 +1,4 @@
-use Rattle.std.proofs.Common.{rules, ◌≡◌, ◌∙◌, ◌+◌, ◌++◌, List, length, length-append, sym, ap, arith}
+use Rattle.std.proofs.Common.{rules, ◌≡◌, ◌∙◌, ◌+◌, ◌<◌, ◌++◌, List, length, length-append, sym, ap, arith}
 use mathlib.Core.List.{IsPrefix}
 use Rattle.lock_rules.specs.declared.calls.Entry.{Entry}
 use Rattle.publication.specs.Views.{TicketView}
@@ -22,8 +22,8 @@ returns-clause-made c =
     let known : old.book.history ≡ before.front ++ longer.0 = sym longer.1 ∙ ap (λ (l : List Entry). l ++ longer.0) (tried-front before between c.enlist.ensures.tried) in
     let front : last.front ≡ (before.front ++ longer.0) ++ whole.0 = sym whole.1 ∙ ap (λ (l : List Entry). l ++ whole.0) known in
     let count : length last.front ≡ length old.book.history + pass.result.served = search rules in
-    let ended : pass.new.load.book.ended ≡ ended_behind c.self.inside.board.sessions (before.front ++ longer.0) whole.0 =
-    own-ended c.self.inside.board.sessions c.seize.new.ticket.front last.front (before.front ++ longer.0) whole.0 pass.new.load.book.ended pass.ensures.ended
+    let ended : 0 < pass.result.served → pass.new.load.book.ended ≡ ended_behind c.self.inside.board.sessions (before.front ++ longer.0) whole.0 = λ some.
+    own-ended c.self.inside.board.sessions c.seize.new.ticket.front last.front (before.front ++ longer.0) whole.0 pass.new.load.book.ended (pass.ensures.ended some)
     (ap (λ (t : TicketView). t.front) seized.ticket ∙ known) front in
     record {
       between = between;

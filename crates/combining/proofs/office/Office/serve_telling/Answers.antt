@@ -1,20 +1,25 @@
-use Rattle.std.proofs.Common.{rules, ◌≡◌, ◌↔◌, ◌++◌, ℕ, List, sym, ap, subst, arith}
+use Rattle.std.proofs.Common.{rules, ◌≡◌, ◌<◌, ◌↔◌, ◌++◌, ◌⊎◌, ℕ, ap, subst, arith}
 use Rattle.std.specs.List.{Contains}
 use Rattle.publication.specs.Views.{TicketView}
 use Rattle.publication.specs.declared.slot.Load.{Load}
 use Rattle.combining.specs.Ended.{EndedView, AreToldBy}
 use Rattle.combining.specs.Sessions.{IsPassed}
-use Rattle.combining.proofs.EndedWaits.{few-ended, pass-told}
+use Rattle.combining.proofs.EndedWaits.{pass-told, told-within, into-empty, once-empty}
 use Rattle.combining.proofs.TakenPieces.{pass-ended}
 use Rattle.combining.proofs.office.Office.serve_telling.Goals as goal
 
-pub replace-requires : goal.replace-requires
-replace-requires c =
+pub add_ended-requires : goal.add_ended-requires
+add_ended-requires c =
     let m = c.in-Some.ensures.made in
     let at : c.deref.result.now ≡ c.in-Some.made.load.value = search rules in
-    let told = subst (λ (load : Load). (u : ℕ) → Contains c.ended.result.now u ↔ Contains load.book.ended u) at c.ended.ensures.ended in
-    let few = few-ended c.args.self.now.sessions (c.args.session.now.front ++ m.others) m.own c.in-Some.made.load.value.book.ended c.ended.result.now m.ended told c.ended.ensures.once in
-    record { few = omega (arith, few, c.requires.room) }
+    record {
+      within = λ u some h.
+          let k = told-within c.args.self.now.sessions (c.args.session.now.front ++ m.others) m.own c.in-Some.made.load.value.book.ended (m.ended some) u
+          (subst (λ (load : Load). Contains load.book.ended u) at h) in
+          let few = k.1 in
+          let room = ap (λ (v : EndedView). v.room) c.clear.ensures in
+          (k.0, omega (arith, few, room, c.requires.room));
+    }
 
 pub returns-in-Some-clause-pass : goal.returns-in-Some-clause-pass
 returns-in-Some-clause-pass c served starved is =
@@ -27,13 +32,15 @@ returns-in-Some-clause-pass c served starved is =
 pub returns-in-Some-clause-told : goal.returns-in-Some-clause-told
 returns-in-Some-clause-told c served starved is =
     let n = c.args.self.now.sessions in
-    let at : c.deref.result.now ≡ c.in-Some.made.load.value = search rules in
-    let those = subst (λ (load : Load). (u : ℕ) → Contains c.ended.result.now u ↔ Contains load.book.ended u) at c.ended.ensures.ended in
     let made = c.in-Some.made in
+    let at : c.deref.result.now ≡ made.load.value = search rules in
     let turn = c.end_pass.ensures.turn in
     let same : made.pass.served ≡ served = cc in
     let after = c.end_pass.new.session in
-    let list : c.replace.new.self.list ≡ c.ended.result.now = ap (λ (e : EndedView). e.list) c.replace.ensures in
+    let list = c.add_ended.new.self.list in
+    let none = ap (λ (v : EndedView). v.list) c.clear.ensures in
     let front = ap (λ (t : TicketView). t.front) c.end_pass.ensures.session in
-    let told = pass-told n c.args.session.now c.make_pass.new.session after made.load.value made.pass.served c.ended.result.now c.in-Some.ensures.made front those c.ended.ensures.once in
-    subst (λ (l : List ℕ). AreToldBy n served after.front l) (sym list) (subst (λ (k : ℕ). AreToldBy n k after.front c.ended.result.now) same told)
+    let those = subst (λ (load : Load). (u : ℕ) → Contains list u ↔ (Contains c.clear.new.self.list u ⊎ ((0 < made.pass.served) × Contains load.book.ended u))) at c.add_ended.ensures.listed in
+    subst (λ (k : ℕ). AreToldBy n k after.front list) same
+    (pass-told n c.args.session.now c.make_pass.new.session after made.load.value made.pass.served list c.in-Some.ensures.made front
+    (into-empty c.clear.new.self.list list none those) (c.add_ended.ensures.once (once-empty c.clear.new.self.list none)))

@@ -1,0 +1,133 @@
+//! A whole call of a session: performed at once where the lock table is free, else published, served and collected.
+
+ghost use Rattle.std.specs.Prelude.{◌≡◌, ◌≢◌, ◌⊎◌, ◌<◌, true, false, Some, None, IfNone};
+ghost use Rattle.combining.specs.Sessions.{IsSessionOf, IsIdle, IsPendingServed};
+ghost use Rattle.combining.specs.Calls.{IsCalled, IsCalling, IsAnswered, IsWaitingOn, HasStarved};
+
+use crate::office::{Answer, Office, Performed, Turn};
+use lock_desk::Call;
+use publication::Ticket as Session;
+use std::{hint, thread};
+
+/// The outcome of `call` and `resume`.
+#[derive(Clone, Copy, Debug, PartialEq, Eq)]
+pub enum Called {
+    /// The answer. The session is idle.
+    Answered(Answer),
+    /// No answer came within so many turns. The call is published and pending, and `resume` goes on with it.
+    NotYet,
+    /// Memory was refused in a pass of the session, and the call has no answer yet. It is published and pending, and `resume`
+    /// goes on with it.
+    Starved,
+}
+
+/// The looks for the answer between two tries to become the combiner. Each try of a waiting session takes a cache line from the
+/// combiner.
+const LOOKS_PER_TRY: u64 = 8;
+
+/// The pause instructions of one spin between two looks.
+const PAUSES: u32 = 256;
+
+/// The looks between two yields of the processor.
+const LOOKS_PER_YIELD: u64 = 64;
+
+/// Backs off after a look: yields the processor after every `LOOKS_PER_YIELD` looks, and spins after the others.
+fn back_off(look: u64) {
+    if look % LOOKS_PER_YIELD == LOOKS_PER_YIELD - 1 {
+        thread::yield_now();
+        return;
+    }
+    for _pause in 0..PAUSES {
+        hint::spin_loop();
+    }
+}
+
+/// Tries once to serve, if `tries`. Returns whether the session made a pass in which memory was refused.
+fn serve_if(office: &Office, session: &mut Session, tries: bool) -> bool
+    requires ours { IsSessionOf office.now session.old }
+    requires pending { session.old.pending ≢ None }
+    ensures ours { IsSessionOf office.now session.new }
+    ensures waits { IsWaitingOn session.old session.new }
+    ensures starved { result ≡ true → session.old.put_backs < session.new.put_backs }
+    ensures served { result ≡ false → tries ≡ true → IsPendingServed session.new ⊎ (1 < office.now.sessions) }
+{
+    if !tries {
+        return false;
+    }
+    match office.serve(session) {
+        Turn::Pass { starved, .. } => starved,
+        Turn::Elsewhere => false,
+    }
+}
+
+/// Takes one turn of waiting: serves if `tries`, and looks for the answer. `None` if the answer isn't there.
+fn turn(office: &Office, session: &mut Session, tries: bool) -> Option<Called>
+    requires ours { IsSessionOf office.now session.old }
+    requires pending { session.old.pending ≢ None }
+    ensures ours { IsSessionOf office.now session.new }
+    ensures answered { (answer : _) → result ≡ Some (Called.Answered answer) → IsAnswered session.old session.new answer.place answer.reply × IsIdle session.new }
+    ensures starved { result ≡ Some Called.Starved → IsWaitingOn session.old session.new × (session.old.put_backs < session.new.put_backs) }
+    ensures never { result ≢ Some Called.NotYet }
+    ensures none { IfNone result (IsWaitingOn session.old session.new) }
+    ensures others { IfNone result (tries ≡ true → 1 < office.now.sessions) }
+{
+    let starved = serve_if(office, session, tries);
+    if let Some(answer) = office.collect(session) {
+        return Some(Called::Answered(answer));
+    }
+    if starved {
+        return Some(Called::Starved);
+    }
+    None
+}
+
+/// Goes on with the pending call of a session: serves and looks for the answer in at most `turns` turns, with pauses between
+/// them. `NotYet`: the answer wasn't there. `Starved`: the session made a pass in which memory was refused.
+///
+/// It serves by passes that tell nobody whose wait they have ended.
+pub fn resume(office: &Office, session: &mut Session, turns: u64) -> Called
+    requires ours { IsSessionOf office.now session.old }
+    requires pending { session.old.pending ≢ None }
+    ensures ours { IsSessionOf office.now session.new }
+    ensures answered { (answer : _) → result ≡ Called.Answered answer → IsAnswered session.old session.new answer.place answer.reply }
+    ensures idle { (answer : _) → result ≡ Called.Answered answer → IsIdle session.new }
+    ensures not_yet { result ≡ Called.NotYet → IsWaitingOn session.old session.new }
+    ensures starved { result ≡ Called.Starved → HasStarved session.old session.new }
+    ensures others { result ≡ Called.NotYet → 0 < turns → 1 < office.now.sessions }
+{
+    for look in 0..turns {
+        if let Some(called) = turn(office, session, look % LOOKS_PER_TRY == 0) {
+            return called;
+        }
+        back_off(look);
+    }
+    Called::NotYet
+}
+
+/// Makes a call of an idle session. If the lock table is free, the session performs the call at once, by `Office::perform`.
+/// Else it publishes the call, and serves and looks for the answer in at most `turns` turns, by `resume`.
+///
+/// `Answered`: the session is idle again. `NotYet` and `Starved` leave the call published and pending. `Starved`: memory was
+/// refused for the call, or in a pass of the session. Whose wait the call has ended is told to nobody: where threads sleep until
+/// a pass tells of them, `Office::perform_telling` and `Office::serve_telling` take its place.
+pub fn call(office: &Office, session: &mut Session, call: Call, turns: u64) -> Called
+    requires ours { IsSessionOf office.now session.old }
+    requires idle { IsIdle session.old }
+    ensures ours { IsSessionOf office.now session.new }
+    ensures answered { (answer : _) → result ≡ Called.Answered answer → IsCalled session.old session.new call answer.place answer.reply }
+    ensures idle { (answer : _) → result ≡ Called.Answered answer → IsIdle session.new }
+    ensures not_yet { result ≡ Called.NotYet → IsCalling session.old session.new call × (1 < office.now.sessions) }
+    ensures starved { result ≡ Called.Starved → IsCalling session.old session.new call }
+{
+    let asked = call;
+    let starved = match office.perform(session, call) {
+        Performed::Answered { answer, .. } => return Called::Answered(answer),
+        Performed::Elsewhere => false,
+        Performed::Starved => true,
+    };
+    let _posted = office.publish(session, asked);
+    if starved {
+        return Called::Starved;
+    }
+    resume(office, session, turns)
+}

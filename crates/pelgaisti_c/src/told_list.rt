@@ -1,0 +1,57 @@
+//! The list in which calls of a session tell whose wait they have ended.
+
+ghost use Rattle.std.specs.Prelude.{◌≡◌, IfSome};
+
+use combining::Ended;
+use std::alloc::Global;
+use std::marker::Model;
+use std::mem;
+
+/// The list in which the calls of a session tell whose wait they have ended. The first of them makes it, and later ones use it
+/// again, so that they take no memory for it. Contracts see for how many sessions it has room, whether it is made yet or not.
+#[derive(Drop)]
+pub struct ToldList {
+    /// For how many sessions the list has room.
+    room: u16,
+    /// The list. `None` if it isn't made yet, or was taken out.
+    list: Option<Ended>,
+}
+
+impl Model for ToldList {
+    ghost use Rattle.pelgaisti_c.specs.ToldLists.{ToldListView};
+    ghost use Rattle.pelgaisti_c.specs.inner.ToldLists.{told_list_view_of, HasItsRoom};
+
+    ghost Value = { ToldListView };
+
+    ghost view = { told_list_view_of };
+
+    ghost invariant = { HasItsRoom };
+}
+
+impl ToldList {
+    /// A list with room for so many sessions, which isn't made yet.
+    pub(crate) fn new(room: u16) -> ToldList
+        ensures { result.room ≡ room }
+    {
+        ToldList { room, list: None }
+    }
+
+    /// Takes the list out, or makes it. Returns `None` if memory is refused.
+    pub(crate) fn take(&mut self, alloc: Global) -> Option<Ended>
+        ensures room { IfSome result (λ ended. ended.room ≡ self.old.room) }
+        ensures same { self.new ≡ self.old }
+    {
+        match mem::replace(&mut self.list, None) {
+            Some(ended) => Some(ended),
+            None => Ended::new(alloc, self.room).ok(),
+        }
+    }
+
+    /// Puts the list back that was taken out.
+    pub(crate) fn put(&mut self, ended: Ended)
+        requires room { ended.room ≡ self.old.room }
+        ensures same { self.new ≡ self.old }
+    {
+        self.list = Some(ended);
+    }
+}
