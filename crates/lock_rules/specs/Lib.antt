@@ -13,3 +13,4 @@ pub mod Updates
 pub mod Names
 pub mod Kinds
 pub mod Ended
+pub mod Listing
