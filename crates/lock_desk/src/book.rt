@@ -259,7 +259,7 @@ impl Book {
     pub fn request(&self, session: u16) -> Option<Claim>
         ensures { result ≡ waiting_line (state_of self.now.history) session }
     {
-        self.lock_table.request(session)
+        self.lock_table.waiting_request(session)
     }
 
     /// Serves one call of `session`, and adds the call with its reply to the history.

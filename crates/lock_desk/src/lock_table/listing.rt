@@ -144,7 +144,7 @@ impl LockTable {
     }
 
     /// The waiting request of `session`, if it has one. `None` if there is no such session.
-    pub(crate) fn request(&self, session: u16) -> Option<Claim>
+    pub(crate) fn waiting_request(&self, session: u16) -> Option<Claim>
         ensures { result ≡ request_at self.now session (standing session self.now).wanted }
     {
         let locker = self.locker_if_any(session)?;
