@@ -75,6 +75,8 @@ pub mod WaitsOfTheState
 pub mod VictimRounds
 -- no more requests wait than there are sessions
 pub mod FewRequests
+-- what a lock table tells of its locks and requests is what the state has
+pub mod Listings
 -- the book
 -- the invariant of a book
 pub mod BookInvariant
