@@ -15,8 +15,8 @@ pub mod Places
 pub mod Codes
 -- a lock or a request is given up in its cell
 pub mod CellGivesUp
--- lists of resources that rise in the order of resources
-pub mod ResourceOrder
+-- resources brought into their order
+pub mod InOrder
 -- lockers
 -- a grant in the lockers; lists of resources
 pub mod LockerStandings

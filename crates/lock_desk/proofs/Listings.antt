@@ -26,7 +26,7 @@ use Rattle.lock_desk.specs.inner.Changes.{view_at, standing, IsWhole}
 use Rattle.lock_desk.specs.inner.Listing.{in_order, transaction_shown, line, kind_beside, request_line, lines_in, lines_at, lines_of, asked_line, request_at}
 use Rattle.lock_desk.specs.inner.Shows.{short, claims_on, view, Shows}
 use Rattle.lock_desk.proofs.Places.{same_path-equivalence}
-use Rattle.lock_desk.proofs.ResourceOrder.{same-in_order}
+use Rattle.lock_desk.proofs.InOrder.{same-in_order}
 use Rattle.lock_desk.proofs.SessionModes.{mode-has}
 use Rattle.lock_desk.proofs.Simulation.{waits-shown}
 use Rattle.lock_desk.proofs.TableViews.{in_mode, held-seen}

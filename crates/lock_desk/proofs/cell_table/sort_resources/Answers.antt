@@ -4,8 +4,9 @@ use Rattle.std.proofs.lemmas.Map.Keys.{IsDistinct-IsPermutation}
 use Rattle.std.specs.List.{All}
 use Rattle.std.specs.Ordering.{is_lt}
 use Rattle.lock_tree.specs.Paths.{IsResource, same_path}
+use Rattle.lock_rules.proofs.ResourceOrder.{rise-sorted}
 use Rattle.lock_desk.proofs.Places.{same_path-equivalence}
-use Rattle.lock_desk.proofs.ResourceOrder.{rise-sorted, is-in_order}
+use Rattle.lock_desk.proofs.InOrder.{is-in_order}
 use Rattle.lock_desk.proofs.cell_table.sort_resources.Goals as goal
 
 pub returns : goal.returns

@@ -5,15 +5,13 @@ use Rattle.std.proofs.lemmas.Bool.Decides.{nat_tests, Decides-eqb}
 use Rattle.std.proofs.lemmas.Cmp.{nat_list_cmp_total, tied_itself}
 use Rattle.std.proofs.lemmas.Map.Keys.{IsDistinct-head, IsDistinct-tail}
 use Rattle.std.specs.Cmp.{IsTotalOrder}
-use Rattle.std.specs.List.{IsDistinct}
+use Rattle.std.specs.List.{IsDistinct, list_any}
 use Rattle.std.specs.Ordering.{nat_cmp, is_lt, ordering_then, ordering_reverse}
 use Rattle.std.specs.declared.cmp.Ordering.{Ordering}
 use Rattle.std.specs.declared.cmp.Ordering.TheVariants.{Less, Equal, Greater}
 use Rattle.lock_tree.specs.Paths.{path_cmp, same_path}
 use Rattle.lock_rules.specs.Listing.{is_less, comes_before, with_path}
 use Rattle.lock_rules.proofs.Lists.{same_path-refl, same_path-true, same_path_tells}
-use Rattle.lock_desk.specs.inner.Cells.{has_path}
-use Rattle.lock_desk.specs.inner.Listing.{in_order}
 
 -- a test that passes and fails
 contrary : (b : Bool) → b ≡ true → b ≡ false → ⊥
@@ -26,7 +24,7 @@ total : IsTotalOrder path_cmp
 total = nat_list_cmp_total
 
 -- the test for `Less` tells
-less-tells : (o : Ordering) → is_less o ≡ true → o ≡ Less
+pub less-tells : (o : Ordering) → is_less o ≡ true → o ≡ Less
 less-tells Less h = refl
 less-tells Equal h = absurd (cc)
 less-tells Greater h = absurd (cc)
@@ -76,6 +74,10 @@ before-differs a b h = elim (same_path_tells a b) [
 
 -- lists that rise
 
+-- resource `r` is in the list
+abbrev pub is_among : List ℕ → List (List ℕ) → Bool
+is_among r rs = list_any (λ q. same_path q r) rs
+
 -- the resource comes before the first of the list, if there is one
 abbrev pub precedes : List ℕ → List (List ℕ) → Bool
 precedes r [] = true
@@ -87,27 +89,27 @@ rise [] = true
 rise (r ∷ rs) = precedes r rs && rise rs
 
 -- a resource before the first of a list that rises comes before each of them
-pub before-all : (r : List ℕ) (rs : List (List ℕ)) (q : List ℕ) → precedes r rs ≡ true → rise rs ≡ true → has_path q rs ≡ true → comes_before r q ≡ true
+pub before-all : (r : List ℕ) (rs : List (List ℕ)) (q : List ℕ) → precedes r rs ≡ true → rise rs ≡ true → is_among q rs ≡ true → comes_before r q ≡ true
 before-all r [] q p h k = absurd (cc)
 before-all r (x ∷ rs) q p h k =
     let parts = and_parts (precedes x rs) (rise rs) h in
     elim (same_path_tells x q) [
       | inl e ↦ ap (comes_before r) (sym e.1) ∙ p
-      | inr n ↦ before-then r x q p (before-all x rs q parts.0 parts.1 (sym (ap (λ (b : Bool). b || has_path q rs) n) ∙ k))
+      | inr n ↦ before-then r x q p (before-all x rs q parts.0 parts.1 (sym (ap (λ (b : Bool). b || is_among q rs) n) ∙ k))
     ]
 
 -- so it isn't one of them
-not-behind : (r : List ℕ) (rs : List (List ℕ)) → precedes r rs ≡ true → rise rs ≡ true → has_path r rs ≡ false
-not-behind r rs p h = elim (cases_Bool (has_path r rs)) [
+pub not-behind : (r : List ℕ) (rs : List (List ℕ)) → precedes r rs ≡ true → rise rs ≡ true → is_among r rs ≡ false
+not-behind r rs p h = elim (cases_Bool (is_among r rs)) [
   | inl k ↦ absurd (contrary (comes_before r r) (before-all r rs r p h k) (before-self r))
   | inr k ↦ k
 ]
 
 -- two lists that rise and have the same resources are equal
-pub same-lists : (xs ys : List (List ℕ)) → rise xs ≡ true → rise ys ≡ true → ((r : List ℕ) → has_path r xs ≡ has_path r ys) → xs ≡ ys
+pub same-lists : (xs ys : List (List ℕ)) → rise xs ≡ true → rise ys ≡ true → ((r : List ℕ) → is_among r xs ≡ is_among r ys) → xs ≡ ys
 same-lists [] [] h k e = refl
-same-lists [] (y ∷ ys) h k e = absurd (contrary (has_path y (y ∷ ys)) (ap (λ (b : Bool). b || has_path y ys) (same_path-refl y)) (sym (e y)))
-same-lists (x ∷ xs) [] h k e = absurd (contrary (has_path x (x ∷ xs)) (ap (λ (b : Bool). b || has_path x xs) (same_path-refl x)) (e x))
+same-lists [] (y ∷ ys) h k e = absurd (contrary (is_among y (y ∷ ys)) (ap (λ (b : Bool). b || is_among y ys) (same_path-refl y)) (sym (e y)))
+same-lists (x ∷ xs) [] h k e = absurd (contrary (is_among x (x ∷ xs)) (ap (λ (b : Bool). b || is_among x xs) (same_path-refl x)) (e x))
 same-lists (x ∷ xs) (y ∷ ys) h k e = λ i. first i ∷ same-lists xs ys p.1 q.1 rest i
   where
     p : (precedes x xs ≡ true) × (rise xs ≡ true)
@@ -117,11 +119,11 @@ same-lists (x ∷ xs) (y ∷ ys) h k e = λ i. first i ∷ same-lists xs ys p.1 
     q = and_parts (precedes y ys) (rise ys) k
 
     -- the first of one list is the first of the other, or behind it
-    x-there : (same_path y x || has_path x ys) ≡ true
-    x-there = sym (e x) ∙ ap (λ (b : Bool). b || has_path x xs) (same_path-refl x)
+    x-there : (same_path y x || is_among x ys) ≡ true
+    x-there = sym (e x) ∙ ap (λ (b : Bool). b || is_among x xs) (same_path-refl x)
 
-    y-there : (same_path x y || has_path y xs) ≡ true
-    y-there = e y ∙ ap (λ (b : Bool). b || has_path y ys) (same_path-refl y)
+    y-there : (same_path x y || is_among y xs) ≡ true
+    y-there = e y ∙ ap (λ (b : Bool). b || is_among y ys) (same_path-refl y)
 
     first : x ≡ y
     first = elim (same_path_tells y x) [
@@ -129,33 +131,33 @@ same-lists (x ∷ xs) (y ∷ ys) h k e = λ i. first i ∷ same-lists xs ys p.1 
       | inr s ↦ elim (same_path_tells x y) [
         | inl t ↦ t.1
         | inr t ↦ absurd (contrary (comes_before x y)
-            (before-all x xs y p.0 p.1 (sym (ap (λ (b : Bool). b || has_path y xs) t) ∙ y-there))
-            (before-back y x (before-all y ys x q.0 q.1 (sym (ap (λ (b : Bool). b || has_path x ys) s) ∙ x-there))))
+            (before-all x xs y p.0 p.1 (sym (ap (λ (b : Bool). b || is_among y xs) t) ∙ y-there))
+            (before-back y x (before-all y ys x q.0 q.1 (sym (ap (λ (b : Bool). b || is_among x ys) s) ∙ x-there))))
       ]
     ]
 
-    rest : (r : List ℕ) → has_path r xs ≡ has_path r ys
+    rest : (r : List ℕ) → is_among r xs ≡ is_among r ys
     rest r = elim (same_path_tells x r) [
-      | inl s ↦ ap (λ (z : List ℕ). has_path z xs) (sym s.1) ∙ (not-behind x xs p.0 p.1 ∙ (sym (not-behind y ys q.0 q.1) ∙ ap (λ (z : List ℕ). has_path z ys) (sym first ∙ s.1)))
-      | inr s ↦ sym (ap (λ (b : Bool). b || has_path r xs) s) ∙ (e r ∙ ap (λ (b : Bool). b || has_path r ys) (sym (ap (λ (z : List ℕ). same_path z r) first) ∙ s))
+      | inl s ↦ ap (λ (z : List ℕ). is_among z xs) (sym s.1) ∙ (not-behind x xs p.0 p.1 ∙ (sym (not-behind y ys q.0 q.1) ∙ ap (λ (z : List ℕ). is_among z ys) (sym first ∙ s.1)))
+      | inr s ↦ sym (ap (λ (b : Bool). b || is_among r xs) s) ∙ (e r ∙ ap (λ (b : Bool). b || is_among r ys) (sym (ap (λ (z : List ℕ). same_path z r) first) ∙ s))
     ]
 
 -- a resource entered
 
 -- the list has it and what it had
-pub has-with : (q r : List ℕ) (rs : List (List ℕ)) → has_path q (with_path r rs) ≡ (same_path r q || has_path q rs)
+pub has-with : (q r : List ℕ) (rs : List (List ℕ)) → is_among q (with_path r rs) ≡ (same_path r q || is_among q rs)
 has-with q r [] = refl
 has-with q r (x ∷ rs) = go (same_path r x) (comes_before r x) refl (has-with q r rs)
   where
-    go : (b c : Bool) → same_path r x ≡ b → has_path q (with_path r rs) ≡ (same_path r q || has_path q rs)
-        → has_path q (cond b (x ∷ rs) (cond c (r ∷ x ∷ rs) (x ∷ with_path r rs))) ≡ (same_path r q || (same_path x q || has_path q rs))
-    go true c e next = let same = same_path-true r x e in sym (ap (λ (z : List ℕ). same_path z q || (same_path x q || has_path q rs)) same ∙ twice (same_path x q) (has_path q rs))
+    go : (b c : Bool) → same_path r x ≡ b → is_among q (with_path r rs) ≡ (same_path r q || is_among q rs)
+        → is_among q (cond b (x ∷ rs) (cond c (r ∷ x ∷ rs) (x ∷ with_path r rs))) ≡ (same_path r q || (same_path x q || is_among q rs))
+    go true c e next = let same = same_path-true r x e in sym (ap (λ (z : List ℕ). same_path z q || (same_path x q || is_among q rs)) same ∙ twice (same_path x q) (is_among q rs))
       where
         twice : (b c : Bool) → (b || (b || c)) ≡ (b || c)
         twice true c = refl
         twice false c = refl
     go false true e next = refl
-    go false false e next = ap (λ (b : Bool). same_path x q || b) next ∙ swap (same_path x q) (same_path r q) (has_path q rs)
+    go false false e next = ap (λ (b : Bool). same_path x q || b) next ∙ swap (same_path x q) (same_path r q) (is_among q rs)
       where
         swap : (a b c : Bool) → (a || (b || c)) ≡ (b || (a || c))
         swap true true c = refl
@@ -181,24 +183,6 @@ rise-with r (x ∷ rs) h = let p = and_parts (precedes x rs) (rise rs) h in go (
     go true c e f p next = h
     go false true e f p next = and_from (comes_before r x) (precedes x rs && rise rs) f h
     go false false e f p next = and_from (precedes x (with_path r rs)) (rise (with_path r rs)) (precedes-with x r rs (before-other r x e f) p) next
-
--- resources in order
-
-pub rise-in_order : (rs : List (List ℕ)) → rise (in_order rs) ≡ true
-rise-in_order [] = refl
-rise-in_order (r ∷ rs) = rise-with r (in_order rs) (rise-in_order rs)
-
-pub has-in_order : (q : List ℕ) (rs : List (List ℕ)) → has_path q (in_order rs) ≡ has_path q rs
-has-in_order q [] = refl
-has-in_order q (r ∷ rs) = has-with q r (in_order rs) ∙ ap (λ (b : Bool). same_path r q || b) (has-in_order q rs)
-
--- a list that rises and has the same resources is that list in order
-pub is-in_order : (xs rs : List (List ℕ)) → rise xs ≡ true → ((r : List ℕ) → has_path r xs ≡ has_path r rs) → xs ≡ in_order rs
-is-in_order xs rs h e = same-lists xs (in_order rs) h (rise-in_order rs) (λ r. e r ∙ sym (has-in_order r rs))
-
--- lists with the same resources are equal in order
-pub same-in_order : (xs ys : List (List ℕ)) → ((r : List ℕ) → has_path r xs ≡ has_path r ys) → in_order xs ≡ in_order ys
-same-in_order xs ys e = is-in_order (in_order xs) ys (rise-in_order xs) (λ r. has-in_order r xs ∙ e r)
 
 -- a sorted list
 
