@@ -38,7 +38,9 @@ mod waits;
 
 pub use book::{Book, Item};
 pub use lock_modes::Mode;
-pub use lock_rules::{Call, Claim, ClaimKind, Entry, MAX_LOCKS, MAX_SESSIONS, Reply, Transaction, Why};
+pub use lock_rules::{
+    Call, Claim, ClaimKind, Entry, MAX_LOCKS, MAX_SESSIONS, Reply, Transaction, Why,
+};
 pub use lock_tree::Resource;
 pub use trimmed_list::{MOST_DROPPED, NO_BOUND};
 

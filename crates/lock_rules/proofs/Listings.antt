@@ -1,12 +1,11 @@
 -- A listing shows the lock table: its resources in order, each lock that is held and each request that waits.
-use Rattle.std.proofs.Common.{◌≡◌, ◌≢◌, ℕ, ◌≤◌, Bool, true, false, cond, not, eqb, ◌&&◌, ◌||◌, ◌⊎◌, inl, inr, List, [], ◌∷◌, ◌++◌, map, Option, Some, None, is_some, Contains, refl, sym, ◌∙◌, ap, subst}
-use Rattle.std.specs.Prelude.{filter, ◌↔◌}
+use Rattle.std.proofs.Common.{◌≡◌, ◌≢◌, ℕ, Bool, true, false, cond, not, eqb, ◌&&◌, ◌||◌, ◌⊎◌, inl, inr, List, [], ◌∷◌, ◌++◌, map, Option, Some, None, is_some, Contains, refl, sym, ◌∙◌, ap, subst}
+use Rattle.std.specs.Prelude.{filter}
 use Rattle.std.specs.List.{flat_map, list_any, AllByRecursion}
 use Rattle.std.specs.List.Sorted.{IsStrictlySortedBy}
 use Rattle.std.specs.declared.cmp.Ordering.TheVariants.{Less}
 use Rattle.std.proofs.Math.Bool.{and-false}
-use Rattle.std.proofs.lemmas.Bool.{and_parts, and_from, cases_Bool}
-use Rattle.std.proofs.lemmas.Bool.Decides.{nat_tests}
+use Rattle.std.proofs.lemmas.Bool.{and_parts, and_from}
 use Rattle.std.proofs.lemmas.List.{append-nil}
 use Rattle.std.proofs.lemmas.List.Elements.{filter-append}
 use Rattle.std.proofs.lemmas.List.Folds.{list_any-append}
@@ -17,10 +16,10 @@ use Rattle.lock_rules.specs.declared.calls.Transaction.{Transaction}
 use Rattle.lock_rules.specs.declared.listing.Claim.{Claim as ListedClaim}
 use Rattle.lock_rules.specs.declared.listing.ClaimKind.{ClaimKind}
 use Rattle.lock_rules.specs.declared.listing.ClaimKind.TheVariants.{Held, Conversion, Fresh}
-use Rattle.lock_rules.specs.State.{Claim, State, Table, mode_in, held_mode, holders, request_of, is_open, number_in, doomed_in}
+use Rattle.lock_rules.specs.State.{Claim, State, mode_in, held_mode, holders, request_of, is_open, number_in, doomed_in}
 use Rattle.lock_rules.specs.Queue.{conversions, fresh_requests}
 use Rattle.lock_rules.specs.Legal.{state_of}
-use Rattle.lock_rules.specs.Laws.{HasClaim, AreHoldersListed, AreOwnersOpen}
+use Rattle.lock_rules.specs.Laws.{AreHoldersListed, AreOwnersOpen}
 use Rattle.lock_rules.specs.Sound.{IsOnce}
 use Rattle.lock_rules.specs.Listing.{comes_before, resources_of, transaction_of, listed_as, listed_on, listing_of, kind_of_request, listed_request, waiting_line, listed_resources, HasClaimOn, lock_line, DoesListingShow}
 use Rattle.lock_rules.proofs.Lists.{same_path-refl, same_path-true, same_path_tells, eqb-refl, In, In-filter, In-request}
@@ -286,8 +285,8 @@ module _ (st : State) where
       let next = on-one r rs p.1 in
       elim (same_path_tells x r) [
         | inl e ↦ (let gone : is_among r rs ≡ false = ap (λ (z : List ℕ). is_among z rs) (sym e.1) ∙ not-behind x rs p.0 p.1 in
-          (λ i. cond (e.0 i) (listed_on st x) [] ++ (next ∙ ap (λ (b : Bool). cond b (listed_on st r) []) gone) i)
-          ∙ (append-nil (listed_on st x) ∙ (ap (listed_on st) e.1 ∙ sym (ap (λ (b : Bool). cond (b || is_among r rs) (listed_on st r) []) e.0))))
+            (λ i. cond (e.0 i) (listed_on st x) [] ++ (next ∙ ap (λ (b : Bool). cond b (listed_on st r) []) gone) i)
+            ∙ (append-nil (listed_on st x) ∙ (ap (listed_on st) e.1 ∙ sym (ap (λ (b : Bool). cond (b || is_among r rs) (listed_on st r) []) e.0))))
         | inr n ↦ (λ i. cond (n i) (listed_on st x) [] ++ next i) ∙ sym (ap (λ (b : Bool). cond (b || is_among r rs) (listed_on st r) []) n)
       ]
 
@@ -295,11 +294,11 @@ module _ (st : State) where
   no-lines : (r : List ℕ) → is_among r (listed_resources st) ≡ false → listed_on st r ≡ []
   no-lines r h =
       let both : (list_any (λ c. same_path c.resource r) st.table.held || list_any (λ c. same_path c.resource r) st.table.requests) ≡ false =
-        sym (list_any-append (λ (c : Claim). same_path c.resource r) st.table.held st.table.requests) ∙ (sym (among-resources r (st.table.held ++ st.table.requests)) ∙ h) in
+      sym (list_any-append (λ (c : Claim). same_path c.resource r) st.table.held st.table.requests) ∙ (sym (among-resources r (st.table.held ++ st.table.requests)) ∙ h) in
       let k = neither _ _ both in
       λ i. (map (λ h. listed_as st Held (record { session = h.0; resource = r; mode = h.1 })) (no-holders r st.table.held k.0 i)
-        ++ map (listed_as st Conversion) (no-requests r (λ q. is_some (held_mode st.table q.session r)) st.table.requests k.1 i))
-        ++ map (listed_as st Fresh) (no-requests r (λ q. not (is_some (held_mode st.table q.session r))) st.table.requests k.1 i)
+      ++ map (listed_as st Conversion) (no-requests r (λ q. is_some (held_mode st.table q.session r)) st.table.requests k.1 i))
+      ++ map (listed_as st Fresh) (no-requests r (λ q. not (is_some (held_mode st.table q.session r))) st.table.requests k.1 i)
     where
       neither : (a b : Bool) → (a || b) ≡ false → (a ≡ false) × (b ≡ false)
       neither true b e = absurd (cc)
@@ -339,10 +338,10 @@ module _ (st : State) where
     | inl i ↦ elim (member-either l hs cs i) [
       | inl j ↦ (let p = member-from (λ (h : ℕ × Mode). lock_line st h.0 r h.1) l (holders r st.table.held) j in inl (record { holder = p.0; there = p.1; is = p.2 }))
       | inr j ↦ (let q = member-from (listed_as st Conversion) l (conversions st.table r) j in
-        inr (asked r (λ x. is_some (held_mode st.table x.session r)) Conversion (kind-there r true) q.0 l q.1 q.2))
+          inr (asked r (λ x. is_some (held_mode st.table x.session r)) Conversion (kind-there r true) q.0 l q.1 q.2))
     ]
     | inr i ↦ (let q = member-from (listed_as st Fresh) l (fresh_requests st.table r) i in
-      inr (asked r (λ x. not (is_some (held_mode st.table x.session r))) Fresh (λ x e k. kind-there r false x e (not-true _ k)) q.0 l q.1 q.2))
+        inr (asked r (λ x. not (is_some (held_mode st.table x.session r))) Fresh (λ x e k. kind-there r false x e (not-true _ k)) q.0 l q.1 q.2))
   ]
     where
       hs : List ListedClaim
@@ -423,16 +422,16 @@ module _ (st : State) where
         ∙ (list_any-append (λ (c : Claim). same_path c.resource r) st.table.held st.table.requests ∙ elim h.1 [
           | inl k ↦ ap (λ (b : Bool). b || list_any (λ c. same_path c.resource r) st.table.requests) (held-lock h.0 r k.0 st.table.held k.1)
           | inr k ↦ (let i = request-in h.0 st.table.requests k.0 k.1 in
-            let e = ap (λ (z : List ℕ). list_any (λ c. same_path c.resource z) st.table.requests) (sym k.2) ∙ there-request k.0 st.table.requests i in
-            ap (λ (b : Bool). list_any (λ c. same_path c.resource r) st.table.held || b) e ∙ or-true (list_any (λ c. same_path c.resource r) st.table.held))
+              let e = ap (λ (z : List ℕ). list_any (λ c. same_path c.resource z) st.table.requests) (sym k.2) ∙ there-request k.0 st.table.requests i in
+              ap (λ (b : Bool). list_any (λ c. same_path c.resource r) st.table.held || b) e ∙ or-true (list_any (λ c. same_path c.resource r) st.table.held))
         ])))
 
     -- a lock is listed exactly if it is held
     listed-lock : (s : ℕ) (r : List ℕ) (m : Mode) → Contains (listing_of st) (lock_line st s r m) → held_mode st.table s r ≡ Some m
     listed-lock s r m h = elim (line-is r (lock_line st s r m) (listing-line (lock_line st s r m) h)) [
       | inl k ↦ (let session = ap (λ (l : ListedClaim). l.session) k.is in
-        let mode = ap (λ (l : ListedClaim). l.mode) k.is in
-        (holding.listed s r m).0 (member-contains (s, m) (holders r st.table.held) (subst (λ (h : ℕ × Mode). Member h (holders r st.table.held)) (λ i. (session i, mode i)) k.there)))
+          let mode = ap (λ (l : ListedClaim). l.mode) k.is in
+          (holding.listed s r m).0 (member-contains (s, m) (holders r st.table.held) (subst (λ (h : ℕ × Mode). Member h (holders r st.table.held)) (λ i. (session i, mode i)) k.there)))
       | inr k ↦ absurd (no-lock (is_some (held_mode st.table k.request.session k.request.resource)) (ap (λ (l : ListedClaim). l.kind) k.is))
     ]
 

@@ -1,12 +1,11 @@
 -- Lists of resources that strictly rise in the order of resources.
-use Rattle.std.proofs.Common.{◌≡◌, ℕ, zero, suc, ◌+◌, ◌<◌, Bool, true, false, cond, eqb, ltb, ◌&&◌, ◌||◌, ◌⊎◌, inl, inr, List, [], ◌∷◌, length, get_or, refl, sym, ◌∙◌, ap, subst, arith}
+use Rattle.std.proofs.Common.{◌≡◌, ℕ, suc, ◌+◌, ◌<◌, Bool, true, false, cond, eqb, ltb, ◌&&◌, ◌||◌, inl, inr, List, [], ◌∷◌, length, get_or, refl, sym, ◌∙◌, ap, subst, arith}
 use Rattle.std.proofs.lemmas.Bool.{cases_Bool, and_parts, and_from}
-use Rattle.std.proofs.lemmas.Bool.Decides.{nat_tests, Decides-eqb}
 use Rattle.std.proofs.lemmas.Cmp.{nat_list_cmp_total, tied_itself}
 use Rattle.std.proofs.lemmas.Map.Keys.{IsDistinct-head, IsDistinct-tail}
 use Rattle.std.specs.Cmp.{IsTotalOrder}
 use Rattle.std.specs.List.{IsDistinct, list_any}
-use Rattle.std.specs.Ordering.{nat_cmp, is_lt, ordering_then, ordering_reverse}
+use Rattle.std.specs.Ordering.{is_lt, ordering_then, ordering_reverse}
 use Rattle.std.specs.declared.cmp.Ordering.{Ordering}
 use Rattle.std.specs.declared.cmp.Ordering.TheVariants.{Less, Equal, Greater}
 use Rattle.lock_tree.specs.Paths.{path_cmp, same_path}
@@ -194,7 +193,7 @@ rise-sorted (x ∷ y ∷ xs) h d =
     and_from (comes_before x y) (rise (y ∷ xs))
     (before-first (h 0 x (omega arith)) (IsDistinct-head same_path x (y ∷ xs) d).0)
     (rise-sorted (y ∷ xs) (λ k e lt. let next : suc k + 1 ≡ suc (k + 1) = omega arith in
-      subst (λ (n : ℕ). is_lt (path_cmp (get_or (x ∷ y ∷ xs) n e) (get_or (y ∷ xs) k e)) ≡ false) next (h (suc k) e (omega (arith, lt)))) (IsDistinct-tail same_path x (y ∷ xs) d))
+    subst (λ (n : ℕ). is_lt (path_cmp (get_or (x ∷ y ∷ xs) n e) (get_or (y ∷ xs) k e)) ≡ false) next (h (suc k) e (omega (arith, lt)))) (IsDistinct-tail same_path x (y ∷ xs) d))
   where
     before-first : is_lt (path_cmp y x) ≡ false → same_path x y ≡ false → comes_before x y ≡ true
     before-first g n = before-other y x (sym-false n) (lt-less (path_cmp y x) g)
