@@ -1,26 +1,24 @@
 -- What a lock table tells of its locks and requests is what the state that it represents has.
-use Rattle.std.proofs.Common.{◌≡◌, ℕ, Bool, true, false, cond, not, ◌&&◌, ◌||◌, ◌⊎◌, inl, inr, List, [], ◌∷◌, ◌++◌, map, Option, Some, None, is_some, IfSome, refl, sym, ◌∙◌, ap, subst}
+use Rattle.std.proofs.Common.{◌≡◌, ℕ, Bool, true, false, cond, not, ◌&&◌, ◌||◌, List, [], ◌∷◌, ◌++◌, map, Option, Some, None, is_some, IfSome, refl, sym, ◌∙◌, ap, subst}
 use Rattle.std.specs.Prelude.{filter}
 use Rattle.std.specs.List.{flat_map}
 use Rattle.std.specs.Map.{keys_of}
-use Rattle.std.proofs.lemmas.Bool.{and_parts, cases_Bool}
+use Rattle.std.proofs.lemmas.Bool.{and_parts}
 use Rattle.std.proofs.lemmas.List.{append_assoc, map-append}
-use Rattle.lock_modes.specs.declared.Mode.{Mode}
 use Rattle.lock_tree.specs.Paths.{same_path}
 use Rattle.lock_rules.specs.State as rules
 use Rattle.lock_rules.specs.Queue.{conversions, fresh_requests, queue}
 use Rattle.lock_rules.specs.Sound.{IsSound}
 use Rattle.lock_rules.specs.declared.calls.Transaction.{Transaction}
-use Rattle.lock_rules.specs.declared.listing.Claim.{Claim}
 use Rattle.lock_rules.specs.declared.listing.ClaimKind.{ClaimKind}
 use Rattle.lock_rules.specs.declared.listing.ClaimKind.TheVariants.{Held, Conversion, Fresh}
 use Rattle.lock_rules.specs.Listing.{with_path, resources_of, transaction_of, listed_as, listed_on, listing_of, kind_of_request, listed_request, waiting_line}
-use Rattle.lock_rules.proofs.Lists.{same_path-refl, same_path-true, same_path_tells, request_of-session}
+use Rattle.lock_rules.proofs.Lists.{same_path-true, request_of-session}
 use Rattle.lock_rules.proofs.Steps.{is-none}
 use Rattle.lock_desk.specs.declared.cells.SessionMode.{SessionMode}
 use Rattle.lock_desk.specs.declared.cells.Cell.{Cell}
 use Rattle.lock_desk.specs.declared.lock_table.LockTable.{LockTable}
-use Rattle.lock_desk.specs.inner.Cells.{View, Cells, view_of, view_in, cell_at, cell_view, has_session, has_path, mode_of, is_nobody, is_busy, IsKeptCell, AreKeptCells}
+use Rattle.lock_desk.specs.inner.Cells.{View, Cells, view_in, cell_at, cell_view, has_path, mode_of, is_nobody, is_busy, IsKeptCell, AreKeptCells}
 use Rattle.lock_desk.specs.inner.Lockers.{is_wanted}
 use Rattle.lock_desk.specs.inner.Changes.{view_at, standing, IsWhole}
 use Rattle.lock_desk.specs.inner.Listing.{in_order, transaction_shown, line, kind_beside, request_line, lines_in, lines_at, lines_of, asked_line, request_at}
@@ -29,7 +27,7 @@ use Rattle.lock_desk.proofs.Places.{same_path-equivalence}
 use Rattle.lock_desk.proofs.InOrder.{same-in_order}
 use Rattle.lock_desk.proofs.SessionModes.{mode-has}
 use Rattle.lock_desk.proofs.Simulation.{waits-shown}
-use Rattle.lock_desk.proofs.TableViews.{in_mode, held-seen}
+use Rattle.lock_desk.proofs.TableViews.{held-seen}
 use Rattle.lock_desk.proofs.WaitsOfTheState.{mode-short, request-queued}
 
 -- the resources
