@@ -13,7 +13,7 @@ ghost use Rattle.lock_desk.specs.inner.Lockers.{standings_of, AreSameOrGranted, 
 ghost use Rattle.lock_desk.specs.inner.Ended.{DoList};
 ghost use Rattle.lock_desk.specs.inner.Blocking.{IsOfSessions, IsWritten, DoFollow};
 
-use crate::cells::{Cell, Claim, RequestStatus, SessionMode, is_same};
+use crate::cells::{Cell, GivenUp, RequestStatus, SessionMode, is_same};
 use crate::ended::EndedWaits;
 use crate::lockers::Locker;
 use crate::promotion::promote;
@@ -346,7 +346,7 @@ impl CellTable {
         session: u16,
         place: Option<usize>,
         resource: Resource,
-        claim: Claim,
+        claim: GivenUp,
     )
         requires place { IsPlace resource self.old.entries place }
         requires cells { AreKeptCells self.old.entries }

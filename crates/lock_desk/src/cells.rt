@@ -26,7 +26,7 @@ pub struct SessionMode {
 
 /// What a session gives up at a resource.
 #[derive(Clone, Copy, Debug, PartialEq, Eq)]
-pub enum Claim {
+pub enum GivenUp {
     /// Its lock.
     Lock,
     /// Its waiting request.
@@ -245,15 +245,15 @@ impl Cell {
     }
 
     /// Removes the lock or the request of `session`, if there is one. Promotes nothing.
-    pub(crate) fn give_up(&mut self, session: u16, claim: Claim)
+    pub(crate) fn give_up(&mut self, session: u16, claim: GivenUp)
         requires rising { Ascends self.old.holders.items }
         requires room { HasRoom self.old }
         ensures view { view_of self.new ≡ view_after_giving_up claim session (view_of self.old) }
         ensures room { HasRoom self.new }
     {
         match claim {
-            Claim::Lock => self.holders.remove(session),
-            Claim::Request => self.waiting.retain(|request| request.session != session),
+            GivenUp::Lock => self.holders.remove(session),
+            GivenUp::Request => self.waiting.retain(|request| request.session != session),
         }
     }
 
