@@ -2,7 +2,7 @@ use Rattle.std.proofs.Common.{◌≡◌, ℕ, get_or, inl, inr, ◌∙◌, ap, s
 use Rattle.std.proofs.lemmas.Bool.{cases_lt}
 use Rattle.std.proofs.lemmas.List.{get_or_default}
 use Rattle.lock_tree.specs.Paths.{IsResource}
-use Rattle.lock_desk.proofs.cell_table.are_resources.Goals as goal
+use Rattle.lock_desk.proofs.resource_order.are_resources.Goals as goal
 
 pub loop-index-preserved : goal.loop-index-preserved
 loop-index-preserved c k d below within = elim (cases_lt k c.loop-index.index) [

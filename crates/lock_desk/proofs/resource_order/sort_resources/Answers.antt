@@ -7,7 +7,7 @@ use Rattle.lock_tree.specs.Paths.{IsResource, same_path}
 use Rattle.lock_rules.proofs.ResourceOrder.{rise-sorted}
 use Rattle.lock_desk.proofs.Places.{same_path-equivalence}
 use Rattle.lock_desk.proofs.InOrder.{is-in_order}
-use Rattle.lock_desk.proofs.cell_table.sort_resources.Goals as goal
+use Rattle.lock_desk.proofs.resource_order.sort_resources.Goals as goal
 
 pub returns : goal.returns
 returns c =
