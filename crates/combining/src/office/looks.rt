@@ -132,8 +132,10 @@ impl Office {
         };
         let listed = load.book.holders(resource, list);
         let length = self.end_look(session, load);
-        listed?;
-        Ok(Some(length))
+        match listed {
+            Ok(()) => Ok(Some(length)),
+            Err(refused) => Err(refused),
+        }
     }
 
     /// Replaces the contents of `list` by the sessions for which session `whose` waits directly, by number, and returns how
