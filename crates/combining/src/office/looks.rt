@@ -8,14 +8,16 @@ ghost use Rattle.std.specs.Prelude.{◌≡◌, ◌≢◌, ◌+◌, ◌<◌, ◌�
 ghost use Rattle.lock_rules.specs.State.{held_mode, holders};
 ghost use Rattle.lock_rules.specs.Waits.{waits_for};
 ghost use Rattle.lock_rules.specs.Legal.{state_of};
+ghost use Rattle.lock_rules.specs.Listing.{listing_of, waiting_line};
 ghost use Rattle.publication.specs.Boards.{HasCallsOf};
 ghost use Rattle.combining.specs.Sessions.{IsSessionOf};
 ghost use Rattle.combining.specs.Looks.{HasLooked, blockers_among};
 ghost use Rattle.combining.specs.inner.Looks.{IsLooking, HasBegunToLook};
 
 use crate::office::Office;
-use lock_desk::{Book, Mode, NoMemory, Resource};
+use lock_desk::{Book, Claim, Mode, NoMemory, Resource, Transaction};
 use publication::{Load, Ticket as Session};
+use std::alloc::Global;
 
 /// The answer to a question about the lock table of an open office.
 #[derive(Clone, Copy, Debug, PartialEq, Eq)]
@@ -106,6 +108,42 @@ impl Office {
         Some(Seen { length, found })
     }
 
+    /// The open transaction of session `whose`, as `Book::transaction` tells it. `None` in place of an answer is as with `held`.
+    pub fn transaction(
+        &self,
+        session: &mut Session,
+        whose: u16,
+    ) -> Option<Seen<Option<Transaction>>>
+        requires ours { IsSessionOf self.now session.old }
+        ensures ours { IsSessionOf self.now session.new }
+        ensures looked { IfSome result (λ _. HasLooked session.old session.new) }
+        ensures length { IfSome result (λ seen. seen.length ≡ length session.new.front) }
+        ensures found { IfSome result (λ seen. seen.found ≡ (state_of session.new.front).begun whose) }
+        ensures none { IfNone result ((session.new ≡ session.old) × (1 < self.now.sessions)) }
+        ensures calls { HasCallsOf session.new.front session.new }
+    {
+        let load = self.look(session)?;
+        let found = load.book.transaction(whose);
+        let length = self.end_look(session, load);
+        Some(Seen { length, found })
+    }
+
+    /// The waiting request of session `whose`, as `Book::request` tells it. `None` in place of an answer is as with `held`.
+    pub fn request(&self, session: &mut Session, whose: u16) -> Option<Seen<Option<Claim>>>
+        requires ours { IsSessionOf self.now session.old }
+        ensures ours { IsSessionOf self.now session.new }
+        ensures looked { IfSome result (λ _. HasLooked session.old session.new) }
+        ensures length { IfSome result (λ seen. seen.length ≡ length session.new.front) }
+        ensures found { IfSome result (λ seen. seen.found ≡ waiting_line (state_of session.new.front) whose) }
+        ensures none { IfNone result ((session.new ≡ session.old) × (1 < self.now.sessions)) }
+        ensures calls { HasCallsOf session.new.front session.new }
+    {
+        let load = self.look(session)?;
+        let found = load.book.request(whose);
+        let length = self.end_look(session, load);
+        Some(Seen { length, found })
+    }
+
     /// Replaces the contents of `list` by the sessions that hold `resource`, each with its mode, by session number, as
     /// `Book::holders` does, and returns how many calls the history had.
     ///
@@ -168,5 +206,36 @@ impl Office {
         list_blockers(&load.book, sessions, whose, list);
         let length = self.end_look(session, load);
         Ok(Some(length))
+    }
+
+    /// Replaces the contents of `list` by all locks and all waiting requests, as `Book::locks` lists them, and returns how many
+    /// calls the history had.
+    ///
+    /// While it lists them, no other session can become the combiner: its cost is that of `Book::locks`. `Ok(None)` and
+    /// `NoMemory` are as with `holders`.
+    pub fn locks(
+        &self,
+        alloc: Global,
+        session: &mut Session,
+        list: &mut Vec<Claim>,
+    ) -> Result<Option<u64>, NoMemory>
+        requires ours { IsSessionOf self.now session.old }
+        ensures ours { IsSessionOf self.now session.new }
+        ensures looked { (seen : _) → result ≡ Ok (Some seen) → HasLooked session.old session.new }
+        ensures length { (seen : _) → result ≡ Ok (Some seen) → seen ≡ length session.new.front }
+        ensures found { (seen : _) → result ≡ Ok (Some seen) → list.new.items ≡ listing_of (state_of session.new.front) }
+        ensures none { result ≡ Ok None → (session.new ≡ session.old) × (list.new.items ≡ list.old.items) × (1 < self.now.sessions) }
+        ensures err { IfErr result (λ _. HasLooked session.old session.new × (list.new.items ≡ list.old.items)) }
+        ensures calls { HasCallsOf session.new.front session.new }
+    {
+        let Some(load) = self.look(session) else {
+            return Ok(None);
+        };
+        let listed = load.book.locks(alloc, list);
+        let length = self.end_look(session, load);
+        match listed {
+            Ok(()) => Ok(Some(length)),
+            Err(refused) => Err(refused),
+        }
     }
 }
