@@ -3,6 +3,7 @@ pub mod Numbers
 pub mod Calls
 pub mod Batches
 pub mod Sessions
+pub mod Looks
 pub mod ToldLists
 pub mod Offices
 -- what only private items speak of

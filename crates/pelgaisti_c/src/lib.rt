@@ -13,6 +13,8 @@ mod close_exports;
 mod hand_in;
 mod held_book;
 mod held_share;
+mod look_exports;
+mod looks;
 mod numbers;
 mod office;
 mod raw_box;
