@@ -1,11 +1,14 @@
 //! The table of cells: finds the cell of a resource, and keeps idle cells with their memory for other resources.
 
 ghost use Rattle.std.specs.Prelude.{◌≡◌, ℕ, ◌+◌, ◌<◌, ◌≤◌, true, false, List, [], ◌∷◌, ◌++◌, None, Some, if◌then◌else◌, length, take, slice_get, IfOk, OnOk, OnErr, vec_len};
+ghost use Rattle.std.specs.List.{All, IsDistinct};
+ghost use Rattle.std.specs.Map.{keys_of};
 ghost use Rattle.std.specs.Option.{option_copied};
-ghost use Rattle.lock_tree.specs.Paths.{same_path};
+ghost use Rattle.lock_tree.specs.Paths.{IsResource, same_path};
 ghost use Rattle.lock_desk.specs.declared.cells.Cell.{Cell as CellValue};
 ghost use Rattle.lock_desk.specs.inner.Cells.{no_view, view_of, has_session, mode_of, can_grant, is_granted, AreKeptCells, cell_at, cell_view, view_after_asking, view_after_giving_up, view_after_freeing, CellsBecame, ViewBecame, IsPlace, has_path, is_nobody, codes_unless_waited, view_with_holder, HasRoomAt};
 ghost use Rattle.lock_desk.specs.inner.Tables.{in_use, AreIdleFrom};
+ghost use Rattle.lock_desk.specs.inner.Listing.{in_order};
 ghost use Rattle.lock_desk.specs.inner.Lockers.{standings_of, AreSameOrGranted, DoAgree};
 ghost use Rattle.lock_desk.specs.inner.Ended.{DoList};
 ghost use Rattle.lock_desk.specs.inner.Blocking.{IsOfSessions, IsWritten, DoFollow};
@@ -17,7 +20,7 @@ use crate::promotion::promote;
 use crate::waits::{Waits, clear_queue_rows, update_rows, write_queue_rows};
 use indexmap::IndexSet;
 use lock_modes::Mode;
-use lock_tree::{Resource, same_path_is_equality};
+use lock_tree::{Resource, order_is_by_numbers, same_path_is_equality};
 use std::alloc::{AllocError, Global};
 use std::marker::Model;
 
@@ -123,6 +126,25 @@ fn ensure_cell(cells: &mut Vec<Cell>, place: usize) -> Result<(), AllocError>
     Ok(())
 }
 
+/// Called for its contract: each of them is a resource.
+fn are_resources(list: &[Resource])
+    ensures { All IsResource list.now }
+{
+    for index in 0..list.len() {
+        let _numbers = list[index].numbers();
+    }
+}
+
+/// Brings different resources into the order of resources.
+fn sort_resources(list: &mut Vec<Resource>)
+    requires { IsDistinct same_path list.old.items }
+    ensures { list.new.items ≡ in_order list.old.items }
+{
+    order_is_by_numbers();
+    list.sort_unstable();
+    are_resources(list);
+}
+
 impl CellTable {
     /// An empty table.
     pub(crate) fn new(alloc: Global) -> CellTable
@@ -144,6 +166,20 @@ impl CellTable {
             return all.saturating_sub(1);
         }
         all
+    }
+
+    /// The resources of the cells in use, in the order of resources. Fails if memory is refused.
+    pub(crate) fn resources(&self, alloc: Global) -> Result<Vec<Resource>, AllocError>
+        ensures { IfOk result (λ list. list.items ≡ in_order (keys_of self.now.entries)) }
+    {
+        same_path_is_equality();
+        // Called for its contract: no key is in the set twice.
+        let _len = self.resources.len();
+        let used = self.len();
+        let keys = self.resources.as_slice();
+        let mut list = Vec::from_slice(alloc, &keys[..used])?;
+        sort_resources(&mut list);
+        Ok(list)
     }
 
     /// The cell of `resource`, if it has one.

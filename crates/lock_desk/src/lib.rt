@@ -16,7 +16,7 @@
 //! 2. The lock table: all cells, all lockers and the waits-for graph (`lock_table.rt`). `lock_table/calls.rt` serves
 //!    each kind of call: first the tests that can refuse it (`lock_table/refusals.rt`), then its effect.
 //!    `lock_table/requests.rt` has the effect of a lock or a conversion, `lock_table/deadlocks.rt` resolves the
-//!    deadlocks that a wait closes. `lock_table/runs.rt` grants several locks on
+//!    deadlocks that a wait closes. `lock_table/listing.rt` tells what the table has. `lock_table/runs.rt` grants several locks on
 //!    one resource together, by the operations of `lock_table/grants.rt`.
 //! 3. The book: the lock table with its history (`book.rt`). It is all that callers see. `recording.rt` serves one call and
 //!    adds it to the history.
@@ -38,7 +38,7 @@ mod waits;
 
 pub use book::{Book, Item};
 pub use lock_modes::Mode;
-pub use lock_rules::{Call, Entry, MAX_LOCKS, MAX_SESSIONS, Reply, Why};
+pub use lock_rules::{Call, Claim, ClaimKind, Entry, MAX_LOCKS, MAX_SESSIONS, Reply, Transaction, Why};
 pub use lock_tree::Resource;
 pub use trimmed_list::{MOST_DROPPED, NO_BOUND};
 

@@ -16,6 +16,7 @@ ghost use Rattle.lock_desk.specs.inner.Shows.{Shows};
 mod calls;
 mod deadlocks;
 mod grants;
+mod listing;
 mod refusals;
 mod requests;
 pub(crate) mod runs;
