@@ -1,6 +1,7 @@
 -- what the exports speak of
 pub mod Numbers
 pub mod Calls
+pub mod Claims
 pub mod Batches
 pub mod Sessions
 pub mod Looks

@@ -3,9 +3,10 @@
 
 ghost use Rattle.std.specs.Prelude.{◌≡◌, ◌≢◌, ◌≤◌, ◌↔◌, ◌⊎◌, Some};
 ghost use Rattle.pelgaisti_c.specs.Numbers.{IsLevel};
-ghost use Rattle.pelgaisti_c.specs.Looks.{IsOfOffice, HasSeen, IsHeldSeen, IsWaitSeen, AreHoldersSeen, AreBlockersSeen};
+ghost use Rattle.pelgaisti_c.specs.Looks.{IsOfOffice, HasSeen, IsHeldSeen, IsWaitSeen, AreHoldersSeen, AreBlockersSeen, IsTransactionSeen, IsRequestSeen, AreLocksSeen};
 ghost use Rattle.pelgaisti_c.specs.declared.session_share.SessionShare.{SessionShare};
 
+use crate::claims::{ClaimNumbers, TransactionNumbers};
 use crate::looks;
 use crate::numbers::{HolderNumbers, ResourceNumbers};
 use crate::session_handle::SessionHandle;
@@ -123,6 +124,89 @@ pub extern "C" fn pelgaisti_raw_session_blockers(
         return CLOSED;
     };
     let status = looks::blockers(alloc, &mut share, whose, list, count, seen);
+    session.put(share);
+    status
+}
+
+/// Writes the number of the open transaction of session `whose`, and whether it is a deadlock victim. Number 0 means that none is
+/// open.
+#[unsafe(no_mangle)]
+pub extern "C" fn pelgaisti_raw_session_transaction(
+    alloc: Global,
+    session: &mut SessionHandle,
+    whose: u32,
+    found: &mut TransactionNumbers,
+    seen: &mut u64,
+) -> u32
+    ensures ok { result ≡ OK → (before after : SessionShare) × (session.old.held.share ≡ Some before) × (session.new.held.share ≡ Some after)
+        × IsTransactionSeen before after whose found.new seen.new }
+    ensures failed { result ≢ OK → (session.new.held.share ≡ session.old.held.share) × (found.new ≡ found.old) × (seen.new ≡ seen.old) }
+    ensures open { session.new.is_open ≡ session.old.is_open }
+    ensures closed { result ≡ CLOSED ↔ (session.old.is_open ≢ 1) }
+    ensures session { result ≡ NO_SUCH_SESSION → (share : SessionShare) × (session.old.held.share ≡ Some share) × ¬ (IsOfOffice share whose) }
+    ensures elsewhere { result ≡ ELSEWHERE → (share : SessionShare) × (session.old.held.share ≡ Some share) × (2 ≤ share.sessions) }
+    ensures statuses { (result ≡ OK) ⊎ ((result ≡ CLOSED) ⊎ ((result ≡ NO_SUCH_SESSION) ⊎ (result ≡ ELSEWHERE))) }
+{
+    let Some(mut share) = session.take(alloc) else {
+        return CLOSED;
+    };
+    let status = looks::transaction(&mut share, whose, found, seen);
+    session.put(share);
+    status
+}
+
+/// Writes the waiting request of session `whose`, as a line of the listing. Kind 0 means that it doesn't wait.
+#[unsafe(no_mangle)]
+pub extern "C" fn pelgaisti_raw_session_request(
+    alloc: Global,
+    session: &mut SessionHandle,
+    whose: u32,
+    found: &mut ClaimNumbers,
+    seen: &mut u64,
+) -> u32
+    ensures ok { result ≡ OK → (before after : SessionShare) × (session.old.held.share ≡ Some before) × (session.new.held.share ≡ Some after)
+        × IsRequestSeen before after whose found.new seen.new }
+    ensures failed { result ≢ OK → (session.new.held.share ≡ session.old.held.share) × (found.new ≡ found.old) × (seen.new ≡ seen.old) }
+    ensures open { session.new.is_open ≡ session.old.is_open }
+    ensures closed { result ≡ CLOSED ↔ (session.old.is_open ≢ 1) }
+    ensures session { result ≡ NO_SUCH_SESSION → (share : SessionShare) × (session.old.held.share ≡ Some share) × ¬ (IsOfOffice share whose) }
+    ensures elsewhere { result ≡ ELSEWHERE → (share : SessionShare) × (session.old.held.share ≡ Some share) × (2 ≤ share.sessions) }
+    ensures statuses { (result ≡ OK) ⊎ ((result ≡ CLOSED) ⊎ ((result ≡ NO_SUCH_SESSION) ⊎ (result ≡ ELSEWHERE))) }
+{
+    let Some(mut share) = session.take(alloc) else {
+        return CLOSED;
+    };
+    let status = looks::request(&mut share, whose, found, seen);
+    session.put(share);
+    status
+}
+
+/// Writes all locks and waiting requests, resource by resource, from the line `first` on, as many as `list` has room for, and the
+/// number of all lines to `count`. With NO_MEMORY the session knows the history up to there all the same.
+#[unsafe(no_mangle)]
+pub extern "C" fn pelgaisti_raw_session_locks(
+    alloc: Global,
+    session: &mut SessionHandle,
+    first: usize,
+    list: &mut [ClaimNumbers],
+    count: &mut usize,
+    seen: &mut u64,
+) -> u32
+    ensures ok { result ≡ OK → (before after : SessionShare) × (session.old.held.share ≡ Some before) × (session.new.held.share ≡ Some after)
+        × AreLocksSeen before after first list.old list.new count.new seen.new }
+    ensures failed { result ≢ OK → (list.new ≡ list.old) × (count.new ≡ count.old) × (seen.new ≡ seen.old) }
+    ensures same { result ≢ OK → result ≢ NO_MEMORY → session.new.held.share ≡ session.old.held.share }
+    ensures open { session.new.is_open ≡ session.old.is_open }
+    ensures closed { result ≡ CLOSED ↔ (session.old.is_open ≢ 1) }
+    ensures memory { result ≡ NO_MEMORY → (before after : SessionShare) × (session.old.held.share ≡ Some before) × (session.new.held.share ≡ Some after)
+        × HasSeen before after }
+    ensures elsewhere { result ≡ ELSEWHERE → (share : SessionShare) × (session.old.held.share ≡ Some share) × (2 ≤ share.sessions) }
+    ensures statuses { (result ≡ OK) ⊎ ((result ≡ NO_MEMORY) ⊎ ((result ≡ CLOSED) ⊎ (result ≡ ELSEWHERE))) }
+{
+    let Some(mut share) = session.take(alloc) else {
+        return CLOSED;
+    };
+    let status = looks::locks(alloc, &mut share, first, list, count, seen);
     session.put(share);
     status
 }

@@ -2,9 +2,12 @@
 
 ghost use Rattle.std.specs.Prelude.{◌≡◌, ◌≢◌, ◌≤◌, ◌⊎◌, IfSome, IfNone, length};
 ghost use Rattle.pelgaisti_c.specs.Numbers.{IsLevel};
-ghost use Rattle.pelgaisti_c.specs.Looks.{IsOfOffice, HasSeen, IsHeldSeen, IsWaitSeen, AreHoldersSeen, AreBlockersSeen};
+ghost use Rattle.pelgaisti_c.specs.Looks.{IsOfOffice, HasSeen, IsHeldSeen, IsWaitSeen, AreHoldersSeen, AreBlockersSeen, IsTransactionSeen, IsRequestSeen, AreLocksSeen};
 
 use crate::book_calls::{write_holders, write_sessions};
+use crate::claims::{
+    ClaimNumbers, TransactionNumbers, request_numbers, transaction_numbers, write_claims_from,
+};
 use crate::numbers::{HolderNumbers, ResourceNumbers, read_resource};
 use crate::session_share::SessionShare;
 use crate::status::{ELSEWHERE, NO_MEMORY, NO_SUCH_LEVEL, NO_SUCH_SESSION, OK};
@@ -151,6 +154,84 @@ pub(crate) fn blockers(
     };
     write_sessions(found.as_slice(), list);
     *count = found.len();
+    *seen = length;
+    OK
+}
+
+/// Writes the open transaction of session `whose`, and how many calls the history had then.
+pub(crate) fn transaction(
+    share: &mut SessionShare,
+    whose: u32,
+    found: &mut TransactionNumbers,
+    seen: &mut u64,
+) -> u32
+    ensures ok { result ≡ OK → IsTransactionSeen share.old share.new whose found.new seen.new }
+    ensures failed { result ≢ OK → (share.new ≡ share.old) × (found.new ≡ found.old) × (seen.new ≡ seen.old) }
+    ensures session { result ≡ NO_SUCH_SESSION → ¬ (IsOfOffice share.old whose) }
+    ensures elsewhere { result ≡ ELSEWHERE → 2 ≤ share.old.sessions }
+    ensures statuses { (result ≡ OK) ⊎ ((result ≡ NO_SUCH_SESSION) ⊎ (result ≡ ELSEWHERE)) }
+{
+    let Some(number) = session_of(share, whose) else {
+        return NO_SUCH_SESSION;
+    };
+    let Some(answer) = share.office.transaction(&mut share.session, number) else {
+        return ELSEWHERE;
+    };
+    *found = transaction_numbers(answer.found);
+    *seen = answer.length;
+    OK
+}
+
+/// Writes the waiting request of session `whose`, and how many calls the history had then.
+pub(crate) fn request(
+    share: &mut SessionShare,
+    whose: u32,
+    found: &mut ClaimNumbers,
+    seen: &mut u64,
+) -> u32
+    ensures ok { result ≡ OK → IsRequestSeen share.old share.new whose found.new seen.new }
+    ensures failed { result ≢ OK → (share.new ≡ share.old) × (found.new ≡ found.old) × (seen.new ≡ seen.old) }
+    ensures session { result ≡ NO_SUCH_SESSION → ¬ (IsOfOffice share.old whose) }
+    ensures elsewhere { result ≡ ELSEWHERE → 2 ≤ share.old.sessions }
+    ensures statuses { (result ≡ OK) ⊎ ((result ≡ NO_SUCH_SESSION) ⊎ (result ≡ ELSEWHERE)) }
+{
+    let Some(number) = session_of(share, whose) else {
+        return NO_SUCH_SESSION;
+    };
+    let Some(answer) = share.office.request(&mut share.session, number) else {
+        return ELSEWHERE;
+    };
+    *found = request_numbers(answer.found);
+    *seen = answer.length;
+    OK
+}
+
+/// Writes all locks and waiting requests from the line `first` on, as many as `list` has room for, the number of all lines to
+/// `count`, and how many calls the history had then.
+pub(crate) fn locks(
+    alloc: Global,
+    share: &mut SessionShare,
+    first: usize,
+    list: &mut [ClaimNumbers],
+    count: &mut usize,
+    seen: &mut u64,
+) -> u32
+    ensures ok { result ≡ OK → AreLocksSeen share.old share.new first list.old list.new count.new seen.new }
+    ensures failed { result ≢ OK → (list.new ≡ list.old) × (count.new ≡ count.old) × (seen.new ≡ seen.old) }
+    ensures same { result ≢ OK → result ≢ NO_MEMORY → share.new ≡ share.old }
+    ensures memory { result ≡ NO_MEMORY → HasSeen share.old share.new }
+    ensures elsewhere { result ≡ ELSEWHERE → 2 ≤ share.old.sessions }
+    ensures statuses { (result ≡ OK) ⊎ ((result ≡ NO_MEMORY) ⊎ (result ≡ ELSEWHERE)) }
+{
+    let mut lines = Vec::new(alloc);
+    let Ok(asked) = share.office.locks(alloc, &mut share.session, &mut lines) else {
+        return NO_MEMORY;
+    };
+    let Some(length) = asked else {
+        return ELSEWHERE;
+    };
+    write_claims_from(lines.as_slice(), first, list);
+    *count = lines.len();
     *seen = length;
     OK
 }
