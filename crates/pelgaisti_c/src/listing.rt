@@ -42,7 +42,8 @@ pub(crate) fn request(book: &Book, session: u32, waiting: &mut ClaimNumbers) -> 
     OK
 }
 
-/// Writes the lines of the listing from index `first` on, as many as `list` has room for, and the number of all lines to `count`.
+/// Writes the lines of the listing from index `first` on, as many as `list` has room for, and the number of all lines to
+/// `count`.
 pub(crate) fn locks(
     alloc: Global,
     book: &Book,

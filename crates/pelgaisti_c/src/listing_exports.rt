@@ -61,8 +61,8 @@ pub extern "C" fn pelgaisti_raw_book_request(
     status
 }
 
-/// Writes all locks and waiting requests, resource by resource, from the line `first` on, as many as `list` has room for, and the
-/// number of all lines to `count`.
+/// Writes all locks and waiting requests, resource by resource, from the line `first` on, as many as `list` has room for, and
+/// the number of all lines to `count`.
 #[unsafe(no_mangle)]
 pub extern "C" fn pelgaisti_raw_book_locks(
     alloc: Global,

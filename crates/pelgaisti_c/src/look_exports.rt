@@ -1,5 +1,5 @@
-//! The exports by which a session asks of the lock table while its office is open. Each tries once for the lock table and serves
-//! no calls. `seen` gets how many calls the history had: the answer is that of the state behind these.
+//! The exports by which a session asks of the lock table while its office is open. Each tries once for the lock table and
+//! serves no calls. `seen` gets how many calls the history had: the answer is that of the state behind these.
 
 ghost use Rattle.std.specs.Prelude.{◌≡◌, ◌≢◌, ◌≤◌, ◌↔◌, ◌⊎◌, Some};
 ghost use Rattle.pelgaisti_c.specs.Numbers.{IsLevel};
@@ -99,8 +99,8 @@ pub extern "C" fn pelgaisti_raw_session_holders(
     status
 }
 
-/// Writes the sessions for which session `whose` waits directly in the order of session numbers, as many as `list` has room for,
-/// and the number of all of them to `count`.
+/// Writes the sessions for which session `whose` waits directly in the order of session numbers, as many as `list` has room
+/// for, and the number of all of them to `count`.
 #[unsafe(no_mangle)]
 pub extern "C" fn pelgaisti_raw_session_blockers(
     alloc: Global,
@@ -128,8 +128,8 @@ pub extern "C" fn pelgaisti_raw_session_blockers(
     status
 }
 
-/// Writes the number of the open transaction of session `whose`, and whether it is a deadlock victim. Number 0 means that none is
-/// open.
+/// Writes the number of the open transaction of session `whose`, and whether it is a deadlock victim. Number 0 means that none
+/// is open.
 #[unsafe(no_mangle)]
 pub extern "C" fn pelgaisti_raw_session_transaction(
     alloc: Global,
@@ -181,8 +181,8 @@ pub extern "C" fn pelgaisti_raw_session_request(
     status
 }
 
-/// Writes all locks and waiting requests, resource by resource, from the line `first` on, as many as `list` has room for, and the
-/// number of all lines to `count`. With NO_MEMORY the session knows the history up to there all the same.
+/// Writes all locks and waiting requests, resource by resource, from the line `first` on, as many as `list` has room for, and
+/// the number of all lines to `count`. With NO_MEMORY the session knows the history up to there all the same.
 #[unsafe(no_mangle)]
 pub extern "C" fn pelgaisti_raw_session_locks(
     alloc: Global,

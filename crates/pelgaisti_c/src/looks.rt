@@ -122,8 +122,8 @@ pub(crate) fn holders(
     OK
 }
 
-/// Writes the sessions for which session `whose` waits, as many as `list` has room for, the number of all of them to `count`, and
-/// how many calls the history had then.
+/// Writes the sessions for which session `whose` waits, as many as `list` has room for, the number of all of them to `count`,
+/// and how many calls the history had then.
 pub(crate) fn blockers(
     alloc: Global,
     share: &mut SessionShare,
