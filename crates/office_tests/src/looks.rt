@@ -6,7 +6,7 @@ ghost use Rattle.combining.specs.Sessions.{IsSessionOf, IsIdle};
 
 use crate::offices::{call_alone, database, new_office, served_by};
 use combining::{Office, Posted, Session};
-use lock_desk::{Call, Mode, NoMemory, Reply, Resource};
+use lock_desk::{Call, Claim, ClaimKind, Mode, NoMemory, Reply, Resource, Transaction};
 use std::alloc::Global;
 use std::process::Abort;
 use std::test::Fail;
@@ -140,7 +140,126 @@ fn want_blockers(
     Ok(())
 }
 
-/// Asks all four questions about an office in which session 1 holds the database in X, session 2 waits for it in S, and
+/// Asks for the open transaction of session `whose`, and expects one with this number that isn't a victim, or none for 0,
+/// behind so many calls.
+fn want_transaction(
+    rt: &impl Abort,
+    office: &Office,
+    session: &mut Session,
+    whose: u16,
+    length: u64,
+    number: u64,
+)
+    requires ours { IsSessionOf office.now session.old }
+    ensures ours { IsSessionOf office.now session.new }
+{
+    let seen = office
+        .transaction(session, whose)
+        .expect(rt, "the lock table");
+    let expected = match number {
+        0 => None,
+        _ => Some(open(number)),
+    };
+    assert_eq!(rt; seen.length, length);
+    assert_eq!(rt; seen.found, expected);
+}
+
+/// Asks for the waiting request of session `whose`, and expects this, behind so many calls.
+fn want_request(
+    rt: &impl Abort,
+    office: &Office,
+    session: &mut Session,
+    whose: u16,
+    length: u64,
+    expected: Option<Claim>,
+)
+    requires ours { IsSessionOf office.now session.old }
+    ensures ours { IsSessionOf office.now session.new }
+{
+    let seen = office
+        .request(session, whose)
+        .expect(rt, "the lock table");
+    assert_eq!(rt; seen.length, length);
+    assert_eq!(rt; seen.found, expected);
+}
+
+/// Asks for all locks and requests, a second time if memory is refused.
+fn locks(
+    alloc: Global,
+    office: &Office,
+    session: &mut Session,
+    list: &mut Vec<Claim>,
+) -> Result<Option<u64>, NoMemory>
+    requires ours { IsSessionOf office.now session.old }
+    ensures ours { IsSessionOf office.now session.new }
+{
+    match office.locks(alloc, session, list) {
+        Ok(seen) => Ok(seen),
+        Err(_) => office.locks(alloc, session, list),
+    }
+}
+
+/// Asks for all locks and requests, and expects these, behind so many calls.
+fn want_locks(
+    rt: &impl Abort,
+    alloc: Global,
+    office: &Office,
+    session: &mut Session,
+    length: u64,
+    expected: &[Claim],
+) -> Result<(), Fail>
+    requires ours { IsSessionOf office.now session.old }
+    ensures ours { IsSessionOf office.now session.new }
+{
+    let mut list = Vec::new(alloc);
+    let seen = locks(alloc, office, session, &mut list)?;
+    assert_eq!(rt; seen, Some(length));
+    assert_eq!(rt; list.as_slice(), expected);
+    Ok(())
+}
+
+/// An open transaction that isn't a victim.
+fn open(number: u64) -> Transaction {
+    Transaction {
+        number,
+        doomed: false,
+    }
+}
+
+/// A claim of the session, whose transaction has the session's number.
+fn claim(resource: Resource, session: u16, mode: Mode, kind: ClaimKind) -> Claim {
+    Claim {
+        resource,
+        session,
+        transaction: open(u64::from(session)),
+        mode,
+        kind,
+    }
+}
+
+/// Asks for the transactions and the claims of an office in which session 1 holds the database in X, and sessions 2 and 3 wait
+/// for it in S.
+fn want_writer_and_requests(
+    rt: &impl Abort,
+    alloc: Global,
+    office: &Office,
+    session: &mut Session,
+    row: Resource,
+) -> Result<(), Fail>
+    requires ours { IsSessionOf office.now session.old }
+    ensures ours { IsSessionOf office.now session.new }
+{
+    let writer = claim(row, 1, Mode::X, ClaimKind::Held);
+    let second = claim(row, 2, Mode::S, ClaimKind::Fresh);
+    let third = claim(row, 3, Mode::S, ClaimKind::Fresh);
+    want_transaction(rt, office, session, 2, 6, 2);
+    want_transaction(rt, office, session, 9, 6, 0);
+    want_request(rt, office, session, 1, 6, None);
+    want_request(rt, office, session, 3, 6, Some(third));
+    want_locks(rt, alloc, office, session, 6, &[writer, second, third])
+}
+
+/// Asks the other four questions about an office in which session 1 holds the database in X, session 2 waits for it in S, and
 /// session 3 behind that one in S too.
 fn want_writer_and_readers(
     rt: &impl Abort,
@@ -196,6 +315,7 @@ fn a_session_asks_who_holds_and_who_waits(rt: HostRuntime) -> Result<(), Fail> {
     begin_and_lock(&rt, &office, &mut third, row, Mode::S, Reply::Waiting);
     assert!(rt; first.seen() == 2 && third.seen() == 6);
     want_writer_and_readers(&rt, rt.alloc(), &office, &mut first, row)?;
+    want_writer_and_requests(&rt, rt.alloc(), &office, &mut second, row)?;
     assert_eq!(rt; first.seen(), 6);
     want_nothing(&rt, rt.alloc(), &office, &mut second, row)
 }

@@ -5,7 +5,7 @@ ghost use Rattle.combining.specs.Sessions.{IsSessionOf, IsIdle};
 
 use crate::threads::{Caller, call};
 use combining::{Office, Session};
-use lock_desk::{Book, Entry, Mode, NoMemory, Resource};
+use lock_desk::{Book, Claim, Entry, Mode, NoMemory, Resource};
 use std::alloc::{AllocError, Global};
 use std::process::Abort;
 use std::test::Fail;
@@ -23,6 +23,8 @@ enum Found {
     Holders(Vec<(u16, Mode)>),
     /// The sessions for which the session waits.
     Blockers(Vec<u16>),
+    /// All locks and requests.
+    Locks(Vec<Claim>),
 }
 
 /// The answer to a question about this session or this database, and how many calls the history had then.
@@ -38,7 +40,7 @@ struct Noted {
     found: Found,
 }
 
-/// Asks one of three questions about this session and this database. `None`: another session had the lock table.
+/// Asks one of four questions about this session and this database. `None`: another session had the lock table.
 fn ask(
     alloc: Global,
     office: &Office,
@@ -63,9 +65,16 @@ fn ask(
             None => Ok(None),
         };
     }
-    let mut blockers = Vec::new(alloc);
-    match office.blockers(session, whose, &mut blockers)? {
-        Some(length) => Ok(Some((length, Found::Blockers(blockers)))),
+    if question == 2 {
+        let mut blockers = Vec::new(alloc);
+        return match office.blockers(session, whose, &mut blockers)? {
+            Some(length) => Ok(Some((length, Found::Blockers(blockers)))),
+            None => Ok(None),
+        };
+    }
+    let mut locks = Vec::new(alloc);
+    match office.locks(alloc, session, &mut locks)? {
+        Some(length) => Ok(Some((length, Found::Locks(locks)))),
         None => Ok(None),
     }
 }
@@ -81,7 +90,7 @@ fn ask_and_note(
     requires ours { IsSessionOf office.now session.old }
     ensures ours { IsSessionOf office.now session.new }
 {
-    let question = caller.number() % 3;
+    let question = caller.number() % 4;
     let whose = (caller.number() % 8) as u16 + 1;
     let Some(database) = Resource::from_numbers(&[(caller.number() % 3) as u32]) else {
         return false;
@@ -194,6 +203,11 @@ fn want_answer(rt: &impl Abort, alloc: Global, book: &Book, noted: &Noted) -> Re
             assert_eq!(rt; list.as_slice(), holders.as_slice());
         }
         Found::Blockers(blockers) => want_blockers(rt, book, noted.whose, blockers.as_slice()),
+        Found::Locks(locks) => {
+            let mut list = Vec::new(alloc);
+            book.locks(alloc, &mut list)?;
+            assert_eq!(rt; list.as_slice(), locks.as_slice());
+        }
     }
     Ok(())
 }
