@@ -120,6 +120,14 @@ fn blockers(
     }
 }
 
+/// A list with two sessions. Tries a second time if memory is refused.
+fn two_sevens(alloc: Global) -> Result<Vec<u16>, NoMemory> {
+    match vec![in alloc; 7, 7] {
+        Ok(list) => Ok(list),
+        Err(_) => vec![in alloc; 7, 7],
+    }
+}
+
 /// Asks for whom session `whose` waits, with a list that has other sessions before, and expects these, behind so many calls.
 fn want_blockers(
     rt: &impl Abort,
@@ -133,7 +141,7 @@ fn want_blockers(
     requires ours { IsSessionOf office.now session.old }
     ensures ours { IsSessionOf office.now session.new }
 {
-    let mut list = vec![in alloc; 7, 7]?;
+    let mut list = two_sevens(alloc)?;
     let seen = blockers(office, session, whose, &mut list)?;
     assert_eq!(rt; seen, Some(length));
     assert_eq!(rt; list.as_slice(), expected);
@@ -176,9 +184,7 @@ fn want_request(
     requires ours { IsSessionOf office.now session.old }
     ensures ours { IsSessionOf office.now session.new }
 {
-    let seen = office
-        .request(session, whose)
-        .expect(rt, "the lock table");
+    let seen = office.request(session, whose).expect(rt, "the lock table");
     assert_eq!(rt; seen.length, length);
     assert_eq!(rt; seen.found, expected);
 }

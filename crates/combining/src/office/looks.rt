@@ -108,7 +108,8 @@ impl Office {
         Some(Seen { length, found })
     }
 
-    /// The open transaction of session `whose`, as `Book::transaction` tells it. `None` in place of an answer is as with `held`.
+    /// The open transaction of session `whose`, as `Book::transaction` tells it. `None` in place of an answer is as with
+    /// `held`.
     pub fn transaction(
         &self,
         session: &mut Session,

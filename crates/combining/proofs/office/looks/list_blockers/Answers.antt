@@ -11,12 +11,12 @@ loop-before-preserved c =
     let waits : ℕ → Bool = waits_for (state_of c.args.book.now.history).table c.args.whose in
     let n = c.loop-before.before in
     elim c.if-waits_for.branch [
-      then-waits_for w ↦ record {
+      | then-waits_for w ↦ record {
         listed = entered waits n c.loop-before.list.items c.if-waits_for.list.items i.listed (search rules) (search rules);
         few = search rules;
         room = search rules;
       }
-    | else-waits_for w ↦ record {
+      | else-waits_for w ↦ record {
         listed = rw w.list-is (skipped waits n c.loop-before.list.items i.listed (search rules));
         few = search rules;
         room = search rules;
