@@ -47,7 +47,7 @@ TESTED = {
     "desk_tests": ("batches::", "books::", "ended::", "kept::", "queues::", "refusals::", "refused_batches::"),
     "office_tests": (
         *("ages::", "boards::", "calling::a_whole_call_that_found_no_memory", "closing::"),
-        *("direct::a_call_that_found_no_memory", "dropping::", "hearing::", "listing::"),
+        *("direct::a_call_that_found_no_memory", "dropping::", "hearing::", "listing::", "looks::"),
         *("offices::", "refusals::", "telling::a_commit"),
     ),
 }

@@ -159,7 +159,7 @@ impl Office {
 }
 
 impl Session {
-    fn raw(&self) -> *mut RawHandle {
+    pub(crate) fn raw(&self) -> *mut RawHandle {
         self.handles.0[self.index].get()
     }
 
