@@ -1,0 +1,4 @@
+-- What public contracts speak of.
+pub mod StateText
+pub mod StateRows
+pub mod Dot
