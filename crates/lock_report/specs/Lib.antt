@@ -2,3 +2,5 @@
 pub mod StateText
 pub mod StateRows
 pub mod Dot
+-- What only private contracts speak of.
+pub mod inner

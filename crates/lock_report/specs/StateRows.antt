@@ -35,12 +35,21 @@ abbrev pub fields_of_wait : Wait → List (List ℕ)
 fields_of_wait w = codes "waits" ∷ decimal w.session ∷ [] ∷ [] ∷ [] ∷ [] ∷ decimal w.other ∷ []
 
 -- the fields joined by commas, and a line feed
-abbrev pub row_of : List (List ℕ) → List ℕ
-row_of fields = join_with_byte 44 fields ++ 10 ∷ []
+abbrev pub row_of_fields : List (List ℕ) → List ℕ
+row_of_fields fields = join_with_byte 44 fields ++ 10 ∷ []
+
+-- the row of an open transaction
+abbrev pub row_of_transaction : OpenTransaction → List ℕ
+row_of_transaction o = row_of_fields (fields_of_transaction o)
+
+-- the row of a claim
+abbrev pub row_of_claim : Claim → List ℕ
+row_of_claim c = row_of_fields (fields_of_claim c)
+
+-- the row of a wait
+abbrev pub row_of_wait : Wait → List ℕ
+row_of_wait w = row_of_fields (fields_of_wait w)
 
 -- the rows of the open transactions, of the claims in the order of a listing, and of the waits
 abbrev pub rows_of_state : List OpenTransaction → List Claim → List Wait → List ℕ
-rows_of_state opens claims waits =
-    flat_map (λ o. row_of (fields_of_transaction o)) opens
-    ++ flat_map (λ c. row_of (fields_of_claim c)) claims
-    ++ flat_map (λ w. row_of (fields_of_wait w)) waits
+rows_of_state opens claims waits = flat_map row_of_transaction opens ++ flat_map row_of_claim claims ++ flat_map row_of_wait waits

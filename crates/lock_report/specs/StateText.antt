@@ -70,10 +70,22 @@ resource_lines last (c ∷ cs) = resource_heading last c.resource ++ line_of_res
 abbrev pub line_of_wait : Wait → List ℕ
 line_of_wait w = codes "session " ++ decimal w.session ++ codes " waits for session " ++ decimal w.other ++ codes "\n"
 
+-- the section of the open transactions, each with its claims
+abbrev pub transactions_section : List OpenTransaction → List Claim → List ℕ
+transactions_section opens claims = text_or_none opens (flat_map (session_lines claims) opens)
+
+-- the section of the resources, each with its claims
+abbrev pub resources_section : List Claim → List ℕ
+resources_section claims = text_or_none claims (resource_lines None claims)
+
+-- the section of the waits
+abbrev pub waits_section : List Wait → List ℕ
+waits_section waits = text_or_none waits (flat_map line_of_wait waits)
+
 -- the state in front of a place of the history: the open transactions, the claims in the order of a listing, and the waits
 abbrev pub text_of_state : ℕ → List OpenTransaction → List Claim → List Wait → List ℕ
 text_of_state place opens claims waits =
-    codes "state in front of place " ++ decimal place ++ codes "\n\ntransactions\n"
-    ++ text_or_none opens (flat_map (session_lines claims) opens)
-    ++ codes "\nresources\n" ++ text_or_none claims (resource_lines None claims)
-    ++ codes "\nwaits\n" ++ text_or_none waits (flat_map line_of_wait waits)
+    codes "state in front of place " ++ decimal place
+    ++ codes "\n\ntransactions\n" ++ transactions_section opens claims
+    ++ codes "\nresources\n" ++ resources_section claims
+    ++ codes "\nwaits\n" ++ waits_section waits

@@ -1,6 +1,7 @@
 //! The waits-for graph for Graphviz.
 
 ghost use Rattle.std.specs.Prelude.{◌≡◌, ◌++◌, IfOk, OnOk, string_bytes};
+ghost use Rattle.std.specs.List.{flat_map};
 ghost use Rattle.lock_report.specs.Dot.{end_of_node, node_of, edge_of, dot_of_waits};
 
 use crate::snapshot::{OpenTransaction, Wait};
@@ -36,6 +37,26 @@ fn put_edge(out: &mut String, wait: &Wait) -> Result<(), NoMemory>
     write!(out, "  {} -> {};\n", wait.session, wait.other)
 }
 
+/// Writes the nodes.
+fn put_nodes(out: &mut String, opens: &[OpenTransaction]) -> Result<(), NoMemory>
+    ensures { OnOk result (string_bytes out.new ≡ string_bytes out.old ++ flat_map node_of opens.now) }
+{
+    for open in opens {
+        put_node(out, open)?;
+    }
+    Ok(())
+}
+
+/// Writes the edges.
+fn put_edges(out: &mut String, waits: &[Wait]) -> Result<(), NoMemory>
+    ensures { OnOk result (string_bytes out.new ≡ string_bytes out.old ++ flat_map edge_of waits.now) }
+{
+    for wait in waits {
+        put_edge(out, wait)?;
+    }
+    Ok(())
+}
+
 /// The waits-for graph as a directed graph of Graphviz: a node for each open transaction, filled if it is a victim, and
 /// an edge for each wait. Fails only with `NoMemory`.
 pub fn waits_dot(alloc: Global, opens: &[OpenTransaction], waits: &[Wait]) -> Result<String, NoMemory>
@@ -43,12 +64,8 @@ pub fn waits_dot(alloc: Global, opens: &[OpenTransaction], waits: &[Wait]) -> Re
 {
     let mut out = String::new(alloc);
     out.push_str("digraph waits {\n")?;
-    for open in opens {
-        put_node(&mut out, open)?;
-    }
-    for wait in waits {
-        put_edge(&mut out, wait)?;
-    }
+    put_nodes(&mut out, opens)?;
+    put_edges(&mut out, waits)?;
     out.push_str("}\n")?;
     Ok(out)
 }

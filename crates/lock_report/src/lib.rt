@@ -1,6 +1,7 @@
 //! The state of a lock table as text: for people, as CSV rows, and the waits-for graph for Graphviz.
 #![tactic(auto)]
 
+mod by_session;
 mod dot;
 mod rows;
 mod snapshot;

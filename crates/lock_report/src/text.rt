@@ -1,12 +1,168 @@
 //! The state of a lock table as text for people.
 
-ghost use Rattle.std.specs.Prelude.{◌≡◌, ◌++◌, IfOk, OnOk, Option, None, string_bytes};
-ghost use Rattle.lock_report.specs.StateText.{text_of_state};
+ghost use Rattle.std.specs.Prelude.{◌≡◌, ◌++◌, IfOk, OnOk, None, string_bytes};
+ghost use Rattle.std.specs.List.{flat_map};
+ghost use Rattle.lock_report.specs.StateText.{victim_mark, session_heading, line_of_session, session_lines, line_of_resource, resource_heading, resource_lines, line_of_wait, transactions_section, resources_section, waits_section, text_of_state};
+ghost use Rattle.lock_report.specs.inner.BySession.{Ascends};
 
+use crate::by_session::{claims_by_session, claims_of_session};
 use crate::snapshot::{OpenTransaction, Wait};
-use lock_rules::Claim;
+use lock_rules::{Claim, ClaimKind, Transaction};
+use lock_tree::Resource;
 use std::alloc::{AllocError as NoMemory, Global};
 use std::fmt::Write;
+
+/// The line of a section that has nothing to show.
+const NOTHING: &str = "none\n";
+
+/// The mark of a deadlock victim.
+fn victim_text(transaction: Transaction) -> &'static str
+    ensures { result.now ≡ victim_mark transaction }
+{
+    if transaction.doomed { ", victim" } else { "" }
+}
+
+/// Writes the first line of a session.
+fn put_session_heading(out: &mut String, open: &OpenTransaction) -> Result<(), NoMemory>
+    ensures { OnOk result (string_bytes out.new ≡ string_bytes out.old ++ session_heading open.now) }
+{
+    let session = open.session;
+    let number = open.transaction.number;
+    let victim = victim_text(open.transaction);
+    write!(out, "session {session}, transaction {number}{victim}\n")
+}
+
+/// Writes the line of a claim below its session.
+fn put_line_of_session(out: &mut String, claim: &Claim) -> Result<(), NoMemory>
+    ensures { OnOk result (string_bytes out.new ≡ string_bytes out.old ++ line_of_session claim.now) }
+{
+    let resource = claim.resource;
+    let mode = claim.mode.name();
+    match claim.kind {
+        ClaimKind::Held => write!(out, "  holds {resource} in {mode}\n"),
+        ClaimKind::Conversion => write!(out, "  converts {resource} to {mode}\n"),
+        ClaimKind::Fresh => write!(out, "  waits for {resource} in {mode}\n"),
+    }
+}
+
+/// Writes the lines of claims of one session.
+fn put_lines_of_session(out: &mut String, claims: &[Claim]) -> Result<(), NoMemory>
+    ensures { OnOk result (string_bytes out.new ≡ string_bytes out.old ++ flat_map line_of_session claims.now) }
+{
+    for claim in claims {
+        put_line_of_session(out, claim)?;
+    }
+    Ok(())
+}
+
+/// Writes the line of a claim below its resource.
+fn put_line_of_resource(out: &mut String, claim: &Claim) -> Result<(), NoMemory>
+    ensures { OnOk result (string_bytes out.new ≡ string_bytes out.old ++ line_of_resource claim.now) }
+{
+    let session = claim.session;
+    let mode = claim.mode.name();
+    match claim.kind {
+        ClaimKind::Held => write!(out, "  session {session} holds it in {mode}\n"),
+        ClaimKind::Conversion => write!(out, "  session {session} waits to convert it to {mode}\n"),
+        ClaimKind::Fresh => write!(out, "  session {session} waits for it in {mode}\n"),
+    }
+}
+
+/// Writes the first line of a resource, unless it was shown last.
+fn put_resource_heading(out: &mut String, last: Option<Resource>, resource: Resource) -> Result<(), NoMemory>
+    ensures { OnOk result (string_bytes out.new ≡ string_bytes out.old ++ resource_heading last resource) }
+{
+    if last == Some(resource) {
+        return Ok(());
+    }
+    write!(out, "{resource}\n")
+}
+
+/// Writes the line of a wait.
+fn put_line_of_wait(out: &mut String, wait: &Wait) -> Result<(), NoMemory>
+    ensures { OnOk result (string_bytes out.new ≡ string_bytes out.old ++ line_of_wait wait.now) }
+{
+    write!(out, "session {} waits for session {}\n", wait.session, wait.other)
+}
+
+/// Writes the lines of the waits.
+fn put_lines_of_waits(out: &mut String, waits: &[Wait]) -> Result<(), NoMemory>
+    ensures { OnOk result (string_bytes out.new ≡ string_bytes out.old ++ flat_map line_of_wait waits.now) }
+{
+    for wait in waits {
+        put_line_of_wait(out, wait)?;
+    }
+    Ok(())
+}
+
+/// Writes the section of the waits.
+fn put_waits(out: &mut String, waits: &[Wait]) -> Result<(), NoMemory>
+    ensures { OnOk result (string_bytes out.new ≡ string_bytes out.old ++ waits_section waits.now) }
+{
+    if waits.is_empty() {
+        return out.push_str(NOTHING);
+    }
+    put_lines_of_waits(out, waits)
+}
+
+/// Writes the resources, each with its claims.
+fn put_lines_of_resources(out: &mut String, claims: &[Claim]) -> Result<(), NoMemory>
+    ensures { OnOk result (string_bytes out.new ≡ string_bytes out.old ++ resource_lines None claims.now) }
+{
+    let mut last = None;
+    for claim in claims {
+        put_resource_heading(out, last, claim.resource)?;
+        put_line_of_resource(out, claim)?;
+        last = Some(claim.resource);
+    }
+    Ok(())
+}
+
+/// Writes the section of the resources.
+fn put_resources(out: &mut String, claims: &[Claim]) -> Result<(), NoMemory>
+    ensures { OnOk result (string_bytes out.new ≡ string_bytes out.old ++ resources_section claims.now) }
+{
+    if claims.is_empty() {
+        return out.push_str(NOTHING);
+    }
+    put_lines_of_resources(out, claims)
+}
+
+/// Writes the lines of a session, whose claims are found in `sorted`.
+fn put_session(out: &mut String, sorted: &[Claim], open: &OpenTransaction) -> Result<(), NoMemory>
+    requires { Ascends sorted.now }
+    ensures { OnOk result (string_bytes out.new ≡ string_bytes out.old ++ session_lines sorted.now open.now) }
+{
+    put_session_heading(out, open)?;
+    put_lines_of_session(out, claims_of_session(sorted, open.session))
+}
+
+/// Writes the lines of the sessions, whose claims are found in `sorted`.
+fn put_sessions(out: &mut String, sorted: &[Claim], opens: &[OpenTransaction]) -> Result<(), NoMemory>
+    requires { Ascends sorted.now }
+    ensures { OnOk result (string_bytes out.new ≡ string_bytes out.old ++ flat_map (session_lines sorted.now) opens.now) }
+{
+    for open in opens {
+        put_session(out, sorted, open)?;
+    }
+    Ok(())
+}
+
+/// Writes the section of the transactions.
+fn put_transactions(
+    alloc: Global,
+    out: &mut String,
+    opens: &[OpenTransaction],
+    claims: &[Claim],
+) -> Result<(), NoMemory>
+    ensures { OnOk result (string_bytes out.new ≡ string_bytes out.old ++ transactions_section opens.now claims.now) }
+{
+    if opens.is_empty() {
+        return out.push_str(NOTHING);
+    }
+    let sorted = claims_by_session(alloc, claims)?;
+    put_sessions(out, &sorted, opens)
+}
 
 /// The state of a lock table as text for people, in front of the entry at index `place` of its history: each open
 /// transaction with its claims, then each resource with its claims, and then the waits. `claims` has the order of a
@@ -22,5 +178,10 @@ pub fn state_text(
 {
     let mut out = String::new(alloc);
     write!(out, "state in front of place {place}\n\ntransactions\n")?;
+    put_transactions(alloc, &mut out, opens, claims)?;
+    out.push_str("\nresources\n")?;
+    put_resources(&mut out, claims)?;
+    out.push_str("\nwaits\n")?;
+    put_waits(&mut out, waits)?;
     Ok(out)
 }
