@@ -24,15 +24,33 @@ victim_mark t = if t.doomed then codes ", victim" else []
 abbrev pub session_heading : OpenTransaction → List ℕ
 session_heading o = codes "session " ++ decimal o.session ++ codes ", transaction " ++ decimal o.transaction.number ++ victim_mark o.transaction ++ codes "\n"
 
--- what a session does with the resource of this text, in the mode of this name
-abbrev pub session_claim : ClaimKind → List ℕ → List ℕ → List ℕ
-session_claim Held resource mode = codes "  holds " ++ resource ++ codes " in " ++ mode ++ codes "\n"
-session_claim Conversion resource mode = codes "  converts " ++ resource ++ codes " to " ++ mode ++ codes "\n"
-session_claim Fresh resource mode = codes "  waits for " ++ resource ++ codes " in " ++ mode ++ codes "\n"
+-- what a session does with a resource, below the session
+abbrev pub session_verb : ClaimKind → List ℕ
+session_verb Held = codes "holds"
+session_verb Conversion = codes "converts"
+session_verb Fresh = codes "waits for"
+
+-- what a session does with a resource, below the resource
+abbrev pub resource_verb : ClaimKind → List ℕ
+resource_verb Held = codes "holds it"
+resource_verb Conversion = codes "waits to convert it"
+resource_verb Fresh = codes "waits for it"
+
+-- the word before the mode
+abbrev pub mode_word : ClaimKind → List ℕ
+mode_word Held = codes "in"
+mode_word Conversion = codes "to"
+mode_word Fresh = codes "in"
 
 -- the line of a claim below its session
 abbrev pub line_of_session : Claim → List ℕ
-line_of_session c = session_claim c.kind (text_of c.resource) (name_of c.mode)
+line_of_session c =
+    codes "  " ++ session_verb c.kind ++ codes " " ++ text_of c.resource ++ codes " " ++ mode_word c.kind ++ codes " " ++ name_of c.mode ++ codes "\n"
+
+-- the line of a claim below its resource
+abbrev pub line_of_resource : Claim → List ℕ
+line_of_resource c =
+    codes "  session " ++ decimal c.session ++ codes " " ++ resource_verb c.kind ++ codes " " ++ mode_word c.kind ++ codes " " ++ name_of c.mode ++ codes "\n"
 
 -- the claims of the session, in the order of the listing
 abbrev pub claims_of : ℕ → List Claim → List Claim
@@ -41,16 +59,6 @@ claims_of s claims = filter (λ c. c.session == s) claims
 -- the lines of a session: its transaction, and then its claims
 abbrev pub session_lines : List Claim → OpenTransaction → List ℕ
 session_lines claims o = session_heading o ++ flat_map line_of_session (claims_of o.session claims)
-
--- what the session of this number does with a resource, in the mode of this name
-abbrev pub resource_claim : ClaimKind → List ℕ → List ℕ → List ℕ
-resource_claim Held session mode = codes "  session " ++ session ++ codes " holds it in " ++ mode ++ codes "\n"
-resource_claim Conversion session mode = codes "  session " ++ session ++ codes " waits to convert it to " ++ mode ++ codes "\n"
-resource_claim Fresh session mode = codes "  session " ++ session ++ codes " waits for it in " ++ mode ++ codes "\n"
-
--- the line of a claim below its resource
-abbrev pub line_of_resource : Claim → List ℕ
-line_of_resource c = resource_claim c.kind (decimal c.session) (name_of c.mode)
 
 -- this is the resource that was shown last
 abbrev pub is_last : Option (List ℕ) → List ℕ → Bool

@@ -2,7 +2,7 @@
 
 ghost use Rattle.std.specs.Prelude.{◌≡◌, ◌++◌, IfOk, OnOk, None, string_bytes};
 ghost use Rattle.std.specs.List.{flat_map};
-ghost use Rattle.lock_report.specs.StateText.{victim_mark, session_heading, line_of_session, session_lines, line_of_resource, resource_heading, resource_lines, line_of_wait, transactions_section, resources_section, waits_section, text_of_state};
+ghost use Rattle.lock_report.specs.StateText.{victim_mark, session_heading, session_verb, resource_verb, mode_word, line_of_session, session_lines, line_of_resource, is_last, resource_heading, resource_lines, line_of_wait, transactions_section, resources_section, waits_section, text_of_state};
 ghost use Rattle.lock_report.specs.inner.BySession.{Ascends};
 
 use crate::by_session::{claims_by_session, claims_of_session};
@@ -32,17 +32,47 @@ fn put_session_heading(out: &mut String, open: &OpenTransaction) -> Result<(), N
     write!(out, "session {session}, transaction {number}{victim}\n")
 }
 
+/// What a session does with a resource, below the session.
+fn session_verb(kind: ClaimKind) -> &'static str
+    ensures { result.now ≡ session_verb kind }
+{
+    match kind {
+        ClaimKind::Held => "holds",
+        ClaimKind::Conversion => "converts",
+        ClaimKind::Fresh => "waits for",
+    }
+}
+
+/// What a session does with a resource, below the resource.
+fn resource_verb(kind: ClaimKind) -> &'static str
+    ensures { result.now ≡ resource_verb kind }
+{
+    match kind {
+        ClaimKind::Held => "holds it",
+        ClaimKind::Conversion => "waits to convert it",
+        ClaimKind::Fresh => "waits for it",
+    }
+}
+
+/// The word before the mode.
+fn mode_word(kind: ClaimKind) -> &'static str
+    ensures { result.now ≡ mode_word kind }
+{
+    match kind {
+        ClaimKind::Held | ClaimKind::Fresh => "in",
+        ClaimKind::Conversion => "to",
+    }
+}
+
 /// Writes the line of a claim below its session.
 fn put_line_of_session(out: &mut String, claim: &Claim) -> Result<(), NoMemory>
     ensures { OnOk result (string_bytes out.new ≡ string_bytes out.old ++ line_of_session claim.now) }
 {
     let resource = claim.resource;
+    let verb = session_verb(claim.kind);
+    let word = mode_word(claim.kind);
     let mode = claim.mode.name();
-    match claim.kind {
-        ClaimKind::Held => write!(out, "  holds {resource} in {mode}\n"),
-        ClaimKind::Conversion => write!(out, "  converts {resource} to {mode}\n"),
-        ClaimKind::Fresh => write!(out, "  waits for {resource} in {mode}\n"),
-    }
+    write!(out, "  {verb} {resource} {word} {mode}\n")
 }
 
 /// Writes the lines of claims of one session.
@@ -60,11 +90,19 @@ fn put_line_of_resource(out: &mut String, claim: &Claim) -> Result<(), NoMemory>
     ensures { OnOk result (string_bytes out.new ≡ string_bytes out.old ++ line_of_resource claim.now) }
 {
     let session = claim.session;
+    let verb = resource_verb(claim.kind);
+    let word = mode_word(claim.kind);
     let mode = claim.mode.name();
-    match claim.kind {
-        ClaimKind::Held => write!(out, "  session {session} holds it in {mode}\n"),
-        ClaimKind::Conversion => write!(out, "  session {session} waits to convert it to {mode}\n"),
-        ClaimKind::Fresh => write!(out, "  session {session} waits for it in {mode}\n"),
+    write!(out, "  session {session} {verb} {word} {mode}\n")
+}
+
+/// Whether this is the resource that was shown last.
+fn is_last(last: Option<Resource>, resource: Resource) -> bool
+    ensures { result ≡ is_last last resource }
+{
+    match last {
+        None => false,
+        Some(last) => resource == last,
     }
 }
 
@@ -72,7 +110,7 @@ fn put_line_of_resource(out: &mut String, claim: &Claim) -> Result<(), NoMemory>
 fn put_resource_heading(out: &mut String, last: Option<Resource>, resource: Resource) -> Result<(), NoMemory>
     ensures { OnOk result (string_bytes out.new ≡ string_bytes out.old ++ resource_heading last resource) }
 {
-    if last == Some(resource) {
+    if is_last(last, resource) {
         return Ok(());
     }
     write!(out, "{resource}\n")
