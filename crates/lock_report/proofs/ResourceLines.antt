@@ -3,7 +3,7 @@ use Rattle.std.proofs.Common.{◌≡◌, ℕ, ◌+◌, ◌<◌, List, [], ◌∷
 use Rattle.std.proofs.lemmas.List.{append-nil}
 use Rattle.lock_rules.specs.declared.listing.Claim.{Claim}
 use Rattle.lock_report.specs.StateText.{resource_heading, line_of_resource, resource_lines}
-use Rattle.lock_report.proofs.Pieces.{take_more}
+use Rattle.lock_report.proofs.Pieces.{with_next}
 
 -- The resource that was shown last, after these claims.
 abbrev pub last_shown : Option (List ℕ) → List Claim → Option (List ℕ)
@@ -24,18 +24,17 @@ lines_push last (x ∷ cs) c =
     ∙ sym (append_assoc front (resource_lines (Some x.resource) cs) (resource_heading (last_shown (Some x.resource) cs) c.resource ++ line_of_resource c))
 
 -- After the next claim, its resource is the last shown.
-pub next_last : (cs : List Claim) (i : ℕ) (d : Claim) → i < length cs → Some (get_or cs i d).resource ≡ last_shown None (take (i + 1) cs)
-next_last cs i d lt = sym (ap (λ (xs : List Claim). last_shown None xs) (take_more cs i d lt) ∙ last_push None (take i cs) (get_or cs i d))
+pub next_last : (cs : List Claim) (i : ℕ) (c : Claim) → i < length cs → c ≡ get_or cs i c → Some c.resource ≡ last_shown None (take (i + 1) cs)
+next_last cs i c lt is = sym (ap (λ (xs : List Claim). last_shown None xs) (with_next cs i c lt is) ∙ last_push None (take i cs) c)
 
 -- After the heading and the line of the next claim, the text so far is that of one claim more.
-pub next_claim : (cs : List Claim) (i : ℕ) (d : Claim) (last : Option (List ℕ)) (start out mid out2 : List ℕ) → i < length cs → last ≡ last_shown None (take i cs) → out ≡ start ++ resource_lines None (take i cs)
-    → mid ≡ out ++ resource_heading last (get_or cs i d).resource → out2 ≡ mid ++ line_of_resource (get_or cs i d)
+pub next_claim : (cs : List Claim) (i : ℕ) (c : Claim) (last : Option (List ℕ)) (start out mid out2 : List ℕ) → i < length cs → c ≡ get_or cs i c → last ≡ last_shown None (take i cs)
+    → out ≡ start ++ resource_lines None (take i cs) → mid ≡ out ++ resource_heading last c.resource → out2 ≡ mid ++ line_of_resource c
     → out2 ≡ start ++ resource_lines None (take (i + 1) cs)
-next_claim cs i d last start out mid out2 lt shown so_far heading line =
-    let c : Claim = get_or cs i d in
+next_claim cs i c last start out mid out2 lt is shown so_far heading line =
     let xs : List Claim = take i cs in
-    let now : List ℕ = resource_heading (last_shown None xs) c.resource in
+    let head : List ℕ = resource_heading (last_shown None xs) c.resource in
     line ∙ ap (λ (t : List ℕ). t ++ line_of_resource c) (heading ∙ ap (λ (t : List ℕ). t ++ resource_heading last c.resource) so_far ∙ ap (λ (o : Option (List ℕ)). (start ++ resource_lines None xs) ++ resource_heading o c.resource) shown)
-    ∙ append_assoc (start ++ resource_lines None xs) now (line_of_resource c)
-    ∙ append_assoc start (resource_lines None xs) (now ++ line_of_resource c)
-    ∙ ap (λ (t : List ℕ). start ++ t) (sym (lines_push None xs c) ∙ sym (ap (λ (ys : List Claim). resource_lines None ys) (take_more cs i d lt)))
+    ∙ append_assoc (start ++ resource_lines None xs) head (line_of_resource c)
+    ∙ append_assoc start (resource_lines None xs) (head ++ line_of_resource c)
+    ∙ ap (λ (t : List ℕ). start ++ t) (sym (lines_push None xs c) ∙ sym (ap (λ (ys : List Claim). resource_lines None ys) (with_next cs i c lt is)))

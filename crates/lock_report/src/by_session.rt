@@ -22,6 +22,7 @@ pub(crate) fn claims_of_session(sorted: &[Claim], session: u16) -> &[Claim]
     ensures { result.now ≡ claims_of session sorted.now }
 {
     let first = sorted.partition_point(|claim| claim.session < session);
-    let end = sorted.partition_point(|claim| claim.session <= session);
-    &sorted[first..end]
+    let rest = &sorted[first..];
+    let count = rest.partition_point(|claim| claim.session <= session);
+    &rest[..count]
 }

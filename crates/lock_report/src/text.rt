@@ -8,7 +8,7 @@ ghost use Rattle.lock_report.specs.inner.BySession.{Ascends};
 use crate::by_session::{claims_by_session, claims_of_session};
 use crate::snapshot::{OpenTransaction, Wait};
 use lock_rules::{Claim, ClaimKind, Transaction};
-use lock_tree::Resource;
+use lock_tree::{Resource, same_path_is_equality};
 use std::alloc::{AllocError as NoMemory, Global};
 use std::fmt::Write;
 
@@ -100,6 +100,7 @@ fn put_line_of_resource(out: &mut String, claim: &Claim) -> Result<(), NoMemory>
 fn is_last(last: Option<Resource>, resource: Resource) -> bool
     ensures { result ≡ is_last last resource }
 {
+    same_path_is_equality();
     match last {
         None => false,
         Some(last) => resource == last,

@@ -1,5 +1,5 @@
-use Rattle.std.proofs.Common.{rules}
+use Rattle.std.proofs.Common.{◌∙◌}
 use Rattle.lock_report.proofs.text.is_last.Goals as goal
 
 pub returns-in-Some : goal.returns-in-Some
-returns-in-Some c = let h = c.eq.ensures in let i = c.in-Some.is in ?
+returns-in-Some c = rw c.in-Some.is (c.eq.ensures ∙ c.same_path_is_equality.ensures.code c.args.resource c.in-Some.last)
