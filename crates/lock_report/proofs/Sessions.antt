@@ -1,5 +1,5 @@
 -- The claims of a session in a list that ascends by session, and in one that it was sorted from.
-use Rattle.std.proofs.Common.{◌≡◌, ℕ, zero, suc, ◌+◌, ◌<◌, ◌≤◌, Bool, true, false, cond, not, ◌&&◌, ◌==◌, ltb, leb, ltb-true, ltb-false, leb-true, leb-false, List, [], ◌∷◌, ◌++◌, filter, get_or, take, drop, length, length-take, length-drop, refl, ap, sym, ◌∙◌, arith, rules}
+use Rattle.std.proofs.Common.{◌≡◌, ℕ, zero, suc, ◌+◌, ◌<◌, ◌≤◌, Bool, true, false, cond, not, ◌&&◌, ◌==◌, ltb, leb, ltb-true, ltb-false, leb-true, leb-false, List, [], ◌∷◌, ◌++◌, filter, get_or, take, drop, length, length-take, length-drop, take_all, ◌-◌, refl, ap, sym, subst, ◌∙◌, arith}
 use Rattle.std.specs.List.{flat_map}
 use Rattle.std.specs.List.Sorted.{IsPartitionPoint, IsStableByKey}
 use Rattle.std.specs.Ordering.{nat_cmp, is_lt}
@@ -7,13 +7,14 @@ use Rattle.std.specs.declared.cmp.Ordering.TheVariants.{Less, Equal, Greater}
 use Rattle.std.proofs.Math.Path.{fun_ext}
 use Rattle.std.proofs.lemmas.Bool.Decides.{nat_tests}
 use Rattle.std.proofs.lemmas.List.{get_or-take, get_or-drop, take-append-drop, append-nil}
+use Rattle.std.proofs.lemmas.List.Sorted.{IsNonDecreasingBy-drop}
 use Rattle.std.proofs.lemmas.List.Elements.{filter-append}
 use Rattle.lock_modes.specs.declared.Mode.TheVariants.{NL}
 use Rattle.lock_rules.specs.declared.listing.Claim.{Claim}
 use Rattle.lock_rules.specs.declared.listing.ClaimKind.TheVariants.{Held}
 use Rattle.lock_report.specs.declared.snapshot.OpenTransaction.{OpenTransaction}
 use Rattle.lock_report.specs.StateText.{claims_of, session_heading, line_of_session, session_lines}
-use Rattle.lock_report.specs.inner.BySession.{IsBySession, session_of}
+use Rattle.lock_report.specs.inner.BySession.{Ascends, IsBySession, session_of}
 
 -- Sorted by session.
 
@@ -78,7 +79,7 @@ higher_differs : (n s : ℕ) → leb n s ≡ false → (n == s) ≡ false
 higher_differs n s above = let gt = leb-false n s above in grind (arith, nat_tests)
 
 -- Between the first claim that isn't of a lower session, and the first after it that is of a higher one.
-pub found : (s first count : ℕ) (cs : List Claim) → first ≤ length cs → count ≤ length (drop first cs)
+found : (s first count : ℕ) (cs : List Claim) → first ≤ length cs → count ≤ length (drop first cs)
     → IsPartitionPoint (λ (c : Claim). ltb c.session s ≡ true) (λ (c : Claim). ltb c.session s ≡ false) cs first
     → IsPartitionPoint (λ (c : Claim). leb c.session s ≡ true) (λ (c : Claim). leb c.session s ≡ false) (drop first cs) count
     → take count (drop first cs) ≡ claims_of s cs
@@ -95,3 +96,20 @@ found s first count cs first_in count_in lower upper =
     none_of s (drop count from) (λ k d lt. let there : count + k < length from = omega (arith, length-drop count from) in rw (get_or-drop count from k d) (higher_differs _ s (upper.1 (count + k) d (omega arith) there))) in
     sym (in_parts s first cs ∙ ap (λ (t : List Claim). t ++ claims_of s from) before
     ∙ in_parts s count from ∙ ap (λ (t : List Claim). t ++ claims_of s (drop count from)) own ∙ ap (λ (t : List Claim). take count from ++ t) after ∙ append-nil (take count from))
+
+-- The rest of a list, as a slice from a place to the end.
+pub rest_is : (first : ℕ) (cs : List Claim) → drop first cs ≡ take (length cs - first) (drop first cs)
+rest_is first cs = sym (take_all (length cs - first) (drop first cs) (omega (arith, length-drop first cs)))
+
+-- The claims behind a place ascend, if all do.
+pub rest_ascends : (first : ℕ) (cs rest : List Claim) → drop first cs ≡ rest → Ascends cs → Ascends rest
+rest_ascends first cs rest is up = subst Ascends is (IsNonDecreasingBy-drop session_of first cs up)
+
+-- The same for the rest by its name.
+pub found_in_rest : (s first count : ℕ) (cs rest : List Claim) → drop first cs ≡ rest → first ≤ length cs → count ≤ length rest
+    → IsPartitionPoint (λ (c : Claim). ltb c.session s ≡ true) (λ (c : Claim). ltb c.session s ≡ false) cs first
+    → IsPartitionPoint (λ (c : Claim). leb c.session s ≡ true) (λ (c : Claim). leb c.session s ≡ false) rest count
+    → take count rest ≡ claims_of s cs
+found_in_rest s first count cs rest is first_in count_in lower upper =
+    let P : List Claim → Type 0 = λ xs. count ≤ length xs → IsPartitionPoint (λ (c : Claim). leb c.session s ≡ true) (λ (c : Claim). leb c.session s ≡ false) xs count → take count xs ≡ claims_of s cs in
+    subst P is (λ inside higher. found s first count cs first_in inside lower higher) count_in upper
