@@ -32,7 +32,11 @@ fn put_transaction(out: &mut String, open: &OpenTransaction) -> Result<(), NoMem
     ensures { OnOk result (string_bytes out.new ≡ string_bytes out.old ++ row_of_transaction open.now) }
 {
     let victim = victim_word(open.transaction);
-    write!(out, "transaction,{},{},{victim},,,\n", open.session, open.transaction.number)
+    write!(
+        out,
+        "transaction,{},{},{victim},,,\n",
+        open.session, open.transaction.number
+    )
 }
 
 /// Writes the row of a claim.
@@ -41,7 +45,11 @@ fn put_claim(out: &mut String, claim: &Claim) -> Result<(), NoMemory>
 {
     let kind = kind_word(claim.kind);
     let victim = victim_word(claim.transaction);
-    write!(out, "{kind},{},{},{victim},", claim.session, claim.transaction.number)?;
+    write!(
+        out,
+        "{kind},{},{},{victim},",
+        claim.session, claim.transaction.number
+    )?;
     write!(out, "{},{},\n", claim.resource, claim.mode.name())
 }
 

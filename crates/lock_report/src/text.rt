@@ -108,7 +108,11 @@ fn is_last(last: Option<Resource>, resource: Resource) -> bool
 }
 
 /// Writes the first line of a resource, unless it was shown last.
-fn put_resource_heading(out: &mut String, last: Option<Resource>, resource: Resource) -> Result<(), NoMemory>
+fn put_resource_heading(
+    out: &mut String,
+    last: Option<Resource>,
+    resource: Resource,
+) -> Result<(), NoMemory>
     ensures { OnOk result (string_bytes out.new ≡ string_bytes out.old ++ resource_heading last resource) }
 {
     if is_last(last, resource) {
@@ -121,7 +125,11 @@ fn put_resource_heading(out: &mut String, last: Option<Resource>, resource: Reso
 fn put_line_of_wait(out: &mut String, wait: &Wait) -> Result<(), NoMemory>
     ensures { OnOk result (string_bytes out.new ≡ string_bytes out.old ++ line_of_wait wait.now) }
 {
-    write!(out, "session {} waits for session {}\n", wait.session, wait.other)
+    write!(
+        out,
+        "session {} waits for session {}\n",
+        wait.session, wait.other
+    )
 }
 
 /// Writes the lines of the waits.
@@ -177,7 +185,11 @@ fn put_session(out: &mut String, sorted: &[Claim], open: &OpenTransaction) -> Re
 }
 
 /// Writes the lines of the sessions, whose claims are found in `sorted`.
-fn put_sessions(out: &mut String, sorted: &[Claim], opens: &[OpenTransaction]) -> Result<(), NoMemory>
+fn put_sessions(
+    out: &mut String,
+    sorted: &[Claim],
+    opens: &[OpenTransaction],
+) -> Result<(), NoMemory>
     requires { Ascends sorted.now }
     ensures { OnOk result (string_bytes out.new ≡ string_bytes out.old ++ flat_map (session_lines sorted.now) opens.now) }
 {
