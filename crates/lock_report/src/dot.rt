@@ -37,7 +37,7 @@ fn put_node(out: &mut String, open: &OpenTransaction) -> Result<(), NoMemory>
 fn put_edge(out: &mut String, wait: &Wait) -> Result<(), NoMemory>
     ensures { OnOk result (string_bytes out.new ≡ string_bytes out.old ++ edge_of wait.now) }
 {
-    write!(out, "  {} -> {};\n", wait.session, wait.other)
+    writeln!(out, "  {} -> {};", wait.session, wait.other)
 }
 
 /// Writes the nodes.
