@@ -910,19 +910,31 @@ static inline pelgaisti_status pelgaisti_office_close(pelgaisti_session *session
     return PELGAISTI_CALL_(pelgaisti_raw_office_close(session, book));
 }
 
-/* Waits a little before one more look for an answer: before the first 8 the processor pauses, and before later ones the thread
-   yields it. */
-static inline void pelgaisti_pause_(uint64_t look) {
-    int pauses;
-    if (look > 8) {
-        sched_yield();
-        return;
-    }
-    for (pauses = 0; pauses < 256; pauses++) {
+/* Pauses the processor so many times. */
+static inline void pelgaisti_spin_(unsigned pauses) {
+    for (; pauses > 0; pauses--) {
 #if defined(__x86_64__)
         __builtin_ia32_pause();
 #endif
     }
+}
+
+/* Waits before one more try to perform a call at once, of which `tries` were made: pauses from try to try longer, and yields the
+   processor once 17 were made. */
+static inline void pelgaisti_back_off_(uint64_t tries) {
+    if (tries > 16)
+        sched_yield();
+    else
+        pelgaisti_spin_(tries < 5 ? 128u << tries : 4096u);
+}
+
+/* Waits a little before one more look for an answer: before the first 8 the processor pauses, and before later ones the thread
+   yields it. */
+static inline void pelgaisti_pause_(uint64_t look) {
+    if (look > 8)
+        sched_yield();
+    else
+        pelgaisti_spin_(256);
 }
 
 /* Whom a call's passes wake: `wake` is called with `engine` for each session whose wait a pass has ended, after the pass, by the
@@ -958,8 +970,9 @@ static inline pelgaisti_status pelgaisti_perform_waking_(pelgaisti_session *sess
     return status;
 }
 
-/* Performs the call at once where the lock table is free. Where it isn't, publishes the call, then serves and collects in turn
-   until the answer is there, at most `turns` times. With 0 turns it only publishes the call. With NULL for `call` it goes on with
+/* Performs the call at once where the lock table is free. Where it isn't, tries again, with pauses that grow, in all at most `turns`
+   times and at most 32 times. If the lock table was never free, publishes the call, then serves and collects in turn until the
+   answer is there, at most `turns` times. With 0 turns it only publishes the call. With NULL for `call` it goes on with
    the call that is pending. The answer may be WAITING: this call waits for an answer, not for a lock. Whoever waits for a lock
    sleeps until a pass wakes it, which pelgaisti_session_serve_telling explains. With NULL for `waker` the passes of this call
    wake nobody: where threads sleep, none uses it so.
@@ -976,7 +989,10 @@ static inline pelgaisti_status pelgaisti_session_perform_waking(pelgaisti_sessio
     uint64_t turn;
     if (!session || !answer || (waker && (!waker->wake || !waker->list))) return PELGAISTI_NULL;
     if (call) {
-        if (turns > 0) served = pelgaisti_perform_waking_(session, call, waker, answer);
+        for (turn = 0; turn < turns && turn < 32 && served == PELGAISTI_ELSEWHERE; turn++) {
+            if (turn > 0) pelgaisti_back_off_(turn);
+            served = pelgaisti_perform_waking_(session, call, waker, answer);
+        }
         if (served != PELGAISTI_ELSEWHERE && served != PELGAISTI_NO_MEMORY && served != PELGAISTI_NO_ROOM) return served;
         status = pelgaisti_session_publish(session, call, NULL);
         if (status != PELGAISTI_OK) return status;
