@@ -1,5 +1,5 @@
 -- The claims of a session in a list that ascends by session, and in one that it was sorted from.
-use Rattle.std.proofs.Common.{◌≡◌, ℕ, zero, suc, ◌+◌, ◌<◌, ◌≤◌, Bool, true, false, cond, not, ◌&&◌, ◌==◌, ltb, leb, ltb-true, ltb-false, leb-true, leb-false, List, [], ◌∷◌, ◌++◌, filter, get_or, take, drop, length, length-take, length-drop, take_all, ◌-◌, refl, ap, sym, subst, ◌∙◌, arith}
+use Rattle.std.proofs.Common.{◌≡◌, ℕ, suc, ◌+◌, ◌<◌, ◌≤◌, Bool, true, false, cond, not, ◌&&◌, ◌==◌, ltb, leb, ltb-true, ltb-false, leb-true, leb-false, List, [], ◌∷◌, ◌++◌, filter, get_or, take, drop, length, length-take, length-drop, take_all, ◌-◌, refl, ap, sym, subst, ◌∙◌, arith}
 use Rattle.std.specs.List.{flat_map}
 use Rattle.std.specs.List.Sorted.{IsPartitionPoint, IsStableByKey}
 use Rattle.std.specs.Ordering.{nat_cmp, is_lt}
