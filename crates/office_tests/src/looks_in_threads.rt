@@ -191,43 +191,77 @@ fn want_blockers(rt: &impl Abort, book: &Book, whose: u16, blockers: &[u16]) {
     assert!(rt; rest.next().is_none());
 }
 
+/// Expects these holders in the book.
+fn want_holders(
+    rt: &impl Abort,
+    alloc: Global,
+    book: &Book,
+    database: Resource,
+    holders: &[(u16, Mode)],
+) -> Result<(), NoMemory> {
+    let mut list = Vec::new(alloc);
+    book.holders(database, &mut list)?;
+    assert_eq!(rt; list.as_slice(), holders);
+    Ok(())
+}
+
+/// Expects these locks and requests in the book.
+fn want_locks(
+    rt: &impl Abort,
+    alloc: Global,
+    book: &Book,
+    locks: &[Claim],
+) -> Result<(), NoMemory> {
+    let mut list = Vec::new(alloc);
+    book.locks(alloc, &mut list)?;
+    assert_eq!(rt; list.as_slice(), locks);
+    Ok(())
+}
+
 /// Expects this answer of the book.
 fn want_answer(rt: &impl Abort, alloc: Global, book: &Book, noted: &Noted) -> Result<(), NoMemory> {
     match &noted.found {
         Found::Held(mode) => {
             assert_eq!(rt; book.held(noted.whose, noted.database), *mode);
+            Ok(())
         }
-        Found::Holders(holders) => {
-            let mut list = Vec::new(alloc);
-            book.holders(noted.database, &mut list)?;
-            assert_eq!(rt; list.as_slice(), holders.as_slice());
+        Found::Holders(holders) => want_holders(
+            rt,
+            alloc,
+            book,
+            noted.database,
+            holders.as_slice(),
+        ),
+        Found::Blockers(blockers) => {
+            want_blockers(rt, book, noted.whose, blockers.as_slice());
+            Ok(())
         }
-        Found::Blockers(blockers) => want_blockers(rt, book, noted.whose, blockers.as_slice()),
-        Found::Locks(locks) => {
-            let mut list = Vec::new(alloc);
-            book.locks(alloc, &mut list)?;
-            assert_eq!(rt; list.as_slice(), locks.as_slice());
-        }
+        Found::Locks(locks) => want_locks(rt, alloc, book, locks.as_slice()),
+    }
+}
+
+/// Serves the calls of these entries in the book, and expects their replies.
+fn serve_entries(rt: &impl Abort, book: &mut Book, entries: &[Entry]) -> Result<(), NoMemory> {
+    for entry in entries {
+        serve_entry(rt, book, entry)?;
     }
     Ok(())
 }
 
-/// Expects each answer of a fresh book that has served as many calls of the history.
+/// Expects each answer of the book, once it has served as many calls of the history.
 fn want_answers(
     rt: &impl Abort,
     alloc: Global,
+    book: &mut Book,
     history: &[Entry],
     notes: &[Noted],
 ) -> Result<(), NoMemory> {
-    let mut book = Book::new(alloc, SESSIONS)?;
-    let mut rest = history.iter();
     for noted in notes {
-        for _call in book.served()..noted.length {
-            let entry = rest.next().expect(rt, "an entry of the history");
-            serve_entry(rt, &mut book, entry)?;
-        }
-        assert_eq!(rt; book.served(), noted.length);
-        want_answer(rt, alloc, &book, noted)?;
+        let from = book.served() as usize;
+        let upto = noted.length as usize;
+        assert!(rt; from <= upto && upto <= history.len());
+        serve_entries(rt, book, &history[from..upto])?;
+        want_answer(rt, alloc, book, noted)?;
     }
     Ok(())
 }
@@ -251,6 +285,7 @@ fn eight_threads_see_what_one_book_has(rt: HostRuntime) -> Result<(), Fail> {
     assert!(rt; notes.len() > 0);
     let book = office.close(sessions).ok().expect(&rt, "the book");
     assert_eq!(rt; book.served(), 8000);
-    want_answers(&rt, rt.alloc(), book.history(), notes.as_slice())?;
+    let mut fresh = Book::new(rt.alloc(), SESSIONS)?;
+    want_answers(&rt, rt.alloc(), &mut fresh, book.history(), &notes)?;
     Ok(())
 }
