@@ -181,14 +181,16 @@ fn serve_entry(rt: &impl Abort, book: &mut Book, entry: &Entry) -> Result<(), No
 
 /// Expects the sessions for which this one waits in the book.
 fn want_blockers(rt: &impl Abort, book: &Book, whose: u16, blockers: &[u16]) {
-    let mut rest = blockers.iter();
+    let mut count = 0usize;
     for before in 0..SESSIONS {
         let other = before.wrapping_add(1);
-        if book.waits_for(whose, other) {
-            assert!(rt; rest.next() == Some(&other));
+        let waits = book.waits_for(whose, other);
+        assert!(rt; blockers.contains(&other) == waits);
+        if waits {
+            count = count.wrapping_add(1);
         }
     }
-    assert!(rt; rest.next().is_none());
+    assert_eq!(rt; blockers.len(), count);
 }
 
 /// Expects these holders in the book.
