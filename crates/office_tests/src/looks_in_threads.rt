@@ -181,14 +181,43 @@ fn serve_entry(rt: &impl Abort, book: &mut Book, entry: &Entry) -> Result<(), No
 
 /// Expects the sessions for which this one waits in the book.
 fn want_blockers(rt: &impl Abort, book: &Book, whose: u16, blockers: &[u16]) {
-    let mut rest = blockers.iter();
+    let mut count = 0usize;
     for before in 0..SESSIONS {
         let other = before.wrapping_add(1);
-        if book.waits_for(whose, other) {
-            assert!(rt; rest.next() == Some(&other));
+        let waits = book.waits_for(whose, other);
+        assert!(rt; blockers.contains(&other) == waits);
+        if waits {
+            count = count.wrapping_add(1);
         }
     }
-    assert!(rt; rest.next().is_none());
+    assert_eq!(rt; blockers.len(), count);
+}
+
+/// Expects these holders in the book.
+fn want_holders(
+    rt: &impl Abort,
+    alloc: Global,
+    book: &Book,
+    database: Resource,
+    holders: &[(u16, Mode)],
+) -> Result<(), NoMemory> {
+    let mut list = Vec::new(alloc);
+    book.holders(database, &mut list)?;
+    assert_eq!(rt; list.as_slice(), holders);
+    Ok(())
+}
+
+/// Expects these locks and requests in the book.
+fn want_locks(
+    rt: &impl Abort,
+    alloc: Global,
+    book: &Book,
+    locks: &[Claim],
+) -> Result<(), NoMemory> {
+    let mut list = Vec::new(alloc);
+    book.locks(alloc, &mut list)?;
+    assert_eq!(rt; list.as_slice(), locks);
+    Ok(())
 }
 
 /// Expects this answer of the book.
@@ -196,38 +225,45 @@ fn want_answer(rt: &impl Abort, alloc: Global, book: &Book, noted: &Noted) -> Re
     match &noted.found {
         Found::Held(mode) => {
             assert_eq!(rt; book.held(noted.whose, noted.database), *mode);
+            Ok(())
         }
-        Found::Holders(holders) => {
-            let mut list = Vec::new(alloc);
-            book.holders(noted.database, &mut list)?;
-            assert_eq!(rt; list.as_slice(), holders.as_slice());
+        Found::Holders(holders) => want_holders(
+            rt,
+            alloc,
+            book,
+            noted.database,
+            holders.as_slice(),
+        ),
+        Found::Blockers(blockers) => {
+            want_blockers(rt, book, noted.whose, blockers.as_slice());
+            Ok(())
         }
-        Found::Blockers(blockers) => want_blockers(rt, book, noted.whose, blockers.as_slice()),
-        Found::Locks(locks) => {
-            let mut list = Vec::new(alloc);
-            book.locks(alloc, &mut list)?;
-            assert_eq!(rt; list.as_slice(), locks.as_slice());
-        }
+        Found::Locks(locks) => want_locks(rt, alloc, book, locks.as_slice()),
+    }
+}
+
+/// Serves the calls of these entries in the book, and expects their replies.
+fn serve_entries(rt: &impl Abort, book: &mut Book, entries: &[Entry]) -> Result<(), NoMemory> {
+    for entry in entries {
+        serve_entry(rt, book, entry)?;
     }
     Ok(())
 }
 
-/// Expects each answer of a fresh book that has served as many calls of the history.
+/// Expects each answer of the book, once it has served as many calls of the history.
 fn want_answers(
     rt: &impl Abort,
     alloc: Global,
+    book: &mut Book,
     history: &[Entry],
     notes: &[Noted],
 ) -> Result<(), NoMemory> {
-    let mut book = Book::new(alloc, SESSIONS)?;
-    let mut rest = history.iter();
     for noted in notes {
-        for _call in book.served()..noted.length {
-            let entry = rest.next().expect(rt, "an entry of the history");
-            serve_entry(rt, &mut book, entry)?;
-        }
-        assert_eq!(rt; book.served(), noted.length);
-        want_answer(rt, alloc, &book, noted)?;
+        let from = book.served() as usize;
+        let upto = noted.length as usize;
+        assert!(rt; from <= upto && upto <= history.len());
+        serve_entries(rt, book, &history[from..upto])?;
+        want_answer(rt, alloc, book, noted)?;
     }
     Ok(())
 }
@@ -251,6 +287,7 @@ fn eight_threads_see_what_one_book_has(rt: HostRuntime) -> Result<(), Fail> {
     assert!(rt; notes.len() > 0);
     let book = office.close(sessions).ok().expect(&rt, "the book");
     assert_eq!(rt; book.served(), 8000);
-    want_answers(&rt, rt.alloc(), book.history(), notes.as_slice())?;
+    let mut fresh = Book::new(rt.alloc(), SESSIONS)?;
+    want_answers(&rt, rt.alloc(), &mut fresh, book.history(), &notes)?;
     Ok(())
 }
