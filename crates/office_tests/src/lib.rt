@@ -23,8 +23,6 @@ mod listing;
 #[cfg(test)]
 mod looks;
 #[cfg(test)]
-mod looks_in_threads;
-#[cfg(test)]
 mod offices;
 pub mod own_office;
 #[cfg(test)]
