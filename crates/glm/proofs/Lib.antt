@@ -1,5 +1,6 @@
 pub mod AreRows
 pub mod Ask
+pub mod AskShow
 pub mod AtOnce
 pub mod CallsOfRows
 pub mod Gives

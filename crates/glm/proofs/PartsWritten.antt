@@ -7,10 +7,10 @@ use Rattle.glm.specs.declared.checking.Verdict.{Verdict}
 use Rattle.glm.specs.declared.tool_fault.ToolFault.TheVariants as tool
 use Rattle.glm.specs.declared.workers.Stop.{Stop}
 use Rattle.glm.specs.declared.workers.Stop.TheVariants as stop
-use Rattle.glm.specs.Outcomes.{HasPrintedPart, text_of_verdict}
+use Rattle.glm.specs.Outcomes.{HasPrintedPart}
 use Rattle.glm.specs.Replays.{AreRows, HasServedPart, IsTextFor, Replays}
 use Rattle.glm.specs.Runs.{HasPerformedPart, IsTextOfRun, Runs}
-use Rattle.glm.specs.Verdicts.{Checks}
+use Rattle.glm.specs.Verdicts.{Checks, text_of_verdict}
 use Rattle.glm.specs.Workers.{fault_of_stop}
 use Rattle.glm.specs.Written.{AppendsPart}
 

@@ -13,7 +13,9 @@ use Rattle.lock_rules.specs.declared.calls.TheConstants.{MAX_SESSIONS}
 use Rattle.glm.specs.CommandLine.{AskNothing, Gives, HasFlag, IsRequest, faults_of, glm_command}
 use Rattle.glm.specs.declared.args.TheConstants.{MAX_TURNS}
 use Rattle.glm.specs.declared.running_in_pieces.TheConstants.{MAX_STREAMED_SESSIONS}
-use Rattle.glm.proofs.Ask.{no_streamed, no_such_sessions, sessions_text}
+use Rattle.glm.proofs.Ask.{no_form, no_place, no_streamed, no_such_sessions, sessions_text}
+use Rattle.glm.proofs.AskShow.{place_given, place_not_given, two_forms}
+use Rattle.glm.specs.declared.args.Request.{Request}
 use Rattle.glm.proofs.Gives.{numeral_given}
 use Rattle.glm.proofs.laws.words_ask_as_documented.Goals as goal
 
@@ -23,6 +25,15 @@ faulty words kind kinds is other another = record {
   no_request = λ asked ask. let bad : kind ∷ kinds ≡ [] = sym is ∙ ask.whole in cc;
   no_help = λ help. let bad : kind ∷ kinds ≡ DisplayHelp ∷ [] = sym is ∙ help in other cc;
   no_version = λ version. let bad : kind ∷ kinds ≡ DisplayVersion ∷ [] = sym is ∙ version in another cc;
+}
+
+-- words without an error ask for nothing if their command is no request
+unasked : (words : List Text) (found : Option (Text × List Row)) → faults_of words ≡ [] → subcommand_of glm_command words ≡ found
+    → ((asked : Request) → ¬ IsRequest found asked) → AskNothing words
+unasked words found whole is none = record {
+  no_request = λ asked ask. none asked (subst (λ (f : Option (Text × List Row)). IsRequest f asked) is ask.request_is);
+  no_help = λ help. let bad : [] ≡ DisplayHelp ∷ [] = sym whole ∙ help in cc;
+  no_version = λ version. let bad : [] ≡ DisplayVersion ∷ [] = sym whole ∙ version in cc;
 }
 
 -- words without an error whose `--sessions` isn't read as a number ask for nothing
@@ -152,3 +163,27 @@ returns-clause-version c = inl refl
 pub returns-clause-version_short : goal.returns-clause-version_short
 unfolding clap_on_literals
 returns-clause-version_short c = inl refl
+
+pub returns-clause-show : goal.returns-clause-show
+unfolding clap_on_literals
+returns-clause-show c = record { whole = refl; request_is = (refl, numeral_given (codes "sessions") (codes "256") MAX_SESSIONS 256 _ (omega arith) refl refl (search rules), refl, (λ flag. let no : Some (codes "false") ≡ Some (codes "true") = flag in cc, λ flag. let no : Some (codes "false") ≡ Some (codes "true") = flag in cc)) }
+
+pub returns-clause-show_at : goal.returns-clause-show_at
+unfolding clap_on_literals
+returns-clause-show_at c = record { whole = refl; request_is = (refl, numeral_given (codes "sessions") (codes "256") MAX_SESSIONS 256 _ (omega arith) refl refl (search rules), place_given (codes "0") 0 _ refl refl, (λ flag. let no : Some (codes "false") ≡ Some (codes "true") = flag in cc, λ flag. let no : Some (codes "false") ≡ Some (codes "true") = flag in cc)) }
+
+pub returns-clause-show_rows : goal.returns-clause-show_rows
+unfolding clap_on_literals
+returns-clause-show_rows c = record { whole = refl; request_is = (refl, numeral_given (codes "sessions") (codes "3") MAX_SESSIONS 3 _ (omega arith) refl refl (search rules), place_given (codes "7") 7 _ refl refl, (refl, λ flag. let no : Some (codes "false") ≡ Some (codes "true") = flag in cc)) }
+
+pub returns-clause-show_graph : goal.returns-clause-show_graph
+unfolding clap_on_literals
+returns-clause-show_graph c = record { whole = refl; request_is = (refl, numeral_given (codes "sessions") (codes "256") MAX_SESSIONS 256 _ (omega arith) refl refl (search rules), refl, (λ flag. let no : Some (codes "false") ≡ Some (codes "true") = flag in cc, refl)) }
+
+pub returns-clause-show_two_forms : goal.returns-clause-show_two_forms
+unfolding clap_on_literals
+returns-clause-show_two_forms c = unasked _ _ refl refl (no_form _ _ refl (two_forms _ refl refl))
+
+pub returns-clause-show_zeros : goal.returns-clause-show_zeros
+unfolding clap_on_literals
+returns-clause-show_zeros c = unasked _ _ refl refl (no_place _ _ refl (place_not_given (codes "07") _ refl (λ m read. let bad : Ok m ≡ Err LeadingZero = sym read in cc)))
