@@ -1,0 +1,8 @@
+use Rattle.std.proofs.Common.{◌≡◌, ◌++◌, take, string_bytes}
+use Rattle.std.specs.List.{flat_map}
+use Rattle.lock_report.specs.Dot.{node_of}
+use Rattle.lock_report.proofs.dot.put_nodes.Given as goal
+
+-- The nodes of the open transactions before this one are written.
+abbrev pub invariant-loop-open : goal.invariant-loop-open
+invariant-loop-open l = string_bytes l.out ≡ string_bytes l.fn.out ++ flat_map node_of (take l.open-index l.opens)

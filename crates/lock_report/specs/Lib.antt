@@ -1,0 +1,6 @@
+-- What public contracts speak of.
+pub mod StateText
+pub mod StateRows
+pub mod Dot
+-- What only private contracts speak of.
+pub mod inner

@@ -1,0 +1,71 @@
+//! The waits-for graph for Graphviz.
+
+ghost use Rattle.std.specs.Prelude.{◌≡◌, ◌++◌, IfOk, OnOk, string_bytes};
+ghost use Rattle.std.specs.List.{flat_map};
+ghost use Rattle.lock_report.specs.Dot.{end_of_node, node_of, edge_of, dot_of_waits};
+
+use crate::snapshot::{OpenTransaction, Wait};
+use lock_rules::Transaction;
+use std::alloc::{AllocError as NoMemory, Global};
+use std::fmt::Write;
+
+/// Writes the end of a node: of a victim, the mark in its label and its color.
+fn put_end_of_node(out: &mut String, transaction: Transaction) -> Result<(), NoMemory>
+    ensures { OnOk result (string_bytes out.new ≡ string_bytes out.old ++ end_of_node transaction) }
+{
+    if transaction.doomed {
+        out.push_str("\\nvictim\", style=filled, fillcolor=lightgray];\n")
+    } else {
+        out.push_str("\"];\n")
+    }
+}
+
+/// Writes the node of a session.
+fn put_node(out: &mut String, open: &OpenTransaction) -> Result<(), NoMemory>
+    ensures { OnOk result (string_bytes out.new ≡ string_bytes out.old ++ node_of open.now) }
+{
+    let session = open.session;
+    let number = open.transaction.number;
+    write!(out, "  {session} [label=\"session {session}\\ntransaction {number}")?;
+    put_end_of_node(out, open.transaction)
+}
+
+/// Writes the edge of a wait.
+fn put_edge(out: &mut String, wait: &Wait) -> Result<(), NoMemory>
+    ensures { OnOk result (string_bytes out.new ≡ string_bytes out.old ++ edge_of wait.now) }
+{
+    write!(out, "  {} -> {};\n", wait.session, wait.other)
+}
+
+/// Writes the nodes.
+fn put_nodes(out: &mut String, opens: &[OpenTransaction]) -> Result<(), NoMemory>
+    ensures { OnOk result (string_bytes out.new ≡ string_bytes out.old ++ flat_map node_of opens.now) }
+{
+    for open in opens {
+        put_node(out, open)?;
+    }
+    Ok(())
+}
+
+/// Writes the edges.
+fn put_edges(out: &mut String, waits: &[Wait]) -> Result<(), NoMemory>
+    ensures { OnOk result (string_bytes out.new ≡ string_bytes out.old ++ flat_map edge_of waits.now) }
+{
+    for wait in waits {
+        put_edge(out, wait)?;
+    }
+    Ok(())
+}
+
+/// The waits-for graph as a directed graph of Graphviz: a node for each open transaction, filled if it is a victim, and
+/// an edge for each wait. Fails only with `NoMemory`.
+pub fn waits_dot(alloc: Global, opens: &[OpenTransaction], waits: &[Wait]) -> Result<String, NoMemory>
+    ensures { IfOk result (λ text. string_bytes text ≡ dot_of_waits opens.now waits.now) }
+{
+    let mut out = String::new(alloc);
+    out.push_str("digraph waits {\n")?;
+    put_nodes(&mut out, opens)?;
+    put_edges(&mut out, waits)?;
+    out.push_str("}\n")?;
+    Ok(out)
+}

@@ -1,0 +1,226 @@
+//! The state of a lock table as text for people.
+
+ghost use Rattle.std.specs.Prelude.{◌≡◌, ◌++◌, IfOk, OnOk, None, string_bytes};
+ghost use Rattle.std.specs.List.{flat_map};
+ghost use Rattle.lock_report.specs.StateText.{victim_mark, session_heading, session_verb, resource_verb, mode_word, line_of_session, session_lines, line_of_resource, is_last, resource_heading, resource_lines, line_of_wait, transactions_section, resources_section, waits_section, text_of_state};
+ghost use Rattle.lock_report.specs.inner.BySession.{Ascends};
+
+use crate::by_session::{claims_by_session, claims_of_session};
+use crate::snapshot::{OpenTransaction, Wait};
+use lock_rules::{Claim, ClaimKind, Transaction};
+use lock_tree::{Resource, same_path_is_equality};
+use std::alloc::{AllocError as NoMemory, Global};
+use std::fmt::Write;
+
+/// The line of a section that has nothing to show.
+const NOTHING: &str = "none\n";
+
+/// The mark of a deadlock victim.
+fn victim_text(transaction: Transaction) -> &'static str
+    ensures { result.now ≡ victim_mark transaction }
+{
+    if transaction.doomed { ", victim" } else { "" }
+}
+
+/// Writes the first line of a session.
+fn put_session_heading(out: &mut String, open: &OpenTransaction) -> Result<(), NoMemory>
+    ensures { OnOk result (string_bytes out.new ≡ string_bytes out.old ++ session_heading open.now) }
+{
+    let session = open.session;
+    let number = open.transaction.number;
+    let victim = victim_text(open.transaction);
+    write!(out, "session {session}, transaction {number}{victim}\n")
+}
+
+/// What a session does with a resource, below the session.
+fn session_verb(kind: ClaimKind) -> &'static str
+    ensures { result.now ≡ session_verb kind }
+{
+    match kind {
+        ClaimKind::Held => "holds",
+        ClaimKind::Conversion => "converts",
+        ClaimKind::Fresh => "waits for",
+    }
+}
+
+/// What a session does with a resource, below the resource.
+fn resource_verb(kind: ClaimKind) -> &'static str
+    ensures { result.now ≡ resource_verb kind }
+{
+    match kind {
+        ClaimKind::Held => "holds it",
+        ClaimKind::Conversion => "waits to convert it",
+        ClaimKind::Fresh => "waits for it",
+    }
+}
+
+/// The word before the mode.
+fn mode_word(kind: ClaimKind) -> &'static str
+    ensures { result.now ≡ mode_word kind }
+{
+    match kind {
+        ClaimKind::Held | ClaimKind::Fresh => "in",
+        ClaimKind::Conversion => "to",
+    }
+}
+
+/// Writes the line of a claim below its session.
+fn put_line_of_session(out: &mut String, claim: &Claim) -> Result<(), NoMemory>
+    ensures { OnOk result (string_bytes out.new ≡ string_bytes out.old ++ line_of_session claim.now) }
+{
+    let resource = claim.resource;
+    let verb = session_verb(claim.kind);
+    let word = mode_word(claim.kind);
+    let mode = claim.mode.name();
+    write!(out, "  {verb} {resource} {word} {mode}\n")
+}
+
+/// Writes the lines of claims of one session.
+fn put_lines_of_session(out: &mut String, claims: &[Claim]) -> Result<(), NoMemory>
+    ensures { OnOk result (string_bytes out.new ≡ string_bytes out.old ++ flat_map line_of_session claims.now) }
+{
+    for claim in claims {
+        put_line_of_session(out, claim)?;
+    }
+    Ok(())
+}
+
+/// Writes the line of a claim below its resource.
+fn put_line_of_resource(out: &mut String, claim: &Claim) -> Result<(), NoMemory>
+    ensures { OnOk result (string_bytes out.new ≡ string_bytes out.old ++ line_of_resource claim.now) }
+{
+    let session = claim.session;
+    let verb = resource_verb(claim.kind);
+    let word = mode_word(claim.kind);
+    let mode = claim.mode.name();
+    write!(out, "  session {session} {verb} {word} {mode}\n")
+}
+
+/// Whether this is the resource that was shown last.
+fn is_last(last: Option<Resource>, resource: Resource) -> bool
+    ensures { result ≡ is_last last resource }
+{
+    same_path_is_equality();
+    match last {
+        None => false,
+        Some(last) => resource == last,
+    }
+}
+
+/// Writes the first line of a resource, unless it was shown last.
+fn put_resource_heading(out: &mut String, last: Option<Resource>, resource: Resource) -> Result<(), NoMemory>
+    ensures { OnOk result (string_bytes out.new ≡ string_bytes out.old ++ resource_heading last resource) }
+{
+    if is_last(last, resource) {
+        return Ok(());
+    }
+    write!(out, "{resource}\n")
+}
+
+/// Writes the line of a wait.
+fn put_line_of_wait(out: &mut String, wait: &Wait) -> Result<(), NoMemory>
+    ensures { OnOk result (string_bytes out.new ≡ string_bytes out.old ++ line_of_wait wait.now) }
+{
+    write!(out, "session {} waits for session {}\n", wait.session, wait.other)
+}
+
+/// Writes the lines of the waits.
+fn put_lines_of_waits(out: &mut String, waits: &[Wait]) -> Result<(), NoMemory>
+    ensures { OnOk result (string_bytes out.new ≡ string_bytes out.old ++ flat_map line_of_wait waits.now) }
+{
+    for wait in waits {
+        put_line_of_wait(out, wait)?;
+    }
+    Ok(())
+}
+
+/// Writes the section of the waits.
+fn put_waits(out: &mut String, waits: &[Wait]) -> Result<(), NoMemory>
+    ensures { OnOk result (string_bytes out.new ≡ string_bytes out.old ++ waits_section waits.now) }
+{
+    if waits.is_empty() {
+        return out.push_str(NOTHING);
+    }
+    put_lines_of_waits(out, waits)
+}
+
+/// Writes the resources, each with its claims.
+fn put_lines_of_resources(out: &mut String, claims: &[Claim]) -> Result<(), NoMemory>
+    ensures { OnOk result (string_bytes out.new ≡ string_bytes out.old ++ resource_lines None claims.now) }
+{
+    let mut last = None;
+    for claim in claims {
+        put_resource_heading(out, last, claim.resource)?;
+        put_line_of_resource(out, claim)?;
+        last = Some(claim.resource);
+    }
+    Ok(())
+}
+
+/// Writes the section of the resources.
+fn put_resources(out: &mut String, claims: &[Claim]) -> Result<(), NoMemory>
+    ensures { OnOk result (string_bytes out.new ≡ string_bytes out.old ++ resources_section claims.now) }
+{
+    if claims.is_empty() {
+        return out.push_str(NOTHING);
+    }
+    put_lines_of_resources(out, claims)
+}
+
+/// Writes the lines of a session, whose claims are found in `sorted`.
+fn put_session(out: &mut String, sorted: &[Claim], open: &OpenTransaction) -> Result<(), NoMemory>
+    requires { Ascends sorted.now }
+    ensures { OnOk result (string_bytes out.new ≡ string_bytes out.old ++ session_lines sorted.now open.now) }
+{
+    put_session_heading(out, open)?;
+    put_lines_of_session(out, claims_of_session(sorted, open.session))
+}
+
+/// Writes the lines of the sessions, whose claims are found in `sorted`.
+fn put_sessions(out: &mut String, sorted: &[Claim], opens: &[OpenTransaction]) -> Result<(), NoMemory>
+    requires { Ascends sorted.now }
+    ensures { OnOk result (string_bytes out.new ≡ string_bytes out.old ++ flat_map (session_lines sorted.now) opens.now) }
+{
+    for open in opens {
+        put_session(out, sorted, open)?;
+    }
+    Ok(())
+}
+
+/// Writes the section of the transactions.
+fn put_transactions(
+    alloc: Global,
+    out: &mut String,
+    opens: &[OpenTransaction],
+    claims: &[Claim],
+) -> Result<(), NoMemory>
+    ensures { OnOk result (string_bytes out.new ≡ string_bytes out.old ++ transactions_section opens.now claims.now) }
+{
+    if opens.is_empty() {
+        return out.push_str(NOTHING);
+    }
+    let sorted = claims_by_session(alloc, claims)?;
+    put_sessions(out, &sorted, opens)
+}
+
+/// The state of a lock table as text for people, in front of the entry at index `place` of its history: each open
+/// transaction with its claims, then each resource with its claims, and then the waits. `claims` has the order of a
+/// listing: resource by resource. Fails only with `NoMemory`.
+pub fn state_text(
+    alloc: Global,
+    place: u64,
+    opens: &[OpenTransaction],
+    claims: &[Claim],
+    waits: &[Wait],
+) -> Result<String, NoMemory>
+    ensures { IfOk result (λ text. string_bytes text ≡ text_of_state place opens.now claims.now waits.now) }
+{
+    let mut out = String::new(alloc);
+    write!(out, "state in front of place {place}\n\ntransactions\n")?;
+    put_transactions(alloc, &mut out, opens, claims)?;
+    out.push_str("\nresources\n")?;
+    put_resources(&mut out, claims)?;
+    out.push_str("\nwaits\n")?;
+    put_waits(&mut out, waits)?;
+    Ok(out)
+}
