@@ -19,6 +19,7 @@ use std::alloc::Global;
 use std::io::{Read, Write};
 
 /// The text that `show` writes of a history, and the verdict on the history.
+#[derive(Drop)]
 struct Shown {
     /// Whether the history is legal.
     verdict: Verdict,
