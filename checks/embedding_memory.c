@@ -20,7 +20,26 @@ static uint32_t told, at_once, telling, untold[3] = {77, 77, 77};
 static size_t uncounted = 99;
 static pelgaisti_pass unwritten;
 static pelgaisti_answer unanswered = {99, {77, 88}};
+
+/* What a session's questions return at that allocation. */
+static uint32_t asked[7], unasked = 99;
+static uint64_t unseen = 99;
 static const pelgaisti_call begin = {PELGAISTI_BEGIN, 0, {0, {0}}};
+
+/* Asks each question once. */
+static void ask_each(pelgaisti_session *session) {
+    static const pelgaisti_resource place = {1, {1}};
+    pelgaisti_transaction open;
+    pelgaisti_holder holder;
+    pelgaisti_claim claim;
+    asked[0] = pelgaisti_session_held(session, 1, &place, &unasked, &unseen);
+    asked[1] = pelgaisti_session_transaction(session, 1, &open, &unseen);
+    asked[2] = pelgaisti_session_request(session, 1, &claim, &unseen);
+    asked[3] = pelgaisti_session_waits_for(session, 1, 2, &unasked, &unseen);
+    asked[4] = pelgaisti_session_holders(session, &place, &holder, 1, &uncounted, &unseen);
+    asked[5] = pelgaisti_session_blockers(session, 1, &unasked, 1, &uncounted, &unseen);
+    asked[6] = pelgaisti_session_locks(session, 0, &claim, 1, &uncounted, &unseen);
+}
 
 /* Counts down to the allocation to refuse. Each round refuses at most one. */
 static int is_refused(void) {
@@ -30,6 +49,7 @@ static int is_refused(void) {
         told = pelgaisti_session_serve(session, &unwritten);
         at_once = pelgaisti_session_perform_at_once(other, &begin, &unwritten, &unanswered);
         telling = pelgaisti_session_perform_telling(other, &begin, &unwritten, &unanswered, untold, 3, &uncounted);
+        ask_each(other);
     }
     if (left != 0) {
         left -= left > 0;
@@ -53,9 +73,11 @@ void *__wrap_realloc(void *at, size_t size) { return is_refused() ? NULL : __rea
     } while (0)
 
 /* The calls that may lack memory, and how often memory was refused to each. */
-enum { BOOK_OPEN, BOOK_SERVE, BOOK_SERVE_BATCH, BOOK_HOLDERS, OFFICE_OPEN, SESSION_SERVE, AT_ONCE, TELLING, HAND_IN, OFFICE_CLOSE, LACKING };
-static const char *const lacking[LACKING] = {"book_open", "book_serve", "book_serve_batch", "book_holders", "office_open", "session_serve",
-                                             "session_perform_at_once", "session_perform_telling", "session_hand_in", "office_close"};
+enum { BOOK_OPEN, BOOK_SERVE, BOOK_SERVE_BATCH, BOOK_HOLDERS, BOOK_LOCKS, OFFICE_OPEN, SESSION_SERVE, AT_ONCE, TELLING, SESSION_HOLDERS,
+       SESSION_BLOCKERS, SESSION_LOCKS, HAND_IN, OFFICE_CLOSE, LACKING };
+static const char *const lacking[LACKING] = {"book_open", "book_serve", "book_serve_batch", "book_holders", "book_locks", "office_open",
+                                             "session_serve", "session_perform_at_once", "session_perform_telling", "session_holders",
+                                             "session_blockers", "session_locks", "session_hand_in", "office_close"};
 static long lacked[LACKING];
 
 /* How many batches were refused memory behind the calls that they served. */
@@ -178,6 +200,16 @@ static void books(void) {
         status = pelgaisti_book_holders(&book, &seven.resource, list, SESSIONS, &count);
     }
     CHECK(status == PELGAISTI_OK && count == SESSIONS && list[0].session == 1 && list[SESSIONS - 1].session == SESSIONS);
+    pelgaisti_claim claims[2];
+    memset(claims, 0x55, sizeof claims);
+    count = 99;
+    status = pelgaisti_book_locks(&book, SESSIONS - 1, claims, 2, &count);
+    if (is_lacking(BOOK_LOCKS, status)) {
+        CHECK(count == 99 && claims[0].kind == 0x55555555);
+        status = pelgaisti_book_locks(&book, SESSIONS - 1, claims, 2, &count);
+    }
+    CHECK(status == PELGAISTI_OK && count == 45 && claims[0].session == SESSIONS && claims[0].resource.numbers[0] == 7);
+    CHECK(claims[1].session == 1 && claims[1].resource.numbers[0] == 9);
     for (uint32_t k = 60; k < CALLS; k++) serve_nth(&book, k);
     pelgaisti_call end = call_of(PELGAISTI_ABORT, 0, 0);
     pelgaisti_reply ended;
@@ -228,6 +260,39 @@ static void perform_nth(pelgaisti_session *session, uint32_t k, uint64_t place) 
     CHECK(status == PELGAISTI_OK && answer.place == place && answer.reply.kind == PELGAISTI_GRANTED);
 }
 
+/* Asks for the holders of a resource, for whom session 2 waits, and for all locks, each again if memory is refused: then nothing is
+   written. Every clerk holds resource 100, nobody waits, and there are so many locks. */
+static void ask_lists(pelgaisti_session *session, size_t locks, uint64_t length) {
+    static pelgaisti_claim claims[64];
+    pelgaisti_holder holders[CLERKS];
+    pelgaisti_call call = call_of(PELGAISTI_LOCK, PELGAISTI_IX, 100);
+    uint32_t list[CLERKS], status;
+    uint64_t seen = 99;
+    size_t count = 99;
+    status = pelgaisti_session_holders(session, &call.resource, holders, CLERKS, &count, &seen);
+    if (is_lacking(SESSION_HOLDERS, status)) {
+        CHECK(count == 99 && seen == 99);
+        status = pelgaisti_session_holders(session, &call.resource, holders, CLERKS, &count, &seen);
+    }
+    CHECK(status == PELGAISTI_OK && count == CLERKS && seen == length && holders[CLERKS - 1].session == CLERKS);
+    count = 99;
+    seen = 99;
+    status = pelgaisti_session_blockers(session, 2, list, CLERKS, &count, &seen);
+    if (is_lacking(SESSION_BLOCKERS, status)) {
+        CHECK(count == 99 && seen == 99);
+        status = pelgaisti_session_blockers(session, 2, list, CLERKS, &count, &seen);
+    }
+    CHECK(status == PELGAISTI_OK && count == 0 && seen == length);
+    count = 99;
+    seen = 99;
+    status = pelgaisti_session_locks(session, 0, claims, 64, &count, &seen);
+    if (is_lacking(SESSION_LOCKS, status)) {
+        CHECK(count == 99 && seen == 99);
+        status = pelgaisti_session_locks(session, 0, claims, 64, &count, &seen);
+    }
+    CHECK(status == PELGAISTI_OK && count == locks && seen == length && claims[0].kind == PELGAISTI_HELD);
+}
+
 static void offices(void) {
     pelgaisti_session sessions[CLERKS];
     pelgaisti_book book = PELGAISTI_EMPTY;
@@ -255,6 +320,7 @@ static void offices(void) {
     }
     for (uint32_t k = 0; k < 40; k++) perform_nth(&sessions[k % CLERKS], k, 40 + k);
     for (uint32_t k = 0; k < 12; k++) serve_five(sessions, call_of(PELGAISTI_LOCK, PELGAISTI_IX, 100 + k), PELGAISTI_GRANTED);
+    ask_lists(&sessions[3], 35 + 40 + 12 * CLERKS, 80 + 12 * CLERKS);
     serve_five(sessions, call_of(PELGAISTI_COMMIT, 0, 0), PELGAISTI_COMMITTED);
     for (int k = CLERKS - 1; k > 0; k--) {
         status = pelgaisti_session_hand_in(&sessions[k], &sessions[k / 2]);
@@ -288,6 +354,8 @@ static void elsewhere(void) {
     CHECK(pelgaisti_session_serve(&sessions[0], NULL) == PELGAISTI_OK);
     CHECK(!meanwhile && told == PELGAISTI_ELSEWHERE && unwritten.served == 99 && unwritten.starved == 99);
     CHECK(at_once == PELGAISTI_ELSEWHERE && telling == PELGAISTI_ELSEWHERE && unanswered.place == 99 && untold[0] == 77 && uncounted == 99);
+    for (int k = 0; k < 7; k++) CHECK(asked[k] == PELGAISTI_ELSEWHERE);
+    CHECK(unasked == 99 && unseen == 99);
     CHECK(pelgaisti_session_collect(&sessions[2], &answer) == PELGAISTI_NOTHING_PENDING);
     CHECK(pelgaisti_session_serve(&sessions[1], NULL) == PELGAISTI_OK);
     for (int k = 0; k < 2; k++) CHECK(pelgaisti_session_collect(&sessions[k], &answer) == PELGAISTI_OK && answer.reply.kind == PELGAISTI_BEGAN);

@@ -973,6 +973,197 @@ static void ended_waits_of_a_book(void) {
     CHECK(pelgaisti_book_close(&book) == PELGAISTI_OK);
 }
 
+/* Whether the claim is this one, of the session's transaction with the session's number. */
+static int is_claim(const pelgaisti_claim *claim, uint32_t session, uint32_t kind, uint32_t mode, uint32_t level, uint32_t doomed) {
+    return claim->session == session && claim->kind == kind && claim->mode == mode && claim->transaction == session &&
+           claim->doomed == doomed && claim->resource.level == level && claim->resource.numbers[0] == 1 &&
+           claim->resource.numbers[1] == (level > 1 ? 2U : 0U) && claim->resource.numbers[4] == 0;
+}
+
+/* Session 1 reads database 1 and a file of it, and then wants to write the database, which session 2 reads as well. Session 3 wants
+   to read below the database. */
+static const uint32_t claimed[][4] = {{1, PELGAISTI_LOCK, PELGAISTI_S, 1},  {2, PELGAISTI_LOCK, PELGAISTI_IS, 1},
+                                      {1, PELGAISTI_LOCK, PELGAISTI_S, 2},  {2, PELGAISTI_CONVERT, PELGAISTI_S, 1},
+                                      {1, PELGAISTI_CONVERT, PELGAISTI_X, 1}, {3, PELGAISTI_LOCK, PELGAISTI_IS, 1}};
+
+/* Expects the lines of that, worked out by hand: two holders of the database, the conversion, the request; and the file's holder. */
+static void want_claims(const pelgaisti_claim *list, size_t count) {
+    CHECK(count == 5);
+    CHECK(is_claim(&list[0], 1, PELGAISTI_HELD, PELGAISTI_S, 1, 0) && is_claim(&list[1], 2, PELGAISTI_HELD, PELGAISTI_S, 1, 0));
+    CHECK(is_claim(&list[2], 1, PELGAISTI_CONVERSION, PELGAISTI_X, 1, 0) && is_claim(&list[3], 3, PELGAISTI_FRESH, PELGAISTI_IS, 1, 0));
+    CHECK(is_claim(&list[4], 1, PELGAISTI_HELD, PELGAISTI_S, 2, 0));
+}
+
+/* What the sessions of a book hold and wait for. */
+static void claims_of_a_book(void) {
+    pelgaisti_book book = PELGAISTI_EMPTY;
+    pelgaisti_call begin = call_of(PELGAISTI_BEGIN, 0, 0, 0, 0), abort = call_of(PELGAISTI_ABORT, 0, 0, 0, 0);
+    pelgaisti_call write = call_of(PELGAISTI_CONVERT, PELGAISTI_X, 1, 1, 0);
+    pelgaisti_reply reply;
+    pelgaisti_transaction open = {77, 88};
+    pelgaisti_claim list[6], claim;
+    size_t count = 99;
+
+    memset(list, 0x55, sizeof list);
+    memset(&claim, 0x55, sizeof claim);
+    CHECK(pelgaisti_book_transaction(&book, 1, &open) == PELGAISTI_CLOSED);
+    CHECK(pelgaisti_book_request(&book, 1, &claim) == PELGAISTI_CLOSED);
+    CHECK(pelgaisti_book_locks(&book, 0, list, 6, &count) == PELGAISTI_CLOSED);
+    CHECK(pelgaisti_book_open(&book, 3) == PELGAISTI_OK);
+    CHECK(pelgaisti_book_transaction(NULL, 1, &open) == PELGAISTI_NULL && pelgaisti_book_transaction(&book, 1, NULL) == PELGAISTI_NULL);
+    CHECK(pelgaisti_book_request(NULL, 1, &claim) == PELGAISTI_NULL && pelgaisti_book_request(&book, 1, NULL) == PELGAISTI_NULL);
+    CHECK(pelgaisti_book_locks(NULL, 0, list, 6, &count) == PELGAISTI_NULL);
+    CHECK(pelgaisti_book_locks(&book, 0, NULL, 6, &count) == PELGAISTI_NULL);
+    CHECK(pelgaisti_book_locks(&book, 0, list, 6, NULL) == PELGAISTI_NULL);
+    for (size_t k = 0; k < COUNT(off_sessions); k++) {
+        CHECK(pelgaisti_book_transaction(&book, off_sessions[k], &open) == PELGAISTI_NO_SUCH_SESSION);
+        CHECK(pelgaisti_book_request(&book, off_sessions[k], &claim) == PELGAISTI_NO_SUCH_SESSION);
+    }
+    CHECK(open.number == 77 && open.doomed == 88 && claim.kind == 0x55555555 && list[0].kind == 0x55555555 && count == 99);
+    CHECK(pelgaisti_book_transaction(&book, 1, &open) == PELGAISTI_OK && open.number == 0 && open.doomed == 0);
+    CHECK(pelgaisti_book_request(&book, 1, &claim) == PELGAISTI_OK && claim.kind == 0 && claim.resource.level == 0);
+    CHECK(pelgaisti_book_locks(&book, 0, list, 6, &count) == PELGAISTI_OK && count == 0 && list[0].kind == 0x55555555);
+    for (uint32_t s = 1; s <= 3; s++) CHECK(pelgaisti_book_serve(&book, s, &begin, &reply) == PELGAISTI_OK);
+    for (size_t k = 0; k < COUNT(claimed); k++) {
+        pelgaisti_call call = call_of(claimed[k][1], claimed[k][2], claimed[k][3], 1, claimed[k][3] > 1 ? 2 : 0);
+        CHECK(pelgaisti_book_serve(&book, claimed[k][0], &call, &reply) == PELGAISTI_OK);
+        CHECK(reply.kind == (k < 4 ? PELGAISTI_GRANTED : PELGAISTI_WAITING));
+    }
+    CHECK(pelgaisti_book_locks(&book, 0, list, 6, &count) == PELGAISTI_OK && list[5].kind == 0x55555555);
+    want_claims(list, count);
+    memset(list, 0x55, sizeof list);
+    CHECK(pelgaisti_book_locks(&book, 3, list, 1, &count) == PELGAISTI_OK && count == 5 && list[1].kind == 0x55555555);
+    CHECK(is_claim(&list[0], 3, PELGAISTI_FRESH, PELGAISTI_IS, 1, 0));
+    CHECK(pelgaisti_book_locks(&book, 5, list, 6, &count) == PELGAISTI_OK && count == 5 && list[1].kind == 0x55555555);
+    CHECK(pelgaisti_book_locks(&book, SIZE_MAX, NULL, 0, &count) == PELGAISTI_OK && count == 5);
+    CHECK(pelgaisti_book_request(&book, 1, &claim) == PELGAISTI_OK && is_claim(&claim, 1, PELGAISTI_CONVERSION, PELGAISTI_X, 1, 0));
+    CHECK(pelgaisti_book_request(&book, 2, &claim) == PELGAISTI_OK && claim.kind == 0 && claim.session == 0);
+    /* session 2, whose transaction is the youngest of the two, wants to write as well: a deadlock */
+    CHECK(pelgaisti_book_serve(&book, 2, &write, &reply) == PELGAISTI_OK && reply.kind == PELGAISTI_DEADLOCK);
+    CHECK(pelgaisti_book_transaction(&book, 2, &open) == PELGAISTI_OK && open.number == 2 && open.doomed == 1);
+    CHECK(pelgaisti_book_transaction(&book, 1, &open) == PELGAISTI_OK && open.number == 1 && open.doomed == 0);
+    CHECK(pelgaisti_book_locks(&book, 1, list, 1, &count) == PELGAISTI_OK && is_claim(&list[0], 2, PELGAISTI_HELD, PELGAISTI_S, 1, 1));
+    CHECK(pelgaisti_book_serve(&book, 2, &abort, &reply) == PELGAISTI_OK && reply.kind == PELGAISTI_ABORTED);
+    CHECK(pelgaisti_book_transaction(&book, 2, &open) == PELGAISTI_OK && open.number == 0);
+    CHECK(pelgaisti_book_close(&book) == PELGAISTI_OK);
+}
+
+/* The questions of a session refuse as those of a book do, and then nothing is written. */
+static void questions_refuse(pelgaisti_session *asker, pelgaisti_session *closed) {
+    pelgaisti_resource place = {1, {1}};
+    pelgaisti_transaction open = {77, 88};
+    pelgaisti_holder holders[2] = {{77, 88}, {77, 88}};
+    pelgaisti_claim claim;
+    uint32_t list[2] = {77, 77}, mode = 99, edge = 99;
+    uint64_t seen = 99;
+    size_t count = 99;
+
+    memset(&claim, 0x55, sizeof claim);
+    CHECK(pelgaisti_session_held(closed, 1, &place, &mode, &seen) == PELGAISTI_CLOSED);
+    CHECK(pelgaisti_session_transaction(closed, 1, &open, &seen) == PELGAISTI_CLOSED);
+    CHECK(pelgaisti_session_request(closed, 1, &claim, &seen) == PELGAISTI_CLOSED);
+    CHECK(pelgaisti_session_waits_for(closed, 1, 2, &edge, &seen) == PELGAISTI_CLOSED);
+    CHECK(pelgaisti_session_holders(closed, &place, holders, 2, &count, &seen) == PELGAISTI_CLOSED);
+    CHECK(pelgaisti_session_blockers(closed, 1, list, 2, &count, &seen) == PELGAISTI_CLOSED);
+    CHECK(pelgaisti_session_locks(closed, 0, &claim, 1, &count, &seen) == PELGAISTI_CLOSED);
+    CHECK(pelgaisti_session_held(NULL, 1, &place, &mode, &seen) == PELGAISTI_NULL);
+    CHECK(pelgaisti_session_held(asker, 1, NULL, &mode, &seen) == PELGAISTI_NULL);
+    CHECK(pelgaisti_session_held(asker, 1, &place, NULL, &seen) == PELGAISTI_NULL);
+    CHECK(pelgaisti_session_held(asker, 1, &place, &mode, NULL) == PELGAISTI_NULL);
+    CHECK(pelgaisti_session_transaction(NULL, 1, &open, &seen) == PELGAISTI_NULL);
+    CHECK(pelgaisti_session_transaction(asker, 1, NULL, &seen) == PELGAISTI_NULL);
+    CHECK(pelgaisti_session_transaction(asker, 1, &open, NULL) == PELGAISTI_NULL);
+    CHECK(pelgaisti_session_request(NULL, 1, &claim, &seen) == PELGAISTI_NULL);
+    CHECK(pelgaisti_session_request(asker, 1, NULL, &seen) == PELGAISTI_NULL);
+    CHECK(pelgaisti_session_request(asker, 1, &claim, NULL) == PELGAISTI_NULL);
+    CHECK(pelgaisti_session_waits_for(NULL, 1, 2, &edge, &seen) == PELGAISTI_NULL);
+    CHECK(pelgaisti_session_waits_for(asker, 1, 2, NULL, &seen) == PELGAISTI_NULL);
+    CHECK(pelgaisti_session_waits_for(asker, 1, 2, &edge, NULL) == PELGAISTI_NULL);
+    CHECK(pelgaisti_session_holders(NULL, &place, holders, 2, &count, &seen) == PELGAISTI_NULL);
+    CHECK(pelgaisti_session_holders(asker, NULL, holders, 2, &count, &seen) == PELGAISTI_NULL);
+    CHECK(pelgaisti_session_holders(asker, &place, NULL, 2, &count, &seen) == PELGAISTI_NULL);
+    CHECK(pelgaisti_session_holders(asker, &place, holders, 2, NULL, &seen) == PELGAISTI_NULL);
+    CHECK(pelgaisti_session_holders(asker, &place, holders, 2, &count, NULL) == PELGAISTI_NULL);
+    CHECK(pelgaisti_session_blockers(NULL, 1, list, 2, &count, &seen) == PELGAISTI_NULL);
+    CHECK(pelgaisti_session_blockers(asker, 1, NULL, 2, &count, &seen) == PELGAISTI_NULL);
+    CHECK(pelgaisti_session_blockers(asker, 1, list, 2, NULL, &seen) == PELGAISTI_NULL);
+    CHECK(pelgaisti_session_blockers(asker, 1, list, 2, &count, NULL) == PELGAISTI_NULL);
+    CHECK(pelgaisti_session_locks(NULL, 0, &claim, 1, &count, &seen) == PELGAISTI_NULL);
+    CHECK(pelgaisti_session_locks(asker, 0, NULL, 1, &count, &seen) == PELGAISTI_NULL);
+    CHECK(pelgaisti_session_locks(asker, 0, &claim, 1, NULL, &seen) == PELGAISTI_NULL);
+    CHECK(pelgaisti_session_locks(asker, 0, &claim, 1, &count, NULL) == PELGAISTI_NULL);
+    for (size_t k = 0; k < COUNT(off_sessions); k++) {
+        CHECK(pelgaisti_session_held(asker, off_sessions[k], &place, &mode, &seen) == PELGAISTI_NO_SUCH_SESSION);
+        CHECK(pelgaisti_session_transaction(asker, off_sessions[k], &open, &seen) == PELGAISTI_NO_SUCH_SESSION);
+        CHECK(pelgaisti_session_request(asker, off_sessions[k], &claim, &seen) == PELGAISTI_NO_SUCH_SESSION);
+        CHECK(pelgaisti_session_waits_for(asker, off_sessions[k], 1, &edge, &seen) == PELGAISTI_NO_SUCH_SESSION);
+        CHECK(pelgaisti_session_waits_for(asker, 1, off_sessions[k], &edge, &seen) == PELGAISTI_NO_SUCH_SESSION);
+        CHECK(pelgaisti_session_blockers(asker, off_sessions[k], list, 2, &count, &seen) == PELGAISTI_NO_SUCH_SESSION);
+    }
+    for (size_t k = 0; k < COUNT(off_levels); k++) {
+        place.level = off_levels[k];
+        CHECK(pelgaisti_session_held(asker, 1, &place, &mode, &seen) == PELGAISTI_NO_SUCH_LEVEL);
+        CHECK(pelgaisti_session_held(asker, 4, &place, &mode, &seen) == PELGAISTI_NO_SUCH_SESSION);
+        CHECK(pelgaisti_session_holders(asker, &place, holders, 2, &count, &seen) == PELGAISTI_NO_SUCH_LEVEL);
+    }
+    CHECK(mode == 99 && edge == 99 && open.number == 77 && open.doomed == 88 && holders[0].session == 77 && list[0] == 77);
+    CHECK(claim.kind == 0x55555555 && seen == 99 && count == 99);
+    CHECK(pelgaisti_session_seen(asker, &seen) == PELGAISTI_OK && seen == 0);
+}
+
+/* The sessions of an open office ask what they hold and wait for: the answers are those of a book, with how many calls the history
+   had. A question serves no call, and its session may have one pending. The status ELSEWHERE is in embedding_memory.c. */
+static void sessions_ask(void) {
+    static pelgaisti_session sessions[3], closed;
+    pelgaisti_book book = PELGAISTI_EMPTY;
+    pelgaisti_call begin = call_of(PELGAISTI_BEGIN, 0, 0, 0, 0), poll = call_of(PELGAISTI_POLL, 0, 0, 0, 0);
+    pelgaisti_resource place = {1, {1}};
+    pelgaisti_answer answer;
+    pelgaisti_transaction open;
+    pelgaisti_holder holders[3];
+    pelgaisti_claim claims[6], claim;
+    uint32_t list[3] = {77, 77, 77}, mode, edge;
+    uint64_t seen = 0;
+    size_t count = 0;
+
+    CHECK(pelgaisti_office_open(sessions, 3) == PELGAISTI_OK);
+    questions_refuse(&sessions[1], &closed);
+    for (int s = 0; s < 3; s++) CHECK(pelgaisti_session_perform(&sessions[s], &begin, 9, &answer) == PELGAISTI_OK);
+    for (size_t k = 0; k < COUNT(claimed); k++) {
+        pelgaisti_call call = call_of(claimed[k][1], claimed[k][2], claimed[k][3], 1, claimed[k][3] > 1 ? 2 : 0);
+        CHECK(pelgaisti_session_perform(&sessions[claimed[k][0] - 1], &call, 9, &answer) == PELGAISTI_OK);
+    }
+    CHECK(pelgaisti_session_publish(&sessions[1], &poll, NULL) == PELGAISTI_OK);
+    memset(claims, 0x55, sizeof claims);
+    memset(holders, 0x55, sizeof holders);
+    CHECK(pelgaisti_session_held(&sessions[1], 1, &place, &mode, &seen) == PELGAISTI_OK && mode == PELGAISTI_S && seen == 9);
+    CHECK(pelgaisti_session_seen(&sessions[1], &seen) == PELGAISTI_OK && seen == 9);
+    CHECK(pelgaisti_session_held(&sessions[0], 3, &place, &mode, &seen) == PELGAISTI_OK && mode == PELGAISTI_NL && seen == 9);
+    CHECK(pelgaisti_session_transaction(&sessions[1], 3, &open, &seen) == PELGAISTI_OK && open.number == 3 && open.doomed == 0);
+    CHECK(pelgaisti_session_request(&sessions[1], 3, &claim, &seen) == PELGAISTI_OK && seen == 9);
+    CHECK(is_claim(&claim, 3, PELGAISTI_FRESH, PELGAISTI_IS, 1, 0));
+    CHECK(pelgaisti_session_request(&sessions[1], 2, &claim, &seen) == PELGAISTI_OK && claim.kind == 0);
+    CHECK(pelgaisti_session_waits_for(&sessions[1], 1, 2, &edge, &seen) == PELGAISTI_OK && edge == 1 && seen == 9);
+    CHECK(pelgaisti_session_waits_for(&sessions[1], 2, 1, &edge, &seen) == PELGAISTI_OK && edge == 0);
+    CHECK(pelgaisti_session_holders(&sessions[1], &place, holders, 1, &count, &seen) == PELGAISTI_OK && count == 2 && seen == 9);
+    CHECK(holders[0].session == 1 && holders[0].mode == PELGAISTI_S && holders[1].session == 0x55555555);
+    CHECK(pelgaisti_session_holders(&sessions[1], &place, NULL, 0, &count, &seen) == PELGAISTI_OK && count == 2);
+    CHECK(pelgaisti_session_blockers(&sessions[1], 3, list, 3, &count, &seen) == PELGAISTI_OK && count == 1 && seen == 9);
+    CHECK(list[0] == 1 && list[1] == 77);
+    CHECK(pelgaisti_session_blockers(&sessions[1], 2, NULL, 0, &count, &seen) == PELGAISTI_OK && count == 0);
+    CHECK(pelgaisti_session_locks(&sessions[1], 0, claims, 6, &count, &seen) == PELGAISTI_OK && seen == 9);
+    want_claims(claims, count);
+    CHECK(pelgaisti_session_locks(&sessions[1], 4, claims, 6, &count, &seen) == PELGAISTI_OK && count == 5 && seen == 9);
+    CHECK(is_claim(&claims[0], 1, PELGAISTI_HELD, PELGAISTI_S, 2, 0) && is_claim(&claims[1], 2, PELGAISTI_HELD, PELGAISTI_S, 1, 0));
+    CHECK(pelgaisti_session_locks(&sessions[1], 0, NULL, 0, &count, &seen) == PELGAISTI_OK && count == 5);
+    CHECK(pelgaisti_session_collect(&sessions[1], &answer) == PELGAISTI_NOT_SERVED);
+    CHECK(pelgaisti_session_serve(&sessions[2], NULL) == PELGAISTI_OK);
+    CHECK(pelgaisti_session_collect(&sessions[1], &answer) == PELGAISTI_OK && answer.place == 9);
+    for (int s = 1; s < 3; s++) CHECK(pelgaisti_session_hand_in(&sessions[s], &sessions[0]) == PELGAISTI_OK);
+    CHECK(pelgaisti_office_close(&sessions[0], &book) == PELGAISTI_OK);
+    CHECK(pelgaisti_book_close(&book) == PELGAISTI_OK);
+}
+
 /* A pass tells whose wait it has ended, whoever makes it, and the next pass tells nobody. */
 static void passes_tell(void) {
     static pelgaisti_session sessions[2];
@@ -1223,6 +1414,8 @@ int main(int argc, char **argv) {
     threads_share();
     pieces_are_the_history();
     ended_waits_of_a_book();
+    claims_of_a_book();
+    sessions_ask();
     passes_tell();
     calls_at_once();
     threads_sleep();

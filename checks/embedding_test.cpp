@@ -44,6 +44,9 @@ static void books() {
     CHECK(book.blockers(2) == std::vector<std::uint32_t>{1} && book.blockers(3).empty());
     const auto holders = book.holders({1});
     CHECK(holders.size() == 2 && holders[0].session == 1 && holders[0].mode == PELGAISTI_IX && holders[1].mode == PELGAISTI_IS);
+    const auto locks = book.locks();
+    CHECK(locks.size() == 5 && locks[0].session == 1 && locks[3].kind == PELGAISTI_FRESH && locks[3].resource.level == 2);
+    CHECK(book.request(2).mode == PELGAISTI_S && book.request(1).kind == 0 && book.transaction(1).number == 3);
     std::vector<pelgaisti_entry> batch(2);
     batch[0].session = 1;
     batch[0].call = pelgaisti::call{op::abort};
@@ -78,6 +81,12 @@ static void offices() {
     pelgaisti::waker waker{[](void *, std::uint32_t session) { told = session; }, nullptr, list, 2};
     CHECK(office[0].perform({op::commit}, UINT64_MAX, &waker)->reply.kind == kind::committed && told == 2);
     CHECK(office[1].perform({op::poll})->reply.kind == kind::clear);
+    const auto held = office[0].held(2, {7});
+    CHECK(held && held->found == mode::IX && held->length == 6 && !office[0].waits_for(2, 1)->found);
+    CHECK(office[0].transaction(2)->found.number == 2 && office[0].request(2)->found.kind == 0);
+    CHECK(office[0].holders({7})->found.size() == 1 && office[0].blockers(2)->found.empty());
+    CHECK(office[0].locks()->found.size() == 1 && office[0].locks()->found[0].kind == PELGAISTI_HELD);
+    CHECK(throws(PELGAISTI_NO_SUCH_SESSION, [&] { office[0].blockers(3); }));
     CHECK(office[1].lock_path({7, 8}, mode::X, level)->reply.kind == kind::granted && level == 2);
     office[0].hear(office[1]);
     office[0].retire();

@@ -43,11 +43,11 @@ PIECE = 4096
 
 # the tests whose allocations are refused, by the crate: all whose names begin so
 TESTED = {
-    "base_tests": ("traces::reports_the_row_in_which_memory_was_refused", "waits::refused_"),
+    "base_tests": ("reports::refused_", "traces::reports_the_row_in_which_memory_was_refused", "waits::refused_"),
     "desk_tests": ("batches::", "books::", "ended::", "kept::", "queues::", "refusals::", "refused_batches::"),
     "office_tests": (
         *("ages::", "boards::", "calling::a_whole_call_that_found_no_memory", "closing::"),
-        *("direct::a_call_that_found_no_memory", "dropping::", "hearing::", "listing::"),
+        *("direct::a_call_that_found_no_memory", "dropping::", "hearing::", "listing::", "looks::"),
         *("offices::", "refusals::", "telling::a_commit"),
     ),
 }
@@ -74,11 +74,16 @@ TOLD = {
     "refusals::a_pass_that_found_no_memory_is_starved_or_serves_one_by_one": {"starved", "served all"},
     "refusals::a_refused_book_is_made_at_the_second_try": {"refused"},
     "refusals::an_office_is_opened_once_memory_is_back": {"refused"},
+    "reports::refused_texts_are_written_at_the_second_try": {"refused"},
     "traces::reports_the_row_in_which_memory_was_refused": {"refused in row 1", "refused in row 3", "refused in row 5"},
     "waits::refused_rows_are_made_at_the_second_try": {"refused"},
 }
 # and these print it in every round: all that they allocate is what they make
-ALWAYS = {"refusals::a_refused_book_is_made_at_the_second_try", "waits::refused_rows_are_made_at_the_second_try"}
+ALWAYS = {
+    "refusals::a_refused_book_is_made_at_the_second_try",
+    "reports::refused_texts_are_written_at_the_second_try",
+    "waits::refused_rows_are_made_at_the_second_try",
+}
 
 
 def begun(sessions):

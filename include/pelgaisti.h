@@ -55,9 +55,10 @@
  *
  * STATUSES. Every call but pelgaisti_version returns a pelgaisti_status. A call tests its arguments first, in the order in which
  * its comment lists the statuses; the first test that fails gives the status. A status other than PELGAISTI_OK means that nothing
- * has changed and nothing was written: no handle, no history, no memory that an argument points to. There are three exceptions: a
- * serve that returns ELSEWHERE may put the session's record on the publication list; COPIED closes the session's handle; and where
- * memory was refused for a call that was to be performed at once, a pass was made that may have served other calls. The calls made
+ * has changed and nothing was written: no handle, no history, no memory that an argument points to. There are four exceptions: a
+ * serve that returns ELSEWHERE may put the session's record on the publication list; COPIED closes the session's handle; where
+ * memory was refused for a call that was to be performed at once, a pass was made that may have served other calls; and where it was
+ * refused for the answer to a question of a session, the session may know more of the history. The calls made
  * of several others say for themselves what they leave (pelgaisti_session_perform, .._lock_path, .._waking).
  *
  * WHAT IS PROVED. Each function of the archive has a contract, which crates/pelgaisti_c states and proves: what PELGAISTI_OK means,
@@ -93,7 +94,7 @@ typedef enum pelgaisti_status {
                                       passed, and nothing has changed, or a pass was made without the call that was to be performed
                                       at once; that memory was refused is tested] */
     PELGAISTI_CLOSED = 2,          /* the handle is closed [closed, exactly then] */
-    PELGAISTI_NO_SUCH_SESSION = 3, /* the book has no session with this number [session] */
+    PELGAISTI_NO_SUCH_SESSION = 3, /* the book, or the office, has no session with this number [session] */
     PELGAISTI_NO_SUCH_OP = 4,      /* the op is not a pelgaisti_op [call] */
     PELGAISTI_NO_SUCH_LEVEL = 5,   /* the level is not in 1 to PELGAISTI_LEVELS [call, level] */
     PELGAISTI_NO_SUCH_MODE = 6,    /* the mode is not a pelgaisti_mode [call] */
@@ -188,6 +189,13 @@ typedef enum pelgaisti_posted {
    neither this constant nor pelgaisti_version. */
 #define PELGAISTI_HEADER_VERSION 3
 
+/* What a claim on a resource is. */
+typedef enum pelgaisti_claim_kind {
+    PELGAISTI_HELD = 1,       /* a lock */
+    PELGAISTI_CONVERSION = 2, /* a waiting request for more on a resource that the session holds */
+    PELGAISTI_FRESH = 3       /* a waiting request for a resource that the session doesn't hold */
+} pelgaisti_claim_kind;
+
 /* A node of the lock tree, by its path from the root: database, file, page, record, field. The first `level` numbers are the
    path. */
 typedef struct pelgaisti_resource {
@@ -213,6 +221,22 @@ typedef struct pelgaisti_holder {
     uint32_t session;
     uint32_t mode; /* a pelgaisti_mode */
 } pelgaisti_holder;
+
+/* The open transaction of a session. */
+typedef struct pelgaisti_transaction {
+    uint64_t number; /* the number that BEGAN told; 0 if the session has no transaction */
+    uint32_t doomed; /* 1 if it is a deadlock's victim that has not aborted yet. Otherwise 0 */
+} pelgaisti_transaction;
+
+/* A lock or a waiting request of a session. */
+typedef struct pelgaisti_claim {
+    uint32_t session;
+    uint32_t kind;        /* a pelgaisti_claim_kind; 0 if there is none */
+    uint32_t mode;        /* a pelgaisti_mode: of a lock its mode, of a request the mode that the session holds once it is granted */
+    uint32_t doomed;      /* 1 if the transaction is a deadlock's victim that has not aborted yet. Otherwise 0 */
+    uint64_t transaction; /* the number of the session's transaction */
+    pelgaisti_resource resource;
+} pelgaisti_claim;
 
 /* An entry of the history: a call of a session and its reply. The resource's numbers past its level are 0. */
 typedef struct pelgaisti_entry {
@@ -272,6 +296,9 @@ PELGAISTI_ASSERT_(call, sizeof(pelgaisti_call) == 32);
 PELGAISTI_ASSERT_(call_fields, offsetof(pelgaisti_call, mode) == 4 && offsetof(pelgaisti_call, resource) == 8);
 PELGAISTI_ASSERT_(reply, sizeof(pelgaisti_reply) == 16 && offsetof(pelgaisti_reply, value) == 8);
 PELGAISTI_ASSERT_(holder, sizeof(pelgaisti_holder) == 8 && offsetof(pelgaisti_holder, mode) == 4);
+PELGAISTI_ASSERT_(transaction, sizeof(pelgaisti_transaction) == 16 && offsetof(pelgaisti_transaction, doomed) == 8);
+PELGAISTI_ASSERT_(claim, sizeof(pelgaisti_claim) == 48 && offsetof(pelgaisti_claim, kind) == 4);
+PELGAISTI_ASSERT_(claim_fields, offsetof(pelgaisti_claim, transaction) == 16 && offsetof(pelgaisti_claim, resource) == 24);
 PELGAISTI_ASSERT_(entry, sizeof(pelgaisti_entry) == 56);
 PELGAISTI_ASSERT_(entry_fields, offsetof(pelgaisti_entry, call) == 4 && offsetof(pelgaisti_entry, reply) == 40);
 PELGAISTI_ASSERT_(answer, sizeof(pelgaisti_answer) == 24 && offsetof(pelgaisti_answer, reply) == 8);
@@ -337,6 +364,9 @@ uint32_t pelgaisti_raw_book_held(pelgaisti_book *book, uint32_t session, const p
 uint32_t pelgaisti_raw_book_waits_for(pelgaisti_book *book, uint32_t session, uint32_t other, uint32_t *edge);
 uint32_t pelgaisti_raw_book_holders(pelgaisti_book *book, const pelgaisti_resource *resource, pelgaisti_holder *list, size_t room,
                                     size_t *count);
+uint32_t pelgaisti_raw_book_transaction(pelgaisti_book *book, uint32_t session, pelgaisti_transaction *open);
+uint32_t pelgaisti_raw_book_request(pelgaisti_book *book, uint32_t session, pelgaisti_claim *waiting);
+uint32_t pelgaisti_raw_book_locks(pelgaisti_book *book, size_t first, pelgaisti_claim *list, size_t room, size_t *count);
 uint32_t pelgaisti_raw_book_ended(pelgaisti_book *book, uint32_t *list, size_t room, size_t *count);
 uint32_t pelgaisti_raw_book_length(pelgaisti_book *book, uint64_t *length);
 uint32_t pelgaisti_raw_book_history(pelgaisti_book *book, uint64_t first, pelgaisti_entry *entries, size_t room, size_t *count);
@@ -358,6 +388,17 @@ uint32_t pelgaisti_raw_session_perform_telling(pelgaisti_session *session, const
 uint32_t pelgaisti_raw_session_collect(pelgaisti_session *session, pelgaisti_answer *answer);
 uint32_t pelgaisti_raw_session_take_history(pelgaisti_session *session, uint64_t *first, pelgaisti_entry *entries, size_t room,
                                             size_t *count);
+uint32_t pelgaisti_raw_session_held(pelgaisti_session *session, uint32_t whose, const pelgaisti_resource *resource, uint32_t *mode,
+                                    uint64_t *seen);
+uint32_t pelgaisti_raw_session_transaction(pelgaisti_session *session, uint32_t whose, pelgaisti_transaction *open, uint64_t *seen);
+uint32_t pelgaisti_raw_session_request(pelgaisti_session *session, uint32_t whose, pelgaisti_claim *waiting, uint64_t *seen);
+uint32_t pelgaisti_raw_session_waits_for(pelgaisti_session *session, uint32_t whose, uint32_t other, uint32_t *edge, uint64_t *seen);
+uint32_t pelgaisti_raw_session_holders(pelgaisti_session *session, const pelgaisti_resource *resource, pelgaisti_holder *list,
+                                       size_t room, size_t *count, uint64_t *seen);
+uint32_t pelgaisti_raw_session_blockers(pelgaisti_session *session, uint32_t whose, uint32_t *list, size_t room, size_t *count,
+                                        uint64_t *seen);
+uint32_t pelgaisti_raw_session_locks(pelgaisti_session *session, size_t first, pelgaisti_claim *list, size_t room, size_t *count,
+                                     uint64_t *seen);
 uint32_t pelgaisti_raw_session_seen(pelgaisti_session *session, uint64_t *seen);
 uint32_t pelgaisti_raw_session_mark(pelgaisti_session *session, uint64_t *mark);
 uint32_t pelgaisti_raw_session_hear(pelgaisti_session *session, pelgaisti_session *other);
@@ -489,6 +530,31 @@ static inline pelgaisti_status pelgaisti_book_blockers(pelgaisti_book *book, uin
     }
     *count = found;
     return PELGAISTI_OK;
+}
+
+/* Writes the open transaction of the session: its number, and whether it is a deadlock's victim.
+   NULL, CLOSED, NO_SUCH_SESSION. */
+static inline pelgaisti_status pelgaisti_book_transaction(pelgaisti_book *book, uint32_t session, pelgaisti_transaction *open) {
+    if (!book || !open) return PELGAISTI_NULL;
+    return PELGAISTI_CALL_(pelgaisti_raw_book_transaction(book, session, open));
+}
+
+/* Writes the waiting request of the session, with kind 0 and all else 0 if it doesn't wait.
+   NULL, CLOSED, NO_SUCH_SESSION. */
+static inline pelgaisti_status pelgaisti_book_request(pelgaisti_book *book, uint32_t session, pelgaisti_claim *waiting) {
+    if (!book || !waiting) return PELGAISTI_NULL;
+    return PELGAISTI_CALL_(pelgaisti_raw_book_request(book, session, waiting));
+}
+
+/* Writes all locks and waiting requests to `list`, from the index `first` on, up to `room`, and the number of all of them to `count`:
+   resource by resource, in the order of paths; of each resource its holders by session number, then its queue in the order in which
+   it is granted. `list` may be NULL if `room` is 0. Requires `room` elements at `list`.
+   NULL, CLOSED, NO_MEMORY. */
+static inline pelgaisti_status pelgaisti_book_locks(pelgaisti_book *book, size_t first, pelgaisti_claim *list, size_t room,
+                                                    size_t *count) {
+    pelgaisti_claim none;
+    if (!book || !count || (!list && room)) return PELGAISTI_NULL;
+    return PELGAISTI_CALL_(pelgaisti_raw_book_locks(book, first, list ? list : &none, room, count));
 }
 
 /* Writes the first `room` of the sessions whose wait the last call or batch has ended to `list`, each once, in no particular order,
@@ -726,6 +792,74 @@ static inline pelgaisti_status pelgaisti_session_take_history(pelgaisti_session 
     return PELGAISTI_CALL_(pelgaisti_raw_session_take_history(session, first, entries ? entries : &none, room, count));
 }
 
+/* ---- Questions of a session about the lock table, while its office is open. Each tries once to take the lock table, without
+   blocking, and if that succeeds, reads it and gives it back. It serves no call, and the session may have a call pending. `seen` gets
+   how many entries the history had: the answer is that of the state behind these, and the session knows them from then on. It may be
+   old when it is read. ELSEWHERE: nothing has changed; ask again. ---- */
+
+/* Writes the mode that session `whose` holds on the resource, or PELGAISTI_NL if it holds none, as pelgaisti_book_held does.
+   NULL, CLOSED, NO_SUCH_SESSION, NO_SUCH_LEVEL, ELSEWHERE. */
+static inline pelgaisti_status pelgaisti_session_held(pelgaisti_session *session, uint32_t whose, const pelgaisti_resource *resource,
+                                                      uint32_t *mode, uint64_t *seen) {
+    if (!session || !resource || !mode || !seen) return PELGAISTI_NULL;
+    return PELGAISTI_CALL_(pelgaisti_raw_session_held(session, whose, resource, mode, seen));
+}
+
+/* Writes the open transaction of session `whose`, as pelgaisti_book_transaction does.
+   NULL, CLOSED, NO_SUCH_SESSION, ELSEWHERE. */
+static inline pelgaisti_status pelgaisti_session_transaction(pelgaisti_session *session, uint32_t whose, pelgaisti_transaction *open,
+                                                             uint64_t *seen) {
+    if (!session || !open || !seen) return PELGAISTI_NULL;
+    return PELGAISTI_CALL_(pelgaisti_raw_session_transaction(session, whose, open, seen));
+}
+
+/* Writes the waiting request of session `whose`, as pelgaisti_book_request does.
+   NULL, CLOSED, NO_SUCH_SESSION, ELSEWHERE. */
+static inline pelgaisti_status pelgaisti_session_request(pelgaisti_session *session, uint32_t whose, pelgaisti_claim *waiting,
+                                                         uint64_t *seen) {
+    if (!session || !waiting || !seen) return PELGAISTI_NULL;
+    return PELGAISTI_CALL_(pelgaisti_raw_session_request(session, whose, waiting, seen));
+}
+
+/* Writes 1 to `edge` if session `whose` waits for `other` directly, and else 0, as pelgaisti_book_waits_for does.
+   NULL, CLOSED, NO_SUCH_SESSION (one of the two), ELSEWHERE. */
+static inline pelgaisti_status pelgaisti_session_waits_for(pelgaisti_session *session, uint32_t whose, uint32_t other, uint32_t *edge,
+                                                           uint64_t *seen) {
+    if (!session || !edge || !seen) return PELGAISTI_NULL;
+    return PELGAISTI_CALL_(pelgaisti_raw_session_waits_for(session, whose, other, edge, seen));
+}
+
+/* Writes the first `room` holders of the resource to `list`, and the number of all of them to `count`, as pelgaisti_book_holders
+   does. NO_MEMORY: the session knows the history up to there all the same.
+   NULL, CLOSED, NO_SUCH_LEVEL, NO_MEMORY or ELSEWHERE. */
+static inline pelgaisti_status pelgaisti_session_holders(pelgaisti_session *session, const pelgaisti_resource *resource,
+                                                         pelgaisti_holder *list, size_t room, size_t *count, uint64_t *seen) {
+    pelgaisti_holder none;
+    if (!session || !resource || !count || !seen || (!list && room)) return PELGAISTI_NULL;
+    return PELGAISTI_CALL_(pelgaisti_raw_session_holders(session, resource, list ? list : &none, room, count, seen));
+}
+
+/* Writes the first `room` of the sessions for which session `whose` waits directly to `list`, in the order of their numbers, and the
+   number of all of them to `count`. `list` may be NULL if `room` is 0. Requires `room` elements at `list`.
+   NULL, CLOSED, NO_SUCH_SESSION, NO_MEMORY, ELSEWHERE. */
+static inline pelgaisti_status pelgaisti_session_blockers(pelgaisti_session *session, uint32_t whose, uint32_t *list, size_t room,
+                                                          size_t *count, uint64_t *seen) {
+    uint32_t none;
+    if (!session || !count || !seen || (!list && room)) return PELGAISTI_NULL;
+    return PELGAISTI_CALL_(pelgaisti_raw_session_blockers(session, whose, list ? list : &none, room, count, seen));
+}
+
+/* Writes all locks and waiting requests to `list`, from the index `first` on, up to `room`, and the number of all of them to `count`,
+   as pelgaisti_book_locks does. Pages of one list are those whose `seen` is the same. While it reads, no other session can take the
+   lock table. NO_MEMORY: the session knows the history up to there all the same.
+   NULL, CLOSED, NO_MEMORY or ELSEWHERE. */
+static inline pelgaisti_status pelgaisti_session_locks(pelgaisti_session *session, size_t first, pelgaisti_claim *list, size_t room,
+                                                       size_t *count, uint64_t *seen) {
+    pelgaisti_claim none;
+    if (!session || !count || !seen || (!list && room)) return PELGAISTI_NULL;
+    return PELGAISTI_CALL_(pelgaisti_raw_session_locks(session, first, list ? list : &none, room, count, seen));
+}
+
 /* Writes the number of history entries that the session knows. These are the first ones. The number never decreases.
    NULL, CLOSED. */
 static inline pelgaisti_status pelgaisti_session_seen(pelgaisti_session *session, uint64_t *seen) {
@@ -776,19 +910,31 @@ static inline pelgaisti_status pelgaisti_office_close(pelgaisti_session *session
     return PELGAISTI_CALL_(pelgaisti_raw_office_close(session, book));
 }
 
-/* Waits a little before one more look for an answer: before the first 8 the processor pauses, and before later ones the thread
-   yields it. */
-static inline void pelgaisti_pause_(uint64_t look) {
-    int pauses;
-    if (look > 8) {
-        sched_yield();
-        return;
-    }
-    for (pauses = 0; pauses < 256; pauses++) {
+/* Pauses the processor so many times. */
+static inline void pelgaisti_spin_(unsigned pauses) {
+    for (; pauses > 0; pauses--) {
 #if defined(__x86_64__)
         __builtin_ia32_pause();
 #endif
     }
+}
+
+/* Waits before one more try to perform a call at once, of which `tries` were made: pauses from try to try longer, and yields the
+   processor once 17 were made. */
+static inline void pelgaisti_back_off_(uint64_t tries) {
+    if (tries > 16)
+        sched_yield();
+    else
+        pelgaisti_spin_(tries < 5 ? 128u << tries : 4096u);
+}
+
+/* Waits a little before one more look for an answer: before the first 8 the processor pauses, and before later ones the thread
+   yields it. */
+static inline void pelgaisti_pause_(uint64_t look) {
+    if (look > 8)
+        sched_yield();
+    else
+        pelgaisti_spin_(256);
 }
 
 /* Whom a call's passes wake: `wake` is called with `engine` for each session whose wait a pass has ended, after the pass, by the
@@ -824,8 +970,9 @@ static inline pelgaisti_status pelgaisti_perform_waking_(pelgaisti_session *sess
     return status;
 }
 
-/* Performs the call at once where the lock table is free. Where it isn't, publishes the call, then serves and collects in turn
-   until the answer is there, at most `turns` times. With 0 turns it only publishes the call. With NULL for `call` it goes on with
+/* Performs the call at once where the lock table is free. Where it isn't, tries again, with pauses that grow, in all at most `turns`
+   times and at most 32 times. If the lock table was never free, publishes the call, then serves and collects in turn until the
+   answer is there, at most `turns` times. With 0 turns it only publishes the call. With NULL for `call` it goes on with
    the call that is pending. The answer may be WAITING: this call waits for an answer, not for a lock. Whoever waits for a lock
    sleeps until a pass wakes it, which pelgaisti_session_serve_telling explains. With NULL for `waker` the passes of this call
    wake nobody: where threads sleep, none uses it so.
@@ -842,7 +989,10 @@ static inline pelgaisti_status pelgaisti_session_perform_waking(pelgaisti_sessio
     uint64_t turn;
     if (!session || !answer || (waker && (!waker->wake || !waker->list))) return PELGAISTI_NULL;
     if (call) {
-        if (turns > 0) served = pelgaisti_perform_waking_(session, call, waker, answer);
+        for (turn = 0; turn < turns && turn < 32 && served == PELGAISTI_ELSEWHERE; turn++) {
+            if (turn > 0) pelgaisti_back_off_(turn);
+            served = pelgaisti_perform_waking_(session, call, waker, answer);
+        }
         if (served != PELGAISTI_ELSEWHERE && served != PELGAISTI_NO_MEMORY && served != PELGAISTI_NO_ROOM) return served;
         status = pelgaisti_session_publish(session, call, NULL);
         if (status != PELGAISTI_OK) return status;

@@ -6,7 +6,8 @@
  *     pelgaisti::office office{4};                                            // one that four threads share
  *     auto answer = office[0].perform({pelgaisti::op::lock, pelgaisti::mode::X, {7}});
  * A call that fails throws pelgaisti::error with its status, after which nothing has changed. Two statuses are no failures and
- * are told by the result: ELSEWHERE by serve and by a session's take_history, NOT_SERVED by collect and what is made of it.
+ * are told by the result: ELSEWHERE by serve, by a session's take_history and by its questions, NOT_SERVED by collect and what is
+ * made of it.
  * pelgaisti.h says what each call does and asks of its caller.
  */
 #ifndef PELGAISTI_HPP
@@ -68,6 +69,8 @@ struct reply {
     explicit reply(const pelgaisti_reply &it) : kind(static_cast<pelgaisti::kind>(it.kind)), value(it.value) {}
 };
 struct answer { uint64_t place; pelgaisti::reply reply; };
+// The answer to a question about the lock table of an open office: what the state had behind the first `length` calls.
+template <class T> struct seen { T found; uint64_t length; };
 struct pinned { pinned() = default; pinned(const pinned &) = delete; pinned &operator=(const pinned &) = delete; };
 class book : pinned {
 public:
@@ -104,6 +107,21 @@ public:
         std::vector<pelgaisti_holder> list(8);
         for (size_t count = 0;; list.resize(count)) {
             check(pelgaisti_book_holders(&handle_, &resource, list.data(), list.size(), &count));
+            if (count <= list.size()) return list.resize(count), list;
+        }
+    }
+    // The session's open transaction, with number 0 if it has none; and its waiting request, with kind 0 if it doesn't wait.
+    pelgaisti_transaction transaction(uint32_t session) {
+        return made_by<pelgaisti_transaction>([&](auto *made) { return pelgaisti_book_transaction(&handle_, session, made); });
+    }
+    pelgaisti_claim request(uint32_t session) {
+        return made_by<pelgaisti_claim>([&](auto *made) { return pelgaisti_book_request(&handle_, session, made); });
+    }
+    // All locks and waiting requests, resource by resource.
+    std::vector<pelgaisti_claim> locks() {
+        std::vector<pelgaisti_claim> list(8);
+        for (size_t count = 0;; list.resize(count)) {
+            check(pelgaisti_book_locks(&handle_, 0, list.data(), list.size(), &count));
             if (count <= list.size()) return list.resize(count), list;
         }
     }
@@ -161,12 +179,51 @@ public:
         if (elsewhere(pelgaisti_session_take_history(&handle_, &first, list.data(), room, &room))) return std::nullopt;
         return list.resize(room), list;
     }
+    // Questions about the lock table of the open office. Each tries once for it, and serves no call; nothing if another session has
+    // the table. They answer as those of a book.
+    std::optional<seen<mode>> held(uint32_t whose, const resource &on) {
+        const auto made = asked<uint32_t>([&](auto *code, auto *n) { return pelgaisti_session_held(&handle_, whose, &on, code, n); });
+        return made ? std::optional(seen<mode>{mode(made->found), made->length}) : std::nullopt;
+    }
+    std::optional<seen<pelgaisti_transaction>> transaction(uint32_t whose) {
+        return asked<pelgaisti_transaction>([&](auto *it, auto *n) { return pelgaisti_session_transaction(&handle_, whose, it, n); });
+    }
+    std::optional<seen<pelgaisti_claim>> request(uint32_t whose) {
+        return asked<pelgaisti_claim>([&](auto *it, auto *n) { return pelgaisti_session_request(&handle_, whose, it, n); });
+    }
+    std::optional<seen<bool>> waits_for(uint32_t whose, uint32_t other) {
+        const auto made = asked<uint32_t>([&](auto *it, auto *n) { return pelgaisti_session_waits_for(&handle_, whose, other, it, n); });
+        return made ? std::optional(seen<bool>{made->found != 0, made->length}) : std::nullopt;
+    }
+    std::optional<seen<std::vector<pelgaisti_holder>>> holders(const resource &on) {
+        return listed<pelgaisti_holder>([&](auto *at, size_t room, auto *count, auto *n) {
+            return pelgaisti_session_holders(&handle_, &on, at, room, count, n); });
+    }
+    std::optional<seen<std::vector<uint32_t>>> blockers(uint32_t whose) {
+        return listed<uint32_t>([&](auto *at, size_t room, auto *count, auto *n) {
+            return pelgaisti_session_blockers(&handle_, whose, at, room, count, n); });
+    }
+    std::optional<seen<std::vector<pelgaisti_claim>>> locks() {
+        return listed<pelgaisti_claim>([&](auto *at, size_t room, auto *count, auto *n) {
+            return pelgaisti_session_locks(&handle_, 0, at, room, count, n); });
+    }
     void hear(session &other) { check(pelgaisti_session_hear(&handle_, &other.handle_)); }
     void retire() { check(pelgaisti_session_retire(&handle_)); }
 private:
     friend class office;
     session() = default;
     static bool elsewhere(pelgaisti_status status) { return status == PELGAISTI_ELSEWHERE || (check(status), false); }
+    template <class T, class Call> static std::optional<seen<T>> asked(Call call) {
+        seen<T> made{};
+        return elsewhere(call(&made.found, &made.length)) ? std::nullopt : std::optional(made);
+    }
+    template <class T, class Call> static std::optional<seen<std::vector<T>>> listed(Call call) {
+        seen<std::vector<T>> made{std::vector<T>(8), 0};
+        for (size_t count = 0;; made.found.resize(count)) {
+            if (elsewhere(call(made.found.data(), made.found.size(), &count, &made.length))) return std::nullopt;
+            if (count <= made.found.size()) return made.found.resize(count), made;
+        }
+    }
     template <class Call> static std::optional<answer> told(Call call) {
         pelgaisti_answer found{};
         const pelgaisti_status status = call(&found);

@@ -1,8 +1,9 @@
 //! The lock table for one thread.
 
 use crate::calls::{Call, Mode, Reply, Resource};
+use crate::claims::{whole_list, Claim, Holder, Transaction};
 use crate::error::{done, same_version, Error};
-use crate::ffi::{self, RawEntry, RawHandle, RawHolder, RawReply, MAX_SESSIONS};
+use crate::ffi::{self, RawClaim, RawEntry, RawHandle, RawReply, RawTransaction, MAX_SESSIONS};
 use std::cell::UnsafeCell;
 
 /// A lock table with the history of its calls, for one thread at a time: it may move to another thread, and isn't shared.
@@ -24,15 +25,6 @@ pub struct Entry {
     pub call: Call,
     /// Its reply.
     pub reply: Reply,
-}
-
-/// A session that holds a resource.
-#[derive(Clone, Copy, Debug, PartialEq, Eq, Hash)]
-pub struct Holder {
-    /// The session's number.
-    pub session: u32,
-    /// The mode that it holds.
-    pub mode: Mode,
 }
 
 impl Book {
@@ -183,23 +175,55 @@ impl Book {
     ///     assert!(book.holders(Resource::new(&[7]).unwrap())?.is_empty());
     ///     # Ok::<(), pelgaisti::Error>(())
     pub fn holders(&self, resource: Resource) -> Result<Vec<Holder>, Error> {
-        let mut list = vec![RawHolder::default(); 8];
-        loop {
-            let mut count = 0;
-            done(unsafe {
-                ffi::pelgaisti_raw_book_holders(self.raw(), &resource.raw(), list.as_mut_ptr(), list.len(), &mut count)
-            })?;
-            if count <= list.len() {
-                list.truncate(count);
-                break;
-            }
-            list.resize(count, RawHolder::default());
-        }
-        let holder = |raw: &RawHolder| Holder {
-            session: raw.session,
-            mode: Mode::of(u64::from(raw.mode)),
-        };
-        Ok(list.iter().map(holder).collect())
+        let list = whole_list(|list, count| {
+            done(unsafe { ffi::pelgaisti_raw_book_holders(self.raw(), &resource.raw(), list.as_mut_ptr(), list.len(), count) })
+        })?;
+        Ok(list.iter().map(Holder::of).collect())
+    }
+
+    /// The open transaction of the session, `None` if it has none.
+    ///
+    ///     # use pelgaisti::{Book, Call};
+    ///     let mut book = Book::open(1)?;
+    ///     assert_eq!(book.transaction(1)?, None);
+    ///     book.serve(1, &Call::Begin)?;
+    ///     assert_eq!(book.transaction(1)?.unwrap().number, 1);
+    ///     # Ok::<(), pelgaisti::Error>(())
+    pub fn transaction(&self, session: u32) -> Result<Option<Transaction>, Error> {
+        let mut open = RawTransaction::default();
+        done(unsafe { ffi::pelgaisti_raw_book_transaction(self.raw(), session, &mut open) })?;
+        Ok(Transaction::of(&open))
+    }
+
+    /// The waiting request of the session, `None` if it doesn't wait.
+    ///
+    ///     assert_eq!(pelgaisti::Book::open(1)?.request(1)?, None);
+    ///     # Ok::<(), pelgaisti::Error>(())
+    pub fn request(&self, session: u32) -> Result<Option<Claim>, Error> {
+        let mut waiting = RawClaim::default();
+        done(unsafe { ffi::pelgaisti_raw_book_request(self.raw(), session, &mut waiting) })?;
+        Ok(Claim::of(&waiting))
+    }
+
+    /// All locks and all waiting requests: resource by resource, in the order of paths; of each resource its holders by session
+    /// number, then its queue in the order in which it is granted.
+    ///
+    ///     # use pelgaisti::{Book, Call, ClaimKind, Mode, Resource};
+    ///     let mut book = Book::open(2)?;
+    ///     for session in 1..=2 {
+    ///         book.serve(session, &Call::Begin)?;
+    ///         book.serve(session, &Call::Lock(Resource::new(&[7]).unwrap(), Mode::X))?;
+    ///     }
+    ///     let locks = book.locks()?;
+    ///     assert_eq!((locks[0].session, locks[0].kind), (1, ClaimKind::Held));
+    ///     assert_eq!((locks[1].session, locks[1].kind), (2, ClaimKind::Fresh));
+    ///     assert_eq!(book.request(2)?, Some(locks[1]));
+    ///     # Ok::<(), pelgaisti::Error>(())
+    pub fn locks(&self) -> Result<Vec<Claim>, Error> {
+        let list = whole_list(|list, count| {
+            done(unsafe { ffi::pelgaisti_raw_book_locks(self.raw(), 0, list.as_mut_ptr(), list.len(), count) })
+        })?;
+        Ok(list.iter().filter_map(Claim::of).collect())
     }
 
     /// How many calls the history has, those among them whose entries were let go.

@@ -51,6 +51,24 @@ pub(crate) struct RawHolder {
 
 #[repr(C)]
 #[derive(Clone, Copy, Default)]
+pub(crate) struct RawTransaction {
+    pub(crate) number: u64,
+    pub(crate) doomed: u32,
+}
+
+#[repr(C)]
+#[derive(Clone, Copy, Default)]
+pub(crate) struct RawClaim {
+    pub(crate) session: u32,
+    pub(crate) kind: u32,
+    pub(crate) mode: u32,
+    pub(crate) doomed: u32,
+    pub(crate) transaction: u64,
+    pub(crate) resource: RawResource,
+}
+
+#[repr(C)]
+#[derive(Clone, Copy, Default)]
 pub(crate) struct RawAnswer {
     pub(crate) place: u64,
     pub(crate) reply: RawReply,
@@ -111,6 +129,15 @@ extern "C" {
         room: usize,
         count: *mut usize,
     ) -> u32;
+    pub(crate) fn pelgaisti_raw_book_transaction(book: *mut RawHandle, session: u32, open: *mut RawTransaction) -> u32;
+    pub(crate) fn pelgaisti_raw_book_request(book: *mut RawHandle, session: u32, waiting: *mut RawClaim) -> u32;
+    pub(crate) fn pelgaisti_raw_book_locks(
+        book: *mut RawHandle,
+        first: usize,
+        list: *mut RawClaim,
+        room: usize,
+        count: *mut usize,
+    ) -> u32;
     pub(crate) fn pelgaisti_raw_book_ended(book: *mut RawHandle, list: *mut u32, room: usize, count: *mut usize) -> u32;
     pub(crate) fn pelgaisti_raw_book_length(book: *mut RawHandle, length: *mut u64) -> u32;
     pub(crate) fn pelgaisti_raw_book_first_kept(book: *mut RawHandle, first: *mut u64) -> u32;
@@ -162,6 +189,51 @@ extern "C" {
         count: *mut usize,
     ) -> u32;
     pub(crate) fn pelgaisti_raw_session_collect(session: *mut RawHandle, answer: *mut RawAnswer) -> u32;
+    pub(crate) fn pelgaisti_raw_session_held(
+        session: *mut RawHandle,
+        whose: u32,
+        resource: *const RawResource,
+        mode: *mut u32,
+        seen: *mut u64,
+    ) -> u32;
+    pub(crate) fn pelgaisti_raw_session_transaction(
+        session: *mut RawHandle,
+        whose: u32,
+        open: *mut RawTransaction,
+        seen: *mut u64,
+    ) -> u32;
+    pub(crate) fn pelgaisti_raw_session_request(session: *mut RawHandle, whose: u32, waiting: *mut RawClaim, seen: *mut u64) -> u32;
+    pub(crate) fn pelgaisti_raw_session_waits_for(
+        session: *mut RawHandle,
+        whose: u32,
+        other: u32,
+        edge: *mut u32,
+        seen: *mut u64,
+    ) -> u32;
+    pub(crate) fn pelgaisti_raw_session_holders(
+        session: *mut RawHandle,
+        resource: *const RawResource,
+        list: *mut RawHolder,
+        room: usize,
+        count: *mut usize,
+        seen: *mut u64,
+    ) -> u32;
+    pub(crate) fn pelgaisti_raw_session_blockers(
+        session: *mut RawHandle,
+        whose: u32,
+        list: *mut u32,
+        room: usize,
+        count: *mut usize,
+        seen: *mut u64,
+    ) -> u32;
+    pub(crate) fn pelgaisti_raw_session_locks(
+        session: *mut RawHandle,
+        first: usize,
+        list: *mut RawClaim,
+        room: usize,
+        count: *mut usize,
+        seen: *mut u64,
+    ) -> u32;
     pub(crate) fn pelgaisti_raw_session_seen(session: *mut RawHandle, seen: *mut u64) -> u32;
     pub(crate) fn pelgaisti_raw_session_hear(session: *mut RawHandle, other: *mut RawHandle) -> u32;
     pub(crate) fn pelgaisti_raw_session_retire(session: *mut RawHandle) -> u32;

@@ -25,11 +25,15 @@
 
 mod book;
 mod calls;
+mod claims;
 mod error;
 mod ffi;
+mod looks;
 mod office;
 
-pub use book::{Book, Entry, Holder};
+pub use book::{Book, Entry};
 pub use calls::{Call, Mode, Refusal, Reply, Resource};
+pub use claims::{Claim, ClaimKind, Holder, Transaction};
 pub use error::Error;
+pub use looks::Seen;
 pub use office::{Answer, NotClosed, Office, Pass, Posted, Session};

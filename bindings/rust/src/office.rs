@@ -158,8 +158,25 @@ impl Office {
     }
 }
 
+/// Tries to perform a call at once, at most `turns` times and at most 32 times, with pauses between that grow from try to try;
+/// from the 17th on the thread yields. `Elsewhere` if the lock table was never free.
+fn try_at_once(turns: u64, mut perform: impl FnMut() -> Result<(), Error>) -> Result<(), Error> {
+    for tried in 0..turns.min(32) {
+        match tried {
+            0 => (),
+            1..=16 => (0..256 << (tried - 1).min(4)).for_each(|_| hint::spin_loop()),
+            _ => thread::yield_now(),
+        }
+        match perform() {
+            Err(Error::Elsewhere) => (),
+            performed => return performed,
+        }
+    }
+    Err(Error::Elsewhere)
+}
+
 impl Session {
-    fn raw(&self) -> *mut RawHandle {
+    pub(crate) fn raw(&self) -> *mut RawHandle {
         self.handles.0[self.index].get()
     }
 
@@ -239,16 +256,13 @@ impl Session {
         (self.told.as_mut_ptr(), self.told.len())
     }
 
-    /// Performs a call at once, if the lock table is free and there are any turns. Otherwise publishes it, also if memory was
-    /// refused.
+    /// Performs a call at once, if the lock table is free at one of at most `turns` tries. Otherwise publishes it, also if memory
+    /// was refused.
     fn start(&mut self, call: &Call, turns: u64) -> Result<Started, Error> {
         let (mut pass, mut answer) = (RawPass::default(), RawAnswer::default());
-        let at_once = match turns {
-            0 => Err(Error::Elsewhere),
-            _ => done(unsafe {
-                ffi::pelgaisti_raw_session_perform_at_once(self.raw(), &call.raw(), &mut pass, &mut answer)
-            }),
-        };
+        let at_once = try_at_once(turns, || {
+            done(unsafe { ffi::pelgaisti_raw_session_perform_at_once(self.raw(), &call.raw(), &mut pass, &mut answer) })
+        });
         self.started(call, at_once, &answer)
     }
 
@@ -256,9 +270,8 @@ impl Session {
     fn start_waking(&mut self, call: &Call, turns: u64, wake: impl FnMut(usize)) -> Result<Started, Error> {
         let (mut pass, mut answer, mut count) = (RawPass::default(), RawAnswer::default(), 0);
         let (at, room) = self.room_for_told();
-        let at_once = match turns {
-            0 => Err(Error::Elsewhere),
-            _ => done(unsafe {
+        let at_once = try_at_once(turns, || {
+            done(unsafe {
                 ffi::pelgaisti_raw_session_perform_telling(
                     self.raw(),
                     &call.raw(),
@@ -268,8 +281,8 @@ impl Session {
                     room,
                     &mut count,
                 )
-            }),
-        };
+            })
+        });
         self.told[..count].iter().map(|session| *session as usize).for_each(wake);
         self.started(call, at_once, &answer)
     }
@@ -308,7 +321,8 @@ impl Session {
         })
     }
 
-    /// Performs a call at once where the lock table is free. Else publishes it, then serves and collects in turn until its answer
+    /// Performs a call at once where the lock table is free. Else it tries again, with pauses that grow, in all at most `turns` times
+    /// and at most 32 times; and if the lock table was never free, publishes the call, then serves and collects in turn until its answer
     /// is there, at most `turns` times; with no turns it only publishes it. The answer may be [`Reply::Waiting`]: this waits for an
     /// answer, not for a lock. Between its first looks the processor pauses, and between later ones the thread yields.
     /// [`Error::NotServed`]: after so many turns there is no answer. [`Error::NoMemory`]: memory was refused for the call or in a

@@ -9,6 +9,8 @@ mod lanes;
 #[cfg(test)]
 mod modes;
 #[cfg(test)]
+mod reports;
+#[cfg(test)]
 mod resources;
 #[cfg(test)]
 mod rules;

@@ -15,3 +15,4 @@ pub mod EndedWaits
 pub mod WakesTold
 pub mod OwnCalls
 pub mod Turns
+pub mod Blockers

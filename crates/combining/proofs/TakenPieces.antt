@@ -11,6 +11,9 @@ use Rattle.lock_rules.specs.Legal.{IsLegal}
 use Rattle.publication.specs.declared.slot.Load.{Load}
 use Rattle.combining.specs.Sessions.{HasTriedToList, IsPassed}
 use Rattle.combining.specs.inner.Passes.{HasMadePass}
+use Rattle.combining.specs.Looks.{HasLooked}
+use Rattle.combining.specs.inner.Looks.{HasBegunToLook}
+use mathlib.Core.List.{IsPrefix}
 
 -- A session that isn't the combiner is none afterwards, has begun no walk, and knows nothing of others' pieces.
 same_rest : (t : TicketView) (f : List Entry) (n : ℕ) (q : List Piece) → t.has_book ≡ false → t.route ≡ [] → t.taken ≡ []
@@ -47,6 +50,18 @@ gave_back v w after released same =
     let none : added v.taken after ≡ [] = ap (added v.taken) (sym same ∙ sym (append-nil v.taken)) ∙ drop-append_seam v.taken [] in
     let kept : v.pieces ++ added v.taken after ≡ v.pieces = ap (λ (ps : List Piece). v.pieces ++ ps) none ∙ append-nil v.pieces in
     released ∙ ap (λ (q : List Piece). record v { has_book = false; route = []; pieces = q; taken = [] }) kept
+
+-- The session read the lock table meanwhile, and noted no piece.
+pub looked : (before mid after : TicketView) → HasBegunToLook before mid → after ≡ record mid { has_book = false; route = []; taken = [] } → HasLooked before after
+looked before mid after b released =
+    let whole : after ≡ record before { front = mid.front; has_book = false; route = []; taken = [] }
+    = released ∙ ap (λ (x : TicketView). record x { has_book = false; route = []; taken = [] }) b.session in
+    let front : after.front ≡ mid.front = ap (λ (x : TicketView). x.front) whole in
+    record {
+      session = whole ∙ (same_rest before mid.front before.put_backs before.pieces b.lacked b.no_walk b.untaken ∙ ap (λ (f : List Entry). record before { front = f }) (sym front));
+      longer = subst (IsPrefix before.front) (sym front) b.longer;
+      legal = subst IsLegal (sym front) b.legal;
+    }
 
 -- The session made a pass meanwhile, and noted no piece.
 passed : (t v w : TicketView) (all : List Piece) → v ≡ record t { front = v.front; has_book = true; route = v.route; put_backs = v.put_backs; taken = all }

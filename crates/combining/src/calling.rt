@@ -1,7 +1,8 @@
 //! A whole call of a session: performed at once where the lock table is free, else published, served and collected.
 
 ghost use Rattle.std.specs.Prelude.{◌≡◌, ◌≢◌, ◌⊎◌, ◌<◌, true, false, Some, None, IfNone};
-ghost use Rattle.combining.specs.Sessions.{IsSessionOf, IsIdle, IsPendingServed};
+ghost use Rattle.publication.specs.Boards.{HasCallsOf};
+ghost use Rattle.combining.specs.Sessions.{IsSessionOf, IsIdle, IsPendingServed, IsPerformed, IsRefused};
 ghost use Rattle.combining.specs.Calls.{IsCalled, IsCalling, IsAnswered, IsWaitingOn, HasStarved};
 
 use crate::office::{Answer, Office, Performed, Turn};
@@ -20,6 +21,19 @@ pub enum Called {
     /// goes on with it.
     Starved,
 }
+
+/// The tries to perform a call at once after the first one, before the call is published. While a session tries, the one that has
+/// the lock table performs its next calls in its own cache, so that a few threads take no longer than with a mutex.
+const MORE_TRIES: u64 = 31;
+
+/// The pause instructions between the first two tries.
+const FIRST_PAUSES: u32 = 256;
+
+/// How often the pause instructions between two tries are doubled.
+const DOUBLINGS: u64 = 4;
+
+/// The tries after which the processor is yielded between two tries.
+const TRIES_BEFORE_YIELDS: u64 = 16;
 
 /// The looks for the answer between two tries to become the combiner. Each try of a waiting session takes a cache line from the
 /// combiner.
@@ -40,6 +54,46 @@ fn back_off(look: u64) {
     for _pause in 0..PAUSES {
         hint::spin_loop();
     }
+}
+
+/// Backs off after a try to perform a call at once, of which `tried` came before: spins longer from try to try, and yields the
+/// processor once `TRIES_BEFORE_YIELDS` were made.
+fn back_off_longer(tried: u64) {
+    if tried >= TRIES_BEFORE_YIELDS {
+        thread::yield_now();
+        return;
+    }
+    let pauses = if tried < DOUBLINGS {
+        FIRST_PAUSES << tried as u32
+    } else {
+        FIRST_PAUSES << DOUBLINGS as u32
+    };
+    for _pause in 0..pauses {
+        hint::spin_loop();
+    }
+}
+
+/// Tries to perform a call at once, by `Office::perform`, at most `tries` times, with pauses between that grow. `Elsewhere`: the
+/// lock table was never free, and nothing changed.
+fn perform_soon(office: &Office, session: &mut Session, call: &Call, tries: u64) -> Performed
+    requires ours { IsSessionOf office.now session.old }
+    requires idle { IsIdle session.old }
+    ensures ours { IsSessionOf office.now session.new }
+    ensures idle { IsIdle session.new }
+    ensures answered { (answer : _) (served : _) (starved : _) → result ≡ Performed.Answered answer served starved
+        → IsPerformed session.old session.new call.now answer.place answer.reply served }
+    ensures refused { result ≡ Performed.Starved → IsRefused session.old session.new }
+    ensures elsewhere { result ≡ Performed.Elsewhere → (session.new ≡ session.old) × (0 < tries → 1 < office.now.sessions) }
+    ensures calls { result ≢ Performed.Elsewhere → HasCallsOf session.new.front session.new }
+{
+    for tried in 0..tries {
+        let performed = office.perform(session, *call);
+        if performed != Performed::Elsewhere {
+            return performed;
+        }
+        back_off_longer(tried);
+    }
+    Performed::Elsewhere
 }
 
 /// Tries once to serve, if `tries`. Returns whether the session made a pass in which memory was refused.
@@ -104,8 +158,9 @@ pub fn resume(office: &Office, session: &mut Session, turns: u64) -> Called
     Called::NotYet
 }
 
-/// Makes a call of an idle session. If the lock table is free, the session performs the call at once, by `Office::perform`.
-/// Else it publishes the call, and serves and looks for the answer in at most `turns` turns, by `resume`.
+/// Makes a call of an idle session. If the lock table is free, the session performs the call at once, by `Office::perform`. Else
+/// it tries again, with pauses that grow, as often as `turns` says but at most `MORE_TRIES` times. If the lock table was never
+/// free, it publishes the call, and serves and looks for the answer in at most `turns` turns, by `resume`.
 ///
 /// `Answered`: the session is idle again. `NotYet` and `Starved` leave the call published and pending. `Starved`: memory was
 /// refused for the call, or in a pass of the session. Whose wait the call has ended is told to nobody: where threads sleep until
@@ -120,7 +175,8 @@ pub fn call(office: &Office, session: &mut Session, call: Call, turns: u64) -> C
     ensures starved { result ≡ Called.Starved → IsCalling session.old session.new call }
 {
     let asked = call;
-    let starved = match office.perform(session, call) {
+    let tries = 1 + u64::min(turns, MORE_TRIES);
+    let starved = match perform_soon(office, session, &asked, tries) {
         Performed::Answered { answer, .. } => return Called::Answered(answer),
         Performed::Elsewhere => false,
         Performed::Starved => true,

@@ -15,5 +15,5 @@ mod pass;
 
 pub use calling::{Called, call, resume};
 pub use ended::Ended;
-pub use office::{Answer, HistoryPiece, Office, OpenFault, Performed, Turn};
+pub use office::{Answer, HistoryPiece, Office, OpenFault, Performed, Seen, Turn};
 pub use publication::{CloseFault, Knowledge, Posted, Ticket as Session};

@@ -10,12 +10,14 @@ ghost use Rattle.combining.specs.Sessions.{IsSessionOf, IsIdle, HasNothingPendin
 ghost use Rattle.combining.specs.Closed.{IsClosed};
 ghost use Rattle.combining.specs.Ended.{AreToldBy};
 
+mod looks;
 mod passes;
 mod perform;
 
 use crate::ended::Ended;
 use lock_desk::{Book, Call, Entry, MOST_DROPPED, NO_BOUND, NoMemory, Reply};
 use lock_rules::MAX_SESSIONS;
+pub use looks::Seen;
 pub use perform::Performed;
 use publication::{Board, CloseFault, Knowledge, Piece, Posted, Ticket as Session};
 use std::alloc::Global;

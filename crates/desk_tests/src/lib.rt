@@ -11,6 +11,8 @@ mod ended;
 #[cfg(test)]
 mod kept;
 #[cfg(test)]
+mod listing;
+#[cfg(test)]
 mod queues;
 #[cfg(test)]
 mod refusals;

@@ -15,7 +15,7 @@ use Rattle.lock_rules.proofs.Alters.{queue-alters}
 use Rattle.lock_rules.proofs.Sound.{eqb-swap, altered-sound, granted-alters, no_more-alters}
 use Rattle.lock_rules.proofs.Cuts.{left-alters, left-sound}
 use Rattle.lock_rules.proofs.Begins.{queue-fresh, queue-converted, queue-beside}
-use Rattle.lock_desk.specs.declared.cells.Claim.TheVariants as claim
+use Rattle.lock_desk.specs.declared.cells.GivenUp.TheVariants as claim
 use Rattle.lock_desk.specs.inner.Cells.{View, has_session, with_holder, Ascends, is_nobody, view_after_promotion, view_after_giving_up, view_after_freeing, behind_conversions, queue_with, can_grant, view_after_asking, has_path}
 use Rattle.lock_desk.specs.inner.Changes.{view_after_cancel, view_after_end}
 use Rattle.lock_desk.specs.inner.Shows.{short, claims_on, view}

@@ -10,8 +10,8 @@ use Rattle.lock_rules.proofs.Lists.{same_path-refl, same_path-true, same_path_te
 use Rattle.lock_desk.specs.declared.cells.SessionMode.{SessionMode}
 use Rattle.lock_desk.specs.declared.lockers.Locker.{Locker}
 use Rattle.lock_desk.specs.declared.lock_table.LockTable.{LockTable}
-use Rattle.lock_desk.specs.declared.cells.Claim.{Claim}
-use Rattle.lock_desk.specs.declared.cells.Claim.TheVariants as claim
+use Rattle.lock_desk.specs.declared.cells.GivenUp.{GivenUp}
+use Rattle.lock_desk.specs.declared.cells.GivenUp.TheVariants as claim
 use Rattle.lock_desk.specs.inner.Cells.{View, with_holder, has_session, view_after_giving_up, queue_with, can_grant, view_after_asking, has_path, AreApart}
 use Rattle.lock_desk.specs.inner.Lockers.{Standing, no_standing, standing_of, standings_of, standing_at, is_wanted, standing_after_asking, IsSameOrGranted, AreSameOrGranted, DoAgree}
 use Rattle.lock_desk.specs.inner.Changes.{view_at, standings, DoesKeep}
@@ -54,39 +54,39 @@ all-agree r v d e views here there x = elim (same_path_tells r x) [
 -- a lock or a request is given up
 
 -- whether a session that gives up this claim still holds the resource, and still waits for it
-abbrev pub still_held : Claim → Bool → Bool
+abbrev pub still_held : GivenUp → Bool → Bool
 still_held claim.Lock b = false
 still_held claim.Request b = b
 
-abbrev pub still_wanted : Claim → Bool → Bool
+abbrev pub still_wanted : GivenUp → Bool → Bool
 still_wanted claim.Lock b = b
 still_wanted claim.Request b = false
 
 -- the session has given up its lock on the resource, or its request, and nothing else
-pub record GivesUp (p : Claim) (r : List ℕ) (x y : Standing) : Type 0 where
+pub record GivesUp (p : GivenUp) (r : List ℕ) (x y : Standing) : Type 0 where
   pub transaction : y.transaction ≡ x.transaction
   pub held : has_path r y.held ≡ still_held p (has_path r x.held)
   pub wanted : is_wanted r y.wanted ≡ still_wanted p (is_wanted r x.wanted)
   pub held_elsewhere : (q : List ℕ) → same_path r q ≡ false → has_path q y.held ≡ has_path q x.held
   pub wanted_elsewhere : (q : List ℕ) → same_path r q ≡ false → is_wanted q y.wanted ≡ is_wanted q x.wanted
 
-own-holders : (p : Claim) (s : ℕ) (v : View) → has_session s (view_after_giving_up p s v).holders ≡ still_held p (has_session s v.holders)
+own-holders : (p : GivenUp) (s : ℕ) (v : View) → has_session s (view_after_giving_up p s v).holders ≡ still_held p (has_session s v.holders)
 own-holders claim.Lock s v = has_session-without s s v.holders ∙ ap (λ (b : Bool). not b && has_session s v.holders) ((Decides-eqb s s).1 refl)
 own-holders claim.Request s v = refl
 
-own-waiting : (p : Claim) (s : ℕ) (v : View) → has_session s (view_after_giving_up p s v).waiting ≡ still_wanted p (has_session s v.waiting)
+own-waiting : (p : GivenUp) (s : ℕ) (v : View) → has_session s (view_after_giving_up p s v).waiting ≡ still_wanted p (has_session s v.waiting)
 own-waiting claim.Lock s v = refl
 own-waiting claim.Request s v = has_session-without s s v.waiting ∙ ap (λ (b : Bool). not b && has_session s v.waiting) ((Decides-eqb s s).1 refl)
 
-other-holders : (p : Claim) (s u : ℕ) (v : View) → eqb s u ≡ false → has_session u (view_after_giving_up p s v).holders ≡ has_session u v.holders
+other-holders : (p : GivenUp) (s u : ℕ) (v : View) → eqb s u ≡ false → has_session u (view_after_giving_up p s v).holders ≡ has_session u v.holders
 other-holders claim.Lock s u v n = has_session-without s u v.holders ∙ ap (λ (b : Bool). not b && has_session u v.holders) (eqb-swap s u n)
 other-holders claim.Request s u v n = refl
 
-other-waiting : (p : Claim) (s u : ℕ) (v : View) → eqb s u ≡ false → has_session u (view_after_giving_up p s v).waiting ≡ has_session u v.waiting
+other-waiting : (p : GivenUp) (s u : ℕ) (v : View) → eqb s u ≡ false → has_session u (view_after_giving_up p s v).waiting ≡ has_session u v.waiting
 other-waiting claim.Lock s u v n = refl
 other-waiting claim.Request s u v n = has_session-without s u v.waiting ∙ ap (λ (b : Bool). not b && has_session u v.waiting) (eqb-swap s u n)
 
-module _ (ss : List Standing) (p : Claim) (s : ℕ) (r : List ℕ) (y : Standing) (lt : s < length ss) (gives : GivesUp p r (standing_at s ss) y) where
+module _ (ss : List Standing) (p : GivenUp) (s : ℕ) (r : List ℕ) (y : Standing) (lt : s < length ss) (gives : GivesUp p r (standing_at s ss) y) where
   -- lockers and cell agree about the resource that was given up
   pub given-agree : (v : View) → DoAgree r v ss → DoAgree r (view_after_giving_up p s v) (set ss s y)
   given-agree v a = record {

@@ -1,5 +1,5 @@
 -- A batch, one item further.
-use Rattle.std.proofs.Common.{◌≡◌, ℕ, zero, suc, ◌+◌, ◌<◌, ◌≤◌, Bool, false, ◌||◌, filter, List, [], ◌∷◌, ◌++◌, Some, length, map, take, drop, get_or, set, sym, ap, arith, ◌∙◌, append_assoc, append-nil, refl, subst}
+use Rattle.std.proofs.Common.{◌≡◌, ℕ, zero, suc, ◌+◌, ◌<◌, Bool, false, ◌||◌, filter, List, [], ◌∷◌, ◌++◌, Some, length, map, take, drop, get_or, set, sym, ap, arith, ◌∙◌, append_assoc, append-nil, refl, subst}
 use Rattle.std.specs.List.{range_with_len}
 use Rattle.std.proofs.Math.Bool.{or-false, or_assoc}
 use Rattle.lock_rules.specs.declared.calls.Reply.{Reply}

@@ -9,7 +9,7 @@ use Rattle.lock_rules.specs.declared.calls.Reply.{Reply}
 use Rattle.lock_rules.specs.State as rules
 use Rattle.lock_rules.specs.Ended.{has_ended, ended_waits}
 use Rattle.lock_rules.specs.Step.{step}
-use Rattle.lock_rules.specs.Legal.{state_of, IsLegal}
+use Rattle.lock_rules.specs.Legal.{state_of}
 use Rattle.lock_rules.proofs.Histories.{legal-push, state_of-push}
 use Rattle.lock_desk.specs.declared.lockers.Locker.{Locker}
 use Rattle.lock_desk.specs.inner.Lockers.{no_standing, standing_of, standings_of, standing_at}

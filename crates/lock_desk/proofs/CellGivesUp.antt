@@ -3,13 +3,13 @@ use Rattle.std.proofs.Common.{◌≡◌, ℕ, Bool, true, false, cond, List, Opt
 use Rattle.std.specs.Map.{lookup}
 use Rattle.lock_tree.specs.Paths.{same_path}
 use Rattle.lock_desk.specs.declared.cells.Cell.{Cell}
-use Rattle.lock_desk.specs.declared.cells.Claim.{Claim}
+use Rattle.lock_desk.specs.declared.cells.GivenUp.{GivenUp}
 use Rattle.lock_desk.specs.inner.Cells.{View, no_view, view_of, Cells, cell_at, view_in, cell_view, view_after_giving_up, view_after_freeing, view_after_promotion, HasRoom, IsOnce, is_busy, AreKeptCells, CellsBecame}
 use Rattle.lock_desk.specs.inner.Lockers.{Standing, DoAgree}
 use Rattle.lock_desk.proofs.ResourceViews.{once-giving_up}
 use Rattle.lock_desk.proofs.CellTable.{became-view, became, idle-view}
 
-module _ (g : Claim) (r : List ℕ) (s : ℕ) (cs : Cells) (x l : Cell) (there : Some x ≡ cell_at r cs) (gave : view_of l ≡ view_after_giving_up g s (view_of x)) where
+module _ (g : GivenUp) (r : List ℕ) (s : ℕ) (cs : Cells) (x l : Cell) (there : Some x ≡ cell_at r cs) (gave : view_of l ≡ view_after_giving_up g s (view_of x)) where
   -- the view after the session has given up its lock or its request
   pub view-left : view_of l ≡ view_after_giving_up g s (cell_view r cs)
   view-left = gave ∙ ap (λ (o : Option Cell). view_after_giving_up g s (view_in o)) there

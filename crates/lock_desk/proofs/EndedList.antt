@@ -8,7 +8,6 @@ use Rattle.std.proofs.lemmas.List.{get_or-set_same, get_or-set_other, length-set
 use Rattle.lock_rules.proofs.Members.{contains-member, member-contains}
 use Rattle.lock_rules.proofs.Ended.{member-range}
 use Rattle.lock_rules.proofs.Alters.{true≢false}
-use Rattle.lock_desk.specs.declared.ended.EndedWaits.TheInside.{Inside}
 use Rattle.lock_desk.specs.inner.Ended.{EndedView, is_listed, listed_in, ArePlaced}
 
 -- tests of numbers

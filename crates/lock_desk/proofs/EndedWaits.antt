@@ -1,7 +1,6 @@
 -- Which sessions are listed because their wait has ended, after each change of the lockers.
-use Rattle.std.proofs.Common.{◌≡◌, ℕ, zero, suc, ◌<◌, ◌≤◌, Bool, true, false, not, eqb, ◌&&◌, ◌||◌, inl, inr, List, length, get_or, set, None, is_some, refl, sym, ◌∙◌, ap, arith, subst}
-use Rattle.std.proofs.Math.Bool.{or-false, or-true, and-false}
-use Rattle.std.proofs.lemmas.Bool.{cases_Bool}
+use Rattle.std.proofs.Common.{◌≡◌, ℕ, zero, suc, Bool, true, false, not, eqb, ◌&&◌, ◌||◌, List, length, get_or, set, None, is_some, refl, sym, ◌∙◌, ap, arith, subst}
+use Rattle.std.proofs.Math.Bool.{or-false}
 use Rattle.std.proofs.lemmas.Bool.Decides.{Decides-eqb}
 use Rattle.lock_rules.proofs.Sound.{eqb-swap}
 use Rattle.lock_rules.specs.State.{State}

@@ -3,7 +3,7 @@ use Rattle.std.proofs.Common.{◌≡◌, ℕ, Bool, true, false, cond, inl, inr,
 use Rattle.std.proofs.lemmas.Bool.{or_right}
 use Rattle.lock_tree.specs.Paths.{same_path}
 use Rattle.lock_rules.proofs.Lists.{same_path-refl, same_path_tells}
-use Rattle.lock_desk.specs.declared.cells.Claim.TheVariants as claim
+use Rattle.lock_desk.specs.declared.cells.GivenUp.TheVariants as claim
 use Rattle.lock_desk.specs.declared.lockers.Locker.{Locker}
 use Rattle.lock_desk.specs.declared.lock_table.LockTable.{LockTable}
 use Rattle.lock_desk.specs.inner.Cells.{View, has_session, view_after_giving_up, view_after_freeing, has_path, AreApart, CellsBecame}

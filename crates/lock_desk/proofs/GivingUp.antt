@@ -4,8 +4,8 @@ use Rattle.std.proofs.lemmas.Bool.{or_parts, cases_Bool}
 use Rattle.std.proofs.lemmas.Bool.Decides.{Decides-eqb}
 use Rattle.lock_tree.specs.Paths.{same_path}
 use Rattle.lock_rules.proofs.Lists.{same_path_tells}
-use Rattle.lock_desk.specs.declared.cells.Claim.{Claim}
-use Rattle.lock_desk.specs.declared.cells.Claim.TheVariants as claim
+use Rattle.lock_desk.specs.declared.cells.GivenUp.{GivenUp}
+use Rattle.lock_desk.specs.declared.cells.GivenUp.TheVariants as claim
 use Rattle.lock_desk.specs.declared.lockers.Locker.{Locker}
 use Rattle.lock_desk.specs.declared.lock_table.LockTable.{LockTable}
 use Rattle.lock_desk.specs.inner.Cells.{view_after_giving_up, view_after_freeing, has_path, AreApart, CellsBecame}
@@ -67,7 +67,7 @@ less-but r (p ∷ rs) a h = go (same_path_tells p r) (less-but r rs a.1)
 
 -- one session gives up a claim
 
-module _ (d : LockTable) (p : Claim) (s : ℕ) (r : List ℕ) (locker new : Locker) {i : ℕ} (lt : IsPositionOf s i d.lockers.items) (at : locker ≡ get_or d.lockers.items i locker) (gives : GivesUp p r (standing_of locker) (standing_of new)) (w : IsWhole d) where
+module _ (d : LockTable) (p : GivenUp) (s : ℕ) (r : List ℕ) (locker new : Locker) {i : ℕ} (lt : IsPositionOf s i d.lockers.items) (at : locker ≡ get_or d.lockers.items i locker) (gives : GivesUp p r (standing_of locker) (standing_of new)) (w : IsWhole d) where
   long : s < length (standings d)
   long = omega (arith, lt.session, lt.within, length-standings d.lockers.items)
 

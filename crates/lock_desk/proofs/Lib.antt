@@ -15,6 +15,8 @@ pub mod Places
 pub mod Codes
 -- a lock or a request is given up in its cell
 pub mod CellGivesUp
+-- resources brought into their order
+pub mod InOrder
 -- lockers
 -- a grant in the lockers; lists of resources
 pub mod LockerStandings
@@ -73,6 +75,8 @@ pub mod WaitsOfTheState
 pub mod VictimRounds
 -- no more requests wait than there are sessions
 pub mod FewRequests
+-- what a lock table tells of its locks and requests is what the state has
+pub mod Listings
 -- the book
 -- the invariant of a book
 pub mod BookInvariant

@@ -237,6 +237,11 @@ pub count-all : (rs : List (List ℕ)) (b : Bool) → b ≡ false → length (in
 count-all rs true h = absurd (cc)
 count-all rs false h = refl
 
+-- the keys in use are the first ones, as many as they are
+pub in_use-taken : (rs : List (List ℕ)) (b : Bool) (n : ℕ) → n ≡ length (in_use rs b) → take n rs ≡ in_use rs b
+in_use-taken rs true n h = ap (λ (k : ℕ). take k rs) (omega (arith, h, length-take (length rs - 1) rs))
+in_use-taken rs false n h = take_all n rs (omega (arith, h))
+
 -- what a look-up says
 
 -- a list whose last item is known is those before it and that item

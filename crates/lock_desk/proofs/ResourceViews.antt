@@ -6,8 +6,8 @@ use Rattle.std.proofs.lemmas.Bool.Decides.{nat_tests, Decides-eqb}
 use Rattle.std.proofs.lemmas.List.{drop-drop}
 use Rattle.lock_desk.specs.declared.cells.SessionMode.{SessionMode}
 use Rattle.lock_desk.specs.declared.cells.Cell.{Cell}
-use Rattle.lock_desk.specs.declared.cells.Claim.{Claim}
-use Rattle.lock_desk.specs.declared.cells.Claim.TheVariants as claim
+use Rattle.lock_desk.specs.declared.cells.GivenUp.{GivenUp}
+use Rattle.lock_desk.specs.declared.cells.GivenUp.TheVariants as claim
 use Rattle.lock_desk.specs.inner.Cells.{View, no_view, with_holder, has_session, times, is_nobody, fits_among, next_grant, view_after_grants, view_after_promotion, view_after_giving_up, queue_with, Ascends, IsOnce, is_busy, view_of, HasRoom, IsKeptCell}
 use Rattle.lock_desk.proofs.Rising.{ascends-with, ascends-without}
 use Rattle.lock_desk.proofs.SessionModes.{has_tells, has_session-with_holder, has_session-without, has_session-queued, times-queued, times-without, nobody-with_holder, nobody-queued}
@@ -83,7 +83,7 @@ once-queued c v some k o = record {
     none = elim (has_tells c.session v.waiting) [ inl h ↦ absurd (let e = h.0 in cc) | inr h ↦ h.1 ]
 
 -- giving up a lock or a request keeps it
-pub once-giving_up : (p : Claim) (s : ℕ) (v : View) → IsOnce v → IsOnce (view_after_giving_up p s v)
+pub once-giving_up : (p : GivenUp) (s : ℕ) (v : View) → IsOnce v → IsOnce (view_after_giving_up p s v)
 once-giving_up claim.Lock s v o = record { rising = ascends-without s v.holders o.rising; once = o.once; holders = has_session-without s 0 v.holders ∙ and_right (not (eqb 0 s)) (has_session 0 v.holders) o.holders; waiting = o.waiting }
 once-giving_up claim.Request s v o = record { rising = o.rising; once = λ u. omega (arith, o.once u, times-without s u v.waiting); holders = o.holders; waiting = has_session-without s 0 v.waiting ∙ and_right (not (eqb 0 s)) (has_session 0 v.waiting) o.waiting }
 

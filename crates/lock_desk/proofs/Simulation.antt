@@ -23,7 +23,7 @@ use Rattle.lock_rules.proofs.Begins.{begins-sound}
 use Rattle.lock_rules.proofs.Victims.{settled-enough}
 use Rattle.lock_rules.proofs.Owners.{waiting-numbered}
 use Rattle.lock_rules.proofs.Steps.{all-pass, is-none}
-use Rattle.lock_desk.specs.declared.cells.Claim.TheVariants as claim
+use Rattle.lock_desk.specs.declared.cells.GivenUp.TheVariants as claim
 use Rattle.lock_desk.specs.declared.lock_table.LockTable.{LockTable}
 use Rattle.lock_desk.specs.inner.Cells.{View, has_session, mode_of, pair_of, view_after_freeing, can_grant, view_after_asking}
 use Rattle.lock_desk.specs.inner.Lockers.{Standing, standing_at}

@@ -42,7 +42,7 @@ stands-self s (q ∷ qs) = go (eqb q.session s) (stands-self s qs)
     go false n = n
 
 -- the mode of a request in the view is that of its claim
-mode-short : (s : ℕ) (qs : List rules.Claim) (q : rules.Claim) → rules.request_of s qs ≡ Some q → mode_of s (map short qs) ≡ Some q.mode
+pub mode-short : (s : ℕ) (qs : List rules.Claim) (q : rules.Claim) → rules.request_of s qs ≡ Some q → mode_of s (map short qs) ≡ Some q.mode
 mode-short s [] q h = absurd (cc)
 mode-short s (p ∷ qs) q h = go (eqb p.session s) h (mode-short s qs q)
   where
@@ -69,7 +69,7 @@ lost-request s p (c ∷ qs) q o h e = go (eqb c.session s) (p c) refl refl o h (
     go false false f g o h next none = next (omega (arith, o)) h e
 
 -- the request of a session is in the queue of its resource
-request-queued : (s : ℕ) (t : rules.Table) (q : rules.Claim) → times s t.requests ≤ 1 → rules.request_of s t.requests ≡ Some q → rules.request_of s (queue t q.resource) ≡ Some q
+pub request-queued : (s : ℕ) (t : rules.Table) (q : rules.Claim) → times s t.requests ≤ 1 → rules.request_of s t.requests ≡ Some q → rules.request_of s (queue t q.resource) ≡ Some q
 request-queued s t q o h = go (is_some (rules.held_mode t q.session q.resource)) refl
   where
     r : List ℕ

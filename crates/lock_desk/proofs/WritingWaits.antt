@@ -7,8 +7,8 @@ use Rattle.waits_for.specs.Pairs.{pairs_of}
 use Rattle.lock_modes.specs.declared.Mode.{Mode}
 use Rattle.lock_desk.specs.declared.cells.SessionMode.{SessionMode}
 use Rattle.lock_desk.specs.declared.waits.Waits.{Waits}
-use Rattle.lock_desk.specs.declared.cells.Claim.{Claim}
-use Rattle.lock_desk.specs.declared.cells.Claim.TheVariants as claim
+use Rattle.lock_desk.specs.declared.cells.GivenUp.{GivenUp}
+use Rattle.lock_desk.specs.declared.cells.GivenUp.TheVariants as claim
 use Rattle.lock_desk.specs.inner.Cells.{View, has_session, mode_of, with_holder, without, fits_among, behind_conversions, can_grant, queue_with, view_after_asking, view_after_grants, view_after_freeing}
 use Rattle.lock_desk.specs.inner.Blocking.{holder_blocks, is_ahead, target_blocks, view_blocks, IsWritten, DoFollow}
 use Rattle.lock_desk.proofs.ResourceViews.{both}
@@ -108,12 +108,12 @@ left-waiting s hs (q ∷ ws) h = go (fits_among q hs) h (left-waiting s (with_ho
     go false h next = h
 
 -- a session that waits after a lock or a request is given up waited before
-pub waits-still : (p : Claim) (g s : ℕ) (v : View) → has_session s (view_after_freeing p g v).waiting ≡ true → has_session s v.waiting ≡ true
+pub waits-still : (p : GivenUp) (g s : ℕ) (v : View) → has_session s (view_after_freeing p g v).waiting ≡ true → has_session s v.waiting ≡ true
 waits-still claim.Lock g s v h = left-waiting s (without g v.holders) v.waiting h
 waits-still claim.Request g s v h = (and_parts (not (eqb s g)) (has_session s v.waiting) (sym (has_session-without g s v.waiting) ∙ left-waiting s v.holders (without g v.waiting) h)).1
 
 -- so its row was cleared
-pub emptied-still : (p : Claim) (g s : ℕ) (v seen now : View) → seen ≡ v → now ≡ view_after_freeing p g v → has_session s now.waiting ≡ true → (old : Bool) {new : Bool} → new ≡ (old && not (has_session s seen.waiting)) → new ≡ false
+pub emptied-still : (p : GivenUp) (g s : ℕ) (v seen now : View) → seen ≡ v → now ≡ view_after_freeing p g v → has_session s now.waiting ≡ true → (old : Bool) {new : Bool} → new ≡ (old && not (has_session s seen.waiting)) → new ≡ false
 emptied-still p g s v seen now e f h old is =
     is ∙ (ap (λ (b : Bool). old && not b) (ap (λ (y : View). has_session s y.waiting) e ∙ waits-still p g s v (ap (λ (y : View). has_session s y.waiting) (sym f) ∙ h)) ∙ and-false old)
 

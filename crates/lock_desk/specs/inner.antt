@@ -12,6 +12,7 @@ pub mod Ended
 pub mod Blocking
 pub mod Ready
 pub mod Changes
+pub mod Listing
 pub mod Shows
 pub mod Runs
 pub mod Invariant

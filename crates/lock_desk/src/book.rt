@@ -8,6 +8,7 @@ ghost use Rattle.lock_rules.specs.Ended.{ended_waits};
 ghost use Rattle.lock_rules.specs.Waits.{waits_for};
 ghost use Rattle.lock_rules.specs.declared.calls.Entry.{Entry as EntryValue};
 ghost use Rattle.lock_rules.specs.Legal.{state_of, IsLegal};
+ghost use Rattle.lock_rules.specs.Listing.{listing_of, waiting_line};
 ghost use Rattle.lock_rules.specs.Laws.{DoesGrantStand, DoesDoomStand, DoesRequestStand};
 ghost use Rattle.lock_rules.specs.Lawful.{IsLawfulState};
 ghost use Rattle.lock_desk.specs.Batches.{IsItemWithin, entries_from, item_of, ended_waits_in};
@@ -19,7 +20,7 @@ use crate::lock_table::LockTable;
 use crate::lock_table::runs::{grant_run, resource_shared};
 use crate::recording::serve_recorded;
 use lock_modes::Mode;
-use lock_rules::{Call, Entry, MAX_SESSIONS, Reply, laws};
+use lock_rules::{Call, Claim, Entry, MAX_SESSIONS, Reply, Transaction, laws};
 use lock_tree::Resource;
 use std::alloc::{AllocError as NoMemory, Global};
 use std::marker::Model;
@@ -229,6 +230,36 @@ impl Book {
         ensures err { OnErr result (list.new.items ≡ list.old.items) }
     {
         self.lock_table.holders(resource, list)
+    }
+
+    /// Replaces the contents of `list` by all locks and all waiting requests: resource by resource, in the order of
+    /// resources; on each its holders by session number, then its queue in the order in which it is granted. Each line has
+    /// the open transaction of its session, and a request has its target mode.
+    ///
+    /// An engine shows with it what its sessions hold and wait for. What a lock implies below its resource isn't listed. What
+    /// a listing shows, and its order, is this project's own. Its cost grows with the number of lines, and with the number of
+    /// resources as sorting them does. Fails with `NoMemory` if memory is refused; the contents of `list` are unchanged then.
+    pub fn locks(&self, alloc: Global, list: &mut Vec<Claim>) -> Result<(), NoMemory>
+        ensures ok { OnOk result (list.new.items ≡ listing_of (state_of self.now.history)) }
+        ensures err { OnErr result (list.new.items ≡ list.old.items) }
+    {
+        self.lock_table.locks(alloc, list)
+    }
+
+    /// The open transaction of `session`, `None` if it has none: its number, and whether it is a deadlock victim that hasn't
+    /// aborted yet. A session that the book doesn't have has none.
+    pub fn transaction(&self, session: u16) -> Option<Transaction>
+        ensures { result ≡ (state_of self.now.history).begun session }
+    {
+        self.lock_table.transaction(session)
+    }
+
+    /// The waiting request of `session` as a line of the listing, `None` if it doesn't wait: its resource, its target mode, and
+    /// whether it is a conversion. A session that the book doesn't have doesn't wait.
+    pub fn request(&self, session: u16) -> Option<Claim>
+        ensures { result ≡ waiting_line (state_of self.now.history) session }
+    {
+        self.lock_table.waiting_request(session)
     }
 
     /// Serves one call of `session`, and adds the call with its reply to the history.

@@ -1,19 +1,22 @@
 //! The table of cells: finds the cell of a resource, and keeps idle cells with their memory for other resources.
 
 ghost use Rattle.std.specs.Prelude.{◌≡◌, ℕ, ◌+◌, ◌<◌, ◌≤◌, true, false, List, [], ◌∷◌, ◌++◌, None, Some, if◌then◌else◌, length, take, slice_get, IfOk, OnOk, OnErr, vec_len};
+ghost use Rattle.std.specs.Map.{keys_of};
 ghost use Rattle.std.specs.Option.{option_copied};
 ghost use Rattle.lock_tree.specs.Paths.{same_path};
 ghost use Rattle.lock_desk.specs.declared.cells.Cell.{Cell as CellValue};
 ghost use Rattle.lock_desk.specs.inner.Cells.{no_view, view_of, has_session, mode_of, can_grant, is_granted, AreKeptCells, cell_at, cell_view, view_after_asking, view_after_giving_up, view_after_freeing, CellsBecame, ViewBecame, IsPlace, has_path, is_nobody, codes_unless_waited, view_with_holder, HasRoomAt};
 ghost use Rattle.lock_desk.specs.inner.Tables.{in_use, AreIdleFrom};
+ghost use Rattle.lock_desk.specs.inner.Listing.{in_order};
 ghost use Rattle.lock_desk.specs.inner.Lockers.{standings_of, AreSameOrGranted, DoAgree};
 ghost use Rattle.lock_desk.specs.inner.Ended.{DoList};
 ghost use Rattle.lock_desk.specs.inner.Blocking.{IsOfSessions, IsWritten, DoFollow};
 
-use crate::cells::{Cell, Claim, RequestStatus, SessionMode, is_same};
+use crate::cells::{Cell, GivenUp, RequestStatus, SessionMode, is_same};
 use crate::ended::EndedWaits;
 use crate::lockers::Locker;
 use crate::promotion::promote;
+use crate::resource_order::sort_resources;
 use crate::waits::{Waits, clear_queue_rows, update_rows, write_queue_rows};
 use indexmap::IndexSet;
 use lock_modes::Mode;
@@ -144,6 +147,20 @@ impl CellTable {
             return all.saturating_sub(1);
         }
         all
+    }
+
+    /// The resources of the cells in use, in the order of resources. Fails if memory is refused.
+    pub(crate) fn resources(&self, alloc: Global) -> Result<Vec<Resource>, AllocError>
+        ensures { IfOk result (λ list. list.items ≡ in_order (keys_of self.now.entries)) }
+    {
+        same_path_is_equality();
+        // Called for its contract: no key is in the set twice.
+        let _len = self.resources.len();
+        let used = self.len();
+        let keys = self.resources.as_slice();
+        let mut list = Vec::from_slice(alloc, &keys[..used])?;
+        sort_resources(&mut list);
+        Ok(list)
     }
 
     /// The cell of `resource`, if it has one.
@@ -310,7 +327,7 @@ impl CellTable {
         session: u16,
         place: Option<usize>,
         resource: Resource,
-        claim: Claim,
+        claim: GivenUp,
     )
         requires place { IsPlace resource self.old.entries place }
         requires cells { AreKeptCells self.old.entries }

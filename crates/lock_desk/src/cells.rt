@@ -1,6 +1,6 @@
 //! A cell: the holders and the wait queue of one resource.
 
-ghost use Rattle.std.specs.Prelude.{◌≡◌, ℕ, ◌+◌, ◌<◌, ◌≤◌, insert, drop, true, false, not, [], ◌∷◌, map, ◌&&◌, ◌||◌, ◌==◌, Some, IfOk, IfSome, OnOk, OnErr, length, vec_len, vec_capacity};
+ghost use Rattle.std.specs.Prelude.{◌≡◌, ℕ, ◌+◌, ◌<◌, ◌≤◌, insert, drop, true, false, not, [], ◌∷◌, ◌++◌, take, map, ◌&&◌, ◌||◌, ◌==◌, Some, IfOk, IfSome, OnOk, OnErr, length, vec_len, vec_capacity};
 ghost use Rattle.waits_for.specs.Pairs.{pairs_of};
 ghost use Rattle.lock_tree.specs.Paths.{same_path};
 ghost use Rattle.lock_desk.specs.declared.cells.SessionMode.{SessionMode as SessionModeValue};
@@ -26,7 +26,7 @@ pub struct SessionMode {
 
 /// What a session gives up at a resource.
 #[derive(Clone, Copy, Debug, PartialEq, Eq)]
-pub enum Claim {
+pub enum GivenUp {
     /// Its lock.
     Lock,
     /// Its waiting request.
@@ -97,6 +97,19 @@ fn conversions(holders: &Holders, waiting: &[SessionMode]) -> usize
     waiting.len()
 }
 
+/// The target of the request of `session` in the queue, if it has one there.
+fn target_in(queue: &[SessionMode], session: u16) -> Option<Mode>
+    ensures { result ≡ mode_of session queue.now }
+{
+    for index in 0..queue.len() {
+        let request = queue[index];
+        if request.session == session {
+            return Some(request.mode);
+        }
+    }
+    None
+}
+
 impl Cell {
     /// An idle cell.
     pub(crate) fn new(alloc: Global) -> Cell
@@ -139,6 +152,28 @@ impl Cell {
         ensures err { OnErr result (list.new.items ≡ list.old.items) }
     {
         self.holders.list(list)
+    }
+
+    /// The number of holders.
+    pub(crate) fn holders(&self) -> usize
+        ensures { result ≡ length (view_of self.now).holders }
+    {
+        self.holders.len()
+    }
+
+    /// The holder at `index`, by session number.
+    pub(crate) fn holder_at(&self, index: usize) -> SessionMode
+        requires { index < length (view_of self.now).holders }
+        ensures { let hs = (view_of self.now).holders in take (index + 1) hs ≡ take index hs ++ result ∷ [] }
+    {
+        self.holders.holder_at(index)
+    }
+
+    /// The mode that `session` waits for in this queue, if it does.
+    pub(crate) fn mode_wanted(&self, session: u16) -> Option<Mode>
+        ensures { result ≡ mode_of session (view_of self.now).waiting }
+    {
+        target_in(&self.waiting, session)
     }
 
     /// Whether there is neither a holder nor a waiting request.
@@ -210,15 +245,15 @@ impl Cell {
     }
 
     /// Removes the lock or the request of `session`, if there is one. Promotes nothing.
-    pub(crate) fn give_up(&mut self, session: u16, claim: Claim)
+    pub(crate) fn give_up(&mut self, session: u16, claim: GivenUp)
         requires rising { Ascends self.old.holders.items }
         requires room { HasRoom self.old }
         ensures view { view_of self.new ≡ view_after_giving_up claim session (view_of self.old) }
         ensures room { HasRoom self.new }
     {
         match claim {
-            Claim::Lock => self.holders.remove(session),
-            Claim::Request => self.waiting.retain(|request| request.session != session),
+            GivenUp::Lock => self.holders.remove(session),
+            GivenUp::Request => self.waiting.retain(|request| request.session != session),
         }
     }
 

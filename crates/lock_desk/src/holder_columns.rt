@@ -1,7 +1,7 @@
 //! Several holders of one resource in two columns: session numbers, and beside them mode codes, so that one mask tests
 //! a request against all holders.
 
-ghost use Rattle.std.specs.Prelude.{◌≡◌, ℕ, ◌+◌, ◌<◌, ◌≤◌, ◌&&◌, ◌||◌, ◌==◌, List, [], ◌++◌, length, insert, remove, map, OnOk, OnErr, vec_len, vec_capacity};
+ghost use Rattle.std.specs.Prelude.{◌≡◌, ℕ, ◌+◌, ◌<◌, ◌≤◌, ◌&&◌, ◌||◌, ◌==◌, List, [], ◌∷◌, ◌++◌, length, take, insert, remove, map, OnOk, OnErr, vec_len, vec_capacity};
 ghost use Rattle.std.specs.List.{list_any};
 ghost use Rattle.mode_lanes.specs.Masks.{meets};
 ghost use Rattle.waits_for.specs.Pairs.{pairs_of};
@@ -285,6 +285,19 @@ impl Columns {
         list.clear();
         write_list(&self.sessions, &self.codes, list);
         Ok(())
+    }
+
+    /// The holder at `index`.
+    pub(crate) fn holder_at(&self, index: usize) -> SessionMode
+        requires { index < length self.now.items }
+        ensures { take (index + 1) self.now.items ≡ take index self.now.items ++ result ∷ [] }
+    {
+        let session = self.sessions[index];
+        let code = self.codes[index];
+        SessionMode {
+            session,
+            mode: Mode::from_code_or_nl(code),
+        }
     }
 
     /// Adds an edge from `session` to each other holder whose mode conflicts with `target`.

@@ -1,6 +1,6 @@
 //! The holders of one resource: a single holder inline, several in two columns.
 
-ghost use Rattle.std.specs.Prelude.{◌≡◌, ℕ, ◌+◌, ◌<◌, ◌≤◌, ◌&&◌, ◌||◌, ◌==◌, true, false, [], ◌∷◌, length, map, OnOk, OnErr};
+ghost use Rattle.std.specs.Prelude.{◌≡◌, ℕ, ◌+◌, ◌<◌, ◌≤◌, ◌&&◌, ◌||◌, ◌==◌, true, false, [], ◌∷◌, ◌++◌, length, take, map, OnOk, OnErr};
 ghost use Rattle.waits_for.specs.Pairs.{pairs_of};
 ghost use Rattle.lock_desk.specs.inner.Cells.{has_session, mode_of, pair_of, with_holder, without, codes_among, fits_among};
 ghost use Rattle.lock_desk.specs.inner.Blocking.{holder_blocks, AreOfSessions};
@@ -243,6 +243,17 @@ impl Holders {
         match self.single {
             Some(holder) => list_one(holder, list),
             None => self.columns.list(list),
+        }
+    }
+
+    /// The holder at `index`.
+    pub(crate) fn holder_at(&self, index: usize) -> SessionMode
+        requires { index < length self.now.items }
+        ensures { take (index + 1) self.now.items ≡ take index self.now.items ++ result ∷ [] }
+    {
+        match self.single {
+            Some(holder) => holder,
+            None => self.columns.holder_at(index),
         }
     }
 

@@ -7,7 +7,7 @@
 //! 1. The structures.
 //!    - By resource: a cell has the holders and the wait queue of one resource (`cells.rt`), and `cell_table.rt` is
 //!      the table of all cells. The holders of a cell are in `holders.rt`: a single holder inline, several in two
-//!      columns (`holder_columns.rt`).
+//!      columns (`holder_columns.rt`). `resource_order.rt` brings resources into their order.
 //!    - By session: a locker has the transaction, the waiting request and the locks of one session (`lockers.rt`). Its
 //!      list of locks counts, for each indexed lock, the children held below it (`locks.rt`).
 //!    - Across both: `promotion.rt` grants queued requests in a cell and in the lockers, `waits.rt` keeps the
@@ -16,8 +16,8 @@
 //! 2. The lock table: all cells, all lockers and the waits-for graph (`lock_table.rt`). `lock_table/calls.rt` serves
 //!    each kind of call: first the tests that can refuse it (`lock_table/refusals.rt`), then its effect.
 //!    `lock_table/requests.rt` has the effect of a lock or a conversion, `lock_table/deadlocks.rt` resolves the
-//!    deadlocks that a wait closes. `lock_table/runs.rt` grants several locks on
-//!    one resource together, by the operations of `lock_table/grants.rt`.
+//!    deadlocks that a wait closes. `lock_table/runs.rt` grants several locks on one resource together, by the
+//!    operations of `lock_table/grants.rt`. `lock_table/listing.rt` tells all locks and requests.
 //! 3. The book: the lock table with its history (`book.rt`). It is all that callers see. `recording.rt` serves one call and
 //!    adds it to the history.
 #![tactic(auto)]
@@ -34,11 +34,14 @@ mod locks;
 mod positions;
 mod promotion;
 mod recording;
+mod resource_order;
 mod waits;
 
 pub use book::{Book, Item};
 pub use lock_modes::Mode;
-pub use lock_rules::{Call, Entry, MAX_LOCKS, MAX_SESSIONS, Reply, Why};
+pub use lock_rules::{
+    Call, Claim, ClaimKind, Entry, MAX_LOCKS, MAX_SESSIONS, Reply, Transaction, Why,
+};
 pub use lock_tree::Resource;
 pub use trimmed_list::{MOST_DROPPED, NO_BOUND};
 

@@ -5,7 +5,7 @@ ghost use Rattle.waits_for.specs.Pairs.{pairs_of};
 ghost use Rattle.lock_rules.specs.declared.calls.Reply.TheVariants.{Waiting, Deadlock};
 ghost use Rattle.lock_rules.specs.State.{empty, doomed_in};
 ghost use Rattle.lock_desk.specs.inner.Cells.{pair_of, IsPlace};
-ghost use Rattle.lock_desk.specs.declared.cells.Claim.TheVariants as claim;
+ghost use Rattle.lock_desk.specs.declared.cells.GivenUp.TheVariants as claim;
 ghost use Rattle.lock_desk.specs.inner.ChildCounts.{has_child};
 ghost use Rattle.lock_desk.specs.inner.Lockers.{standing_of};
 ghost use Rattle.lock_desk.specs.inner.Changes.{view_at, standing, with_listed, IsWhole, DoesKeep, mode_held, CanRelease, HasFreed, HasGivenBack, HasGivenBackAll, HasCancelled, HasBegun, HasEnded, HasListed};
@@ -16,12 +16,13 @@ ghost use Rattle.lock_desk.specs.inner.Shows.{Shows};
 mod calls;
 mod deadlocks;
 mod grants;
+mod listing;
 mod refusals;
 mod requests;
 pub(crate) mod runs;
 
 use crate::cell_table::CellTable;
-use crate::cells::Claim;
+use crate::cells::GivenUp;
 use crate::ended::EndedWaits;
 use crate::lockers::Locker;
 use crate::positions::position_of;
@@ -196,7 +197,7 @@ impl LockTable {
             session,
             place,
             resource,
-            Claim::Lock,
+            GivenUp::Lock,
         );
     }
 
@@ -223,7 +224,7 @@ impl LockTable {
                 session,
                 place,
                 last.resource,
-                Claim::Lock,
+                GivenUp::Lock,
             );
         }
     }
@@ -293,7 +294,7 @@ impl LockTable {
             session,
             place,
             resource,
-            Claim::Request,
+            GivenUp::Request,
         );
         true
     }

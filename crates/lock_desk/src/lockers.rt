@@ -133,6 +133,13 @@ impl Locker {
         number_of(self.transaction)
     }
 
+    /// The open transaction, if there is one.
+    pub(crate) fn transaction(&self) -> Option<Transaction>
+        ensures { result ≡ self.now.transaction }
+    {
+        self.transaction
+    }
+
     /// Whether the session has an open transaction.
     pub(crate) fn is_open(&self) -> bool
         ensures { result ≡ is_some self.now.transaction }

@@ -34,7 +34,7 @@ neither_is s n = grind (arith, nat_tests)
 
 -- Two sessions tie in the order of numbers exactly if they are equal.
 tie_is : (s n : ℕ) → (not (is_lt (nat_cmp s n)) && not (is_lt (nat_cmp n s))) ≡ (n == s)
-tie_is s n = 
+tie_is s n =
     ap (λ (b : Bool). not b && not (is_lt (nat_cmp n s))) (less_is (ltb s n) (s == n))
     ∙ ap (λ (b : Bool). not (ltb s n) && not b) (less_is (ltb n s) (n == s)) ∙ neither_is s n
 
@@ -89,9 +89,9 @@ found s first count cs first_in count_in lower upper =
     none_of s (take first cs) (λ k d lt. let low : k < first = omega (arith, length-take first cs) in rw (get_or-take first cs k d low) (lower_differs _ s (lower.0 k d (omega arith) low))) in
     let own : claims_of s (take count from) ≡ take count from =
     all_of s (take count from) (λ k d lt.
-        let low : k < count = omega (arith, length-take count from) in
-        let there : first + k < length cs = omega (arith, length-drop first cs) in
-        rw (get_or-take count from k d low) (between_is _ s (rw (get_or-drop first cs k d) (lower.1 (first + k) d (omega arith) there)) (upper.0 k d (omega arith) low))) in
+    let low : k < count = omega (arith, length-take count from) in
+    let there : first + k < length cs = omega (arith, length-drop first cs) in
+    rw (get_or-take count from k d low) (between_is _ s (rw (get_or-drop first cs k d) (lower.1 (first + k) d (omega arith) there)) (upper.0 k d (omega arith) low))) in
     let after : claims_of s (drop count from) ≡ [] =
     none_of s (drop count from) (λ k d lt. let there : count + k < length from = omega (arith, length-drop count from) in rw (get_or-drop count from k d) (higher_differs _ s (upper.1 (count + k) d (omega arith) there))) in
     sym (in_parts s first cs ∙ ap (λ (t : List Claim). t ++ claims_of s from) before

@@ -26,7 +26,10 @@ fn put_node(out: &mut String, open: &OpenTransaction) -> Result<(), NoMemory>
 {
     let session = open.session;
     let number = open.transaction.number;
-    write!(out, "  {session} [label=\"session {session}\\ntransaction {number}")?;
+    write!(
+        out,
+        "  {session} [label=\"session {session}\\ntransaction {number}"
+    )?;
     put_end_of_node(out, open.transaction)
 }
 
@@ -34,7 +37,7 @@ fn put_node(out: &mut String, open: &OpenTransaction) -> Result<(), NoMemory>
 fn put_edge(out: &mut String, wait: &Wait) -> Result<(), NoMemory>
     ensures { OnOk result (string_bytes out.new ≡ string_bytes out.old ++ edge_of wait.now) }
 {
-    write!(out, "  {} -> {};\n", wait.session, wait.other)
+    writeln!(out, "  {} -> {};", wait.session, wait.other)
 }
 
 /// Writes the nodes.
@@ -59,7 +62,11 @@ fn put_edges(out: &mut String, waits: &[Wait]) -> Result<(), NoMemory>
 
 /// The waits-for graph as a directed graph of Graphviz: a node for each open transaction, filled if it is a victim, and
 /// an edge for each wait. Fails only with `NoMemory`.
-pub fn waits_dot(alloc: Global, opens: &[OpenTransaction], waits: &[Wait]) -> Result<String, NoMemory>
+pub fn waits_dot(
+    alloc: Global,
+    opens: &[OpenTransaction],
+    waits: &[Wait],
+) -> Result<String, NoMemory>
     ensures { IfOk result (λ text. string_bytes text ≡ dot_of_waits opens.now waits.now) }
 {
     let mut out = String::new(alloc);

@@ -32,7 +32,11 @@ fn put_transaction(out: &mut String, open: &OpenTransaction) -> Result<(), NoMem
     ensures { OnOk result (string_bytes out.new ≡ string_bytes out.old ++ row_of_transaction open.now) }
 {
     let victim = victim_word(open.transaction);
-    write!(out, "transaction,{},{},{victim},,,\n", open.session, open.transaction.number)
+    writeln!(
+        out,
+        "transaction,{},{},{victim},,,",
+        open.session, open.transaction.number
+    )
 }
 
 /// Writes the row of a claim.
@@ -41,15 +45,19 @@ fn put_claim(out: &mut String, claim: &Claim) -> Result<(), NoMemory>
 {
     let kind = kind_word(claim.kind);
     let victim = victim_word(claim.transaction);
-    write!(out, "{kind},{},{},{victim},", claim.session, claim.transaction.number)?;
-    write!(out, "{},{},\n", claim.resource, claim.mode.name())
+    write!(
+        out,
+        "{kind},{},{},{victim},",
+        claim.session, claim.transaction.number
+    )?;
+    writeln!(out, "{},{},", claim.resource, claim.mode.name())
 }
 
 /// Writes the row of a wait.
 fn put_wait(out: &mut String, wait: &Wait) -> Result<(), NoMemory>
     ensures { OnOk result (string_bytes out.new ≡ string_bytes out.old ++ row_of_wait wait.now) }
 {
-    write!(out, "waits,{},,,,,{}\n", wait.session, wait.other)
+    writeln!(out, "waits,{},,,,,{}", wait.session, wait.other)
 }
 
 /// Writes the rows of the open transactions.

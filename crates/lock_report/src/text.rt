@@ -29,7 +29,7 @@ fn put_session_heading(out: &mut String, open: &OpenTransaction) -> Result<(), N
     let session = open.session;
     let number = open.transaction.number;
     let victim = victim_text(open.transaction);
-    write!(out, "session {session}, transaction {number}{victim}\n")
+    writeln!(out, "session {session}, transaction {number}{victim}")
 }
 
 /// What a session does with a resource, below the session.
@@ -72,7 +72,7 @@ fn put_line_of_session(out: &mut String, claim: &Claim) -> Result<(), NoMemory>
     let verb = session_verb(claim.kind);
     let word = mode_word(claim.kind);
     let mode = claim.mode.name();
-    write!(out, "  {verb} {resource} {word} {mode}\n")
+    writeln!(out, "  {verb} {resource} {word} {mode}")
 }
 
 /// Writes the lines of claims of one session.
@@ -93,7 +93,7 @@ fn put_line_of_resource(out: &mut String, claim: &Claim) -> Result<(), NoMemory>
     let verb = resource_verb(claim.kind);
     let word = mode_word(claim.kind);
     let mode = claim.mode.name();
-    write!(out, "  session {session} {verb} {word} {mode}\n")
+    writeln!(out, "  session {session} {verb} {word} {mode}")
 }
 
 /// Whether this is the resource that was shown last.
@@ -108,20 +108,28 @@ fn is_last(last: Option<Resource>, resource: Resource) -> bool
 }
 
 /// Writes the first line of a resource, unless it was shown last.
-fn put_resource_heading(out: &mut String, last: Option<Resource>, resource: Resource) -> Result<(), NoMemory>
+fn put_resource_heading(
+    out: &mut String,
+    last: Option<Resource>,
+    resource: Resource,
+) -> Result<(), NoMemory>
     ensures { OnOk result (string_bytes out.new ≡ string_bytes out.old ++ resource_heading last resource) }
 {
     if is_last(last, resource) {
         return Ok(());
     }
-    write!(out, "{resource}\n")
+    writeln!(out, "{resource}")
 }
 
 /// Writes the line of a wait.
 fn put_line_of_wait(out: &mut String, wait: &Wait) -> Result<(), NoMemory>
     ensures { OnOk result (string_bytes out.new ≡ string_bytes out.old ++ line_of_wait wait.now) }
 {
-    write!(out, "session {} waits for session {}\n", wait.session, wait.other)
+    writeln!(
+        out,
+        "session {} waits for session {}",
+        wait.session, wait.other
+    )
 }
 
 /// Writes the lines of the waits.
@@ -177,7 +185,11 @@ fn put_session(out: &mut String, sorted: &[Claim], open: &OpenTransaction) -> Re
 }
 
 /// Writes the lines of the sessions, whose claims are found in `sorted`.
-fn put_sessions(out: &mut String, sorted: &[Claim], opens: &[OpenTransaction]) -> Result<(), NoMemory>
+fn put_sessions(
+    out: &mut String,
+    sorted: &[Claim],
+    opens: &[OpenTransaction],
+) -> Result<(), NoMemory>
     requires { Ascends sorted.now }
     ensures { OnOk result (string_bytes out.new ≡ string_bytes out.old ++ flat_map (session_lines sorted.now) opens.now) }
 {
@@ -216,7 +228,7 @@ pub fn state_text(
     ensures { IfOk result (λ text. string_bytes text ≡ text_of_state place opens.now claims.now waits.now) }
 {
     let mut out = String::new(alloc);
-    write!(out, "state in front of place {place}\n\ntransactions\n")?;
+    writeln!(out, "state in front of place {place}\n\ntransactions")?;
     put_transactions(alloc, &mut out, opens, claims)?;
     out.push_str("\nresources\n")?;
     put_resources(&mut out, claims)?;

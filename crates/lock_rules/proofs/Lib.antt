@@ -37,3 +37,5 @@ pub mod Updates
 pub mod RefusalNames
 pub mod OpNumbers
 pub mod Ended
+pub mod ResourceOrder
+pub mod Listings

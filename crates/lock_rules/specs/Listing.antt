@@ -1,6 +1,7 @@
 -- A listing of the lock table: every lock and every waiting request, resource by resource.
-use Rattle.std.specs.Prelude.{ℕ, Bool, true, false, if◌then◌else◌, List, [], ◌∷◌, ◌++◌, Option, Some, None, map, is_some}
+use Rattle.std.specs.Prelude.{◌≡◌, ◌≢◌, ℕ, ◌↔◌, ◌⊎◌, Bool, true, false, if◌then◌else◌, List, [], ◌∷◌, ◌++◌, filter, Option, Some, None, map, is_some, Contains}
 use Rattle.std.specs.List.{flat_map}
+use Rattle.std.specs.List.Sorted.{IsStrictlySortedBy}
 use Rattle.std.specs.declared.cmp.Ordering.{Ordering}
 use Rattle.std.specs.declared.cmp.Ordering.TheVariants.{Less, Equal, Greater}
 use Rattle.lock_modes.specs.declared.Mode.{Mode}
@@ -63,3 +64,32 @@ listed_request st (Some q) = Some (listed_as st (kind_of_request st q) q)
 -- the waiting request of the session, as a line of the listing
 abbrev pub waiting_line : State → ℕ → Option ListedClaim
 waiting_line st s = listed_request st (request_of s st.table.requests)
+
+-- what the listing shows
+
+-- the resources of the listing
+abbrev pub listed_resources : State → List (List ℕ)
+listed_resources st = resources_of (st.table.held ++ st.table.requests)
+
+-- the session holds the resource or waits for it
+abbrev pub HasClaimOn : State → ℕ → List ℕ → Type 0
+HasClaimOn st s r = ((m : Mode) × (held_mode st.table s r ≡ Some m)) ⊎ ((q : Claim) × (request_of s st.table.requests ≡ Some q) × (q.resource ≡ r))
+
+-- the session's lock on the resource in this mode, as a line of the listing
+abbrev pub lock_line : State → ℕ → List ℕ → Mode → ListedClaim
+lock_line st s r m = listed_as st Held (record { session = s; resource = r; mode = m })
+
+-- the listing shows the lock table: the locks that are held, the requests that wait, and nothing else
+pub record DoesListingShow (st : State) : Type 0 where
+  -- each resource comes before those after it, so none is there twice
+  pub rising : IsStrictlySortedBy path_cmp (listed_resources st)
+  -- a resource is listed exactly if somebody holds it or waits for it
+  pub listed : (r : List ℕ) → Contains (listed_resources st) r ↔ ((s : ℕ) × HasClaimOn st s r)
+  -- the lines of the listing on a resource are that resource's lines, in their order
+  pub lines : (r : List ℕ) → filter (λ l. same_path l.resource r) (listing_of st) ≡ listed_on st r
+  -- a lock is listed exactly if the session holds the resource in that mode
+  pub locks : (s : ℕ) (r : List ℕ) (m : Mode) → Contains (listing_of st) (lock_line st s r m) ↔ (held_mode st.table s r ≡ Some m)
+  -- any other line is listed exactly if it is the waiting request of its session
+  pub requests : (l : ListedClaim) → l.kind ≢ Held → Contains (listing_of st) l ↔ (waiting_line st l.session ≡ Some l)
+  -- each line has the open transaction of its session
+  pub transactions : (l : ListedClaim) → Contains (listing_of st) l → st.begun l.session ≡ Some l.transaction

@@ -23,6 +23,7 @@ ghost use Rattle.lock_rules.specs.Effects.{DoesBeginOpen, DoesPollReport, IsLock
 ghost use Rattle.lock_rules.specs.Refusals.{refusals_of, AreRefusalsMeant, AreOthersAccepted, AreNumbersRising, DoTestsGiveRefusals, AreRefusalsLowest, AreConversionsUnbounded, DoesAbortNeedTransaction, IsClearCommitAccepted};
 ghost use Rattle.lock_rules.specs.Ended.{AreEndedListed, DoesNothingEndNone, AreEndedToldByPoll, AreOthersToldAsBefore};
 ghost use Rattle.lock_rules.specs.Lawful.{IsLawfulState};
+ghost use Rattle.lock_rules.specs.Listing.{DoesListingShow};
 ghost use Rattle.lock_rules.specs.Examples.{with_reply, queue_in_order, promotion_stops, readers_together, promotion_in_order, intentions, refusals, down_the_tree, up_the_tree, release_promotes, release_of_one, asks_again, conversion_first, conversion_at_once, conversion_under_parent, abort_while_waiting, readers_that_convert, youngest_of_two, victim_in_the_way, conversions_that_meet, circle_through_the_queue, two_victims, begin_beside_others, polls, release_above_another, commit_of_four, conversion_to_the_upper_bound, conversion_needs_more_of_the_parent, parents_on_each_level, releases_promote_one_after_another, begins_again, polls_again, circle_of_five, three_victims, beside_the_circle};
 
 use crate::kinds::{OPS, REFUSALS, REPLY_KINDS};
@@ -269,6 +270,14 @@ pub fn ended_waits_are_told_by_polls()
     ensures none { (st : State) → DoesNothingEndNone st }
     ensures told { (history : List EntryValue) → AreEndedToldByPoll (state_of history) }
     ensures others { (history : List EntryValue) → AreOthersToldAsBefore (state_of history) }
+{}
+
+/// The listing of the lock table shows it. Its resources rise in the order of resources, and are those that somebody holds or
+/// waits for. Its lines on a resource are that resource's holders by session number, then its queue. A lock is listed exactly
+/// if it is held in that mode, and any other line exactly if it is the waiting request of its session, with its kind. Each line
+/// has the open transaction of its session.
+pub fn listings_show_the_table()
+    ensures { (history : List EntryValue) → DoesListingShow (state_of history) }
 {}
 
 /// Every state that a history leads to is lawful: all laws of tables and states hold in it, and those of the calls made

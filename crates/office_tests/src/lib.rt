@@ -21,6 +21,10 @@ mod hearing;
 #[cfg(test)]
 mod listing;
 #[cfg(test)]
+mod looks;
+#[cfg(test)]
+mod looks_in_threads;
+#[cfg(test)]
 mod offices;
 pub mod own_office;
 #[cfg(test)]

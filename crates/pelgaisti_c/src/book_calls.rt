@@ -102,7 +102,7 @@ pub(crate) fn waits_for(book: &Book, session: u32, other: u32, edge: &mut u32) -
 }
 
 /// Writes the numbers of the first holders, as many as `list` has room for.
-fn write_holders(found: &[(u16, Mode)], list: &mut [HolderNumbers])
+pub(crate) fn write_holders(found: &[(u16, Mode)], list: &mut [HolderNumbers])
     ensures { list.new ≡ are_written numbers_of_holder found.now list.old }
 {
     let count = usize::min(found.len(), list.len());

@@ -9,10 +9,15 @@ mod batch;
 mod book;
 mod book_calls;
 mod book_handle;
+mod claims;
 mod close_exports;
 mod hand_in;
 mod held_book;
 mod held_share;
+mod listing;
+mod listing_exports;
+mod look_exports;
+mod looks;
 mod numbers;
 mod office;
 mod raw_box;
@@ -25,6 +30,7 @@ mod told_list;
 mod version;
 
 pub use book_handle::BookHandle;
+pub use claims::{ClaimNumbers, TransactionNumbers};
 pub use numbers::{
     AnswerNumbers, CallNumbers, EntryNumbers, HolderNumbers, PassNumbers, ReplyNumbers,
     ResourceNumbers,

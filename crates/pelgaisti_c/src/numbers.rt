@@ -69,7 +69,7 @@ pub struct PassNumbers {
 }
 
 /// The resource field of calls that have no resource.
-const NOWHERE: ResourceNumbers = ResourceNumbers {
+pub(crate) const NOWHERE: ResourceNumbers = ResourceNumbers {
     level: 0,
     numbers: [0; LEVELS],
 };
@@ -146,7 +146,7 @@ pub(crate) fn read_call(asked: &CallNumbers) -> Result<Call, u32>
 }
 
 /// The numbers of a resource. Those past its level are 0.
-fn place_of(resource: &Resource) -> ResourceNumbers
+pub(crate) fn place_of(resource: &Resource) -> ResourceNumbers
     ensures { result ≡ place_of resource.now }
 {
     let numbers = resource.numbers();

@@ -10,8 +10,8 @@ use Rattle.lock_modes.specs.Codes.{code_of}
 use Rattle.lock_tree.specs.Paths.{same_path}
 use Rattle.lock_rules.specs.Sound.{ascend}
 use Rattle.lock_desk.specs.declared.cells.SessionMode.{SessionMode}
-use Rattle.lock_desk.specs.declared.cells.Claim.{Claim}
-use Rattle.lock_desk.specs.declared.cells.Claim.TheVariants as claim
+use Rattle.lock_desk.specs.declared.cells.GivenUp.{GivenUp}
+use Rattle.lock_desk.specs.declared.cells.GivenUp.TheVariants as claim
 use Rattle.lock_desk.specs.declared.cells.RequestStatus.{RequestStatus}
 use Rattle.lock_desk.specs.declared.cells.RequestStatus.TheVariants.{Granted, Waiting}
 use Rattle.lock_desk.specs.declared.cells.Cell.{Cell}
@@ -86,12 +86,12 @@ abbrev pub view_after_promotion : View → View
 view_after_promotion v = view_after_grants v.holders v.waiting
 
 -- the lock of session `s`, or its request, is removed; nothing is promoted
-abbrev pub view_after_giving_up : Claim → ℕ → View → View
+abbrev pub view_after_giving_up : GivenUp → ℕ → View → View
 view_after_giving_up claim.Lock s v = record { holders = without s v.holders; waiting = v.waiting }
 view_after_giving_up claim.Request s v = record { holders = v.holders; waiting = without s v.waiting }
 
 -- the lock of session `s`, or its request, is removed, and the queue is promoted
-abbrev pub view_after_freeing : Claim → ℕ → View → View
+abbrev pub view_after_freeing : GivenUp → ℕ → View → View
 view_after_freeing p s v = view_after_promotion (view_after_giving_up p s v)
 
 -- the list is empty

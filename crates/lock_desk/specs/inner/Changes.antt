@@ -13,8 +13,8 @@ use Rattle.lock_rules.specs.State.{mode_or_nothing, doomed_in}
 use Rattle.lock_rules.specs.Step.{is_nothing, target_of}
 use Rattle.lock_rules.specs.Waits.{doom}
 use Rattle.lock_desk.specs.declared.lock_table.LockTable.{LockTable}
-use Rattle.lock_desk.specs.declared.cells.Claim.{Claim}
-use Rattle.lock_desk.specs.declared.cells.Claim.TheVariants as claim
+use Rattle.lock_desk.specs.declared.cells.GivenUp.{GivenUp}
+use Rattle.lock_desk.specs.declared.cells.GivenUp.TheVariants as claim
 use Rattle.lock_desk.specs.inner.Cells.{View, has_session, mode_of, cell_view, has_path, can_grant, view_after_asking, view_after_freeing, AreKeptCells}
 use Rattle.lock_desk.specs.inner.ChildCounts.{has_child, IsUnder}
 use Rattle.lock_desk.specs.inner.Lockers.{Standing, standings_of, standing_at, DoAgree}
@@ -170,7 +170,7 @@ pub record CanRelease (s : ℕ) (r : List ℕ) (d : LockTable) : Type 0 where
 
 -- session `s` has given up its lock on resource `r` or its request, and the queue of `r` is promoted; transactions and
 -- other resources are unchanged
-pub record HasFreed (p : Claim) (s : ℕ) (r : List ℕ) (d e : LockTable) : Type 0 where
+pub record HasFreed (p : GivenUp) (s : ℕ) (r : List ℕ) (d e : LockTable) : Type 0 where
   pub count : e.count ≡ d.count
   pub transactions : (u : ℕ) → (standing u e).transaction ≡ (standing u d).transaction
   pub views : (q : List ℕ) → view_at q e ≡ (if same_path r q then view_after_freeing p s (view_at r d) else view_at q d)

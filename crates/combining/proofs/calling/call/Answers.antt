@@ -7,7 +7,7 @@ use Rattle.combining.proofs.calling.call.Goals as goal
 pub returns-in-Answered-clause-answered : goal.returns-in-Answered-clause-answered
 returns-in-Answered-clause-answered c answer is =
     let t = c.args.session.now in
-    let u = c.perform.new.session in
+    let u = c.perform_soon.new.session in
     let a = c.in-Answered.answer in
     let same : a ≡ answer = cc is in
     subst (λ (x : Answer). IsCalled t u c.args.call x.place x.reply) same

@@ -1,5 +1,4 @@
-use Rattle.std.proofs.Common.{[], refl, sym, ap, ◌∙◌, subst}
-use Rattle.lock_desk.specs.BookView.{BookView}
+use Rattle.std.proofs.Common.{refl, ap, ◌∙◌}
 use Rattle.lock_desk.specs.declared.lock_table.LockTable.{LockTable}
 use Rattle.lock_desk.specs.inner.Ended.{listed_in}
 use Rattle.lock_desk.proofs.BookInvariant.{relisted-kept}

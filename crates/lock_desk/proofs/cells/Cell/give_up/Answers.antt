@@ -1,7 +1,7 @@
 use Rattle.std.proofs.Common.{◌≡◌, List, ◌∙◌, ap, sym, rules}
 use Rattle.std.proofs.lemmas.Fn.{filter_same}
 use Rattle.lock_desk.specs.declared.cells.SessionMode.{SessionMode}
-use Rattle.lock_desk.specs.declared.cells.Claim.{Claim}
+use Rattle.lock_desk.specs.declared.cells.GivenUp.{GivenUp}
 use Rattle.lock_desk.specs.inner.Cells.{view_of, without, view_after_giving_up}
 use Rattle.lock_desk.proofs.cells.Cell.give_up.Goals as goal
 
@@ -9,4 +9,4 @@ pub returns-in-Request-clause-view : goal.returns-in-Request-clause-view
 returns-in-Request-clause-view c =
     let e : c.retain.new.self.items ≡ without c.args.session c.args.self.now.waiting.items = filter_same _ _ _ (λ x b f' k. search rules) _ _ c.retain.ensures.filtered in
     ap (λ (xs : List SessionMode). record { holders = c.args.self.now.holders.items; waiting = xs }) e
-    ∙ sym (ap (λ (p : Claim). view_after_giving_up p c.args.session (view_of c.args.self.now)) c.in-Request.is)
+    ∙ sym (ap (λ (p : GivenUp). view_after_giving_up p c.args.session (view_of c.args.self.now)) c.in-Request.is)

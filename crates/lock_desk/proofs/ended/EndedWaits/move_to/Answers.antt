@@ -1,7 +1,7 @@
-use Rattle.std.proofs.Common.{◌<◌, ◌≤◌, length, set, ◌∙◌, sym, ap, subst, arith}
+use Rattle.std.proofs.Common.{length, set, ap, arith}
 use Rattle.std.proofs.lemmas.List.{length-set}
 use Rattle.lock_desk.specs.inner.Ended.{EndedView}
-use Rattle.lock_desk.proofs.EndedList.{moved-by, placed-by}
+use Rattle.lock_desk.proofs.EndedList.{moved-by}
 use Rattle.lock_desk.proofs.ended.EndedWaits.move_to.Goals as goal
 
 pub invariant_of-self : goal.invariant_of-self

@@ -1,5 +1,5 @@
-use Rattle.std.proofs.Common.{◌≡◌, ℕ, ◌+◌, ◌<◌, List, [], ◌∷◌, length, length-append, get_or, sym, ◌∙◌, ap, arith, subst}
-use Rattle.lock_desk.proofs.EndedList.{push-at, first-placed}
+use Rattle.std.proofs.Common.{sym, ◌∙◌, arith}
+use Rattle.lock_desk.proofs.EndedList.{first-placed}
 use Rattle.lock_desk.proofs.ended.EndedWaits.new.Goals as goal
 
 pub invariant_of-result : goal.invariant_of-result

@@ -1,0 +1,242 @@
+//! Questions that a session asks of the lock table while the office is open.
+//!
+//! Each question tries once for the lock table, as `serve` does, reads it, and gives it back. It serves no calls, changes
+//! nothing, and the session need not be idle. The answer is that of one moment: the number of calls that the history had then
+//! comes with it, and the session knows the whole history up to there.
+
+ghost use Rattle.std.specs.Prelude.{◌≡◌, ◌≢◌, ◌+◌, ◌<◌, ◌≤◌, true, false, [], Some, None, Ok, IfOk, IfErr, IfSome, IfNone, length, vec_capacity};
+ghost use Rattle.lock_rules.specs.State.{held_mode, holders};
+ghost use Rattle.lock_rules.specs.Waits.{waits_for};
+ghost use Rattle.lock_rules.specs.Legal.{state_of};
+ghost use Rattle.lock_rules.specs.Listing.{listing_of, waiting_line};
+ghost use Rattle.publication.specs.Boards.{HasCallsOf};
+ghost use Rattle.combining.specs.Sessions.{IsSessionOf};
+ghost use Rattle.combining.specs.Looks.{HasLooked, blockers_among};
+ghost use Rattle.combining.specs.inner.Looks.{IsLooking, HasBegunToLook};
+
+use crate::office::Office;
+use lock_desk::{Book, Claim, Mode, NoMemory, Resource, Transaction};
+use publication::{Load, Ticket as Session};
+use std::alloc::Global;
+
+/// The answer to a question about the lock table of an open office.
+#[derive(Clone, Copy, Debug, PartialEq, Eq)]
+pub struct Seen<T> {
+    /// How many calls the history had: the answer is that of the state behind these.
+    pub length: u64,
+    /// The answer.
+    pub found: T,
+}
+
+/// Replaces the contents of `list` by the sessions for which session `whose` waits, by number. `list` has room for all
+/// `sessions` of the book.
+fn list_blockers(book: &Book, sessions: u16, whose: u16, list: &mut Vec<u16>)
+    requires room { sessions ≤ vec_capacity list.old }
+    ensures { list.new.items ≡ blockers_among sessions (state_of book.now.history).table whose }
+{
+    list.clear();
+    for before in 0..sessions {
+        let other = before + 1;
+        if book.waits_for(whose, other) {
+            list.push_reserved(other);
+        }
+    }
+}
+
+impl Office {
+    /// Tries once for the lock table. The session has it until `end_look`.
+    fn look(&self, session: &mut Session) -> Option<Box<Load>>
+        requires ours { IsSessionOf self.now session.old }
+        ensures looks { IfSome result (λ load. IsLooking self.now session.new load.value) }
+        ensures begun { IfSome result (λ _. HasBegunToLook session.old session.new) }
+        ensures none { IfNone result ((session.new ≡ session.old) × (1 < self.now.sessions)) }
+        ensures calls { HasCallsOf session.new.front session.new }
+    {
+        self.board.seize(session)
+    }
+
+    /// Gives the lock table back, and returns how many calls its history has.
+    fn end_look(&self, session: &mut Session, load: Box<Load>) -> u64
+        requires looks { IsLooking self.now session.old load.value }
+        ensures ours { IsSessionOf self.now session.new }
+        ensures looked { (before : _) → HasBegunToLook before session.old → HasLooked before session.new }
+        ensures front { session.new.front ≡ load.value.book.history }
+        ensures length { result ≡ length session.new.front }
+        ensures calls { HasCallsOf session.new.front session.new }
+    {
+        self.board.release(session, load);
+        session.seen()
+    }
+
+    /// The mode of the lock that session `whose` holds on `resource`, `None` if it holds none, as `Book::held` tells it.
+    ///
+    /// `None` in place of an answer, with nothing changed, means that another session had the lock table, as
+    /// `Turn::Elsewhere` of `serve` does.
+    pub fn held(
+        &self,
+        session: &mut Session,
+        whose: u16,
+        resource: Resource,
+    ) -> Option<Seen<Option<Mode>>>
+        requires ours { IsSessionOf self.now session.old }
+        ensures ours { IsSessionOf self.now session.new }
+        ensures looked { IfSome result (λ _. HasLooked session.old session.new) }
+        ensures length { IfSome result (λ seen. seen.length ≡ length session.new.front) }
+        ensures found { IfSome result (λ seen. seen.found ≡ held_mode (state_of session.new.front).table whose resource) }
+        ensures none { IfNone result ((session.new ≡ session.old) × (1 < self.now.sessions)) }
+        ensures calls { HasCallsOf session.new.front session.new }
+    {
+        let load = self.look(session)?;
+        let found = load.book.held(whose, resource);
+        let length = self.end_look(session, load);
+        Some(Seen { length, found })
+    }
+
+    /// Whether session `whose` waits for `other` directly, as `Book::waits_for` tells it. `None` is as with `held`.
+    pub fn waits_for(&self, session: &mut Session, whose: u16, other: u16) -> Option<Seen<bool>>
+        requires ours { IsSessionOf self.now session.old }
+        ensures ours { IsSessionOf self.now session.new }
+        ensures looked { IfSome result (λ _. HasLooked session.old session.new) }
+        ensures length { IfSome result (λ seen. seen.length ≡ length session.new.front) }
+        ensures found { IfSome result (λ seen. seen.found ≡ waits_for (state_of session.new.front).table whose other) }
+        ensures none { IfNone result ((session.new ≡ session.old) × (1 < self.now.sessions)) }
+        ensures calls { HasCallsOf session.new.front session.new }
+    {
+        let load = self.look(session)?;
+        let found = load.book.waits_for(whose, other);
+        let length = self.end_look(session, load);
+        Some(Seen { length, found })
+    }
+
+    /// The open transaction of session `whose`, as `Book::transaction` tells it. `None` in place of an answer is as with
+    /// `held`.
+    pub fn transaction(
+        &self,
+        session: &mut Session,
+        whose: u16,
+    ) -> Option<Seen<Option<Transaction>>>
+        requires ours { IsSessionOf self.now session.old }
+        ensures ours { IsSessionOf self.now session.new }
+        ensures looked { IfSome result (λ _. HasLooked session.old session.new) }
+        ensures length { IfSome result (λ seen. seen.length ≡ length session.new.front) }
+        ensures found { IfSome result (λ seen. seen.found ≡ (state_of session.new.front).begun whose) }
+        ensures none { IfNone result ((session.new ≡ session.old) × (1 < self.now.sessions)) }
+        ensures calls { HasCallsOf session.new.front session.new }
+    {
+        let load = self.look(session)?;
+        let found = load.book.transaction(whose);
+        let length = self.end_look(session, load);
+        Some(Seen { length, found })
+    }
+
+    /// The waiting request of session `whose`, as `Book::request` tells it. `None` in place of an answer is as with `held`.
+    pub fn request(&self, session: &mut Session, whose: u16) -> Option<Seen<Option<Claim>>>
+        requires ours { IsSessionOf self.now session.old }
+        ensures ours { IsSessionOf self.now session.new }
+        ensures looked { IfSome result (λ _. HasLooked session.old session.new) }
+        ensures length { IfSome result (λ seen. seen.length ≡ length session.new.front) }
+        ensures found { IfSome result (λ seen. seen.found ≡ waiting_line (state_of session.new.front) whose) }
+        ensures none { IfNone result ((session.new ≡ session.old) × (1 < self.now.sessions)) }
+        ensures calls { HasCallsOf session.new.front session.new }
+    {
+        let load = self.look(session)?;
+        let found = load.book.request(whose);
+        let length = self.end_look(session, load);
+        Some(Seen { length, found })
+    }
+
+    /// Replaces the contents of `list` by the sessions that hold `resource`, each with its mode, by session number, as
+    /// `Book::holders` does, and returns how many calls the history had.
+    ///
+    /// `Ok(None)`, with nothing changed, means that another session had the lock table. Fails with `NoMemory` if `list`
+    /// would have to grow and memory is refused: its contents are unchanged then, and the session knows the history up to
+    /// there all the same.
+    pub fn holders(
+        &self,
+        session: &mut Session,
+        resource: Resource,
+        list: &mut Vec<(u16, Mode)>,
+    ) -> Result<Option<u64>, NoMemory>
+        requires ours { IsSessionOf self.now session.old }
+        ensures ours { IsSessionOf self.now session.new }
+        ensures looked { (seen : _) → result ≡ Ok (Some seen) → HasLooked session.old session.new }
+        ensures length { (seen : _) → result ≡ Ok (Some seen) → seen ≡ length session.new.front }
+        ensures found { (seen : _) → result ≡ Ok (Some seen) → list.new.items ≡ holders resource (state_of session.new.front).table.held }
+        ensures none { result ≡ Ok None → (session.new ≡ session.old) × (list.new.items ≡ list.old.items) × (1 < self.now.sessions) }
+        ensures err { IfErr result (λ _. HasLooked session.old session.new × (list.new.items ≡ list.old.items)) }
+        ensures calls { HasCallsOf session.new.front session.new }
+    {
+        let Some(load) = self.look(session) else {
+            return Ok(None);
+        };
+        let listed = load.book.holders(resource, list);
+        let length = self.end_look(session, load);
+        match listed {
+            Ok(()) => Ok(Some(length)),
+            Err(refused) => Err(refused),
+        }
+    }
+
+    /// Replaces the contents of `list` by the sessions for which session `whose` waits directly, by number, and returns how
+    /// many calls the history had. The list is empty if `whose` doesn't wait.
+    ///
+    /// Memory for all sessions of the office is reserved first, before the lock table is tried for. `Ok(None)`, with nothing
+    /// changed, means that another session had the lock table. Fails with `NoMemory`, with nothing changed, if memory is
+    /// refused.
+    pub fn blockers(
+        &self,
+        session: &mut Session,
+        whose: u16,
+        list: &mut Vec<u16>,
+    ) -> Result<Option<u64>, NoMemory>
+        requires ours { IsSessionOf self.now session.old }
+        ensures ours { IsSessionOf self.now session.new }
+        ensures looked { (seen : _) → result ≡ Ok (Some seen) → HasLooked session.old session.new }
+        ensures length { (seen : _) → result ≡ Ok (Some seen) → seen ≡ length session.new.front }
+        ensures found { (seen : _) → result ≡ Ok (Some seen) → list.new.items ≡ blockers_among self.now.sessions (state_of session.new.front).table whose }
+        ensures none { result ≡ Ok None → (session.new ≡ session.old) × (list.new.items ≡ list.old.items) × (1 < self.now.sessions) }
+        ensures err { IfErr result (λ _. (session.new ≡ session.old) × (list.new.items ≡ list.old.items)) }
+        ensures calls { IfOk result (λ _. HasCallsOf session.new.front session.new) }
+    {
+        let sessions = self.board.sessions();
+        let more = usize::from(sessions).saturating_sub(list.len());
+        list.reserve(more)?;
+        let Some(load) = self.look(session) else {
+            return Ok(None);
+        };
+        list_blockers(&load.book, sessions, whose, list);
+        let length = self.end_look(session, load);
+        Ok(Some(length))
+    }
+
+    /// Replaces the contents of `list` by all locks and all waiting requests, as `Book::locks` lists them, and returns how many
+    /// calls the history had.
+    ///
+    /// While it lists them, no other session can become the combiner: its cost is that of `Book::locks`. `Ok(None)` and
+    /// `NoMemory` are as with `holders`.
+    pub fn locks(
+        &self,
+        alloc: Global,
+        session: &mut Session,
+        list: &mut Vec<Claim>,
+    ) -> Result<Option<u64>, NoMemory>
+        requires ours { IsSessionOf self.now session.old }
+        ensures ours { IsSessionOf self.now session.new }
+        ensures looked { (seen : _) → result ≡ Ok (Some seen) → HasLooked session.old session.new }
+        ensures length { (seen : _) → result ≡ Ok (Some seen) → seen ≡ length session.new.front }
+        ensures found { (seen : _) → result ≡ Ok (Some seen) → list.new.items ≡ listing_of (state_of session.new.front) }
+        ensures none { result ≡ Ok None → (session.new ≡ session.old) × (list.new.items ≡ list.old.items) × (1 < self.now.sessions) }
+        ensures err { IfErr result (λ _. HasLooked session.old session.new × (list.new.items ≡ list.old.items)) }
+        ensures calls { HasCallsOf session.new.front session.new }
+    {
+        let Some(load) = self.look(session) else {
+            return Ok(None);
+        };
+        let listed = load.book.locks(alloc, list);
+        let length = self.end_look(session, load);
+        match listed {
+            Ok(()) => Ok(Some(length)),
+            Err(refused) => Err(refused),
+        }
+    }
+}

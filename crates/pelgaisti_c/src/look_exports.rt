@@ -1,0 +1,212 @@
+//! The exports by which a session asks of the lock table while its office is open. Each tries once for the lock table and
+//! serves no calls. `seen` gets how many calls the history had: the answer is that of the state behind these.
+
+ghost use Rattle.std.specs.Prelude.{◌≡◌, ◌≢◌, ◌≤◌, ◌↔◌, ◌⊎◌, Some};
+ghost use Rattle.pelgaisti_c.specs.Numbers.{IsLevel};
+ghost use Rattle.pelgaisti_c.specs.Looks.{IsOfOffice, HasSeen, IsHeldSeen, IsWaitSeen, AreHoldersSeen, AreBlockersSeen, IsTransactionSeen, IsRequestSeen, AreLocksSeen};
+ghost use Rattle.pelgaisti_c.specs.declared.session_share.SessionShare.{SessionShare};
+
+use crate::claims::{ClaimNumbers, TransactionNumbers};
+use crate::looks;
+use crate::numbers::{HolderNumbers, ResourceNumbers};
+use crate::session_handle::SessionHandle;
+use crate::status::{CLOSED, ELSEWHERE, NO_MEMORY, NO_SUCH_LEVEL, NO_SUCH_SESSION, OK};
+use std::alloc::Global;
+
+/// Writes the code of the mode that session `whose` holds on the resource, or that of NL if it holds none.
+#[unsafe(no_mangle)]
+pub extern "C" fn pelgaisti_raw_session_held(
+    alloc: Global,
+    session: &mut SessionHandle,
+    whose: u32,
+    resource: &ResourceNumbers,
+    mode: &mut u32,
+    seen: &mut u64,
+) -> u32
+    ensures ok { result ≡ OK → (before after : SessionShare) × (session.old.held.share ≡ Some before) × (session.new.held.share ≡ Some after)
+        × IsHeldSeen before after whose resource.now mode.new seen.new }
+    ensures failed { result ≢ OK → (session.new.held.share ≡ session.old.held.share) × (mode.new ≡ mode.old) × (seen.new ≡ seen.old) }
+    ensures open { session.new.is_open ≡ session.old.is_open }
+    ensures closed { result ≡ CLOSED ↔ (session.old.is_open ≢ 1) }
+    ensures session { result ≡ NO_SUCH_SESSION → (share : SessionShare) × (session.old.held.share ≡ Some share) × ¬ (IsOfOffice share whose) }
+    ensures level { result ≡ NO_SUCH_LEVEL → (share : SessionShare) × (session.old.held.share ≡ Some share) × IsOfOffice share whose × ¬ (IsLevel resource.now.level) }
+    ensures elsewhere { result ≡ ELSEWHERE → (share : SessionShare) × (session.old.held.share ≡ Some share) × (2 ≤ share.sessions) }
+    ensures statuses { (result ≡ OK) ⊎ ((result ≡ CLOSED) ⊎ ((result ≡ NO_SUCH_SESSION) ⊎ ((result ≡ NO_SUCH_LEVEL) ⊎ (result ≡ ELSEWHERE)))) }
+{
+    let Some(mut share) = session.take(alloc) else {
+        return CLOSED;
+    };
+    let status = looks::held(&mut share, whose, resource, mode, seen);
+    session.put(share);
+    status
+}
+
+/// Writes 1 to `edge` if session `whose` waits for session `other` directly, else 0.
+#[unsafe(no_mangle)]
+pub extern "C" fn pelgaisti_raw_session_waits_for(
+    alloc: Global,
+    session: &mut SessionHandle,
+    whose: u32,
+    other: u32,
+    edge: &mut u32,
+    seen: &mut u64,
+) -> u32
+    ensures ok { result ≡ OK → (before after : SessionShare) × (session.old.held.share ≡ Some before) × (session.new.held.share ≡ Some after)
+        × IsWaitSeen before after whose other edge.new seen.new }
+    ensures failed { result ≢ OK → (session.new.held.share ≡ session.old.held.share) × (edge.new ≡ edge.old) × (seen.new ≡ seen.old) }
+    ensures open { session.new.is_open ≡ session.old.is_open }
+    ensures closed { result ≡ CLOSED ↔ (session.old.is_open ≢ 1) }
+    ensures session { result ≡ NO_SUCH_SESSION → (share : SessionShare) × (session.old.held.share ≡ Some share) × ¬ (IsOfOffice share whose × IsOfOffice share other) }
+    ensures elsewhere { result ≡ ELSEWHERE → (share : SessionShare) × (session.old.held.share ≡ Some share) × (2 ≤ share.sessions) }
+    ensures statuses { (result ≡ OK) ⊎ ((result ≡ CLOSED) ⊎ ((result ≡ NO_SUCH_SESSION) ⊎ (result ≡ ELSEWHERE))) }
+{
+    let Some(mut share) = session.take(alloc) else {
+        return CLOSED;
+    };
+    let status = looks::waits_for(&mut share, whose, other, edge, seen);
+    session.put(share);
+    status
+}
+
+/// Writes the holders of the resource in the order of session numbers, as many as `list` has room for, and the number of all
+/// holders to `count`. With NO_MEMORY the session knows the history up to there all the same.
+#[unsafe(no_mangle)]
+pub extern "C" fn pelgaisti_raw_session_holders(
+    alloc: Global,
+    session: &mut SessionHandle,
+    resource: &ResourceNumbers,
+    list: &mut [HolderNumbers],
+    count: &mut usize,
+    seen: &mut u64,
+) -> u32
+    ensures ok { result ≡ OK → (before after : SessionShare) × (session.old.held.share ≡ Some before) × (session.new.held.share ≡ Some after)
+        × AreHoldersSeen before after resource.now list.old list.new count.new seen.new }
+    ensures failed { result ≢ OK → (list.new ≡ list.old) × (count.new ≡ count.old) × (seen.new ≡ seen.old) }
+    ensures same { result ≢ OK → result ≢ NO_MEMORY → session.new.held.share ≡ session.old.held.share }
+    ensures open { session.new.is_open ≡ session.old.is_open }
+    ensures closed { result ≡ CLOSED ↔ (session.old.is_open ≢ 1) }
+    ensures level { result ≡ NO_SUCH_LEVEL → (session.old.is_open ≡ 1) × ¬ (IsLevel resource.now.level) }
+    ensures memory { result ≡ NO_MEMORY → IsLevel resource.now.level × ((before after : SessionShare) × (session.old.held.share ≡ Some before) × (session.new.held.share ≡ Some after)
+        × HasSeen before after) }
+    ensures elsewhere { result ≡ ELSEWHERE → (share : SessionShare) × (session.old.held.share ≡ Some share) × (2 ≤ share.sessions) }
+    ensures statuses { (result ≡ OK) ⊎ ((result ≡ NO_MEMORY) ⊎ ((result ≡ CLOSED) ⊎ ((result ≡ NO_SUCH_LEVEL) ⊎ (result ≡ ELSEWHERE)))) }
+{
+    let Some(mut share) = session.take(alloc) else {
+        return CLOSED;
+    };
+    let status = looks::holders(alloc, &mut share, resource, list, count, seen);
+    session.put(share);
+    status
+}
+
+/// Writes the sessions for which session `whose` waits directly in the order of session numbers, as many as `list` has room
+/// for, and the number of all of them to `count`.
+#[unsafe(no_mangle)]
+pub extern "C" fn pelgaisti_raw_session_blockers(
+    alloc: Global,
+    session: &mut SessionHandle,
+    whose: u32,
+    list: &mut [u32],
+    count: &mut usize,
+    seen: &mut u64,
+) -> u32
+    ensures ok { result ≡ OK → (before after : SessionShare) × (session.old.held.share ≡ Some before) × (session.new.held.share ≡ Some after)
+        × AreBlockersSeen before after whose list.old list.new count.new seen.new }
+    ensures failed { result ≢ OK → (session.new.held.share ≡ session.old.held.share) × (list.new ≡ list.old) × (count.new ≡ count.old) × (seen.new ≡ seen.old) }
+    ensures open { session.new.is_open ≡ session.old.is_open }
+    ensures closed { result ≡ CLOSED ↔ (session.old.is_open ≢ 1) }
+    ensures session { result ≡ NO_SUCH_SESSION → (share : SessionShare) × (session.old.held.share ≡ Some share) × ¬ (IsOfOffice share whose) }
+    ensures memory { result ≡ NO_MEMORY → (share : SessionShare) × (session.old.held.share ≡ Some share) × IsOfOffice share whose }
+    ensures elsewhere { result ≡ ELSEWHERE → (share : SessionShare) × (session.old.held.share ≡ Some share) × (2 ≤ share.sessions) }
+    ensures statuses { (result ≡ OK) ⊎ ((result ≡ NO_MEMORY) ⊎ ((result ≡ CLOSED) ⊎ ((result ≡ NO_SUCH_SESSION) ⊎ (result ≡ ELSEWHERE)))) }
+{
+    let Some(mut share) = session.take(alloc) else {
+        return CLOSED;
+    };
+    let status = looks::blockers(alloc, &mut share, whose, list, count, seen);
+    session.put(share);
+    status
+}
+
+/// Writes the number of the open transaction of session `whose`, and whether it is a deadlock victim. Number 0 means that none
+/// is open.
+#[unsafe(no_mangle)]
+pub extern "C" fn pelgaisti_raw_session_transaction(
+    alloc: Global,
+    session: &mut SessionHandle,
+    whose: u32,
+    found: &mut TransactionNumbers,
+    seen: &mut u64,
+) -> u32
+    ensures ok { result ≡ OK → (before after : SessionShare) × (session.old.held.share ≡ Some before) × (session.new.held.share ≡ Some after)
+        × IsTransactionSeen before after whose found.new seen.new }
+    ensures failed { result ≢ OK → (session.new.held.share ≡ session.old.held.share) × (found.new ≡ found.old) × (seen.new ≡ seen.old) }
+    ensures open { session.new.is_open ≡ session.old.is_open }
+    ensures closed { result ≡ CLOSED ↔ (session.old.is_open ≢ 1) }
+    ensures session { result ≡ NO_SUCH_SESSION → (share : SessionShare) × (session.old.held.share ≡ Some share) × ¬ (IsOfOffice share whose) }
+    ensures elsewhere { result ≡ ELSEWHERE → (share : SessionShare) × (session.old.held.share ≡ Some share) × (2 ≤ share.sessions) }
+    ensures statuses { (result ≡ OK) ⊎ ((result ≡ CLOSED) ⊎ ((result ≡ NO_SUCH_SESSION) ⊎ (result ≡ ELSEWHERE))) }
+{
+    let Some(mut share) = session.take(alloc) else {
+        return CLOSED;
+    };
+    let status = looks::transaction(&mut share, whose, found, seen);
+    session.put(share);
+    status
+}
+
+/// Writes the waiting request of session `whose`, as a line of the listing. Kind 0 means that it doesn't wait.
+#[unsafe(no_mangle)]
+pub extern "C" fn pelgaisti_raw_session_request(
+    alloc: Global,
+    session: &mut SessionHandle,
+    whose: u32,
+    found: &mut ClaimNumbers,
+    seen: &mut u64,
+) -> u32
+    ensures ok { result ≡ OK → (before after : SessionShare) × (session.old.held.share ≡ Some before) × (session.new.held.share ≡ Some after)
+        × IsRequestSeen before after whose found.new seen.new }
+    ensures failed { result ≢ OK → (session.new.held.share ≡ session.old.held.share) × (found.new ≡ found.old) × (seen.new ≡ seen.old) }
+    ensures open { session.new.is_open ≡ session.old.is_open }
+    ensures closed { result ≡ CLOSED ↔ (session.old.is_open ≢ 1) }
+    ensures session { result ≡ NO_SUCH_SESSION → (share : SessionShare) × (session.old.held.share ≡ Some share) × ¬ (IsOfOffice share whose) }
+    ensures elsewhere { result ≡ ELSEWHERE → (share : SessionShare) × (session.old.held.share ≡ Some share) × (2 ≤ share.sessions) }
+    ensures statuses { (result ≡ OK) ⊎ ((result ≡ CLOSED) ⊎ ((result ≡ NO_SUCH_SESSION) ⊎ (result ≡ ELSEWHERE))) }
+{
+    let Some(mut share) = session.take(alloc) else {
+        return CLOSED;
+    };
+    let status = looks::request(&mut share, whose, found, seen);
+    session.put(share);
+    status
+}
+
+/// Writes all locks and waiting requests, resource by resource, from the line `first` on, as many as `list` has room for, and
+/// the number of all lines to `count`. With NO_MEMORY the session knows the history up to there all the same.
+#[unsafe(no_mangle)]
+pub extern "C" fn pelgaisti_raw_session_locks(
+    alloc: Global,
+    session: &mut SessionHandle,
+    first: usize,
+    list: &mut [ClaimNumbers],
+    count: &mut usize,
+    seen: &mut u64,
+) -> u32
+    ensures ok { result ≡ OK → (before after : SessionShare) × (session.old.held.share ≡ Some before) × (session.new.held.share ≡ Some after)
+        × AreLocksSeen before after first list.old list.new count.new seen.new }
+    ensures failed { result ≢ OK → (list.new ≡ list.old) × (count.new ≡ count.old) × (seen.new ≡ seen.old) }
+    ensures same { result ≢ OK → result ≢ NO_MEMORY → session.new.held.share ≡ session.old.held.share }
+    ensures open { session.new.is_open ≡ session.old.is_open }
+    ensures closed { result ≡ CLOSED ↔ (session.old.is_open ≢ 1) }
+    ensures memory { result ≡ NO_MEMORY → (before after : SessionShare) × (session.old.held.share ≡ Some before) × (session.new.held.share ≡ Some after)
+        × HasSeen before after }
+    ensures elsewhere { result ≡ ELSEWHERE → (share : SessionShare) × (session.old.held.share ≡ Some share) × (2 ≤ share.sessions) }
+    ensures statuses { (result ≡ OK) ⊎ ((result ≡ NO_MEMORY) ⊎ ((result ≡ CLOSED) ⊎ (result ≡ ELSEWHERE))) }
+{
+    let Some(mut share) = session.take(alloc) else {
+        return CLOSED;
+    };
+    let status = looks::locks(alloc, &mut share, first, list, count, seen);
+    session.put(share);
+    status
+}
