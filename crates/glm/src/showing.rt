@@ -1,11 +1,12 @@
 //! The command `show`: the state of the lock table at a place of a history, as text.
 
-ghost use Rattle.std.specs.Prelude.{◌≡◌, ◌≢◌, ℕ, ◌+◌, ◌<◌, ◌≤◌, List, [], Option, Some, None, length, take, filter, map, All, IfOk, IfErr, IfSome, IfNone, string_bytes};
+ghost use Rattle.std.specs.Prelude.{◌≡◌, ◌≢◌, ℕ, ◌<◌, ◌≤◌, ◌++◌, List, Some, length, All, IfOk, IfErr, string_bytes};
 ghost use Rattle.std.specs.Io.KnownBytes.{Keeps};
 ghost use Rattle.lock_rules.specs.declared.calls.TheConstants.{MAX_SESSIONS};
-ghost use Rattle.lock_rules.specs.Legal.{IsLegal, state_of};
+ghost use Rattle.lock_rules.specs.Legal.{state_of};
 ghost use Rattle.lock_trace.specs.Entries.{IsEntry};
-ghost use Rattle.glm.specs.Showing.{HasShown, HasShownPart, IsShown, Shows, opens_of, place_shown, text_in, waits_by, waits_of};
+ghost use Rattle.glm.specs.Showing.{HasShown, HasShownPart, Shows, opens_of, text_in, text_shown, waits_by, waits_of};
+ghost use Rattle.glm.specs.Verdicts.{IsVerdict, text_of_verdict};
 
 use crate::args::Form;
 use crate::checking::{Verdict, first_wrong};
