@@ -117,7 +117,7 @@ fn a_conversion_is_listed_ahead_of_fresh_requests(rt: HostRuntime) -> Result<(),
     list_a_conversion(&rt, rt.alloc(), &mut book)
 }
 
-/// Two writers wait: the later one for a database of which the other waits as well.
+/// A writer and a later reader wait for database 1, whose holder has database 2 as well.
 const QUEUES: &str = "0,1,begin,,,began,1
 1,2,begin,,,began,2
 2,3,begin,,,began,3
@@ -146,7 +146,7 @@ fn fresh_requests_are_listed_in_order_of_arrival(rt: HostRuntime) -> Result<(), 
     list_a_queue(&rt, rt.alloc(), &mut book)
 }
 
-/// Locks on a tree, taken in another order than that of resources. The last lock looks for a resource without a cell.
+/// Locks on a tree, taken in another order than that of resources. One is released, and the last one is refused.
 const TREE: &str = "0,1,begin,,,began,1
 1,1,lock,2,IS,granted,IS
 2,1,lock,1,IS,granted,IS

@@ -3,7 +3,7 @@ use Rattle.std.proofs.Common.{◌≡◌, ℕ, Bool, true, false, cond, not, ◌&
 use Rattle.std.specs.Prelude.{filter}
 use Rattle.std.specs.List.{flat_map}
 use Rattle.std.specs.Map.{keys_of}
-use Rattle.std.proofs.lemmas.Bool.{and_parts}
+use Rattle.std.proofs.lemmas.Bool.{and_parts, not-true}
 use Rattle.std.proofs.lemmas.List.{append_assoc, map-append}
 use Rattle.lock_tree.specs.Paths.{same_path}
 use Rattle.lock_rules.specs.State as rules
@@ -164,10 +164,6 @@ module _ (d : LockTable) (st : rules.State) (w : IsWhole d) (h : Shows d st) whe
 
       two : map (request_line d r hs) (map short (fresh_requests st.table r)) ≡ map (listed_as st Fresh) (fresh_requests st.table r)
       two = requests-told r hs Fresh _ (λ q e. let k = and_parts (same_path q.resource r) (not (has q)) e in (sym (same_path-true q.resource r k.0), kind-told r q.session false (not-true (has q) k.1))) st.table.requests
-        where
-          not-true : (b : Bool) → not b ≡ true → b ≡ false
-          not-true true e = sym e
-          not-true false e = refl
 
       queue-told : map (request_line d r hs) (map short (queue st.table r)) ≡ map (listed_as st Conversion) (conversions st.table r) ++ map (listed_as st Fresh) (fresh_requests st.table r)
       queue-told =

@@ -5,7 +5,7 @@ use Rattle.std.specs.List.{flat_map, list_any, AllByRecursion}
 use Rattle.std.specs.List.Sorted.{IsStrictlySortedBy}
 use Rattle.std.specs.declared.cmp.Ordering.TheVariants.{Less}
 use Rattle.std.proofs.Math.Bool.{and-false}
-use Rattle.std.proofs.lemmas.Bool.{and_parts, and_from}
+use Rattle.std.proofs.lemmas.Bool.{and_parts, and_from, not-true, or_parts}
 use Rattle.std.proofs.lemmas.List.{append-nil}
 use Rattle.std.proofs.lemmas.List.Elements.{filter-append}
 use Rattle.std.proofs.lemmas.List.Folds.{list_any-append}
@@ -24,13 +24,9 @@ use Rattle.lock_rules.specs.Sound.{IsOnce}
 use Rattle.lock_rules.specs.Listing.{comes_before, resources_of, transaction_of, listed_as, listed_on, listing_of, kind_of_request, listed_request, waiting_line, listed_resources, HasClaimOn, lock_line, DoesListingShow}
 use Rattle.lock_rules.proofs.Lists.{same_path-refl, same_path-true, same_path_tells, eqb-refl, In, In-filter, In-request}
 use Rattle.lock_rules.proofs.Members.{Member, contains-member, member-contains}
-use Rattle.lock_rules.proofs.ResourceOrder.{rise, precedes, is_among, less-tells, before-all, not-behind, has-with, rise-with}
+use Rattle.lock_rules.proofs.ResourceOrder.{contrary, rise, precedes, is_among, less-tells, before-all, not-behind, has-with, rise-with}
 use Rattle.lock_rules.proofs.Steps.{state-lawful}
 use Rattle.lock_rules.proofs.Lawful.{lawful}
-
--- a test that passes and fails
-contrary : (b : Bool) → b ≡ true → b ≡ false → ⊥
-contrary b h k = cc
 
 -- either test, if the second passes
 or-true : (b : Bool) → (b || true) ≡ true
@@ -197,6 +193,16 @@ record IsRequestLine (st : State) (r : List ℕ) (l : ListedClaim) : Type 0 wher
 
 -- lines of one resource
 
+-- the lines of its holders, of its conversions and of its fresh requests
+abbrev lock_lines : State → List ℕ → List ListedClaim
+lock_lines st r = map (λ h. lock_line st h.0 r h.1) (holders r st.table.held)
+
+abbrev conversion_lines : State → List ℕ → List ListedClaim
+conversion_lines st r = map (listed_as st Conversion) (conversions st.table r)
+
+abbrev fresh_lines : State → List ℕ → List ListedClaim
+fresh_lines st r = map (listed_as st Fresh) (fresh_requests st.table r)
+
 -- a resource without a lock has no holders
 no-holders : (r : List ℕ) (cs : List Claim) → list_any (λ c. same_path c.resource r) cs ≡ false → holders r cs ≡ []
 no-holders r [] h = refl
@@ -243,32 +249,23 @@ module _ (st : State) where
   -- the lines of a resource are on it
   on-lines : (r x : List ℕ) → filter (is_on r) (listed_on st x) ≡ cond (same_path x r) (listed_on st x) []
   on-lines r x =
-      filter-append (is_on r) (hs ++ cs) fs
-      ∙ (ap (λ (ls : List ListedClaim). ls ++ filter (is_on r) fs) (filter-append (is_on r) hs cs)
+      filter-append (is_on r) (lock_lines st x ++ conversion_lines st x) (fresh_lines st x)
+      ∙ (ap (λ (ls : List ListedClaim). ls ++ filter (is_on r) (fresh_lines st x)) (filter-append (is_on r) (lock_lines st x) (conversion_lines st x))
       ∙ ((λ i. (one i ++ two i) ++ three i) ∙ all (same_path x r)))
     where
-      hs : List ListedClaim
-      hs = map (λ h. listed_as st Held (record { session = h.0; resource = x; mode = h.1 })) (holders x st.table.held)
-
-      cs : List ListedClaim
-      cs = map (listed_as st Conversion) (conversions st.table x)
-
-      fs : List ListedClaim
-      fs = map (listed_as st Fresh) (fresh_requests st.table x)
-
       on : (q : Claim) (b : Bool) → (same_path q.resource x && b) ≡ true → same_path q.resource r ≡ same_path x r
       on q b e = ap (λ (z : List ℕ). same_path z r) (same_path-true q.resource x (and_parts (same_path q.resource x) b e).0)
 
-      one : filter (is_on r) hs ≡ cond (same_path x r) hs []
+      one : filter (is_on r) (lock_lines st x) ≡ cond (same_path x r) (lock_lines st x) []
       one = kept-alike (λ h. listed_as st Held (record { session = h.0; resource = x; mode = h.1 })) (is_on r) (same_path x r) (λ h. refl) (holders x st.table.held)
 
-      two : filter (is_on r) cs ≡ cond (same_path x r) cs []
+      two : filter (is_on r) (conversion_lines st x) ≡ cond (same_path x r) (conversion_lines st x) []
       two = kept-tested (listed_as st Conversion) _ (is_on r) (same_path x r) (λ q e. on q (is_some (held_mode st.table q.session x)) e) st.table.requests
 
-      three : filter (is_on r) fs ≡ cond (same_path x r) fs []
+      three : filter (is_on r) (fresh_lines st x) ≡ cond (same_path x r) (fresh_lines st x) []
       three = kept-tested (listed_as st Fresh) _ (is_on r) (same_path x r) (λ q e. on q (not (is_some (held_mode st.table q.session x))) e) st.table.requests
 
-      all : (b : Bool) → ((cond b hs [] ++ cond b cs []) ++ cond b fs []) ≡ cond b ((hs ++ cs) ++ fs) []
+      all : (b : Bool) → ((cond b (lock_lines st x) [] ++ cond b (conversion_lines st x) []) ++ cond b (fresh_lines st x) []) ≡ cond b ((lock_lines st x ++ conversion_lines st x) ++ fresh_lines st x) []
       all true = refl
       all false = refl
 
@@ -295,14 +292,10 @@ module _ (st : State) where
   no-lines r h =
       let both : (list_any (λ c. same_path c.resource r) st.table.held || list_any (λ c. same_path c.resource r) st.table.requests) ≡ false =
       sym (list_any-append (λ (c : Claim). same_path c.resource r) st.table.held st.table.requests) ∙ (sym (among-resources r (st.table.held ++ st.table.requests)) ∙ h) in
-      let k = neither _ _ both in
+      let k = or_parts _ _ both in
       λ i. (map (λ h. listed_as st Held (record { session = h.0; resource = r; mode = h.1 })) (no-holders r st.table.held k.0 i)
       ++ map (listed_as st Conversion) (no-requests r (λ q. is_some (held_mode st.table q.session r)) st.table.requests k.1 i))
       ++ map (listed_as st Fresh) (no-requests r (λ q. not (is_some (held_mode st.table q.session r))) st.table.requests k.1 i)
-    where
-      neither : (a b : Bool) → (a || b) ≡ false → (a ≡ false) × (b ≡ false)
-      neither true b e = absurd (cc)
-      neither false b e = (refl, e)
 
   -- the lines of the listing on a resource are its own lines
   lines-of : (r : List ℕ) → filter (is_on r) (listing_of st) ≡ listed_on st r
@@ -334,8 +327,8 @@ module _ (st : State) where
 
   -- a line of a resource is a lock of a holder or a request of the queue
   line-is : (r : List ℕ) (l : ListedClaim) → Member l (listed_on st r) → IsLockLine st r l ⊎ IsRequestLine st r l
-  line-is r l h = elim (member-either l (hs ++ cs) fs h) [
-    | inl i ↦ elim (member-either l hs cs i) [
+  line-is r l h = elim (member-either l (lock_lines st r ++ conversion_lines st r) (fresh_lines st r) h) [
+    | inl i ↦ elim (member-either l (lock_lines st r) (conversion_lines st r) i) [
       | inl j ↦ (let p = member-from (λ (h : ℕ × Mode). lock_line st h.0 r h.1) l (holders r st.table.held) j in inl (record { holder = p.0; there = p.1; is = p.2 }))
       | inr j ↦ (let q = member-from (listed_as st Conversion) l (conversions st.table r) j in
           inr (asked r (λ x. is_some (held_mode st.table x.session r)) Conversion (kind-there r true) q.0 l q.1 q.2))
@@ -343,33 +336,11 @@ module _ (st : State) where
     | inr i ↦ (let q = member-from (listed_as st Fresh) l (fresh_requests st.table r) i in
         inr (asked r (λ x. not (is_some (held_mode st.table x.session r))) Fresh (λ x e k. kind-there r false x e (not-true _ k)) q.0 l q.1 q.2))
   ]
-    where
-      hs : List ListedClaim
-      hs = map (λ h. lock_line st h.0 r h.1) (holders r st.table.held)
-
-      cs : List ListedClaim
-      cs = map (listed_as st Conversion) (conversions st.table r)
-
-      fs : List ListedClaim
-      fs = map (listed_as st Fresh) (fresh_requests st.table r)
-
-      not-true : (b : Bool) → not b ≡ true → b ≡ false
-      not-true true e = sym e
-      not-true false e = refl
 
   -- a holder's lock is a line of the resource
   lock-line : (s : ℕ) (r : List ℕ) (m : Mode) → Member (s, m) (holders r st.table.held) → Member (lock_line st s r m) (listed_on st r)
   lock-line s r m h =
-      member-left (lock_line st s r m) (hs ++ cs) fs (member-left (lock_line st s r m) hs cs (member-map (λ (h : ℕ × Mode). lock_line st h.0 r h.1) (s, m) (holders r st.table.held) h))
-    where
-      hs : List ListedClaim
-      hs = map (λ h. lock_line st h.0 r h.1) (holders r st.table.held)
-
-      cs : List ListedClaim
-      cs = map (listed_as st Conversion) (conversions st.table r)
-
-      fs : List ListedClaim
-      fs = map (listed_as st Fresh) (fresh_requests st.table r)
+      member-left (lock_line st s r m) (lock_lines st r ++ conversion_lines st r) (fresh_lines st r) (member-left (lock_line st s r m) (lock_lines st r) (conversion_lines st r) (member-map (λ (h : ℕ × Mode). lock_line st h.0 r h.1) (s, m) (holders r st.table.held) h))
 
   -- a request is a line of its resource
   request-line : (q : Claim) → In q st.table.requests → Member (listed_as st (kind_of_request st q) q) (listed_on st q.resource)
@@ -378,19 +349,10 @@ module _ (st : State) where
       r : List ℕ
       r = q.resource
 
-      hs : List ListedClaim
-      hs = map (λ h. lock_line st h.0 r h.1) (holders r st.table.held)
-
-      cs : List ListedClaim
-      cs = map (listed_as st Conversion) (conversions st.table r)
-
-      fs : List ListedClaim
-      fs = map (listed_as st Fresh) (fresh_requests st.table r)
-
       go : (b : Bool) → is_some (held_mode st.table q.session r) ≡ b → Member (listed_as st (cond b Conversion Fresh) q) (listed_on st r)
-      go true e = member-left _ (hs ++ cs) fs (member-right _ hs cs (member-map (listed_as st Conversion) q (conversions st.table r)
+      go true e = member-left _ (lock_lines st r ++ conversion_lines st r) (fresh_lines st r) (member-right _ (lock_lines st r) (conversion_lines st r) (member-map (listed_as st Conversion) q (conversions st.table r)
           (member-kept (λ x. same_path x.resource r && is_some (held_mode st.table x.session r)) q st.table.requests (in-member q st.table.requests h) (and_from (same_path r r) (is_some (held_mode st.table q.session r)) (same_path-refl r) e))))
-      go false e = member-right _ (hs ++ cs) fs (member-map (listed_as st Fresh) q (fresh_requests st.table r)
+      go false e = member-right _ (lock_lines st r ++ conversion_lines st r) (fresh_lines st r) (member-map (listed_as st Fresh) q (fresh_requests st.table r)
           (member-kept (λ x. same_path x.resource r && not (is_some (held_mode st.table x.session r))) q st.table.requests (in-member q st.table.requests h) (and_from (same_path r r) (not (is_some (held_mode st.table q.session r))) (same_path-refl r) (ap not e))))
 
   -- an open transaction is what a listing shows of its session

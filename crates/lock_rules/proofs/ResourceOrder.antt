@@ -13,7 +13,7 @@ use Rattle.lock_rules.specs.Listing.{is_less, comes_before, with_path}
 use Rattle.lock_rules.proofs.Lists.{same_path-refl, same_path-true, same_path_tells}
 
 -- a test that passes and fails
-contrary : (b : Bool) → b ≡ true → b ≡ false → ⊥
+pub contrary : (b : Bool) → b ≡ true → b ≡ false → ⊥
 contrary b h k = cc
 
 -- the order of resources
