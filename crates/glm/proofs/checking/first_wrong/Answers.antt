@@ -1,7 +1,7 @@
 use Rattle.std.proofs.Common.{◌≡◌, ◌∙◌, true, rules, arith, ap}
 use Rattle.lock_desk.specs.BookView.{BookView}
 use Rattle.glm.proofs.IsVerdict.{within_at, right, one_more, first_wrong}
-use Rattle.glm.proofs.checking.judge.Goals as goal
+use Rattle.glm.proofs.checking.first_wrong.Goals as goal
 
 pub serve-requires-clause-within : goal.serve-requires-clause-within
 serve-requires-clause-within c =
