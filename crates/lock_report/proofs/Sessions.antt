@@ -1,6 +1,5 @@
 -- The claims of a session in a list that ascends by session, and in one that it was sorted from.
-use Rattle.std.proofs.Common.{◌≡◌, ℕ, zero, suc, ◌+◌, ◌<◌, ◌≤◌, Bool, true, false, cond, not, ◌&&◌, ◌==◌, ltb, leb, ltb-true, ltb-false, leb-true, leb-false, List, [], ◌∷◌, ◌++◌, filter, get_or, take, drop, length, length-take, length-drop, take_all, ◌-◌, refl, ap, sym, subst, ◌∙◌, arith}
-use Rattle.std.specs.List.{flat_map}
+use Rattle.std.proofs.Common.{◌≡◌, ℕ, suc, ◌+◌, ◌<◌, ◌≤◌, Bool, true, false, cond, not, ◌&&◌, ◌==◌, ltb, leb, ltb-true, ltb-false, leb-true, leb-false, List, [], ◌∷◌, ◌++◌, filter, get_or, take, drop, length, length-take, length-drop, take_all, ◌-◌, refl, ap, sym, subst, ◌∙◌, arith}
 use Rattle.std.specs.List.Sorted.{IsPartitionPoint, IsStableByKey}
 use Rattle.std.specs.Ordering.{nat_cmp, is_lt}
 use Rattle.std.specs.declared.cmp.Ordering.TheVariants.{Less, Equal, Greater}
@@ -12,9 +11,8 @@ use Rattle.std.proofs.lemmas.List.Elements.{filter-append}
 use Rattle.lock_modes.specs.declared.Mode.TheVariants.{NL}
 use Rattle.lock_rules.specs.declared.listing.Claim.{Claim}
 use Rattle.lock_rules.specs.declared.listing.ClaimKind.TheVariants.{Held}
-use Rattle.lock_report.specs.declared.snapshot.OpenTransaction.{OpenTransaction}
-use Rattle.lock_report.specs.StateText.{claims_of, session_heading, line_of_session, session_lines}
-use Rattle.lock_report.specs.inner.BySession.{Ascends, IsBySession, session_of}
+use Rattle.lock_report.specs.StateText.{claims_of}
+use Rattle.lock_report.specs.inner.BySession.{Ascends, session_of}
 
 -- Sorted by session.
 
@@ -44,13 +42,6 @@ unfolding claim_of
 stable_keeps claims sorted s stable =
     let same : (λ (c : Claim). not (is_lt (nat_cmp s c.session)) && not (is_lt (nat_cmp c.session s))) ≡ (λ (c : Claim). c.session == s) = fun_ext (λ c. tie_is s c.session) in
     sym (ap (λ (p : Claim → Bool). filter p sorted) same) ∙ stable (claim_of s) ∙ ap (λ (p : Claim → Bool). filter p claims) same
-
--- The lines of the sessions are the same with the claims sorted by session.
-pub same_lines : (claims sorted : List Claim) (opens : List OpenTransaction) → IsBySession claims sorted → flat_map (session_lines sorted) opens ≡ flat_map (session_lines claims) opens
-same_lines claims sorted [] by = refl
-same_lines claims sorted (o ∷ opens) by =
-    ap (λ (cs : List Claim). (session_heading o ++ flat_map line_of_session cs) ++ flat_map (session_lines sorted) opens) (by.each o.session)
-    ∙ ap (λ (t : List ℕ). session_lines claims o ++ t) (same_lines claims sorted opens by)
 
 -- Found by two binary searches.
 

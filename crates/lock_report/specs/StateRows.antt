@@ -1,6 +1,6 @@
 -- The state of a lock table as CSV rows of seven fields: row, session, transaction, victim, resource, mode, other. The format
 -- is this project's own choice.
-use Rattle.std.specs.Prelude.{ℕ, if◌then◌else◌, List, [], ◌∷◌, ◌++◌, map, codes, decimal}
+use Rattle.std.specs.Prelude.{ℕ, if◌then◌else◌, List, [], ◌∷◌, ◌++◌, codes, decimal}
 use Rattle.std.specs.List.{flat_map, join_with_byte}
 use Rattle.lock_modes.specs.Codes.{name_of}
 use Rattle.lock_tree.specs.Text.{text_of}
@@ -23,12 +23,15 @@ victim_field t = if t.doomed then codes "victim" else []
 
 -- the fields of an open transaction
 abbrev pub fields_of_transaction : OpenTransaction → List (List ℕ)
-fields_of_transaction o = codes "transaction" ∷ decimal o.session ∷ decimal o.transaction.number ∷ victim_field o.transaction ∷ [] ∷ [] ∷ [] ∷ []
+fields_of_transaction o =
+    codes "transaction" ∷ decimal o.session ∷ decimal o.transaction.number ∷ victim_field o.transaction
+    ∷ [] ∷ [] ∷ [] ∷ []
 
 -- the fields of a claim
 abbrev pub fields_of_claim : Claim → List (List ℕ)
 fields_of_claim c =
-    word_of_kind c.kind ∷ decimal c.session ∷ decimal c.transaction.number ∷ victim_field c.transaction ∷ text_of c.resource ∷ name_of c.mode ∷ [] ∷ []
+    word_of_kind c.kind ∷ decimal c.session ∷ decimal c.transaction.number ∷ victim_field c.transaction
+    ∷ text_of c.resource ∷ name_of c.mode ∷ [] ∷ []
 
 -- the fields of a wait
 abbrev pub fields_of_wait : Wait → List (List ℕ)
@@ -52,4 +55,5 @@ row_of_wait w = row_of_fields (fields_of_wait w)
 
 -- the rows of the open transactions, of the claims in the order of a listing, and of the waits
 abbrev pub rows_of_state : List OpenTransaction → List Claim → List Wait → List ℕ
-rows_of_state opens claims waits = flat_map row_of_transaction opens ++ flat_map row_of_claim claims ++ flat_map row_of_wait waits
+rows_of_state opens claims waits =
+    flat_map row_of_transaction opens ++ flat_map row_of_claim claims ++ flat_map row_of_wait waits

@@ -1,5 +1,5 @@
 -- The state of a lock table as text for people. The format is this project's own choice.
-use Rattle.std.specs.Prelude.{ℕ, Bool, true, false, not, if◌then◌else◌, ◌==◌, List, [], ◌∷◌, ◌++◌, Option, Some, None, filter, codes, decimal}
+use Rattle.std.specs.Prelude.{ℕ, Bool, false, if◌then◌else◌, ◌==◌, List, [], ◌∷◌, ◌++◌, Option, Some, None, filter, codes, decimal}
 use Rattle.std.specs.List.{flat_map}
 use Rattle.lock_modes.specs.Codes.{name_of}
 use Rattle.lock_tree.specs.Paths.{same_path}
@@ -22,7 +22,9 @@ victim_mark t = if t.doomed then codes ", victim" else []
 
 -- the first line of a session: its number and its transaction
 abbrev pub session_heading : OpenTransaction → List ℕ
-session_heading o = codes "session " ++ decimal o.session ++ codes ", transaction " ++ decimal o.transaction.number ++ victim_mark o.transaction ++ codes "\n"
+session_heading o =
+    codes "session " ++ decimal o.session ++ codes ", transaction " ++ decimal o.transaction.number
+    ++ victim_mark o.transaction ++ codes "\n"
 
 -- what a session does with a resource, below the session
 abbrev pub session_verb : ClaimKind → List ℕ
@@ -45,12 +47,14 @@ mode_word Fresh = codes "in"
 -- the line of a claim below its session
 abbrev pub line_of_session : Claim → List ℕ
 line_of_session c =
-    codes "  " ++ session_verb c.kind ++ codes " " ++ text_of c.resource ++ codes " " ++ mode_word c.kind ++ codes " " ++ name_of c.mode ++ codes "\n"
+    codes "  " ++ session_verb c.kind ++ codes " " ++ text_of c.resource
+    ++ codes " " ++ mode_word c.kind ++ codes " " ++ name_of c.mode ++ codes "\n"
 
 -- the line of a claim below its resource
 abbrev pub line_of_resource : Claim → List ℕ
 line_of_resource c =
-    codes "  session " ++ decimal c.session ++ codes " " ++ resource_verb c.kind ++ codes " " ++ mode_word c.kind ++ codes " " ++ name_of c.mode ++ codes "\n"
+    codes "  session " ++ decimal c.session ++ codes " " ++ resource_verb c.kind
+    ++ codes " " ++ mode_word c.kind ++ codes " " ++ name_of c.mode ++ codes "\n"
 
 -- the claims of the session, in the order of the listing
 abbrev pub claims_of : ℕ → List Claim → List Claim

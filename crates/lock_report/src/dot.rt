@@ -21,16 +21,16 @@ fn put_end_of_node(out: &mut String, transaction: Transaction) -> Result<(), NoM
 }
 
 /// Writes the node of a session.
-fn put_node(out: &mut String, open: &OpenTransaction) -> Result<(), NoMemory>
-    ensures { OnOk result (string_bytes out.new ≡ string_bytes out.old ++ node_of open.now) }
+fn put_node(out: &mut String, begun: &OpenTransaction) -> Result<(), NoMemory>
+    ensures { OnOk result (string_bytes out.new ≡ string_bytes out.old ++ node_of begun.now) }
 {
-    let session = open.session;
-    let number = open.transaction.number;
+    let session = begun.session;
+    let number = begun.transaction.number;
     write!(
         out,
         "  {session} [label=\"session {session}\\ntransaction {number}"
     )?;
-    put_end_of_node(out, open.transaction)
+    put_end_of_node(out, begun.transaction)
 }
 
 /// Writes the edge of a wait.
@@ -44,8 +44,8 @@ fn put_edge(out: &mut String, wait: &Wait) -> Result<(), NoMemory>
 fn put_nodes(out: &mut String, opens: &[OpenTransaction]) -> Result<(), NoMemory>
     ensures { OnOk result (string_bytes out.new ≡ string_bytes out.old ++ flat_map node_of opens.now) }
 {
-    for open in opens {
-        put_node(out, open)?;
+    for begun in opens {
+        put_node(out, begun)?;
     }
     Ok(())
 }

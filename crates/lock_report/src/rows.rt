@@ -28,14 +28,14 @@ fn victim_word(transaction: Transaction) -> &'static str
 }
 
 /// Writes the row of an open transaction.
-fn put_transaction(out: &mut String, open: &OpenTransaction) -> Result<(), NoMemory>
-    ensures { OnOk result (string_bytes out.new ≡ string_bytes out.old ++ row_of_transaction open.now) }
+fn put_transaction(out: &mut String, begun: &OpenTransaction) -> Result<(), NoMemory>
+    ensures { OnOk result (string_bytes out.new ≡ string_bytes out.old ++ row_of_transaction begun.now) }
 {
-    let victim = victim_word(open.transaction);
+    let victim = victim_word(begun.transaction);
     writeln!(
         out,
         "transaction,{},{},{victim},,,",
-        open.session, open.transaction.number
+        begun.session, begun.transaction.number
     )
 }
 
@@ -64,8 +64,8 @@ fn put_wait(out: &mut String, wait: &Wait) -> Result<(), NoMemory>
 fn put_transactions(out: &mut String, opens: &[OpenTransaction]) -> Result<(), NoMemory>
     ensures { OnOk result (string_bytes out.new ≡ string_bytes out.old ++ flat_map row_of_transaction opens.now) }
 {
-    for open in opens {
-        put_transaction(out, open)?;
+    for begun in opens {
+        put_transaction(out, begun)?;
     }
     Ok(())
 }

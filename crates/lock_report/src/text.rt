@@ -23,12 +23,12 @@ fn victim_text(transaction: Transaction) -> &'static str
 }
 
 /// Writes the first line of a session.
-fn put_session_heading(out: &mut String, open: &OpenTransaction) -> Result<(), NoMemory>
-    ensures { OnOk result (string_bytes out.new ≡ string_bytes out.old ++ session_heading open.now) }
+fn put_session_heading(out: &mut String, begun: &OpenTransaction) -> Result<(), NoMemory>
+    ensures { OnOk result (string_bytes out.new ≡ string_bytes out.old ++ session_heading begun.now) }
 {
-    let session = open.session;
-    let number = open.transaction.number;
-    let victim = victim_text(open.transaction);
+    let session = begun.session;
+    let number = begun.transaction.number;
+    let victim = victim_text(begun.transaction);
     writeln!(out, "session {session}, transaction {number}{victim}")
 }
 
@@ -176,12 +176,12 @@ fn put_resources(out: &mut String, claims: &[Claim]) -> Result<(), NoMemory>
 }
 
 /// Writes the lines of a session, whose claims are found in `sorted`.
-fn put_session(out: &mut String, sorted: &[Claim], open: &OpenTransaction) -> Result<(), NoMemory>
+fn put_session(out: &mut String, sorted: &[Claim], begun: &OpenTransaction) -> Result<(), NoMemory>
     requires { Ascends sorted.now }
-    ensures { OnOk result (string_bytes out.new ≡ string_bytes out.old ++ session_lines sorted.now open.now) }
+    ensures { OnOk result (string_bytes out.new ≡ string_bytes out.old ++ session_lines sorted.now begun.now) }
 {
-    put_session_heading(out, open)?;
-    put_lines_of_session(out, claims_of_session(sorted, open.session))
+    put_session_heading(out, begun)?;
+    put_lines_of_session(out, claims_of_session(sorted, begun.session))
 }
 
 /// Writes the lines of the sessions, whose claims are found in `sorted`.
@@ -193,8 +193,8 @@ fn put_sessions(
     requires { Ascends sorted.now }
     ensures { OnOk result (string_bytes out.new ≡ string_bytes out.old ++ flat_map (session_lines sorted.now) opens.now) }
 {
-    for open in opens {
-        put_session(out, sorted, open)?;
+    for begun in opens {
+        put_session(out, sorted, begun)?;
     }
     Ok(())
 }
