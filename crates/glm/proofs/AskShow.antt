@@ -13,12 +13,12 @@ use Rattle.glm.specs.CommandLine.{GivesPlace, HasFlag, WantsForm}
 -- the options give at most one place
 pub place-one : (rows : List Row) (p q : Option ℕ) → GivesPlace rows p → GivesPlace rows q → p ≡ q
 place-one rows None None a b = refl
-place-one rows None (Some q) a b = let bad : Some (decimal q) ≡ None = sym b.0 ∙ a in cc
-place-one rows (Some p) None a b = let bad : Some (decimal p) ≡ None = sym a.0 ∙ b in cc
+place-one rows None (Some q) a b = let bad : Some (decimal q) ≡ None = sym b.given ∙ a in cc
+place-one rows (Some p) None a b = let bad : Some (decimal p) ≡ None = sym a.given ∙ b in cc
 place-one rows (Some p) (Some q) a b =
-    let same : Some (decimal p) ≡ Some (decimal q) = sym a.0 ∙ b.0 in
+    let same : Some (decimal p) ≡ Some (decimal q) = sym a.given ∙ b.given in
     let text : decimal p ≡ decimal q = cc in
-    ap (λ (n : ℕ). Some n) (decimal_injective p q (omega (arith, a.1)) (omega (arith, b.1)) text)
+    ap (λ (n : ℕ). Some n) (decimal_injective p q (omega (arith, a.few)) (omega (arith, b.few)) text)
 
 -- the options want the state in one form
 pub form-one : (rows : List Row) (a b : Form) → WantsForm rows a → WantsForm rows b → a ≡ b
@@ -37,16 +37,16 @@ pub place_given : (text : Text) (n : ℕ) (rows : List Row) → first_of (codes 
     → GivesPlace rows (Some n)
 place_given text n rows is read =
     let (few, same) = (reading_iff text MAX_PLACE n (omega arith)).0 read in
-    (is ∙ ap Some same, few)
+    record { given = is ∙ ap Some same; few = few }
 
 -- an option `--at` whose text reads as no number gives no place
 pub place_not_given : (text : Text) (rows : List Row) → first_of (codes "at") rows ≡ Some text
     → ((m : ℕ) → ¬ (reading_of_numeral MAX_PLACE text ≡ Ok m)) → (place : Option ℕ) → ¬ GivesPlace rows place
 place_not_given text rows is none None gives = let bad : Some text ≡ None = sym is ∙ gives in cc
 place_not_given text rows is none (Some n) gives =
-    let same : Some text ≡ Some (decimal n) = sym is ∙ gives.0 in
+    let same : Some text ≡ Some (decimal n) = sym is ∙ gives.given in
     let text_is : text ≡ decimal n = cc in
-    none n ((reading_iff text MAX_PLACE n (omega arith)).1 (gives.1, text_is))
+    none n ((reading_iff text MAX_PLACE n (omega arith)).1 (gives.few, text_is))
 
 -- options with both flags want no form
 pub two_forms : (rows : List Row) → HasFlag (codes "csv") rows → HasFlag (codes "dot") rows → (asked : Form) → ¬ WantsForm rows asked

@@ -8,6 +8,7 @@ pub mod IsPassed
 pub mod IsPerformed
 pub mod IsRunOf
 pub mod IsVerdict
+pub mod OverSessions
 pub mod PartsWritten
 pub mod ServedRows
 pub mod Silent

@@ -100,10 +100,15 @@ abbrev pub most_sessions : Delivery → ℕ
 most_sessions delivery.Whole = MAX_SESSIONS
 most_sessions delivery.InPieces = MAX_STREAMED_SESSIONS
 
--- the parsed options give this place: none, or a number up to MAX_PLACE in decimal without a sign or a leading zero
+-- the parsed options give this number for `--at`, in decimal without a sign or a leading zero
+pub record GivesNumberedPlace (rows : List Row) (place : ℕ) : Type 0 where
+  pub given : first_of (codes "at") rows ≡ Some (decimal place)
+  pub few : place ≤ MAX_PLACE
+
+-- the parsed options give this place: none, or a number
 abbrev pub GivesPlace : List Row → Option ℕ → Type 0
 GivesPlace rows None = first_of (codes "at") rows ≡ None
-GivesPlace rows (Some place) = (first_of (codes "at") rows ≡ Some (decimal place)) × (place ≤ MAX_PLACE)
+GivesPlace rows (Some place) = GivesNumberedPlace rows place
 
 -- the parsed options want the state shown in this form: as lines unless they have one of the flags `--csv` and `--dot`
 abbrev pub WantsForm : List Row → Form → Type 0

@@ -1,5 +1,5 @@
 -- What `show` writes: the state of the lock table at a place of a history.
-use Rattle.std.specs.Prelude.{◌≡◌, ℕ, ◌<◌, ◌≤◌, List, [], ◌∷◌, length, take, map, filter, All, Option, Some, None, Result, Ok, Err}
+use Rattle.std.specs.Prelude.{◌≡◌, ℕ, ◌<◌, ◌≤◌, List, [], ◌∷◌, if◌then◌else◌, length, take, All, Option, Some, None, Result, Ok, Err}
 use Rattle.std.specs.List.{flat_map, range_with_len}
 use Rattle.std.specs.Io.KnownBytes.{Keeps, Appends}
 use Rattle.lock_rules.specs.declared.calls.Entry.{Entry}
@@ -33,9 +33,13 @@ open_of s (Some x) = record { session = s; transaction = x } ∷ []
 abbrev pub opens_of : ℕ → State → List OpenTransaction
 opens_of n st = flat_map (λ s. open_of s (st.begun s)) (range_with_len 1 n)
 
+-- the edge of the waits-for graph from s to u in a list, the empty list if there is none
+abbrev pub wait_of : State → ℕ → ℕ → List Wait
+wait_of st s u = if waits_for st.table s u then record { session = s; other = u } ∷ [] else []
+
 -- for whom session s waits directly, of the sessions 1 to n, by session number
 abbrev pub waits_by : ℕ → State → ℕ → List Wait
-waits_by n st s = map (λ u. record { session = s; other = u }) (filter (waits_for st.table s) (range_with_len 1 n))
+waits_by n st s = flat_map (wait_of st s) (range_with_len 1 n)
 
 -- who of the sessions 1 to n waits directly for whom, by session number
 abbrev pub waits_of : ℕ → State → List Wait

@@ -308,7 +308,7 @@ fn form_of(given: &ArgMatches) -> Option<Form>
 }
 
 /// Returns the request of `show`, or `None` if its place isn't a valid number or it is asked for two forms.
-#[tactic(auto, using(crate::proofs::AskShow::no_place, crate::proofs::AskShow::no_form))]
+#[tactic(auto, using(crate::proofs::Ask::no_place, crate::proofs::Ask::no_form))]
 fn show_request(sessions: u16, given: &ArgMatches) -> Option<Request>
     requires given { Gives (codes "sessions") MAX_SESSIONS (rows_of (found_of given.now)) sessions }
     ensures some { IfSome result (IsRequest (Some (codes "show", rows_of (found_of given.now)))) }
@@ -317,7 +317,9 @@ fn show_request(sessions: u16, given: &ArgMatches) -> Option<Request>
     let Ok(place) = option_place(given) else {
         return None;
     };
-    let form = form_of(given)?;
+    let Some(form) = form_of(given) else {
+        return None;
+    };
     Some(Request::Show(sessions, place, form))
 }
 

@@ -1,11 +1,11 @@
 //! The command `show`: the state of the lock table at a place of a history, as text.
 
-ghost use Rattle.std.specs.Prelude.{◌≡◌, ◌≢◌, ℕ, ◌<◌, ◌≤◌, ◌++◌, List, Some, length, All, IfOk, IfErr, string_bytes};
+ghost use Rattle.std.specs.Prelude.{◌≡◌, ◌≢◌, ℕ, ◌<◌, ◌≤◌, ◌++◌, List, Some, length, All, IfOk, IfErr, OnOk, string_bytes};
 ghost use Rattle.std.specs.Io.KnownBytes.{Keeps};
 ghost use Rattle.lock_rules.specs.declared.calls.TheConstants.{MAX_SESSIONS};
 ghost use Rattle.lock_rules.specs.Legal.{state_of};
 ghost use Rattle.lock_trace.specs.Entries.{IsEntry};
-ghost use Rattle.glm.specs.Showing.{HasShown, HasShownPart, Shows, opens_of, text_in, text_shown, waits_by, waits_of};
+ghost use Rattle.glm.specs.Showing.{HasShown, HasShownPart, Shows, open_of, opens_of, text_in, text_shown, wait_of, waits_by, waits_of};
 ghost use Rattle.glm.specs.Verdicts.{IsVerdict, text_of_verdict};
 
 use crate::args::Form;
@@ -28,35 +28,54 @@ struct Shown {
     text: String,
 }
 
+/// Adds the open transaction of `session` to the list, if it has one. Fails if memory is refused.
+fn add_open(book: &Book, session: u16, opens: &mut Vec<OpenTransaction>) -> Result<(), NoMemory>
+    ensures { OnOk result (opens.new.items ≡ opens.old.items ++ open_of session ((state_of book.now.history).begun session)) }
+{
+    if let Some(transaction) = book.transaction(session) {
+        opens.push(OpenTransaction {
+            session,
+            transaction,
+        })?;
+    }
+    Ok(())
+}
+
 /// The open transactions of the book's sessions, by session number. Fails if memory is refused.
 fn open_transactions(alloc: Global, book: &Book) -> Result<Vec<OpenTransaction>, NoMemory>
     ensures { IfOk result (λ opens. opens.items ≡ opens_of book.now.sessions (state_of book.now.history)) }
 {
     let mut opens = Vec::new(alloc);
-    for session in 1..=book.sessions() {
-        if let Some(transaction) = book.transaction(session) {
-            opens.push(OpenTransaction {
-                session,
-                transaction,
-            })?;
-        }
+    let sessions = book.sessions();
+    for before in 0..sessions {
+        add_open(book, before + 1, &mut opens)?;
     }
     Ok(opens)
 }
 
-/// Adds for whom `session` waits directly to `waits`, by session number. Fails if memory is refused.
-fn add_waits_by(book: &Book, session: u16, waits: &mut Vec<Wait>) -> Result<(), NoMemory>
-    ensures { IfOk result (λ _. waits.new.items ≡ waits.old.items ++ waits_by book.now.sessions (state_of book.now.history) session) }
+/// Adds the edge from `session` to `other` to the list, if the first waits for the second. Fails if memory is refused.
+fn add_wait(book: &Book, session: u16, other: u16, waits: &mut Vec<Wait>) -> Result<(), NoMemory>
+    ensures { OnOk result (waits.new.items ≡ waits.old.items ++ wait_of (state_of book.now.history) session other) }
 {
-    if book.request(session).is_none() {
-        return Ok(());
-    }
-    for other in 1..=book.sessions() {
-        if book.waits_for(session, other) {
-            waits.push(Wait { session, other })?;
-        }
+    if book.waits_for(session, other) {
+        waits.push(Wait { session, other })?;
     }
     Ok(())
+}
+
+/// For whom `session` waits directly, by session number. Fails if memory is refused.
+fn waits_by(alloc: Global, book: &Book, session: u16) -> Result<Vec<Wait>, NoMemory>
+    ensures { IfOk result (λ waits. waits.items ≡ waits_by book.now.sessions (state_of book.now.history) session) }
+{
+    let mut waits = Vec::new(alloc);
+    let Some(_request) = book.request(session) else {
+        return Ok(waits);
+    };
+    let sessions = book.sessions();
+    for before in 0..sessions {
+        add_wait(book, session, before + 1, &mut waits)?;
+    }
+    Ok(waits)
 }
 
 /// Who of the book's sessions waits directly for whom, by session number. Fails if memory is refused.
@@ -64,8 +83,10 @@ fn all_waits(alloc: Global, book: &Book) -> Result<Vec<Wait>, NoMemory>
     ensures { IfOk result (λ waits. waits.items ≡ waits_of book.now.sessions (state_of book.now.history)) }
 {
     let mut waits = Vec::new(alloc);
-    for session in 1..=book.sessions() {
-        add_waits_by(book, session, &mut waits)?;
+    let sessions = book.sessions();
+    for before in 0..sessions {
+        let own = waits_by(alloc, book, before + 1)?;
+        waits.extend_from_slice(&own)?;
     }
     Ok(waits)
 }
@@ -136,6 +157,7 @@ fn shown_text(
 /// `Device` the beginning of the text may have been written, and nothing else. The fault `Trace` names the first faulty row and
 /// the first test that the row fails; `NoPlace` means that the history has fewer than `place` entries. The formats are this
 /// project's own; see docs/FORMATS.md.
+#[tactic(auto, using(crate::proofs::PartsWritten::show_part, crate::proofs::PartsWritten::show_part_known))]
 pub fn show<R: Read + Drop, W: Write>(
     alloc: Global,
     input: R,

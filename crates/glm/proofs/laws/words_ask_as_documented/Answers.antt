@@ -1,8 +1,8 @@
 use Rattle.std.proofs.Common.{rules, arith, refl, subst, sym, inl, codes, ◌≡◌, ◌≢◌, ◌∙◌, List, [], ◌∷◌, Option, Some}
-use Rattle.std.specs.Prelude.{Err}
+use Rattle.std.specs.Prelude.{Err, Ok}
 use Rattle.clap.specs.Kinds.{Kinds}
 use Rattle.clap.specs.Simple.{subcommand_of}
-use Rattle.clap.specs.Walk.{Row, Text}
+use Rattle.clap.specs.Walk.{Row, Text, first_of}
 use Rattle.clap.specs.declared.error.kind.ErrorKind.{ErrorKind}
 use Rattle.clap.specs.declared.error.kind.ErrorKind.TheVariants.{DisplayHelp, DisplayVersion, MissingSubcommand, UnknownArgument, InvalidSubcommand, ValueValidation}
 use Rattle.clap.proofs.OnLiterals.{clap_on_literals}
@@ -11,11 +11,10 @@ use Rattle.lock_tree.specs.declared.numeral.NumeralFault.{NumeralFault}
 use Rattle.lock_tree.specs.declared.numeral.NumeralFault.TheVariants.{LeadingZero, NotANumber}
 use Rattle.lock_rules.specs.declared.calls.TheConstants.{MAX_SESSIONS}
 use Rattle.glm.specs.CommandLine.{AskNothing, Gives, HasFlag, IsRequest, faults_of, glm_command}
-use Rattle.glm.specs.declared.args.TheConstants.{MAX_TURNS}
+use Rattle.glm.specs.declared.args.TheConstants.{MAX_PLACE, MAX_TURNS}
 use Rattle.glm.specs.declared.running_in_pieces.TheConstants.{MAX_STREAMED_SESSIONS}
 use Rattle.glm.proofs.Ask.{no_form, no_place, no_streamed, no_such_sessions, sessions_text}
 use Rattle.glm.proofs.AskShow.{place_given, place_not_given, two_forms}
-use Rattle.glm.specs.declared.args.Request.{Request}
 use Rattle.glm.proofs.Gives.{numeral_given}
 use Rattle.glm.proofs.laws.words_ask_as_documented.Goals as goal
 
@@ -27,11 +26,23 @@ faulty words kind kinds is other another = record {
   no_version = λ version. let bad : kind ∷ kinds ≡ DisplayVersion ∷ [] = sym is ∙ version in another cc;
 }
 
--- words without an error ask for nothing if their command is no request
-unasked : (words : List Text) (found : Option (Text × List Row)) → faults_of words ≡ [] → subcommand_of glm_command words ≡ found
-    → ((asked : Request) → ¬ IsRequest found asked) → AskNothing words
-unasked words found whole is none = record {
-  no_request = λ asked ask. none asked (subst (λ (f : Option (Text × List Row)). IsRequest f asked) is ask.request_is);
+-- words without an error ask for nothing if they name `show` and a place that isn't read as a number
+unplaced : (words : List Text) (name : Text) (rows : List Row) (text : Text) (fault : NumeralFault) → faults_of words ≡ []
+    → subcommand_of glm_command words ≡ Some (name, rows) → name ≡ codes "show" → first_of (codes "at") rows ≡ Some text
+    → reading_of_numeral MAX_PLACE text ≡ Err fault → AskNothing words
+unplaced words name rows text fault whole is show given wrong = record {
+  no_request = λ asked ask. no_place name rows show (place_not_given text rows given (λ m read. let bad : Ok m ≡ Err fault = sym read ∙ wrong in cc)) asked
+      (subst (λ (f : Option (Text × List Row)). IsRequest f asked) is ask.request_is);
+  no_help = λ help. let bad : [] ≡ DisplayHelp ∷ [] = sym whole ∙ help in cc;
+  no_version = λ version. let bad : [] ≡ DisplayVersion ∷ [] = sym whole ∙ version in cc;
+}
+
+-- words without an error ask for nothing if they name `show` and two forms
+in_two_forms : (words : List Text) (name : Text) (rows : List Row) → faults_of words ≡ [] → subcommand_of glm_command words ≡ Some (name, rows)
+    → name ≡ codes "show" → HasFlag (codes "csv") rows → HasFlag (codes "dot") rows → AskNothing words
+in_two_forms words name rows whole is show csv dot = record {
+  no_request = λ asked ask. no_form name rows show (two_forms rows csv dot) asked
+      (subst (λ (f : Option (Text × List Row)). IsRequest f asked) is ask.request_is);
   no_help = λ help. let bad : [] ≡ DisplayHelp ∷ [] = sym whole ∙ help in cc;
   no_version = λ version. let bad : [] ≡ DisplayVersion ∷ [] = sym whole ∙ version in cc;
 }
@@ -182,8 +193,8 @@ returns-clause-show_graph c = record { whole = refl; request_is = (refl, numeral
 
 pub returns-clause-show_two_forms : goal.returns-clause-show_two_forms
 unfolding clap_on_literals
-returns-clause-show_two_forms c = unasked _ _ refl refl (no_form _ _ refl (two_forms _ refl refl))
+returns-clause-show_two_forms c = in_two_forms _ _ _ refl refl refl refl refl
 
 pub returns-clause-show_zeros : goal.returns-clause-show_zeros
 unfolding clap_on_literals
-returns-clause-show_zeros c = unasked _ _ refl refl (no_place _ _ refl (place_not_given (codes "07") _ refl (λ m read. let bad : Ok m ≡ Err LeadingZero = sym read in cc)))
+returns-clause-show_zeros c = unplaced _ _ _ (codes "07") LeadingZero refl refl refl refl refl
