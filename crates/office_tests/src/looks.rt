@@ -120,15 +120,17 @@ fn blockers(
     }
 }
 
-/// A list with two sessions. Tries a second time if memory is refused.
-fn two_sevens(alloc: Global) -> Result<Vec<u16>, NoMemory> {
-    match vec![in alloc; 7, 7] {
-        Ok(list) => Ok(list),
-        Err(_) => vec![in alloc; 7, 7],
+/// A list with one session. Tries to make room a second time if memory is refused.
+fn list_of_one(alloc: Global) -> Result<Vec<u16>, NoMemory> {
+    let mut list = Vec::new(alloc);
+    if list.reserve(1).is_err() {
+        list.reserve(1)?;
     }
+    list.push(7)?;
+    Ok(list)
 }
 
-/// Asks for whom session `whose` waits, with a list that has other sessions before, and expects these, behind so many calls.
+/// Asks for whom session `whose` waits, with a list that has another session before, and expects these, behind so many calls.
 fn want_blockers(
     rt: &impl Abort,
     alloc: Global,
@@ -141,7 +143,7 @@ fn want_blockers(
     requires ours { IsSessionOf office.now session.old }
     ensures ours { IsSessionOf office.now session.new }
 {
-    let mut list = two_sevens(alloc)?;
+    let mut list = list_of_one(alloc)?;
     let seen = blockers(office, session, whose, &mut list)?;
     assert_eq!(rt; seen, Some(length));
     assert_eq!(rt; list.as_slice(), expected);
@@ -255,14 +257,17 @@ fn want_writer_and_requests(
     requires ours { IsSessionOf office.now session.old }
     ensures ours { IsSessionOf office.now session.new }
 {
-    let writer = claim(row, 1, Mode::X, ClaimKind::Held);
-    let second = claim(row, 2, Mode::S, ClaimKind::Fresh);
     let third = claim(row, 3, Mode::S, ClaimKind::Fresh);
     want_transaction(rt, office, session, 2, 6, 2);
     want_transaction(rt, office, session, 9, 6, 0);
     want_request(rt, office, session, 1, 6, None);
     want_request(rt, office, session, 3, 6, Some(third));
-    want_locks(rt, alloc, office, session, 6, &[writer, second, third])
+    let lines = [
+        claim(row, 1, Mode::X, ClaimKind::Held),
+        claim(row, 2, Mode::S, ClaimKind::Fresh),
+        claim(row, 3, Mode::S, ClaimKind::Fresh),
+    ];
+    want_locks(rt, alloc, office, session, 6, &lines)
 }
 
 /// Asks the other four questions about an office in which session 1 holds the database in X, session 2 waits for it in S, and

@@ -1,0 +1,109 @@
+#!/usr/bin/env python3
+"""Times how threads share a lock table: a book behind a mutex, and an office. Prints a table for each, and the ratio of both.
+
+Usage: bench/sharing.py PROGRAM [ROUNDS] [--lock-bench LOCK_BENCH]
+
+PROGRAM is bench/sharing.c, which says how it is built. Rows, threads and ways are interleaved within a round, and every second
+round goes backwards. A figure is the middle one of the rounds (5 by default) of the fastest turn of a process, and behind it the
+least. Times of answers are means over the rounds. With --lock-bench the same traces are timed by `lock_bench mutex` and
+`lock_bench threads`, which go by `combining::call`.
+
+    own       each session locks a database of its own, a file, a page and 10 records, and commits
+    shared    all sessions lock one database, file and page in IX, and 4 records of their own, and commit
+    conflict  each session locks one of 4 databases, in S or, every third time, in X, polls and aborts
+"""
+import argparse
+import re
+import statistics
+import subprocess
+import tempfile
+from pathlib import Path
+
+CASES = [(kind, threads, threads) for kind in ("own", "shared", "conflict") for threads in (1, 2, 4, 8)]
+CASES += [("own", 4, 64), ("shared", 4, 64), ("own", 8, 250), ("shared", 8, 250)]
+ROWS = 100_000
+TURNS = 9
+
+
+def own(session, turn):
+    page = f"{session}/{turn % 4}/{turn % 64}"
+    yield "lock", str(session), "IX"
+    yield "lock", f"{session}/{turn % 4}", "IX"
+    yield "lock", page, "IX"
+    for record in range(10):
+        yield "lock", f"{page}/{(turn * 7 + record) % 1000}", "X"
+    yield "commit", "", ""
+
+
+def shared(session, turn):
+    for resource in ("1", "1/1", "1/1/1"):
+        yield "lock", resource, "IX"
+    for record in range(4):
+        yield "lock", f"1/1/1/{session * 1000 + (turn * 3 + record) % 1000}", "X" if record % 2 else "S"
+    yield "commit", "", ""
+
+
+def conflict(session, turn):
+    yield "lock", str(1 + (session * 5 + turn) % 4), "X" if (session + turn) % 3 == 0 else "S"
+    yield "poll", "", ""
+    yield "abort", "", ""
+
+
+def write_trace(path, kind, sessions):
+    rows = []
+    turn = 0
+    while len(rows) < ROWS:
+        for session in range(1, sessions + 1):
+            rows.append(f"{session},begin,,\n")
+            rows += [f"{session},{op},{resource},{mode}\n" for op, resource, mode in kind(session, turn)]
+        turn += 1
+    path.write_text("".join(rows))
+
+
+def run(words):
+    return subprocess.run(words, stdout=subprocess.PIPE, text=True, check=True).stdout
+
+
+def main():
+    asked = argparse.ArgumentParser(description=__doc__, formatter_class=argparse.RawDescriptionHelpFormatter)
+    asked.add_argument("program")
+    asked.add_argument("rounds", type=int, nargs="?", default=5)
+    asked.add_argument("--lock-bench")
+    asked = asked.parse_args()
+    times, answers = {}, {}
+    with tempfile.TemporaryDirectory() as folder:
+        traces = {}
+        for kind, _, sessions in CASES:
+            path = Path(folder) / f"{kind}.{sessions}.csv"
+            if not path.exists():
+                write_trace(path, {"own": own, "shared": shared, "conflict": conflict}[kind], sessions)
+            traces[kind, sessions] = str(path)
+        for turn in range(asked.rounds):
+            for case in CASES if turn % 2 == 0 else CASES[::-1]:
+                kind, threads, sessions = case
+                for line in run([asked.program, traces[kind, sessions], str(threads), str(TURNS)]).splitlines():
+                    way = line.split()[0]
+                    told = {name: float(number) for name, number in re.findall(r"(\w+)=([\d.]+)", line)}
+                    times.setdefault((case, way), []).append(told["least"])
+                    answers.setdefault((case, way), []).append([told[name] for name in ("median", "99th", "9999th", "greatest")])
+                if asked.lock_bench:
+                    for way, command in (("call", "threads"), ("book", "mutex")):
+                        line = run([asked.lock_bench, command, traces[kind, sessions], str(threads), str(TURNS)])
+                        times.setdefault((case, way), []).append(float(line.split("=")[1]))
+    for case in CASES:
+        kind, threads, sessions = case
+        for mutex, office in (("mutex", "office"), ("book", "call")):
+            if (case, office) not in times:
+                continue
+            a, b = times[case, mutex], times[case, office]
+            print(f"{kind:8} {threads} threads {sessions:3} sessions, {mutex} {statistics.median(a):6.1f} ({min(a):6.1f})"
+                  f" {office} {statistics.median(b):6.1f} ({min(b):6.1f})"
+                  f" ratio {statistics.median(b) / statistics.median(a):.2f} ({min(b) / min(a):.2f})")
+            for way in (mutex, office):
+                if (case, way) in answers:
+                    means = [statistics.mean(column) for column in zip(*answers[case, way])]
+                    print(f"    answers by {way:6}: " + " ".join(f"{mean:9.0f}" for mean in means))
+
+
+if __name__ == "__main__":
+    main()
