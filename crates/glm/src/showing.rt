@@ -5,7 +5,7 @@ ghost use Rattle.std.specs.Io.KnownBytes.{Keeps};
 ghost use Rattle.lock_rules.specs.declared.calls.TheConstants.{MAX_SESSIONS};
 ghost use Rattle.lock_rules.specs.Legal.{state_of};
 ghost use Rattle.lock_trace.specs.Entries.{IsEntry};
-ghost use Rattle.glm.specs.Showing.{HasShown, HasShownPart, Shows, open_of, opens_of, text_in, text_shown, wait_of, waits_by, waits_of};
+ghost use Rattle.glm.specs.Showing.{HasShown, HasShownPart, Shows, open_of, opens_of, place_shown, text_in, text_shown, wait_of, waits_by, waits_of};
 ghost use Rattle.glm.specs.Verdicts.{IsVerdict, text_of_verdict};
 
 use crate::args::Form;
@@ -148,6 +148,16 @@ fn shown_text(
     })
 }
 
+/// The place that is shown: the one that is asked for, or the end of the history.
+fn place_asked(place: Option<u32>, entries: &[Entry]) -> usize
+    ensures { result ≡ place_shown place entries.now }
+{
+    match place {
+        Some(place) => place as usize,
+        None => entries.len(),
+    }
+}
+
 /// Reads the whole text of a history of sessions 1 to `sessions`, at most `MAX_SESSIONS`, checks it as [`check`] does, and writes
 /// the state of the lock table in front of the entry at index `place`, `None` for the end of the history: which transactions are
 /// open, who holds what, who waits for what, and who waits for whom. If the history isn't legal, the line of its verdict is
@@ -180,17 +190,14 @@ pub fn show<R: Read + Drop, W: Write>(
         Ok(entries) => entries,
         Err(fault) => return Err(ShowFault::Trace(fault)),
     };
-    let place = match place {
-        Some(place) => place as usize,
-        None => entries.len(),
-    };
-    if place > entries.len() {
+    let shown_at = place_asked(place, &entries);
+    if shown_at > entries.len() {
         return Err(ShowFault::NoPlace {
-            place: place as u64,
+            place: shown_at as u64,
             entries: entries.len() as u64,
         });
     }
-    let Ok(shown) = shown_text(alloc, &entries, sessions, place, form) else {
+    let Ok(shown) = shown_text(alloc, &entries, sessions, shown_at, form) else {
         return Err(ShowFault::NoMemory);
     };
     if write_text(output, shown.text.as_bytes()).is_err() {
