@@ -45,6 +45,12 @@ fn usage_errors_end_with_status_2(rt: HostRuntime) -> Result<(), Fail> {
         ["run", "--stream=true"].as_slice(),
         ["run", "--stream", "--sessions=1024"].as_slice(),
         ["check", "--stream"].as_slice(),
+        ["show", "--csv", "--dot"].as_slice(),
+        ["show", "--at"].as_slice(),
+        ["show", "--at", "-1"].as_slice(),
+        ["show", "--at=07"].as_slice(),
+        ["show", "--at", "4294967296"].as_slice(),
+        ["check", "--at=1"].as_slice(),
     ] {
         want_misused(&rt, &rt, words)?;
     }

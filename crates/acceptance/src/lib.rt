@@ -36,6 +36,8 @@ mod replays;
 #[cfg(test)]
 mod runs_in_pieces;
 #[cfg(test)]
+mod shows;
+#[cfg(test)]
 mod threaded_runs;
 #[cfg(test)]
 mod updates;

@@ -14,7 +14,9 @@ use Rattle.glm.specs.declared.args.Delivery.{Delivery}
 use Rattle.glm.specs.declared.args.Delivery.TheVariants as delivery
 use Rattle.glm.specs.declared.args.Request.{Request}
 use Rattle.glm.specs.declared.args.Request.TheVariants as request
-use Rattle.glm.specs.CommandLine.{Ask, Gives, IsRequest, HasFlag, IsRequestIn, Wants, faults_of, glm_command, most_sessions}
+use Rattle.glm.specs.declared.args.Form.{Form}
+use Rattle.glm.proofs.AskShow.{form-one, place-one}
+use Rattle.glm.specs.CommandLine.{Ask, Gives, GivesPlace, WantsForm, IsRequest, HasFlag, IsRequestIn, Wants, faults_of, glm_command, most_sessions}
 
 -- a number of sessions that a run takes is one that a command takes
 pub as_sessions : (rows : List Row) (d : Delivery) (n : ℕ) → Gives (codes "sessions") (most_sessions d) rows n → Gives (codes "sessions") MAX_SESSIONS rows n
@@ -50,6 +52,7 @@ pub no_sessions : (name : Text) (rows : List Row) → ((n : ℕ) → ¬ Gives (c
 no_sessions name rows none (request.Replay n d) is = none n is.1
 no_sessions name rows none (request.Run n t d) is = none n (as_sessions rows d n is.1)
 no_sessions name rows none (request.Check n) is = none n is.1
+no_sessions name rows none (request.Show n p f) is = none n is.1
 
 -- no request is in the options of `run` if they give no number of turns
 pub no_turns : (name : Text) (rows : List Row) → name ≡ codes "run" → ((n : ℕ) → ¬ Gives (codes "turns") MAX_TURNS rows n)
@@ -57,6 +60,7 @@ pub no_turns : (name : Text) (rows : List Row) → name ≡ codes "run" → ((n 
 no_turns name rows run none (request.Replay n d) is = let bad : codes "run" ≡ codes "replay" = sym run ∙ is.0 in cc
 no_turns name rows run none (request.Run n t d) is = none t is.2
 no_turns name rows run none (request.Check n) is = let bad : codes "run" ≡ codes "check" = sym run ∙ is.0 in cc
+no_turns name rows run none (request.Show n p f) is = let bad : codes "run" ≡ codes "show" = sym run ∙ is.0 in cc
 
 -- no request is in the options of a run that want the history in pieces, and the greatest number of sessions
 pub no_streamed : (name : Text) (rows : List Row) (n : ℕ) → name ≡ codes "run" → Gives (codes "sessions") MAX_SESSIONS rows n → MAX_STREAMED_SESSIONS < n
@@ -67,13 +71,31 @@ no_streamed name rows n run given many flag (request.Run m t delivery.InPieces) 
     let same : m ≡ n = sessions-one rows m n (as_sessions rows delivery.InPieces m is.1) given in
     omega (arith, same, many, is.1.few)
 no_streamed name rows n run given many flag (request.Check m) is = let bad : codes "run" ≡ codes "check" = sym run ∙ is.0 in cc
+no_streamed name rows n run given many flag (request.Show m p f) is = let bad : codes "run" ≡ codes "show" = sym run ∙ is.0 in cc
 
--- no request has a name other than `replay`, `run` and `check`
-pub no_name : (name : Text) (rows : List Row) → name ≢ codes "replay" → name ≢ codes "run" → name ≢ codes "check"
+-- no request is in the options of `show` if they give no place
+pub no_place : (name : Text) (rows : List Row) → name ≡ codes "show" → ((p : Option ℕ) → ¬ GivesPlace rows p) → (asked : Request)
+    → ¬ IsRequest (Some (name, rows)) asked
+no_place name rows show none (request.Replay n d) is = let bad : codes "show" ≡ codes "replay" = sym show ∙ is.0 in cc
+no_place name rows show none (request.Run n t d) is = let bad : codes "show" ≡ codes "run" = sym show ∙ is.0 in cc
+no_place name rows show none (request.Check n) is = let bad : codes "show" ≡ codes "check" = sym show ∙ is.0 in cc
+no_place name rows show none (request.Show n p f) is = none p is.2
+
+-- no request is in the options of `show` if they want no form
+pub no_form : (name : Text) (rows : List Row) → name ≡ codes "show" → ((f : Form) → ¬ WantsForm rows f) → (asked : Request)
+    → ¬ IsRequest (Some (name, rows)) asked
+no_form name rows show none (request.Replay n d) is = let bad : codes "show" ≡ codes "replay" = sym show ∙ is.0 in cc
+no_form name rows show none (request.Run n t d) is = let bad : codes "show" ≡ codes "run" = sym show ∙ is.0 in cc
+no_form name rows show none (request.Check n) is = let bad : codes "show" ≡ codes "check" = sym show ∙ is.0 in cc
+no_form name rows show none (request.Show n p f) is = none f is.3
+
+-- no request has a name other than `replay`, `run`, `check` and `show`
+pub no_name : (name : Text) (rows : List Row) → name ≢ codes "replay" → name ≢ codes "run" → name ≢ codes "check" → name ≢ codes "show"
     → (asked : Request) → ¬ IsRequest (Some (name, rows)) asked
-no_name name rows replay run check (request.Replay n d) is = replay is.0
-no_name name rows replay run check (request.Run n t d) is = run is.0
-no_name name rows replay run check (request.Check n) is = check is.0
+no_name name rows replay run check show (request.Replay n d) is = replay is.0
+no_name name rows replay run check show (request.Run n t d) is = run is.0
+no_name name rows replay run check show (request.Check n) is = check is.0
+no_name name rows replay run check show (request.Show n p f) is = show is.0
 
 -- the text of the option `--sessions` of the command that was found
 abbrev pub sessions_text : Option (Text × List Row) → Option Text
@@ -103,6 +125,17 @@ one-in name rows (request.Run m u d) (request.Check n) a b = let bad : codes "ru
 one-in name rows (request.Check m) (request.Replay n e) a b = let bad : codes "check" ≡ codes "replay" = sym a.0 ∙ b.0 in cc
 one-in name rows (request.Check m) (request.Run n t e) a b = let bad : codes "check" ≡ codes "run" = sym a.0 ∙ b.0 in cc
 one-in name rows (request.Check m) (request.Check n) a b = ap (λ k. request.Check k) (sessions-one rows m n a.1 b.1)
+one-in name rows (request.Replay m d) (request.Show n q g) a b = let bad : codes "replay" ≡ codes "show" = sym a.0 ∙ b.0 in cc
+one-in name rows (request.Run m u d) (request.Show n q g) a b = let bad : codes "run" ≡ codes "show" = sym a.0 ∙ b.0 in cc
+one-in name rows (request.Check m) (request.Show n q g) a b = let bad : codes "check" ≡ codes "show" = sym a.0 ∙ b.0 in cc
+one-in name rows (request.Show m p f) (request.Replay n e) a b = let bad : codes "show" ≡ codes "replay" = sym a.0 ∙ b.0 in cc
+one-in name rows (request.Show m p f) (request.Run n t e) a b = let bad : codes "show" ≡ codes "run" = sym a.0 ∙ b.0 in cc
+one-in name rows (request.Show m p f) (request.Check n) a b = let bad : codes "show" ≡ codes "check" = sym a.0 ∙ b.0 in cc
+one-in name rows (request.Show m p f) (request.Show n q g) a b =
+    let same : m ≡ n = sessions-one rows m n a.1 b.1 in
+    let there : p ≡ q = place-one rows p q a.2 b.2 in
+    let way : f ≡ g = form-one rows f g a.3 b.3 in
+    cc
 
 -- a command that was found is at most one request
 pub one_request : (found : Option (Text × List Row)) (r q : Request) → IsRequest found r → IsRequest found q → r ≡ q

@@ -1,5 +1,6 @@
 pub mod AreRows
 pub mod Ask
+pub mod AskShow
 pub mod AtOnce
 pub mod CallsOfRows
 pub mod Gives
@@ -7,6 +8,7 @@ pub mod IsPassed
 pub mod IsPerformed
 pub mod IsRunOf
 pub mod IsVerdict
+pub mod OverSessions
 pub mod PartsWritten
 pub mod ServedRows
 pub mod Silent

@@ -4,7 +4,7 @@ use Rattle.std.specs.Io.KnownBytes.{Keeps}
 use Rattle.clap.specs.Walk.{Text}
 use Rattle.glm.specs.CommandLine.{AskReplayInPieces, AskRunInPieces}
 use Rattle.glm.specs.Outcomes.{HasDone, status_of_outcome}
-use Rattle.glm.specs.Statuses.{status_for}
+use Rattle.glm.specs.Statuses.{status_for, status_for_show}
 use Rattle.glm.specs.declared.checking.Verdict.TheVariants as verdict
 use Rattle.glm.specs.declared.tool_fault.ToolFault.TheVariants as tool
 use Rattle.glm.specs.declared.outcomes.Outcome.{Outcome}
@@ -24,6 +24,9 @@ silent words input old new (outcome.RunInPieces answer) status is did whole run 
 silent words input old new (outcome.Check (Ok (verdict.Legal n))) status is did whole run done illegal device = absurd (done is)
 silent words input old new (outcome.Check (Ok (verdict.Illegal p))) status is did whole run done illegal device = absurd (illegal is)
 silent words input old new (outcome.Check (Err fault)) status is did whole run done illegal device = did.kept (λ f. device (is ∙ ap status_for f))
+silent words input old new (outcome.Show (Ok (verdict.Legal n))) status is did whole run done illegal device = absurd (done is)
+silent words input old new (outcome.Show (Ok (verdict.Illegal p))) status is did whole run done illegal device = absurd (illegal is)
+silent words input old new (outcome.Show (Err fault)) status is did whole run done illegal device = did.kept (λ f. device (is ∙ ap status_for_show f))
 silent words input old new outcome.HelpShown status is did whole run done illegal device = absurd (done is)
 silent words input old new outcome.HelpFailed status is did whole run done illegal device = absurd (device is)
 silent words input old new outcome.VersionShown status is did whole run done illegal device = absurd (done is)
@@ -47,6 +50,9 @@ silent_in_pieces words input old new (outcome.RunInPieces answer) status is did 
 silent_in_pieces words input old new (outcome.Check (Ok (verdict.Legal n))) status is did run done illegal device memory = absurd (done is)
 silent_in_pieces words input old new (outcome.Check (Ok (verdict.Illegal p))) status is did run done illegal device memory = absurd (illegal is)
 silent_in_pieces words input old new (outcome.Check (Err fault)) status is did run done illegal device memory = did.kept (λ f. device (is ∙ ap status_for f))
+silent_in_pieces words input old new (outcome.Show (Ok (verdict.Legal n))) status is did run done illegal device memory = absurd (done is)
+silent_in_pieces words input old new (outcome.Show (Ok (verdict.Illegal p))) status is did run done illegal device memory = absurd (illegal is)
+silent_in_pieces words input old new (outcome.Show (Err fault)) status is did run done illegal device memory = did.kept (λ f. device (is ∙ ap status_for_show f))
 silent_in_pieces words input old new outcome.HelpShown status is did run done illegal device memory = absurd (done is)
 silent_in_pieces words input old new outcome.HelpFailed status is did run done illegal device memory = absurd (device is)
 silent_in_pieces words input old new outcome.VersionShown status is did run done illegal device memory = absurd (done is)
@@ -73,6 +79,9 @@ silent_always words input old new (outcome.RunInPieces (Err tool.TurnLimit)) sta
 silent_always words input old new (outcome.Check (Ok (verdict.Legal n))) status is did done illegal device memory stopped = absurd (done is)
 silent_always words input old new (outcome.Check (Ok (verdict.Illegal p))) status is did done illegal device memory stopped = absurd (illegal is)
 silent_always words input old new (outcome.Check (Err fault)) status is did done illegal device memory stopped = did.kept (λ f. device (is ∙ ap status_for f))
+silent_always words input old new (outcome.Show (Ok (verdict.Legal n))) status is did done illegal device memory stopped = absurd (done is)
+silent_always words input old new (outcome.Show (Ok (verdict.Illegal p))) status is did done illegal device memory stopped = absurd (illegal is)
+silent_always words input old new (outcome.Show (Err fault)) status is did done illegal device memory stopped = did.kept (λ f. device (is ∙ ap status_for_show f))
 silent_always words input old new outcome.HelpShown status is did done illegal device memory stopped = absurd (done is)
 silent_always words input old new outcome.HelpFailed status is did done illegal device memory stopped = absurd (device is)
 silent_always words input old new outcome.VersionShown status is did done illegal device memory stopped = absurd (done is)

@@ -8,10 +8,12 @@ use Rattle.clap.specs.declared.builder.action.ArgAction.TheVariants.{SetTrue}
 use Rattle.clap.specs.declared.builder.value_parser.ValueParser.TheVariants as parser
 use Rattle.clap.specs.declared.error.kind.ErrorKind.TheVariants.{DisplayHelp, DisplayVersion}
 use Rattle.lock_rules.specs.declared.calls.TheConstants.{MAX_SESSIONS}
-use Rattle.glm.specs.declared.args.TheConstants.{MAX_TURNS}
+use Rattle.glm.specs.declared.args.TheConstants.{MAX_PLACE, MAX_TURNS}
 use Rattle.glm.specs.declared.running_in_pieces.TheConstants.{MAX_STREAMED_SESSIONS}
 use Rattle.glm.specs.declared.args.Delivery.{Delivery}
 use Rattle.glm.specs.declared.args.Delivery.TheVariants as delivery
+use Rattle.glm.specs.declared.args.Form.{Form}
+use Rattle.glm.specs.declared.args.Form.TheVariants as form
 use Rattle.glm.specs.declared.args.Request.{Request}
 use Rattle.glm.specs.declared.args.Request.TheVariants as request
 
@@ -33,28 +35,46 @@ turns_option = record (new_rule (codes "turns")) {
   defaults = codes "1000000000" ∷ [];
 }
 
--- the flag `--stream`
-abbrev pub stream_flag : Rule
-stream_flag = record (new_rule (codes "stream")) {
-  long = Some (codes "stream");
+-- the option `--at P`: a place, with no default
+abbrev pub at_option : Rule
+at_option = record (new_rule (codes "at")) {
+  long = Some (codes "at");
+  value_names = 1;
+  parser = Some (parser.Signed (pos 0) (pos MAX_PLACE));
+}
+
+-- a flag with this name
+abbrev pub flag_named : Text → Rule
+flag_named name = record (new_rule name) {
+  long = Some name;
   action = Some SetTrue;
 }
+
+-- the flag `--stream`
+abbrev pub stream_flag : Rule
+stream_flag = flag_named (codes "stream")
 
 -- the command `name [--sessions N]`
 abbrev pub command_for_sessions : Text → App
 command_for_sessions name = with_rule (new_app name) sessions_option
 
+-- the command `show [--sessions N] [--at P] [--csv] [--dot]`
+abbrev pub show_app : App
+show_app = with_rule (with_rule (with_rule (command_for_sessions (codes "show")) at_option) (flag_named (codes "csv"))) (flag_named (codes "dot"))
+
 -- the program `glm`, which has a version and requires one of the commands `replay [--sessions N] [--stream]`,
--- `run [--sessions N] [--turns T] [--stream]` and `check [--sessions N]`
+-- `run [--sessions N] [--turns T] [--stream]`, `check [--sessions N]` and `show [--sessions N] [--at P] [--csv] [--dot]`
 abbrev pub glm_command : App
 glm_command =
     with_subcommand
     (with_subcommand
     (with_subcommand
+    (with_subcommand
     (on_top (λ s. record s { subcommand_required = true; has_version = true }) (new_app (codes "glm")))
     (with_rule (command_for_sessions (codes "replay")) stream_flag).top)
     (with_rule (with_rule (command_for_sessions (codes "run")) turns_option) stream_flag).top)
-    (command_for_sessions (codes "check")).top
+    (command_for_sessions (codes "check")).top)
+    show_app.top
 
 -- the parser's errors for the words; help and the version count as errors; empty if the words are a valid command
 abbrev pub faults_of : List Text → Kinds
@@ -80,6 +100,22 @@ abbrev pub most_sessions : Delivery → ℕ
 most_sessions delivery.Whole = MAX_SESSIONS
 most_sessions delivery.InPieces = MAX_STREAMED_SESSIONS
 
+-- the parsed options give this number for `--at`, in decimal without a sign or a leading zero
+pub record GivesNumberedPlace (rows : List Row) (place : ℕ) : Type 0 where
+  pub given : first_of (codes "at") rows ≡ Some (decimal place)
+  pub few : place ≤ MAX_PLACE
+
+-- the parsed options give this place: none, or a number
+abbrev pub GivesPlace : List Row → Option ℕ → Type 0
+GivesPlace rows None = first_of (codes "at") rows ≡ None
+GivesPlace rows (Some place) = GivesNumberedPlace rows place
+
+-- the parsed options want the state shown in this form: as lines unless they have one of the flags `--csv` and `--dot`
+abbrev pub WantsForm : List Row → Form → Type 0
+WantsForm rows form.Lines = (¬ HasFlag (codes "csv") rows) × (¬ HasFlag (codes "dot") rows)
+WantsForm rows form.Rows = HasFlag (codes "csv") rows × (¬ HasFlag (codes "dot") rows)
+WantsForm rows form.Graph = (¬ HasFlag (codes "csv") rows) × HasFlag (codes "dot") rows
+
 -- the parsed command, by its name and its options, is this request
 abbrev pub IsRequestIn : Text → List Row → Request → Type 0
 IsRequestIn name rows (request.Replay sessions asked) =
@@ -87,6 +123,8 @@ IsRequestIn name rows (request.Replay sessions asked) =
 IsRequestIn name rows (request.Run sessions turns asked) =
     (name ≡ codes "run") × Gives (codes "sessions") (most_sessions asked) rows sessions × Gives (codes "turns") MAX_TURNS rows turns × Wants rows asked
 IsRequestIn name rows (request.Check sessions) = (name ≡ codes "check") × Gives (codes "sessions") MAX_SESSIONS rows sessions
+IsRequestIn name rows (request.Show sessions place asked) =
+    (name ≡ codes "show") × Gives (codes "sessions") MAX_SESSIONS rows sessions × GivesPlace rows place × WantsForm rows asked
 
 -- the parser found a command, and the command is this request
 abbrev pub IsRequest : Option (Text × List Row) → Request → Type 0
@@ -119,6 +157,10 @@ AskRunInPieces words sessions turns = Ask words (request.Run sessions turns deli
 -- the words ask to check a history with this number of sessions
 abbrev pub AskCheck : List Text → ℕ → Type 0
 AskCheck words sessions = Ask words (request.Check sessions)
+
+-- the words ask to show the state at this place of a history, at its end if it is None, with this number of sessions, in this form
+abbrev pub AskShow : List Text → ℕ → Option ℕ → Form → Type 0
+AskShow words sessions place form = Ask words (request.Show sessions place form)
 
 -- the words ask for help, perhaps beside another error
 abbrev pub AskHelp : List Text → Type 0

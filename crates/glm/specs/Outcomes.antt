@@ -3,18 +3,22 @@ use Rattle.std.specs.Prelude.{◌≡◌, ◌≢◌, ℕ, List, [], ◌∷◌, �
 use Rattle.std.specs.Io.KnownBytes.{Keeps, Appends}
 use Rattle.clap.specs.Walk.{Text}
 use Rattle.lock_trace.specs.declared.faults.TraceFault.{TraceFault}
+use Rattle.glm.specs.declared.args.Form.{Form}
 use Rattle.glm.specs.declared.checking.Verdict.{Verdict}
 use Rattle.glm.specs.declared.checking.Verdict.TheVariants as verdict
+use Rattle.glm.specs.declared.show_fault.ShowFault.{ShowFault}
+use Rattle.glm.specs.declared.show_fault.ShowFault.TheVariants as show
 use Rattle.glm.specs.declared.tool_fault.ToolFault.{ToolFault}
 use Rattle.glm.specs.declared.tool_fault.ToolFault.TheVariants as tool
 use Rattle.glm.specs.declared.outcomes.Outcome.{Outcome}
 use Rattle.glm.specs.declared.outcomes.Outcome.TheVariants as outcome
 use Rattle.glm.specs.declared.outcomes.TheConstants.{DONE, USAGE, ILLEGAL, NO_MEMORY, DEVICE}
-use Rattle.glm.specs.CommandLine.{AskReplay, AskReplayInPieces, AskRun, AskRunInPieces, AskCheck, AskHelp, AskVersion, AskNothing}
+use Rattle.glm.specs.CommandLine.{AskReplay, AskReplayInPieces, AskRun, AskRunInPieces, AskCheck, AskShow, AskHelp, AskVersion, AskNothing}
 use Rattle.glm.specs.Replays.{HasServed, HasServedFront, HasServedPart, IsFaultOfOneThread, Replays, ReplaysInPieces}
 use Rattle.glm.specs.Runs.{HasPerformed, HasPerformedPart, HasWrittenFront, HasWrittenPart, Runs, RunsInPieces}
-use Rattle.glm.specs.Statuses.{status_for}
-use Rattle.glm.specs.Verdicts.{Checks, IsHistory}
+use Rattle.glm.specs.Statuses.{status_for, status_for_show}
+use Rattle.glm.specs.Showing.{HasShown, HasShownPart, Shows}
+use Rattle.glm.specs.Verdicts.{Checks, IsHistory, text_of_verdict}
 use Rattle.glm.specs.Written.{AppendsPart}
 
 -- the exit status of an outcome
@@ -30,6 +34,9 @@ status_of_outcome (outcome.RunInPieces (Err fault)) = status_for fault
 status_of_outcome (outcome.Check (Ok (verdict.Legal count))) = DONE
 status_of_outcome (outcome.Check (Ok (verdict.Illegal place))) = ILLEGAL
 status_of_outcome (outcome.Check (Err fault)) = status_for fault
+status_of_outcome (outcome.Show (Ok (verdict.Legal count))) = DONE
+status_of_outcome (outcome.Show (Ok (verdict.Illegal place))) = ILLEGAL
+status_of_outcome (outcome.Show (Err fault)) = status_for_show fault
 status_of_outcome outcome.HelpShown = DONE
 status_of_outcome outcome.HelpFailed = DEVICE
 status_of_outcome outcome.VersionShown = DONE
@@ -79,11 +86,6 @@ pub record HasAnsweredRunInPieces (words : List Text) (input old new : Option (L
   pub performed : IfOk answer (λ count. HasPerformed sessions count old new)
   pub runs : (bytes : List ℕ) → input ≡ Some bytes → RunsInPieces sessions bytes old new answer
 
--- the line that is printed for a verdict
-abbrev pub text_of_verdict : Verdict → List ℕ
-text_of_verdict (verdict.Legal count) = codes "legal " ++ decimal count ++ 10 ∷ []
-text_of_verdict (verdict.Illegal place) = codes "illegal " ++ decimal place ++ 10 ∷ []
-
 -- the result of a check of these bytes whose verdict is also printed; memory or the writer may fail for the line
 abbrev pub PrintsVerdict : ℕ → List ℕ → Result Verdict ToolFault → Type 0
 PrintsVerdict n bytes (Ok found) = Checks n bytes (Ok found)
@@ -110,6 +112,18 @@ pub record HasAnsweredCheck (words : List Text) (input old new : Option (List �
   pub faults : IfErr answer (λ fault. IsFaultOfOneThread fault)
   pub checks : (bytes : List ℕ) → input ≡ Some bytes → PrintsVerdict sessions bytes answer
 
+-- the words ask to show a state, and `answer` is the verdict on the history, or the fault; the output holds `old` before and
+-- `new` after
+pub record HasAnsweredShow (words : List Text) (input old new : Option (List ℕ)) (answer : Result Verdict ShowFault) : Type 0 where
+  pub sessions : ℕ
+  pub place : Option ℕ
+  pub form : Form
+  pub asked : AskShow words sessions place form
+  pub kept : IfErr answer (λ fault. fault ≢ show.Device → Keeps old new)
+  pub part : IfErr answer (λ fault. fault ≡ show.Device → HasShownPart form sessions place old new)
+  pub shown : IfOk answer (λ verdict. HasShown form sessions place verdict old new)
+  pub shows : (bytes : List ℕ) → input ≡ Some bytes → Shows form sessions place bytes old new answer
+
 -- the text of `--version`: the project's version, and the kit and the logic that it was proved with
 abbrev pub text_of_version : List ℕ
 text_of_version = codes "glm 0.7.0\nproved with rattle-kit-13f, logic dac8208d650f15bf\n"
@@ -121,6 +135,7 @@ HasDone words input old new (outcome.ReplayInPieces answer) = HasAnsweredInPiece
 HasDone words input old new (outcome.Run answer) = HasAnsweredRun words input old new answer
 HasDone words input old new (outcome.RunInPieces answer) = HasAnsweredRunInPieces words input old new answer
 HasDone words input old new (outcome.Check answer) = HasAnsweredCheck words input old new answer
+HasDone words input old new (outcome.Show answer) = HasAnsweredShow words input old new answer
 HasDone words input old new outcome.HelpShown = AskHelp words
 HasDone words input old new outcome.HelpFailed = AskHelp words
 HasDone words input old new outcome.VersionShown = AskVersion words × Appends old new text_of_version

@@ -2,6 +2,8 @@
 use Rattle.std.specs.Prelude.{◌≡◌, ◌⊎◌, ℕ}
 use Rattle.lock_trace.specs.declared.faults.TraceKind.{TraceKind}
 use Rattle.lock_trace.specs.declared.faults.TraceKind.TheVariants as kind
+use Rattle.glm.specs.declared.show_fault.ShowFault.{ShowFault}
+use Rattle.glm.specs.declared.show_fault.ShowFault.TheVariants as show
 use Rattle.glm.specs.declared.tool_fault.ToolFault.{ToolFault}
 use Rattle.glm.specs.declared.tool_fault.ToolFault.TheVariants as tool
 use Rattle.glm.specs.declared.outcomes.TheConstants.{DONE, REFUSED, USAGE, NO_MEMORY, DEVICE, STOPPED, ILLEGAL}
@@ -31,6 +33,13 @@ status_for tool.NoMemory = NO_MEMORY
 status_for tool.Device = DEVICE
 status_for tool.GateShut = STOPPED
 status_for tool.TurnLimit = STOPPED
+
+-- the exit status of a fault of `show`
+abbrev pub status_for_show : ShowFault → ℕ
+status_for_show (show.Trace fault) = status_of_kind fault.kind
+status_for_show (show.NoPlace place entries) = USAGE
+status_for_show show.NoMemory = NO_MEMORY
+status_for_show show.Device = DEVICE
 
 -- the number of a fault
 abbrev pub number_of_fault : ToolFault → ℕ

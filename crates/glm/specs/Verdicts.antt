@@ -1,5 +1,5 @@
 -- The verdict of a check of a history.
-use Rattle.std.specs.Prelude.{◌≡◌, ℕ, ◌+◌, ◌<◌, List, length, take, Result, Ok, Err}
+use Rattle.std.specs.Prelude.{◌≡◌, ℕ, ◌+◌, ◌<◌, List, [], ◌∷◌, ◌++◌, length, take, Result, Ok, Err, codes, decimal}
 use Rattle.lock_rules.specs.declared.calls.Entry.{Entry}
 use Rattle.lock_rules.specs.Legal.{IsLegal}
 use Rattle.lock_trace.specs.ReadHistories.{history_of, TellsOfHistory}
@@ -40,3 +40,8 @@ abbrev pub IsFaultOfCheck : ToolFault → Type 0
 IsFaultOfCheck (tool.Trace fault) = Unit {0}
 IsFaultOfCheck tool.NoMemory = Unit {0}
 IsFaultOfCheck _ = ⊥
+
+-- the line that is printed for a verdict
+abbrev pub text_of_verdict : Verdict → List ℕ
+text_of_verdict (verdict.Legal count) = codes "legal " ++ decimal count ++ 10 ∷ []
+text_of_verdict (verdict.Illegal place) = codes "illegal " ++ decimal place ++ 10 ∷ []

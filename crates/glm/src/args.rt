@@ -1,6 +1,6 @@
 //! The command-line arguments: the parser's commands and options, and the command that the words ask for.
 
-ghost use Rattle.std.specs.Prelude.{◌≡◌, ◌<◌, ◌≤◌, ◌↔◌, ℕ, true, false, List, Some, None, codes, option_map, IfOk, IfSome, IfNone};
+ghost use Rattle.std.specs.Prelude.{◌≡◌, ◌<◌, ◌≤◌, ◌↔◌, ℕ, true, false, List, Option, Some, None, codes, option_map, IfOk, IfErr, IfSome, IfNone};
 ghost use Rattle.clap.specs.Kinds.{FailsBy};
 ghost use Rattle.clap.specs.Matches.{found_of};
 ghost use Rattle.clap.specs.Simple.{app_of, subcommand_of, subcommand_rows_of, with_rule};
@@ -9,10 +9,11 @@ ghost use Rattle.clap.specs.Walk.{first_of, rows_of, rule_of, texts};
 ghost use Rattle.clap.specs.declared.builder.command.Command.TheViews.{out-Command as fields_of};
 ghost use Rattle.lock_rules.specs.declared.calls.TheConstants.{MAX_SESSIONS};
 ghost use Rattle.glm.specs.declared.args.Request.{Request as RequestValue};
-ghost use Rattle.glm.specs.CommandLine.{Ask, Gives, HasFlag, IsRequest, Wants, command_for_sessions, faults_of, glm_command, sessions_option, stream_flag, turns_option};
+ghost use Rattle.glm.specs.declared.args.Form.{Form as FormValue};
+ghost use Rattle.glm.specs.CommandLine.{Ask, Gives, GivesPlace, HasFlag, IsRequest, Wants, WantsForm, at_option, command_for_sessions, faults_of, flag_named, glm_command, sessions_option, show_app, stream_flag, turns_option};
 
 use crate::running_in_pieces::MAX_STREAMED_SESSIONS;
-use crate::texts::{ABOUT_CHECK, ABOUT_REPLAY, ABOUT_RUN, STATUSES, VERSION};
+use crate::texts::{ABOUT_CHECK, ABOUT_REPLAY, ABOUT_RUN, ABOUT_SHOW, STATUSES, VERSION};
 use clap::{Arg, ArgAction, ArgMatches, Command, Error, value_parser};
 use lock_rules::MAX_SESSIONS;
 use lock_tree::parse_numeral;
@@ -21,6 +22,9 @@ use std::alloc::{AllocError, Global};
 /// The greatest value of `--turns`: tries for the answer to one call.
 pub const MAX_TURNS: u32 = 1_000_000_000;
 
+/// The greatest value of `--at`: a place of a history.
+pub const MAX_PLACE: u32 = u32::MAX;
+
 /// How a command writes its history.
 #[derive(Clone, Copy, Debug, Drop, PartialEq, Eq)]
 pub(crate) enum Delivery {
@@ -28,6 +32,17 @@ pub(crate) enum Delivery {
     Whole,
     /// The text of a piece of the history is made and written each time the piece is served, by the flag `--stream`.
     InPieces,
+}
+
+/// In which form `show` writes the state of the lock table.
+#[derive(Clone, Copy, Debug, Drop, PartialEq, Eq)]
+pub enum Form {
+    /// Lines for people.
+    Lines,
+    /// Rows of seven fields, by the flag `--csv`.
+    Rows,
+    /// The waits-for graph in the language of Graphviz, by the flag `--dot`.
+    Graph,
 }
 
 /// A command that the words ask for, with its numbers.
@@ -40,6 +55,9 @@ pub(crate) enum Request {
     Run(u16, u32, Delivery),
     /// Check a history; holds the number of sessions.
     Check(u16),
+    /// Show the state of the lock table at a place of a history; holds the number of sessions, the place, `None` for the end, and
+    /// the form.
+    Show(u16, Option<u32>, Form),
 }
 
 /// Defines the option `--sessions N`, which every command has.
@@ -78,6 +96,29 @@ fn stream_arg<'a>(alloc: Global) -> Arg<'a>
         .help(
             "Writes the history in pieces while calls are served, and keeps no more than a piece in memory",
         )
+        .action(ArgAction::SetTrue)
+}
+
+/// Defines the option `--at P`, which `show` has.
+fn at_arg<'a>(alloc: Global) -> Arg<'a>
+    ensures rule { rule_of result ≡ at_option }
+    ensures own { result.global ≡ false }
+{
+    Arg::new(alloc, "at")
+        .long("at")
+        .value_name("P")
+        .help("The place of the history in front of which the state is shown, by default its end")
+        .value_parser(value_parser!(u32).range(0..=i64::from(MAX_PLACE)))
+}
+
+/// Defines a flag of `show`.
+fn form_arg<'a>(alloc: Global, name: &'a str, help: &'a str) -> Arg<'a>
+    ensures rule { rule_of result ≡ flag_named name.now }
+    ensures own { result.global ≡ false }
+{
+    Arg::new(alloc, name)
+        .long(name)
+        .help(help)
         .action(ArgAction::SetTrue)
 }
 
@@ -127,6 +168,22 @@ fn run_command<'a>(alloc: Global) -> Result<Command<'a>, AllocError>
     run.arg(turns_arg(alloc))?.arg(stream_arg(alloc))
 }
 
+/// Defines the command `show`. Fails if memory is refused.
+fn show_command<'a>(alloc: Global) -> Result<Command<'a>, AllocError>
+    ensures app { IfOk result (λ command. app_of command ≡ show_app) }
+    ensures own { IfOk result (λ command. (fields_of command).has_globals ≡ false) }
+{
+    let show = command_of(
+        alloc,
+        "show",
+        "Shows who holds what and who waits for whom at a place of a history from standard input",
+        ABOUT_SHOW,
+    )?;
+    show.arg(at_arg(alloc))?
+        .arg(form_arg(alloc, "csv", "Writes the same as rows"))?
+        .arg(form_arg(alloc, "dot", "Writes who waits for whom as a graph for Graphviz"))
+}
+
 /// Defines the program's commands and their options. Fails if memory is refused.
 fn commands<'a>(alloc: Global) -> Result<Command<'a>, AllocError>
     ensures { IfOk result (λ command. app_of command ≡ glm_command) }
@@ -139,6 +196,7 @@ fn commands<'a>(alloc: Global) -> Result<Command<'a>, AllocError>
         "Says whether a history from standard input is legal",
         ABOUT_CHECK,
     )?;
+    let show = show_command(alloc)?;
     Command::new(alloc, "glm")
         .about("Granular locks for databases")
         .version(VERSION)
@@ -146,7 +204,8 @@ fn commands<'a>(alloc: Global) -> Result<Command<'a>, AllocError>
         .subcommand_required(true)
         .subcommand(replay)?
         .subcommand(run)?
-        .subcommand(check)
+        .subcommand(check)?
+        .subcommand(show)
 }
 
 /// Parses the words by the program's commands. Fails as the parser does, for help and the version too.
@@ -219,6 +278,51 @@ fn delivery_of(given: &ArgMatches) -> Delivery
     }
 }
 
+/// Returns the place of the option `--at`, `None` if the option isn't given. Fails if its text isn't written in digits without a
+/// leading zero.
+fn option_place(given: &ArgMatches) -> Result<Option<u32>, ()>
+    ensures ok { IfOk result (GivesPlace (rows_of (found_of given.now))) }
+    ensures err { IfErr result (λ _. (place : Option ℕ) → ¬ (GivesPlace (rows_of (found_of given.now)) place)) }
+{
+    let Some(text) = option_text(given, "at") else {
+        return Ok(None);
+    };
+    match parse_numeral(text.as_bytes(), u64::from(MAX_PLACE)) {
+        // the parser has already tested the range, but takes a sign and leading zeros
+        Ok(place) => Ok(Some(place as u32)),
+        Err(_) => Err(()),
+    }
+}
+
+/// Returns the form in which `show` writes the state, or `None` if the options have both `--csv` and `--dot`.
+fn form_of(given: &ArgMatches) -> Option<Form>
+    ensures some { IfSome result (WantsForm (rows_of (found_of given.now))) }
+    ensures none { IfNone result ((form : FormValue) → ¬ (WantsForm (rows_of (found_of given.now)) form)) }
+{
+    match (has_flag(given, "csv"), has_flag(given, "dot")) {
+        (false, false) => Some(Form::Lines),
+        (true, false) => Some(Form::Rows),
+        (false, true) => Some(Form::Graph),
+        (true, true) => None,
+    }
+}
+
+/// Returns the request of `show`, or `None` if its place isn't a valid number or it is asked for two forms.
+#[tactic(auto, using(crate::proofs::Ask::no_place, crate::proofs::Ask::no_form))]
+fn show_request(sessions: u16, given: &ArgMatches) -> Option<Request>
+    requires given { Gives (codes "sessions") MAX_SESSIONS (rows_of (found_of given.now)) sessions }
+    ensures some { IfSome result (IsRequest (Some (codes "show", rows_of (found_of given.now)))) }
+    ensures none { IfNone result ((asked : RequestValue) → ¬ (IsRequest (Some (codes "show", rows_of (found_of given.now))) asked)) }
+{
+    let Ok(place) = option_place(given) else {
+        return None;
+    };
+    let Some(form) = form_of(given) else {
+        return None;
+    };
+    Some(Request::Show(sessions, place, form))
+}
+
 /// Returns the request of the command `name` with the options `given`, or `None` if there is no such command or a number
 /// isn't valid, as the greatest number of sessions isn't for a run whose history is written in pieces.
 #[tactic(auto, using(crate::proofs::Ask::no_sessions, crate::proofs::Ask::no_turns, crate::proofs::Ask::no_streamed, crate::proofs::Ask::no_name))]
@@ -243,6 +347,9 @@ fn request_named(name: &str, given: &ArgMatches) -> Option<Request>
     }
     if name == "check" {
         return Some(Request::Check(sessions));
+    }
+    if name == "show" {
+        return show_request(sessions, given);
     }
     None
 }

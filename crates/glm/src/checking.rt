@@ -1,9 +1,10 @@
 //! The command `check`: compares each reply of a history with the reply of a fresh lock table.
 
-ghost use Rattle.std.specs.Prelude.{◌≡◌, ℕ, ◌<◌, ◌≤◌, ◌↔◌, true, List, [], Some, length, All, IfOk, IfErr};
+ghost use Rattle.std.specs.Prelude.{◌≡◌, ℕ, ◌+◌, ◌<◌, ◌≤◌, ◌↔◌, true, List, [], Some, length, take, All, IfOk, IfErr, IfSome, IfNone};
 ghost use Rattle.lock_rules.specs.declared.calls.TheConstants.{MAX_SESSIONS};
+ghost use Rattle.lock_rules.specs.Legal.{IsLegal};
 ghost use Rattle.lock_trace.specs.Entries.{IsEntry};
-ghost use Rattle.glm.specs.Verdicts.{Checks, IsFaultOfCheck, IsVerdict, served_for};
+ghost use Rattle.glm.specs.Verdicts.{Checks, IsFaultOfCheck, IsFirstWrong, IsVerdict, served_for};
 
 use crate::tool_fault::ToolFault;
 use lock_desk::{Book, Entry, NoMemory, Reply};
@@ -27,6 +28,35 @@ fn is_same(served: Reply, recorded: Reply) -> bool
     served == recorded
 }
 
+/// Serves the calls of `entries[from..upto]` in order, on a book that has served those before, and stops at the first entry whose
+/// recorded reply differs from the book's, whose place it returns. Fails if the book finds no memory for a call.
+pub(crate) fn first_wrong(
+    book: &mut Book,
+    entries: &[Entry],
+    from: usize,
+    upto: usize,
+) -> Result<Option<u64>, NoMemory>
+    requires within { All (IsEntry book.old.sessions) entries.now }
+    requires order { from ≤ upto }
+    requires few { upto ≤ length entries.now }
+    requires served { book.old.history ≡ take from entries.now }
+    requires legal { IsLegal (take from entries.now) }
+    ensures sessions { IfOk result (λ _. book.new.sessions ≡ book.old.sessions) }
+    ensures wrong { IfOk result (λ found. IfSome found (IsFirstWrong entries.now)) }
+    ensures served_wrong { IfOk result (λ found. IfSome found (λ place. length book.new.history ≡ place + 1)) }
+    ensures legal { IfOk result (λ found. IfNone found (IsLegal (take upto entries.now))) }
+    ensures served { IfOk result (λ found. IfNone found (book.new.history ≡ take upto entries.now)) }
+{
+    for place in from..upto {
+        let entry = &entries[place];
+        let reply = book.serve(entry.session, entry.call)?;
+        if !is_same(reply, entry.reply) {
+            return Ok(Some(place as u64));
+        }
+    }
+    Ok(None)
+}
+
 /// Serves the calls of the entries in order and stops at the first entry whose recorded reply differs from the book's.
 /// Fails if the book finds no memory for a call.
 fn judge(book: &mut Book, entries: &[Entry]) -> Result<Verdict, NoMemory>
@@ -35,13 +65,10 @@ fn judge(book: &mut Book, entries: &[Entry]) -> Result<Verdict, NoMemory>
     ensures verdict { IfOk result (λ verdict. IsVerdict entries.now verdict) }
     ensures served { IfOk result (λ verdict. length book.new.history ≡ served_for verdict) }
 {
-    for (place, entry) in entries.iter().enumerate() {
-        let reply = book.serve(entry.session, entry.call)?;
-        if !is_same(reply, entry.reply) {
-            return Ok(Verdict::Illegal(place as u64));
-        }
+    match first_wrong(book, entries, 0, entries.len())? {
+        Some(place) => Ok(Verdict::Illegal(place)),
+        None => Ok(Verdict::Legal(entries.len() as u64)),
     }
-    Ok(Verdict::Legal(entries.len() as u64))
 }
 
 /// Returns the verdict of a fresh lock table on the entries. Fails if the lock table finds no memory.

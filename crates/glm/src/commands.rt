@@ -8,7 +8,8 @@ ghost use Rattle.lock_rules.specs.declared.calls.TheConstants.{MAX_SESSIONS};
 ghost use Rattle.glm.specs.declared.outcomes.Outcome.{Outcome};
 ghost use Rattle.glm.specs.declared.outcomes.TheConstants.{DONE, ILLEGAL, NO_MEMORY, DEVICE, STOPPED};
 ghost use Rattle.glm.specs.CommandLine.{AskReplayInPieces, AskRunInPieces};
-ghost use Rattle.glm.specs.Outcomes.{HasDone, HasPrintedPart, PrintsVerdict, status_of_outcome, text_of_verdict};
+ghost use Rattle.glm.specs.Outcomes.{HasDone, HasPrintedPart, PrintsVerdict, status_of_outcome};
+ghost use Rattle.glm.specs.Verdicts.{text_of_verdict};
 ghost use Rattle.glm.specs.ParserErrors.{IsOutcomeOfError};
 ghost use Rattle.glm.specs.Replays.{IsFaultOfOneThread};
 ghost use Rattle.glm.specs.Statuses.{IsStatus};
@@ -21,6 +22,7 @@ use crate::replaying::replay;
 use crate::replaying_in_pieces::replay_in_pieces;
 use crate::running::run;
 use crate::running_in_pieces::run_in_pieces;
+use crate::showing::show;
 use crate::texts::{NOT_A_NUMERAL, VERSION_TEXT};
 use crate::tool_fault::ToolFault;
 use crate::writing::write_text;
@@ -53,7 +55,7 @@ fn outcome_of_error<W: Write, E: Write>(error: &Error, output: &mut W, errors: &
 }
 
 /// Returns the line that the program prints for a verdict. Fails if memory is refused.
-fn verdict_line(alloc: Global, verdict: Verdict) -> Result<String, AllocError>
+pub(crate) fn verdict_line(alloc: Global, verdict: Verdict) -> Result<String, AllocError>
     ensures { IfOk result (λ line. string_bytes line ≡ text_of_verdict verdict) }
 {
     match verdict {
@@ -119,6 +121,9 @@ fn outcome_of<'a, T: Threads + Wait, R: Read + Drop, W: Write, E: Write, G: Gate
         Ok(Some(Request::Check(sessions))) => {
             Outcome::Check(write_verdict(alloc, input, output, sessions))
         }
+        Ok(Some(Request::Show(sessions, place, form))) => {
+            Outcome::Show(show(alloc, input, output, sessions, place, form))
+        }
         Ok(None) => {
             let _reported = errors.write_all(NOT_A_NUMERAL.as_bytes());
             Outcome::Misused
@@ -132,7 +137,7 @@ fn outcome_of<'a, T: Threads + Wait, R: Read + Drop, W: Write, E: Write, G: Gate
 ///
 /// - 0: done, or help or the version was asked for
 /// - 1: a row was refused
-/// - 2: usage error
+/// - 2: usage error, or a place behind the end of the history
 /// - 3: the history isn't legal
 /// - 4: no memory
 /// - 5: a reader or writer failed, or a thread couldn't be started

@@ -1,13 +1,14 @@
 //! Laws of the command line and of what replays write. A caller's proof cites a law by calling it; the call does nothing at run time.
 
-ghost use Rattle.std.specs.Prelude.{◌≡◌, ℕ, List, [], ◌∷◌, Option, codes};
+ghost use Rattle.std.specs.Prelude.{◌≡◌, ℕ, List, [], ◌∷◌, Option, None, Some, codes};
 ghost use Rattle.clap.specs.Walk.{Text};
 ghost use Rattle.lock_rules.specs.declared.calls.TheConstants.{MAX_SESSIONS};
 ghost use Rattle.lock_trace.specs.declared.rows.TraceRow.{TraceRow as RowValue};
 ghost use Rattle.glm.specs.declared.args.Request.{Request as RequestValue};
 ghost use Rattle.glm.specs.declared.args.TheConstants.{MAX_TURNS};
 ghost use Rattle.glm.specs.declared.running_in_pieces.TheConstants.{MAX_STREAMED_SESSIONS};
-ghost use Rattle.glm.specs.CommandLine.{Ask, AskCheck, AskHelp, AskNothing, AskReplay, AskReplayInPieces, AskRun, AskRunInPieces, AskVersion};
+ghost use Rattle.glm.specs.CommandLine.{Ask, AskCheck, AskHelp, AskNothing, AskReplay, AskReplayInPieces, AskRun, AskRunInPieces, AskShow, AskVersion};
+ghost use Rattle.glm.specs.declared.args.Form.TheVariants as Form;
 ghost use Rattle.glm.specs.Replays.{HasReplayedFront, HasReplayedPart, IsTextFor};
 
 /// A command line asks for at most one command with its numbers. A command line that asks for a command asks neither for
@@ -53,6 +54,12 @@ pub fn words_ask_as_documented()
     ensures replay_turns { AskNothing (codes "glm" ∷ codes "replay" ∷ codes "--turns=9" ∷ []) }
     ensures check { AskCheck (codes "glm" ∷ codes "check" ∷ []) 256 }
     ensures check_sessions { AskCheck (codes "glm" ∷ codes "check" ∷ codes "--sessions" ∷ codes "8" ∷ []) 8 }
+    ensures show { AskShow (codes "glm" ∷ codes "show" ∷ []) 256 None Form.Lines }
+    ensures show_at { AskShow (codes "glm" ∷ codes "show" ∷ codes "--at" ∷ codes "0" ∷ []) 256 (Some 0) Form.Lines }
+    ensures show_rows { AskShow (codes "glm" ∷ codes "show" ∷ codes "--csv" ∷ codes "--at=7" ∷ codes "--sessions=3" ∷ []) 3 (Some 7) Form.Rows }
+    ensures show_graph { AskShow (codes "glm" ∷ codes "show" ∷ codes "--dot" ∷ []) 256 None Form.Graph }
+    ensures show_two_forms { AskNothing (codes "glm" ∷ codes "show" ∷ codes "--csv" ∷ codes "--dot" ∷ []) }
+    ensures show_zeros { AskNothing (codes "glm" ∷ codes "show" ∷ codes "--at=07" ∷ []) }
 {}
 
 /// The rows of a trace have one text of a history, by whichever way it is written. What a replay in pieces has written if

@@ -2,11 +2,13 @@
 
 ghost use Rattle.std.specs.Prelude.{◌≡◌};
 ghost use Rattle.glm.specs.Outcomes.{status_of_outcome};
-ghost use Rattle.glm.specs.Statuses.{status_for};
+ghost use Rattle.glm.specs.Statuses.{status_for, status_for_show, status_of_kind};
 
 use crate::checking::Verdict;
+use crate::show_fault::ShowFault;
 use crate::tool_fault::ToolFault;
-use lock_trace::TraceKind;
+use lock_trace::{TraceFault, TraceKind};
+use std::fmt::Display;
 use std::io::Write;
 
 /// Exit status: the command was done, or help or the version was shown.
@@ -43,6 +45,9 @@ pub(crate) enum Outcome {
     RunInPieces(Result<u64, ToolFault>),
     /// The result of the check that was asked for. A verdict was also written to the output.
     Check(Result<Verdict, ToolFault>),
+    /// The verdict on the history of which a state was asked for, and written: the state if the history is legal, else the
+    /// verdict.
+    Show(Result<Verdict, ShowFault>),
     /// Help was asked for, and written.
     HelpShown,
     /// Help was asked for, and the writer failed.
@@ -57,29 +62,58 @@ pub(crate) enum Outcome {
     OutOfMemory,
 }
 
+/// The exit status of a row's fault.
+fn status_of_row(fault: &TraceFault) -> u8
+    ensures { result ≡ status_of_kind fault.now.kind }
+{
+    match fault.kind {
+        TraceKind::Device => DEVICE,
+        TraceKind::NoMemory => NO_MEMORY,
+        _ => REFUSED,
+    }
+}
+
 /// The exit status of a fault.
 fn status_of_fault(fault: &ToolFault) -> u8
     ensures { result ≡ status_for fault.now }
 {
     match fault {
-        ToolFault::Trace(fault) => match fault.kind {
-            TraceKind::Device => DEVICE,
-            TraceKind::NoMemory => NO_MEMORY,
-            _ => REFUSED,
-        },
+        ToolFault::Trace(fault) => status_of_row(fault),
         ToolFault::NoMemory => NO_MEMORY,
         ToolFault::Device => DEVICE,
         ToolFault::GateShut | ToolFault::TurnLimit => STOPPED,
     }
 }
 
-/// Writes the line of a fault. A failure of `errors` is ignored; the exit status still reports the fault.
-fn report_fault<E: Write>(fault: &ToolFault, errors: &mut E) {
-    let _reported = match status_of_fault(fault) {
+/// The exit status of a fault of `show`.
+fn status_of_show_fault(fault: &ShowFault) -> u8
+    ensures { result ≡ status_for_show fault.now }
+{
+    match fault {
+        ShowFault::Trace(fault) => status_of_row(fault),
+        ShowFault::NoPlace { .. } => USAGE,
+        ShowFault::NoMemory => NO_MEMORY,
+        ShowFault::Device => DEVICE,
+    }
+}
+
+/// Writes the line of a fault with this exit status. A failure of `errors` is ignored; the exit status still reports the fault.
+fn report_line<E: Write, F: Display>(status: u8, fault: &F, errors: &mut E) {
+    let _reported = match status {
         NO_MEMORY => writeln!(errors, "glm: out of memory"),
         DEVICE => writeln!(errors, "glm: device"),
         _ => writeln!(errors, "glm: {fault}"),
     };
+}
+
+/// Writes the line of a fault.
+fn report_fault<E: Write>(fault: &ToolFault, errors: &mut E) {
+    report_line(status_of_fault(fault), fault, errors);
+}
+
+/// Writes the line of a fault of `show`.
+fn report_show_fault<E: Write>(fault: &ShowFault, errors: &mut E) {
+    report_line(status_of_show_fault(fault), fault, errors);
 }
 
 impl Outcome {
@@ -91,13 +125,16 @@ impl Outcome {
             Outcome::Replay(Ok(_)) | Outcome::ReplayInPieces(Ok(_)) => DONE,
             Outcome::Run(Ok(_)) | Outcome::RunInPieces(Ok(_)) => DONE,
             Outcome::HelpShown | Outcome::VersionShown => DONE,
-            Outcome::Check(Ok(Verdict::Legal(_))) => DONE,
-            Outcome::Check(Ok(Verdict::Illegal(_))) => ILLEGAL,
+            Outcome::Check(Ok(Verdict::Legal(_))) | Outcome::Show(Ok(Verdict::Legal(_))) => DONE,
+            Outcome::Check(Ok(Verdict::Illegal(_))) | Outcome::Show(Ok(Verdict::Illegal(_))) => {
+                ILLEGAL
+            }
             Outcome::Replay(Err(fault)) | Outcome::ReplayInPieces(Err(fault)) => {
                 status_of_fault(fault)
             }
             Outcome::Run(Err(fault)) | Outcome::RunInPieces(Err(fault)) => status_of_fault(fault),
             Outcome::Check(Err(fault)) => status_of_fault(fault),
+            Outcome::Show(Err(fault)) => status_of_show_fault(fault),
             Outcome::HelpFailed | Outcome::VersionFailed => DEVICE,
             Outcome::Misused => USAGE,
             Outcome::OutOfMemory => NO_MEMORY,
@@ -114,13 +151,15 @@ impl Outcome {
                 report_fault(fault, errors)
             }
             Outcome::Check(Err(fault)) => report_fault(fault, errors),
+            Outcome::Show(Err(fault)) => report_show_fault(fault, errors),
             Outcome::HelpFailed | Outcome::VersionFailed => report_fault(
                 &ToolFault::Device,
                 errors,
             ),
             Outcome::OutOfMemory => report_fault(&ToolFault::NoMemory, errors),
             Outcome::Replay(Ok(_)) | Outcome::ReplayInPieces(Ok(_)) => {}
-            Outcome::Run(Ok(_)) | Outcome::RunInPieces(Ok(_)) | Outcome::Check(Ok(_)) => {}
+            Outcome::Run(Ok(_)) | Outcome::RunInPieces(Ok(_)) => {}
+            Outcome::Check(Ok(_)) | Outcome::Show(Ok(_)) => {}
             Outcome::HelpShown | Outcome::VersionShown | Outcome::Misused => {}
         }
     }

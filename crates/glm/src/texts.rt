@@ -66,21 +66,36 @@ A row of a history is place,session,op,resource,mode,reply,value, one for each c
 
 An example: glm check < examples/queue.history.csv";
 
+/// The beginning of the help of `show`.
+pub(crate) const ABOUT_SHOW: &str =
+    "Reads a history from standard input, checks it as 'check' does, and writes the state of the lock table in front of the
+row with the place P, or at the end: which transactions are open, with what they hold and wait for; the holders and the
+queue of each resource; and who waits for whom. A history that isn't legal gives the line of 'check', and status 3.
+
+  glm show --at 7 < examples/deadlock.history.csv
+
+  session 2, transaction 2
+    holds 1 in S
+    waits for 2 in S
+
+With --csv the same is written as rows row,session,transaction,victim,resource,mode,other, where the row is 'transaction',
+'held', 'conversion', 'fresh' or 'waits'. With --dot who waits for whom is written as a graph, which 'dot -Tsvg' draws.";
+
 /// The list of exit statuses at the end of the help texts.
 pub(crate) const STATUSES: &str = "Exit status:
   0  done, or help or the version asked for
   1  a row was refused, which standard error names
-  2  the words of the command line are off
+  2  the words of the command line are off, or --at is behind the end of the history
   3  the history isn't legal
   4  memory was refused
   5  reading or writing failed, or a thread couldn't be started
   6  a gate stayed shut, or tries ran out";
 
 /// The message for a number that the parser takes but that has a sign or a leading zero, or that is the greatest number of
-/// sessions for a run whose history is written in pieces.
+/// sessions for a run whose history is written in pieces; and for `show` with two forms.
 pub(crate) const NOT_A_NUMERAL: &str =
     "error: a number is written with digits alone, with no sign and no zero before it, and 'run --stream' has at most 1023
-sessions
+sessions; 'show' takes one of --csv and --dot
 
 For more information, try '--help'.
 ";

@@ -21,5 +21,7 @@ returns c =
     c.in_ok-subcommand.ensures.shape c.in_ok-replay.ensures.own ∙ ap₂ with_subcommand top (ap top_of c.in_ok-replay.ensures.app) in
     let two : app_of c.in_ok-subcommand-2.field-0 ≡ with_subcommand (with_subcommand (wants_command (new_app (codes "glm"))) (with_rule (command_for_sessions (codes "replay")) stream_flag).top) (with_rule (with_rule (command_for_sessions (codes "run")) turns_option) stream_flag).top =
     c.in_ok-subcommand-2.ensures.shape c.in_ok-run.ensures.own ∙ ap₂ with_subcommand one (ap top_of c.in_ok-run.ensures.app) in
-    IfOk-weaker c.subcommand-3.result _ _
-    (λ command h. h.shape c.in_ok-check.ensures.own ∙ ap₂ with_subcommand two (ap top_of c.in_ok-check.ensures.app)) c.subcommand-3.ensures
+    let three : app_of c.in_ok-subcommand-3.field-0 ≡ with_subcommand (with_subcommand (with_subcommand (wants_command (new_app (codes "glm"))) (with_rule (command_for_sessions (codes "replay")) stream_flag).top) (with_rule (with_rule (command_for_sessions (codes "run")) turns_option) stream_flag).top) (command_for_sessions (codes "check")).top =
+    c.in_ok-subcommand-3.ensures.shape c.in_ok-check.ensures.own ∙ ap₂ with_subcommand two (ap top_of c.in_ok-check.ensures.app) in
+    IfOk-weaker c.subcommand-4.result _ _
+    (λ command h. h.shape c.in_ok-show.ensures.own ∙ ap₂ with_subcommand three (ap top_of c.in_ok-show.ensures.app)) c.subcommand-4.ensures

@@ -68,3 +68,17 @@ returns-in-Ok-Some-Check c c' =
       faults = done.faults;
       checks = done.checks;
     }
+
+pub returns-in-Ok-Some-Show : goal.returns-in-Ok-Some-Show
+returns-in-Ok-Some-Show c c' =
+    let done = c'.show.ensures in
+    record {
+      sessions = c'.in-Ok-Some-Show.sessions;
+      place = c'.in-Ok-Some-Show.place;
+      form = c'.in-Ok-Some-Show.form;
+      asked = search rules;
+      kept = done.kept;
+      part = done.part;
+      shown = done.shown;
+      shows = done.shows;
+    }

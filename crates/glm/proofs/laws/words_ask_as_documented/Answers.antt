@@ -1,8 +1,8 @@
 use Rattle.std.proofs.Common.{rules, arith, refl, subst, sym, inl, codes, ◌≡◌, ◌≢◌, ◌∙◌, List, [], ◌∷◌, Option, Some}
-use Rattle.std.specs.Prelude.{Err}
+use Rattle.std.specs.Prelude.{Err, Ok}
 use Rattle.clap.specs.Kinds.{Kinds}
 use Rattle.clap.specs.Simple.{subcommand_of}
-use Rattle.clap.specs.Walk.{Row, Text}
+use Rattle.clap.specs.Walk.{Row, Text, first_of}
 use Rattle.clap.specs.declared.error.kind.ErrorKind.{ErrorKind}
 use Rattle.clap.specs.declared.error.kind.ErrorKind.TheVariants.{DisplayHelp, DisplayVersion, MissingSubcommand, UnknownArgument, InvalidSubcommand, ValueValidation}
 use Rattle.clap.proofs.OnLiterals.{clap_on_literals}
@@ -11,9 +11,10 @@ use Rattle.lock_tree.specs.declared.numeral.NumeralFault.{NumeralFault}
 use Rattle.lock_tree.specs.declared.numeral.NumeralFault.TheVariants.{LeadingZero, NotANumber}
 use Rattle.lock_rules.specs.declared.calls.TheConstants.{MAX_SESSIONS}
 use Rattle.glm.specs.CommandLine.{AskNothing, Gives, HasFlag, IsRequest, faults_of, glm_command}
-use Rattle.glm.specs.declared.args.TheConstants.{MAX_TURNS}
+use Rattle.glm.specs.declared.args.TheConstants.{MAX_PLACE, MAX_TURNS}
 use Rattle.glm.specs.declared.running_in_pieces.TheConstants.{MAX_STREAMED_SESSIONS}
-use Rattle.glm.proofs.Ask.{no_streamed, no_such_sessions, sessions_text}
+use Rattle.glm.proofs.Ask.{no_form, no_place, no_streamed, no_such_sessions, sessions_text}
+use Rattle.glm.proofs.AskShow.{place_given, place_not_given, two_forms}
 use Rattle.glm.proofs.Gives.{numeral_given}
 use Rattle.glm.proofs.laws.words_ask_as_documented.Goals as goal
 
@@ -23,6 +24,27 @@ faulty words kind kinds is other another = record {
   no_request = λ asked ask. let bad : kind ∷ kinds ≡ [] = sym is ∙ ask.whole in cc;
   no_help = λ help. let bad : kind ∷ kinds ≡ DisplayHelp ∷ [] = sym is ∙ help in other cc;
   no_version = λ version. let bad : kind ∷ kinds ≡ DisplayVersion ∷ [] = sym is ∙ version in another cc;
+}
+
+-- words without an error ask for nothing if they name `show` and a place that isn't read as a number
+unplaced : (words : List Text) (name : Text) (rows : List Row) (text : Text) (fault : NumeralFault) → faults_of words ≡ []
+    → subcommand_of glm_command words ≡ Some (name, rows) → name ≡ codes "show" → first_of (codes "at") rows ≡ Some text
+    → reading_of_numeral MAX_PLACE text ≡ Err fault → AskNothing words
+unplaced words name rows text fault whole is show given wrong = record {
+  no_request = λ asked ask. no_place name rows show (place_not_given text rows given (λ m read. let bad : Ok m ≡ Err fault = sym read ∙ wrong in cc)) asked
+      (subst (λ (f : Option (Text × List Row)). IsRequest f asked) is ask.request_is);
+  no_help = λ help. let bad : [] ≡ DisplayHelp ∷ [] = sym whole ∙ help in cc;
+  no_version = λ version. let bad : [] ≡ DisplayVersion ∷ [] = sym whole ∙ version in cc;
+}
+
+-- words without an error ask for nothing if they name `show` and two forms
+in_two_forms : (words : List Text) (name : Text) (rows : List Row) → faults_of words ≡ [] → subcommand_of glm_command words ≡ Some (name, rows)
+    → name ≡ codes "show" → HasFlag (codes "csv") rows → HasFlag (codes "dot") rows → AskNothing words
+in_two_forms words name rows whole is show csv dot = record {
+  no_request = λ asked ask. no_form name rows show (two_forms rows csv dot) asked
+      (subst (λ (f : Option (Text × List Row)). IsRequest f asked) is ask.request_is);
+  no_help = λ help. let bad : [] ≡ DisplayHelp ∷ [] = sym whole ∙ help in cc;
+  no_version = λ version. let bad : [] ≡ DisplayVersion ∷ [] = sym whole ∙ version in cc;
 }
 
 -- words without an error whose `--sessions` isn't read as a number ask for nothing
@@ -152,3 +174,27 @@ returns-clause-version c = inl refl
 pub returns-clause-version_short : goal.returns-clause-version_short
 unfolding clap_on_literals
 returns-clause-version_short c = inl refl
+
+pub returns-clause-show : goal.returns-clause-show
+unfolding clap_on_literals
+returns-clause-show c = record { whole = refl; request_is = (refl, numeral_given (codes "sessions") (codes "256") MAX_SESSIONS 256 _ (omega arith) refl refl (search rules), refl, (λ flag. let no : Some (codes "false") ≡ Some (codes "true") = flag in cc, λ flag. let no : Some (codes "false") ≡ Some (codes "true") = flag in cc)) }
+
+pub returns-clause-show_at : goal.returns-clause-show_at
+unfolding clap_on_literals
+returns-clause-show_at c = record { whole = refl; request_is = (refl, numeral_given (codes "sessions") (codes "256") MAX_SESSIONS 256 _ (omega arith) refl refl (search rules), place_given (codes "0") 0 _ refl refl, (λ flag. let no : Some (codes "false") ≡ Some (codes "true") = flag in cc, λ flag. let no : Some (codes "false") ≡ Some (codes "true") = flag in cc)) }
+
+pub returns-clause-show_rows : goal.returns-clause-show_rows
+unfolding clap_on_literals
+returns-clause-show_rows c = record { whole = refl; request_is = (refl, numeral_given (codes "sessions") (codes "3") MAX_SESSIONS 3 _ (omega arith) refl refl (search rules), place_given (codes "7") 7 _ refl refl, (refl, λ flag. let no : Some (codes "false") ≡ Some (codes "true") = flag in cc)) }
+
+pub returns-clause-show_graph : goal.returns-clause-show_graph
+unfolding clap_on_literals
+returns-clause-show_graph c = record { whole = refl; request_is = (refl, numeral_given (codes "sessions") (codes "256") MAX_SESSIONS 256 _ (omega arith) refl refl (search rules), refl, (λ flag. let no : Some (codes "false") ≡ Some (codes "true") = flag in cc, refl)) }
+
+pub returns-clause-show_two_forms : goal.returns-clause-show_two_forms
+unfolding clap_on_literals
+returns-clause-show_two_forms c = in_two_forms _ _ _ refl refl refl refl refl
+
+pub returns-clause-show_zeros : goal.returns-clause-show_zeros
+unfolding clap_on_literals
+returns-clause-show_zeros c = unplaced _ _ _ (codes "07") LeadingZero refl refl refl refl refl
