@@ -159,9 +159,31 @@ fn the_first_and_the_last_state_are_shown(rt: HostRuntime) -> Result<(), Fail> {
 #[test]
 fn what_cannot_be_shown_is_told(rt: HostRuntime) -> Result<(), Fail> {
     let behind = "glm: no place 16: the history has 15 entries\n";
-    want_errors(&rt, &rt, ["show", "--at=16"].as_slice(), DEADLOCK, 2, behind)?;
+    want_errors(
+        &rt,
+        &rt,
+        ["show", "--at=16"].as_slice(),
+        DEADLOCK,
+        2,
+        behind,
+    )?;
     let illegal = "0,1,begin,,,began,1\n1,1,poll,,,waiting,\n";
-    want(&rt, &rt, ["show", "--at=1"].as_slice(), illegal, 3, "illegal 1\n", "")?;
+    want(
+        &rt,
+        &rt,
+        ["show", "--at=1"].as_slice(),
+        illegal,
+        3,
+        "illegal 1\n",
+        "",
+    )?;
     let faulty = "glm: row 2: Shape\n";
-    want_errors(&rt, &rt, ["show"].as_slice(), "0,1,begin,,,began,1\n1\n", 1, faulty)
+    want_errors(
+        &rt,
+        &rt,
+        ["show"].as_slice(),
+        "0,1,begin,,,began,1\n1\n",
+        1,
+        faulty,
+    )
 }

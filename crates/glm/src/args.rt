@@ -181,7 +181,11 @@ fn show_command<'a>(alloc: Global) -> Result<Command<'a>, AllocError>
     )?;
     show.arg(at_arg(alloc))?
         .arg(form_arg(alloc, "csv", "Writes the same as rows"))?
-        .arg(form_arg(alloc, "dot", "Writes who waits for whom as a graph for Graphviz"))
+        .arg(form_arg(
+            alloc,
+            "dot",
+            "Writes who waits for whom as a graph for Graphviz",
+        ))
 }
 
 /// Defines the program's commands and their options. Fails if memory is refused.

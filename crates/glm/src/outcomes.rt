@@ -126,9 +126,8 @@ impl Outcome {
             Outcome::Run(Ok(_)) | Outcome::RunInPieces(Ok(_)) => DONE,
             Outcome::HelpShown | Outcome::VersionShown => DONE,
             Outcome::Check(Ok(Verdict::Legal(_))) | Outcome::Show(Ok(Verdict::Legal(_))) => DONE,
-            Outcome::Check(Ok(Verdict::Illegal(_))) | Outcome::Show(Ok(Verdict::Illegal(_))) => {
-                ILLEGAL
-            }
+            Outcome::Check(Ok(Verdict::Illegal(_))) => ILLEGAL,
+            Outcome::Show(Ok(Verdict::Illegal(_))) => ILLEGAL,
             Outcome::Replay(Err(fault)) | Outcome::ReplayInPieces(Err(fault)) => {
                 status_of_fault(fault)
             }
