@@ -22,16 +22,18 @@ fn the_version_is_written_to_the_output(rt: HostRuntime) -> Result<(), Fail> {
 }
 
 /// A number with a leading zero or a plus sign is a usage error, for each option and command that is tried, and so are as
-/// many sessions as an office has for a run in pieces.
+/// many sessions as an office has for a run in pieces, and a state in two forms.
 #[test]
 fn option_numbers_have_no_sign_and_no_leading_zero(rt: HostRuntime) -> Result<(), Fail> {
     let message =
-        "error: a number is written with digits alone, with no sign and no zero before it, and 'run --stream' has at most 1023\nsessions\n\nFor more information, try '--help'.\n";
+        "error: a number is written with digits alone, with no sign and no zero before it, and 'run --stream' has at most 1023\nsessions; 'show' takes one of --csv and --dot\n\nFor more information, try '--help'.\n";
     for words in [
         ["replay", "--sessions", "01"].as_slice(),
         ["check", "--sessions=+1"].as_slice(),
         ["run", "--turns", "010"].as_slice(),
         ["run", "--stream", "--sessions=1024"].as_slice(),
+        ["show", "--at=07"].as_slice(),
+        ["show", "--csv", "--dot"].as_slice(),
     ] {
         want_errors(&rt, &rt, words, "", 2, message)?;
     }
