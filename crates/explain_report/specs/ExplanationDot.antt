@@ -1,0 +1,69 @@
+-- What a request waits for and the cycles that it closed, as Graphviz reads them. A node or an edge may come more than once:
+-- Graphviz makes one of equal ones, and of its attributes the later ones hold.
+use Rattle.std.specs.Prelude.{ℕ, List, [], ◌++◌, Option, Some, None, codes, decimal}
+use Rattle.std.specs.List.{flat_map}
+use Rattle.lock_rules.specs.declared.listing.Claim.{Claim}
+use Rattle.lock_explain.specs.declared.explanation.Blocker.{Blocker}
+use Rattle.lock_explain.specs.declared.explanation.Edge.{Edge}
+use Rattle.lock_explain.specs.declared.explanation.Explanation.{Explanation}
+use Rattle.lock_explain.specs.declared.explanation.Party.{Party}
+use Rattle.lock_explain.specs.declared.explanation.Wait.{Wait}
+
+-- the node of a session with its transaction, up to the end of its label's second line
+abbrev pub start_of_node : ℕ → ℕ → List ℕ
+start_of_node s number =
+    codes "  " ++ decimal s ++ codes " [label=\"session " ++ decimal s ++ codes "\\ntransaction " ++ decimal number
+
+-- the node of the session that waits
+abbrev pub node_of_request : Claim → List ℕ
+node_of_request q = start_of_node q.session q.transaction.number ++ codes "\"];\n"
+
+-- the node of a session that the request waits for
+abbrev pub node_of_blocker : Blocker → List ℕ
+node_of_blocker b = start_of_node b.party.session b.party.transaction ++ codes "\"];\n"
+
+-- the node of a session on a cycle
+abbrev pub node_of_member : Party → List ℕ
+node_of_member p = start_of_node p.session p.transaction ++ codes "\", color=red];\n"
+
+-- the node of a deadlock victim, which was on a cycle
+abbrev pub node_of_victim : Party → List ℕ
+node_of_victim p =
+    start_of_node p.session p.transaction ++ codes "\\nvictim\", style=filled, fillcolor=lightgray, color=red];\n"
+
+-- an edge, from the session that waits to the one that it waits for, with this end
+abbrev pub edge_with : ℕ → ℕ → List ℕ → List ℕ
+edge_with s u end = codes "  " ++ decimal s ++ codes " -> " ++ decimal u ++ end
+
+-- the edge from the session that waits to a session that it waits for
+abbrev pub edge_of_blocker : ℕ → Blocker → List ℕ
+edge_of_blocker s b = edge_with s b.party.session (codes ";\n")
+
+-- the edge of a wait of one session on a cycle for another
+abbrev pub edge_of_circle : Edge → List ℕ
+edge_of_circle w = edge_with w.session w.other (codes " [color=red];\n")
+
+-- the nodes: the session that waits, those that it waits for, those on a cycle, and the victims
+abbrev pub nodes_of_wait : Wait → List Party → List ℕ
+nodes_of_wait w victims =
+    node_of_request w.request ++ flat_map node_of_blocker w.blockers.items
+    ++ flat_map node_of_member w.circle.items ++ flat_map node_of_victim victims
+
+-- the edges: from the session that waits to those that it waits for, and the waits on a cycle
+abbrev pub edges_of_wait : Wait → List ℕ
+edges_of_wait w =
+    flat_map (edge_of_blocker w.request.session) w.blockers.items ++ flat_map edge_of_circle w.edges.items
+
+-- the graph of a request that began to wait at this place of the history, with the victims chosen for its cycles
+abbrev pub graph_of_wait : ℕ → Wait → List Party → List ℕ
+graph_of_wait place w victims =
+    codes "strict digraph place_" ++ decimal place ++ codes " {\n" ++ nodes_of_wait w victims ++ edges_of_wait w ++ codes "}\n"
+
+-- the graph, nothing if no request began to wait
+abbrev pub graph_part : ℕ → Option Wait → List Party → List ℕ
+graph_part place None victims = []
+graph_part place (Some w) victims = graph_of_wait place w victims
+
+-- the graph of an explanation
+abbrev pub dot_of_explanation : ℕ → Explanation → List ℕ
+dot_of_explanation place e = graph_part place e.wait e.victims.items

@@ -1,0 +1,4 @@
+-- What public contracts speak of.
+pub mod ExplanationText
+pub mod ExplanationRows
+pub mod ExplanationDot

@@ -1,0 +1,15 @@
+pub mod ForSessions
+pub mod Ahead
+pub mod Parents
+pub mod WaitingGraph
+pub mod SessionsOfAHistory
+pub mod GraphRows
+pub mod OnCircle
+pub mod NewVictims
+pub mod OpenWithin
+pub mod Beginnings
+pub mod BegunWaits
+pub mod ServedCalls
+pub mod KeptCircles
+pub mod FallingVictims
+pub mod ChosenVictims

@@ -1,0 +1,52 @@
+-- What an explanation tells of a call.
+use Rattle.std.specs.Prelude.{◌≡◌, ℕ, Bool, true, false, ◌&&◌, not, List, [], ◌∷◌, IfSome, IfNone}
+use Rattle.lock_rules.specs.declared.calls.Call.{Call}
+use Rattle.lock_rules.specs.declared.calls.Call.TheVariants.{Lock, Convert}
+use Rattle.lock_rules.specs.declared.calls.Reply.{Reply}
+use Rattle.lock_rules.specs.declared.calls.Reply.TheVariants.{Waiting, Deadlock, Refused}
+use Rattle.lock_rules.specs.State.{Claim, State, is_waiting, is_doomed}
+use Rattle.lock_rules.specs.Step.{step}
+use Rattle.lock_rules.specs.Effects.{IsNotRefused}
+use Rattle.lock_rules.specs.Listing.{listed_as, kind_of_request}
+use Rattle.lock_explain.specs.declared.explanation.Wait.{Wait}
+use Rattle.lock_explain.specs.declared.explanation.Explanation.{Explanation}
+use Rattle.lock_explain.specs.Refused.{IsRefusalOf}
+use Rattle.lock_explain.specs.Waiting.{BeginsToWait, waiting_state, blockers_of}
+use Rattle.lock_explain.specs.Circles.{circle_of, edges_of}
+use Rattle.lock_explain.specs.Endings.{AreNewVictims, granted_requests}
+
+-- with sessions 1 to n, the request with which the call of session s begins to wait, what it waits for, and the cycles that it closes
+pub record IsWaitOfCall (n : ℕ) (st : State) (s : ℕ) (call : Call) (w : Wait) : Type 0 where
+  pub request : Claim
+  pub begins : BeginsToWait st s call request
+  pub told : w.request ≡ listed_as st (kind_of_request st request) request
+  pub blockers : w.blockers.items ≡ blockers_of n (waiting_state st request) request
+  pub circle : w.circle.items ≡ circle_of n (waiting_state st request) s
+  pub edges : w.edges.items ≡ edges_of n (waiting_state st request) s
+  -- after the call the session neither waits nor is a victim
+  pub granted : w.granted ≡ (not (is_waiting (step st s call).state s) && not (is_doomed (step st s call).state s))
+
+-- with sessions 1 to n, what the call of session s did in this state, and why
+pub record IsExplanation (n : ℕ) (st : State) (s : ℕ) (call : Call) (e : Explanation) : Type 0 where
+  -- the refusal is told exactly if the call was refused
+  pub refused : IfSome e.refusal (IsRefusalOf st s call)
+  pub accepted : IfNone e.refusal (IsNotRefused st s call)
+  -- the wait is told exactly if a request of the call began to wait
+  pub wait : IfSome e.wait (IsWaitOfCall n st s call)
+  pub no_wait : IfNone e.wait ((q : Claim) → BeginsToWait st s call q → ⊥)
+  pub victims : AreNewVictims n st (step st s call).state e.victims.items
+  pub granted : e.granted.items ≡ granted_requests n s st (step st s call).state
+
+-- a reply that tells of a wait: the caller waits, or is a victim
+abbrev pub tells_of_wait : Reply → Bool
+tells_of_wait Waiting = true
+tells_of_wait Deadlock = true
+tells_of_wait _ = false
+
+-- the call was refused, its own request waited, or it ended the wait of another session
+abbrev pub is_eventful : Call → Reply → List ℕ → Bool
+is_eventful call (Refused why) ended = true
+is_eventful (Lock r m) reply [] = tells_of_wait reply
+is_eventful (Convert r m) reply [] = tells_of_wait reply
+is_eventful call reply [] = false
+is_eventful call reply (u ∷ us) = true

@@ -1,0 +1,14 @@
+-- A call that was served after a history.
+use Rattle.std.specs.Prelude.{◌≡◌, ℕ, List, All}
+use Rattle.lock_rules.specs.declared.calls.Entry.{Entry}
+use Rattle.lock_rules.specs.State.{State}
+use Rattle.lock_rules.specs.Legal.{state_of}
+use Rattle.lock_rules.specs.Step.{step}
+use Rattle.lock_desk.specs.BookView.{IsEntryWithin}
+
+-- after the history, whose entries are of sessions 1 to n, the entry of one of them was served and led to this state
+pub record IsServed (n : ℕ) (history : List Entry) (e : Entry) (after : State) : Type 0 where
+  pub entries : All (IsEntryWithin n) history
+  pub session : IsEntryWithin n e
+  pub reply : e.reply ≡ (step (state_of history) e.session e.call).reply
+  pub state : after ≡ (step (state_of history) e.session e.call).state

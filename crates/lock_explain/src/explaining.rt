@@ -1,0 +1,240 @@
+//! The explanation of a served call.
+
+ghost use Rattle.std.specs.Prelude.{◌≡◌, ◌≢◌, ◌⊎◌, ◌++◌, ◌&&◌, not, true, false, List, [], ◌∷◌, is_some, option_map, IfOk, IfNone, IfSome};
+ghost use Rattle.lock_rules.specs.declared.calls.Reply.{Reply as ReplyValue};
+ghost use Rattle.lock_rules.specs.State.{Claim as ClaimValue, held_mode, is_doomed, is_waiting};
+ghost use Rattle.lock_rules.specs.Effects.{IsNotRefused};
+ghost use Rattle.lock_rules.specs.Legal.{state_of};
+ghost use Rattle.lock_rules.specs.Listing.{kind_of_request, listed_as, transaction_of};
+ghost use Rattle.lock_rules.specs.Step.{step};
+ghost use Rattle.lock_explain.specs.Circles.{circle_of, edges_of};
+ghost use Rattle.lock_explain.specs.Endings.{AreNewVictims};
+ghost use Rattle.lock_explain.specs.Explanations.{IsExplanation, IsWaitOfCall, is_eventful};
+ghost use Rattle.lock_explain.specs.Refused.{IsRefusalOf};
+ghost use Rattle.lock_explain.specs.Waiting.{BeginsToWait, request_made, waiting_state};
+ghost use Rattle.lock_explain.specs.inner.Asked.{IsAskedIn, claim_of};
+ghost use Rattle.lock_explain.specs.inner.Served.{IsServed};
+
+use crate::asked::Asked;
+use crate::circles::{Circle, circle_of};
+use crate::endings::{granted_requests, is_doomed, new_victims};
+use crate::explanation::{Explanation, Party, Refusal, Wait};
+use crate::refusal::{refusal_of, target_of};
+use crate::waiting::blockers_of;
+use lock_desk::Book;
+use lock_rules::{Call, Claim, ClaimKind, Entry, Reply, Transaction};
+use std::alloc::{AllocError as NoMemory, Global};
+
+/// Why the served call was refused, `None` if it wasn't. Fails if memory is refused.
+fn refusal_of_entry(
+    alloc: Global,
+    before: &Book,
+    entry: &Entry,
+) -> Result<Option<Refusal>, NoMemory>
+    requires reply { entry.now.reply ≡ (step (state_of before.now.history) entry.now.session entry.now.call).reply }
+    ensures refused { IfOk result (λ refusal. IfSome refusal (IsRefusalOf (state_of before.now.history) entry.now.session entry.now.call)) }
+    ensures accepted { IfOk result (λ refusal. IfNone refusal (IsNotRefused (state_of before.now.history) entry.now.session entry.now.call)) }
+{
+    let Reply::Refused(why) = entry.reply else {
+        return Ok(None);
+    };
+    let refusal = refusal_of(alloc, before, entry.session, entry.call, why)?;
+    Ok(Some(refusal))
+}
+
+/// The request that the call makes, `None` if it requests no lock.
+fn asked_by(before: &Book, entry: &Entry) -> Option<Asked>
+    ensures made { option_map claim_of result ≡ request_made (state_of before.now.history) entry.now.session entry.now.call }
+    ensures converts { IfSome result (λ asked. asked.converts ≡ is_some (held_mode (state_of before.now.history).table asked.session asked.resource)) }
+{
+    match entry.call {
+        Call::Lock(resource, mode) | Call::Convert(resource, mode) => {
+            let held = before.held(entry.session, resource);
+            Some(Asked {
+                session: entry.session,
+                resource,
+                target: target_of(held, mode),
+                converts: held.is_some(),
+            })
+        }
+        _ => None,
+    }
+}
+
+/// Whether a call that requests a lock began to wait, by its reply and its victims: the request waits after the call, or the
+/// call made victims.
+fn has_begun_wait(reply: Reply, victims: &[Party]) -> bool
+    ensures waits { result ≡ true → (reply ≡ ReplyValue.Waiting) ⊎ (victims.now ≢ []) }
+    ensures none { result ≡ false → (reply ≢ ReplyValue.Waiting) × (victims.now ≡ []) }
+{
+    reply == Reply::Waiting || !victims.is_empty()
+}
+
+/// The request with which the call began to wait, `None` if none did. After the call such a request waits, or the call has
+/// made victims.
+fn wait_begun(before: &Book, entry: &Entry, victims: &[Party]) -> Option<Asked>
+    requires served { IsServed before.now.sessions before.now.history entry.now (step (state_of before.now.history) entry.now.session entry.now.call).state }
+    requires victims { AreNewVictims before.now.sessions (state_of before.now.history) (step (state_of before.now.history) entry.now.session entry.now.call).state victims.now }
+    ensures own { IfSome result (λ asked. asked.session ≡ entry.now.session) }
+    ensures asked { IfSome result (IsAskedIn before.now.sessions (state_of before.now.history)) }
+    ensures begins { IfSome result (λ asked. BeginsToWait (state_of before.now.history) entry.now.session entry.now.call (claim_of asked)) }
+    ensures none { IfNone result ((q : ClaimValue) → BeginsToWait (state_of before.now.history) entry.now.session entry.now.call q → ⊥) }
+{
+    if !has_begun_wait(entry.reply, victims) {
+        return None;
+    }
+    asked_by(before, entry)
+}
+
+/// The open transaction of the session, as a listing shows it.
+fn transaction_of(book: &Book, session: u16) -> Transaction
+    ensures { result ≡ transaction_of (state_of book.now.history) session }
+{
+    match book.transaction(session) {
+        Some(transaction) => transaction,
+        None => Transaction {
+            number: 0,
+            doomed: false,
+        },
+    }
+}
+
+/// The request as a line of the listing.
+fn request_line(before: &Book, asked: &Asked) -> Claim
+    requires asked { IsAskedIn before.now.sessions (state_of before.now.history) asked.now }
+    ensures { result ≡ listed_as (state_of before.now.history) (kind_of_request (state_of before.now.history) (claim_of asked.now)) (claim_of asked.now) }
+{
+    let kind = if asked.converts {
+        ClaimKind::Conversion
+    } else {
+        ClaimKind::Fresh
+    };
+    Claim {
+        resource: asked.resource,
+        session: asked.session,
+        transaction: transaction_of(before, asked.session),
+        mode: asked.target,
+        kind,
+    }
+}
+
+/// Whether the session neither waits nor is a victim.
+fn is_clear(after: &Book, session: u16) -> bool
+    ensures { result ≡ (not (is_waiting (state_of after.now.history) session) && not (is_doomed (state_of after.now.history) session)) }
+{
+    after.request(session).is_none() && !is_doomed(after, session)
+}
+
+/// The cycles that the request of the call closed, none if the call made no victim. Fails if memory is refused.
+// A request that closes a cycle makes a victim, so the waits-for graph is looked at only then.
+fn circle_closed(
+    alloc: Global,
+    before: &Book,
+    entry: &Entry,
+    asked: &Asked,
+    victims: &[Party],
+) -> Result<Circle, NoMemory>
+    requires served { IsServed before.now.sessions before.now.history entry.now (step (state_of before.now.history) entry.now.session entry.now.call).state }
+    requires own { asked.now.session ≡ entry.now.session }
+    requires asked { IsAskedIn before.now.sessions (state_of before.now.history) asked.now }
+    requires begins { BeginsToWait (state_of before.now.history) entry.now.session entry.now.call (claim_of asked.now) }
+    requires victims { AreNewVictims before.now.sessions (state_of before.now.history) (step (state_of before.now.history) entry.now.session entry.now.call).state victims.now }
+    ensures members { IfOk result (λ circle. circle.members.items ≡ circle_of before.now.sessions (waiting_state (state_of before.now.history) (claim_of asked.now)) asked.now.session) }
+    ensures edges { IfOk result (λ circle. circle.edges.items ≡ edges_of before.now.sessions (waiting_state (state_of before.now.history) (claim_of asked.now)) asked.now.session) }
+{
+    if victims.is_empty() {
+        return Ok(Circle {
+            members: Vec::new(alloc),
+            edges: Vec::new(alloc),
+        });
+    }
+    circle_of(alloc, before, *asked)
+}
+
+/// What the request of the call waits for, once it has begun to wait. Fails if memory is refused.
+fn wait_of(
+    alloc: Global,
+    before: &Book,
+    entry: &Entry,
+    asked: &Asked,
+    victims: &[Party],
+    after: &Book,
+) -> Result<Wait, NoMemory>
+    requires served { IsServed before.now.sessions before.now.history entry.now (state_of after.now.history) }
+    requires victims { AreNewVictims before.now.sessions (state_of before.now.history) (state_of after.now.history) victims.now }
+    requires own { asked.now.session ≡ entry.now.session }
+    requires asked { IsAskedIn before.now.sessions (state_of before.now.history) asked.now }
+    requires begins { BeginsToWait (state_of before.now.history) entry.now.session entry.now.call (claim_of asked.now) }
+    ensures { IfOk result (IsWaitOfCall before.now.sessions (state_of before.now.history) entry.now.session entry.now.call) }
+{
+    let blockers = blockers_of(alloc, before, *asked)?;
+    let circle = circle_closed(alloc, before, entry, asked, victims)?;
+    Ok(Wait {
+        request: request_line(before, asked),
+        blockers,
+        circle: circle.members,
+        edges: circle.edges,
+        granted: is_clear(after, asked.session),
+    })
+}
+
+/// The wait that the call began, `None` if it began none. Fails if memory is refused.
+fn wait_of_entry(
+    alloc: Global,
+    before: &Book,
+    entry: &Entry,
+    victims: &[Party],
+    after: &Book,
+) -> Result<Option<Wait>, NoMemory>
+    requires served { IsServed before.now.sessions before.now.history entry.now (state_of after.now.history) }
+    requires victims { AreNewVictims before.now.sessions (state_of before.now.history) (state_of after.now.history) victims.now }
+    ensures wait { IfOk result (λ wait. IfSome wait (IsWaitOfCall before.now.sessions (state_of before.now.history) entry.now.session entry.now.call)) }
+    ensures no_wait { IfOk result (λ wait. IfNone wait ((q : ClaimValue) → BeginsToWait (state_of before.now.history) entry.now.session entry.now.call q → ⊥)) }
+{
+    let Some(asked) = wait_begun(before, entry, victims) else {
+        return Ok(None);
+    };
+    let wait = wait_of(alloc, before, entry, &asked, victims, after)?;
+    Ok(Some(wait))
+}
+
+/// Explains the call that `after` has served and `before` hasn't: why it was refused; for whom its request began to wait and
+/// through what, and the cycles that this closed; who became a victim; and whose requests it granted.
+///
+/// `after` has the history of `before` and one entry more, and both are of the same sessions. Fails with `NoMemory` if memory
+/// is refused. What an explanation tells, and in which order, is this project's own.
+pub fn explain(
+    alloc: Global,
+    before: &Book,
+    entry: &Entry,
+    after: &Book,
+) -> Result<Explanation, NoMemory>
+    requires sessions { after.now.sessions ≡ before.now.sessions }
+    requires served { after.now.history ≡ before.now.history ++ entry.now ∷ [] }
+    ensures { IfOk result (IsExplanation before.now.sessions (state_of before.now.history) entry.now.session entry.now.call) }
+{
+    // called for its contract: the history is legal, so the entry has the reply of `step`
+    let _history = after.history();
+    let refusal = refusal_of_entry(alloc, before, entry)?;
+    let victims = new_victims(alloc, before, after)?;
+    let wait = wait_of_entry(alloc, before, entry, &victims, after)?;
+    let granted = granted_requests(alloc, before, entry.session, after)?;
+    Ok(Explanation {
+        refusal,
+        wait,
+        victims,
+        granted,
+    })
+}
+
+/// Whether a call is worth an explanation: it was refused, its own request waited, or it ended the wait of another session.
+/// `ended` has the sessions whose wait it ended, as [`Book::ended`] lists them.
+pub fn is_eventful(entry: &Entry, ended: &[u16]) -> bool
+    ensures { result ≡ is_eventful entry.now.call entry.now.reply ended.now }
+{
+    match (entry.call, entry.reply) {
+        (_, Reply::Refused(_)) => true,
+        (Call::Lock(_, _) | Call::Convert(_, _), Reply::Waiting | Reply::Deadlock) => true,
+        _ => !ended.is_empty(),
+    }
+}

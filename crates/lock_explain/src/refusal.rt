@@ -1,0 +1,137 @@
+//! Why a call was refused, and what failed its test.
+
+ghost use Rattle.std.specs.Prelude.{◌≡◌, true, filter, IfOk, Some};
+ghost use Rattle.lock_tree.specs.Paths.{has_parent, parent_of};
+ghost use Rattle.lock_rules.specs.declared.calls.Reply.{Reply as ReplyValue};
+ghost use Rattle.lock_rules.specs.Legal.{state_of};
+ghost use Rattle.lock_rules.specs.Listing.{listing_of};
+ghost use Rattle.lock_rules.specs.Step.{step, target_of};
+ghost use Rattle.lock_explain.specs.Refused.{IsRefusalOf, is_lock_below, locks_below, missed_by, parent_missed};
+
+use crate::explanation::{MissedParent, Refusal};
+use lock_desk::Book;
+use lock_modes::Mode;
+use lock_rules::{Call, Claim, ClaimKind, Reply, Why};
+use lock_tree::Resource;
+use std::alloc::{AllocError as NoMemory, Global};
+
+/// The target of a request: the least mode at or above `asked` and what is held.
+pub(crate) fn target_of(held: Option<Mode>, asked: Mode) -> Mode
+    ensures { result ≡ target_of held asked }
+{
+    match held {
+        Some(held) => held.sup(asked),
+        None => asked,
+    }
+}
+
+/// What a request lacks of `parent`, the parent of `resource`.
+fn parent_missed(
+    before: &Book,
+    session: u16,
+    resource: Resource,
+    parent: Resource,
+    asked: Mode,
+) -> MissedParent
+    requires has { has_parent resource ≡ true }
+    requires parent { parent ≡ parent_of resource }
+    ensures { result ≡ parent_missed (state_of before.now.history) session resource asked }
+{
+    let target = target_of(before.held(session, resource), asked);
+    MissedParent {
+        parent,
+        needed: target.parent_need(),
+        held: before.held(session, parent),
+    }
+}
+
+/// What a request for the resource lacks of its parent, where it has one.
+fn missed_for(before: &Book, session: u16, resource: Resource, asked: Mode) -> Option<MissedParent>
+    requires has { has_parent resource ≡ true }
+    ensures { result ≡ Some (parent_missed (state_of before.now.history) session resource asked) }
+{
+    match resource.parent() {
+        Some(parent) => Some(parent_missed(before, session, resource, parent, asked)),
+        None => None,
+    }
+}
+
+/// The parent that a refused call lacks, `None` if the refusal has another reason.
+fn missed_by(before: &Book, session: u16, call: &Call, why: Why) -> Option<MissedParent>
+    requires { (step (state_of before.now.history) session call.now).reply ≡ ReplyValue.Refused why }
+    ensures { result ≡ missed_by (state_of before.now.history) session call.now why }
+{
+    match why {
+        Why::ParentNotHeld => match *call {
+            Call::Lock(resource, asked) => missed_for(before, session, resource, asked),
+            Call::Convert(resource, asked) => missed_for(before, session, resource, asked),
+            _ => None,
+        },
+        _ => None,
+    }
+}
+
+/// Whether the line is a lock of the session on a descendant of the resource.
+fn is_lock_below(session: u16, resource: Resource, line: &Claim) -> bool
+    ensures { result ≡ is_lock_below session resource line.now }
+{
+    line.kind == ClaimKind::Held
+        && line.session == session
+        && resource.is_ancestor_of(&line.resource)
+}
+
+/// The locks of the session below the resource, in the order of the listing. Fails if memory is refused.
+fn locks_below_resource(
+    alloc: Global,
+    before: &Book,
+    session: u16,
+    resource: Resource,
+) -> Result<Vec<Claim>, NoMemory>
+    ensures { IfOk result (λ below. below.items ≡ filter (is_lock_below session resource) (listing_of (state_of before.now.history))) }
+{
+    let mut listing = Vec::new(alloc);
+    before.locks(alloc, &mut listing)?;
+    let mut below = Vec::new(alloc);
+    for line in &listing {
+        if is_lock_below(session, resource, line) {
+            below.push(*line)?;
+        }
+    }
+    Ok(below)
+}
+
+/// The locks of the session below the resource of a refused call, none if the refusal has another reason. Fails if memory
+/// is refused.
+fn locks_below(
+    alloc: Global,
+    before: &Book,
+    session: u16,
+    call: &Call,
+    why: Why,
+) -> Result<Vec<Claim>, NoMemory>
+    ensures { IfOk result (λ below. below.items ≡ locks_below (state_of before.now.history) session call.now why) }
+{
+    match why {
+        Why::ChildHeld => match *call {
+            Call::Release(resource) => locks_below_resource(alloc, before, session, resource),
+            _ => Ok(Vec::new(alloc)),
+        },
+        _ => Ok(Vec::new(alloc)),
+    }
+}
+
+/// Why the call was refused, where `why` is its refusal. Fails if memory is refused.
+pub(crate) fn refusal_of(
+    alloc: Global,
+    before: &Book,
+    session: u16,
+    call: Call,
+    why: Why,
+) -> Result<Refusal, NoMemory>
+    requires { (step (state_of before.now.history) session call).reply ≡ ReplyValue.Refused why }
+    ensures { IfOk result (IsRefusalOf (state_of before.now.history) session call) }
+{
+    let missed = missed_by(before, session, &call, why);
+    let below = locks_below(alloc, before, session, &call, why)?;
+    Ok(Refusal { why, missed, below })
+}
