@@ -1,7 +1,7 @@
 //! A pass of the combiner: it walks the publication list, opens the records in which calls are posted, performs the
 //! calls and answers them.
 
-ghost use Rattle.std.specs.Prelude.{◌≡◌, ◌≢◌, ◌+◌, ◌-◌, ◌^◌, ◌<◌, ◌≤◌, ◌↔◌, min, [], true, false, IsTrue, Some, None, IfSome, IfNone, length, take, drop, vec_len, vec_capacity, All};
+ghost use Rattle.std.specs.Prelude.{◌≡◌, ◌≢◌, ◌+◌, ◌-◌, ◌^◌, ◌<◌, ◌≤◌, ◌↔◌, ◌∷◌, ◌++◌, min, [], true, false, IsTrue, Some, None, IfSome, IfNone, length, take, drop, vec_len, vec_capacity, All};
 ghost use mathlib.Core.List.{IsPrefix};
 ghost use Rattle.lock_rules.specs.Legal.{IsLegal, calls_of};
 ghost use Rattle.lock_desk.specs.Batches.{IsItemWithin};
@@ -42,10 +42,37 @@ pub(crate) fn gives_locks_back(call: &Call) -> bool
     matches!(call, Call::Release(_) | Call::Commit | Call::Abort)
 }
 
+/// Inserts an item for the call of session `whose` into the row, which has room for it, behind the first `place` items.
+#[inline(always)]
+fn insert_item(row: &mut Vec<Item>, place: usize, whose: u16, call: Call)
+    requires place { place ≤ vec_len row.old }
+    requires room { vec_len row.old < vec_capacity row.old }
+    ensures items { row.new.items ≡ take place row.old.items ++ (record { session = whose; call = call; reply = None }) ∷ drop place row.old.items }
+    ensures len { vec_len row.new ≡ vec_len row.old + 1 }
+    ensures capacity { vec_capacity row.old ≤ vec_capacity row.new }
+{
+    let item = Item {
+        session: whose,
+        call,
+        reply: None,
+    };
+    // an item that comes last is written in its place
+    if place == row.len() {
+        let Ok(()) = row.push(item) else {
+            unreachable!()
+        };
+        return;
+    }
+    let Ok(()) = row.insert(place, item) else {
+        unreachable!()
+    };
+}
+
 /// Opens record `whose` if a call is posted there, and inserts an item for it into the row: after the first `givers`
 /// items, which release locks, if this call does too; else at the end.
-#[inline(always)]
-fn open_record(
+// Out of line, so that a pass over idle records only looks at them.
+#[inline(never)]
+fn open_posted(
     board: &Board,
     session: &mut Ticket,
     row: &mut Vec<Item>,
@@ -69,22 +96,40 @@ fn open_record(
     };
     let gives = gives_locks_back(&call);
     let place = if gives { *givers } else { row.len() };
-    let item = Item {
-        session: whose,
-        call,
-        reply: None,
-    };
-    let Ok(()) = row.insert(place, item) else {
-        unreachable!()
-    };
+    insert_item(row, place, whose, call);
     if gives {
         *givers += 1;
     }
 }
 
+/// Looks at record `whose`, and opens it as `open_posted` does if a call is posted there.
+#[inline(always)]
+fn open_record(
+    board: &Board,
+    session: &mut Ticket,
+    row: &mut Vec<Item>,
+    givers: &mut usize,
+    whose: u16,
+)
+    requires ours { IsOf board.now session.old × (session.old.has_book ≡ true) }
+    requires whose { IsNumber board.now whose }
+    requires row { AreOpened board.now.sessions session.old.opened row.old.items }
+    requires room { (board.now.sessions ≤ vec_capacity row.old) × (givers.old ≤ vec_len row.old) }
+    requires visited { HasVisitedOpened session.old }
+    ensures session { IsSameSession session.old session.new × (session.new.front ≡ session.old.front) × (session.new.route ≡ session.old.route) }
+    ensures row { AreOpened board.now.sessions session.new.opened row.new.items }
+    ensures room { (board.now.sessions ≤ vec_capacity row.new) × (givers.new ≤ vec_len row.new) }
+    ensures calls { KeepsCalls session.old session.new }
+    ensures visited { HasVisitedOpened session.new }
+    ensures met { IsVisited whose session.new }
+{
+    if board.is_posted(session, whose) {
+        open_posted(board, session, row, givers, whose);
+    }
+}
+
 /// Visits the records of the walk from `next` on, and opens each in which a call is posted.
-// Out of line, so that a pass that finds nobody on the list is short.
-#[inline(never)]
+#[inline(always)]
 fn open_walked(
     board: &Board,
     session: &mut Ticket,

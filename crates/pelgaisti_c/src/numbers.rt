@@ -118,6 +118,7 @@ fn read_op(number: u32) -> Option<Op>
 
 /// The call that the numbers encode. Tests the op, then the level, then the mode, and returns the status of the first
 /// test that fails.
+#[inline(always)]
 pub(crate) fn read_call(asked: &CallNumbers) -> Result<Call, u32>
     ensures ok { IfOk result (λ call. IsCall asked.now call) }
     ensures err { IfErr result (λ fault. IsCallFault asked.now fault) }

@@ -153,6 +153,7 @@ pub(crate) fn serve_telling(
 }
 
 /// The call that the numbers encode, if the session may make it. Else the status of the first test that fails.
+#[inline(always)]
 fn call_of(session: &Session, asked: &CallNumbers) -> Result<Call, u32>
     ensures ok { IfOk result (λ call. IsCall asked.now call × IsIdle session.now) }
     ensures call { IfErr result (λ fault. NO_SUCH_OP ≤ fault → fault ≤ NO_SUCH_MODE → IsCallFault asked.now fault) }

@@ -285,7 +285,7 @@ pub(crate) fn release_load(shared: &Shared, seat: &mut Seat, load: Box<Load>)
 
 /// Whether a call is posted in the record. It is a plain load, so a pass over idle records writes none of them.
 #[tactic(auto, using(crate::proofs::RecordKinds::session_of_its_word))]
-fn is_posted(shared: &Shared, seat: &mut Seat, at: usize) -> bool
+pub(crate) fn is_posted(shared: &Shared, seat: &mut Seat, at: usize) -> bool
     requires ours { seat.old.table_id ≡ shared.now.table_id }
     requires board { IsBoard shared.now.table_id }
     requires at { IsAt shared.now.table_id at }

@@ -26,6 +26,7 @@ impl Office {
 
     /// Has the session's call listed, tries once to become the combiner, and if it does, makes a pass. The session then has
     /// the lock table.
+    #[inline(always)]
     pub(crate) fn make_pass(&self, session: &mut Session) -> Option<MadePass>
         requires ours { IsSessionOf self.now session.old }
         ensures ours { IsOf self.now session.new }

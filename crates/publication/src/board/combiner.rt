@@ -111,6 +111,19 @@ impl Board {
         )
     }
 
+    /// Whether a call is posted in the record of a session. It is a plain load, so a walk over idle records writes none.
+    pub fn is_posted(&self, ticket: &mut Ticket, whose: u16) -> bool
+        requires ours { IsOf self.now ticket.old }
+        requires has { ticket.old.has_book ≡ true }
+        requires whose { IsNumber self.now whose }
+        ensures same { ticket.new ≡ ticket.old }
+        ensures entered { result ≡ false → opened_at ticket.old whose ≡ None → heard_from ticket.old whose ≤ length (calls_of whose ticket.old.front) }
+        ensures own_entered { result ≡ false → opened_at ticket.old whose ≡ None → ticket.old.number ≡ whose → ticket.old.pending ≢ None
+            → length ticket.old.collected < length (calls_of whose ticket.old.front) }
+    {
+        steps::is_posted(&self.table.shared, &mut ticket.seat, usize::from(whose))
+    }
+
     /// Opens the record of a session: takes the call that is posted there; `None` if there is none. It writes the
     /// record only after a load found a call posted.
     pub fn open(&self, ticket: &mut Ticket, whose: u16) -> Option<Call>

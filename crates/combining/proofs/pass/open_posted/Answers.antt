@@ -6,7 +6,7 @@ use Rattle.publication.specs.Boards.{opened_at}
 use Rattle.combining.specs.inner.Passes.{AreOpened}
 use Rattle.combining.proofs.OpenedRow.{Calls, opened-insert, opened-in_range}
 use Rattle.combining.proofs.OpenedCount.{row-room}
-use Rattle.combining.proofs.pass.open_record.Goals as goal
+use Rattle.combining.proofs.pass.open_posted.Goals as goal
 
 -- The row with the opened record's item, wherever it was inserted.
 row-after : (n : ℕ) (t u : TicketView) (row : List Item) (place : ℕ) (i : Item) → IsItemWithin n i → opened_at t i.session ≡ None → AreOpened n t.opened row
@@ -19,15 +19,15 @@ row-after n t u row place i within none all is shown after put =
 pub returns-then-gives-2-clause-row : goal.returns-then-gives-2-clause-row
 returns-then-gives-2-clause-row c = let s = c.in-Some.ensures in
     row-after c.args.board.now.sessions c.args.session.now c.open.new.ticket c.args.row.now.items c.if-gives.place (record { session = c.args.whose; call = c.in-Some.call; reply = None })
-    (record { some = omega arith; within = omega (arith, c.requires.whose.few) }) s.lacked c.requires.row (ap (λ (t : TicketView). t.opened) s.ticket) s.opened c.insert.new.self.items (search rules)
+    (record { some = omega arith; within = omega (arith, c.requires.whose.few) }) s.lacked c.requires.row (ap (λ (t : TicketView). t.opened) s.ticket) s.opened c.insert_item.new.row.items (search rules)
 
 pub returns-else-gives-2-clause-row : goal.returns-else-gives-2-clause-row
 returns-else-gives-2-clause-row c = let s = c.in-Some.ensures in
     row-after c.args.board.now.sessions c.args.session.now c.open.new.ticket c.args.row.now.items c.if-gives.place (record { session = c.args.whose; call = c.in-Some.call; reply = None })
-    (record { some = omega arith; within = omega (arith, c.requires.whose.few) }) s.lacked c.requires.row (ap (λ (t : TicketView). t.opened) s.ticket) s.opened c.insert.new.self.items (search rules)
+    (record { some = omega arith; within = omega (arith, c.requires.whose.few) }) s.lacked c.requires.row (ap (λ (t : TicketView). t.opened) s.ticket) s.opened c.insert_item.new.row.items (search rules)
 
-pub unreachable-requires : goal.unreachable-requires
-unreachable-requires c =
+pub insert_item-requires-clause-room : goal.insert_item-requires-clause-room
+insert_item-requires-clause-room c =
     let fewer = row-room c.args.board.now.sessions c.args.session.now.opened c.args.row.now.items c.args.whose c.requires.row c.in-Some.ensures.lacked c.requires.whose.some c.requires.whose.few in
     let len : vec_len c.args.row.now ≡ length c.args.row.now.items = search rules in
     let room : vec_len c.args.row.now < vec_capacity c.args.row.now = omega (arith, fewer, len, c.requires.room.0) in search rules
