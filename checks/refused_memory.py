@@ -1,16 +1,16 @@
 #!/usr/bin/env python3
-"""Refuses each allocation in turn: of replays, checks and runs by glm, and of tests of the lock table, of the office and of what is
-below them.
+"""Refuses each allocation in turn: of replays, checks, states, explanations and runs by glm, and of tests of the lock table, of the
+office and of what is below them.
 
 Usage: checks/refused_memory.py [--over-gate]
 
 In each round one allocation is refused: the first one in the first round, the second one in the second round, and so on. The last
 round is the first one in which nothing was refused.
 
-A replay and a check have to end with status 4, their line on standard error and nothing on standard output, in every round but one:
-room for all words of the command line is only a hint, and if it is refused they end as with ample memory. A replay in pieces may
-have written whole pieces of its history, and some round has to see one piece written, and some round two. A run may also end with
-status 5, if the refusal kept a thread from starting, or with status 0, if it met the refusal by serving calls one after another:
+A replay, a check, a state and an explanation have to end with status 4, their line on standard error and nothing on standard
+output, in every round but one: room for all words of the command line is only a hint, and if it is refused they end as with ample
+memory. A replay in pieces may have written whole pieces of its history, and some round has to see one piece written, and some
+round two. A run may also end with status 5, if the refusal kept a thread from starting, or with status 0, if it met the refusal by serving calls one after another:
 what it writes has to be a legal history in which each session's rows stand in their order. A run of one session has one try for
 each call: a pass that found no memory for the call ends the run. A run in pieces may also end with these statuses and whole rows
 of a legal history behind it, in which each session's rows are the first ones of its own. In further rounds of runs all later allocations are refused too: a
@@ -247,6 +247,11 @@ def trials_of_the_program():
         trace, history = trace_of(rows), history_of(rows)
         yield Trial(f"replay of {name}", [PROGRAM, "replay"], ends(0, history), trace)
         yield Trial(f"check of {name}", [PROGRAM, "check"], ends(0, b"legal %d\n" % len(rows)), history)
+        # each reader behind the writer has a line for each request ahead of its own
+        commands = ("show",) if rows is CROWD else ("show", "explain")
+        for words in ([command, *form] for command in commands for form in ([], ["--csv"], ["--dot"])):
+            whole = subprocess.run([PROGRAM, *words], input=history, capture_output=True, check=True, timeout=60).stdout
+            yield Trial(f"{' '.join(words)} of {name}", [PROGRAM, *words], ends(0, whole), history)
         # a session that is alone is served at the first try
         one_try = ["--turns", "1"] if len(by_session(rows)) == 1 else []
         yield Trial(f"run of {name}", [PROGRAM, "run", *one_try], runs(rows), trace, quiet=3)

@@ -50,6 +50,10 @@ fn usage_errors_end_with_status_2(rt: HostRuntime) -> Result<(), Fail> {
         ["show", "--at", "-1"].as_slice(),
         ["show", "--at=07"].as_slice(),
         ["show", "--at", "4294967296"].as_slice(),
+        ["explain", "--csv", "--dot"].as_slice(),
+        ["explain", "--at=07"].as_slice(),
+        ["explain", "--at", "4294967296"].as_slice(),
+        ["explain", "--stream"].as_slice(),
         ["check", "--at=1"].as_slice(),
     ] {
         want_misused(&rt, &rt, words)?;

@@ -22,11 +22,11 @@ fn the_version_is_written_to_the_output(rt: HostRuntime) -> Result<(), Fail> {
 }
 
 /// A number with a leading zero or a plus sign is a usage error, for each option and command that is tried, and so are as
-/// many sessions as an office has for a run in pieces, and a state in two forms.
+/// many sessions as an office has for a run in pieces, and a state or an explanation in two forms.
 #[test]
 fn option_numbers_have_no_sign_and_no_leading_zero(rt: HostRuntime) -> Result<(), Fail> {
     let message =
-        "error: a number is written with digits alone, with no sign and no zero before it, and 'run --stream' has at most 1023\nsessions; 'show' takes one of --csv and --dot\n\nFor more information, try '--help'.\n";
+        "error: a number is written with digits alone, with no sign and no zero before it, and 'run --stream' has at most 1023\nsessions; 'show' and 'explain' take one of --csv and --dot\n\nFor more information, try '--help'.\n";
     for words in [
         ["replay", "--sessions", "01"].as_slice(),
         ["check", "--sessions=+1"].as_slice(),
@@ -34,6 +34,8 @@ fn option_numbers_have_no_sign_and_no_leading_zero(rt: HostRuntime) -> Result<()
         ["run", "--stream", "--sessions=1024"].as_slice(),
         ["show", "--at=07"].as_slice(),
         ["show", "--csv", "--dot"].as_slice(),
+        ["explain", "--at=07"].as_slice(),
+        ["explain", "--csv", "--dot"].as_slice(),
     ] {
         want_errors(&rt, &rt, words, "", 2, message)?;
     }
@@ -74,6 +76,8 @@ fn help_shows_rows_and_statuses(rt: HostRuntime) -> Result<(), Fail> {
         (["replay", "--help"].as_slice(), "1,convert,1/2,X"),
         (["run", "--help"].as_slice(), "1,lock,1/2,S"),
         (["check", "--help"].as_slice(), "0,1,begin,,,began,1"),
+        (["show", "--help"].as_slice(), "holds 1 in S"),
+        (["explain", "--help"].as_slice(), "7,1,lock,1,S,granted,S"),
         (["help", "replay"].as_slice(), "1,release,1/2,"),
         (["help"].as_slice(), "replay"),
     ] {

@@ -16,6 +16,8 @@ mod deadlocks;
 #[cfg(test)]
 mod engine;
 #[cfg(test)]
+mod explanations;
+#[cfg(test)]
 mod harness;
 #[cfg(test)]
 mod help;

@@ -3,6 +3,7 @@
 use crate::call_gates::Counting;
 use crate::harness::status_of;
 use crate::replays::EXAMPLES;
+use crate::shows::DEADLOCK;
 use glm::{OpenGate, ToolFault, check, replay, run};
 use lock_trace::{TraceFault, TraceKind};
 use lock_tree::PathFault;
@@ -222,6 +223,18 @@ fn a_faulty_row_is_reported_before_a_failed_reader(rt: HostRuntime) {
             bad: Some((path, line)),
         };
         want_failed_readers(&rt, &rt, &tried);
+    }
+}
+
+/// Wherever the reader of a history fails that is to be shown or explained, nothing is written.
+#[test]
+fn a_failed_reader_shows_and_explains_nothing(rt: HostRuntime) {
+    let device = "glm: device\n";
+    for word in ["show", "explain"] {
+        for length in 0..=DEADLOCK.len() {
+            let left = &DEADLOCK.as_bytes()[..length];
+            want_status_and_line(&rt, &rt, word, Cut { left, piece: 16 }, 5, device);
+        }
     }
 }
 

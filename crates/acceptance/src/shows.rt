@@ -4,7 +4,7 @@ use crate::harness::{want, want_errors, want_output};
 use std::test::Fail;
 
 /// The history of `examples/deadlock.csv`.
-const DEADLOCK: &str = "0,1,begin,,,began,1
+pub(crate) const DEADLOCK: &str = "0,1,begin,,,began,1
 1,2,begin,,,began,2
 2,3,begin,,,began,3
 3,1,lock,2,X,granted,X
@@ -22,7 +22,7 @@ const DEADLOCK: &str = "0,1,begin,,,began,1
 ";
 
 /// The state in front of place 7.
-const LINES_AT_7: &str = "state in front of place 7
+pub(crate) const LINES_AT_7: &str = "state in front of place 7
 
 transactions
 session 1, transaction 1

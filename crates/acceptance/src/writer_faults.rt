@@ -1,6 +1,8 @@
 //! Writers that fail: the fault `Device`, status 5, and what was written before.
 
+use crate::explanations::DEADLOCK_TOLD;
 use crate::harness::{run_words, status_of};
+use crate::shows::{DEADLOCK, LINES_AT_7};
 use crate::threaded_runs::{TREE, TREE_HISTORY};
 use glm::{OpenGate, ToolFault, VERSION_TEXT, replay, run};
 use std::io;
@@ -202,6 +204,16 @@ fn a_failed_writer_leaves_the_beginning_of_the_text(rt: HostRuntime) {
             ["glm", "check"].as_slice(),
             history,
             b"legal 5\n".as_slice(),
+        ),
+        (
+            ["glm", "show", "--at=7"].as_slice(),
+            DEADLOCK.as_bytes(),
+            LINES_AT_7.as_bytes(),
+        ),
+        (
+            ["glm", "explain"].as_slice(),
+            DEADLOCK.as_bytes(),
+            DEADLOCK_TOLD.as_bytes(),
         ),
         (
             ["glm", "--version"].as_slice(),

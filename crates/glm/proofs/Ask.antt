@@ -1,5 +1,5 @@
 -- The request of a parsed command, from its options up to the words: at most one, and when there is none.
-use Rattle.std.proofs.Common.{rules, arith, ap, ap₂, refl, subst, sym, ◌≡◌, ◌≢◌, ◌∙◌, ◌<◌, ◌^◌, ℕ, List, [], Option, Some, None, codes}
+use Rattle.std.proofs.Common.{rules, arith, ap, ap₂, inl, inr, refl, subst, sym, ◌≡◌, ◌≢◌, ◌⊎◌, ◌∙◌, ◌<◌, ◌^◌, ℕ, List, [], Option, Some, None, codes}
 use Rattle.std.specs.Prelude.{Ok, Err, IfSome, IfNone, decimal}
 use Rattle.std.proofs.lemmas.Fmt.{decimal_injective}
 use Rattle.clap.specs.Simple.{subcommand_of}
@@ -53,6 +53,7 @@ no_sessions name rows none (request.Replay n d) is = none n is.1
 no_sessions name rows none (request.Run n t d) is = none n (as_sessions rows d n is.1)
 no_sessions name rows none (request.Check n) is = none n is.1
 no_sessions name rows none (request.Show n p f) is = none n is.1
+no_sessions name rows none (request.Explain n p f) is = none n is.1
 
 -- no request is in the options of `run` if they give no number of turns
 pub no_turns : (name : Text) (rows : List Row) → name ≡ codes "run" → ((n : ℕ) → ¬ Gives (codes "turns") MAX_TURNS rows n)
@@ -61,6 +62,7 @@ no_turns name rows run none (request.Replay n d) is = let bad : codes "run" ≡ 
 no_turns name rows run none (request.Run n t d) is = none t is.2
 no_turns name rows run none (request.Check n) is = let bad : codes "run" ≡ codes "check" = sym run ∙ is.0 in cc
 no_turns name rows run none (request.Show n p f) is = let bad : codes "run" ≡ codes "show" = sym run ∙ is.0 in cc
+no_turns name rows run none (request.Explain n p f) is = let bad : codes "run" ≡ codes "explain" = sym run ∙ is.0 in cc
 
 -- no request is in the options of a run that want the history in pieces, and the greatest number of sessions
 pub no_streamed : (name : Text) (rows : List Row) (n : ℕ) → name ≡ codes "run" → Gives (codes "sessions") MAX_SESSIONS rows n → MAX_STREAMED_SESSIONS < n
@@ -72,30 +74,40 @@ no_streamed name rows n run given many flag (request.Run m t delivery.InPieces) 
     omega (arith, same, many, is.1.few)
 no_streamed name rows n run given many flag (request.Check m) is = let bad : codes "run" ≡ codes "check" = sym run ∙ is.0 in cc
 no_streamed name rows n run given many flag (request.Show m p f) is = let bad : codes "run" ≡ codes "show" = sym run ∙ is.0 in cc
+no_streamed name rows n run given many flag (request.Explain m p f) is = let bad : codes "run" ≡ codes "explain" = sym run ∙ is.0 in cc
 
--- no request is in the options of `show` if they give no place
-pub no_place : (name : Text) (rows : List Row) → name ≡ codes "show" → ((p : Option ℕ) → ¬ GivesPlace rows p) → (asked : Request)
-    → ¬ IsRequest (Some (name, rows)) asked
-no_place name rows show none (request.Replay n d) is = let bad : codes "show" ≡ codes "replay" = sym show ∙ is.0 in cc
-no_place name rows show none (request.Run n t d) is = let bad : codes "show" ≡ codes "run" = sym show ∙ is.0 in cc
-no_place name rows show none (request.Check n) is = let bad : codes "show" ≡ codes "check" = sym show ∙ is.0 in cc
-no_place name rows show none (request.Show n p f) is = none p is.2
-
--- no request is in the options of `show` if they want no form
-pub no_form : (name : Text) (rows : List Row) → name ≡ codes "show" → ((f : Form) → ¬ WantsForm rows f) → (asked : Request)
-    → ¬ IsRequest (Some (name, rows)) asked
-no_form name rows show none (request.Replay n d) is = let bad : codes "show" ≡ codes "replay" = sym show ∙ is.0 in cc
-no_form name rows show none (request.Run n t d) is = let bad : codes "show" ≡ codes "run" = sym show ∙ is.0 in cc
-no_form name rows show none (request.Check n) is = let bad : codes "show" ≡ codes "check" = sym show ∙ is.0 in cc
-no_form name rows show none (request.Show n p f) is = none f is.3
-
--- no request has a name other than `replay`, `run`, `check` and `show`
-pub no_name : (name : Text) (rows : List Row) → name ≢ codes "replay" → name ≢ codes "run" → name ≢ codes "check" → name ≢ codes "show"
+-- no request is in the options of `show` if they don't give both a place and a form
+pub nothing_shown : (name : Text) (rows : List Row) → name ≡ codes "show" → ((p : Option ℕ) (f : Form) → GivesPlace rows p → ¬ WantsForm rows f)
     → (asked : Request) → ¬ IsRequest (Some (name, rows)) asked
-no_name name rows replay run check show (request.Replay n d) is = replay is.0
-no_name name rows replay run check show (request.Run n t d) is = run is.0
-no_name name rows replay run check show (request.Check n) is = check is.0
-no_name name rows replay run check show (request.Show n p f) is = show is.0
+nothing_shown name rows show none (request.Replay n d) is = let bad : codes "show" ≡ codes "replay" = sym show ∙ is.0 in cc
+nothing_shown name rows show none (request.Run n t d) is = let bad : codes "show" ≡ codes "run" = sym show ∙ is.0 in cc
+nothing_shown name rows show none (request.Check n) is = let bad : codes "show" ≡ codes "check" = sym show ∙ is.0 in cc
+nothing_shown name rows show none (request.Show n p f) is = none p f is.2 is.3
+nothing_shown name rows show none (request.Explain n p f) is = let bad : codes "show" ≡ codes "explain" = sym show ∙ is.0 in cc
+
+-- no request is in the options of `explain` if they don't give both a place and a form
+pub nothing_explained : (name : Text) (rows : List Row) → name ≡ codes "explain" → ((p : Option ℕ) (f : Form) → GivesPlace rows p → ¬ WantsForm rows f)
+    → (asked : Request) → ¬ IsRequest (Some (name, rows)) asked
+nothing_explained name rows explain none (request.Replay n d) is = let bad : codes "explain" ≡ codes "replay" = sym explain ∙ is.0 in cc
+nothing_explained name rows explain none (request.Run n t d) is = let bad : codes "explain" ≡ codes "run" = sym explain ∙ is.0 in cc
+nothing_explained name rows explain none (request.Check n) is = let bad : codes "explain" ≡ codes "check" = sym explain ∙ is.0 in cc
+nothing_explained name rows explain none (request.Show n p f) is = let bad : codes "explain" ≡ codes "show" = sym explain ∙ is.0 in cc
+nothing_explained name rows explain none (request.Explain n p f) is = none p f is.2 is.3
+
+-- no request is in the options of `show` or `explain` if they don't give both a place and a form
+pub nothing_told : (name : Text) (rows : List Row) → (name ≡ codes "show") ⊎ (name ≡ codes "explain")
+    → ((p : Option ℕ) (f : Form) → GivesPlace rows p → ¬ WantsForm rows f) → (asked : Request) → ¬ IsRequest (Some (name, rows)) asked
+nothing_told name rows (inl show) none asked is = nothing_shown name rows show none asked is
+nothing_told name rows (inr explain) none asked is = nothing_explained name rows explain none asked is
+
+-- no request has a name other than `replay`, `run`, `check`, `show` and `explain`
+pub no_name : (name : Text) (rows : List Row) → name ≢ codes "replay" → name ≢ codes "run" → name ≢ codes "check" → name ≢ codes "show"
+    → name ≢ codes "explain" → (asked : Request) → ¬ IsRequest (Some (name, rows)) asked
+no_name name rows replay run check show explain (request.Replay n d) is = replay is.0
+no_name name rows replay run check show explain (request.Run n t d) is = run is.0
+no_name name rows replay run check show explain (request.Check n) is = check is.0
+no_name name rows replay run check show explain (request.Show n p f) is = show is.0
+no_name name rows replay run check show explain (request.Explain n p f) is = explain is.0
 
 -- the text of the option `--sessions` of the command that was found
 abbrev pub sessions_text : Option (Text × List Row) → Option Text
@@ -132,6 +144,19 @@ one-in name rows (request.Show m p f) (request.Replay n e) a b = let bad : codes
 one-in name rows (request.Show m p f) (request.Run n t e) a b = let bad : codes "show" ≡ codes "run" = sym a.0 ∙ b.0 in cc
 one-in name rows (request.Show m p f) (request.Check n) a b = let bad : codes "show" ≡ codes "check" = sym a.0 ∙ b.0 in cc
 one-in name rows (request.Show m p f) (request.Show n q g) a b =
+    let same : m ≡ n = sessions-one rows m n a.1 b.1 in
+    let there : p ≡ q = place-one rows p q a.2 b.2 in
+    let way : f ≡ g = form-one rows f g a.3 b.3 in
+    cc
+one-in name rows (request.Replay m d) (request.Explain n q g) a b = let bad : codes "replay" ≡ codes "explain" = sym a.0 ∙ b.0 in cc
+one-in name rows (request.Run m u d) (request.Explain n q g) a b = let bad : codes "run" ≡ codes "explain" = sym a.0 ∙ b.0 in cc
+one-in name rows (request.Check m) (request.Explain n q g) a b = let bad : codes "check" ≡ codes "explain" = sym a.0 ∙ b.0 in cc
+one-in name rows (request.Show m p f) (request.Explain n q g) a b = let bad : codes "show" ≡ codes "explain" = sym a.0 ∙ b.0 in cc
+one-in name rows (request.Explain m p f) (request.Replay n e) a b = let bad : codes "explain" ≡ codes "replay" = sym a.0 ∙ b.0 in cc
+one-in name rows (request.Explain m p f) (request.Run n t e) a b = let bad : codes "explain" ≡ codes "run" = sym a.0 ∙ b.0 in cc
+one-in name rows (request.Explain m p f) (request.Check n) a b = let bad : codes "explain" ≡ codes "check" = sym a.0 ∙ b.0 in cc
+one-in name rows (request.Explain m p f) (request.Show n q g) a b = let bad : codes "explain" ≡ codes "show" = sym a.0 ∙ b.0 in cc
+one-in name rows (request.Explain m p f) (request.Explain n q g) a b =
     let same : m ≡ n = sessions-one rows m n a.1 b.1 in
     let there : p ≡ q = place-one rows p q a.2 b.2 in
     let way : f ≡ g = form-one rows f g a.3 b.3 in

@@ -1,6 +1,6 @@
--- The place and the form that `show` is asked for: at most one of each, and when there is none.
-use Rattle.std.proofs.Common.{rules, arith, ap, refl, sym, ◌≡◌, ◌∙◌, ◌<◌, ◌^◌, ℕ, List, Option, Some, None, codes}
-use Rattle.std.specs.Prelude.{Ok, Err, decimal}
+-- The place and the form that `show` or `explain` is asked for: at most one of each, and when there is none.
+use Rattle.std.proofs.Common.{arith, ap, refl, sym, ◌≡◌, ◌∙◌, ℕ, List, Option, Some, None, codes}
+use Rattle.std.specs.Prelude.{Ok, decimal}
 use Rattle.std.proofs.lemmas.Fmt.{decimal_injective}
 use Rattle.clap.specs.Walk.{Row, Text, first_of}
 use Rattle.lock_tree.specs.Numerals.{reading_of_numeral}
@@ -20,7 +20,7 @@ place-one rows (Some p) (Some q) a b =
     let text : decimal p ≡ decimal q = cc in
     ap (λ (n : ℕ). Some n) (decimal_injective p q (omega (arith, a.few)) (omega (arith, b.few)) text)
 
--- the options want the state in one form
+-- the options want one form
 pub form-one : (rows : List Row) (a b : Form) → WantsForm rows a → WantsForm rows b → a ≡ b
 form-one rows form.Lines form.Lines a b = refl
 form-one rows form.Lines form.Rows a b = absurd (a.0 b.0)

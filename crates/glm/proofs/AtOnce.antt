@@ -1,5 +1,5 @@
 -- A call that its session performs at once, as the worker's session has it.
-use Rattle.std.proofs.Common.{ap, refl, ◌≡◌, ◌∙◌, ◌<◌, ◌++◌, ◌∷◌, [], ℕ, Bool, true, false, length, List}
+use Rattle.std.proofs.Common.{ap, refl, ◌≡◌, ◌∙◌, ◌<◌, ◌++◌, ◌∷◌, [], ℕ, Bool, true, false, List}
 use Rattle.std.proofs.lemmas.List.{map-append}
 use Rattle.lock_rules.specs.declared.calls.Call.{Call}
 use Rattle.lock_rules.specs.Legal.{Answered}
@@ -8,9 +8,7 @@ use Rattle.combining.specs.Sessions.{IsPerformed, IsRefused}
 use Rattle.combining.specs.declared.office.Answer.{Answer}
 use Rattle.combining.specs.declared.office.perform.Performed.{Performed}
 use Rattle.combining.specs.declared.office.perform.Performed.TheVariants as performed
-use Rattle.glm.specs.declared.workers.Direct.{Direct}
 use Rattle.glm.specs.declared.workers.Direct.TheVariants as direct
-use Rattle.glm.specs.Calls.{calls_answered}
 use Rattle.glm.specs.Workers.{Calls, calls_known, direct_of}
 
 -- what an answered call tells of its session

@@ -3,6 +3,7 @@ pub mod Ask
 pub mod AskShow
 pub mod AtOnce
 pub mod CallsOfRows
+pub mod ExplainedParts
 pub mod Gives
 pub mod IsPassed
 pub mod IsPerformed

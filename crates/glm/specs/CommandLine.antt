@@ -58,15 +58,21 @@ stream_flag = flag_named (codes "stream")
 abbrev pub command_for_sessions : Text → App
 command_for_sessions name = with_rule (new_app name) sessions_option
 
--- the command `show [--sessions N] [--at P] [--csv] [--dot]`
-abbrev pub show_app : App
-show_app = with_rule (with_rule (with_rule (command_for_sessions (codes "show")) at_option) (flag_named (codes "csv"))) (flag_named (codes "dot"))
+-- a command with the options `[--at P] [--csv] [--dot]` added
+abbrev pub with_forms : App → App
+with_forms command = with_rule (with_rule (with_rule command at_option) (flag_named (codes "csv"))) (flag_named (codes "dot"))
+
+-- the command `name [--sessions N] [--at P] [--csv] [--dot]`
+abbrev pub app_with_forms : Text → App
+app_with_forms name = with_forms (command_for_sessions name)
 
 -- the program `glm`, which has a version and requires one of the commands `replay [--sessions N] [--stream]`,
--- `run [--sessions N] [--turns T] [--stream]`, `check [--sessions N]` and `show [--sessions N] [--at P] [--csv] [--dot]`
+-- `run [--sessions N] [--turns T] [--stream]`, `check [--sessions N]`, `show [--sessions N] [--at P] [--csv] [--dot]` and
+-- `explain [--sessions N] [--at P] [--csv] [--dot]`
 abbrev pub glm_command : App
 glm_command =
     with_subcommand
+    (with_subcommand
     (with_subcommand
     (with_subcommand
     (with_subcommand
@@ -74,7 +80,8 @@ glm_command =
     (with_rule (command_for_sessions (codes "replay")) stream_flag).top)
     (with_rule (with_rule (command_for_sessions (codes "run")) turns_option) stream_flag).top)
     (command_for_sessions (codes "check")).top)
-    show_app.top
+    (app_with_forms (codes "show")).top)
+    (app_with_forms (codes "explain")).top
 
 -- the parser's errors for the words; help and the version count as errors; empty if the words are a valid command
 abbrev pub faults_of : List Text → Kinds
@@ -110,7 +117,7 @@ abbrev pub GivesPlace : List Row → Option ℕ → Type 0
 GivesPlace rows None = first_of (codes "at") rows ≡ None
 GivesPlace rows (Some place) = GivesNumberedPlace rows place
 
--- the parsed options want the state shown in this form: as lines unless they have one of the flags `--csv` and `--dot`
+-- the parsed options want this form: lines unless they have one of the flags `--csv` and `--dot`
 abbrev pub WantsForm : List Row → Form → Type 0
 WantsForm rows form.Lines = (¬ HasFlag (codes "csv") rows) × (¬ HasFlag (codes "dot") rows)
 WantsForm rows form.Rows = HasFlag (codes "csv") rows × (¬ HasFlag (codes "dot") rows)
@@ -125,6 +132,8 @@ IsRequestIn name rows (request.Run sessions turns asked) =
 IsRequestIn name rows (request.Check sessions) = (name ≡ codes "check") × Gives (codes "sessions") MAX_SESSIONS rows sessions
 IsRequestIn name rows (request.Show sessions place asked) =
     (name ≡ codes "show") × Gives (codes "sessions") MAX_SESSIONS rows sessions × GivesPlace rows place × WantsForm rows asked
+IsRequestIn name rows (request.Explain sessions place asked) =
+    (name ≡ codes "explain") × Gives (codes "sessions") MAX_SESSIONS rows sessions × GivesPlace rows place × WantsForm rows asked
 
 -- the parser found a command, and the command is this request
 abbrev pub IsRequest : Option (Text × List Row) → Request → Type 0
@@ -161,6 +170,11 @@ AskCheck words sessions = Ask words (request.Check sessions)
 -- the words ask to show the state at this place of a history, at its end if it is None, with this number of sessions, in this form
 abbrev pub AskShow : List Text → ℕ → Option ℕ → Form → Type 0
 AskShow words sessions place form = Ask words (request.Show sessions place form)
+
+-- the words ask to explain the call at this place of a history, every call that is told if it is None, with this number of
+-- sessions, in this form
+abbrev pub AskExplain : List Text → ℕ → Option ℕ → Form → Type 0
+AskExplain words sessions place form = Ask words (request.Explain sessions place form)
 
 -- the words ask for help, perhaps beside another error
 abbrev pub AskHelp : List Text → Type 0

@@ -1,5 +1,5 @@
 -- The outcome of one execution of the program, and its exit status.
-use Rattle.std.specs.Prelude.{◌≡◌, ◌≢◌, ℕ, List, [], ◌∷◌, ◌++◌, Option, Some, Result, Ok, Err, IfOk, IfErr, codes, decimal}
+use Rattle.std.specs.Prelude.{◌≡◌, ◌≢◌, ℕ, List, Option, Some, Result, Ok, Err, IfOk, IfErr, codes}
 use Rattle.std.specs.Io.KnownBytes.{Keeps, Appends}
 use Rattle.clap.specs.Walk.{Text}
 use Rattle.lock_trace.specs.declared.faults.TraceFault.{TraceFault}
@@ -13,11 +13,12 @@ use Rattle.glm.specs.declared.tool_fault.ToolFault.TheVariants as tool
 use Rattle.glm.specs.declared.outcomes.Outcome.{Outcome}
 use Rattle.glm.specs.declared.outcomes.Outcome.TheVariants as outcome
 use Rattle.glm.specs.declared.outcomes.TheConstants.{DONE, USAGE, ILLEGAL, NO_MEMORY, DEVICE}
-use Rattle.glm.specs.CommandLine.{AskReplay, AskReplayInPieces, AskRun, AskRunInPieces, AskCheck, AskShow, AskHelp, AskVersion, AskNothing}
+use Rattle.glm.specs.CommandLine.{AskReplay, AskReplayInPieces, AskRun, AskRunInPieces, AskCheck, AskShow, AskExplain, AskHelp, AskVersion, AskNothing}
 use Rattle.glm.specs.Replays.{HasServed, HasServedFront, HasServedPart, IsFaultOfOneThread, Replays, ReplaysInPieces}
 use Rattle.glm.specs.Runs.{HasPerformed, HasPerformedPart, HasWrittenFront, HasWrittenPart, Runs, RunsInPieces}
 use Rattle.glm.specs.Statuses.{status_for, status_for_show}
 use Rattle.glm.specs.Showing.{HasShown, HasShownPart, Shows}
+use Rattle.glm.specs.Explaining.{HasExplained, HasExplainedPart, Explains}
 use Rattle.glm.specs.Verdicts.{Checks, IsHistory, text_of_verdict}
 use Rattle.glm.specs.Written.{AppendsPart}
 
@@ -37,6 +38,9 @@ status_of_outcome (outcome.Check (Err fault)) = status_for fault
 status_of_outcome (outcome.Show (Ok (verdict.Legal count))) = DONE
 status_of_outcome (outcome.Show (Ok (verdict.Illegal place))) = ILLEGAL
 status_of_outcome (outcome.Show (Err fault)) = status_for_show fault
+status_of_outcome (outcome.Explain (Ok (verdict.Legal count))) = DONE
+status_of_outcome (outcome.Explain (Ok (verdict.Illegal place))) = ILLEGAL
+status_of_outcome (outcome.Explain (Err fault)) = status_for_show fault
 status_of_outcome outcome.HelpShown = DONE
 status_of_outcome outcome.HelpFailed = DEVICE
 status_of_outcome outcome.VersionShown = DONE
@@ -124,6 +128,18 @@ pub record HasAnsweredShow (words : List Text) (input old new : Option (List ℕ
   pub shown : IfOk answer (λ verdict. HasShown form sessions place verdict old new)
   pub shows : (bytes : List ℕ) → input ≡ Some bytes → Shows form sessions place bytes old new answer
 
+-- the words ask to explain calls of a history, and `answer` is the verdict on the history, or the fault; the output holds `old`
+-- before and `new` after
+pub record HasAnsweredExplain (words : List Text) (input old new : Option (List ℕ)) (answer : Result Verdict ShowFault) : Type 0 where
+  pub sessions : ℕ
+  pub place : Option ℕ
+  pub form : Form
+  pub asked : AskExplain words sessions place form
+  pub kept : IfErr answer (λ fault. fault ≢ show.Device → Keeps old new)
+  pub part : IfErr answer (λ fault. fault ≡ show.Device → HasExplainedPart form sessions place old new)
+  pub explained : IfOk answer (λ verdict. HasExplained form sessions place verdict old new)
+  pub explains : (bytes : List ℕ) → input ≡ Some bytes → Explains form sessions place bytes old new answer
+
 -- the text of `--version`: the project's version, and the kit and the logic that it was proved with
 abbrev pub text_of_version : List ℕ
 text_of_version = codes "glm 0.7.0\nproved with rattle-kit-13f, logic dac8208d650f15bf\n"
@@ -136,6 +152,7 @@ HasDone words input old new (outcome.Run answer) = HasAnsweredRun words input ol
 HasDone words input old new (outcome.RunInPieces answer) = HasAnsweredRunInPieces words input old new answer
 HasDone words input old new (outcome.Check answer) = HasAnsweredCheck words input old new answer
 HasDone words input old new (outcome.Show answer) = HasAnsweredShow words input old new answer
+HasDone words input old new (outcome.Explain answer) = HasAnsweredExplain words input old new answer
 HasDone words input old new outcome.HelpShown = AskHelp words
 HasDone words input old new outcome.HelpFailed = AskHelp words
 HasDone words input old new outcome.VersionShown = AskVersion words × Appends old new text_of_version

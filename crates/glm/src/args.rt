@@ -10,10 +10,12 @@ ghost use Rattle.clap.specs.declared.builder.command.Command.TheViews.{out-Comma
 ghost use Rattle.lock_rules.specs.declared.calls.TheConstants.{MAX_SESSIONS};
 ghost use Rattle.glm.specs.declared.args.Request.{Request as RequestValue};
 ghost use Rattle.glm.specs.declared.args.Form.{Form as FormValue};
-ghost use Rattle.glm.specs.CommandLine.{Ask, Gives, GivesPlace, HasFlag, IsRequest, Wants, WantsForm, at_option, command_for_sessions, faults_of, flag_named, glm_command, sessions_option, show_app, stream_flag, turns_option};
+ghost use Rattle.glm.specs.CommandLine.{Ask, Gives, GivesPlace, HasFlag, IsRequest, Wants, WantsForm, app_with_forms, at_option, command_for_sessions, faults_of, flag_named, glm_command, sessions_option, stream_flag, turns_option, with_forms};
 
 use crate::running_in_pieces::MAX_STREAMED_SESSIONS;
-use crate::texts::{ABOUT_CHECK, ABOUT_REPLAY, ABOUT_RUN, ABOUT_SHOW, STATUSES, VERSION};
+use crate::texts::{
+    ABOUT_CHECK, ABOUT_EXPLAIN, ABOUT_REPLAY, ABOUT_RUN, ABOUT_SHOW, STATUSES, VERSION,
+};
 use clap::{Arg, ArgAction, ArgMatches, Command, Error, value_parser};
 use lock_rules::MAX_SESSIONS;
 use lock_tree::parse_numeral;
@@ -34,14 +36,14 @@ pub(crate) enum Delivery {
     InPieces,
 }
 
-/// In which form `show` writes the state of the lock table.
+/// In which form `show` writes the state of the lock table, and `explain` what calls did and why.
 #[derive(Clone, Copy, Debug, Drop, PartialEq, Eq)]
 pub enum Form {
     /// Lines for people.
     Lines,
     /// Rows of seven fields, by the flag `--csv`.
     Rows,
-    /// The waits-for graph in the language of Graphviz, by the flag `--dot`.
+    /// Who waits for whom as a graph in the language of Graphviz, by the flag `--dot`.
     Graph,
 }
 
@@ -58,6 +60,9 @@ pub(crate) enum Request {
     /// Show the state of the lock table at a place of a history; holds the number of sessions, the place, `None` for the end, and
     /// the form.
     Show(u16, Option<u32>, Form),
+    /// Explain what calls of a history did; holds the number of sessions, the place of the call, `None` for every call that is
+    /// told, and the form.
+    Explain(u16, Option<u32>, Form),
 }
 
 /// Defines the option `--sessions N`, which every command has.
@@ -99,19 +104,19 @@ fn stream_arg<'a>(alloc: Global) -> Arg<'a>
         .action(ArgAction::SetTrue)
 }
 
-/// Defines the option `--at P`, which `show` has.
-fn at_arg<'a>(alloc: Global) -> Arg<'a>
+/// Defines the option `--at P`, which `show` and `explain` have.
+fn at_arg<'a>(alloc: Global, help: &'a str) -> Arg<'a>
     ensures rule { rule_of result ≡ at_option }
     ensures own { result.global ≡ false }
 {
     Arg::new(alloc, "at")
         .long("at")
         .value_name("P")
-        .help("The place of the history in front of which the state is shown, by default its end")
+        .help(help)
         .value_parser(value_parser!(u32).range(0..=i64::from(MAX_PLACE)))
 }
 
-/// Defines a flag of `show`.
+/// Defines a flag of `show` and `explain`.
 fn form_arg<'a>(alloc: Global, name: &'a str, help: &'a str) -> Arg<'a>
     ensures rule { rule_of result ≡ flag_named name.now }
     ensures own { result.global ≡ false }
@@ -168,9 +173,27 @@ fn run_command<'a>(alloc: Global) -> Result<Command<'a>, AllocError>
     run.arg(turns_arg(alloc))?.arg(stream_arg(alloc))
 }
 
+/// Adds the option `--at` and the flags `--csv` and `--dot` to a command. `at_help` and `dot_help` are the help of `--at` and of
+/// `--dot`. Fails if memory is refused.
+fn with_forms<'a>(
+    alloc: Global,
+    command: Command<'a>,
+    at_help: &'a str,
+    dot_help: &'a str,
+) -> Result<Command<'a>, AllocError>
+    requires own { (fields_of command).has_globals ≡ false }
+    ensures app { IfOk result (λ made. app_of made ≡ with_forms (app_of command.entry)) }
+    ensures own { IfOk result (λ made. (fields_of made).has_globals ≡ false) }
+{
+    command
+        .arg(at_arg(alloc, at_help))?
+        .arg(form_arg(alloc, "csv", "Writes the same as rows"))?
+        .arg(form_arg(alloc, "dot", dot_help))
+}
+
 /// Defines the command `show`. Fails if memory is refused.
 fn show_command<'a>(alloc: Global) -> Result<Command<'a>, AllocError>
-    ensures app { IfOk result (λ command. app_of command ≡ show_app) }
+    ensures app { IfOk result (λ command. app_of command ≡ app_with_forms (codes "show")) }
     ensures own { IfOk result (λ command. (fields_of command).has_globals ≡ false) }
 {
     let show = command_of(
@@ -179,13 +202,31 @@ fn show_command<'a>(alloc: Global) -> Result<Command<'a>, AllocError>
         "Shows who holds what and who waits for whom at a place of a history from standard input",
         ABOUT_SHOW,
     )?;
-    show.arg(at_arg(alloc))?
-        .arg(form_arg(alloc, "csv", "Writes the same as rows"))?
-        .arg(form_arg(
-            alloc,
-            "dot",
-            "Writes who waits for whom as a graph for Graphviz",
-        ))
+    with_forms(
+        alloc,
+        show,
+        "The place of the history in front of which the state is shown, by default its end",
+        "Writes who waits for whom as a graph for Graphviz",
+    )
+}
+
+/// Defines the command `explain`. Fails if memory is refused.
+fn explain_command<'a>(alloc: Global) -> Result<Command<'a>, AllocError>
+    ensures app { IfOk result (λ command. app_of command ≡ app_with_forms (codes "explain")) }
+    ensures own { IfOk result (λ command. (fields_of command).has_globals ≡ false) }
+{
+    let explain = command_of(
+        alloc,
+        "explain",
+        "Explains what the calls of a history from standard input did, and why",
+        ABOUT_EXPLAIN,
+    )?;
+    with_forms(
+        alloc,
+        explain,
+        "The place of the call to explain, by default all that waited, were refused or ended a wait",
+        "Writes the cycles that requests closed as graphs for Graphviz",
+    )
 }
 
 /// Defines the program's commands and their options. Fails if memory is refused.
@@ -201,6 +242,7 @@ fn commands<'a>(alloc: Global) -> Result<Command<'a>, AllocError>
         ABOUT_CHECK,
     )?;
     let show = show_command(alloc)?;
+    let explain = explain_command(alloc)?;
     Command::new(alloc, "glm")
         .about("Granular locks for databases")
         .version(VERSION)
@@ -209,7 +251,8 @@ fn commands<'a>(alloc: Global) -> Result<Command<'a>, AllocError>
         .subcommand(replay)?
         .subcommand(run)?
         .subcommand(check)?
-        .subcommand(show)
+        .subcommand(show)?
+        .subcommand(explain)
 }
 
 /// Parses the words by the program's commands. Fails as the parser does, for help and the version too.
@@ -298,7 +341,7 @@ fn option_place(given: &ArgMatches) -> Result<Option<u32>, ()>
     }
 }
 
-/// Returns the form in which `show` writes the state, or `None` if the options have both `--csv` and `--dot`.
+/// Returns the form in which `show` or `explain` writes, or `None` if the options have both `--csv` and `--dot`.
 fn form_of(given: &ArgMatches) -> Option<Form>
     ensures some { IfSome result (WantsForm (rows_of (found_of given.now))) }
     ensures none { IfNone result ((form : FormValue) → ¬ (WantsForm (rows_of (found_of given.now)) form)) }
@@ -311,12 +354,11 @@ fn form_of(given: &ArgMatches) -> Option<Form>
     }
 }
 
-/// Returns the request of `show`, or `None` if its place isn't a valid number or it is asked for two forms.
-#[tactic(auto, using(crate::proofs::Ask::no_place, crate::proofs::Ask::no_form))]
-fn show_request(sessions: u16, given: &ArgMatches) -> Option<Request>
-    requires given { Gives (codes "sessions") MAX_SESSIONS (rows_of (found_of given.now)) sessions }
-    ensures some { IfSome result (IsRequest (Some (codes "show", rows_of (found_of given.now)))) }
-    ensures none { IfNone result ((asked : RequestValue) → ¬ (IsRequest (Some (codes "show", rows_of (found_of given.now))) asked)) }
+/// Returns the place and the form that the options of `show` or `explain` give, or `None` if the place isn't a valid number or
+/// they want two forms.
+fn place_and_form(given: &ArgMatches) -> Option<(Option<u32>, Form)>
+    ensures some { IfSome result (λ asked. GivesPlace (rows_of (found_of given.now)) asked.0 × WantsForm (rows_of (found_of given.now)) asked.1) }
+    ensures none { IfNone result ((place : Option ℕ) (form : FormValue) → GivesPlace (rows_of (found_of given.now)) place → ¬ (WantsForm (rows_of (found_of given.now)) form)) }
 {
     let Ok(place) = option_place(given) else {
         return None;
@@ -324,7 +366,33 @@ fn show_request(sessions: u16, given: &ArgMatches) -> Option<Request>
     let Some(form) = form_of(given) else {
         return None;
     };
+    Some((place, form))
+}
+
+/// Returns the request of `show`, or `None` if its place isn't a valid number or it is asked for two forms.
+#[tactic(auto, using(crate::proofs::Ask::nothing_shown))]
+fn show_request(sessions: u16, given: &ArgMatches) -> Option<Request>
+    requires given { Gives (codes "sessions") MAX_SESSIONS (rows_of (found_of given.now)) sessions }
+    ensures some { IfSome result (IsRequest (Some (codes "show", rows_of (found_of given.now)))) }
+    ensures none { IfNone result ((asked : RequestValue) → ¬ (IsRequest (Some (codes "show", rows_of (found_of given.now))) asked)) }
+{
+    let Some((place, form)) = place_and_form(given) else {
+        return None;
+    };
     Some(Request::Show(sessions, place, form))
+}
+
+/// Returns the request of `explain`, or `None` if its place isn't a valid number or it is asked for two forms.
+#[tactic(auto, using(crate::proofs::Ask::nothing_explained))]
+fn explain_request(sessions: u16, given: &ArgMatches) -> Option<Request>
+    requires given { Gives (codes "sessions") MAX_SESSIONS (rows_of (found_of given.now)) sessions }
+    ensures some { IfSome result (IsRequest (Some (codes "explain", rows_of (found_of given.now)))) }
+    ensures none { IfNone result ((asked : RequestValue) → ¬ (IsRequest (Some (codes "explain", rows_of (found_of given.now))) asked)) }
+{
+    let Some((place, form)) = place_and_form(given) else {
+        return None;
+    };
+    Some(Request::Explain(sessions, place, form))
 }
 
 /// Returns the request of the command `name` with the options `given`, or `None` if there is no such command or a number
@@ -354,6 +422,9 @@ fn request_named(name: &str, given: &ArgMatches) -> Option<Request>
     }
     if name == "show" {
         return show_request(sessions, given);
+    }
+    if name == "explain" {
+        return explain_request(sessions, given);
     }
     None
 }

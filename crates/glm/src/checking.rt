@@ -22,7 +22,7 @@ pub enum Verdict {
 }
 
 /// Whether the two replies are equal, with their values.
-fn is_same(served: Reply, recorded: Reply) -> bool
+pub(crate) fn is_same(served: Reply, recorded: Reply) -> bool
     ensures { (result ≡ true) ↔ (served ≡ recorded) }
 {
     served == recorded

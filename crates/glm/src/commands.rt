@@ -17,6 +17,7 @@ ghost use Rattle.glm.specs.Statuses.{IsStatus};
 use crate::args::{Delivery, Request, request_of};
 use crate::call_gate::Gate;
 use crate::checking::{Verdict, check};
+use crate::explaining::explain;
 use crate::outcomes::Outcome;
 use crate::replaying::replay;
 use crate::replaying_in_pieces::replay_in_pieces;
@@ -124,6 +125,9 @@ fn outcome_of<'a, T: Threads + Wait, R: Read + Drop, W: Write, E: Write, G: Gate
         Ok(Some(Request::Show(sessions, place, form))) => {
             Outcome::Show(show(alloc, input, output, sessions, place, form))
         }
+        Ok(Some(Request::Explain(sessions, place, form))) => {
+            Outcome::Explain(explain(alloc, input, output, sessions, place, form))
+        }
         Ok(None) => {
             let _reported = errors.write_all(NOT_A_NUMERAL.as_bytes());
             Outcome::Misused
@@ -137,7 +141,7 @@ fn outcome_of<'a, T: Threads + Wait, R: Read + Drop, W: Write, E: Write, G: Gate
 ///
 /// - 0: done, or help or the version was asked for
 /// - 1: a row was refused
-/// - 2: usage error, or a place behind the end of the history
+/// - 2: usage error, or a place that the history doesn't have
 /// - 3: the history isn't legal
 /// - 4: no memory
 /// - 5: a reader or writer failed, or a thread couldn't be started

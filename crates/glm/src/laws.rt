@@ -7,7 +7,7 @@ ghost use Rattle.lock_trace.specs.declared.rows.TraceRow.{TraceRow as RowValue};
 ghost use Rattle.glm.specs.declared.args.Request.{Request as RequestValue};
 ghost use Rattle.glm.specs.declared.args.TheConstants.{MAX_TURNS};
 ghost use Rattle.glm.specs.declared.running_in_pieces.TheConstants.{MAX_STREAMED_SESSIONS};
-ghost use Rattle.glm.specs.CommandLine.{Ask, AskCheck, AskHelp, AskNothing, AskReplay, AskReplayInPieces, AskRun, AskRunInPieces, AskShow, AskVersion};
+ghost use Rattle.glm.specs.CommandLine.{Ask, AskCheck, AskExplain, AskHelp, AskNothing, AskReplay, AskReplayInPieces, AskRun, AskRunInPieces, AskShow, AskVersion};
 ghost use Rattle.glm.specs.declared.args.Form.TheVariants as Form;
 ghost use Rattle.glm.specs.Replays.{HasReplayedFront, HasReplayedPart, IsTextFor};
 
@@ -60,6 +60,12 @@ pub fn words_ask_as_documented()
     ensures show_graph { AskShow (codes "glm" ∷ codes "show" ∷ codes "--dot" ∷ []) 256 None Form.Graph }
     ensures show_two_forms { AskNothing (codes "glm" ∷ codes "show" ∷ codes "--csv" ∷ codes "--dot" ∷ []) }
     ensures show_zeros { AskNothing (codes "glm" ∷ codes "show" ∷ codes "--at=07" ∷ []) }
+    ensures explain { AskExplain (codes "glm" ∷ codes "explain" ∷ []) 256 None Form.Lines }
+    ensures explain_at { AskExplain (codes "glm" ∷ codes "explain" ∷ codes "--at" ∷ codes "7" ∷ []) 256 (Some 7) Form.Lines }
+    ensures explain_rows { AskExplain (codes "glm" ∷ codes "explain" ∷ codes "--csv" ∷ codes "--at=7" ∷ codes "--sessions=3" ∷ []) 3 (Some 7) Form.Rows }
+    ensures explain_graph { AskExplain (codes "glm" ∷ codes "explain" ∷ codes "--dot" ∷ []) 256 None Form.Graph }
+    ensures explain_two_forms { AskNothing (codes "glm" ∷ codes "explain" ∷ codes "--csv" ∷ codes "--dot" ∷ []) }
+    ensures explain_zeros { AskNothing (codes "glm" ∷ codes "explain" ∷ codes "--at=07" ∷ []) }
 {}
 
 /// The rows of a trace have one text of a history, by whichever way it is written. What a replay in pieces has written if

@@ -48,6 +48,9 @@ pub(crate) enum Outcome {
     /// The verdict on the history of which a state was asked for, and written: the state if the history is legal, else the
     /// verdict.
     Show(Result<Verdict, ShowFault>),
+    /// The verdict on the history of which an explanation was asked for, and written: the explanation if the history is legal,
+    /// else the verdict.
+    Explain(Result<Verdict, ShowFault>),
     /// Help was asked for, and written.
     HelpShown,
     /// Help was asked for, and the writer failed.
@@ -85,7 +88,7 @@ fn status_of_fault(fault: &ToolFault) -> u8
     }
 }
 
-/// The exit status of a fault of `show`.
+/// The exit status of a fault of `show` or `explain`.
 fn status_of_show_fault(fault: &ShowFault) -> u8
     ensures { result ≡ status_for_show fault.now }
 {
@@ -111,7 +114,7 @@ fn report_fault<E: Write>(fault: &ToolFault, errors: &mut E) {
     report_line(status_of_fault(fault), fault, errors);
 }
 
-/// Writes the line of a fault of `show`.
+/// Writes the line of a fault of `show` or `explain`.
 fn report_show_fault<E: Write>(fault: &ShowFault, errors: &mut E) {
     report_line(status_of_show_fault(fault), fault, errors);
 }
@@ -125,15 +128,17 @@ impl Outcome {
             Outcome::Replay(Ok(_)) | Outcome::ReplayInPieces(Ok(_)) => DONE,
             Outcome::Run(Ok(_)) | Outcome::RunInPieces(Ok(_)) => DONE,
             Outcome::HelpShown | Outcome::VersionShown => DONE,
-            Outcome::Check(Ok(Verdict::Legal(_))) | Outcome::Show(Ok(Verdict::Legal(_))) => DONE,
+            Outcome::Check(Ok(Verdict::Legal(_))) => DONE,
+            Outcome::Show(Ok(Verdict::Legal(_))) | Outcome::Explain(Ok(Verdict::Legal(_))) => DONE,
             Outcome::Check(Ok(Verdict::Illegal(_))) => ILLEGAL,
             Outcome::Show(Ok(Verdict::Illegal(_))) => ILLEGAL,
+            Outcome::Explain(Ok(Verdict::Illegal(_))) => ILLEGAL,
             Outcome::Replay(Err(fault)) | Outcome::ReplayInPieces(Err(fault)) => {
                 status_of_fault(fault)
             }
             Outcome::Run(Err(fault)) | Outcome::RunInPieces(Err(fault)) => status_of_fault(fault),
             Outcome::Check(Err(fault)) => status_of_fault(fault),
-            Outcome::Show(Err(fault)) => status_of_show_fault(fault),
+            Outcome::Show(Err(fault)) | Outcome::Explain(Err(fault)) => status_of_show_fault(fault),
             Outcome::HelpFailed | Outcome::VersionFailed => DEVICE,
             Outcome::Misused => USAGE,
             Outcome::OutOfMemory => NO_MEMORY,
@@ -150,7 +155,9 @@ impl Outcome {
                 report_fault(fault, errors)
             }
             Outcome::Check(Err(fault)) => report_fault(fault, errors),
-            Outcome::Show(Err(fault)) => report_show_fault(fault, errors),
+            Outcome::Show(Err(fault)) | Outcome::Explain(Err(fault)) => {
+                report_show_fault(fault, errors)
+            }
             Outcome::HelpFailed | Outcome::VersionFailed => report_fault(
                 &ToolFault::Device,
                 errors,
@@ -158,7 +165,7 @@ impl Outcome {
             Outcome::OutOfMemory => report_fault(&ToolFault::NoMemory, errors),
             Outcome::Replay(Ok(_)) | Outcome::ReplayInPieces(Ok(_)) => {}
             Outcome::Run(Ok(_)) | Outcome::RunInPieces(Ok(_)) => {}
-            Outcome::Check(Ok(_)) | Outcome::Show(Ok(_)) => {}
+            Outcome::Check(Ok(_)) | Outcome::Show(Ok(_)) | Outcome::Explain(Ok(_)) => {}
             Outcome::HelpShown | Outcome::VersionShown | Outcome::Misused => {}
         }
     }

@@ -1,16 +1,16 @@
-//! Why a state of the lock table wasn't shown.
+//! Why a state of the lock table wasn't shown, or calls of a history weren't explained.
 
 use lock_trace::TraceFault;
 use thiserror::Error;
 
-/// Why `show` failed. The program prints its text on standard error after `glm: `, except that a row that failed for the
+/// Why `show` or `explain` failed. The program prints its text on standard error after `glm: `, except that a row that failed for the
 /// device or for memory is printed like `Device` or `NoMemory`, without its number.
 #[derive(Clone, Copy, Debug, Drop, PartialEq, Eq, Error)]
 pub enum ShowFault {
     /// A row of the history was refused, or couldn't be read.
     #[error("{0}")]
     Trace(TraceFault),
-    /// The place that was asked for is behind the end of the history.
+    /// The place that was asked for isn't in the history.
     #[error("no place {place}: the history has {entries} entries")]
     NoPlace {
         /// The place that was asked for.

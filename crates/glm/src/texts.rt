@@ -81,21 +81,39 @@ queue of each resource; and who waits for whom. A history that isn't legal gives
 With --csv the same is written as rows row,session,transaction,victim,resource,mode,other, where the row is 'transaction',
 'held', 'conversion', 'fresh' or 'waits'. With --dot who waits for whom is written as a graph, which 'dot -Tsvg' draws.";
 
+/// The beginning of the help of `explain`.
+pub(crate) const ABOUT_EXPLAIN: &str =
+    "Reads a history from standard input, checks it as 'check' does, and writes what the call in the row with the
+place P did and why: which test refused it, and what failed it; for whom its request waits, and through what;
+the cycles of waits that it closed; which transactions became deadlock victims; whose requests it granted.
+Without --at it writes this of each call that was refused, whose request waited, or that ended the wait of
+another session. A history that isn't legal gives the line of 'check', and status 3.
+
+  glm explain --at 7 < examples/deadlock.history.csv
+
+  7,1,lock,1,S,granted,S
+    begins to wait for 1 in S
+      waits for session 3, transaction 3, which waits ahead for X
+    closes a cycle of waits, or several, through
+
+With --csv the same is written as rows place,row,session,transaction,resource,mode,other. With --dot the
+cycles that requests closed are written as graphs, which 'dot -Tsvg' draws.";
+
 /// The list of exit statuses at the end of the help texts.
 pub(crate) const STATUSES: &str = "Exit status:
   0  done, or help or the version asked for
   1  a row was refused, which standard error names
-  2  the words of the command line are off, or --at is behind the end of the history
+  2  the words of the command line are off, or --at is no place of the history
   3  the history isn't legal
   4  memory was refused
   5  reading or writing failed, or a thread couldn't be started
   6  a gate stayed shut, or tries ran out";
 
 /// The message for a number that the parser takes but that has a sign or a leading zero, or that is the greatest number of
-/// sessions for a run whose history is written in pieces; and for `show` with two forms.
+/// sessions for a run whose history is written in pieces; and for `show` or `explain` with two forms.
 pub(crate) const NOT_A_NUMERAL: &str =
     "error: a number is written with digits alone, with no sign and no zero before it, and 'run --stream' has at most 1023
-sessions; 'show' takes one of --csv and --dot
+sessions; 'show' and 'explain' take one of --csv and --dot
 
 For more information, try '--help'.
 ";

@@ -1,10 +1,7 @@
-use Rattle.std.proofs.Common.{ap₂, ◌∙◌}
+use Rattle.std.proofs.Common.{ap, ◌∙◌}
 use Rattle.std.proofs.lemmas.Result.{IfOk-weaker}
-use Rattle.clap.specs.Simple.{with_rule}
+use Rattle.glm.specs.CommandLine.{with_forms}
 use Rattle.glm.proofs.args.show_command.Goals as goal
 
 pub returns-clause-app : goal.returns-clause-app
-returns-clause-app c =
-    let place = c.in_ok-arg.ensures.shape c.at_arg.ensures.own ∙ ap₂ with_rule c.in_ok-show.ensures.app c.at_arg.ensures.rule in
-    let rows = c.in_ok-arg-2.ensures.shape c.form_arg.ensures.own ∙ ap₂ with_rule place c.form_arg.ensures.rule in
-    IfOk-weaker c.arg-3.result _ _ (λ command h. h.shape c.form_arg-2.ensures.own ∙ ap₂ with_rule rows c.form_arg-2.ensures.rule) c.arg-3.ensures
+returns-clause-app c = IfOk-weaker c.with_forms.result _ _ (λ command h. h ∙ ap with_forms c.in_ok-show.ensures.app) c.with_forms.ensures.app

@@ -82,3 +82,17 @@ returns-in-Ok-Some-Show c c' =
       shown = done.shown;
       shows = done.shows;
     }
+
+pub returns-in-Ok-Some-Explain : goal.returns-in-Ok-Some-Explain
+returns-in-Ok-Some-Explain c c' =
+    let done = c'.explain.ensures in
+    record {
+      sessions = c'.in-Ok-Some-Explain.sessions;
+      place = c'.in-Ok-Some-Explain.place;
+      form = c'.in-Ok-Some-Explain.form;
+      asked = search rules;
+      kept = done.kept;
+      part = done.part;
+      explained = done.explained;
+      explains = done.explains;
+    }

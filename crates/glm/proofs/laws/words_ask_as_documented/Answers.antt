@@ -1,4 +1,4 @@
-use Rattle.std.proofs.Common.{rules, arith, refl, subst, sym, inl, codes, ◌≡◌, ◌≢◌, ◌∙◌, List, [], ◌∷◌, Option, Some}
+use Rattle.std.proofs.Common.{rules, arith, refl, subst, sym, inl, inr, codes, ◌≡◌, ◌≢◌, ◌⊎◌, ◌∙◌, List, [], ◌∷◌, Option, Some}
 use Rattle.std.specs.Prelude.{Err, Ok}
 use Rattle.clap.specs.Kinds.{Kinds}
 use Rattle.clap.specs.Simple.{subcommand_of}
@@ -13,7 +13,7 @@ use Rattle.lock_rules.specs.declared.calls.TheConstants.{MAX_SESSIONS}
 use Rattle.glm.specs.CommandLine.{AskNothing, Gives, HasFlag, IsRequest, faults_of, glm_command}
 use Rattle.glm.specs.declared.args.TheConstants.{MAX_PLACE, MAX_TURNS}
 use Rattle.glm.specs.declared.running_in_pieces.TheConstants.{MAX_STREAMED_SESSIONS}
-use Rattle.glm.proofs.Ask.{no_form, no_place, no_streamed, no_such_sessions, sessions_text}
+use Rattle.glm.proofs.Ask.{nothing_told, no_streamed, no_such_sessions, sessions_text}
 use Rattle.glm.proofs.AskShow.{place_given, place_not_given, two_forms}
 use Rattle.glm.proofs.Gives.{numeral_given}
 use Rattle.glm.proofs.laws.words_ask_as_documented.Goals as goal
@@ -26,22 +26,23 @@ faulty words kind kinds is other another = record {
   no_version = λ version. let bad : kind ∷ kinds ≡ DisplayVersion ∷ [] = sym is ∙ version in another cc;
 }
 
--- words without an error ask for nothing if they name `show` and a place that isn't read as a number
+-- words without an error ask for nothing if they name `show` or `explain` and a place that isn't read as a number
 unplaced : (words : List Text) (name : Text) (rows : List Row) (text : Text) (fault : NumeralFault) → faults_of words ≡ []
-    → subcommand_of glm_command words ≡ Some (name, rows) → name ≡ codes "show" → first_of (codes "at") rows ≡ Some text
+    → subcommand_of glm_command words ≡ Some (name, rows) → (name ≡ codes "show") ⊎ (name ≡ codes "explain") → first_of (codes "at") rows ≡ Some text
     → reading_of_numeral MAX_PLACE text ≡ Err fault → AskNothing words
-unplaced words name rows text fault whole is show given wrong = record {
-  no_request = λ asked ask. no_place name rows show (place_not_given text rows given (λ m read. let bad : Ok m ≡ Err fault = sym read ∙ wrong in cc)) asked
+unplaced words name rows text fault whole is named given wrong = record {
+  no_request = λ asked ask. nothing_told name rows named
+      (λ p f there way. place_not_given text rows given (λ m read. let bad : Ok m ≡ Err fault = sym read ∙ wrong in cc) p there) asked
       (subst (λ (f : Option (Text × List Row)). IsRequest f asked) is ask.request_is);
   no_help = λ help. let bad : [] ≡ DisplayHelp ∷ [] = sym whole ∙ help in cc;
   no_version = λ version. let bad : [] ≡ DisplayVersion ∷ [] = sym whole ∙ version in cc;
 }
 
--- words without an error ask for nothing if they name `show` and two forms
+-- words without an error ask for nothing if they name `show` or `explain` and two forms
 in_two_forms : (words : List Text) (name : Text) (rows : List Row) → faults_of words ≡ [] → subcommand_of glm_command words ≡ Some (name, rows)
-    → name ≡ codes "show" → HasFlag (codes "csv") rows → HasFlag (codes "dot") rows → AskNothing words
-in_two_forms words name rows whole is show csv dot = record {
-  no_request = λ asked ask. no_form name rows show (two_forms rows csv dot) asked
+    → (name ≡ codes "show") ⊎ (name ≡ codes "explain") → HasFlag (codes "csv") rows → HasFlag (codes "dot") rows → AskNothing words
+in_two_forms words name rows whole is named csv dot = record {
+  no_request = λ asked ask. nothing_told name rows named (λ p f there way. two_forms rows csv dot f way) asked
       (subst (λ (f : Option (Text × List Row)). IsRequest f asked) is ask.request_is);
   no_help = λ help. let bad : [] ≡ DisplayHelp ∷ [] = sym whole ∙ help in cc;
   no_version = λ version. let bad : [] ≡ DisplayVersion ∷ [] = sym whole ∙ version in cc;
@@ -193,8 +194,32 @@ returns-clause-show_graph c = record { whole = refl; request_is = (refl, numeral
 
 pub returns-clause-show_two_forms : goal.returns-clause-show_two_forms
 unfolding clap_on_literals
-returns-clause-show_two_forms c = in_two_forms _ _ _ refl refl refl refl refl
+returns-clause-show_two_forms c = in_two_forms _ _ _ refl refl (inl refl) refl refl
 
 pub returns-clause-show_zeros : goal.returns-clause-show_zeros
 unfolding clap_on_literals
-returns-clause-show_zeros c = unplaced _ _ _ (codes "07") LeadingZero refl refl refl refl refl
+returns-clause-show_zeros c = unplaced _ _ _ (codes "07") LeadingZero refl refl (inl refl) refl refl
+
+pub returns-clause-explain : goal.returns-clause-explain
+unfolding clap_on_literals
+returns-clause-explain c = record { whole = refl; request_is = (refl, numeral_given (codes "sessions") (codes "256") MAX_SESSIONS 256 _ (omega arith) refl refl (search rules), refl, (λ flag. let no : Some (codes "false") ≡ Some (codes "true") = flag in cc, λ flag. let no : Some (codes "false") ≡ Some (codes "true") = flag in cc)) }
+
+pub returns-clause-explain_at : goal.returns-clause-explain_at
+unfolding clap_on_literals
+returns-clause-explain_at c = record { whole = refl; request_is = (refl, numeral_given (codes "sessions") (codes "256") MAX_SESSIONS 256 _ (omega arith) refl refl (search rules), place_given (codes "7") 7 _ refl refl, (λ flag. let no : Some (codes "false") ≡ Some (codes "true") = flag in cc, λ flag. let no : Some (codes "false") ≡ Some (codes "true") = flag in cc)) }
+
+pub returns-clause-explain_rows : goal.returns-clause-explain_rows
+unfolding clap_on_literals
+returns-clause-explain_rows c = record { whole = refl; request_is = (refl, numeral_given (codes "sessions") (codes "3") MAX_SESSIONS 3 _ (omega arith) refl refl (search rules), place_given (codes "7") 7 _ refl refl, (refl, λ flag. let no : Some (codes "false") ≡ Some (codes "true") = flag in cc)) }
+
+pub returns-clause-explain_graph : goal.returns-clause-explain_graph
+unfolding clap_on_literals
+returns-clause-explain_graph c = record { whole = refl; request_is = (refl, numeral_given (codes "sessions") (codes "256") MAX_SESSIONS 256 _ (omega arith) refl refl (search rules), refl, (λ flag. let no : Some (codes "false") ≡ Some (codes "true") = flag in cc, refl)) }
+
+pub returns-clause-explain_two_forms : goal.returns-clause-explain_two_forms
+unfolding clap_on_literals
+returns-clause-explain_two_forms c = in_two_forms _ _ _ refl refl (inr refl) refl refl
+
+pub returns-clause-explain_zeros : goal.returns-clause-explain_zeros
+unfolding clap_on_literals
+returns-clause-explain_zeros c = unplaced _ _ _ (codes "07") LeadingZero refl refl (inr refl) refl refl
