@@ -10,12 +10,12 @@ round is the first one in which nothing was refused.
 A replay, a check, a state and an explanation have to end with status 4, their line on standard error and nothing on standard
 output, in every round but one: room for all words of the command line is only a hint, and if it is refused they end as with ample
 memory. A replay in pieces may have written whole pieces of its history, and some round has to see one piece written, and some
-round two. A run may also end with status 5, if the refusal kept a thread from starting, or with status 0, if it met the refusal by serving calls one after another:
-what it writes has to be a legal history in which each session's rows stand in their order. A run of one session has one try for
-each call: a pass that found no memory for the call ends the run. A run in pieces may also end with these statuses and whole rows
-of a legal history behind it, in which each session's rows are the first ones of its own. In further rounds of runs all later allocations are refused too: a
-run that goes on after its refusal fails. Threads allocate in any order, so a run's last rounds are the first three in a row without
-a refusal.
+round two. A run may also end with status 5, if the refusal kept a thread from starting, or with status 0, if it met the refusal by
+serving calls one after another: what it writes has to be a legal history in which each session's rows stand in their order. A run
+of one session has one try for each call: a pass that found no memory for the call ends the run. A run in pieces may also end with
+these statuses and whole rows of a legal history behind it, in which each session's rows are the first ones of its own. In further
+rounds of runs all later allocations are refused too: a run that goes on after its refusal fails. Threads allocate in any order, so
+a run's last rounds are the first three in a row without a refusal.
 
 A test has to pass: it makes a call that found no memory once more, and wants the answer that ample memory gives. Tests that print
 what became of a refusal have to print each case in some round.
