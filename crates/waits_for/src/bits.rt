@@ -6,7 +6,7 @@ ghost use Rattle.mode_lanes.specs.Masks.{meets};
 ghost use Rattle.waits_for.specs.Pairs.{is_met};
 ghost use Rattle.waits_for.specs.inner.Bits.{has_bit, words_for};
 
-use mode_lanes::any_common;
+use mode_lanes::{any_common, or_into};
 
 /// A row of at most this many words is cleared word by word.
 const FEW_WORDS: usize = 4;
@@ -145,18 +145,29 @@ fn clear_many(words: &mut [u64], from: usize, count: usize)
     }
 }
 
-/// Adds the bits of the `count` words at word `other` to the `count` words at word `from`. If the two ranges
-/// overlap, `from` must not be behind `other`.
+/// Adds the bits of `other` to `row`.
+fn unite(row: &mut [u64], other: &[u64])
+    requires { length row.old ≡ length other.now }
+    ensures { (j : ℕ) → has_bit row.new j ≡ (has_bit row.old j || has_bit other.now j) }
+{
+    or_into(row, other);
+}
+
+/// Adds the bits of the `count` words at word `other` to the `count` words at word `from`. The two ranges must not
+/// overlap.
 pub(crate) fn or_within(words: &mut [u64], from: usize, other: usize, count: usize)
     requires room { from + count ≤ length words.old }
     requires room_too { other + count ≤ length words.old }
-    requires apart { (from ≤ other) ⊎ (other + count ≤ from) }
+    requires apart { (from + count ≤ other) ⊎ (other + count ≤ from) }
     ensures { (j : ℕ) → has_bit words.new j
         ≡ (has_bit words.old j || ((nat_le (64 * from) j && nat_lt j (64 * (from + count))) && has_bit (chunk other count words.old) (j - 64 * from))) }
 {
-    for i in 0..count {
-        let word = words[other + i];
-        words[from + i] |= word;
+    if from < other {
+        let (before, after) = words.split_at_mut(other);
+        unite(&mut before[from..from + count], &after[..count]);
+    } else {
+        let (before, after) = words.split_at_mut(from);
+        unite(&mut after[..count], &before[other..other + count]);
     }
 }
 
@@ -176,4 +187,51 @@ pub(crate) fn first_new(row: &[u64], among: &[u64], known: &[u64]) -> Option<usi
         }
     }
     None
+}
+
+/// The least set bit at or behind `from` and below `end`; `end` if there is none.
+#[inline]
+pub(crate) fn next_set(words: &[u64], from: usize, end: usize) -> usize
+    requires from_within { from ≤ end }
+    requires small { end + 64 ≤ usize.MAX }
+    requires room { words_for end ≤ length words.now }
+    ensures behind { from ≤ result }
+    ensures within { result ≤ end }
+    ensures set { result < end → has_bit words.now result ≡ true }
+    ensures unset { (j : ℕ) → from ≤ j → j < result → has_bit words.now j ≡ false }
+{
+    let mut at = from;
+    while at < end {
+        let rest = words[at / 64] >> (at % 64);
+        if rest != 0 {
+            return (at + rest.trailing_zeros() as usize).min(end);
+        }
+        at = at / 64 * 64 + 64;
+    }
+    end
+}
+
+/// The least bit at or behind `from` and below `end` that is set in `row`, but not in `known`; `end` if there is
+/// none.
+#[inline]
+pub(crate) fn next_new(row: &[u64], known: &[u64], from: usize, end: usize) -> usize
+    requires from_within { from ≤ end }
+    requires small { end + 64 ≤ usize.MAX }
+    requires room { words_for end ≤ length row.now }
+    requires room_too { words_for end ≤ length known.now }
+    ensures behind { from ≤ result }
+    ensures within { result ≤ end }
+    ensures new { result < end → (has_bit row.now result ≡ true) × (has_bit known.now result ≡ false) }
+    ensures known { (j : ℕ) → from ≤ j → j < result → has_bit row.now j ≡ true → has_bit known.now j ≡ true }
+{
+    let mut at = from;
+    while at < end {
+        let word = row[at / 64];
+        let rest = (word ^ (word & known[at / 64])) >> (at % 64);
+        if rest != 0 {
+            return (at + rest.trailing_zeros() as usize).min(end);
+        }
+        at = at / 64 * 64 + 64;
+    }
+    end
 }

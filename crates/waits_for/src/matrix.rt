@@ -4,7 +4,7 @@ ghost use Rattle.std.specs.Prelude.{◌≡◌, ℕ, ◌+◌, ◌*◌, ◌<◌, �
 ghost use Rattle.waits_for.specs.inner.Bits.{has_bit, words_for};
 ghost use Rattle.waits_for.specs.Pairs.{is_met, pairs_of, seen_by};
 
-use crate::bits::{clear, or_within, set, set_met, words_for};
+use crate::bits::{clear, or_within, set, set_met, unset, words_for};
 use std::alloc::{AllocError, Global};
 use std::marker::Model;
 
@@ -75,6 +75,18 @@ impl Matrix {
         set(&mut self.words, place);
     }
 
+    /// Removes the edge from position `t` to position `u`, if there is one.
+    pub(crate) fn unset(&mut self, t: usize, u: usize)
+        requires t_below { t < self.old.sessions }
+        requires u_below { u < self.old.sessions }
+        ensures sessions { self.new.sessions ≡ self.old.sessions }
+        ensures pairs { (a b : ℕ) →
+            pairs_of self.new a b ≡ (pairs_of self.old a b && not ((a == t) && (b == u))) }
+    {
+        let place = row_start(self.sessions, t) * 64 + u;
+        unset(&mut self.words, place);
+    }
+
     /// Adds an edge from position `t` to each other session in `numbers` whose code has a bit of `mask`.
     /// `codes[k]` belongs to session number `numbers[k]`.
     pub(crate) fn set_met(&mut self, t: usize, numbers: &[u16], codes: &[u8], mask: u8)
@@ -109,6 +121,9 @@ impl Matrix {
         ensures pairs { (a b : ℕ) →
             pairs_of self.new a b ≡ (pairs_of self.old a b || ((a == t) && pairs_of self.old u b)) }
     {
+        if t == u {
+            return;
+        }
         let from = row_start(self.sessions, t);
         let other = row_start(self.sessions, u);
         or_within(&mut self.words, from, other, words_for(self.sessions));

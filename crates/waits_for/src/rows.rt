@@ -95,6 +95,17 @@ impl Rows {
         set(&mut self.waiting, t);
     }
 
+    /// Removes an edge, if there is one: the session at position `t` no longer waits for the session at position `u`.
+    pub fn unset(&mut self, t: usize, u: usize)
+        requires t_below { t < self.old.sessions }
+        requires u_below { u < self.old.sessions }
+        ensures sessions { self.new.sessions ≡ self.old.sessions }
+        ensures pairs { (a b : ℕ) →
+            pairs_of self.new a b ≡ (pairs_of self.old a b && not ((a == t) && (b == u))) }
+    {
+        self.matrix.unset(t, u);
+    }
+
     /// Adds an edge from the session at position `t` to each other session in `numbers` whose code has a bit of
     /// `mask`. `codes[k]` belongs to session number `numbers[k]`; a session number is a position plus 1.
     pub fn set_met(&mut self, t: usize, numbers: &[u16], codes: &[u8], mask: u8)

@@ -7,7 +7,7 @@ ghost use Rattle.waits_for.specs.Walks.{Reaches, AreOnCircle};
 ghost use Rattle.waits_for.specs.inner.Bits.{has_bit, words_for, unset_below};
 ghost use Rattle.waits_for.specs.inner.Search.{HasAllWaiting, IsBestBelow, IsClosedBack, AddsPredecessors, younger};
 
-use crate::bits::{clear, first_new, has, have_common, set};
+use crate::bits::{clear, first_new, has, have_common, next_new, next_set, set};
 use crate::matrix::Matrix;
 use mode_lanes::{and_into, or_into};
 
@@ -32,6 +32,10 @@ pub(crate) fn find_circle(
     ensures circle { result ≡ true →
         (u : ℕ) → IsTrue (has_bit circle.new u) ↔ AreOnCircle (pairs_of matrix.now) t u }
 {
+    // If `t` is on a cycle, a session that it waits for directly waits too.
+    if !have_common(matrix.row(t), waiting) {
+        return false;
+    }
     let count = find_reached(matrix, waiting, t, reached, expanded, order);
     if !has(reached, t) {
         return false;
@@ -119,7 +123,8 @@ fn add_listed_predecessors(matrix: &Matrix, reaching: &mut [u64], listed: &[usiz
     }
 }
 
-/// Adds to `reaching` each reached session with an edge to a member. Returns whether it added any.
+/// Adds to `reaching` each reached session with an edge to a member. Returns whether it added any. Looks only at the
+/// reached sessions that are no members yet.
 fn add_predecessors(matrix: &Matrix, reached: &[u64], reaching: &mut [u64]) -> bool
     requires reached_room { length reached.now ≡ words_for matrix.now.sessions }
     requires room { length reaching.old ≡ words_for matrix.now.sessions }
@@ -128,32 +133,16 @@ fn add_predecessors(matrix: &Matrix, reached: &[u64], reaching: &mut [u64]) -> b
         unset_below matrix.now.sessions reaching.new < unset_below matrix.now.sessions reaching.old }
     ensures closed { result ≡ false → IsClosedBack (pairs_of matrix.now) reached.now reaching.new }
 {
+    let sessions = matrix.sessions() as usize;
     let mut grew = false;
-    for u in 0..matrix.sessions() as usize {
-        if add_reached_predecessor(matrix, reached, reaching, u) {
+    let mut u = next_new(reached, reaching, 0, sessions);
+    while u < sessions {
+        if add_predecessor(matrix, reaching, u) {
             grew = true;
         }
+        u = next_new(reached, reaching, u + 1, sessions);
     }
     grew
-}
-
-/// Adds position `u` to `reaching` if it is reached, has an edge to a member and is no member. Returns whether it
-/// added it.
-fn add_reached_predecessor(matrix: &Matrix, reached: &[u64], reaching: &mut [u64], u: usize) -> bool
-    requires u_below { u < matrix.now.sessions }
-    requires reached_room { length reached.now ≡ words_for matrix.now.sessions }
-    requires room { length reaching.old ≡ words_for matrix.now.sessions }
-    ensures adds { AddsPredecessors (pairs_of matrix.now) reaching.old reaching.new }
-    ensures more { result ≡ true →
-        unset_below matrix.now.sessions reaching.new < unset_below matrix.now.sessions reaching.old }
-    ensures same { result ≡ false → reaching.new ≡ reaching.old }
-    ensures closed { result ≡ false → has_bit reached.now u ≡ true → (v : ℕ) →
-        pairs_of matrix.now u v ≡ true → has_bit reaching.old v ≡ true → has_bit reaching.old u ≡ true }
-{
-    if !has(reached, u) {
-        return false;
-    }
-    add_predecessor(matrix, reaching, u)
 }
 
 /// Adds position `u` to `reaching` if it has an edge to a member and is no member. Returns whether it added it.
@@ -181,10 +170,10 @@ pub(crate) fn youngest_in(set: &[u64], ages: &[u64]) -> Option<usize>
     ensures { IsBestBelow (has_bit set.now) ages.now (length ages.now) result }
 {
     let mut best = None;
-    for u in 0..ages.len() {
-        if has(set, u) {
-            best = Some(younger_of(ages, best, u));
-        }
+    let mut u = next_set(set, 0, ages.len());
+    while u < ages.len() {
+        best = Some(younger_of(ages, best, u));
+        u = next_set(set, u + 1, ages.len());
     }
     best
 }

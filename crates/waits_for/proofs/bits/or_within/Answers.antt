@@ -1,37 +1,23 @@
-use Rattle.std.proofs.Common.{◌≡◌, ◌≢◌, ℕ, ◌+◌, ◌<◌, ◌≤◌, ◌⊎◌, inl, inr, ◌∙◌, ap, sym, get_or, set, length-set, get_or-set_other, arith}
-use Rattle.std.specs.Prelude.{bit_or}
-use Rattle.std.specs.Simd.Lanes.{chunk}
-use Rattle.std.proofs.lemmas.Simd.{get_or-chunk}
-use Rattle.waits_for.specs.inner.Bits.{has_bit}
-use Rattle.waits_for.proofs.BitRows.{bit-united}
+use Rattle.std.proofs.Common.{arith, ◌+◌, ◌-◌, ◌≤◌, ◌≡◌, ◌∙◌, inl, inr, length, drop}
+use Rattle.std.proofs.lemmas.List.{length-take-le, length-drop}
+use Rattle.waits_for.proofs.Placed.{placed-behind, placed-before}
 use Rattle.waits_for.proofs.bits.or_within.Goals as goal
 
--- The word that is read next was not written.
-to_read : (from other count i : ℕ) → i < count → (from ≤ other) ⊎ (other + count ≤ from) → (other + i < from) ⊎ (from + i ≤ other + i)
-to_read from other count i lt apart = elim apart [
-  | inl le ↦ inr (omega (arith, le))
-  | inr le ↦ inl (omega (arith, le, lt))
-]
-
--- A word outside the first i + 1 is outside the first i, and is not word i.
-elsewhere : (from i k : ℕ) → (k < from) ⊎ (from + (i + 1) ≤ k) → ((k < from) ⊎ (from + i ≤ k)) × (k ≢ from + i)
-elsewhere from i k h = elim h [
-  | inl lt ↦ (inl lt, λ e. absurd (omega (arith, lt, e)))
-  | inr le ↦ (inr (omega (arith, le)), λ e. absurd (omega (arith, le, e)))
-]
-
-pub loop-i-preserved : goal.loop-i-preserved
-loop-i-preserved c =
-    let k = c.loop-i.invariant in
-    let old = c.args.words.now in
-    let words = c.loop-i.words in
+pub returns-then-from-other : goal.returns-then-from-other
+returns-then-from-other c =
+    let cut = c.split_at_mut-before in
+    let unite = c.unite in
     let from = c.args.from in
-    let other = c.args.other in
-    let i = c.loop-i.i in
-    let row = chunk other c.args.count old in
-    let read : get_or words (other + i) 0 ≡ get_or row i 0 = k.rest (other + i) (to_read from other c.args.count i c.loop-i-test.true c.requires.apart) ∙ sym (get_or-chunk other c.args.count old i 0 c.loop-i-test.true) in
-    record {
-      room = length-set words (from + i) _ ∙ k.room;
-      rest = λ j h. let e = elsewhere from i j h in get_or-set_other words (from + i) j _ 0 e.1 ∙ k.rest j e.0;
-      bits = λ j. ap (λ (x : ℕ). has_bit (set words (from + i) (bit_or (get_or words (from + i) 0) x)) j) read ∙ bit-united old words row from i (omega (arith, k.room, c.requires.room, c.loop-i-test.true)) k.bits j;
-    }
+    let count = c.args.count in
+    let a = cut.result.0.now in
+    let apart : from + count ≤ c.args.other = elim c.requires.apart [ inl le ↦ le | inr le ↦ omega (arith, le, c.if-from-other.true) ] in
+    let wide : length unite.new.row ≡ count = let w = length-take-le (from + count - from) (drop from a) (omega (arith, length-drop from a, cut.ensures.front_len, apart)) in omega (arith, unite.auto.row, w) in
+    placed-before c.args.words.now a cut.result.1.now unite.new.row from c.args.other count cut.ensures.value cut.ensures.front_len apart wide unite.ensures
+
+pub returns-else-from-other : goal.returns-else-from-other
+returns-else-from-other c =
+    let cut = c.split_at_mut-before-else-from-other in
+    let unite = c.unite-else-from-other in
+    let apart : c.args.other + c.args.count ≤ c.args.from = elim c.requires.apart [ inl le ↦ omega (arith, le, c.if-from-other.false) | inr le ↦ le ] in
+    let wide : length unite.new.row ≡ c.args.count = unite.auto.row ∙ length-take-le c.args.count cut.result.1.now (omega (arith, cut.ensures.back_len, c.requires.room)) in
+    placed-behind c.args.words.now cut.result.0.now cut.result.1.now unite.new.row c.args.from c.args.other c.args.count cut.ensures.value cut.ensures.front_len c.requires.room apart wide unite.ensures
