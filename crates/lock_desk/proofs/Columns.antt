@@ -1,11 +1,14 @@
 -- Holders as two columns: what is read there, what is inserted and removed in both, and what a mask says of the codes.
-use Rattle.std.proofs.Common.{◌≡◌, ℕ, zero, suc, ◌+◌, ◌<◌, ◌≤◌, Bool, true, false, not, eqb, ◌&&◌, ◌||◌, inl, inr, List, [], ◌∷◌, ◌++◌, length, get_or, take, drop, insert, remove, set, map, refl, sym, ◌∙◌, ap, subst, arith, bit_and}
-use Rattle.std.specs.List.{list_any}
-use Rattle.std.proofs.lemmas.Bool.{cases_order}
+use Rattle.std.proofs.Common.{◌≡◌, ℕ, zero, suc, Some, None, position, ◌+◌, ◌<◌, ◌≤◌, Bool, true, false, not, eqb, ◌&&◌, ◌||◌, inl, inr, List, [], ◌∷◌, ◌++◌, length, get_or, take, drop, insert, remove, set, map, refl, sym, ◌∙◌, ap, subst, arith, bit_and}
+use Rattle.std.specs.List.{list_any, position_or_len}
+use Rattle.std.proofs.lemmas.Bool.{cases_order, cases_Bool}
 use Rattle.std.proofs.lemmas.Nat.{and_comm}
 use Rattle.std.proofs.Math.Bool.{and-false}
 use Rattle.std.proofs.lemmas.Bool.Decides.{nat_tests}
+use Rattle.std.proofs.lemmas.Grind.{common_steps}
 use Rattle.std.proofs.lemmas.List.Elements.{All-get_or}
+use Rattle.std.proofs.lemmas.List.Folds.{list_any_at}
+use Rattle.std.proofs.lemmas.List.Quantifiers.{position-Some}
 use Rattle.std.proofs.lemmas.List.{get_or_default, take_more, length-map, get_or-map, map-append, map-set, take-map, drop-map}
 use Rattle.std.proofs.Math.Seq.{map-set_same}
 use Rattle.mode_lanes.specs.Masks.{meets}
@@ -73,6 +76,12 @@ map-insert f hs i h = (λ j. take-map f i hs j ++ f h ∷ drop-map f i hs j) ∙
 -- removing from a column is removing a holder
 pub map-remove : (f : SessionMode → ℕ) (hs : List SessionMode) (i : ℕ) → remove (map f hs) i ≡ map f (remove hs i)
 map-remove f hs i = (λ j. take-map f i hs j ++ drop-map f (suc i) hs j) ∙ sym (map-append f (take i hs) (drop (suc i) hs))
+
+-- what was inserted is removed again
+pub removed-again : {X : Type 0} (xs : List X) (i : ℕ) (x : X) → i ≤ length xs → remove (insert xs i x) i ≡ xs
+removed-again xs zero x le = refl
+removed-again [] (suc i) x le = absurd (omega (arith, le))
+removed-again {X} (y ∷ xs) (suc i) x le = ap (λ (zs : List X). y ∷ zs) (removed-again xs i x (omega (arith, le)))
 
 -- a holder to read with, where there is none
 nobody : SessionMode
@@ -148,6 +157,56 @@ goes-before m cs hs n e = ap (λ (xs : List ℕ). not (list_any (meets (mask_of 
 pub goes-behind : (m : Mode) (cs : List ℕ) (hs : List SessionMode) (n : ℕ) → cs ≡ map code_at hs → not (list_any (meets (mask_of m)) (drop n cs)) ≡ go_with m (drop n hs)
 goes-behind m cs hs n e = ap (λ (xs : List ℕ). not (list_any (meets (mask_of m)) xs)) (ap (drop n) e ∙ drop-map code_at n hs) ∙ meets-goes m (drop n hs)
 
+-- a mask has no bit of the codes at other indices exactly if the mode is compatible with these holders
+pub goes-beside : (m : Mode) (cs : List ℕ) (hs : List SessionMode) (n : ℕ) → cs ≡ map code_at hs → not (list_any (meets (mask_of m)) (take n cs) || list_any (meets (mask_of m)) (drop (suc n) cs)) ≡ (go_with m (take n hs) && go_with m (drop (suc n) hs))
+goes-beside m cs hs n e = both (list_any (meets (mask_of m)) (take n cs)) (list_any (meets (mask_of m)) (drop (suc n) cs)) ∙ (λ i. goes-before m cs hs n e i && goes-behind m cs hs (suc n) e i)
+  where
+    both : (x y : Bool) → not (x || y) ≡ (not x && not y)
+    both true y = refl
+    both false y = refl
+
+-- if no item before an index passes, the list up to there has none that does
+none-before : (p : ℕ → Bool) (cs : List ℕ) (n : ℕ) (d : ℕ) → n ≤ length cs → ((k : ℕ) → k < n → p (get_or cs k d) ≡ false) → list_any p (take n cs) ≡ false
+none-before p cs zero d le misses = refl
+none-before p [] (suc n) d le misses = absurd (omega (arith, le))
+none-before p (c ∷ cs) (suc n) d le misses = (λ i. misses 0 (omega arith) i || list_any p (take n cs)) ∙ none-before p cs n d (omega (arith, le)) (λ k lt. misses (suc k) (omega (arith, lt)))
+
+-- if the first item that passes is at an index, none before it passes
+pub none-before-first : (p : ℕ → Bool) (cs : List ℕ) (n : ℕ) → position p cs ≡ Some n → list_any p (take n cs) ≡ false
+none-before-first p cs n e =
+    let first = position-Some p cs n 0 e in
+    none-before p cs n 0 (omega (arith, first.0)) first.2
+
+-- if the first item that passes is at another index, one of the others passes
+pub one-of-others : (p : ℕ → Bool) (cs : List ℕ) (n own : ℕ) → position p cs ≡ Some n → (n ≡ own → ⊥) → (list_any p (take own cs) || list_any p (drop (suc own) cs)) ≡ true
+one-of-others p cs n own e other =
+    let first = position-Some p cs n 0 e in
+    others p cs n own first.0 first.1 other
+  where
+    others : (p : ℕ → Bool) (cs : List ℕ) (n own : ℕ) → n < length cs → p (get_or cs n 0) ≡ true → (n ≡ own → ⊥) → (list_any p (take own cs) || list_any p (drop (suc own) cs)) ≡ true
+    others p [] n own lt at other = absurd (omega (arith, lt))
+    others p (c ∷ cs) zero zero lt at other = absurd (other refl)
+    others p (c ∷ cs) zero (suc own) lt at other = λ i. (at i || list_any p (take own cs)) || list_any p (drop (suc own) cs)
+    others p (c ∷ cs) (suc n) zero lt at other = list_any_at p cs n 0 (omega (arith, lt)) at
+    others p (c ∷ cs) (suc n) (suc own) lt at other =
+        grind (arith, cases_Bool (p c), others p cs n own (omega (arith, lt)) at (λ e. other (ap suc e)))
+
+-- if all items up to the end miss, none passes
+none-passes : (p : ℕ → Bool) (cs : List ℕ) → length cs ≤ position_or_len p cs → list_any p cs ≡ false
+none-passes p [] le = refl
+none-passes p (c ∷ cs) le = grind (arith, cases_Bool (p c), none-passes p cs)
+
+-- if no item passes, none of the others does
+none-among-others : (p : ℕ → Bool) (cs : List ℕ) (own : ℕ) → list_any p cs ≡ false → (list_any p (take own cs) || list_any p (drop (suc own) cs)) ≡ false
+none-among-others p [] zero e = refl
+none-among-others p [] (suc own) e = refl
+none-among-others p (c ∷ cs) zero e = grind (arith, cases_Bool (p c))
+none-among-others p (c ∷ cs) (suc own) e = grind (arith, cases_Bool (p c), none-among-others p cs own)
+
+-- if there is no first item that passes, none of the others does
+pub none-of-others : (p : ℕ → Bool) (cs : List ℕ) (own : ℕ) → position p cs ≡ None → (list_any p (take own cs) || list_any p (drop (suc own) cs)) ≡ false
+none-of-others p cs own e = none-among-others p cs own (none-passes p cs (grind (arith, common_steps)))
+
 -- if the number at an index is less, so are those before it
 pub below-more : (s : ℕ) (ns : List ℕ) (m : ℕ) → DoRise ns → m < length ns → get_or ns m 0 < s → AreBelow s (m + 1) ns
 below-more s ns m r lt less i d le =
@@ -191,12 +250,12 @@ side-next ss cs i e lt =
     take_more (side_by_side ss cs) i nobody (omega (arith, lt, side-long ss cs e)) ∙ ap (λ (h : SessionMode). take i (side_by_side ss cs) ++ h ∷ []) (side-at ss cs i nobody e lt)
 
 -- writing a code changes the mode of that holder
-pub set-in : (ss cs : List ℕ) (hs : List SessionMode) (n : ℕ) (c : SessionMode) (x : ℕ) → AreOf ss cs hs → IsOwn c.session hs n → x ≡ code_of c.mode → AreOf ss (set cs n x) (with_holder c hs)
-set-in ss cs hs n c x o own e =
+pub set-in : (ss cs new-cs : List ℕ) (hs : List SessionMode) (n : ℕ) (c : SessionMode) (x : ℕ) → AreOf ss cs hs → IsOwn c.session hs n → x ≡ code_of c.mode → new-cs ≡ set cs n x → AreOf ss new-cs (with_holder c hs)
+set-in ss cs new-cs hs n c x o own e k =
     let new = with-own c hs n own in
     record {
       sessions = o.sessions ∙ (sym (map-set_same number_at hs n c c (sym (own.here c))) ∙ ap (map number_at) new);
-      codes = (λ i. set (o.codes i) n (e i)) ∙ (sym (map-set code_at hs n c) ∙ ap (map code_at) new);
+      codes = k ∙ ((λ i. set (o.codes i) n (e i)) ∙ (sym (map-set code_at hs n c) ∙ ap (map code_at) new));
       rising = ascends-with c hs o.rising;
     }
 

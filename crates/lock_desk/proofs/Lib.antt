@@ -61,10 +61,14 @@ pub mod AfterStep
 -- tests and effects of the lock table are those of the state
 pub mod Simulation
 -- deadlocks
--- the waits-for rows of the sessions that wait for one resource
+-- what blocks the sessions that wait for one resource
 pub mod WritingWaits
 -- the row of a request, from that of an earlier request for the same mode
 pub mod RequestsAlike
+-- the rows lose single edges: a lock or a request is given up, or requests are granted
+pub mod NarrowingWaits
+-- the rows after a request
+pub mod RowsAfterAsking
 -- each session that holds or waits has a locker
 pub mod SessionsInRange
 -- each operation keeps the waits-for graph current

@@ -35,7 +35,7 @@ mode-at (w ∷ ws) (suc i) d lt h =
     ap (λ (b : Bool). cond b (Some w.mode) (mode_of (get_or ws i d).session ws)) l.0 ∙ mode-at ws i d (omega arith) l.1
 
 -- a session that is in the queue once is not among those ahead of its index
-not-ahead : (ws : List SessionMode) (i : ℕ) (d : SessionMode) → i < length ws → times (get_or ws i d).session ws ≤ 1 → has_session (get_or ws i d).session (take i ws) ≡ false
+pub not-ahead : (ws : List SessionMode) (i : ℕ) (d : SessionMode) → i < length ws → times (get_or ws i d).session ws ≤ 1 → has_session (get_or ws i d).session (take i ws) ≡ false
 not-ahead [] i d lt h = absurd (omega arith)
 not-ahead (w ∷ ws) zero d lt h = refl
 not-ahead (w ∷ ws) (suc i) d lt h =

@@ -19,7 +19,7 @@ use Rattle.lock_desk.specs.declared.cells.SessionMode.{SessionMode}
 use Rattle.lock_desk.specs.inner.Cells.{View, has_session, mode_of, is_nobody}
 use Rattle.lock_desk.specs.inner.Lockers.{Standing, standing_at, is_wanted, no_standing}
 use Rattle.lock_desk.specs.inner.Changes.{view_at, standings, standing, IsWhole, IsSameSeen}
-use Rattle.lock_desk.specs.inner.Blocking.{holder_blocks, is_ahead, target_blocks, view_blocks, blocks_at, blocks, IsSizedFor, IsWritten, DoFollow}
+use Rattle.lock_desk.specs.inner.Blocking.{holder_blocks, is_ahead, target_blocks, view_blocks, blocks_at, blocks, IsSizedFor, AreWritten, IsWritten, DoFollow}
 use Rattle.lock_desk.specs.inner.Ended.{EndedView}
 use Rattle.lock_desk.specs.inner.Ready.{IsReadyTable}
 use Rattle.lock_desk.proofs.SessionsInRange.{numbered-whole, once-at}
@@ -239,11 +239,19 @@ ready-new d long listed ready pairs numbers none = record {
   };
 }
 
+-- a session that waits for a resource is in its queue
+pub request-there : (s : ℕ) (r : List ℕ) (d : LockTable) → IsWhole d → (standing s d).wanted ≡ Some r → has_session s (view_at r d).waiting ≡ true
+request-there s r d w waits = sym ((w.agree r).wanted s) ∙ (ap (is_wanted r) waits ∙ same_path-refl r)
+
+-- the rows of the sessions that wait for a resource are current
+pub written-at : (d : LockTable) (r : List ℕ) → IsWhole d → IsReadyTable d → AreWritten (view_at r d) d.waits
+written-at d r w k a b h = k.filled.pairs a b ∙ blocks-there d w (a + 1) (b + 1) r h
+
 -- a request finds the rows of a resource current, and its own row empty
 pub written-for : (d : LockTable) (s : ℕ) (r : List ℕ) → IsWhole d → IsReadyTable d → (standing s d).wanted ≡ None → IsWritten s (view_at r d) d.waits
 written-for d s r w k idle = record {
   within = numbered-whole d d.waits.rows.sessions (omega (arith, k.long, d.lockers.ok.0)) w r;
-  waiting = λ a b h. k.filled.pairs a b ∙ blocks-there d w (a + 1) (b + 1) r h;
+  waiting = written-at d r w k;
   idle = λ a b e. k.filled.pairs a b ∙ (ap (λ (i : ℕ). blocks d.cells.entries (standings d) i (b + 1)) e ∙ ap (blocks_at s (b + 1) d.cells.entries) idle);
 }
 

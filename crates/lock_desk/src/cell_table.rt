@@ -5,19 +5,19 @@ ghost use Rattle.std.specs.Map.{keys_of};
 ghost use Rattle.std.specs.Option.{option_copied};
 ghost use Rattle.lock_tree.specs.Paths.{same_path};
 ghost use Rattle.lock_desk.specs.declared.cells.Cell.{Cell as CellValue};
-ghost use Rattle.lock_desk.specs.inner.Cells.{no_view, view_of, has_session, mode_of, can_grant, is_granted, AreKeptCells, cell_at, cell_view, view_after_asking, view_after_giving_up, view_after_freeing, CellsBecame, ViewBecame, IsPlace, has_path, is_nobody, codes_unless_waited, view_with_holder, HasRoomAt};
+ghost use Rattle.lock_desk.specs.inner.Cells.{no_view, view_of, has_session, mode_of, can_grant, is_granted, AreKeptCells, cell_at, cell_view, view_after_asking, view_after_giving_up, view_after_freeing, is_request, CellsBecame, ViewBecame, IsPlace, has_path, is_nobody, codes_unless_waited, view_with_holder, HasRoomAt};
 ghost use Rattle.lock_desk.specs.inner.Tables.{in_use, AreIdleFrom};
 ghost use Rattle.lock_desk.specs.inner.Listing.{in_order};
 ghost use Rattle.lock_desk.specs.inner.Lockers.{standings_of, AreSameOrGranted, DoAgree};
 ghost use Rattle.lock_desk.specs.inner.Ended.{DoList};
-ghost use Rattle.lock_desk.specs.inner.Blocking.{IsOfSessions, IsWritten, DoFollow};
+ghost use Rattle.lock_desk.specs.inner.Blocking.{IsOfSessions, AreWritten, IsWritten, DoFollow};
 
 use crate::cells::{Cell, GivenUp, RequestStatus, SessionMode, is_same};
 use crate::ended::EndedWaits;
 use crate::lockers::Locker;
 use crate::promotion::promote;
 use crate::resource_order::sort_resources;
-use crate::waits::{Waits, clear_queue_rows, update_rows, write_queue_rows};
+use crate::waits::{Waits, follow_give_up, update_rows};
 use indexmap::IndexSet;
 use lock_modes::Mode;
 use lock_tree::{Resource, same_path_is_equality};
@@ -85,10 +85,28 @@ fn is_at(resources: &IndexSet<Resource>, place: usize, resource: Resource) -> bo
     }
 }
 
-/// Makes `resource`, which is not in use, the provisional key.
-///
-/// Keeps the key if it is the provisional one already, and else removes the earlier provisional key. If memory is
-/// refused, the keys in use are unchanged.
+/// Makes `resource`, which is not in use, the provisional key, after removing the earlier one. If memory is refused,
+/// the keys in use are unchanged.
+#[inline(never)]
+fn insert_new_key(
+    resources: &mut IndexSet<Resource>,
+    has_provisional: &mut bool,
+    resource: Resource,
+) -> Result<(), AllocError>
+    requires { has_path resource (in_use resources.old.keys has_provisional.old) ≡ false }
+    ensures ok { OnOk result (has_provisional.new ≡ true) }
+    ensures keys { OnOk result (resources.new.keys ≡ in_use resources.old.keys has_provisional.old ++ resource ∷ []) }
+    ensures err { OnErr result (in_use resources.new.keys has_provisional.new ≡ in_use resources.old.keys has_provisional.old) }
+{
+    same_path_is_equality();
+    drop_provisional(resources, has_provisional);
+    resources.insert(resource)?;
+    *has_provisional = true;
+    Ok(())
+}
+
+/// Like `insert_new_key`, but keeps the key if it is the provisional one already.
+#[inline(always)]
 fn insert_key(
     resources: &mut IndexSet<Resource>,
     has_provisional: &mut bool,
@@ -102,11 +120,7 @@ fn insert_key(
     if *has_provisional && is_last(resources, resource) {
         return Ok(());
     }
-    same_path_is_equality();
-    drop_provisional(resources, has_provisional);
-    resources.insert(resource)?;
-    *has_provisional = true;
-    Ok(())
+    insert_new_key(resources, has_provisional, resource)
 }
 
 /// Ensures that there is a cell at `place`. The cells from `place` on stay idle, those before it unchanged.
@@ -241,6 +255,7 @@ impl CellTable {
 
     /// Adds a cell for `resource`, which has none, with `holder` as its first holder. If memory is refused, nothing
     /// that contracts see changes.
+    #[inline(always)]
     fn add_cell(&mut self, resource: Resource, holder: SessionMode) -> Result<(), AllocError>
         requires some { 1 ≤ holder.session }
         requires kept { AreKeptCells self.old.entries }
@@ -277,6 +292,7 @@ impl CellTable {
     ///
     /// `place` is the place of the cell. Without a cell, adds one, with the session as its first holder. If memory
     /// is refused, holders, queues and rows are unchanged.
+    #[inline(always)]
     pub(crate) fn ask(
         &mut self,
         place: Option<usize>,
@@ -317,8 +333,8 @@ impl CellTable {
 
     /// Gives up the lock or the request of `session` on `resource`, whose cell is at `place`.
     ///
-    /// Promotes the queue and lists in `ended` whom it grants, rewrites the waits-for rows of the sessions that waited
-    /// there or wait there now, and vacates the cell if it is idle then. Does nothing without a cell.
+    /// Promotes the queue and lists in `ended` whom it grants, updates the waits-for rows of the sessions that waited
+    /// there, and vacates the cell if it is idle then. Does nothing without a cell.
     pub(crate) fn free_at(
         &mut self,
         lockers: &mut Vec<Locker>,
@@ -329,13 +345,17 @@ impl CellTable {
         resource: Resource,
         claim: GivenUp,
     )
+        requires some { 1 ≤ session }
+        requires own { session ≤ waits.old.rows.sessions }
         requires place { IsPlace resource self.old.entries place }
         requires cells { AreKeptCells self.old.entries }
+        requires claimed { has_session session (cell_view resource self.old.entries).waiting ≡ is_request claim }
         requires agree { let left = view_after_giving_up claim session (cell_view resource self.old.entries) in
             DoAgree resource left (standings_of lockers.old.items) }
         requires long { waits.old.rows.sessions ≡ vec_len lockers.old }
         requires sized { length ended.old.places ≡ vec_len lockers.old }
         requires within { IsOfSessions waits.old.rows.sessions (cell_view resource self.old.entries) }
+        requires written { AreWritten (cell_view resource self.old.entries) waits.old }
         ensures cells { ViewBecame resource (view_after_freeing claim session) self.old.entries self.new.entries }
         ensures agree { let freed = view_after_freeing claim session (cell_view resource self.old.entries) in
             DoAgree resource freed (standings_of lockers.new.items) }
@@ -352,10 +372,9 @@ impl CellTable {
         // Called for its contract: no key is in the set twice.
         let _len = self.resources.len();
         let cell = &mut self.cells[place];
-        clear_queue_rows(waits, cell);
+        follow_give_up(waits, cell, session, claim);
         cell.give_up(session, claim);
-        promote(cell, place, resource, lockers, ended);
-        write_queue_rows(waits, cell);
+        promote(cell, place, resource, lockers, waits, ended);
         if cell.is_idle() {
             self.vacate(place);
         }

@@ -132,6 +132,7 @@ impl Cell {
     }
 
     /// The mode that `session` holds, if it is a holder.
+    #[inline(always)]
     pub(crate) fn mode_held(&self, session: u16) -> Option<Mode>
         ensures { result ≡ mode_of session (view_of self.now).holders }
     {
@@ -293,6 +294,7 @@ impl Cell {
     ///
     /// A session that holds the resource requests a conversion. If memory is refused, holders and queue are
     /// unchanged.
+    #[inline(never)]
     pub(crate) fn ask(&mut self, asker: SessionMode) -> Result<RequestStatus, AllocError>
         requires some { 1 ≤ asker.session }
         requires kept { IsKeptCell self.old }

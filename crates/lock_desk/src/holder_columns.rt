@@ -1,7 +1,8 @@
 //! Several holders of one resource in two columns: session numbers, and beside them mode codes, so that one mask tests
-//! a request against all holders.
+//! a request against all holders. Columns of up to 8 holders take no memory.
 
-ghost use Rattle.std.specs.Prelude.{◌≡◌, ℕ, ◌+◌, ◌<◌, ◌≤◌, ◌&&◌, ◌||◌, ◌==◌, List, [], ◌∷◌, ◌++◌, length, take, insert, remove, map, OnOk, OnErr, vec_len, vec_capacity};
+ghost use Rattle.std.specs.Prelude.{◌≡◌, ℕ, ◌+◌, ◌<◌, ◌≤◌, ◌&&◌, ◌||◌, ◌==◌, List, [], ◌∷◌, ◌++◌, length, take, drop, insert, remove, set, map, OnOk, OnErr, vec_len, vec_capacity};
+ghost use Rattle.smallvec.specs.SmallVec.{small_vec_len, HasRoomFor};
 ghost use Rattle.std.specs.List.{list_any};
 ghost use Rattle.mode_lanes.specs.Masks.{meets};
 ghost use Rattle.waits_for.specs.Pairs.{pairs_of};
@@ -14,13 +15,18 @@ ghost use Rattle.lock_desk.specs.declared.cells.SessionMode.{SessionMode as Sess
 use crate::cells::SessionMode;
 use crate::positions::position_of;
 use lock_modes::Mode;
-use mode_lanes::{any_meets, union};
+use mode_lanes::{any_meets, first_meets, union};
+use smallvec::SmallVec;
 use std::alloc::{AllocError, Global};
+use std::default::MadeWith;
 use std::marker::Model;
 use waits_for::Rows;
 
-/// Columns of up to this length are read one by one; longer ones by binary search and by vector kernels.
+/// Columns of up to this length are read and shifted one by one, without a call.
 const SHORT: usize = 8;
+
+/// Columns longer than this, which is a vector's worth, are searched for a conflict in one pass.
+const CHUNK: usize = 16;
 
 /// Where a session is among the holders, or would be inserted.
 #[derive(Clone, Copy, Debug, PartialEq, Eq)]
@@ -32,12 +38,14 @@ pub enum HolderPlace {
 }
 
 /// The holders of one resource, by session number. Both columns have the same length.
+///
+/// Up to 8 holders are kept inline. More take memory, which is kept when they leave.
 #[derive(Drop)]
 pub struct Columns {
     /// The session numbers, strictly increasing.
-    sessions: Vec<u16>,
+    sessions: SmallVec<u16, 8>,
     /// At index `i`, the code of the mode that the session `sessions[i]` holds.
-    codes: Vec<u8>,
+    codes: SmallVec<u8, 8>,
 }
 
 impl Model for Columns {
@@ -72,6 +80,21 @@ fn conflicts(codes: &[u8], mask: u8) -> bool
         any_meets(codes, mask)
     } else {
         codes.iter().any(|code| *code & mask != 0)
+    }
+}
+
+/// Whether a code at another index than `own` has a bit of `mask`.
+fn others_conflict(codes: &[u8], own: usize, mask: u8) -> bool
+    requires { own < length codes.now }
+    ensures { result ≡ (list_any (meets mask) (take own codes.now) || list_any (meets mask) (drop (own + 1) codes.now)) }
+{
+    if codes.len() <= CHUNK {
+        return conflicts(&codes[..own], mask) || conflicts(&codes[own + 1..], mask);
+    }
+    match first_meets(codes, mask) {
+        Some(at) if at == own => conflicts(&codes[own + 1..], mask),
+        Some(_) => true,
+        None => false,
     }
 }
 
@@ -125,31 +148,76 @@ fn rank(sessions: &[u16], session: u16) -> usize
     }
 }
 
+/// Moves the items from `index` on up by one place, and writes `one` there. Returns the last item, which has no place.
+fn shift_up<T: Copy>(items: &mut [T], index: usize, one: T) -> T
+    requires { index ≤ length items.old }
+    ensures { items.new ++ result ∷ [] ≡ insert items.old index one }
+{
+    let mut carried = one;
+    for at in index..items.len() {
+        let here = items[at];
+        items[at] = carried;
+        carried = here;
+    }
+    carried
+}
+
+/// Removes the item at `index` of a list that ends with `last`, by moving the later items down. `items` has the others.
+fn shift_down<T: Copy>(items: &mut [T], index: usize, last: T)
+    requires { index ≤ length items.old }
+    ensures { items.new ≡ remove (items.old ++ last ∷ []) index }
+{
+    let mut carried = last;
+    let mut at = items.len();
+    while index < at {
+        at -= 1;
+        let here = items[at];
+        items[at] = carried;
+        carried = here;
+    }
+}
+
 /// Inserts `one` at `index`. The list must have room.
-fn insert_at<T: Drop>(list: &mut Vec<T>, index: usize, one: T)
-    requires index { index ≤ vec_len list.old }
-    requires room { vec_len list.old < vec_capacity list.old }
+fn insert_at<T: Copy + Drop + MadeWith<Global>>(list: &mut SmallVec<T, 8>, index: usize, one: T)
+    requires index { index ≤ small_vec_len list.old }
+    requires room { HasRoomFor list.old 1 }
     ensures items { list.new.items ≡ insert list.old.items index one }
-    ensures capacity { vec_capacity list.old ≤ vec_capacity list.new }
+    ensures capacity { list.old.capacity ≤ list.new.capacity }
 {
     if index == list.len() {
         list.push_reserved(one);
+    } else if list.len() < SHORT {
+        let last = shift_up(list.as_mut_slice(), index, one);
+        list.push_reserved(last);
     } else {
+        // There is room, so it is inserted, and no memory is asked for.
         let _inserted = list.insert(index, one);
     }
 }
 
 /// Removes the item at `index`.
-fn remove_at<T: Drop>(list: &mut Vec<T>, index: usize)
-    requires index { index < vec_len list.old }
+fn remove_at<T: Copy + Drop + MadeWith<Global>>(list: &mut SmallVec<T, 8>, index: usize)
+    requires index { index < small_vec_len list.old }
     ensures items { list.new.items ≡ remove list.old.items index }
-    ensures capacity { vec_capacity list.new ≡ vec_capacity list.old }
+    ensures capacity { list.new.capacity ≡ list.old.capacity }
 {
-    if index + 1 == list.len() {
+    if index == list.len() - 1 {
         let _last = list.pop();
-    } else {
+    } else if list.len() > SHORT {
         let _removed = list.remove(index);
+    } else if let Some(last) = list.pop() {
+        shift_down(list.as_mut_slice(), index, last);
     }
+}
+
+/// Writes `code` at `index`.
+fn write_at(codes: &mut SmallVec<u8, 8>, index: usize, code: u8)
+    requires index { index < small_vec_len codes.old }
+    ensures items { codes.new.items ≡ set codes.old.items index code }
+    ensures capacity { codes.new.capacity ≡ codes.old.capacity }
+{
+    let codes = codes.as_mut_slice();
+    codes[index] = code;
 }
 
 /// Appends the holders to `list`, which must have room for them.
@@ -171,8 +239,8 @@ impl Columns {
         ensures { result.items ≡ [] }
     {
         Columns {
-            sessions: Vec::new(alloc),
-            codes: Vec::new(alloc),
+            sessions: SmallVec::new(alloc),
+            codes: SmallVec::new(alloc),
         }
     }
 
@@ -190,26 +258,42 @@ impl Columns {
         ensures capacity { self.old.capacity ≤ self.new.capacity }
         ensures ok { OnOk result (length self.new.items + more ≤ self.new.capacity) }
     {
+        let inline = self.inline_room();
+        if more <= inline {
+            return Ok(());
+        }
         self.sessions.reserve(more)?;
         self.codes.reserve(more)
+    }
+
+    /// For how many further holders there is room inline, 0 if more than 8 are there.
+    #[inline]
+    fn inline_room(&self) -> usize
+        ensures { length self.now.items + result ≤ self.now.capacity }
+    {
+        // No capacity is below the inline room or the length. These calls are made for the proof alone.
+        let _inline = (self.sessions.capacity(), self.codes.capacity());
+        let _long = self.codes.len();
+        SHORT.saturating_sub(self.sessions.len())
     }
 
     /// The bitwise or of the mode codes of the holders.
     pub(crate) fn codes(&self) -> u8
         ensures { result ≡ codes_among self.now.items }
     {
-        union(&self.codes)
+        union(self.codes.as_slice())
     }
 
     /// The place of `session` among the holders.
     pub(crate) fn place_of(&self, session: u16) -> HolderPlace
         ensures { IsPlaceOf session self.now.items result }
     {
-        let index = rank(&self.sessions, session);
-        if index == self.sessions.len() {
+        let sessions = self.sessions.as_slice();
+        let index = rank(sessions, session);
+        if index == sessions.len() {
             return HolderPlace::Between(index);
         }
-        let here = self.sessions[index];
+        let here = sessions[index];
         if here == session {
             HolderPlace::Own(index)
         } else {
@@ -218,11 +302,15 @@ impl Columns {
     }
 
     /// The mode that `session` holds, if it is a holder.
+    #[inline(never)]
     pub(crate) fn mode_of(&self, session: u16) -> Option<Mode>
         ensures { result ≡ mode_of session self.now.items }
     {
         match self.place_of(session) {
-            HolderPlace::Own(index) => Some(Mode::from_code_or_nl(self.codes[index])),
+            HolderPlace::Own(index) => {
+                let codes = self.codes.as_slice();
+                Some(Mode::from_code_or_nl(codes[index]))
+            }
             HolderPlace::Between(_) => None,
         }
     }
@@ -235,10 +323,8 @@ impl Columns {
     {
         let mask = asker.mode.conflict_mask();
         match place {
-            HolderPlace::Own(index) => {
-                !conflicts(&self.codes[..index], mask) && !conflicts(&self.codes[index + 1..], mask)
-            }
-            HolderPlace::Between(_) => !conflicts(&self.codes, mask),
+            HolderPlace::Own(index) => !others_conflict(self.codes.as_slice(), index, mask),
+            HolderPlace::Between(_) => !conflicts(self.codes.as_slice(), mask),
         }
     }
 
@@ -254,7 +340,7 @@ impl Columns {
     {
         let code = holder.mode.code();
         match place {
-            HolderPlace::Own(index) => self.codes[index] = code,
+            HolderPlace::Own(index) => write_at(&mut self.codes, index, code),
             HolderPlace::Between(index) => {
                 insert_at(&mut self.sessions, index, holder.session);
                 insert_at(&mut self.codes, index, code);
@@ -283,7 +369,7 @@ impl Columns {
         let more = self.sessions.len().saturating_sub(list.len());
         list.reserve(more)?;
         list.clear();
-        write_list(&self.sessions, &self.codes, list);
+        write_list(self.sessions.as_slice(), self.codes.as_slice(), list);
         Ok(())
     }
 
@@ -292,11 +378,11 @@ impl Columns {
         requires { index < length self.now.items }
         ensures { take (index + 1) self.now.items ≡ take index self.now.items ++ result ∷ [] }
     {
-        let session = self.sessions[index];
-        let code = self.codes[index];
+        let sessions = self.sessions.as_slice();
+        let codes = self.codes.as_slice();
         SessionMode {
-            session,
-            mode: Mode::from_code_or_nl(code),
+            session: sessions[index],
+            mode: Mode::from_code_or_nl(codes[index]),
         }
     }
 
@@ -312,8 +398,8 @@ impl Columns {
         let position = position_of(session);
         rows.set_met(
             position,
-            &self.sessions,
-            &self.codes,
+            self.sessions.as_slice(),
+            self.codes.as_slice(),
             target.conflict_mask(),
         );
     }

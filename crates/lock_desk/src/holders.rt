@@ -1,4 +1,4 @@
-//! The holders of one resource: a single holder inline, several in two columns.
+//! The holders of one resource: a single holder by itself, several in two columns.
 
 ghost use Rattle.std.specs.Prelude.{◌≡◌, ℕ, ◌+◌, ◌<◌, ◌≤◌, ◌&&◌, ◌||◌, ◌==◌, true, false, [], ◌∷◌, ◌++◌, length, take, map, OnOk, OnErr};
 ghost use Rattle.waits_for.specs.Pairs.{pairs_of};
@@ -16,13 +16,13 @@ use waits_for::Rows;
 
 /// The holders of one resource with their modes, by session number.
 ///
-/// Most resources have one holder at a time, which is kept inline and takes no memory. When a second one comes, both
-/// move to the columns. There they stay until all have left.
+/// Most resources have one holder at a time, which is kept by itself. When a second one comes, both move to the
+/// columns, which take no memory for up to 8 holders. There they stay until all have left.
 #[derive(Drop)]
 pub struct Holders {
-    /// The single holder, if it is kept inline.
+    /// The single holder, if it is kept by itself.
     single: Option<SessionMode>,
-    /// The holders if none is kept inline, else empty. Keeps its memory when it becomes empty.
+    /// The holders if none is kept by itself, else empty. Keeps the memory for more than 8 when it becomes empty.
     columns: Columns,
 }
 
@@ -214,7 +214,7 @@ impl Holders {
         }
     }
 
-    /// Changes the held mode to that of `holder`, if its session is the single holder that is kept inline. Returns
+    /// Changes the held mode to that of `holder`, if its session is the single holder that is kept by itself. Returns
     /// whether it did; changes nothing else.
     #[inline]
     pub(crate) fn convert_if_single(&mut self, holder: SessionMode) -> bool

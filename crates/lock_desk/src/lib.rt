@@ -6,7 +6,7 @@
 //!
 //! 1. The structures.
 //!    - By resource: a cell has the holders and the wait queue of one resource (`cells.rt`), and `cell_table.rt` is
-//!      the table of all cells. The holders of a cell are in `holders.rt`: a single holder inline, several in two
+//!      the table of all cells. The holders of a cell are in `holders.rt`: a single holder by itself, several in two
 //!      columns (`holder_columns.rt`). `resource_order.rt` brings resources into their order.
 //!    - By session: a locker has the transaction, the waiting request and the locks of one session (`lockers.rt`). Its
 //!      list of locks counts, for each indexed lock, the children held below it (`locks.rt`).

@@ -227,7 +227,15 @@ impl Locker {
         }
     }
 
+    /// The likely place of the cell of `resource`, which the session converts: a guess, if there is one.
+    pub(crate) fn likely_converted(&mut self, resource: Resource) -> Option<usize>
+        ensures { self.new ≡ self.old }
+    {
+        self.held.likely_converted(resource)
+    }
+
     /// Adds `resource`, whose cell is at `place`, to the locks. There must be room, and the session must hold the parent.
+    #[inline(always)]
     pub(crate) fn hold(&mut self, resource: Resource, place: usize)
         requires idle { self.old.wanted ≡ None }
         requires new { has_path resource self.old.held.items ≡ false }

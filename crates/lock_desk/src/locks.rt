@@ -34,6 +34,9 @@ pub struct Locks {
     /// Whether the counts of the index are right. They aren't kept while all locks are given back, from the last to the
     /// first, and are right again once no lock is left.
     counts_valid: bool,
+    /// The index in `recent` behind the lock that was converted last: a guess at the next one, since sessions mostly
+    /// convert their locks in the order in which they took them.
+    next_converted: usize,
 }
 
 /// A lock that a session holds.
@@ -210,6 +213,7 @@ impl Locks {
             recent: Vec::new(alloc),
             reserved: 0,
             counts_valid: true,
+            next_converted: 0,
         }
     }
 
@@ -232,6 +236,26 @@ impl Locks {
         }
         let keys = self.indexed.keys().as_slice();
         keys.iter().any(|key| is_child(resource, *key))
+    }
+
+    /// The likely place of the cell of `resource`, which is converted: a guess. `None` if `resource` isn't among the
+    /// recent locks, or these are many and it isn't the one behind the lock that was converted last.
+    pub(crate) fn likely_converted(&mut self, resource: Resource) -> Option<usize>
+        ensures { self.new ≡ self.old }
+    {
+        let index = self.index_near(self.next_converted, resource)?;
+        let lock = self.recent.get(index)?;
+        self.next_converted = index.saturating_add(1);
+        Some(lock.likely)
+    }
+
+    /// The index of `resource` among the recent locks. Looks at `index` first, and at the others only if they are few.
+    fn index_near(&self, index: usize, resource: Resource) -> Option<usize> {
+        match self.recent.get(index) {
+            Some(lock) if is_same(lock.resource, resource) => Some(index),
+            _ if self.recent.len() <= SHORT => search(&self.recent, resource),
+            _ => None,
+        }
     }
 
     /// Makes room for one more lock.

@@ -4,19 +4,21 @@ ghost use Rattle.std.specs.Prelude.{◌≡◌, ℕ, ◌+◌, ◌-◌, ◌<◌, �
 ghost use Rattle.waits_for.specs.Pairs.{pairs_of};
 ghost use Rattle.waits_for.specs.Walks.{Reaches, IsYoungestOnCircle};
 ghost use Rattle.lock_desk.specs.declared.cells.SessionMode.{SessionMode as SessionModeValue};
-ghost use Rattle.lock_desk.specs.inner.Cells.{View, has_session, times, view_of, is_granted};
-ghost use Rattle.lock_desk.specs.inner.Blocking.{cell_blocks, AreOfSessions, IsOfSessions, IsSizedFor, HasRequestedAt, DoFollow};
+ghost use Rattle.lock_desk.specs.inner.Cells.{View, has_session, times, view_of, view_after_giving_up, is_request, is_granted, IsOnce};
+ghost use Rattle.lock_desk.specs.inner.Blocking.{cell_blocks, fits_beside, has_fitting, has_fitting_beside, has_conflicting, AreOfSessions, IsOfSessions, IsSizedFor, AreWritten, HasRequestedAt, DoFollow};
 
-use crate::cells::{Cell, RequestStatus, SessionMode};
+use crate::cells::{Cell, GivenUp, RequestStatus, SessionMode};
 use crate::positions::{position_of, session_at};
+use lock_modes::Mode;
 use std::alloc::{AllocError, Global};
 use waits_for::{MAX_SESSIONS, Rows};
 
 /// The waits-for graph, and the number of each session's transaction. Both go by position: session number less 1.
 ///
 /// A session waits for one resource at most, so a change of one cell changes only the rows of the sessions that wait
-/// there. A request at the end of the queue writes its own row; any other change rewrites the rows of the whole
-/// queue.
+/// there. A request that waits writes its own row, and adds an edge to it for each request behind it. Who gives up a
+/// lock or a request, or is granted one, changes only the edges to it. After many grants at once, the rows of all
+/// requests that still wait are written anew.
 #[derive(Drop)]
 pub struct Waits {
     /// The edges: the row of a session has those for whom it waits directly, holders and requests ahead of its own.
@@ -193,13 +195,90 @@ pub(crate) fn write_queue_rows(waits: &mut Waits, cell: &Cell)
     write_rows(waits, cell);
 }
 
+/// Whether a request for `target` fits beside a session that holds the mode `held`, if it holds one.
+fn fits_beside(held: Option<Mode>, target: Mode) -> bool
+    ensures { result ≡ fits_beside held target }
+{
+    match held {
+        Some(held) => Mode::compatible(target, held),
+        None => true,
+    }
+}
+
+/// Removes the edges to `session` from the requests of `queue` that fit beside it. `held` is the mode that `session`
+/// holds, if it holds one.
+fn remove_edges(rows: &mut Rows, queue: &[SessionMode], session: u16, held: Option<Mode>)
+    requires some { 1 ≤ session }
+    requires own { session ≤ rows.old.sessions }
+    requires within { AreOfSessions rows.old.sessions queue.now }
+    ensures sessions { rows.new.sessions ≡ rows.old.sessions }
+    ensures pairs { (a b : ℕ) → pairs_of rows.new a b
+        ≡ (pairs_of rows.old a b && not ((b + 1 == session) && has_fitting (a + 1) held queue.now)) }
+{
+    for request in queue {
+        if fits_beside(held, request.mode) {
+            rows.unset(position_of(request.session), position_of(session));
+        }
+    }
+}
+
+/// Adds an edge to `holder` from each request of `queue` that conflicts with its mode.
+fn add_conflicts(rows: &mut Rows, queue: &[SessionMode], holder: SessionMode)
+    requires some { 1 ≤ holder.session }
+    requires own { holder.session ≤ rows.old.sessions }
+    requires within { AreOfSessions rows.old.sessions queue.now }
+    ensures sessions { rows.new.sessions ≡ rows.old.sessions }
+    ensures pairs { (a b : ℕ) → pairs_of rows.new a b
+        ≡ (pairs_of rows.old a b || ((b + 1 == holder.session) && has_conflicting (a + 1) holder.mode queue.now)) }
+{
+    for request in queue {
+        if !Mode::compatible(request.mode, holder.mode) {
+            rows.set(position_of(request.session), position_of(holder.session));
+        }
+    }
+}
+
+/// Adds an edge to `session` from each request of `behind`, the requests behind its own.
+fn add_edges_behind(rows: &mut Rows, behind: &[SessionMode], session: u16)
+    requires some { 1 ≤ session }
+    requires own { session ≤ rows.old.sessions }
+    requires within { AreOfSessions rows.old.sessions behind.now }
+    ensures sessions { rows.new.sessions ≡ rows.old.sessions }
+    ensures pairs { (a b : ℕ) → pairs_of rows.new a b
+        ≡ (pairs_of rows.old a b || ((b + 1 == session) && has_session (a + 1) behind.now)) }
+{
+    for request in behind {
+        rows.set(position_of(request.session), position_of(session));
+    }
+}
+
+/// The index of the request of `session` in the queue, which has it. Looks at the last request first.
+fn index_in(queue: &[SessionMode], session: u16) -> usize
+    requires { has_session session queue.now ≡ true }
+    ensures within { result < length queue.now }
+    ensures here { (d : SessionModeValue) → (slice_index_or queue.now result d).session ≡ session }
+{
+    let last = queue.len() - 1;
+    if queue[last].session == session {
+        return last;
+    }
+    for index in 0..last {
+        if queue[index].session == session {
+            return index;
+        }
+    }
+    last
+}
+
 /// Updates the rows after `asker` has requested the resource of `cell`.
 ///
-/// A request at the end of the queue writes its own row alone. Any other change rewrites the rows of the whole
-/// queue.
+/// If it is granted, only the edges to it change. If it waits, its own row is written, and the requests behind it get
+/// an edge to it.
 pub(crate) fn update_rows(waits: &mut Waits, cell: &Cell, asker: SessionMode, status: RequestStatus)
+    requires some { 1 ≤ asker.session }
+    requires own { asker.session ≤ waits.old.rows.sessions }
     requires within { IsOfSessions waits.old.rows.sessions (view_of cell.now) }
-    requires once { (s : ℕ) → times s (view_of cell.now).waiting ≤ 1 }
+    requires once { IsOnce (view_of cell.now) }
     requires asked { HasRequestedAt asker (is_granted status) (view_of cell.now) waits.old }
     ensures { (h : HasRequestedAt asker (is_granted status) (view_of cell.now) waits.old)
         → DoFollow h.before (view_of cell.now) waits.old waits.new }
@@ -208,13 +287,56 @@ pub(crate) fn update_rows(waits: &mut Waits, cell: &Cell, asker: SessionMode, st
     if queue.is_empty() {
         return;
     }
-    let last = queue.len() - 1;
-    if status == RequestStatus::Waiting && queue[last].session == asker.session {
-        write_row(&mut waits.rows, cell, last);
-        return;
+    match status {
+        RequestStatus::Granted => {
+            remove_edges(&mut waits.rows, queue, asker.session, Some(asker.mode));
+            add_conflicts(&mut waits.rows, queue, asker);
+        }
+        RequestStatus::Waiting => {
+            let index = index_in(queue, asker.session);
+            write_row(&mut waits.rows, cell, index);
+            add_edges_behind(&mut waits.rows, &queue[index + 1..], asker.session);
+        }
     }
-    clear_queue_rows(waits, cell);
-    write_rows(waits, cell);
+}
+
+/// Updates the rows for a lock or a request that `session` gives up. `cell` still has it.
+pub(crate) fn follow_give_up(waits: &mut Waits, cell: &Cell, session: u16, claim: GivenUp)
+    requires some { 1 ≤ session }
+    requires own { session ≤ waits.old.rows.sessions }
+    requires within { AreOfSessions waits.old.rows.sessions (view_of cell.now).waiting }
+    requires once { IsOnce (view_of cell.now) }
+    requires claimed { has_session session (view_of cell.now).waiting ≡ is_request claim }
+    requires written { AreWritten (view_of cell.now) waits.old }
+    ensures { DoFollow (view_of cell.now) (view_after_giving_up claim session (view_of cell.now)) waits.old waits.new }
+{
+    let queue = cell.queue();
+    match claim {
+        GivenUp::Lock => remove_edges(&mut waits.rows, queue, session, None),
+        GivenUp::Request => {
+            // The requests ahead of it don't wait for it, unless it is a holder that conflicts.
+            let index = index_in(queue, session);
+            let held = cell.mode_held(session);
+            remove_edges(&mut waits.rows, &queue[index..], session, held);
+            waits.rows.clear_row(position_of(session));
+        }
+    }
+}
+
+/// Updates the rows for the requests `granted`. Those of `behind` still wait.
+pub(crate) fn follow_grants(waits: &mut Waits, granted: &[SessionMode], behind: &[SessionMode])
+    requires granted { AreOfSessions waits.old.rows.sessions granted.now }
+    requires behind { AreOfSessions waits.old.rows.sessions behind.now }
+    ensures sessions { waits.new.rows.sessions ≡ waits.old.rows.sessions }
+    ensures pairs { (a b : ℕ) → pairs_of waits.new.rows a b
+        ≡ ((pairs_of waits.old.rows a b && not (has_session (a + 1) granted.now))
+        && not (has_fitting_beside (a + 1) (b + 1) granted.now behind.now)) }
+    ensures numbers { waits.new.numbers ≡ waits.old.numbers }
+{
+    for request in granted {
+        remove_edges(&mut waits.rows, behind, request.session, Some(request.mode));
+        waits.rows.clear_row(position_of(request.session));
+    }
 }
 
 /// Whether the graph has an edge from `session` to `other`. False if there is no such session.

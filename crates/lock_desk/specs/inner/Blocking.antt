@@ -1,6 +1,6 @@
 -- Internal to this crate, cited by no public contract: the waits-for graph: which edges the cells and the lockers
 -- determine, and what the rows have of them.
-use Rattle.std.specs.Prelude.{◌≡◌, ℕ, ◌+◌, ◌≤◌, Bool, true, false, not, ◌&&◌, ◌||◌, if◌then◌else◌, ◌==◌, List, [], ◌∷◌, Option, Some, None, slice_index_or, vec_len}
+use Rattle.std.specs.Prelude.{◌≡◌, ℕ, ◌+◌, ◌≤◌, Bool, true, false, not, ◌&&◌, ◌||◌, if◌then◌else◌, ◌==◌, List, [], ◌∷◌, take, Option, Some, None, slice_index_or, vec_len}
 use Rattle.std.specs.List.{All, list_any}
 use Rattle.waits_for.specs.declared.TheConstants.{MAX_SESSIONS}
 use Rattle.waits_for.specs.Pairs.{pairs_of}
@@ -10,7 +10,7 @@ use Rattle.lock_rules.specs.State.{number_in}
 use Rattle.lock_desk.specs.declared.cells.SessionMode.{SessionMode}
 use Rattle.lock_desk.specs.declared.cells.Cell.{Cell}
 use Rattle.lock_desk.specs.declared.waits.Waits.{Waits}
-use Rattle.lock_desk.specs.inner.Cells.{Cells, View, has_session, mode_of, view_of, can_grant, view_after_asking, cell_view}
+use Rattle.lock_desk.specs.inner.Cells.{Cells, View, has_session, mode_of, with_holder, Ascends, view_of, can_grant, view_after_asking, cell_view}
 use Rattle.lock_desk.specs.inner.Lockers.{Standing, standing_at}
 
 -- `u` is one of these holders, is not `s`, and holds a mode that conflicts with `m`
@@ -64,10 +64,14 @@ pub record IsSizedFor (n : ℕ) (w : Waits) : Type 0 where
   pub sessions : w.rows.sessions ≡ n
   pub numbers : vec_len w.numbers ≡ n
 
+-- the rows of the sessions that wait at this resource are current
+abbrev pub AreWritten : View → Waits → Type 0
+AreWritten v w = (a b : ℕ) → has_session (a + 1) v.waiting ≡ true → pairs_of w.rows a b ≡ view_blocks (a + 1) (b + 1) v
+
 -- the rows of the sessions that wait at this resource are current, and the row of session `s` is empty
 pub record IsWritten (s : ℕ) (v : View) (w : Waits) : Type 0 where
   pub within : IsOfSessions w.rows.sessions v
-  pub waiting : (a b : ℕ) → has_session (a + 1) v.waiting ≡ true → pairs_of w.rows a b ≡ view_blocks (a + 1) (b + 1) v
+  pub waiting : AreWritten v w
   pub idle : (a b : ℕ) → a + 1 ≡ s → pairs_of w.rows a b ≡ false
 
 -- session `c` has requested a resource whose view is `now`; the rows are still those of the view before, in which it
@@ -85,3 +89,34 @@ pub record DoFollow (before after : View) (old new : Waits) : Type 0 where
   pub sessions : new.rows.sessions ≡ old.rows.sessions
   pub pairs : (a b : ℕ) → pairs_of new.rows a b ≡ ((pairs_of old.rows a b && not (has_session (a + 1) before.waiting)) || view_blocks (a + 1) (b + 1) after)
   pub numbers : new.numbers ≡ old.numbers
+
+-- edges that a change adds or removes
+
+-- a request for this mode fits beside a session that holds mode `o`, or nothing
+abbrev pub fits_beside : Option Mode → Mode → Bool
+fits_beside None m = true
+fits_beside (Some h) m = are_compatible m h
+
+-- session `s` has a request in this queue that fits beside a session that holds mode `o`, or nothing
+abbrev pub has_fitting : ℕ → Option Mode → List SessionMode → Bool
+has_fitting s o ws = list_any (λ w. (w.session == s) && fits_beside o w.mode) ws
+
+-- session `s` has a request in this queue that conflicts with mode `m`
+abbrev pub has_conflicting : ℕ → Mode → List SessionMode → Bool
+has_conflicting s m ws = list_any (λ w. (w.session == s) && not (are_compatible w.mode m)) ws
+
+-- `u` is one of these granted sessions, and `s` has a request in this queue that fits beside it
+abbrev pub has_fitting_beside : ℕ → ℕ → List SessionMode → List SessionMode → Bool
+has_fitting_beside s u gs ws = list_any (λ g. (g.session == u) && has_fitting s (Some g.mode) ws) gs
+
+-- the holders after these requests are granted, the first one first
+abbrev pub with_holders : List SessionMode → List SessionMode → List SessionMode
+with_holders [] hs = hs
+with_holders (g ∷ gs) hs = with_holders gs (with_holder g hs)
+
+-- the first `n` requests of the queue are granted and not taken off it yet; the rows are still those of the holders before
+pub record HasGranted (n : ℕ) (now : View) (w : Waits) : Type 0 where
+  pub before : List SessionMode
+  pub rising : Ascends before
+  pub holders : now.holders ≡ with_holders (take n now.waiting) before
+  pub written : AreWritten (record { holders = before; waiting = now.waiting }) w

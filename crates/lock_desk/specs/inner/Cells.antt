@@ -90,6 +90,11 @@ abbrev pub view_after_giving_up : GivenUp → ℕ → View → View
 view_after_giving_up claim.Lock s v = record { holders = without s v.holders; waiting = v.waiting }
 view_after_giving_up claim.Request s v = record { holders = v.holders; waiting = without s v.waiting }
 
+-- a request is given up
+abbrev pub is_request : GivenUp → Bool
+is_request claim.Lock = false
+is_request claim.Request = true
+
 -- the lock of session `s`, or its request, is removed, and the queue is promoted
 abbrev pub view_after_freeing : GivenUp → ℕ → View → View
 view_after_freeing p s v = view_after_promotion (view_after_giving_up p s v)

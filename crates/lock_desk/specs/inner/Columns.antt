@@ -1,6 +1,6 @@
 -- Internal to this crate, cited by no public contract: the holders of a resource as two columns, one of session numbers
 -- and one of mode codes.
-use Rattle.std.specs.Prelude.{◌≡◌, ℕ, ◌<◌, ◌≤◌, List, [], ◌∷◌, length, map, min, slice_index_or, vec_capacity}
+use Rattle.std.specs.Prelude.{◌≡◌, ℕ, ◌<◌, ◌≤◌, List, [], ◌∷◌, length, map, min, slice_index_or}
 use Rattle.lock_modes.specs.Codes.{code_of, mode_of_code}
 use Rattle.lock_desk.specs.declared.cells.SessionMode.{SessionMode}
 use Rattle.lock_desk.specs.declared.holder_columns.Columns.TheInside.{Inside}
@@ -21,11 +21,11 @@ side_by_side [] cs = []
 side_by_side (s ∷ ss) [] = []
 side_by_side (s ∷ ss) (c ∷ cs) = record { session = s; mode = mode_of_code c } ∷ side_by_side ss cs
 
--- what contracts see of the columns: the holders, and the lesser capacity of the two columns
+-- what contracts see of the columns: the holders, and the lesser of the capacities of the two small vectors
 abbrev pub holders_of : Inside → HolderList
 holders_of a = record {
   items = side_by_side a.sessions.items a.codes.items;
-  capacity = min (vec_capacity a.sessions) (vec_capacity a.codes);
+  capacity = min a.sessions.capacity a.codes.capacity;
 }
 
 -- both columns are as long as the list of holders, codes are codes of modes, and session numbers increase

@@ -1,4 +1,4 @@
--- Internal to this crate, cited by no public contract: holders that are a single one inline, or several in columns.
+-- Internal to this crate, cited by no public contract: holders that are a single one by itself, or several in columns.
 use Rattle.std.specs.Prelude.{◌≡◌, max, List, [], ◌∷◌, Option, Some, None}
 use Rattle.lock_desk.specs.declared.cells.SessionMode.{SessionMode}
 use Rattle.lock_desk.specs.declared.holders.Holders.TheInside.{Inside}
@@ -16,6 +16,6 @@ holders_of a = record {
   capacity = max 1 a.columns.capacity;
 }
 
--- while a single holder is kept inline, the columns are empty
+-- while a single holder is kept by itself, the columns are empty
 abbrev pub IsSingleOrColumns : Inside → Type 0
 IsSingleOrColumns a = (h : SessionMode) → a.single ≡ Some h → a.columns.items ≡ []

@@ -28,6 +28,20 @@ impl LockTable {
         self.cells.find_or_insert_key(resource)
     }
 
+    /// The likely place of the cell of `resource`, which `session` converts: a guess, if there is one. Nothing that
+    /// contracts see changes.
+    fn likely_converted(&mut self, session: u16, resource: Resource) -> Option<usize>
+        requires some { 1 ≤ session }
+        requires within { session ≤ vec_len self.old.lockers }
+        requires whole { IsWhole self.old }
+        requires ready { IsReadyTable self.old }
+        ensures same { IsSameSeen self.old self.new }
+        ensures kept { DoesKeep self.old self.new }
+    {
+        let locker = &mut self.lockers[position_of(session)];
+        locker.likely_converted(resource)
+    }
+
     /// Prepares the locker of `session` for a release: a long list of locks gets an index. Nothing that contracts
     /// see changes.
     fn index(&mut self, session: u16)
@@ -110,10 +124,14 @@ impl LockTable {
         ensures count { self.new.count ≤ self.old.count + 1 }
         ensures kept { DoesKeep self.old self.new }
     {
+        let likely = self.likely_converted(session, resource);
         if let Some(why) = self.idle_refusal(session) {
             return Ok(Reply::Refused(why));
         }
-        let place = self.cells.place_of(resource);
+        let place = match likely {
+            Some(likely) => self.cells.place_near(likely, resource),
+            None => self.cells.place_of(resource),
+        };
         let held = self.cells.mode_at(place, session);
         if let Some(why) = self.convert_refusal(session, held, resource, mode) {
             return Ok(Reply::Refused(why));

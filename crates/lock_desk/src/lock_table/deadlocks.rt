@@ -70,6 +70,7 @@ impl LockTable {
     }
 
     /// Resolves the deadlocks of `session`, which calls: its own wait isn't listed, if it ends.
+    #[inline(never)]
     pub(super) fn resolve_for(&mut self, session: u16)
         requires some { 1 ≤ session }
         requires within { session ≤ vec_len self.old.lockers }

@@ -12,6 +12,7 @@ use lock_tree::Resource;
 
 impl LockTable {
     /// Whether `resource` has a parent that `session` does not hold in a mode that covers the need of `mode`.
+    #[inline(always)]
     fn lacks_parent(&self, session: u16, resource: Resource, mode: Mode) -> bool
         requires some { 1 ≤ session }
         requires within { session ≤ vec_len self.now.lockers }

@@ -22,6 +22,7 @@ use std::alloc::AllocError;
 impl LockTable {
     /// Requests a lock on a resource that the session does not hold. If memory is refused, nothing that contracts
     /// see changes.
+    #[inline(always)]
     fn lock(
         &mut self,
         session: u16,
@@ -60,6 +61,7 @@ impl LockTable {
 
     /// Requests a higher mode on a resource that the session holds. If memory is refused, nothing that contracts see
     /// changes.
+    #[inline(always)]
     fn convert(
         &mut self,
         session: u16,
@@ -96,6 +98,7 @@ impl LockTable {
 
     /// Requests the mode `target`: nothing to do if `held` covers it, else a conversion or a lock. `held` is what
     /// the session holds on `resource`.
+    #[inline(always)]
     fn request(
         &mut self,
         session: u16,
@@ -130,6 +133,7 @@ impl LockTable {
     ///
     /// If the request waits, resolves the deadlocks that it closes. So the reply can be `Deadlock`, or `Granted` if
     /// the end of a victim's request has freed the resource.
+    #[inline(always)]
     pub(super) fn ask(
         &mut self,
         session: u16,

@@ -1,8 +1,13 @@
-use Rattle.std.proofs.Common.{◌≡◌, suc, vec_len, drop, ◌∙◌, arith, ap, sym, refl, inl}
+use Rattle.std.proofs.Common.{◌≡◌, suc, ◌+◌, ◌≤◌, List, vec_len, take, drop, ◌∙◌, arith, ap, sym, refl, inl, subst}
+use Rattle.lock_desk.specs.declared.cells.SessionMode.{SessionMode}
+use Rattle.lock_desk.specs.inner.Cells.{view_of, times, with_holder}
+use Rattle.lock_desk.specs.inner.Blocking.{AreOfSessions, AreWritten, DoFollow, with_holders}
 use Rattle.lock_desk.specs.inner.Lockers.{standings_of}
 use Rattle.lock_desk.proofs.ResourceViews.{both, next-passed, next-within, promoted-next, once-next}
 use Rattle.lock_desk.proofs.Promotions.{grant-some, grant-within, grant-waits_locker, grant-agree, grant-same, grant-listed}
 use Rattle.lock_desk.proofs.EndedWaits.{list-on, list-none}
+use Rattle.lock_desk.proofs.SessionsInRange.{numbered-agree}
+use Rattle.lock_desk.proofs.NarrowingWaits.{with-next}
 use Rattle.lock_desk.proofs.promotion.promote.Goals as goal
 
 pub admit-shared-requires-clause-rising : goal.admit-shared-requires-clause-rising
@@ -50,6 +55,14 @@ loop-next-preserved c =
     let len = ap (λ w. vec_len w) same in
     record {
       view = rw same (promoted-next v c.in-Some.next _ n ∙ k.view);
+      queue = same ∙ k.queue;
+      held =
+          let step : suc c.loop-next.granted ≡ c.loop-next.granted + 1 = omega arith in
+          let init = c.args.cell.now.holders.items in
+          c.admit-shared.ensures.holders
+          ∙ (ap (with_holder c.in-Some.next) k.held
+          ∙ (sym (with-next init ws c.loop-next.granted c.in-Some.next (drop (c.loop-next.granted + 1) ws) n.first)
+          ∙ (λ i. with_holders (take (step i) (sym same i).items) init)));
       passed = omega (arith, within, len, c.loop-next.cell.waiting.ok.0);
       room = omega (arith, k.room, len, c.admit-shared.ensures.len, c.admit-shared.ensures.capacity);
       shared = c.admit-shared.ensures.shared;
@@ -77,6 +90,8 @@ add-requires-clause-within c =
 pub loop-next-init : goal.loop-next-init
 loop-next-init c = record {
   view = refl;
+  queue = refl;
+  held = refl;
   passed = omega arith;
   room = omega (arith, c.requires.room);
   shared = tt;
@@ -86,3 +101,38 @@ loop-next-init c = record {
   len = refl;
   listed = list-none 0 c.args.lockers.now.items c.args.ended.now;
 }
+
+pub dequeue_granted-requires-clause-within : goal.dequeue_granted-requires-clause-within
+dequeue_granted-requires-clause-within c =
+    let k = c.loop-next.invariant in
+    let n = c.args.waits.now.rows.sessions in
+    let now = both c.loop-next.cell.holders.items (drop c.loop-next.granted c.loop-next.cell.waiting.items) in
+    let first = numbered-agree n c.args.lockers.now.items (omega (arith, c.requires.long, c.args.lockers.now.ok.0)) c.args.resource (view_of c.args.cell.now) c.requires.agree c.requires.once in
+    let last = numbered-agree n c.loop-next.lockers.items (omega (arith, c.requires.long, k.len, c.loop-next.lockers.ok.0)) c.args.resource now k.agree k.once in
+    record { holders = last.holders; waiting = subst (AreOfSessions n) (sym (ap (λ w. w.items) k.queue)) first.waiting }
+
+pub dequeue_granted-requires-clause-once : goal.dequeue_granted-requires-clause-once
+dequeue_granted-requires-clause-once c = λ s. subst (λ (ws : List SessionMode). times s ws ≤ 1) (sym (ap (λ w. w.items) c.loop-next.invariant.queue)) (c.requires.once.once s)
+
+pub dequeue_granted-requires-clause-follows : goal.dequeue_granted-requires-clause-follows
+dequeue_granted-requires-clause-follows c =
+    let k = c.loop-next.invariant in
+    let before = c.args.cell.now.holders.items in
+    record {
+      before = before;
+      rising = c.requires.once.rising;
+      holders = k.held;
+      written = subst (λ (ws : List SessionMode). AreWritten (both before ws) c.args.waits.now) (sym (ap (λ w. w.items) k.queue)) c.requires.written;
+    }
+
+pub returns-clause-rows : goal.returns-clause-rows
+returns-clause-rows c =
+    let k = c.loop-next.invariant in
+    let before = c.args.cell.now.holders.items in
+    subst (λ (ws : List SessionMode). DoFollow (both before ws) (view_of c.dequeue_granted.new.cell) c.args.waits.now c.dequeue_granted.new.waits) (ap (λ w. w.items) k.queue)
+    (c.dequeue_granted.ensures.rows (record {
+      before = before;
+      rising = c.requires.once.rising;
+      holders = k.held;
+      written = subst (λ (ws : List SessionMode). AreWritten (both before ws) c.args.waits.now) (sym (ap (λ w. w.items) k.queue)) c.requires.written;
+    }))

@@ -1,7 +1,8 @@
-use Rattle.std.proofs.Common.{◌≡◌, ◌+◌, ◌-◌, ◌≤◌, true, length, drop, vec_len, IfSome}
+use Rattle.std.proofs.Common.{◌≡◌, ◌+◌, ◌-◌, ◌≤◌, true, length, take, drop, vec_len, IfSome}
 use Rattle.lock_desk.specs.inner.Cells.{go_with, view_of, view_after_promotion, IsOnce}
 use Rattle.lock_desk.specs.inner.Lockers.{standings_of, AreSameOrGranted, DoAgree}
 use Rattle.lock_desk.specs.inner.Ended.{DoList}
+use Rattle.lock_desk.specs.inner.Blocking.{with_holders}
 use Rattle.lock_desk.proofs.ResourceViews.{both}
 use Rattle.lock_desk.proofs.promotion.promote.Given as goal
 
@@ -10,6 +11,8 @@ invariant-loop-next l =
     let now = both l.cell.holders.items (drop l.granted l.cell.waiting.items) in
     record {
       view : view_after_promotion now ≡ view_after_promotion (view_of l.initial.cell);
+      queue : l.cell.waiting ≡ l.initial.cell.waiting;
+      held : l.cell.holders.items ≡ with_holders (take l.granted l.cell.waiting.items) l.initial.cell.holders.items;
       passed : l.granted ≤ vec_len l.cell.waiting;
       room : length l.cell.holders.items + vec_len l.cell.waiting ≤ l.cell.holders.capacity + l.granted;
       shared : IfSome l.shared (λ m. go_with m l.cell.holders.items ≡ true);

@@ -1,16 +1,15 @@
-use Rattle.std.proofs.Common.{◌+◌, ◌∙◌, ap, arith, sym, subst, refl, length, set}
+use Rattle.std.proofs.Common.{◌∙◌, ap, arith, sym, subst, refl, length, set, Option}
 use Rattle.std.proofs.lemmas.Bool.{not-true, not-false}
-use Rattle.waits_for.specs.Pairs.{pairs_of}
 use Rattle.lock_tree.specs.Paths.{same_path}
+use Rattle.lock_desk.specs.declared.cells.Cell.{Cell}
 use Rattle.lock_desk.specs.inner.Tables.{in_use}
-use Rattle.lock_desk.specs.inner.Cells.{View, Table, view_of, view_in, is_busy}
-use Rattle.lock_desk.specs.inner.Blocking.{IsOfSessions}
+use Rattle.lock_desk.specs.inner.Cells.{View, Table, view_of, view_in, has_session, view_after_giving_up, is_busy}
+use Rattle.lock_desk.specs.inner.Blocking.{IsOfSessions, AreWritten}
 use Rattle.lock_desk.specs.inner.Lockers.{standings_of, DoAgree}
 use Rattle.lock_desk.proofs.CellTable.{kept-at, idle-view}
 use Rattle.lock_desk.proofs.CellGivesUp.{view-left, view-promoted, once-there, free-kept, free-idle, agree-there}
 use Rattle.lock_desk.proofs.Places.{length-beside, apart-in_use, cell-within, resource-within, long-still, idle-still, there, written-cell, written-entry, wrote}
-use Rattle.lock_desk.proofs.SessionsInRange.{numbered-agree}
-use Rattle.lock_desk.proofs.WritingWaits.{emptied-still, follows-freed}
+use Rattle.lock_desk.proofs.NarrowingWaits.{still-waits, written-mid, follows-freeing}
 use Rattle.lock_desk.proofs.cell_table.CellTable.free_at.Goals as goal
 
 pub index_mut-cell-requires : goal.index_mut-cell-requires
@@ -18,17 +17,6 @@ index_mut-cell-requires c =
     let rs = in_use c.self.inside.resources.keys c.self.inside.has_provisional in
     let e = ap (λ (t : Table). t.entries) c.self.view_is in
     omega (arith, cell-within rs c.self.inside.cells.items c.args.self.now.entries e c.args.resource c.args.place c.in-Some.place c.in-Some.is c.requires.place, c.self.inside.cells.ok.0)
-
-pub clear_queue_rows-requires : goal.clear_queue_rows-requires
-clear_queue_rows-requires c =
-    let cs = c.args.self.now.entries in
-    let r = c.args.resource in
-    let rs = in_use c.self.inside.resources.keys c.self.inside.has_provisional in
-    let xs = c.self.inside.cells.items in
-    let e = ap (λ (t : Table). t.entries) c.self.view_is in
-    let x = c.index_mut-cell.result.now in
-    let t = there rs xs cs e r c.args.place c.in-Some.place c.in-Some.is c.requires.place x c.index_mut-cell.ensures.value in
-    record { within = (subst (IsOfSessions c.args.waits.now.rows.sessions) (sym (ap view_in t)) c.requires.within).waiting }
 
 pub give_up-requires-clause-rising : goal.give_up-requires-clause-rising
 give_up-requires-clause-rising c =
@@ -152,16 +140,8 @@ returns-else-is_idle-clause-agree c =
     let t = there rs xs cs e r c.args.place c.in-Some.place c.in-Some.is c.requires.place x c.index_mut-cell.ensures.value in
     agree-there c.args.claim r c.args.session cs x c.give_up.new.self t c.give_up.ensures.view c.promote.new.cell c.promote.ensures.view _ c.promote.ensures.agree
 
-pub write_queue_rows-requires-clause-within : goal.write_queue_rows-requires-clause-within
-write_queue_rows-requires-clause-within c =
-    let long = c.clear_queue_rows.ensures.sessions in
-    numbered-agree c.clear_queue_rows.new.waits.rows.sessions c.promote.new.lockers.items (omega (arith, long, c.requires.long, c.promote.ensures.len, c.promote.new.lockers.ok.0)) c.args.resource (view_of c.promote.new.cell) c.promote.ensures.agree c.promote.ensures.once
-
-pub write_queue_rows-requires-clause-once : goal.write_queue_rows-requires-clause-once
-write_queue_rows-requires-clause-once c = c.promote.ensures.once.once
-
-pub write_queue_rows-requires-clause-empty : goal.write_queue_rows-requires-clause-empty
-write_queue_rows-requires-clause-empty c = λ a b h.
+pub follow_give_up-requires-clause-within : goal.follow_give_up-requires-clause-within
+follow_give_up-requires-clause-within c =
     let cs = c.args.self.now.entries in
     let r = c.args.resource in
     let rs = in_use c.self.inside.resources.keys c.self.inside.has_provisional in
@@ -169,8 +149,47 @@ write_queue_rows-requires-clause-empty c = λ a b h.
     let e = ap (λ (t : Table). t.entries) c.self.view_is in
     let x = c.index_mut-cell.result.now in
     let t = there rs xs cs e r c.args.place c.in-Some.place c.in-Some.is c.requires.place x c.index_mut-cell.ensures.value in
-    let after = view-promoted c.args.claim r c.args.session cs x c.give_up.new.self t c.give_up.ensures.view c.promote.new.cell c.promote.ensures.view in
-    emptied-still c.args.claim c.args.session (a + 1) _ _ _ (ap view_in t) after h (pairs_of c.args.waits.now.rows a b) (c.clear_queue_rows.ensures.pairs a b)
+    (subst (IsOfSessions c.args.waits.now.rows.sessions) (sym (ap view_in t)) c.requires.within).waiting
+
+pub follow_give_up-requires-clause-once : goal.follow_give_up-requires-clause-once
+follow_give_up-requires-clause-once c =
+    let cs = c.args.self.now.entries in
+    let r = c.args.resource in
+    let rs = in_use c.self.inside.resources.keys c.self.inside.has_provisional in
+    let xs = c.self.inside.cells.items in
+    let e = ap (λ (t : Table). t.entries) c.self.view_is in
+    let x = c.index_mut-cell.result.now in
+    let t = there rs xs cs e r c.args.place c.in-Some.place c.in-Some.is c.requires.place x c.index_mut-cell.ensures.value in
+    (kept-at r cs x c.requires.cells t).once
+
+pub follow_give_up-requires-clause-claimed : goal.follow_give_up-requires-clause-claimed
+follow_give_up-requires-clause-claimed c =
+    let cs = c.args.self.now.entries in
+    let r = c.args.resource in
+    let rs = in_use c.self.inside.resources.keys c.self.inside.has_provisional in
+    let xs = c.self.inside.cells.items in
+    let e = ap (λ (t : Table). t.entries) c.self.view_is in
+    let x = c.index_mut-cell.result.now in
+    let t = there rs xs cs e r c.args.place c.in-Some.place c.in-Some.is c.requires.place x c.index_mut-cell.ensures.value in
+    ap (λ (o : Option Cell). has_session c.args.session (view_in o).waiting) t ∙ c.requires.claimed
+
+pub follow_give_up-requires-clause-written : goal.follow_give_up-requires-clause-written
+follow_give_up-requires-clause-written c =
+    let cs = c.args.self.now.entries in
+    let r = c.args.resource in
+    let rs = in_use c.self.inside.resources.keys c.self.inside.has_provisional in
+    let xs = c.self.inside.cells.items in
+    let e = ap (λ (t : Table). t.entries) c.self.view_is in
+    let x = c.index_mut-cell.result.now in
+    let t = there rs xs cs e r c.args.place c.in-Some.place c.in-Some.is c.requires.place x c.index_mut-cell.ensures.value in
+    subst (λ (v : View). AreWritten v c.args.waits.now) (sym (ap view_in t)) c.requires.written
+
+pub promote-requires-clause-written : goal.promote-requires-clause-written
+promote-requires-clause-written c =
+    let v = view_of c.index_mut-cell.result.now in
+    let left = view_after_giving_up c.args.claim c.args.session v in
+    let mid = c.follow_give_up.new.waits in
+    subst (λ (y : View). AreWritten y mid) (sym c.give_up.ensures.view) (written-mid v left c.args.waits.now mid c.follow_give_up.ensures (λ s. still-waits c.args.claim c.args.session s v))
 
 pub returns-then-is_idle-clause-rows : goal.returns-then-is_idle-clause-rows
 returns-then-is_idle-clause-rows c =
@@ -181,10 +200,8 @@ returns-then-is_idle-clause-rows c =
     let e = ap (λ (t : Table). t.entries) c.self.view_is in
     let x = c.index_mut-cell.result.now in
     let t = there rs xs cs e r c.args.place c.in-Some.place c.in-Some.is c.requires.place x c.index_mut-cell.ensures.value in
-    let cleared = c.clear_queue_rows.ensures in
-    let wrote = c.write_queue_rows.ensures in
-    follows-freed _ (view_of x) _ (view_of c.promote.new.cell) c.args.waits.now c.clear_queue_rows.new.waits c.write_queue_rows.new.waits (ap view_in t)
-    (view-promoted c.args.claim r c.args.session cs x c.give_up.new.self t c.give_up.ensures.view c.promote.new.cell c.promote.ensures.view) cleared.sessions wrote.sessions cleared.numbers wrote.numbers cleared.pairs wrote.pairs
+    follows-freeing c.args.claim c.args.session (view_of x) (view_of c.give_up.new.self) (view_of c.promote.new.cell) _ _ c.args.waits.now c.follow_give_up.new.waits c.promote.new.waits c.follow_give_up.ensures c.give_up.ensures.view c.promote.ensures.rows
+    (ap view_in t) (view-promoted c.args.claim r c.args.session cs x c.give_up.new.self t c.give_up.ensures.view c.promote.new.cell c.promote.ensures.view)
 
 pub returns-else-is_idle-clause-rows : goal.returns-else-is_idle-clause-rows
 returns-else-is_idle-clause-rows c =
@@ -195,7 +212,5 @@ returns-else-is_idle-clause-rows c =
     let e = ap (λ (t : Table). t.entries) c.self.view_is in
     let x = c.index_mut-cell.result.now in
     let t = there rs xs cs e r c.args.place c.in-Some.place c.in-Some.is c.requires.place x c.index_mut-cell.ensures.value in
-    let cleared = c.clear_queue_rows.ensures in
-    let wrote = c.write_queue_rows.ensures in
-    follows-freed _ (view_of x) _ (view_of c.promote.new.cell) c.args.waits.now c.clear_queue_rows.new.waits c.write_queue_rows.new.waits (ap view_in t)
-    (view-promoted c.args.claim r c.args.session cs x c.give_up.new.self t c.give_up.ensures.view c.promote.new.cell c.promote.ensures.view) cleared.sessions wrote.sessions cleared.numbers wrote.numbers cleared.pairs wrote.pairs
+    follows-freeing c.args.claim c.args.session (view_of x) (view_of c.give_up.new.self) (view_of c.promote.new.cell) _ _ c.args.waits.now c.follow_give_up.new.waits c.promote.new.waits c.follow_give_up.ensures c.give_up.ensures.view c.promote.ensures.rows
+    (ap view_in t) (view-promoted c.args.claim r c.args.session cs x c.give_up.new.self t c.give_up.ensures.view c.promote.new.cell c.promote.ensures.view)

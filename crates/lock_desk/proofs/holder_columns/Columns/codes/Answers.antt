@@ -8,4 +8,4 @@ pub returns : goal.returns
 returns c =
     let hs = c.args.self.now.items in
     let o = columns-of c.self.inside c.args.self.now c.self.view_is c.self.invariant in
-    c.union.ensures ∙ (ap union_of c.deref.ensures.value ∙ (ap union_of o.codes ∙ codes-column hs))
+    c.union.ensures ∙ (ap union_of c.as_slice.ensures ∙ (ap union_of o.codes ∙ codes-column hs))

@@ -14,7 +14,9 @@ returns c =
     let n = c.args.index in
     let d : SessionMode = record { session = 0; mode = NL } in
     let o = columns-of c.self.inside c.args.self.now c.self.view_is c.self.invariant in
-    let session : c.index-session.result.now ≡ (get_or hs n d).session = c.index-session.ensures ∙ reads number_at c.self.inside.sessions.items hs o.sessions n c.index-session.result.now d c.requires in
-    let code : c.index-code.result.now ≡ code_at (get_or hs n d) = c.index-code.ensures ∙ reads code_at c.self.inside.codes.items hs o.codes n c.index-code.result.now d c.requires in
+    let ss = c.as_slice-sessions.result.now in
+    let cs = c.as_slice-codes.result.now in
+    let session : get_or ss n 0 ≡ (get_or hs n d).session = reads number_at ss hs (c.as_slice-sessions.ensures ∙ o.sessions) n 0 d c.requires in
+    let code : get_or cs n 0 ≡ code_at (get_or hs n d) = reads code_at cs hs (c.as_slice-codes.ensures ∙ o.codes) n 0 d c.requires in
     let mode : c.from_code_or_nl.result ≡ (get_or hs n d).mode = c.from_code_or_nl.ensures ∙ (ap mode_of_code code ∙ mode_of_code-code (get_or hs n d).mode) in
     take_more hs n d c.requires ∙ (λ i. take n hs ++ record { session = sym session i; mode = sym mode i } ∷ [])

@@ -17,7 +17,8 @@ returns-in-Own c =
     let d : SessionMode = record { session = 0; mode = NL } in
     let own : IsOwn c.args.session hs n = c.in-Own.ensures in
     let o = columns-of c.self.inside c.args.self.now c.self.view_is c.self.invariant in
-    let at : c.index.result.now ≡ code_at (get_or hs n d) = c.index.ensures ∙ reads code_at c.self.inside.codes.items hs o.codes n c.index.result.now d own.within in
+    let cs = c.as_slice-codes.result.now in
+    let at : get_or cs n 0 ≡ code_at (get_or hs n d) = reads code_at cs hs (c.as_slice-codes.ensures ∙ o.codes) n 0 d own.within in
     ap (λ (m : Mode). Some m) (c.from_code_or_nl.ensures ∙ (ap mode_of_code at ∙ mode_of_code-code (get_or hs n d).mode)) ∙ sym (mode-own c.args.session hs n d own)
 
 pub returns-in-Between : goal.returns-in-Between

@@ -1,17 +1,17 @@
-use Rattle.std.proofs.Common.{slice_set, subst}
+use Rattle.std.proofs.Common.{subst}
 use Rattle.lock_desk.specs.inner.Cells.{with_holder}
 use Rattle.lock_desk.specs.inner.Holders.{IsOwn, IsBetween, IsPlaceOf}
 use Rattle.lock_desk.proofs.Rising.{length-with}
 use Rattle.lock_desk.proofs.Columns.{AreOf, beside-as, are-columns, columns-of, set-in, insert-in}
 use Rattle.lock_desk.proofs.holder_columns.Columns.put.Goals as goal
 
-own : (c : goal.After-self-1) → AreOf c.self.inside.sessions.items (slice_set c.self.inside.codes.items c.in-Own.index c.code-code.result) (with_holder c.args.holder c.args.self.now.items)
+own : (c : goal.After-write_at) → AreOf c.self.inside.sessions.items c.write_at.new.codes.items (with_holder c.args.holder c.args.self.now.items)
 own c =
     let a = c.self.inside in
     let h = c.args.holder in
     let hs = c.args.self.now.items in
     let place : IsOwn h.session hs c.in-Own.index = subst (IsPlaceOf h.session hs) c.in-Own.is c.requires.place in
-    set-in a.sessions.items a.codes.items hs c.in-Own.index h c.code-code.result (columns-of a c.args.self.now c.self.view_is c.self.invariant) place c.code-code.ensures
+    set-in a.sessions.items a.codes.items _ hs c.in-Own.index h c.code-code.result (columns-of a c.args.self.now c.self.view_is c.self.invariant) place c.code-code.ensures c.write_at.ensures.items
 
 between : (c : goal.After-insert_at-in-Between) → AreOf c.insert_at.new.list.items c.insert_at-in-Between.new.list.items (with_holder c.args.holder c.args.self.now.items)
 between c =

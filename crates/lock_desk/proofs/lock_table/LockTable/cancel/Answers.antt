@@ -5,7 +5,7 @@ use Rattle.lock_desk.proofs.Asking.{within}
 use Rattle.lock_desk.proofs.Agreement.{standings-same}
 use Rattle.lock_desk.proofs.BeginAndEnd.{cancel-agree, cancelled-same, has-cancelled, cancel-keeps, same-seen, same-cancelled, same-whole}
 use Rattle.lock_desk.proofs.SessionsInRange.{numbered-whole}
-use Rattle.lock_desk.proofs.RowsOfTheTable.{ready-same}
+use Rattle.lock_desk.proofs.RowsOfTheTable.{ready-same, request-there, written-at}
 use Rattle.lock_desk.specs.inner.Requests.{wanted_in}
 use Rattle.lock_desk.proofs.EndedWaits.{list-own, list-freed}
 use Rattle.lock_desk.proofs.lock_table.LockTable.cancel.Goals as goal
@@ -76,3 +76,12 @@ pub returns-in_default-clause-listed : goal.returns-in_default-clause-listed
 returns-in_default-clause-listed c =
     let d = c.args.self.now in
     list-own c.args.session d.lockers.items c.cancel.new.self d.ended (within d c.args.session c.position_of.ensures c.requires.some c.requires.within).session
+
+pub free_at-requires-clause-claimed : goal.free_at-requires-clause-claimed
+free_at-requires-clause-claimed c =
+    let d = c.args.self.now in
+    let here = within d c.args.session c.position_of.ensures c.requires.some c.requires.within in
+    request-there c.args.session c.in-Some.resource d c.requires.whole (ap (λ (x : Standing). x.wanted) (standing-here d.lockers.items c.args.session c.index_mut-locker.result.now here c.index_mut-locker.ensures.value) ∙ sym c.in-Some.ensures.resource)
+
+pub free_at-requires-clause-written : goal.free_at-requires-clause-written
+free_at-requires-clause-written c = written-at c.args.self.now c.in-Some.resource c.requires.whole c.requires.ready

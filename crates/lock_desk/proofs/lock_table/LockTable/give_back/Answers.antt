@@ -1,10 +1,11 @@
-use Rattle.std.proofs.Common.{rules, arith, refl, ap, sym, ◌∙◌}
+use Rattle.std.proofs.Common.{rules, arith, length, refl, ap, sym, ◌∙◌}
 use Rattle.lock_desk.proofs.Asking.{within}
 use Rattle.lock_desk.proofs.GivingAllBack.{back-agree, back-gives, back-keeps}
 use Rattle.lock_desk.proofs.SessionsInRange.{numbered-whole}
 use Rattle.lock_desk.specs.inner.Requests.{wanted_in}
 use Rattle.lock_desk.specs.inner.Lockers.{Standing}
 use Rattle.lock_desk.proofs.LockerStandings.{standing-here}
+use Rattle.lock_desk.proofs.RowsOfTheTable.{written-at}
 use Rattle.lock_desk.proofs.EndedWaits.{list-freed}
 use Rattle.lock_desk.proofs.lock_table.LockTable.give_back.Goals as goal
 
@@ -31,3 +32,24 @@ returns-in-Some-clause-listed c =
     let here = within d c.args.session c.position_of.ensures c.requires.some c.requires.within in
     let idle = ap wanted_in c.in-Some.ensures.wanted ∙ (ap (λ (x : Standing). x.wanted) (sym (standing-here d.lockers.items c.args.session c.index_mut-locker.result.now here c.index_mut-locker.ensures.value)) ∙ c.requires.idle) in
     list-freed c.args.session d.lockers.items c.release_last.new.self _ d.ended _ here idle c.free_at.ensures.listed
+
+pub free_at-requires-clause-written : goal.free_at-requires-clause-written
+free_at-requires-clause-written c = written-at c.args.self.now c.in-Some.last.resource c.requires.whole c.requires.ready
+
+pub returns-in_default-clause-back : goal.returns-in_default-clause-back
+returns-in_default-clause-back c =
+    let d = c.args.self.now in
+    let here = within d c.args.session c.position_of.ensures c.requires.some c.requires.within in
+    absurd (let none = ap (λ (x : Standing). length x.held) (standing-here d.lockers.items c.args.session c.index_mut-locker.result.now here c.index_mut-locker.ensures.value) ∙ ap length c.in_default.ensures.none in omega (arith, none, c.requires.holds))
+
+pub returns-in_default-clause-listed : goal.returns-in_default-clause-listed
+returns-in_default-clause-listed c =
+    let d = c.args.self.now in
+    let here = within d c.args.session c.position_of.ensures c.requires.some c.requires.within in
+    absurd (let none = ap (λ (x : Standing). length x.held) (standing-here d.lockers.items c.args.session c.index_mut-locker.result.now here c.index_mut-locker.ensures.value) ∙ ap length c.in_default.ensures.none in omega (arith, none, c.requires.holds))
+
+pub returns-in_default-clause-kept : goal.returns-in_default-clause-kept
+returns-in_default-clause-kept c =
+    let d = c.args.self.now in
+    let here = within d c.args.session c.position_of.ensures c.requires.some c.requires.within in
+    absurd (let none = ap (λ (x : Standing). length x.held) (standing-here d.lockers.items c.args.session c.index_mut-locker.result.now here c.index_mut-locker.ensures.value) ∙ ap length c.in_default.ensures.none in omega (arith, none, c.requires.holds))

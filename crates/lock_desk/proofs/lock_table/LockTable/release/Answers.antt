@@ -6,6 +6,7 @@ use Rattle.lock_desk.proofs.LockerStandings.{standing-here}
 use Rattle.lock_desk.proofs.Asking.{within}
 use Rattle.lock_desk.proofs.GivingUp.{gives-lock, freed-agree, has-freed, freed-keeps}
 use Rattle.lock_desk.proofs.SessionsInRange.{numbered-whole}
+use Rattle.lock_desk.proofs.RowsOfTheTable.{written-at}
 use Rattle.lock_desk.proofs.EndedWaits.{list-freed}
 use Rattle.lock_desk.proofs.lock_table.LockTable.release.Goals as goal
 
@@ -43,3 +44,6 @@ returns-clause-listed c =
     let here = within d c.args.session c.position_of.ensures c.requires.some c.requires.within in
     let idle = ap wanted_in c.release.ensures.wanted ∙ (ap (λ (x : Standing). x.wanted) (sym (standing-here d.lockers.items c.args.session c.index_mut-locker.result.now here c.index_mut-locker.ensures.value)) ∙ c.requires.can.idle) in
     list-freed c.args.session d.lockers.items c.release.new.self _ d.ended _ here idle c.free_at.ensures.listed
+
+pub free_at-requires-clause-written : goal.free_at-requires-clause-written
+free_at-requires-clause-written c = written-at c.args.self.now c.args.resource c.requires.whole c.requires.ready
