@@ -7,8 +7,8 @@ Each case has calls that go a fast way, and a bound on the instructions of one o
 behind what leads up to them, and what leads up alone, each once and twice: the count is the difference of the differences. Locks
 of a batch are served by a pass of an office, through the library for C (checks/instructions.c). A bound is some 20 per cent above
 what was counted when it was set (more for the smallest count), and below what the calls cost without the fast way, as tried in
-builds in which it was broken; for locks of a batch, with locks of two databases in turn, which make no run. If calls have become
-dearer for a good reason, set the bound anew.
+builds in which it was broken; for locks of a batch, with locks of two databases in turn, which make no run; for a second holder,
+with the least that two requests for memory take. If calls have become dearer for a good reason, set the bound anew.
 
 Memory is the peak of `glm replay` over short transactions on ever new resources, against as many rows on few resources.
 
@@ -93,9 +93,9 @@ CASES = [
     ("a single holder is kept in its cell, without a list", first_locks, None, 915),
     ("the parent's cell is found at the noted place, without a hash", parents, None, 105),
     ("the cell of a lock that ends is found at the noted place, without a hash", ends, 4000, 205),
-    ("modes of many holders are tested 16 at a time", readers_beside_readers, None, 500),
+    ("modes of many holders are tested 16 at a time", readers_beside_readers, None, 575),
     ("a wait for many holders is written by their mask", writers_beside_readers, None, 2300),
-    ("an idle cell keeps its lists for the next resource", new_resources, None, 35),
+    ("a second holder joins the first without memory", new_resources, None, 58),
 ]
 # 32 locks of a batch are granted together: the most instructions of a lock, with all that a pass does for it
 MOST_OF_A_RUN = 790
