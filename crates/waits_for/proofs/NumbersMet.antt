@@ -1,5 +1,5 @@
 -- Session numbers whose codes have a bit of a mask.
-use Rattle.std.proofs.Common.{◌≡◌, ℕ, zero, suc, ◌+◌, ◌-◌, ◌<◌, ◌≤◌, ◌⊎◌, inl, inr, Bool, true, false, not, ◌&&◌, ◌||◌, eqb, leb, List, [], ◌∷◌, length, get_or, take, refl, ◌∙◌, ap, arith}
+use Rattle.std.proofs.Common.{◌≡◌, ℕ, zero, suc, ◌+◌, ◌-◌, ◌<◌, ◌≤◌, inl, inr, Bool, true, false, cond, not, ◌&&◌, ◌||◌, eqb, leb, List, [], ◌∷◌, length, get_or, take, refl, sym, ◌∙◌, ap, arith}
 use Rattle.std.proofs.lemmas.Bool.{and_parts, or_cases, eqb-true, false≢true}
 use Rattle.std.proofs.lemmas.Bool.Decides.{nat_tests}
 use Rattle.mode_lanes.specs.Masks.{meets}
@@ -37,21 +37,52 @@ met-within mask m (n ∷ ns) (c ∷ cs) all u h = elim (or_cases (eqb n (u + 1) 
 ]
 
 -- Bits added for some numbers, and for one more, are the bits added for all of them.
-pub bits-next : (b c d e f : Bool) → ((b || (c && (d && e))) || (c && (d && f))) ≡ (b || (c && (d && (e || f))))
-bits-next true c d e f = refl
-bits-next false false d e f = refl
-bits-next false true false e f = refl
-bits-next false true true e f = refl
+pub bits-next : (b c e f : Bool) → ((b || (c && e)) || (c && f)) ≡ (b || (c && (e || f)))
+bits-next true c e f = refl
+bits-next false false e f = refl
+bits-next false true e f = refl
 
--- The bit that is set for a number, which is not the session's own, is the bit of that number.
-pub bit-comes : (j from own n : ℕ) (was met : Bool) → 1 ≤ n → met ≡ true → (n ≡ own + 1 → ⊥) → (was || eqb j (from + n - 1)) ≡ (was || (leb from j && (not (eqb (j - from) own) && (eqb n (j - from + 1) && met))))
-bit-comes j from own n true met some is other = refl
-bit-comes j from own n false met some is other = grind (arith, nat_tests)
+-- The bit of a number, from a bit on.
+pub bit-of : (j from n : ℕ) → 1 ≤ n → eqb j (from + n - 1) ≡ (leb from j && eqb n (j - from + 1))
+bit-of j from n some = grind (arith, nat_tests)
 
--- No bit is set for a number whose code has no bit of the mask, or which is the session's own.
-pub no_bit-comes : (j from own n : ℕ) (was met : Bool) → (met ≡ false) ⊎ (n ≡ own + 1) → was ≡ (was || (leb from j && (not (eqb (j - from) own) && (eqb n (j - from + 1) && met))))
-no_bit-comes j from own n true met none = refl
-no_bit-comes j from own n false met none = elim none [
-  | inl e ↦ grind (arith, nat_tests, e)
-  | inr e ↦ grind (arith, nat_tests, e)
-]
+-- And is associative.
+pub and-both : (x y z : Bool) → ((x && y) && z) ≡ (x && (y && z))
+and-both true y z = refl
+and-both false y z = refl
+
+-- A mark that is 1 or 0 has the lowest bit if it is 1.
+pub mark-meets : (b : Bool) (m : ℕ) → m ≡ cond b 1 0 → meets 1 m ≡ b
+mark-meets true m e = ap (meets 1) e
+mark-meets false m e = ap (meets 1) e
+
+-- A mark is at most 1.
+pub mark-small : (b : Bool) (m : ℕ) → m ≡ cond b 1 0 → m ≤ 1
+mark-small true m e = omega (arith, e)
+mark-small false m e = omega (arith, e)
+
+-- `x && false` is `false`.
+and-false : (x : Bool) → (x && false) ≡ false
+and-false true = refl
+and-false false = refl
+
+-- Of the bits added, the session's own is taken away if it wasn't set before.
+pub own-cleared : (was mine from added : Bool) → (mine ≡ true → was ≡ false) → ((was || (from && added)) && not mine) ≡ (was || (from && (not mine && added)))
+own-cleared true true from added none = absurd (false≢true (sym (none refl)))
+own-cleared true false from added none = refl
+own-cleared false true true added none = and-false added
+own-cleared false true false added none = refl
+own-cleared false false true true none = refl
+own-cleared false false true false none = refl
+own-cleared false false false added none = refl
+
+-- If it was set before, nothing is to be put back.
+pub own-set : (was mine from added : Bool) → (mine ≡ true → was ≡ true) → (was || (from && added)) ≡ (was || (from && (not mine && added)))
+own-set true mine from added one = refl
+own-set false true from added one = absurd (false≢true (one refl))
+own-set false false from added one = refl
+
+-- The session's own bit, named by its place in all words or in its row.
+pub own-bit : (j from own : ℕ) (x : Bool) → (leb from j && (not (eqb j (from + own)) && x)) ≡ (leb from j && (not (eqb (j - from) own) && x))
+own-bit j from own true = grind (arith, nat_tests)
+own-bit j from own false = grind (arith, nat_tests)

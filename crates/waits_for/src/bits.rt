@@ -1,15 +1,18 @@
 //! Rows of bits, in words of 64.
 
-ghost use Rattle.std.specs.Prelude.{◌≡◌, ◌↔◌, ◌⊎◌, true, false, IsTrue, ℕ, ◌+◌, ◌-◌, ◌*◌, ◌/◌, ◌<◌, ◌≤◌, ◌&&◌, ◌||◌, not, ◌==◌, nat_le, nat_lt, IfSome, IfNone, EachIndex, slice_index, length};
+ghost use Rattle.std.specs.Prelude.{◌≡◌, ◌↔◌, ◌⊎◌, Bool, true, false, IsTrue, ℕ, ◌+◌, ◌-◌, ◌*◌, ◌/◌, ◌<◌, ◌≤◌, ◌&&◌, ◌||◌, not, ◌==◌, nat_le, nat_lt, IfSome, IfNone, EachIndex, slice_index, length, if◌then◌else◌};
 ghost use Rattle.std.specs.Simd.Lanes.{chunk};
 ghost use Rattle.mode_lanes.specs.Masks.{meets};
 ghost use Rattle.waits_for.specs.Pairs.{is_met};
-ghost use Rattle.waits_for.specs.inner.Bits.{has_bit, words_for};
+ghost use Rattle.waits_for.specs.inner.Bits.{has_bit, words_for, HasSetMet};
 
-use mode_lanes::{any_common, or_into};
+use mode_lanes::{any_common, mark_meets, or_into};
 
 /// A row of at most this many words is cleared word by word.
 const FEW_WORDS: usize = 4;
+
+/// The holders that are marked at a time: the lanes of one vector of codes.
+const CHUNK: usize = 16;
 
 /// The number of words of a row with a bit for each session.
 pub(crate) fn words_for(sessions: u16) -> usize
@@ -35,19 +38,46 @@ pub(crate) fn set(words: &mut [u64], k: usize)
     words[k / 64] = word | (1 << (k % 64));
 }
 
-/// Sets bit `from + number - 1` if the code has a bit of the mask, unless this is bit `from + own`.
+/// The mark of a code: 1 if it has a bit of the mask, else 0.
 #[inline(always)]
-fn set_if_met(words: &mut [u64], from: usize, own: usize, number: u16, code: u8, mask: u8)
+fn mark_of(code: u8, mask: u8) -> u8
+    ensures { result ≡ (if meets mask code then 1 else 0) }
+{
+    if code & mask != 0 { 1 } else { 0 }
+}
+
+/// Sets bit `from + number - 1` if the mark is 1. Marks are 0 or 1, and no branch asks which.
+#[inline(always)]
+fn set_marked(words: &mut [u64], from: usize, number: u16, mark: u8)
     requires small { from < 4294967296 }
-    requires small_too { own < 65536 }
     requires some { 1 ≤ number }
+    requires zero_or_one { mark ≤ 1 }
     requires room { (from + number - 1) / 64 < length words.old }
     ensures { (j : ℕ) → has_bit words.new j ≡ (has_bit words.old j
-        || (nat_le from j && (not (j - from == own) && ((number == j - from + 1) && meets mask code)))) }
+        || (nat_le from j && ((number == j - from + 1) && meets 1 mark))) }
 {
-    let number = number as usize;
-    if code & mask != 0 && number != own + 1 {
-        set(words, from + number - 1);
+    let k = from + number as usize - 1;
+    let word = words[k / 64];
+    words[k / 64] = word | ((mark as u64) << (k % 64));
+}
+
+/// Sets bit `from + n - 1` for each of the `CHUNK` numbers n at index `at` whose code has a bit of the mask. One masked
+/// vector tells which codes have one.
+fn set_chunk(words: &mut [u64], from: usize, numbers: &[u16], codes: &[u8], mask: u8, at: usize)
+    requires a_code_each { length codes.now ≡ length numbers.now }
+    requires small { from < 4294967296 }
+    requires some { EachIndex numbers.now (λ k. 1 ≤ slice_index numbers.now k) }
+    requires room { EachIndex numbers.now (λ k. (from + slice_index numbers.now k - 1) / 64 < length words.old) }
+    requires chunk { at + CHUNK ≤ length numbers.now }
+    ensures { (was : ℕ → Bool) → HasSetMet was from mask at numbers.now codes.now words.old
+        → HasSetMet was from mask (at + CHUNK) numbers.now codes.now words.new }
+{
+    let mut marks = [0; CHUNK];
+    mark_meets(&codes[at..at + CHUNK], mask, &mut marks);
+    for k in 0..CHUNK {
+        let number = numbers[at + k];
+        let mark = marks[k];
+        set_marked(words, from, number, mark);
     }
 }
 
@@ -64,15 +94,26 @@ pub(crate) fn set_met(
     requires a_code_each { length codes.now ≡ length numbers.now }
     requires small { from < 4294967296 }
     requires small_too { own < 65536 }
+    requires own_room { (from + own) / 64 < length words.old }
     requires some { EachIndex numbers.now (λ k. 1 ≤ slice_index numbers.now k) }
     requires room { EachIndex numbers.now (λ k. (from + slice_index numbers.now k - 1) / 64 < length words.old) }
     ensures { (j : ℕ) → has_bit words.new j ≡ (has_bit words.old j
         || (nat_le from j && (not (j - from == own) && is_met mask (j - from) numbers.now codes.now))) }
 {
-    for index in 0..numbers.len() {
+    // the session's own bit is set as any other, and then put back
+    let had = has(words, from + own);
+    let mut at = 0;
+    while numbers.len() - at >= CHUNK {
+        set_chunk(words, from, numbers, codes, mask, at);
+        at += CHUNK;
+    }
+    for index in at..numbers.len() {
         let number = numbers[index];
-        let code = codes[index];
-        set_if_met(words, from, own, number, code, mask);
+        let mark = mark_of(codes[index], mask);
+        set_marked(words, from, number, mark);
+    }
+    if !had {
+        unset(words, from + own);
     }
 }
 

@@ -1,5 +1,6 @@
 -- Rows of bits, in words of 64. Only private contracts cite these definitions.
-use Rattle.std.specs.Prelude.{◌≡◌, ℕ, ◌+◌, ◌*◌, ◌/◌, ◌%◌, ◌<◌, ◌≤◌, Bool, false, ◌&&◌, ◌==◌, if◌then◌else◌, nat_lt, zero, suc, List, slice_index}
+use Rattle.std.specs.Prelude.{◌≡◌, ℕ, ◌+◌, ◌-◌, ◌*◌, ◌/◌, ◌%◌, ◌<◌, ◌≤◌, Bool, false, ◌&&◌, ◌||◌, ◌==◌, if◌then◌else◌, nat_le, nat_lt, zero, suc, List, slice_index, take}
+use Rattle.waits_for.specs.Pairs.{is_met}
 use Rattle.std.specs.Int.{bit_at}
 
 -- Bit k is set in a row of words.
@@ -23,3 +24,7 @@ IsClearPast n words = (t u : ℕ) → t < n → n ≤ u → u < 64 * words_for n
 abbrev pub unset_below : ℕ → List ℕ → ℕ
 unset_below zero words = 0
 unset_below (suc n) words = (if has_bit words n then 0 else 1) + unset_below n words
+
+-- The bits that were set, and a bit from `from` on for each of the first n numbers whose code has a bit of the mask.
+abbrev pub HasSetMet : (ℕ → Bool) → ℕ → ℕ → ℕ → List ℕ → List ℕ → List ℕ → Type 0
+HasSetMet was from mask n numbers codes words = (j : ℕ) → has_bit words j ≡ (was j || (nat_le from j && is_met mask (j - from) (take n numbers) (take n codes)))
