@@ -104,6 +104,8 @@ fn reports_the_first_failed_test_of_a_row(rt: HostRuntime) {
         ("0,1,begin,,,Began,01", TraceKind::Reply),
         ("0,1,begin,,,,1", TraceKind::Reply),
         ("0,1,begin,,, began,1", TraceKind::Reply),
+        ("0,1,withdraw,,,withdraw,", TraceKind::Reply),
+        ("0,1,withdraw,1,,withdrawn,", TraceKind::Extra),
         ("0,1,begin,,,began,01", TraceKind::Value),
     ] {
         want_fault(&rt, rt.alloc(), text, kind);
@@ -138,6 +140,10 @@ fn refuses_values_that_do_not_fit_the_reply(rt: HostRuntime) -> Result<(), Fail>
         "refused,isWaiting",
         "refused,IsWaiting ",
         "refused,3",
+        "refused,11",
+        "refused,NotWaiting ",
+        "withdrawn,1",
+        "withdrawn,S",
     ] {
         want_value_fault(&rt, rt.alloc(), end)?;
     }

@@ -16,13 +16,26 @@ fn want_op(rt: &impl Abort, op: Op, number: u32) {
 /// The numbers of the operations, which the library for C passes on; no other number is of an operation.
 #[test]
 fn operations_have_their_numbers(rt: HostRuntime) {
-    assert_eq!(rt; OPS.len(), 7);
-    for (op, number) in OPS.into_iter().zip(1..8) {
+    let rows = [
+        (Op::Begin, 1),
+        (Op::Lock, 2),
+        (Op::Convert, 3),
+        (Op::Poll, 4),
+        (Op::Release, 5),
+        (Op::Commit, 6),
+        (Op::Abort, 7),
+        (Op::Try, 8),
+        (Op::Withdraw, 9),
+    ];
+    assert_eq!(rt; OPS.len(), rows.len());
+    for (listed, (op, number)) in OPS.into_iter().zip(rows) {
+        assert_eq!(rt; listed, op);
         want_op(&rt, op, number);
     }
     assert_eq!(rt; Op::from_number(0), None);
-    assert_eq!(rt; Op::from_number(8), None);
+    assert_eq!(rt; Op::from_number(10), None);
     assert_eq!(rt; Call::Abort.op(), Op::Abort);
+    assert_eq!(rt; Call::Withdraw.op(), Op::Withdraw);
 }
 
 /// Expects this number of a kind of replies.
@@ -33,11 +46,13 @@ fn want_kind(rt: &impl Abort, kind: ReplyKind, number: u32) {
 /// The numbers of the kinds of replies, which the library for C passes on.
 #[test]
 fn kinds_of_replies_have_their_numbers(rt: HostRuntime) {
-    assert_eq!(rt; REPLY_KINDS.len(), 9);
-    for (kind, number) in REPLY_KINDS.into_iter().zip(1..10) {
+    assert_eq!(rt; REPLY_KINDS.len(), 10);
+    for (kind, number) in REPLY_KINDS.into_iter().zip(1..11) {
         want_kind(&rt, kind, number);
     }
     assert_eq!(rt; Reply::Refused(Why::ChildHeld).kind(), ReplyKind::Refused);
+    assert_eq!(rt; Reply::Withdrawn.kind(), ReplyKind::Withdrawn);
+    want_kind(&rt, ReplyKind::Withdrawn, 10);
 }
 
 /// Expects this name and this number of a refusal, and the refusal for this name.
@@ -60,6 +75,8 @@ fn refusals_have_their_names_and_numbers(rt: HostRuntime) {
         ("ParentNotHeld", 7),
         ("ChildHeld", 8),
         ("TooManyLocks", 9),
+        ("WouldWait", 11),
+        ("NotWaiting", 12),
     ];
     assert_eq!(rt; rows.len(), REFUSALS.len());
     for (why, (name, number)) in REFUSALS.into_iter().zip(rows) {
@@ -103,6 +120,8 @@ fn laws_can_be_cited() {
     laws::grants_change_one_lock();
     laws::requests_are_granted_or_wait();
     laws::granted_locks_are_held();
+    laws::tries_never_wait();
+    laws::withdrawals_take_one_request();
     laws::promotions_grant_the_longest_front();
     laws::holders_are_listed_by_session();
     laws::locks_stand_once();

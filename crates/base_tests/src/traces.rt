@@ -74,6 +74,8 @@ fn reads_each_op(rt: HostRuntime) -> Result<(), Fail> {
         ("3,release,7/2/40/1,", Call::Release(record()?)),
         ("3,commit,,", Call::Commit),
         ("3,abort,,", Call::Abort),
+        ("3,try,7/2/40/1,SIX", Call::Try(record()?, Mode::SIX)),
+        ("3,withdraw,,", Call::Withdraw),
     ] {
         let rows = read_trace(rt.alloc(), text.as_bytes(), 3)?;
         let want = TraceRow { session: 3, call };
@@ -143,6 +145,9 @@ fn reports_faults_of_shape_session_and_op_first(rt: HostRuntime) {
         ("1,Begin,,\n", TraceKind::Op),
         ("1, begin,,\n", TraceKind::Op),
         ("1,\"be\"\"gin\",,\n", TraceKind::Op),
+        ("1,Try,1,S\n", TraceKind::Op),
+        ("1,trylock,1,S\n", TraceKind::Op),
+        ("1,withdrawn,,\n", TraceKind::Op),
     ] {
         want_fault(&rt, rt.alloc(), text, 1, kind);
     }
@@ -176,6 +181,13 @@ fn reports_faults_of_path_mode_and_extra_then(rt: HostRuntime) {
         ("1,abort,,S\n", TraceKind::Extra),
         ("1,commit, ,\n", TraceKind::Extra),
         ("1,commit,1,S\n", TraceKind::Extra),
+        ("1,try,,y\n", TraceKind::Path(PathFault::Empty)),
+        ("1,try,1/02,S\n", TraceKind::Path(PathFault::LeadingZero)),
+        ("1,try,1,\n", TraceKind::Mode),
+        ("1,try,1,x\n", TraceKind::Mode),
+        ("1,withdraw,1,\n", TraceKind::Extra),
+        ("1,withdraw,,S\n", TraceKind::Extra),
+        ("1,withdraw,1,S\n", TraceKind::Extra),
     ] {
         want_fault(&rt, rt.alloc(), text, 1, kind);
     }
@@ -389,10 +401,14 @@ pub(crate) const HISTORY_TEXT: &[u8] = b"0,1,begin,,,began,1
 16,1,commit,,,refused,IsDoomed
 17,1,poll,,,deadlock,
 18,1,lock,8,U,granted,U
+19,1,try,7/2/40/1,S,granted,U
+20,1024,try,4294967295,X,refused,WouldWait
+21,1024,withdraw,,,withdrawn,
+22,1,withdraw,,,refused,NotWaiting
 ";
 
 /// Returns the entries of `HISTORY_TEXT`.
-pub(crate) fn history() -> Result<[Entry; 19], Fail> {
+pub(crate) fn history() -> Result<[Entry; 23], Fail> {
     Ok([
         entry(1, Call::Begin, Reply::Began(1)),
         entry(1024, Call::Begin, Reply::Began(18446744073709551615)),
@@ -421,6 +437,14 @@ pub(crate) fn history() -> Result<[Entry; 19], Fail> {
         entry(1, Call::Commit, Reply::Refused(Why::IsDoomed)),
         entry(1, Call::Poll, Reply::Deadlock),
         entry(1, lock(1, 8, Mode::U)?.call, Reply::Granted(Mode::U)),
+        entry(1, Call::Try(record()?, Mode::S), Reply::Granted(Mode::U)),
+        entry(
+            1024,
+            Call::Try(database(4294967295)?, Mode::X),
+            Reply::Refused(Why::WouldWait),
+        ),
+        entry(1024, Call::Withdraw, Reply::Withdrawn),
+        entry(1, Call::Withdraw, Reply::Refused(Why::NotWaiting)),
     ])
 }
 

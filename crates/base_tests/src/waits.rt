@@ -68,6 +68,36 @@ fn a_cycle_of_three_among_1024_sessions(rt: HostRuntime) -> Result<(), Fail> {
     Ok(())
 }
 
+/// Expects session 1022 to reach only 1023, and the other two sessions of the cycle both of them.
+fn want_open_cycle(rt: &impl Abort, rows: &mut Rows)
+    requires { rows.old.sessions ≡ 1024 }
+    ensures { rows.new.sessions ≡ 1024 }
+{
+    assert!(rt; rows.reaches(0, 1022));
+    assert!(rt; rows.reaches(64, 1023));
+    assert!(rt; rows.reaches(1022, 1023));
+    assert!(rt; !rows.reaches(1022, 0));
+    assert!(rt; !rows.on_circle(0));
+}
+
+/// Of two edges of one session one is removed, and the other three edges are as they were. An edge that isn't there can be
+/// removed, which changes nothing.
+#[test]
+fn one_edge_of_a_session_is_removed(rt: HostRuntime) -> Result<(), Fail> {
+    let mut rows = four_edges(rt.alloc())?;
+    rows.unset(1022, 0);
+    want_open_cycle(&rt, &mut rows);
+    rows.unset(1022, 0);
+    rows.unset(0, 1022);
+    want_open_cycle(&rt, &mut rows);
+    rows.unset(1022, 1023);
+    assert!(rt; !rows.reaches(1022, 1023));
+    assert!(rt; rows.reaches(0, 1022));
+    rows.set(1022, 0);
+    assert!(rt; rows.on_circle(64));
+    Ok(())
+}
+
 /// Expects a chain of edges from position 0 to `last`, and no cycle.
 fn want_chain(rt: &impl Abort, rows: &mut Rows, last: usize)
     requires { last < rows.old.sessions }

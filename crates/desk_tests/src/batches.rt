@@ -5,7 +5,7 @@ ghost use Rattle.std.specs.List.{All};
 ghost use Rattle.lock_desk.specs.Batches.{IsItemWithin};
 
 use crate::books::{new_book, resource, serve, wanted};
-use lock_desk::{Book, Call, Entry, Item, Mode, NoMemory, Reply};
+use lock_desk::{Book, Call, Entry, Item, Mode, NoMemory, Reply, Why};
 use std::alloc::Global;
 use std::process::Abort;
 use std::test::Fail;
@@ -187,8 +187,52 @@ fn late_intentions_wait_for_an_update(rt: &impl Abort, book: &mut Book) -> Resul
     Ok(())
 }
 
-/// Begins all transactions and checks batches of compatible locks, of locks behind a waiting one, of conflicting locks, and of
-/// locks with U among them.
+/// Expects tries among locks to be granted or refused, and none of them to wait; no lock waits behind one that was refused.
+fn tries_do_not_wait(rt: &impl Abort, book: &mut Book) -> Result<(), Fail> {
+    let five = resource(5)?;
+    let mut items = [
+        item(7, Call::Lock(five, Mode::IS)),
+        item(8, Call::Lock(five, Mode::IX)),
+        item(9, Call::Try(five, Mode::IS)),
+        item(10, Call::Try(five, Mode::S)),
+        item(11, Call::Lock(five, Mode::IS)),
+        item(10, Call::Withdraw),
+    ];
+    let replies = [
+        Reply::Granted(Mode::IS),
+        Reply::Granted(Mode::IX),
+        Reply::Granted(Mode::IS),
+        Reply::Refused(Why::WouldWait),
+        Reply::Granted(Mode::IS),
+        Reply::Refused(Why::NotWaiting),
+    ];
+    want_replies(rt, book, &mut items, &replies);
+    Ok(())
+}
+
+/// Expects a lock to be granted that comes behind a withdrawal in the same batch.
+fn a_withdrawal_makes_room(rt: &impl Abort, book: &mut Book) -> Result<(), Fail> {
+    let five = resource(5)?;
+    let mut items = [
+        item(12, Call::Lock(five, Mode::X)),
+        item(13, Call::Lock(five, Mode::IS)),
+        item(12, Call::Withdraw),
+        item(13, Call::Poll),
+        item(14, Call::Lock(five, Mode::IX)),
+    ];
+    let replies = [
+        Reply::Waiting,
+        Reply::Waiting,
+        Reply::Withdrawn,
+        Reply::Clear,
+        Reply::Granted(Mode::IX),
+    ];
+    want_replies(rt, book, &mut items, &replies);
+    Ok(())
+}
+
+/// Begins all transactions and checks batches of compatible locks, of locks behind a waiting one, of conflicting locks, of locks
+/// with U among them, and of locks with tries and withdrawals among them.
 fn want_runs(rt: &impl Abort, alloc: Global, book: &mut Book) -> Result<(), Fail> {
     begin_all(rt, book)?;
     let mut items = shared_locks(alloc)?;
@@ -196,11 +240,13 @@ fn want_runs(rt: &impl Abort, alloc: Global, book: &mut Book) -> Result<(), Fail
     late_locks_wait(rt, book)?;
     conflicting_locks_wait(rt, book)?;
     late_readers_wait_for_an_update(rt, book)?;
-    late_intentions_wait_for_an_update(rt, book)
+    late_intentions_wait_for_an_update(rt, book)?;
+    tries_do_not_wait(rt, book)?;
+    a_withdrawal_makes_room(rt, book)
 }
 
 /// 33 compatible locks of distinct sessions are granted; locks that conflict or come behind a waiting one wait, and readers that
-/// come behind U.
+/// come behind U. Tries and withdrawals among them are served in their place.
 #[test]
 fn a_run_of_compatible_locks_is_granted(rt: HostRuntime) -> Result<(), Fail> {
     let mut book = new_book(&rt, rt.alloc(), 40)?;
@@ -230,12 +276,14 @@ fn random_mode(seed: &mut u64) -> Mode {
 fn random_call(seed: &mut u64) -> Result<Call, Fail> {
     let number = 1 + (next(seed) % 2) as u32;
     let database = resource(number)?;
-    Ok(match next(seed) % 16 {
+    Ok(match next(seed) % 20 {
         0 | 1 => Call::Begin,
         2 => Call::Poll,
         3 => Call::Commit,
         4 => Call::Abort,
         5 => Call::Release(database),
+        6 | 7 => Call::Withdraw,
+        8 | 9 => Call::Try(database, random_mode(seed)),
         _ => Call::Lock(database, random_mode(seed)),
     })
 }

@@ -114,26 +114,41 @@ fn want_sessions_and_text(
 }
 
 /// Makes a book of `sessions` sessions and serves the calls of a history, whose replies and entries it expects.
-fn want_text(rt: &impl Abort, alloc: Global, sessions: u16, text: &str) -> Result<(), Fail> {
+pub(crate) fn want_text(
+    rt: &impl Abort,
+    alloc: Global,
+    sessions: u16,
+    text: &str,
+) -> Result<(), Fail> {
     let mut book = new_book(rt, alloc, sessions)?;
     want_sessions_and_text(rt, alloc, &mut book, sessions, text)
 }
 
 /// Serves the calls of a text on the book, and expects the replies of the text.
-fn serve_more(rt: &impl Abort, alloc: Global, book: &mut Book, text: &str) -> Result<(), Fail> {
+pub(crate) fn serve_more(
+    rt: &impl Abort,
+    alloc: Global,
+    book: &mut Book,
+    text: &str,
+) -> Result<(), Fail> {
     let entries = wanted(alloc, text)?;
     serve_all(rt, book, &entries)?;
     Ok(())
 }
 
 /// Expects the session to hold database 1 in this mode.
-fn want_held(rt: &impl Abort, book: &Book, session: u16, mode: Option<Mode>) -> Result<(), Fail> {
+pub(crate) fn want_held(
+    rt: &impl Abort,
+    book: &Book,
+    session: u16,
+    mode: Option<Mode>,
+) -> Result<(), Fail> {
     assert_eq!(rt; book.held(session, resource(1)?), mode);
     Ok(())
 }
 
 /// Expects these holders of a database.
-fn want_holders(
+pub(crate) fn want_holders(
     rt: &impl Abort,
     alloc: Global,
     book: &Book,
@@ -230,14 +245,17 @@ const ONE_SHARED: &str = "0,1,begin,,,began,1
 2,2,lock,7,IS,granted,IS
 ";
 
-/// Session 1 holds 4096 locks: a further lock is refused, and conversions still work.
+/// Session 1 holds 4096 locks: a further lock is refused, also to a try, and conversions still work.
 const FULL: &str = "0,1,lock,4096,X,refused,TooManyLocks
-1,1,lock,7,X,waiting,
-2,2,commit,,,committed,1
-3,1,poll,,,clear,
-4,1,lock,7,S,granted,X
-5,1,lock,4096,X,refused,TooManyLocks
-6,1,commit,,,committed,4096
+1,1,try,4096,X,refused,TooManyLocks
+2,1,try,7,X,refused,WouldWait
+3,1,lock,7,X,waiting,
+4,2,commit,,,committed,1
+5,1,poll,,,clear,
+6,1,lock,7,S,granted,X
+7,1,try,7,S,granted,X
+8,1,lock,4096,X,refused,TooManyLocks
+9,1,commit,,,committed,4096
 ";
 
 /// Takes 4096 locks and serves `FULL`.
@@ -245,7 +263,7 @@ fn fill_transaction(rt: &impl Abort, alloc: Global, book: &mut Book) -> Result<(
     serve_text(rt, alloc, book, ONE_SHARED)?;
     lock_databases(rt, book, 4096)?;
     serve_more(rt, alloc, book, FULL)?;
-    assert_eq!(rt; book.history().len(), 4106);
+    assert_eq!(rt; book.history().len(), 4109);
     Ok(())
 }
 

@@ -1,8 +1,8 @@
-//! Whose wait a call or a batch has ended, by `Book::ended`: commits, releases, aborts, deadlocks, and batches.
+//! Whose wait a call or a batch has ended, by `Book::ended`: commits, releases, aborts, withdrawals, deadlocks, and batches.
 
 use crate::batches::{begin_all, is_within, item, room_for};
 use crate::books::{new_book, resource, serve};
-use lock_desk::{Book, Call, Mode, NoMemory, Reply};
+use lock_desk::{Book, Call, Mode, NoMemory, Reply, Why};
 use std::alloc::Global;
 use std::process::Abort;
 use std::test::Fail;
@@ -221,6 +221,48 @@ fn conversions_and_aborts(rt: &impl Abort, book: &mut Book) -> Result<(), Fail> 
 fn a_release_and_an_abort_tell_whom_they_grant(rt: HostRuntime) -> Result<(), Fail> {
     let mut book = new_book(&rt, rt.alloc(), 6)?;
     conversions_and_aborts(&rt, &mut book)
+}
+
+/// Expects the last call to have ended the waits of the sessions 3, 4 and 6.
+fn want_ended_readers(rt: &impl Abort, book: &Book) {
+    let ended = book.ended();
+    assert_eq!(rt; ended.len(), 3);
+    for session in [3u16, 4, 6] {
+        assert!(rt; ended.contains(&session));
+    }
+}
+
+/// A writer waits before two readers, with one more writer and a reader behind them. The second writer withdraws, then the
+/// first one.
+fn writers_withdraw(rt: &impl Abort, book: &mut Book) -> Result<(), Fail> {
+    let one = resource(1)?;
+    begin_all(rt, book)?;
+    want(
+        rt,
+        book,
+        1,
+        Call::Lock(one, Mode::S),
+        Reply::Granted(Mode::S),
+    )?;
+    want(rt, book, 2, Call::Lock(one, Mode::X), Reply::Waiting)?;
+    want(rt, book, 3, Call::Lock(one, Mode::S), Reply::Waiting)?;
+    want(rt, book, 4, Call::Lock(one, Mode::S), Reply::Waiting)?;
+    want(rt, book, 5, Call::Lock(one, Mode::X), Reply::Waiting)?;
+    want(rt, book, 6, Call::Lock(one, Mode::S), Reply::Waiting)?;
+    want(rt, book, 5, Call::Withdraw, Reply::Withdrawn)?;
+    want_ended(rt, book, 1, 1);
+    want(rt, book, 2, Call::Withdraw, Reply::Withdrawn)?;
+    want_ended_readers(rt, book);
+    want(rt, book, 2, Call::Withdraw, Reply::Refused(Why::NotWaiting))?;
+    want_ended(rt, book, 1, 1);
+    Ok(())
+}
+
+/// A withdrawal tells those that it grants, and not its own session.
+#[test]
+fn a_withdrawal_tells_whom_it_grants(rt: HostRuntime) -> Result<(), Fail> {
+    let mut book = new_book(&rt, rt.alloc(), 6)?;
+    writers_withdraw(&rt, &mut book)
 }
 
 /// Session 2 waits twice in one batch, and is granted its locks by the commits of sessions 1 and 3.

@@ -19,4 +19,8 @@ mod refusals;
 #[cfg(test)]
 mod refused_batches;
 #[cfg(test)]
+mod tries;
+#[cfg(test)]
 mod waits_for_model;
+#[cfg(test)]
+mod withdrawals;

@@ -1,7 +1,7 @@
 //! Listings worked out by hand: all locks and waiting requests of a book, and the transaction and the request of one session.
 //! Where a book is refused memory, the list has to be unchanged, and is asked for a second time.
 
-use crate::books::{new_book, resource, serve_text};
+use crate::books::{new_book, resource, serve_more, serve_text};
 use lock_desk::{Book, Claim, ClaimKind, Mode, Resource, Transaction};
 use std::alloc::Global;
 use std::process::Abort;
@@ -144,6 +144,31 @@ fn list_a_queue(rt: &impl Abort, alloc: Global, book: &mut Book) -> Result<(), F
 fn fresh_requests_are_listed_in_order_of_arrival(rt: HostRuntime) -> Result<(), Fail> {
     let mut book = new_book(&rt, rt.alloc(), 3)?;
     list_a_queue(&rt, rt.alloc(), &mut book)
+}
+
+/// The writer withdraws.
+const WRITER_WITHDRAWS: &str = "0,2,withdraw,,,withdrawn,\n";
+
+/// Expects no request of the writer after its withdrawal, and the later reader among the holders.
+fn list_a_withdrawal(rt: &impl Abort, alloc: Global, book: &mut Book) -> Result<(), Fail> {
+    serve_text(rt, alloc, book, QUEUES)?;
+    serve_more(rt, alloc, book, WRITER_WITHDRAWS)?;
+    let wanted = [
+        line(&[1], 1, Mode::S, ClaimKind::Held)?,
+        line(&[1], 3, Mode::IS, ClaimKind::Held)?,
+        line(&[2], 1, Mode::IX, ClaimKind::Held)?,
+    ];
+    want_lines(rt, alloc, book, &wanted)?;
+    want_session(rt, book, 2, Some(transaction(2, false)), None);
+    want_session(rt, book, 3, Some(transaction(3, false)), None);
+    Ok(())
+}
+
+/// A withdrawn request isn't listed, and its transaction is.
+#[test]
+fn a_withdrawn_request_is_not_listed(rt: HostRuntime) -> Result<(), Fail> {
+    let mut book = new_book(&rt, rt.alloc(), 3)?;
+    list_a_withdrawal(&rt, rt.alloc(), &mut book)
 }
 
 /// Locks on a tree, taken in another order than that of resources. One is released, and the last one is refused.

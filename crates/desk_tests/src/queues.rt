@@ -54,13 +54,19 @@ fn queue_up(rt: &impl Abort, book: &mut Book, one: Resource) -> Result<(), NoMem
     want_each(rt, book, 2, last, Call::Lock(one, Mode::X), Reply::Waiting)
 }
 
-/// Aborts one session in the middle of those that wait, and expects the others to be granted the lock in turn.
-fn abort_in_the_middle(rt: &impl Abort, book: &mut Book) -> Result<(), Fail> {
+/// Makes the call in one session in the middle of those that wait, which takes its request away, and expects the others to be
+/// granted the lock in turn.
+fn leave_in_the_middle(
+    rt: &impl Abort,
+    book: &mut Book,
+    call: Call,
+    reply: Reply,
+) -> Result<(), Fail> {
     let one = resource(1)?;
     let sessions = book.sessions();
     let middle = sessions / 2;
     queue_up(rt, book, one)?;
-    want_each(rt, book, middle, middle + 1, Call::Abort, Reply::Aborted(0))?;
+    want_each(rt, book, middle, middle + 1, call, reply)?;
     want_each(rt, book, 1, 2, Call::Commit, Reply::Committed(1))?;
     want_each(rt, book, 3, middle, Call::Poll, Reply::Waiting)?;
     want_turns(rt, book, 2, middle)?;
@@ -69,10 +75,16 @@ fn abort_in_the_middle(rt: &impl Abort, book: &mut Book) -> Result<(), Fail> {
     Ok(())
 }
 
-/// Like `abort_in_the_middle`, in a new book.
+/// Like `leave_in_the_middle`, by an abort in a new book.
 fn abort_in_a_new_book(rt: &impl Abort, alloc: Global, sessions: u16) -> Result<(), Fail> {
     let mut book = new_book(rt, alloc, sessions)?;
-    abort_in_the_middle(rt, &mut book)
+    leave_in_the_middle(rt, &mut book, Call::Abort, Reply::Aborted(0))
+}
+
+/// Like `leave_in_the_middle`, by a withdrawal in a new book.
+fn withdraw_in_a_new_book(rt: &impl Abort, alloc: Global, sessions: u16) -> Result<(), Fail> {
+    let mut book = new_book(rt, alloc, sessions)?;
+    leave_in_the_middle(rt, &mut book, Call::Withdraw, Reply::Withdrawn)
 }
 
 /// Requests before and behind an aborted one keep their order.
@@ -85,6 +97,12 @@ fn a_queue_of_254_goes_on_after_an_abort_in_its_middle(rt: HostRuntime) -> Resul
 #[test]
 fn a_queue_of_1022_goes_on_after_an_abort_in_its_middle(rt: HostRuntime) -> Result<(), Fail> {
     abort_in_a_new_book(&rt, rt.alloc(), 1024)
+}
+
+/// Requests before and behind a withdrawn one keep their order, too.
+#[test]
+fn a_queue_of_254_goes_on_after_a_withdrawal_in_its_middle(rt: HostRuntime) -> Result<(), Fail> {
+    withdraw_in_a_new_book(&rt, rt.alloc(), 256)
 }
 
 /// Locks database 1 in session 1, and database 2 shared by all sessions behind it except the last, who then wait for database 1.

@@ -7,10 +7,12 @@ use std::alloc::Global;
 use std::process::Abort;
 use std::test::Fail;
 
-/// The resource of a lock or of a release.
+/// The resource of a lock, a try or a release.
 fn resource_of(call: Call) -> Option<Resource> {
     match call {
-        Call::Lock(resource, _) | Call::Release(resource) => Some(resource),
+        Call::Lock(resource, _) | Call::Try(resource, _) | Call::Release(resource) => Some(
+            resource,
+        ),
         _ => None,
     }
 }
@@ -211,6 +213,68 @@ const GRANTED_BY_A_VICTIM: &str = "0,1,begin,,,began,1
 #[test]
 fn a_refused_lock_makes_no_victim(rt: HostRuntime) -> Result<(), Fail> {
     want_text(&rt, rt.alloc(), 3, GRANTED_BY_A_VICTIM)
+}
+
+/// Session 1 tries down the tree. Four more sessions try beside it, and session 6 is refused what session 1 has.
+const TRIES: &str = "0,1,begin,,,began,1
+1,2,begin,,,began,2
+2,3,begin,,,began,3
+3,4,begin,,,began,4
+4,5,begin,,,began,5
+5,6,begin,,,began,6
+6,1,try,1,IX,granted,IX
+7,1,try,1/2,IX,granted,IX
+8,1,try,1/2/3,X,granted,X
+9,2,try,1,IS,granted,IS
+10,3,try,1,IX,granted,IX
+11,4,try,1,IS,granted,IS
+12,5,try,1,IS,granted,IS
+13,6,try,1,IX,granted,IX
+14,6,try,1/2,IX,granted,IX
+15,6,try,1/2/3,X,refused,WouldWait
+16,6,try,1/2/4,X,granted,X
+17,6,commit,,,committed,3
+18,1,commit,,,committed,3
+";
+
+/// Tries whose resources have no cell yet, or no room for one more holder, leave nothing if memory is refused, and so do
+/// those that are refused for `WouldWait`.
+#[test]
+fn refused_tries_change_nothing(rt: HostRuntime) -> Result<(), Fail> {
+    want_text(&rt, rt.alloc(), 6, TRIES)
+}
+
+/// Three readers and a writer wait behind a writer that withdraws. A conversion waits ahead of the last writer, and is
+/// withdrawn too.
+const WITHDRAWALS: &str = "0,1,begin,,,began,1
+1,2,begin,,,began,2
+2,3,begin,,,began,3
+3,4,begin,,,began,4
+4,5,begin,,,began,5
+5,6,begin,,,began,6
+6,1,lock,1,S,granted,S
+7,2,lock,1,X,waiting,
+8,3,lock,1,S,waiting,
+9,4,lock,1,S,waiting,
+10,5,lock,1,S,waiting,
+11,6,lock,1,X,waiting,
+12,1,withdraw,,,refused,NotWaiting
+13,2,withdraw,,,withdrawn,
+14,3,poll,,,clear,
+15,4,poll,,,clear,
+16,5,poll,,,clear,
+17,6,poll,,,waiting,
+18,1,lock,1,X,waiting,
+19,1,withdraw,,,withdrawn,
+20,6,withdraw,,,withdrawn,
+21,2,try,1,S,granted,S
+22,1,commit,,,committed,1
+";
+
+/// A withdrawal keeps the request and promotes nobody if memory is refused.
+#[test]
+fn refused_withdrawals_change_nothing(rt: HostRuntime) -> Result<(), Fail> {
+    want_text(&rt, rt.alloc(), 6, WITHDRAWALS)
 }
 
 /// Returns an entry of a history.

@@ -80,13 +80,16 @@ const ONE_HOLDER: &str = "0,1,begin,,,began,1
 6,1,lock,1,IS,granted,IS
 ";
 
-/// A run of locks on database 1, and two calls behind it.
+/// A run of locks on database 1, and five calls behind it, tries among them.
 const A_RUN: &str = "0,2,lock,1,IS,granted,IS
 1,3,lock,1,IX,granted,IX
 2,4,lock,1,IS,granted,IS
 3,5,lock,1,IX,granted,IX
-4,6,lock,2,X,granted,X
-5,1,commit,,,committed,1
+4,6,try,1,X,refused,WouldWait
+5,6,lock,2,X,granted,X
+6,6,try,1,IX,granted,IX
+7,6,withdraw,,,refused,NotWaiting
+8,1,commit,,,committed,1
 ";
 
 /// Serves the calls of `ONE_HOLDER` in both books, and then those of `A_RUN`, in `book` as a batch.

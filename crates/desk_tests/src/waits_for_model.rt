@@ -43,6 +43,8 @@ struct Seen {
     waits: u64,
     /// Replies `Deadlock`.
     victims: u64,
+    /// Replies `Withdrawn`.
+    withdrawals: u64,
     /// Sessions that were found on a cycle.
     circles: u64,
 }
@@ -94,12 +96,14 @@ fn draw_mode(rt: &impl Abort, seed: &mut u64) -> Mode {
 /// Draws a call on the resource.
 fn draw_call(rt: &impl Abort, seed: &mut u64, resource: Resource) -> Call {
     let mode = draw_mode(rt, seed);
-    match draw(rt, seed, 16) {
+    match draw(rt, seed, 19) {
         0 | 1 | 2 => Call::Begin,
         3 => Call::Release(resource),
         4 => Call::Commit,
         5 => Call::Abort,
         6 | 7 | 8 => Call::Convert(resource, mode),
+        9 | 10 => Call::Try(resource, mode),
+        11 => Call::Withdraw,
         _ => Call::Lock(resource, mode),
     }
 }
@@ -149,6 +153,10 @@ fn update_model(model: &mut Model, at: usize, request: Option<Request>, is_poll:
         Reply::Deadlock => {
             model.waiting[at] = None;
             model.seen.victims = model.seen.victims.wrapping_add(1);
+        }
+        Reply::Withdrawn => {
+            model.waiting[at] = None;
+            model.seen.withdrawals = model.seen.withdrawals.wrapping_add(1);
         }
         Reply::Aborted(_) | Reply::Clear => model.waiting[at] = None,
         _ => {}
@@ -420,13 +428,14 @@ fn new_tested(rt: &impl Abort, alloc: Global) -> Result<Tested, Fail> {
     })
 }
 
-/// Makes 3,000 random calls, and expects enough waits, victims and cycles among them.
+/// Makes 3,000 random calls, and expects enough waits, victims, withdrawals and cycles among them.
 fn make_random_calls(rt: &impl Abort, tested: &mut Tested) -> Result<(), Fail> {
     let mut model = Model {
         waiting: [None; 8],
         seen: Seen {
             waits: 0,
             victims: 0,
+            withdrawals: 0,
             circles: 0,
         },
     };
@@ -436,6 +445,7 @@ fn make_random_calls(rt: &impl Abort, tested: &mut Tested) -> Result<(), Fail> {
     }
     assert!(rt; model.seen.waits > 100);
     assert!(rt; model.seen.victims > 10);
+    assert!(rt; model.seen.withdrawals > 10);
     assert!(rt; model.seen.circles > 100);
     Ok(())
 }

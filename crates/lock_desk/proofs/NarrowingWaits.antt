@@ -55,7 +55,7 @@ any-some s p m (w ∷ ws) f h = go (eqb w.session s) f h (any-some s p m ws)
 -- the holders
 
 -- a session that is no holder blocks nobody as a holder
-none-blocks : (s u : ℕ) (m : Mode) (hs : List SessionMode) → has_session u hs ≡ false → holder_blocks s m u hs ≡ false
+pub none-blocks : (s u : ℕ) (m : Mode) (hs : List SessionMode) → has_session u hs ≡ false → holder_blocks s m u hs ≡ false
 none-blocks s u m [] h = refl
 none-blocks s u m (k ∷ hs) h = go (eqb k.session u) h (none-blocks s u m hs)
   where

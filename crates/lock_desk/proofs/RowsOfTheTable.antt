@@ -24,6 +24,7 @@ use Rattle.lock_desk.specs.inner.Ended.{EndedView}
 use Rattle.lock_desk.specs.inner.Ready.{IsReadyTable}
 use Rattle.lock_desk.proofs.SessionsInRange.{numbered-whole, once-at}
 use Rattle.lock_desk.proofs.WritingWaits.{blocks-none}
+use Rattle.lock_desk.proofs.NarrowingWaits.{none-blocks, none-ahead}
 
 -- for whom a session waits, by cells and lockers
 
@@ -257,32 +258,13 @@ written-for d s r w k idle = record {
 
 -- the edges are those that cells and lockers determine, for any two session numbers
 
--- a session that is no holder blocks nobody as a holder
-no_holder-blocks : (s u : ℕ) (m : Mode) (hs : List SessionMode) → has_session u hs ≡ false → holder_blocks s m u hs ≡ false
-no_holder-blocks s u m [] h = refl
-no_holder-blocks s u m (k ∷ hs) h = go (eqb k.session u) h (no_holder-blocks s u m hs)
-  where
-    go : (b : Bool) → (b || has_session u hs) ≡ false → (has_session u hs ≡ false → holder_blocks s m u hs ≡ false) → ((b && (not (eqb k.session s) && not (are_compatible m k.mode))) || holder_blocks s m u hs) ≡ false
-    go true e next = absurd (cc)
-    go false e next = next e
-
--- a session that is not in the queue is ahead of nobody
-no_request-first : (s u : ℕ) (qs : List SessionMode) → has_session u qs ≡ false → is_ahead u s qs ≡ false
-no_request-first s u [] h = refl
-no_request-first s u (q ∷ qs) h = go (eqb q.session s) (eqb q.session u) h (no_request-first s u qs)
-  where
-    go : (a b : Bool) → (b || has_session u qs) ≡ false → (has_session u qs ≡ false → is_ahead u s qs ≡ false) → cond a false (b || is_ahead u s qs) ≡ false
-    go true b e next = refl
-    go false true e next = absurd (cc)
-    go false false e next = next e
-
 -- a session that neither holds a resource nor waits for it blocks nobody there
 absent-blocks : (s u : ℕ) (v : View) → has_session u v.holders ≡ false → has_session u v.waiting ≡ false → view_blocks s u v ≡ false
 absent-blocks s u v h q = go (mode_of s v.waiting)
   where
     go : (o : Option Mode) → target_blocks s u v o ≡ false
     go None = refl
-    go (Some m) = (λ i. no_holder-blocks s u m v.holders h i || no_request-first s u v.waiting q i)
+    go (Some m) = (λ i. none-blocks s u m v.holders h i || none-ahead s u v.waiting q i)
 
 -- an edge between sessions of any number, 0 too, is one that cells and lockers determine
 pub written-blocks : (d : LockTable) → IsWhole d → IsReadyTable d → (s u : ℕ) → (leb 1 s && (leb 1 u && pairs_of d.waits.rows (s - 1) (u - 1))) ≡ blocks d.cells.entries (standings d) s u

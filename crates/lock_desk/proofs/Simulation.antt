@@ -7,14 +7,15 @@ use Rattle.lock_tree.specs.Paths.{same_path, parent_of, has_parent}
 use Rattle.lock_rules.specs.State as rules
 use Rattle.lock_rules.specs.declared.calls.Call.{Call}
 use Rattle.lock_rules.specs.declared.calls.Transaction.{Transaction}
-use Rattle.lock_rules.specs.declared.calls.Call.TheVariants.{Begin, Lock, Convert, Poll, Release, Commit, Abort}
+use Rattle.lock_rules.specs.declared.calls.Call.TheVariants.{Begin, Lock, Convert, Poll, Release, Commit, Abort, Try, Withdraw}
 use Rattle.lock_rules.specs.declared.calls.Why.{Why}
-use Rattle.lock_rules.specs.declared.calls.Why.TheVariants.{AlreadyOpen, NoTransaction, IsWaiting, IsDoomed, NothingAsked, NotHeld, ParentNotHeld, ChildHeld, TooManyLocks}
+use Rattle.lock_rules.specs.declared.calls.Why.TheVariants.{AlreadyOpen, NoTransaction, IsWaiting, IsDoomed, NothingAsked, NotHeld, ParentNotHeld, ChildHeld, TooManyLocks, WouldWait, NotWaiting}
 use Rattle.lock_rules.specs.declared.calls.Reply.{Reply}
 use Rattle.lock_rules.specs.declared.calls.Reply.TheVariants.{Granted, Waiting, Deadlock, Refused}
 use Rattle.lock_rules.specs.declared.calls.TheConstants.{MAX_LOCKS}
 use Rattle.lock_rules.specs.Queue.{after_grant, is_granted_at_once, with_request}
-use Rattle.lock_rules.specs.Waits.{after_victims}
+use Rattle.lock_rules.specs.Waits.{after_victims, after_cancel}
+use Rattle.lock_rules.specs.Step as step
 use Rattle.lock_rules.specs.Step.{is_nothing, lacks_parent, holds_child, target_of, tests, first_failing, is_held, after_asking, after_wait, ask, after_end, act, outcome_of, step}
 use Rattle.lock_rules.specs.Sound.{IsNumbered, IsSound, Stands}
 use Rattle.lock_rules.proofs.Lists.{request_of-claims_but}
@@ -22,12 +23,12 @@ use Rattle.lock_rules.proofs.Marks.{below-sup, sup-some}
 use Rattle.lock_rules.proofs.Begins.{begins-sound}
 use Rattle.lock_rules.proofs.Victims.{settled-enough}
 use Rattle.lock_rules.proofs.Owners.{waiting-numbered}
-use Rattle.lock_rules.proofs.Steps.{all-pass, is-none}
+use Rattle.lock_rules.proofs.Steps.{all-pass, is-none, front-passes}
 use Rattle.lock_desk.specs.declared.cells.GivenUp.TheVariants as claim
 use Rattle.lock_desk.specs.declared.lock_table.LockTable.{LockTable}
 use Rattle.lock_desk.specs.inner.Cells.{View, has_session, mode_of, pair_of, view_after_freeing, can_grant, view_after_asking}
 use Rattle.lock_desk.specs.inner.Lockers.{Standing, standing_at}
-use Rattle.lock_desk.specs.inner.Changes.{view_at, standing, view_after_end, IsWhole, mode_held, lacks_need, lock_tests, convert_tests, release_tests, idle_tests, call_tests, IsSameSeen, MayAsk, HasAsked, CanRelease, HasFreed, HasBegun, HasEnded}
+use Rattle.lock_desk.specs.inner.Changes.{view_at, standing, view_after_end, IsWhole, mode_held, lacks_need, lock_tests, convert_tests, release_tests, idle_tests, call_tests, IsSameSeen, MayAsk, HasAsked, CanRelease, HasFreed, HasBegun, HasEnded, would_wait, try_tests, HasCancelled, view_after_cancel}
 use Rattle.lock_desk.specs.inner.Shows.{view, Shows, DoesAnswer}
 use Rattle.lock_desk.proofs.Agreement.{apart-at}
 use Rattle.lock_desk.proofs.Asking.{held-locker}
@@ -38,7 +39,7 @@ use Rattle.lock_desk.specs.inner.ChildCounts.{has_child, IsUnder}
 use Rattle.lock_desk.proofs.ChildCounts.{child-path, path-child}
 use Rattle.lock_desk.proofs.Children.{child-there, there-child, child-below, held-child, both-ways}
 use Rattle.lock_desk.proofs.AfterRelease.{released-seen}
-use Rattle.lock_desk.proofs.AfterStep.{ended-seen, granted-seen, first_state, first-seen}
+use Rattle.lock_desk.proofs.AfterStep.{ended-seen, granted-seen, first_state, first-seen, cancelled-seen}
 
 -- tests: what the lockers and the cells say is what the state says
 
@@ -111,6 +112,22 @@ module _ (d : LockTable) (st : rules.State) (s : ℕ) (w : IsWhole d) (i : IsSou
       let f = child-shown d st s r w i h in
       λ j. (not (is_some (o j)), NotHeld) ∷ (f j, ChildHeld) ∷ []
 
+  -- the test whether a request would wait is that of the state, for any target
+  wait-shown : (r : List ℕ) (k : Mode) → would_wait d s r k ≡ step.would_wait st.table s r k
+  wait-shown r k =
+      let o = mode-shown d st s r h in
+      let g = ap (can_grant (in_mode s k)) (h.views r) ∙ sym (granted-seen s r k st.table) in
+      λ j. not (is_held (o j) k) && not (g j)
+
+  -- the tests of a try are those of the state
+  try-shown : (r : List ℕ) (m : Mode) → try_tests d s r m
+      ≡ (is_nothing m, NothingAsked) ∷ (lacks_parent st.table s r (target_of (rules.held_mode st.table s r) m), ParentNotHeld) ∷ (not (is_some (rules.held_mode st.table s r)) && leb MAX_LOCKS (length (rules.claims_of s st.table.held)), TooManyLocks)
+      ∷ (step.would_wait st.table s r (target_of (rules.held_mode st.table s r) m), WouldWait) ∷ []
+  try-shown r m =
+      let l = lock-shown r m in
+      let b = ap (λ (o : Option Mode). would_wait d s r (target_of o m)) (mode-shown d st s r h) ∙ wait-shown r (target_of (rules.held_mode st.table s r) m) in
+      λ j. l j ++ (b j, WouldWait) ∷ []
+
   -- the tests of a call by the lock table are those by the state
   pub tests-shown : (c : Call) → call_tests d s c ≡ tests st s c
   tests-shown Begin = ap (λ (b : Bool). (b, AlreadyOpen) ∷ []) (open-shown d st s h)
@@ -120,6 +137,8 @@ module _ (d : LockTable) (st : rules.State) (s : ℕ) (w : IsWhole d) (i : IsSou
   tests-shown (Release r) = standing-shown _ _ (release-shown r)
   tests-shown Commit = standing-shown [] [] refl
   tests-shown Abort = ap (λ (b : Bool). (not b, NoTransaction) ∷ []) (open-shown d st s h)
+  tests-shown (Try r m) = standing-shown _ _ (try-shown r m)
+  tests-shown Withdraw = let a = open-shown d st s h in let b = waits-shown d st s w h in let k = doom-shown d st s h in λ j. (not (a j), NoTransaction) ∷ (k j, IsDoomed) ∷ (not (b j), NotWaiting) ∷ []
 
 -- what a call may assume once its tests are passed
 
@@ -140,6 +159,10 @@ lock-may d s r m w h =
       something = p.1.1.1.0;
       under = p.1.1.1.1.0;
     }
+
+-- a try that passes its tests may request its resource
+pub try-may : (d : LockTable) (s : ℕ) (r : List ℕ) (m : Mode) → IsWhole d → first_failing (call_tests d s (Try r m)) ≡ None → MayAsk s r m d
+try-may d s r m w h = lock-may d s r m w (front-passes (call_tests d s (Lock r m)) ((would_wait d s r (target_of (mode_held d s r) m), WouldWait) ∷ []) h)
 
 -- a conversion that passes its tests may request its resource
 pub convert-may : (d : LockTable) (s : ℕ) (r : List ℕ) (m : Mode) → IsWhole d → first_failing (call_tests d s (Convert r m)) ≡ None → MayAsk s r m d
@@ -284,6 +307,16 @@ ended-shown d e st s i k h = record {
   count = k.count ∙ h.count;
   transactions = λ u. k.transactions u ∙ ap (λ (o : Option Transaction). cond (eqb u s) None o) (h.transactions u);
   views = λ q. k.views q ∙ (ap (view_after_end s) (h.views q) ∙ sym (ended-seen s st.table i q));
+}
+
+-- a withdrawal
+
+-- after a request is taken back, the lock table represents the next state
+pub cancelled-shown : (d e : LockTable) (st : rules.State) (s : ℕ) → IsSound st.table → HasCancelled s d e → Shows d st → Shows e (rules.with_table (after_cancel s st.table) st)
+cancelled-shown d e st s i k h = record {
+  count = k.count ∙ h.count;
+  transactions = λ u. k.transactions u ∙ h.transactions u;
+  views = λ q. k.views q ∙ (ap (view_after_cancel s) (h.views q) ∙ sym (cancelled-seen s st.table i q));
 }
 
 -- a release

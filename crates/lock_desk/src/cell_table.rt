@@ -66,6 +66,7 @@ fn drop_provisional(resources: &mut IndexSet<Resource>, has_provisional: &mut bo
 }
 
 /// Whether `resource` is the last key.
+#[inline(always)]
 fn is_last(resources: &IndexSet<Resource>, resource: Resource) -> bool
     ensures { result ≡ true → resources.now.keys ≡ in_use resources.now.keys true ++ resource ∷ [] }
 {
@@ -123,7 +124,22 @@ fn insert_key(
     insert_new_key(resources, has_provisional, resource)
 }
 
+/// Adds an idle cell at `place`, behind all others.
+#[inline(never)]
+fn add_idle_cell(cells: &mut Vec<Cell>, place: usize) -> Result<(), AllocError>
+    requires place { place ≡ length cells.old.items }
+    ensures ok { OnOk result (place < length cells.new.items) }
+    ensures long { place ≤ length cells.new.items }
+    ensures idle { AreIdleFrom place cells.new.items }
+    ensures front { take place cells.new.items ≡ take place cells.old.items }
+{
+    let alloc = *cells.allocator();
+    cells.push(Cell::new(alloc))?;
+    Ok(())
+}
+
 /// Ensures that there is a cell at `place`. The cells from `place` on stay idle, those before it unchanged.
+#[inline(always)]
 fn ensure_cell(cells: &mut Vec<Cell>, place: usize) -> Result<(), AllocError>
     requires place { place ≤ length cells.old.items }
     requires idle { AreIdleFrom place cells.old.items }
@@ -135,9 +151,7 @@ fn ensure_cell(cells: &mut Vec<Cell>, place: usize) -> Result<(), AllocError>
     if place < cells.len() {
         return Ok(());
     }
-    let alloc = *cells.allocator();
-    cells.push(Cell::new(alloc))?;
-    Ok(())
+    add_idle_cell(cells, place)
 }
 
 impl CellTable {
@@ -250,6 +264,17 @@ impl CellTable {
         match place {
             Some(place) if place < self.cells.len() => self.cells[place].mode_held(session),
             _ => None,
+        }
+    }
+
+    /// Whether a request of `asker` for the resource whose cell is at `place` would be granted at once. It would if there is
+    /// no cell.
+    pub(crate) fn would_grant_at(&self, place: Option<usize>, asker: SessionMode) -> bool
+        ensures { (r : List ℕ) → IsPlace r self.now.entries place → result ≡ can_grant asker (cell_view r self.now.entries) }
+    {
+        match place {
+            Some(place) if place < self.cells.len() => self.cells[place].would_grant(asker),
+            _ => true,
         }
     }
 

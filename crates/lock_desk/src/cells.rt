@@ -290,6 +290,14 @@ impl Cell {
         false
     }
 
+    /// Whether a request of `asker` would be granted at once.
+    pub(crate) fn would_grant(&self, asker: SessionMode) -> bool
+        ensures { result ≡ can_grant asker (view_of self.now) }
+    {
+        let place = self.holders.place_of(asker.session);
+        self.can_grant(place, asker)
+    }
+
     /// Requests a mode for a session that has no request here: grants it at once, or adds it to the queue.
     ///
     /// A session that holds the resource requests a conversion. If memory is refused, holders and queue are

@@ -1,5 +1,5 @@
 -- What victims lose and keep: their locks stay, and requests for what they waited for may be granted.
-use Rattle.std.proofs.Common.{◌≡◌, ℕ, Bool, true, false, cond, eqb, ◌⊎◌, inl, inr, List, [], ◌∷◌, Option, Some, None, refl, sym, ◌∙◌, ap, arith, subst}
+use Rattle.std.proofs.Common.{◌≡◌, ℕ, Bool, true, false, cond, not, eqb, ◌⊎◌, inl, inr, List, [], ◌∷◌, Option, Some, None, is_some, refl, sym, ◌∙◌, ap, arith, subst}
 use Rattle.std.proofs.lemmas.Bool.{or_cases, cases_Bool}
 use Rattle.std.proofs.lemmas.Bool.Decides.{Decides-eqb}
 use Rattle.lock_tree.specs.Paths.{same_path}
@@ -7,15 +7,18 @@ use Rattle.lock_rules.specs.State.{Claim, Table, State, request_of, with_table}
 use Rattle.lock_rules.specs.Queue.{with_request, after_promotions}
 use Rattle.lock_rules.specs.Waits.{resource_of_request, without_request, after_cancel, doom, after_victim}
 use Rattle.lock_rules.specs.Laws.{AreVictims, ArePromotionsLongest}
-use Rattle.lock_rules.specs.Effects.{IsUnchanged, IsAmong, IsWantedBy, IsDoomOf, DoVictimsKeepLocks, DoVictimsKeepTheirLocks, DoesDoomPromote}
+use Rattle.lock_rules.specs.Effects.{IsUnchanged, IsAmong, IsWantedBy, IsDoomOf, DoVictimsKeepLocks, DoVictimsKeepTheirLocks, DoesDoomPromote, IsWithdrawalOf, DoesWithdrawTakeRequest}
 use Rattle.lock_rules.specs.Sound.{IsOnce}
 use Rattle.lock_rules.proofs.Lists.{eqb-refl, other, same_path-true, times-claims_but, request_of-claims_but, request_of-claims_but_other}
 use Rattle.lock_rules.proofs.Promote.{among}
 use Rattle.lock_rules.proofs.Fronts.{promotions-longest}
 use Rattle.lock_rules.proofs.Begins.{once-push}
 use Rattle.lock_rules.proofs.Settle.{walk-waits, has-waits}
-use Rattle.lock_rules.proofs.Steps.{is-none}
-use Rattle.lock_rules.proofs.Taken.{IsUnchangedOrPromoted, refl-same, same-same, same-promotion, promotion-same, after-same, none, unserved, all-once, all-served}
+use Rattle.lock_rules.proofs.Steps.{is-none, all-pass}
+use Rattle.lock_rules.proofs.Taken.{IsUnchangedOrPromoted, refl-same, same-same, same-promotion, promotion-same, after-same, none, unserved, all-once, all-served, passes, step-acts}
+use Rattle.lock_rules.specs.declared.calls.Call.TheVariants.{Withdraw}
+use Rattle.lock_rules.specs.declared.calls.Reply.TheVariants.{Withdrawn}
+use Rattle.lock_rules.specs.Step.{Outcome, tests}
 
 -- one victim
 
@@ -34,14 +37,14 @@ cancelled-own v t o =
     (all-served (resource_of_request (request_of v t.requests)) (without_request v t) (cut-once v t o) v)
 
 -- cancelling a request leaves another session unchanged, or grants its request for that resource
-cancelled-others : (v : ℕ) (t : Table) → IsOnce t.requests → (u : ℕ) → eqb u v ≡ false → IsUnchangedOrPromoted u (λ x. among (resource_of_request (request_of v t.requests)) x ≡ true) t (after_cancel v t)
+pub cancelled-others : (v : ℕ) (t : Table) → IsOnce t.requests → (u : ℕ) → eqb u v ≡ false → IsUnchangedOrPromoted u (λ x. among (resource_of_request (request_of v t.requests)) x ≡ true) t (after_cancel v t)
 cancelled-others v t o u n =
     after-same u (λ x. among (resource_of_request (request_of v t.requests)) x ≡ true) t (without_request v t) (after_cancel v t)
     (record { held = λ x. refl; request = request_of-claims_but_other u v t.requests n })
     (all-served (resource_of_request (request_of v t.requests)) (without_request v t) (cut-once v t o) u)
 
 -- the resource promoted is that of the victim's request
-wanted-is : (o : Option Claim) (p : Claim) (x : List ℕ) → o ≡ Some p → among (resource_of_request o) x ≡ true → p.resource ≡ x
+pub wanted-is : (o : Option Claim) (p : Claim) (x : List ℕ) → o ≡ Some p → among (resource_of_request o) x ≡ true → p.resource ≡ x
 wanted-is None p x e h = absurd (cc)
 wanted-is (Some q) p x e h = let same : q ≡ p = cc in ap (λ (c : Claim). c.resource) (sym same) ∙ same_path-true q.resource x (elim (or_cases (same_path q.resource x) false h) [ inl k ↦ k | inr k ↦ absurd (cc) ])
 
@@ -153,3 +156,31 @@ pub doom-promotes : (st : State) → DoesDoomPromote st
 doom-promotes st v q e =
     let t = without_request v st.table in
     subst (λ (o : Option Claim). ArePromotionsLongest (q.resource ∷ []) t (after_promotions (resource_of_request o) t)) (sym e) (promotions-longest (q.resource ∷ []) t)
+
+-- a request that its session takes back
+
+-- the request goes, its resource is promoted, and all else stays
+withdrawn-takes : (s : ℕ) (q : Claim) (st : State) → IsOnce st.table.requests → request_of s st.table.requests ≡ Some q → IsWithdrawalOf s q st (with_table (after_cancel s st.table) st)
+withdrawn-takes s q st o e = record {
+  waited = e;
+  waits_no_more = (cancelled-own s st.table o).request ∙ request_of-claims_but s st.table.requests;
+  held = (cancelled-own s st.table o).held;
+  others = λ u m. elim (cancelled-others s st.table o u (other s u m)) [
+    | inl a ↦ inl a
+    | inr p ↦ inr (p.0, p.1, sym (wanted-is (request_of s st.table.requests) q p.0.resource e p.2))
+  ];
+  promotion = doom-promotes st s q e;
+  transactions = (refl, refl);
+}
+
+-- a withdrawal that isn't refused takes the session's request back
+pub withdraw-one : (st : State) → IsOnce st.table.requests → DoesWithdrawTakeRequest st
+withdraw-one st o s h =
+    let p = all-pass (tests st s Withdraw) (passes st s Withdraw h) in
+    let w = waits (request_of s st.table.requests) p.1.1.0 in
+    subst (λ (x : Outcome). (x.reply ≡ Withdrawn) × ((q : Claim) × IsWithdrawalOf s q st x.state)) (sym (step-acts st s Withdraw h))
+    (refl, (w.0, withdrawn-takes s w.0 st o w.1))
+  where
+    waits : (r : Option Claim) → not (is_some r) ≡ false → (q : Claim) × (r ≡ Some q)
+    waits None f = absurd (cc)
+    waits (Some q) f = (q, refl)

@@ -5,7 +5,7 @@ use Rattle.std.proofs.lemmas.Bool.Decides.{Decides-eqb}
 use Rattle.std.proofs.lemmas.List.Elements.{All-head, All-tail}
 use Rattle.lock_modes.specs.declared.Mode.{Mode}
 use Rattle.lock_rules.specs.declared.calls.Call.{Call}
-use Rattle.lock_rules.specs.declared.calls.Call.TheVariants.{Begin, Lock, Convert, Poll, Release, Commit, Abort}
+use Rattle.lock_rules.specs.declared.calls.Call.TheVariants.{Begin, Lock, Convert, Poll, Release, Commit, Abort, Try, Withdraw}
 use Rattle.lock_rules.specs.declared.calls.Why.{Why}
 use Rattle.lock_rules.specs.declared.calls.Entry.{Entry}
 use Rattle.lock_rules.specs.declared.calls.Transaction.{Transaction}
@@ -73,6 +73,8 @@ module _ (s : ℕ) (x : Transaction) (doomed : x.doomed ≡ true) where
       victim : u ≡ s → ⊥
       victim f = let p = all-pass (tests st u Commit) h in true≢false (ap (λ (w : ℕ). is_doomed st w) f ∙ (ap doomed_in e ∙ doomed)) p.1.1.0
   act-begun st u Abort h n e = other-begun st u None (λ f. n f refl) e
+  act-begun st u (Try r m) h n e = asked-begun st u r (target_of (held_mode st.table u r) m) e
+  act-begun st u Withdraw h n e = e
 
   -- every call but its session's abort leaves the doomed transaction, refused or not
   step-begun : (st : State) (u : ℕ) (c : Call) → (u ≡ s → c ≢ Abort) → st.begun s ≡ Some x → (step st u c).state.begun s ≡ Some x

@@ -8,14 +8,14 @@ use Rattle.std.proofs.lemmas.List.Kept.{IsStrictlyIncreasing-filter}
 use Rattle.std.specs.List.Sorted.{IsStrictlyIncreasing}
 use Rattle.lock_modes.specs.declared.Mode.{Mode}
 use Rattle.lock_rules.specs.declared.calls.Call.{Call}
-use Rattle.lock_rules.specs.declared.calls.Call.TheVariants.{Begin, Lock, Convert, Poll, Release, Commit, Abort}
+use Rattle.lock_rules.specs.declared.calls.Call.TheVariants.{Begin, Lock, Convert, Poll, Release, Commit, Abort, Try, Withdraw}
 use Rattle.lock_rules.specs.declared.calls.Reply.TheVariants.{Deadlock, Clear}
 use Rattle.lock_rules.specs.declared.calls.Transaction.{Transaction}
 use Rattle.lock_rules.specs.declared.calls.Why.{Why}
 use Rattle.lock_rules.specs.declared.calls.Entry.{Entry}
 use Rattle.lock_rules.specs.State.{Claim, State, held_mode, request_of, is_waiting, with_begun, with_table}
 use Rattle.lock_rules.specs.Queue.{after_grant, with_request, is_granted_at_once}
-use Rattle.lock_rules.specs.Waits.{doom}
+use Rattle.lock_rules.specs.Waits.{doom, resource_of_request, after_cancel}
 use Rattle.lock_rules.specs.Step.{target_of, tests, first_failing, is_held, after_wait, after_asking, after_release, after_end, act, outcome_of, step}
 use Rattle.lock_rules.specs.Legal.{state_of}
 use Rattle.lock_rules.specs.Effects.{IsPromotionOf, IsDoomOf}
@@ -26,12 +26,13 @@ use Rattle.lock_rules.proofs.Members.{Member, contains-member, member-contains}
 use Rattle.lock_rules.proofs.Alters.{request-alters, true≢false}
 use Rattle.lock_rules.proofs.Cuts.{IsQuiescent}
 use Rattle.lock_rules.proofs.Begins.{new, back, once-push}
-use Rattle.lock_rules.proofs.Steps.{all-pass, is-none, state-lawful}
+use Rattle.lock_rules.proofs.Steps.{all-pass, is-none, state-lawful, try-locks}
 use Rattle.lock_rules.proofs.Owners.{state-numbered}
 use Rattle.lock_rules.proofs.Taken.{IsUnchangedOrPromoted, same-promotion, none, released-takes, ended-takes, granted-other}
 use Rattle.lock_rules.proofs.Victims.{settled-victims}
-use Rattle.lock_rules.proofs.Doomed.{victims-keep, among-or-not}
+use Rattle.lock_rules.proofs.Doomed.{victims-keep, among-or-not, cancelled-others}
 use Rattle.lock_rules.proofs.Sessions.{told_of, poll-told}
+use Rattle.lock_rules.proofs.Promote.{among}
 
 -- what a call does to another session
 
@@ -97,6 +98,8 @@ module _ (st : State) (i : IsQuiescent st.table) (u s : ℕ) (d : eqb u s ≡ fa
       fares u (λ x. x ≡ r) st (with_table (after_release s r st.table) st) refl (taken.others u apart)
   act-fares Commit h = ended-fares
   act-fares Abort h = ended-fares
+  act-fares (Try r m) h = let p = all-pass (tests st s (Lock r m)) (try-locks st s r m h) in asked-fares r (target_of (held_mode st.table s r) m) (is-none (request_of s st.table.requests) p.1.0)
+  act-fares Withdraw h = fares u (λ x. among (resource_of_request (request_of s st.table.requests)) x ≡ true) st (with_table (after_cancel s st.table) st) refl (cancelled-others s st.table i.sound.once u d)
 
   -- any call of s
   step-fares : (c : Call) → Fares u st (step st s c).state

@@ -8,7 +8,7 @@ use Rattle.lock_modes.specs.declared.Mode.{Mode}
 use Rattle.lock_modes.specs.Order.{at_or_below}
 use Rattle.lock_modes.proofs.Order.{order-from, at_or_below-refl, at_or_below-trans}
 use Rattle.lock_rules.specs.declared.calls.Call.{Call}
-use Rattle.lock_rules.specs.declared.calls.Call.TheVariants.{Begin, Lock, Convert, Poll, Release, Commit, Abort}
+use Rattle.lock_rules.specs.declared.calls.Call.TheVariants.{Begin, Lock, Convert, Poll, Release, Commit, Abort, Try, Withdraw}
 use Rattle.lock_rules.specs.declared.calls.Why.{Why}
 use Rattle.lock_rules.specs.declared.calls.Entry.{Entry}
 use Rattle.lock_rules.specs.State.{Table, State, held_mode, mode_or_nothing, request_of}
@@ -19,8 +19,8 @@ use Rattle.lock_rules.proofs.Lists.{same_path_tells}
 use Rattle.lock_rules.proofs.Alters.{true≢false}
 use Rattle.lock_rules.proofs.Marks.{some-above}
 use Rattle.lock_rules.proofs.Sound.{eqb-swap}
-use Rattle.lock_rules.proofs.Cuts.{IsQuiescent, released-rises, ended-rises}
-use Rattle.lock_rules.proofs.Steps.{all-pass, is-none, lock-kept, convert-kept, step-lawful, state-lawful}
+use Rattle.lock_rules.proofs.Cuts.{IsQuiescent, released-rises, ended-rises, cancelled-follows}
+use Rattle.lock_rules.proofs.Steps.{all-pass, is-none, lock-kept, convert-kept, step-lawful, state-lawful, try-locks}
 use Rattle.lock_rules.proofs.Histories.{state_after-append}
 
 -- the session's lock on r didn't fall
@@ -54,6 +54,8 @@ act-stands st u Abort i h s r k = elim (cases_Bool (eqb u s)) [
   | inr n ↦ ended-rises u st.table i.sound s r (eqb-swap u s n)
   | inl e ↦ absurd ((k ((Decides-eqb u s).0 e)).1 refl)
 ]
+act-stands st u (Try x m) i h s r k = (lock-kept st u x m i (try-locks st u x m h)).rises s r
+act-stands st u Withdraw i h s r k = (cancelled-follows u st.table i.sound).rises s r
 
 -- a call lowers a lock only if its session gives it up
 step-stands : (st : State) (u : ℕ) (c : Call) → IsQuiescent st.table → (s : ℕ) (r : List ℕ) → (u ≡ s → Keeps r c) → IsHeldOn s r st.table (step st u c).state.table

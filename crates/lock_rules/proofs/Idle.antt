@@ -4,7 +4,7 @@ use Rattle.std.proofs.lemmas.Bool.Decides.{Decides-eqb}
 use Rattle.std.proofs.lemmas.Bool.{cases_Bool}
 use Rattle.lock_modes.specs.declared.Mode.{Mode}
 use Rattle.lock_rules.specs.declared.calls.Call.{Call}
-use Rattle.lock_rules.specs.declared.calls.Call.TheVariants.{Begin, Lock, Convert, Poll, Release, Commit, Abort}
+use Rattle.lock_rules.specs.declared.calls.Call.TheVariants.{Begin, Lock, Convert, Poll, Release, Commit, Abort, Try, Withdraw}
 use Rattle.lock_rules.specs.declared.calls.Why.{Why}
 use Rattle.lock_rules.specs.declared.calls.Entry.{Entry}
 use Rattle.lock_rules.specs.State.{Claim, Table, State, empty, held_mode, request_of, claims_of, claims_but, is_doomed, doomed_in, with_begun, with_table}
@@ -17,7 +17,7 @@ use Rattle.lock_rules.proofs.Lists.{request_of-claims_but, request_of-claims_but
 use Rattle.lock_rules.proofs.Alters.{request-alters, true≢false}
 use Rattle.lock_rules.proofs.Cuts.{one_less}
 use Rattle.lock_rules.proofs.Begins.{back}
-use Rattle.lock_rules.proofs.Steps.{all-pass, is-none}
+use Rattle.lock_rules.proofs.Steps.{all-pass, is-none, try-locks}
 
 -- grants and removals give no session a request
 
@@ -105,6 +105,8 @@ act-idle st s Poll i h = i
 act-idle st s (Release r) i h = λ u d. front-none u (queue (one_less s r st.table) r) (one_less s r st.table) (i u d)
 act-idle st s Commit i h = ended-idle st s i
 act-idle st s Abort i h = ended-idle st s i
+act-idle st s (Try r m) i h = let p = all-pass (tests st s (Lock r m)) (try-locks st s r m h) in asked-idle st s r (target_of (held_mode st.table s r) m) i (is-none (request_of s st.table.requests) p.1.0) p.1.1.0
+act-idle st s Withdraw i h = λ u d. all-none u (resource_of_request (request_of s st.table.requests)) (without_request s st.table) (none-but u s st.table.requests (i u d))
 
 -- every call keeps the law, refused or not
 step-idle : (st : State) (s : ℕ) (c : Call) → DoDoomedWaitForNothing st → DoDoomedWaitForNothing (step st s c).state

@@ -15,8 +15,8 @@ use Rattle.lock_rules.proofs.Fronts.{promotion-longest}
 use Rattle.lock_rules.proofs.Waiting.{waits-tell}
 use Rattle.lock_rules.proofs.States.{fit-tells, holders-compatible}
 use Rattle.lock_rules.proofs.Victims.{determined}
-use Rattle.lock_rules.proofs.Doomed.{keep-theirs, doom-promotes}
-use Rattle.lock_rules.proofs.Requests.{lock-asks, convert-asks, lock-converts, lock-holds, convert-holds}
+use Rattle.lock_rules.proofs.Doomed.{keep-theirs, doom-promotes, withdraw-one}
+use Rattle.lock_rules.proofs.Requests.{lock-asks, convert-asks, lock-converts, lock-holds, convert-holds, try-asks, try-leaves}
 use Rattle.lock_rules.proofs.Refusals.{refused-first, refused-keeps, refusals-meant, others-accepted, abort-needs, commit-accepted}
 use Rattle.lock_rules.proofs.RefusalOrder.{tests-give, refusals-lowest, conversions-unbounded}
 use Rattle.lock_rules.proofs.Sessions.{begin-opens, poll-tells}
@@ -62,6 +62,9 @@ lawful es = let i = state-lawful es in record {
   held_is_converted = lock-converts (state_of es);
   granted_is_held = lock-holds (state_of es) i.sound.once;
   converted_is_held = convert-holds (state_of es) i.sound.once;
+  tries_answered = try-asks (state_of es);
+  tries_leave_waits = try-leaves (state_of es);
+  withdraw_takes_request = withdraw-one (state_of es) i.sound.once;
   release_takes_one_lock = release-one (state_of es) i;
   commit_takes_all_locks = commit-all (state_of es) i;
   abort_takes_all_locks = abort-all (state_of es) i;

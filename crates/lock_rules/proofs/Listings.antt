@@ -165,7 +165,7 @@ there-request q (x ∷ qs) h = elim h [
 ]
 
 -- the request of a session is in the list
-request-in : (s : ℕ) (qs : List Claim) (q : Claim) → request_of s qs ≡ Some q → In q qs
+pub request-in : (s : ℕ) (qs : List Claim) (q : Claim) → request_of s qs ≡ Some q → In q qs
 request-in s [] q h = absurd (cc)
 request-in s (p ∷ qs) q h = go (eqb p.session s) h (request-in s qs q)
   where

@@ -6,7 +6,7 @@ use Rattle.std.proofs.lemmas.Bool.{cases_Bool}
 use Rattle.lock_modes.specs.declared.Mode.{Mode}
 use Rattle.lock_tree.specs.Paths.{same_path}
 use Rattle.lock_rules.specs.declared.calls.Call.{Call}
-use Rattle.lock_rules.specs.declared.calls.Call.TheVariants.{Begin, Lock, Convert, Poll, Release, Commit, Abort}
+use Rattle.lock_rules.specs.declared.calls.Call.TheVariants.{Begin, Lock, Convert, Poll, Release, Commit, Abort, Try, Withdraw}
 use Rattle.lock_rules.specs.declared.calls.Why.{Why}
 use Rattle.lock_rules.specs.declared.calls.Entry.{Entry}
 use Rattle.lock_rules.specs.declared.calls.TheConstants.{MAX_LOCKS}
@@ -23,7 +23,7 @@ use Rattle.lock_rules.proofs.Sound.{head-request, queue-rest, granted-alters, no
 use Rattle.lock_rules.proofs.Cuts.{less-alters, left-alters, one_less}
 use Rattle.lock_rules.proofs.Begins.{new, back, once-push}
 use Rattle.lock_rules.proofs.Once.{ordered-rest, later-behind}
-use Rattle.lock_rules.proofs.Steps.{all-pass, is-none}
+use Rattle.lock_rules.proofs.Steps.{all-pass, is-none, try-locks}
 
 -- how many locks a session holds
 
@@ -205,6 +205,10 @@ act-bounded st s Poll i h = i
 act-bounded st s (Release r) i h = let p = all-pass (tests st s (Release r)) h in released-bounded MAX_LOCKS s r st.table i (is-none (request_of s st.table.requests) p.1.0)
 act-bounded st s Commit i h = ended-bounded MAX_LOCKS s st.table i
 act-bounded st s Abort i h = ended-bounded MAX_LOCKS s st.table i
+act-bounded st s (Try r m) i h =
+    let p = all-pass (tests st s (Lock r m)) (try-locks st s r m h) in
+    asked-bounded MAX_LOCKS st s r (target_of (held_mode st.table s r) m) i (is-none (request_of s st.table.requests) p.1.0) (fresh-room MAX_LOCKS _ (count s st.table.held) (held_mode st.table s r) (omega arith) (bounded-count MAX_LOCKS st.table i s) p.1.1.1.1.1.0)
+act-bounded st s Withdraw i h = cancelled-bounded MAX_LOCKS s st.table i
 
 -- every call keeps the bound, refused or not
 step-bounded : (st : State) (s : ℕ) (c : Call) → IsBounded MAX_LOCKS st.table → IsBounded MAX_LOCKS (step st s c).state.table

@@ -5,7 +5,7 @@ use Rattle.std.specs.Prelude.{is_some}
 use Rattle.std.proofs.lemmas.Bool.Decides.{Decides-eqb}
 use Rattle.lock_modes.specs.declared.Mode.{Mode}
 use Rattle.lock_rules.specs.declared.calls.Call.{Call}
-use Rattle.lock_rules.specs.declared.calls.Call.TheVariants.{Begin, Lock, Convert, Poll, Release, Commit, Abort}
+use Rattle.lock_rules.specs.declared.calls.Call.TheVariants.{Begin, Lock, Convert, Poll, Release, Commit, Abort, Try, Withdraw}
 use Rattle.lock_rules.specs.declared.calls.Why.{Why}
 use Rattle.lock_rules.specs.declared.calls.Entry.{Entry}
 use Rattle.lock_rules.specs.declared.calls.Transaction.{Transaction}
@@ -20,7 +20,7 @@ use Rattle.lock_rules.proofs.Lists.{In}
 use Rattle.lock_rules.proofs.Alters.{Alters, request-alters, request-gone, waiting-other, true≢false}
 use Rattle.lock_rules.proofs.Sound.{In-queue, granted-alters, no_more-alters}
 use Rattle.lock_rules.proofs.Cuts.{less-alters, less-held, left-alters, left-none, one_less}
-use Rattle.lock_rules.proofs.Steps.{all-pass, is-none}
+use Rattle.lock_rules.proofs.Steps.{all-pass, is-none, try-locks}
 
 -- a change of v's locks keeps AllOpen if v passes the test whenever it holds a lock
 altered-open : (p : ℕ → Bool) (v : ℕ) (t t' : Table) → Alters v t t' → AllOpen p t → ((r : List ℕ) (m : Mode) → held_mode t' v r ≡ Some m → p v ≡ true) → AllOpen p t'
@@ -217,6 +217,8 @@ act-numbered st s Poll i h = i
 act-numbered st s (Release r) i h = let p = all-pass (tests st s (Release r)) h in released-numbered st s r i (is-none _ p.1.0)
 act-numbered st s Commit i h = ended-numbered st s i
 act-numbered st s Abort i h = ended-numbered st s i
+act-numbered st s (Try r m) i h = let p = all-pass (tests st s (Lock r m)) (try-locks st s r m h) in asked-numbered st s r (target_of (held_mode st.table s r) m) i (not-false _ p.0)
+act-numbered st s Withdraw i h = retabled st (after_cancel s st.table) i (cancelled-open (is_open st) s st.table i.owners)
 
 -- every call keeps IsNumbered, refused or not
 pub step-numbered : (st : State) (s : ℕ) (c : Call) → IsNumbered st → IsNumbered (step st s c).state

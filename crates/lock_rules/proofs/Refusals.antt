@@ -10,24 +10,25 @@ use Rattle.lock_modes.specs.Order.{at_or_below, need_of}
 use Rattle.lock_modes.proofs.Order.{order-tests, sup_only}
 use Rattle.lock_tree.specs.Paths.{same_path, is_ancestor, parent_of, has_parent}
 use Rattle.lock_rules.specs.declared.calls.Call.{Call}
-use Rattle.lock_rules.specs.declared.calls.Call.TheVariants.{Begin, Lock, Convert, Poll, Release, Commit, Abort}
+use Rattle.lock_rules.specs.declared.calls.Call.TheVariants.{Begin, Lock, Convert, Poll, Release, Commit, Abort, Try, Withdraw}
 use Rattle.lock_rules.specs.declared.calls.Reply.TheVariants.{Began, Granted, Waiting, Deadlock, Clear, Committed, Aborted, Refused}
 use Rattle.lock_rules.specs.declared.calls.Why.{Why}
 use Rattle.lock_rules.specs.declared.calls.Why.TheVariants.{NoTransaction, IsWaiting, IsDoomed}
 use Rattle.lock_rules.specs.declared.calls.TheConstants.{MAX_LOCKS}
 use Rattle.lock_rules.specs.State.{Claim, Table, State, mode_in, held_mode, mode_or_nothing, claims_of, is_open, is_waiting, is_doomed}
-use Rattle.lock_rules.specs.Step.{is_nothing, target_of, lacks_parent, holds_child, tests, first_failing, after_asking, act, outcome_of, step}
+use Rattle.lock_rules.specs.Step.{is_nothing, target_of, lacks_parent, holds_child, tests, first_failing, after_asking, act, outcome_of, step, would_wait, is_held}
 use Rattle.lock_rules.specs.Laws.{HasTransaction, AreLocksBounded, DoesRefusalKeep}
-use Rattle.lock_rules.specs.Effects.{IsTarget}
-use Rattle.lock_rules.specs.Refusals.{LacksParent, HoldsBelow, Fails, refusals_of, AreRefusalsMeant, AreOthersAccepted, DoesAbortNeedTransaction, IsClearCommitAccepted}
+use Rattle.lock_rules.specs.Effects.{IsTarget, IsFree}
+use Rattle.lock_rules.specs.Refusals.{LacksParent, HoldsBelow, Fails, refusals_of, AreRefusalsMeant, AreOthersAccepted, DoesAbortNeedTransaction, IsClearCommitAccepted, WaitsIfAsked}
 use Rattle.lock_rules.proofs.Lists.{same_path-refl}
 use Rattle.lock_rules.proofs.Alters.{true≢false}
-use Rattle.lock_rules.proofs.Marks.{sup-some}
+use Rattle.lock_rules.proofs.Marks.{sup-some, below-sup}
 use Rattle.lock_rules.proofs.Sound.{under-parent}
 use Rattle.lock_rules.proofs.Cuts.{child-held}
-use Rattle.lock_rules.proofs.Requests.{target}
+use Rattle.lock_rules.proofs.Requests.{target, covers, not-covered, free-granted, not-free}
 use Rattle.lock_rules.proofs.Taken.{passes}
 use Rattle.lock_rules.proofs.Sessions.{open-decides, waiting-decides, doomed-decides}
+use Rattle.lock_rules.specs.Queue.{is_granted_at_once}
 
 -- each test of a call
 
@@ -47,7 +48,7 @@ unheld-decides None = (λ h. refl, λ h. refl)
 unheld-decides (Some k) = (λ h. absurd (cc), λ h. absurd (cc))
 
 -- the target of a request is `target_of`
-one-target : (o : Option Mode) (m k : Mode) → IsTarget o m k → k ≡ target_of o m
+pub one-target : (o : Option Mode) (m k : Mode) → IsTarget o m k → k ≡ target_of o m
 one-target None m k h = h
 one-target (Some a) m k h = sup_only a m k h
 
@@ -97,6 +98,26 @@ full-decides : (max n : ℕ) (o : Option Mode) → n ≤ max → Decides (not (i
 full-decides max n None l = (λ h. (refl, omega (arith, leb-true max n h)), λ h. le-leb max n (omega (arith, h.1)))
 full-decides max n (Some k) l = (λ h. absurd (cc), λ h. let e = h.0 in absurd (cc))
 
+-- the test of a try decides whether its request would wait
+wait-decides : (t : Table) (s : ℕ) (r : List ℕ) (m : Mode) → Decides (would_wait t s r (target_of (held_mode t s r) m)) (WaitsIfAsked t s r m)
+wait-decides t s r m = (waits, test)
+  where
+    k : Mode
+    k = target_of (held_mode t s r) m
+
+    waits : would_wait t s r k ≡ true → WaitsIfAsked t s r m
+    waits h =
+        let p = and_parts (not (is_held (held_mode t s r) k)) (not (is_granted_at_once t s r k)) h in
+        (k, target (held_mode t s r) m, λ e. true≢false (covers (held_mode t s r) k e) (not-true _ p.0), λ f. true≢false (free-granted t s r k f) (not-true _ p.1))
+
+    test : WaitsIfAsked t s r m → would_wait t s r k ≡ true
+    test w =
+        let e : w.0 ≡ k = one-target (held_mode t s r) m w.0 w.1 in
+        let other : held_mode t s r ≢ Some k = subst (λ (x : Mode). held_mode t s r ≢ Some x) e w.2 in
+        let busy : IsFree t s r k → ⊥ = subst (λ (x : Mode). IsFree t s r x → ⊥) e w.3 in
+        and_from (not (is_held (held_mode t s r) k)) (not (is_granted_at_once t s r k))
+        (ap not (not-covered (held_mode t s r) k (below-sup (mode_or_nothing (held_mode t s r)) m) other)) (ap not (not-free t s r k busy))
+
 -- each test gives the refusal at its place in the list and decides what it says, if no earlier one is so
 abbrev AreMeant : (Why → Type 0) → List (Bool × Why) → List Why → Type 0
 AreMeant F [] [] = Unit {0}
@@ -115,6 +136,8 @@ call-meant st s few (Release r) = (refl, Decides-not (is_open st s) (open-decide
     child-decides t s r = (λ h. below-held s r t.held h, λ h. child-held s r h.0 h.1 t.held h.3 h.2)
 call-meant st s few Commit = (refl, Decides-not (is_open st s) (open-decides st s), λ a. (refl, waiting-decides st s, λ b. (refl, doomed-decides st s, λ d. tt)))
 call-meant st s few Abort = (refl, Decides-not (is_open st s) (open-decides st s), λ a. tt)
+call-meant st s few (Try r m) = (refl, Decides-not (is_open st s) (open-decides st s), λ a. (refl, waiting-decides st s, λ b. (refl, doomed-decides st s, λ d. (refl, nothing-decides m, λ asked. (refl, parent-decides st.table s r m asked, λ e. (refl, full-decides MAX_LOCKS (length (claims_of s st.table.held)) (held_mode st.table s r) (few s), λ f. (refl, wait-decides st.table s r m, λ g. tt)))))))
+call-meant st s few Withdraw = (refl, Decides-not (is_open st s) (open-decides st s), λ a. (refl, doomed-decides st s, λ b. (refl, Decides-not (is_waiting st s) (waiting-decides st s), λ d. tt)))
 
 -- the first test that fails
 
@@ -206,6 +229,10 @@ act-answers st s Poll why = poll-answers (is_doomed st s) (is_waiting st s) why
 act-answers st s (Release r) why = λ e. cc
 act-answers st s Commit why = (end-answers (length (claims_of s st.table.held)) why).0
 act-answers st s Abort why = (end-answers (length (claims_of s st.table.held)) why).1
+act-answers st s (Try r m) why =
+    let k = target_of (held_mode st.table s r) m in
+    ask-answers (is_doomed (after_asking st s r k) s) (is_waiting (after_asking st s r k) s) k why
+act-answers st s Withdraw why = λ e. cc
 
 -- a refusal comes from the tests
 outcome-refused : (o : Option Why) (st : State) (s : ℕ) (c : Call) (why : Why) → (outcome_of o st s c).reply ≡ Refused why → o ≡ Some why

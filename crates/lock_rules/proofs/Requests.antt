@@ -4,23 +4,23 @@ use Rattle.std.proofs.lemmas.Bool.{and_parts, and_from, or_right, not-false, cas
 use Rattle.lock_modes.specs.declared.Mode.{Mode}
 use Rattle.lock_modes.specs.Order.{at_or_below}
 use Rattle.lock_modes.proofs.Order.{at_or_below-antisym, sup_least, at_or_below-refl}
-use Rattle.lock_rules.specs.declared.calls.Call.TheVariants.{Lock, Convert}
+use Rattle.lock_rules.specs.declared.calls.Call.TheVariants.{Lock, Convert, Try}
 use Rattle.lock_rules.specs.declared.calls.Reply.{Reply}
 use Rattle.lock_rules.specs.declared.calls.Reply.TheVariants.{Granted, Waiting, Deadlock, Refused}
 use Rattle.lock_rules.specs.declared.calls.Why.{Why}
-use Rattle.lock_rules.specs.declared.calls.Why.TheVariants.{NoTransaction, IsWaiting, IsDoomed, NothingAsked, NotHeld, ParentNotHeld, TooManyLocks}
+use Rattle.lock_rules.specs.declared.calls.Why.TheVariants.{NoTransaction, IsWaiting, IsDoomed, NothingAsked, NotHeld, ParentNotHeld, TooManyLocks, WouldWait}
 use Rattle.lock_rules.specs.declared.calls.Transaction.{Transaction}
 use Rattle.lock_rules.specs.State.{Claim, Table, State, held_mode, mode_or_nothing, request_of, is_open, is_waiting, is_doomed, doomed_in, with_table}
 use Rattle.lock_rules.specs.Waits.{doom}
 use Rattle.lock_rules.specs.Queue.{queue, is_empty, fits, after_grant, is_granted_at_once, with_request}
-use Rattle.lock_rules.specs.Step.{Outcome, target_of, is_nothing, tests, first_failing, after_wait, is_held, after_asking, ask, outcome_of}
-use Rattle.lock_rules.specs.Effects.{IsPromotionOf, IsTarget, IsFree, IsWaitOf, IsReplyAfterWait, IsWaitSettled, IsAnswerTo, IsLockAnswered, IsConvertAnswered, IsLockOfHeldConvert, IsGrantedHeld, IsConversionHeld}
+use Rattle.lock_rules.specs.Step.{Outcome, target_of, is_nothing, tests, first_failing, after_wait, is_held, after_asking, ask, outcome_of, would_wait}
+use Rattle.lock_rules.specs.Effects.{IsPromotionOf, IsTarget, IsFree, IsWaitOf, IsReplyAfterWait, IsWaitSettled, IsAnswerTo, IsLockAnswered, IsConvertAnswered, IsLockOfHeldConvert, IsGrantedHeld, IsConversionHeld, IsTryAnswered, DoesTryLeaveWaits}
 use Rattle.lock_rules.specs.Sound.{IsOnce}
-use Rattle.lock_rules.proofs.Lists.{other, differs, request_of-claims_but, request_of-push}
+use Rattle.lock_rules.proofs.Lists.{other, differs, request_of-claims_but, request_of-push, claims_but-none}
 use Rattle.lock_rules.proofs.Alters.{request-alters, true≢false}
 use Rattle.lock_rules.proofs.Marks.{below-sup}
 use Rattle.lock_rules.proofs.Begins.{new, back, once-push, queue-fresh, queue-converted, queue-beside}
-use Rattle.lock_rules.proofs.Steps.{all-pass, is-none}
+use Rattle.lock_rules.proofs.Steps.{all-pass, is-none, try-locks, last-passes}
 use Rattle.lock_rules.proofs.States.{grant-one}
 use Rattle.lock_rules.proofs.Taken.{none, passes, step-acts}
 use Rattle.lock_rules.proofs.Victims.{settled-victims}
@@ -39,11 +39,11 @@ covered None k h e = absurd (cc)
 covered (Some a) k h e = ap (λ (c : Mode). Some c) (at_or_below-antisym a k h e)
 
 -- a held mode that is the target covers it
-covers : (o : Option Mode) (k : Mode) → o ≡ Some k → is_held o k ≡ true
+pub covers : (o : Option Mode) (k : Mode) → o ≡ Some k → is_held o k ≡ true
 covers o k e = ap (λ (p : Option Mode). is_held p k) e ∙ at_or_below-refl k
 
 -- a held mode below the target, and not the target, doesn't cover it
-not-covered : (o : Option Mode) (k : Mode) → at_or_below (mode_or_nothing o) k ≡ true → o ≢ Some k → is_held o k ≡ false
+pub not-covered : (o : Option Mode) (k : Mode) → at_or_below (mode_or_nothing o) k ≡ true → o ≢ Some k → is_held o k ≡ false
 not-covered o k h n = elim (cases_Bool (is_held o k)) [ inl e ↦ absurd (n (covered o k h e)) | inr e ↦ e ]
 
 -- requests that are free
@@ -59,7 +59,7 @@ none-empty [] e = refl
 none-empty (q ∷ qs) e = cc
 
 -- a free request is granted at once by the test
-free-granted : (t : Table) (s : ℕ) (r : List ℕ) (k : Mode) → IsFree t s r k → is_granted_at_once t s r k ≡ true
+pub free-granted : (t : Table) (s : ℕ) (r : List ℕ) (k : Mode) → IsFree t s r k → is_granted_at_once t s r k ≡ true
 free-granted t s r k f = and_from (fits t s r k) (is_some (held_mode t s r) || is_empty (queue t r)) f.0 (elim f.1 [
   | inl n ↦ ap (λ (b : Bool). b || is_empty (queue t r)) (some (held_mode t s r) n)
   | inr e ↦ or_right (is_some (held_mode t s r)) (is_empty (queue t r)) (none-empty (queue t r) e)
@@ -77,7 +77,7 @@ granted-free t s r k h =
     either None (q ∷ qs) e = absurd (cc)
 
 -- a request that isn't free isn't granted at once by the test
-not-free : (t : Table) (s : ℕ) (r : List ℕ) (k : Mode) → (IsFree t s r k → ⊥) → is_granted_at_once t s r k ≡ false
+pub not-free : (t : Table) (s : ℕ) (r : List ℕ) (k : Mode) → (IsFree t s r k → ⊥) → is_granted_at_once t s r k ≡ false
 not-free t s r k n = elim (cases_Bool (is_granted_at_once t s r k)) [ inl e ↦ absurd (n (granted-free t s r k e)) | inr e ↦ e ]
 
 -- the three cases of IsAnswerTo
@@ -160,6 +160,22 @@ module _ (st : State) (s : ℕ) (r : List ℕ) (k : Mode) where
         subst (λ (x : State). IsWaitSettled s r k st (outcome x)) (sym f) (settles n);
   }
 
+  -- a request that wouldn't wait is granted, and changes no request and no transaction
+  pub grants-now : request_of s st.table.requests ≡ None → is_doomed st s ≡ false → would_wait st.table s r k ≡ false
+      → ((ask st s r k).reply ≡ Granted k) × ((ask st s r k).state.table.requests ≡ st.table.requests) × ((ask st s r k).state.begun ≡ st.begun)
+  grants-now n d h = go (is_held (held_mode st.table s r) k) (is_granted_at_once st.table s r k) refl refl h
+    where
+      go : (b g : Bool) → is_held (held_mode st.table s r) k ≡ b → is_granted_at_once st.table s r k ≡ g → (not b && not g) ≡ false
+          → ((ask st s r k).reply ≡ Granted k) × ((ask st s r k).state.table.requests ≡ st.table.requests) × ((ask st s r k).state.begun ≡ st.begun)
+      go true g e f w = let x = same-state e in (ap answer x ∙ granted-answer st d n, ap (λ (y : State). y.table.requests) x, ap (λ (y : State). y.begun) x)
+      go false true e f w =
+          let x = later-state true e f in (
+            ap answer x ∙ granted-answer (later true) d (request_of-claims_but s st.table.requests),
+            ap (λ (y : State). y.table.requests) x ∙ claims_but-none s st.table.requests n,
+            ap (λ (y : State). y.begun) x,
+          )
+      go false false e f w = absurd (cc)
+
   -- after a request, a session that isn't doomed and doesn't wait holds the target
   module _ (once : IsOnce st.table.requests) (n : request_of s st.table.requests ≡ None) (opened : is_open st s ≡ true) (up : at_or_below (mode_or_nothing (held_mode st.table s r)) k ≡ true) where
     doomed-is : (o : Option Transaction) → is_some o ≡ true → doomed_in (doom o) ≡ true
@@ -210,6 +226,32 @@ lock-asks st s r m h =
       subst (λ (o : Outcome). IsAnswerTo s r (target_of (held_mode st.table s r) m) st o) (sym (step-acts st s (Lock r m) h))
           (ask-answers st s r (target_of (held_mode st.table s r) m) (is-none (request_of s st.table.requests) p.1.0) p.1.1.0 (below-sup (mode_or_nothing (held_mode st.table s r)) m)),
     )
+
+-- a Try that passes its tests is granted
+try-grants : (st : State) (s : ℕ) (r : List ℕ) (m : Mode) → first_failing (tests st s (Try r m)) ≡ None →
+    let k = target_of (held_mode st.table s r) m in
+    ((ask st s r k).reply ≡ Granted k) × ((ask st s r k).state.table.requests ≡ st.table.requests) × ((ask st s r k).state.begun ≡ st.begun)
+try-grants st s r m e =
+    let p = all-pass (tests st s (Lock r m)) (try-locks st s r m e) in
+    let l = last-passes (tests st s (Lock r m)) (would_wait st.table s r (target_of (held_mode st.table s r) m), WouldWait) e in
+    grants-now st s r (target_of (held_mode st.table s r) m) (is-none (request_of s st.table.requests) p.1.0) p.1.1.0 l
+
+-- a Try that isn't refused is answered as the law states it
+pub try-asks : (st : State) → IsTryAnswered st
+try-asks st s r m h =
+    let e = passes st s (Try r m) h in (
+      step-acts st s (Try r m) h ∙ sym (ap (λ (o : Option Why). outcome_of o st s (Lock r m)) (try-locks st s r m e)),
+      (target_of (held_mode st.table s r) m, target (held_mode st.table s r) m, ap (λ (o : Outcome). o.reply) (step-acts st s (Try r m) h) ∙ (try-grants st s r m e).0),
+    )
+
+-- a Try leaves all waits as they are
+pub try-leaves : (st : State) → DoesTryLeaveWaits st
+try-leaves st s r m = go (first_failing (tests st s (Try r m))) refl
+  where
+    go : (o : Option Why) → first_failing (tests st s (Try r m)) ≡ o
+        → ((outcome_of o st s (Try r m)).state.table.requests ≡ st.table.requests) × ((outcome_of o st s (Try r m)).state.begun ≡ st.begun)
+    go None e = let g = try-grants st s r m e in (g.1, g.2)
+    go (Some w) e = (refl, refl)
 
 -- a Convert that isn't refused is answered as the law states it
 pub convert-asks : (st : State) → IsConvertAnswered st

@@ -5,21 +5,22 @@ use Rattle.std.proofs.lemmas.Bool.{and_parts}
 use Rattle.lock_modes.specs.declared.Mode.{Mode}
 use Rattle.lock_modes.proofs.Order.{at_or_below-refl}
 use Rattle.lock_rules.specs.declared.calls.Call.{Call}
-use Rattle.lock_rules.specs.declared.calls.Call.TheVariants.{Begin, Lock, Convert, Poll, Release, Commit, Abort}
+use Rattle.lock_rules.specs.declared.calls.Call.TheVariants.{Begin, Lock, Convert, Poll, Release, Commit, Abort, Try, Withdraw}
 use Rattle.lock_rules.specs.declared.calls.Why.{Why}
+use Rattle.lock_rules.specs.declared.calls.Why.TheVariants.{WouldWait}
 use Rattle.lock_rules.specs.declared.calls.Entry.{Entry}
 use Rattle.lock_modes.specs.Order.{at_or_below}
 use Rattle.lock_rules.specs.State.{Claim, Table, State, no_locks, empty, held_mode, mode_or_nothing, request_of, is_waiting, with_table}
 use Rattle.lock_rules.specs.Queue.{fits, after_grant, is_granted_at_once, with_request}
 use Rattle.lock_rules.specs.Waits.{waits_for}
 use Rattle.waits_for.specs.Walks.{IsWalk}
-use Rattle.lock_rules.specs.Step.{is_nothing, lacks_parent, target_of, tests, first_failing, after_wait, is_held, after_asking, act, outcome_of, step}
+use Rattle.lock_rules.specs.Step.{lock_tests, would_wait, is_nothing, lacks_parent, target_of, tests, first_failing, after_wait, is_held, after_asking, act, outcome_of, step}
 use Rattle.lock_rules.specs.Legal.{state_after, state_of}
 use Rattle.lock_rules.specs.Sound.{Stands}
 use Rattle.lock_rules.proofs.Marks.{below-sup, sup-some}
 use Rattle.lock_rules.proofs.Sound.{Rises, granted-alters, unfit_at-alters}
 use Rattle.lock_rules.proofs.Promote.{granted-follows}
-use Rattle.lock_rules.proofs.Cuts.{IsQuiescent, released-lawful, ended-lawful}
+use Rattle.lock_rules.proofs.Cuts.{IsQuiescent, released-lawful, ended-lawful, cancelled-follows, cancelled-unfit}
 use Rattle.lock_rules.proofs.Begins.{new, begins-sound, begins-beside, begins-unfit}
 use Rattle.lock_rules.proofs.Settle.{settled-lawful}
 
@@ -102,6 +103,28 @@ may-ask st s r m i w n p =
     asked-kept st s r (target_of (held_mode st.table s r) m) i (is-none (request_of s st.table.requests) w) (below-sup (mode_or_nothing (held_mode st.table s r)) m)
     (p, sup-some (mode_or_nothing (held_mode st.table s r)) m n)
 
+-- if all tests of a list pass, so do those of its front
+pub front-passes : (ts us : List (Bool × Why)) → first_failing (ts ++ us) ≡ None → first_failing ts ≡ None
+front-passes [] us h = refl
+front-passes (t ∷ ts) us h = go t.0 h (front-passes ts us)
+  where
+    go : (b : Bool) → cond b (Some t.1) (first_failing (ts ++ us)) ≡ None → (first_failing (ts ++ us) ≡ None → first_failing ts ≡ None) → cond b (Some t.1) (first_failing ts) ≡ None
+    go true e next = absurd (cc)
+    go false e next = next e
+
+-- if all tests of a list pass, so does the last
+pub last-passes : (ts : List (Bool × Why)) (u : Bool × Why) → first_failing (ts ++ u ∷ []) ≡ None → u.0 ≡ false
+last-passes [] u h = (all-pass (u ∷ []) h).0
+last-passes (t ∷ ts) u h = go t.0 h (last-passes ts u)
+  where
+    go : (b : Bool) → cond b (Some t.1) (first_failing (ts ++ u ∷ [])) ≡ None → (first_failing (ts ++ u ∷ []) ≡ None → u.0 ≡ false) → u.0 ≡ false
+    go true e next = absurd (cc)
+    go false e next = next e
+
+-- a Try that passes its tests passes those of a Lock
+pub try-locks : (st : State) (s : ℕ) (r : List ℕ) (m : Mode) → first_failing (tests st s (Try r m)) ≡ None → first_failing (tests st s (Lock r m)) ≡ None
+try-locks st s r m = front-passes (lock_tests st s r m) ((would_wait st.table s r (target_of (held_mode st.table s r) m), WouldWait) ∷ [])
+
 -- a Lock that passes its tests keeps it
 pub lock-kept : (st : State) (s : ℕ) (r : List ℕ) (m : Mode) → IsQuiescent st.table → first_failing (tests st s (Lock r m)) ≡ None → IsKept st.table (after_asking st s r (target_of (held_mode st.table s r) m)).table
 lock-kept st s r m i h = let p = all-pass (tests st s (Lock r m)) h in may-ask st s r m i p.1.0 p.1.1.1.0 p.1.1.1.1.0
@@ -121,6 +144,10 @@ act-lawful st s (Release r) i h =
     released-lawful s r st.table i (is-none (request_of s st.table.requests) p.1.0) p.1.1.1.1.0
 act-lawful st s Commit i h = ended-lawful s st.table i
 act-lawful st s Abort i h = ended-lawful s st.table i
+act-lawful st s (Try r m) i h = (lock-kept st s r m i (try-locks st s r m h)).lawful
+act-lawful st s Withdraw i h =
+    let f = cancelled-follows s st.table i.sound in
+    record { sound = f.sound; no_circle = f.circle i.no_circle; unfit = cancelled-unfit s st.table i.sound i.unfit }
 
 -- every call keeps it, refused or not
 pub step-lawful : (st : State) (s : ℕ) (c : Call) → IsQuiescent st.table → IsQuiescent (step st s c).state.table

@@ -55,7 +55,7 @@ settled-enough (suc n) (suc m) s st i few less = go (reaches st.table s s) refl 
         next (cancelled-follows (victim_of st s) st.table i).sound (omega (arith, fewer)) (omega (arith, fewer))
 
 -- a session on a cycle waits, and so has a transaction
-on_circle-open : (st : State) (s v : ℕ) → IsNumbered st → AreOnCircle (waits_for st.table) s v → is_open st v ≡ true
+pub on_circle-open : (st : State) (s v : ℕ) → IsNumbered st → AreOnCircle (waits_for st.table) s v → is_open st v ≡ true
 on_circle-open st s v i c = let w = has-waits v st.table.requests (walk-waits st.table v c.back.others s c.back.walk) in i.owners.waiting v w.0 w.1
 
 -- there is one victim at most

@@ -1,7 +1,7 @@
 -- Each history worked by hand is legal: the prover serves its calls and compares the replies.
 use Rattle.std.proofs.Common.{refl}
 use Rattle.lock_rules.specs.Legal.{IsLegal}
-use Rattle.lock_rules.specs.Examples.{queue_in_order, promotion_stops, readers_together, promotion_in_order, intentions, refusals, down_the_tree, up_the_tree, release_promotes, release_of_one, asks_again, conversion_first, conversion_at_once, conversion_under_parent, abort_while_waiting, readers_that_convert, youngest_of_two, victim_in_the_way, conversions_that_meet, circle_through_the_queue, two_victims, begin_beside_others, polls, release_above_another, commit_of_four, conversion_to_the_upper_bound, conversion_needs_more_of_the_parent, parents_on_each_level, releases_promote_one_after_another, begins_again, polls_again, circle_of_five, three_victims, beside_the_circle}
+use Rattle.lock_rules.specs.Examples.{queue_in_order, promotion_stops, readers_together, promotion_in_order, intentions, refusals, down_the_tree, up_the_tree, release_promotes, release_of_one, asks_again, conversion_first, conversion_at_once, conversion_under_parent, abort_while_waiting, readers_that_convert, youngest_of_two, victim_in_the_way, conversions_that_meet, circle_through_the_queue, two_victims, begin_beside_others, polls, release_above_another, commit_of_four, conversion_to_the_upper_bound, conversion_needs_more_of_the_parent, parents_on_each_level, releases_promote_one_after_another, begins_again, polls_again, circle_of_five, three_victims, beside_the_circle, tries, try_closes_no_circle, withdrawals, withdrawal_from_the_midst, withdrawal_too_late}
 use Rattle.lock_rules.proofs.Histories.{legal-served}
 
 pub legal-queue_in_order : IsLegal queue_in_order
@@ -105,3 +105,18 @@ legal-three_victims = legal-served three_victims refl
 
 pub legal-beside_the_circle : IsLegal beside_the_circle
 legal-beside_the_circle = legal-served beside_the_circle refl
+
+pub legal-tries : IsLegal tries
+legal-tries = legal-served tries refl
+
+pub legal-try_closes_no_circle : IsLegal try_closes_no_circle
+legal-try_closes_no_circle = legal-served try_closes_no_circle refl
+
+pub legal-withdrawals : IsLegal withdrawals
+legal-withdrawals = legal-served withdrawals refl
+
+pub legal-withdrawal_from_the_midst : IsLegal withdrawal_from_the_midst
+legal-withdrawal_from_the_midst = legal-served withdrawal_from_the_midst refl
+
+pub legal-withdrawal_too_late : IsLegal withdrawal_too_late
+legal-withdrawal_too_late = legal-served withdrawal_too_late refl

@@ -4,9 +4,9 @@ use Rattle.std.proofs.lemmas.Bool.Decides.{Decides-eqb}
 use Rattle.lock_modes.specs.declared.Mode.{Mode}
 use Rattle.lock_modes.specs.declared.Mode.TheVariants.{NL, IS, IX, S, SIX, U, X}
 use Rattle.lock_rules.specs.declared.calls.Reply.{Reply}
-use Rattle.lock_rules.specs.declared.calls.Reply.TheVariants.{Began, Granted, Waiting, Deadlock, Clear, Released, Committed, Aborted, Refused}
+use Rattle.lock_rules.specs.declared.calls.Reply.TheVariants.{Began, Granted, Waiting, Deadlock, Clear, Released, Committed, Aborted, Refused, Withdrawn}
 use Rattle.lock_rules.specs.declared.calls.Why.{Why}
-use Rattle.lock_rules.specs.declared.calls.Why.TheVariants.{AlreadyOpen, NoTransaction, IsWaiting, IsDoomed, NothingAsked, NotHeld, ParentNotHeld, ChildHeld, TooManyLocks}
+use Rattle.lock_rules.specs.declared.calls.Why.TheVariants.{AlreadyOpen, NoTransaction, IsWaiting, IsDoomed, NothingAsked, NotHeld, ParentNotHeld, ChildHeld, TooManyLocks, WouldWait, NotWaiting}
 use Rattle.lock_rules.specs.declared.calls.Entry.{Entry}
 use Rattle.lock_rules.specs.State.{State, empty}
 use Rattle.lock_rules.specs.Step.{step}
@@ -48,6 +48,8 @@ why_number NotHeld = 6
 why_number ParentNotHeld = 7
 why_number ChildHeld = 8
 why_number TooManyLocks = 9
+why_number WouldWait = 11
+why_number NotWaiting = 12
 
 -- a number for each reply, enough to tell those of the worked histories apart
 abbrev pub reply_number : Reply → ℕ
@@ -60,6 +62,7 @@ reply_number Released = 4
 reply_number (Committed n) = 200 + n
 reply_number (Aborted n) = 300 + n
 reply_number (Refused w) = 20 + why_number w
+reply_number Withdrawn = 5
 
 -- a history with a reply of another number at one place isn't legal
 pub wrong : (p : ℕ) (r : Reply) (es : List Entry) → eqb (reply_number (reply_or p es r)) (reply_number r) ≡ false → IsLegal es → IsLegal (with_reply p r es) → ⊥

@@ -3,8 +3,8 @@ use Rattle.std.specs.Prelude.{◌≡◌, ◌≢◌, ℕ, ◌+◌, ◌↔◌, tru
 use Rattle.lock_modes.specs.declared.Mode.{Mode}
 use Rattle.lock_modes.specs.Order.{IsLeastUpperBound}
 use Rattle.lock_rules.specs.declared.calls.Call.{Call}
-use Rattle.lock_rules.specs.declared.calls.Call.TheVariants.{Begin, Lock, Convert, Poll, Release, Commit, Abort}
-use Rattle.lock_rules.specs.declared.calls.Reply.TheVariants.{Began, Granted, Waiting, Deadlock, Clear, Released, Committed, Aborted, Refused}
+use Rattle.lock_rules.specs.declared.calls.Call.TheVariants.{Begin, Lock, Convert, Poll, Release, Commit, Abort, Try, Withdraw}
+use Rattle.lock_rules.specs.declared.calls.Reply.TheVariants.{Began, Granted, Waiting, Deadlock, Clear, Released, Committed, Aborted, Refused, Withdrawn}
 use Rattle.lock_rules.specs.declared.calls.Why.{Why}
 use Rattle.lock_rules.specs.State.{Claim, Table, State, held_mode, request_of, claims_of, claims_but, is_open, is_waiting, is_doomed, with_table}
 use Rattle.lock_rules.specs.Queue.{conversions, fresh_requests, queue, fits, locks_but, with_request}
@@ -182,6 +182,31 @@ IsLockAnswered st = (s : ℕ) (r : List ℕ) (m : Mode) → IsNotRefused st s (L
 abbrev pub IsConvertAnswered : State → Type 0
 IsConvertAnswered st = (s : ℕ) (r : List ℕ) (m : Mode) → IsNotRefused st s (Convert r m) →
     (k : Mode) × IsTarget (held_mode st.table s r) m k × IsAnswerTo s r k st (step st s (Convert r m))
+
+-- a Try that isn't refused does what a Lock does, and is granted
+abbrev pub IsTryAnswered : State → Type 0
+IsTryAnswered st = (s : ℕ) (r : List ℕ) (m : Mode) → IsNotRefused st s (Try r m) →
+    (step st s (Try r m) ≡ step st s (Lock r m)) × ((k : Mode) × IsTarget (held_mode st.table s r) m k × ((step st s (Try r m)).reply ≡ Granted k))
+
+-- a Try changes no request and no transaction: nobody begins to wait, is granted what it waits for, or becomes a victim
+abbrev pub DoesTryLeaveWaits : State → Type 0
+DoesTryLeaveWaits st = (s : ℕ) (r : List ℕ) (m : Mode) →
+    ((step st s (Try r m)).state.table.requests ≡ st.table.requests) × ((step st s (Try r m)).state.begun ≡ st.begun)
+
+-- the session's request is taken back, and its resource promoted; the session keeps its transaction and its locks, and each
+-- other session is unchanged, or its request for that resource is granted
+pub record IsWithdrawalOf (s : ℕ) (q : Claim) (st st' : State) : Type 0 where
+  pub waited : request_of s st.table.requests ≡ Some q
+  pub waits_no_more : request_of s st'.table.requests ≡ None
+  pub held : (x : List ℕ) → held_mode st'.table s x ≡ held_mode st.table s x
+  pub others : (u : ℕ) → u ≢ s → IsUnchanged u st.table st'.table ⊎ ((p : Claim) × IsPromotionOf u p st.table st'.table × (p.resource ≡ q.resource))
+  pub promotion : ArePromotionsLongest (q.resource ∷ []) (record { held = st.table.held; requests = claims_but s st.table.requests }) st'.table
+  pub transactions : (st'.begun ≡ st.begun) × (st'.count ≡ st.count)
+
+-- a withdrawal that isn't refused replies Withdrawn and takes the session's request back
+abbrev pub DoesWithdrawTakeRequest : State → Type 0
+DoesWithdrawTakeRequest st = (s : ℕ) → IsNotRefused st s Withdraw →
+    ((step st s Withdraw).reply ≡ Withdrawn) × ((q : Claim) × IsWithdrawalOf s q st (step st s Withdraw).state)
 
 -- a Lock on a resource that the session holds does what a Convert does
 abbrev pub IsLockOfHeldConvert : State → Type 0

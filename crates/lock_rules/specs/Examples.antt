@@ -2,10 +2,10 @@
 use Rattle.std.specs.Prelude.{ℕ, zero, suc, List, [], ◌∷◌}
 use Rattle.lock_modes.specs.declared.Mode.TheVariants.{NL, IS, IX, S, SIX, X}
 use Rattle.lock_rules.specs.declared.calls.Call.{Call}
-use Rattle.lock_rules.specs.declared.calls.Call.TheVariants.{Begin, Lock, Convert, Poll, Release, Commit, Abort}
+use Rattle.lock_rules.specs.declared.calls.Call.TheVariants.{Begin, Lock, Convert, Poll, Release, Commit, Abort, Try, Withdraw}
 use Rattle.lock_rules.specs.declared.calls.Reply.{Reply}
-use Rattle.lock_rules.specs.declared.calls.Reply.TheVariants.{Began, Granted, Waiting, Deadlock, Clear, Released, Committed, Aborted, Refused}
-use Rattle.lock_rules.specs.declared.calls.Why.TheVariants.{AlreadyOpen, NoTransaction, IsWaiting, IsDoomed, NothingAsked, NotHeld, ParentNotHeld, ChildHeld}
+use Rattle.lock_rules.specs.declared.calls.Reply.TheVariants.{Began, Granted, Waiting, Deadlock, Clear, Released, Committed, Aborted, Refused, Withdrawn}
+use Rattle.lock_rules.specs.declared.calls.Why.TheVariants.{AlreadyOpen, NoTransaction, IsWaiting, IsDoomed, NothingAsked, NotHeld, ParentNotHeld, ChildHeld, WouldWait, NotWaiting}
 use Rattle.lock_rules.specs.declared.calls.Entry.{Entry}
 
 -- a call of a session with its reply
@@ -506,4 +506,96 @@ beside_the_circle =
     ∷ entry 2 Poll Deadlock
     ∷ entry 3 Poll Waiting
     ∷ entry 4 Poll Waiting
+    ∷ []
+
+-- A try is granted where a lock would be, and refused where a lock would wait: for another holder, as a conversion too, and
+-- for a request that is ahead in the queue. It leaves no request.
+abbrev pub tries : List Entry
+tries =
+    entry 1 Begin (Began 1)
+    ∷ entry 1 (Try (database 1) S) (Granted S)
+    ∷ entry 2 (Try (database 1) X) (Refused NoTransaction)
+    ∷ entry 2 Begin (Began 2)
+    ∷ entry 2 (Try (database 1) S) (Granted S)
+    ∷ entry 2 (Try (database 1) NL) (Refused NothingAsked)
+    ∷ entry 2 (Try (database 1) X) (Refused WouldWait)
+    ∷ entry 2 Poll Clear
+    ∷ entry 3 Begin (Began 3) ∷ entry 3 (Lock (database 1) X) Waiting
+    ∷ entry 4 Begin (Began 4)
+    ∷ entry 4 (Try (database 1) S) (Refused WouldWait)
+    ∷ entry 4 Poll Clear
+    ∷ entry 3 (Try (database 2) S) (Refused IsWaiting)
+    ∷ entry 1 (Try (database 1) IS) (Granted S)
+    ∷ entry 1 (Try (1 ∷ 2 ∷ []) X) (Refused ParentNotHeld)
+    ∷ entry 4 (Try (database 2) X) (Granted X)
+    ∷ entry 1 Commit (Committed 1) ∷ entry 2 Commit (Committed 1) ∷ entry 3 Poll Clear
+    ∷ []
+
+-- A lock of session 1 would close a cycle with session 2, and does so later. A try is refused, and nobody becomes a victim.
+abbrev pub try_closes_no_circle : List Entry
+try_closes_no_circle =
+    entry 1 Begin (Began 1) ∷ entry 2 Begin (Began 2)
+    ∷ entry 1 (Lock (database 1) X) (Granted X)
+    ∷ entry 2 (Lock (database 2) X) (Granted X)
+    ∷ entry 2 (Lock (database 1) S) Waiting
+    ∷ entry 1 (Try (database 2) S) (Refused WouldWait)
+    ∷ entry 2 Poll Waiting
+    ∷ entry 1 (Lock (database 2) S) Waiting
+    ∷ entry 2 Poll Deadlock
+    ∷ entry 2 (Try (database 3) S) (Refused IsDoomed)
+    ∷ entry 2 Withdraw (Refused IsDoomed)
+    ∷ entry 2 Abort (Aborted 1)
+    ∷ entry 1 Poll Clear
+    ∷ []
+
+-- Requests are taken back: twice from the front of the queue, which grants the next that fits, and a conversion. The session
+-- keeps its transaction and its locks.
+abbrev pub withdrawals : List Entry
+withdrawals =
+    entry 1 Withdraw (Refused NoTransaction)
+    ∷ entry 1 Begin (Began 1) ∷ entry 2 Begin (Began 2) ∷ entry 3 Begin (Began 3) ∷ entry 4 Begin (Began 4)
+    ∷ entry 1 Withdraw (Refused NotWaiting)
+    ∷ entry 1 (Lock (database 1) S) (Granted S)
+    ∷ entry 2 (Lock (database 2) S) (Granted S)
+    ∷ entry 2 (Lock (database 1) X) Waiting
+    ∷ entry 3 (Lock (database 1) S) Waiting
+    ∷ entry 4 (Lock (database 1) X) Waiting
+    ∷ entry 2 Withdraw Withdrawn
+    ∷ entry 3 Poll Clear ∷ entry 4 Poll Waiting ∷ entry 2 Poll Clear
+    ∷ entry 2 Withdraw (Refused NotWaiting)
+    ∷ entry 2 (Lock (database 1) S) Waiting
+    ∷ entry 4 Withdraw Withdrawn
+    ∷ entry 2 Commit (Committed 2)
+    ∷ entry 3 (Convert (database 1) X) Waiting
+    ∷ entry 3 Withdraw Withdrawn
+    ∷ entry 3 (Release (database 1)) Released
+    ∷ entry 3 Commit (Committed 0) ∷ entry 4 Commit (Committed 0) ∷ entry 1 Commit (Committed 1)
+    ∷ []
+
+-- A request is taken back from the midst of a queue. Those ahead and behind wait on.
+abbrev pub withdrawal_from_the_midst : List Entry
+withdrawal_from_the_midst =
+    entry 1 Begin (Began 1) ∷ entry 2 Begin (Began 2) ∷ entry 3 Begin (Began 3) ∷ entry 4 Begin (Began 4)
+    ∷ entry 1 (Lock (database 1) S) (Granted S)
+    ∷ entry 2 (Lock (database 1) X) Waiting
+    ∷ entry 3 (Lock (database 1) X) Waiting
+    ∷ entry 4 (Lock (database 1) S) Waiting
+    ∷ entry 3 Withdraw Withdrawn
+    ∷ entry 4 Poll Waiting ∷ entry 2 Poll Waiting
+    ∷ entry 1 Commit (Committed 1)
+    ∷ entry 2 Poll Clear ∷ entry 4 Poll Waiting
+    ∷ entry 2 Commit (Committed 1)
+    ∷ entry 4 Poll Clear
+    ∷ []
+
+-- A withdrawal comes too late, since the request was granted.
+abbrev pub withdrawal_too_late : List Entry
+withdrawal_too_late =
+    entry 1 Begin (Began 1) ∷ entry 2 Begin (Began 2)
+    ∷ entry 1 (Lock (database 1) X) (Granted X)
+    ∷ entry 2 (Lock (database 1) S) Waiting
+    ∷ entry 1 Commit (Committed 1)
+    ∷ entry 2 Withdraw (Refused NotWaiting)
+    ∷ entry 2 Poll Clear
+    ∷ entry 2 Commit (Committed 1)
     ∷ []

@@ -20,14 +20,16 @@ op_of_call call.Poll = op.Poll
 op_of_call (call.Release r) = op.Release
 op_of_call call.Commit = op.Commit
 op_of_call call.Abort = op.Abort
+op_of_call (call.Try r m) = op.Try
+op_of_call call.Withdraw = op.Withdraw
 
 -- the operations that take a resource
 abbrev pub ops_with_resource : List Op
-ops_with_resource = op.Lock ∷ op.Convert ∷ op.Release ∷ []
+ops_with_resource = op.Lock ∷ op.Convert ∷ op.Release ∷ op.Try ∷ []
 
 -- the operations that take a mode
 abbrev pub ops_with_mode : List Op
-ops_with_mode = op.Lock ∷ op.Convert ∷ []
+ops_with_mode = op.Lock ∷ op.Convert ∷ op.Try ∷ []
 
 -- the number of an operation
 abbrev pub number_of_op : Op → ℕ
@@ -38,6 +40,8 @@ number_of_op op.Poll = 4
 number_of_op op.Release = 5
 number_of_op op.Commit = 6
 number_of_op op.Abort = 7
+number_of_op op.Try = 8
+number_of_op op.Withdraw = 9
 
 -- the kind of a reply
 abbrev pub kind_of_reply : Reply → ReplyKind
@@ -50,6 +54,7 @@ kind_of_reply reply.Released = kind.Released
 kind_of_reply (reply.Committed n) = kind.Committed
 kind_of_reply (reply.Aborted n) = kind.Aborted
 kind_of_reply (reply.Refused w) = kind.Refused
+kind_of_reply reply.Withdrawn = kind.Withdrawn
 
 -- the number of a kind of replies
 abbrev pub number_of_kind : ReplyKind → ℕ
@@ -62,6 +67,7 @@ number_of_kind kind.Released = 6
 number_of_kind kind.Committed = 7
 number_of_kind kind.Aborted = 8
 number_of_kind kind.Refused = 9
+number_of_kind kind.Withdrawn = 10
 
 -- the number of a refusal, by which the tests of a call are ordered; number 10 is retired
 abbrev pub number_of_why : Why → ℕ
@@ -74,3 +80,5 @@ number_of_why why.NotHeld = 6
 number_of_why why.ParentNotHeld = 7
 number_of_why why.ChildHeld = 8
 number_of_why why.TooManyLocks = 9
+number_of_why why.WouldWait = 11
+number_of_why why.NotWaiting = 12

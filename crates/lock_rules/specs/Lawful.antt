@@ -1,7 +1,7 @@
 -- All laws of a state that a history leads to: of its table, of its transactions, and of the calls made in it, refused or not.
 use Rattle.lock_rules.specs.State.{State}
 use Rattle.lock_rules.specs.Laws.{AreHoldersListed, AreLocksOnce, IsOneRequestEach, AreLocksBounded, IsFitExact, AreHoldersCompatible, DoesNobodyWaitNeedlessly, AreLocksUnderParents, AreRequestsUnderParents, AreChildrenHeld, IsAccessCompatible, IsRefusalExact, DoesRefusalKeep, DoesPromotionGrantLongest, AreWaitsExact, HasNoCircle, DoDoomedWaitForNothing, AreOwnersOpen, AreNumbersDistinct, AreNumbersCounted, AreVictimsDetermined}
-use Rattle.lock_rules.specs.Effects.{DoesBeginOpen, DoesPollReport, DoVictimsKeepTheirLocks, DoesDoomPromote, IsLockAnswered, IsConvertAnswered, IsLockOfHeldConvert, IsGrantedHeld, IsConversionHeld, DoesReleaseTakeOneLock, DoesCommitTakeAllLocks, DoesAbortTakeAllLocks}
+use Rattle.lock_rules.specs.Effects.{DoesBeginOpen, DoesPollReport, DoVictimsKeepTheirLocks, DoesDoomPromote, IsLockAnswered, IsConvertAnswered, IsLockOfHeldConvert, IsGrantedHeld, IsConversionHeld, IsTryAnswered, DoesTryLeaveWaits, DoesWithdrawTakeRequest, DoesReleaseTakeOneLock, DoesCommitTakeAllLocks, DoesAbortTakeAllLocks}
 use Rattle.lock_rules.specs.Refusals.{AreRefusalsMeant, AreOthersAccepted, DoTestsGiveRefusals, AreRefusalsLowest, AreConversionsUnbounded, DoesAbortNeedTransaction, IsClearCommitAccepted}
 
 -- all laws of a state hold
@@ -43,6 +43,9 @@ pub record IsLawfulState (st : State) : Type 0 where
   pub held_is_converted : IsLockOfHeldConvert st
   pub granted_is_held : IsGrantedHeld st
   pub converted_is_held : IsConversionHeld st
+  pub tries_answered : IsTryAnswered st
+  pub tries_leave_waits : DoesTryLeaveWaits st
+  pub withdraw_takes_request : DoesWithdrawTakeRequest st
   pub release_takes_one_lock : DoesReleaseTakeOneLock st
   pub commit_takes_all_locks : DoesCommitTakeAllLocks st
   pub abort_takes_all_locks : DoesAbortTakeAllLocks st

@@ -6,7 +6,7 @@ use Rattle.lock_modes.specs.Order.{IsAtOrBelow, need_of}
 use Rattle.lock_modes.specs.Compatibility.{IsCompatible}
 use Rattle.lock_tree.specs.Paths.{is_ancestor, parent_of, has_parent}
 use Rattle.lock_rules.specs.declared.calls.Call.{Call}
-use Rattle.lock_rules.specs.declared.calls.Call.TheVariants.{Release, Commit, Abort}
+use Rattle.lock_rules.specs.declared.calls.Call.TheVariants.{Release, Commit, Abort, Withdraw}
 use Rattle.lock_rules.specs.declared.calls.Reply.TheVariants.{Refused}
 use Rattle.lock_rules.specs.declared.calls.Why.{Why}
 use Rattle.lock_rules.specs.declared.calls.Entry.{Entry}
@@ -259,11 +259,12 @@ DoesDoomStand front rest = (s : ℕ) (x : Transaction) → (state_of front).begu
 abbrev pub IsRequestOver : ℕ → Claim → State → Type 0
 IsRequestOver s q st = (request_of s st.table.requests ≡ None) × ((held_mode st.table s q.resource ≡ Some q.mode) ⊎ HasDoomedTransaction st s)
 
--- from st on the session waits with this request: through all entries, or up to its abort or an entry that ends the wait
+-- from st on the session waits with this request: through all entries, or up to its abort, its withdrawal or an entry that
+-- ends the wait
 abbrev pub DoesWaitOn : ℕ → Claim → State → List Entry → Type 0
 DoesWaitOn s q st [] = request_of s st.table.requests ≡ Some q
 DoesWaitOn s q st (e ∷ es) = (request_of s st.table.requests ≡ Some q)
-    × (((e.session ≡ s) × (e.call ≡ Abort)) ⊎ (IsRequestOver s q (step st e.session e.call).state ⊎ DoesWaitOn s q (step st e.session e.call).state es))
+    × (((e.session ≡ s) × ((e.call ≡ Abort) ⊎ (e.call ≡ Withdraw))) ⊎ (IsRequestOver s q (step st e.session e.call).state ⊎ DoesWaitOn s q (step st e.session e.call).state es))
 
 -- a request that waits after the front waits on through the rest, as DoesWaitOn says
 abbrev pub DoesRequestStand : List Entry → List Entry → Type 0

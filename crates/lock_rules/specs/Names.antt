@@ -1,7 +1,7 @@
 -- The names of the refusals, as histories and messages write them.
 use Rattle.std.specs.Prelude.{ℕ, List, codes}
 use Rattle.lock_rules.specs.declared.calls.Why.{Why}
-use Rattle.lock_rules.specs.declared.calls.Why.TheVariants.{AlreadyOpen, NoTransaction, IsWaiting, IsDoomed, NothingAsked, NotHeld, ParentNotHeld, ChildHeld, TooManyLocks}
+use Rattle.lock_rules.specs.declared.calls.Why.TheVariants.{AlreadyOpen, NoTransaction, IsWaiting, IsDoomed, NothingAsked, NotHeld, ParentNotHeld, ChildHeld, TooManyLocks, WouldWait, NotWaiting}
 
 -- the name of the refusal, as histories write it
 abbrev pub name_of_why : Why → List ℕ
@@ -14,3 +14,5 @@ name_of_why NotHeld = codes "NotHeld"
 name_of_why ParentNotHeld = codes "ParentNotHeld"
 name_of_why ChildHeld = codes "ChildHeld"
 name_of_why TooManyLocks = codes "TooManyLocks"
+name_of_why WouldWait = codes "WouldWait"
+name_of_why NotWaiting = codes "NotWaiting"

@@ -5,16 +5,16 @@ use Rattle.lock_modes.specs.declared.Mode.TheVariants.{NL}
 use Rattle.lock_modes.specs.Order.{need_of}
 use Rattle.lock_tree.specs.Paths.{is_ancestor, parent_of, has_parent}
 use Rattle.lock_rules.specs.declared.calls.Call.{Call}
-use Rattle.lock_rules.specs.declared.calls.Call.TheVariants.{Begin, Lock, Convert, Poll, Release, Commit, Abort}
+use Rattle.lock_rules.specs.declared.calls.Call.TheVariants.{Begin, Lock, Convert, Poll, Release, Commit, Abort, Try, Withdraw}
 use Rattle.lock_rules.specs.declared.calls.Reply.TheVariants.{Refused}
 use Rattle.lock_rules.specs.declared.calls.Why.{Why}
-use Rattle.lock_rules.specs.declared.calls.Why.TheVariants.{AlreadyOpen, NoTransaction, IsWaiting, IsDoomed, NothingAsked, NotHeld, ParentNotHeld, ChildHeld, TooManyLocks}
+use Rattle.lock_rules.specs.declared.calls.Why.TheVariants.{AlreadyOpen, NoTransaction, IsWaiting, IsDoomed, NothingAsked, NotHeld, ParentNotHeld, ChildHeld, TooManyLocks, WouldWait, NotWaiting}
 use Rattle.lock_rules.specs.declared.calls.TheConstants.{MAX_LOCKS}
 use Rattle.lock_rules.specs.State.{Table, State, held_mode, claims_of}
 use Rattle.lock_rules.specs.Step.{tests, step}
 use Rattle.lock_rules.specs.Kinds.{number_of_why}
 use Rattle.lock_rules.specs.Laws.{HoldsAtLeast, HasTransaction, HasDoomedTransaction, HasRequest}
-use Rattle.lock_rules.specs.Effects.{IsNotRefused, IsTarget}
+use Rattle.lock_rules.specs.Effects.{IsNotRefused, IsTarget, IsFree}
 
 -- r has a parent, and the session doesn't hold it in a mode at or above what the target of this request needs
 abbrev pub LacksParent : Table → ℕ → List ℕ → Mode → Type 0
@@ -27,6 +27,10 @@ HoldsBelow t s r = (x : List ℕ) × (k : Mode) × (is_ancestor r x ≡ true) ×
 -- the session doesn't hold r, and it holds MAX_LOCKS locks
 abbrev pub HoldsMaxLocks : Table → ℕ → List ℕ → Type 0
 HoldsMaxLocks t s r = (held_mode t s r ≡ None) × (length (claims_of s t.held) ≡ MAX_LOCKS)
+
+-- the session doesn't hold r in the target of this request, and the target isn't free
+abbrev pub WaitsIfAsked : Table → ℕ → List ℕ → Mode → Type 0
+WaitsIfAsked t s r m = (k : Mode) × IsTarget (held_mode t s r) m k × (held_mode t s r ≢ Some k) × (IsFree t s r k → ⊥)
 
 -- what each refusal says of the session and its call; which refusals a call can get is in refusals_of
 abbrev pub Fails : State → ℕ → Call → Why → Type 0
@@ -42,6 +46,11 @@ Fails st s (Lock r m) ParentNotHeld = LacksParent st.table s r m
 Fails st s (Convert r m) ParentNotHeld = LacksParent st.table s r m
 Fails st s (Release r) ChildHeld = HoldsBelow st.table s r
 Fails st s (Lock r m) TooManyLocks = HoldsMaxLocks st.table s r
+Fails st s (Try r m) NothingAsked = m ≡ NL
+Fails st s (Try r m) ParentNotHeld = LacksParent st.table s r m
+Fails st s (Try r m) TooManyLocks = HoldsMaxLocks st.table s r
+Fails st s (Try r m) WouldWait = WaitsIfAsked st.table s r m
+Fails st s Withdraw NotWaiting = HasRequest st s → ⊥
 Fails st s _ _ = ⊥
 
 -- the refusals that a call can get, in the order of its tests, which is the order of their numbers
@@ -53,6 +62,8 @@ refusals_of Poll = NoTransaction ∷ []
 refusals_of (Release r) = NoTransaction ∷ IsWaiting ∷ IsDoomed ∷ NotHeld ∷ ChildHeld ∷ []
 refusals_of Commit = NoTransaction ∷ IsWaiting ∷ IsDoomed ∷ []
 refusals_of Abort = NoTransaction ∷ []
+refusals_of (Try r m) = NoTransaction ∷ IsWaiting ∷ IsDoomed ∷ NothingAsked ∷ ParentNotHeld ∷ TooManyLocks ∷ WouldWait ∷ []
+refusals_of Withdraw = NoTransaction ∷ IsDoomed ∷ NotWaiting ∷ []
 
 -- the refusal is one of the call's, its test fails, and no test before it does
 abbrev pub IsFirstToFail : State → ℕ → Call → Why → Type 0

@@ -6,14 +6,14 @@ use Rattle.lock_modes.specs.declared.Mode.TheVariants.{NL}
 use Rattle.lock_modes.specs.Order.{at_or_below, sup_of, need_of}
 use Rattle.lock_tree.specs.Paths.{is_ancestor, parent_of, has_parent}
 use Rattle.lock_rules.specs.declared.calls.Call.{Call}
-use Rattle.lock_rules.specs.declared.calls.Call.TheVariants.{Begin, Lock, Convert, Poll, Release, Commit, Abort}
+use Rattle.lock_rules.specs.declared.calls.Call.TheVariants.{Begin, Lock, Convert, Poll, Release, Commit, Abort, Try, Withdraw}
 use Rattle.lock_rules.specs.declared.calls.Reply.{Reply}
-use Rattle.lock_rules.specs.declared.calls.Reply.TheVariants.{Began, Granted, Waiting, Deadlock, Clear, Released, Committed, Aborted, Refused}
+use Rattle.lock_rules.specs.declared.calls.Reply.TheVariants.{Began, Granted, Waiting, Deadlock, Clear, Released, Committed, Aborted, Refused, Withdrawn}
 use Rattle.lock_rules.specs.declared.calls.Why.{Why}
-use Rattle.lock_rules.specs.declared.calls.Why.TheVariants.{AlreadyOpen, NoTransaction, IsWaiting, IsDoomed, NothingAsked, NotHeld, ParentNotHeld, ChildHeld, TooManyLocks}
+use Rattle.lock_rules.specs.declared.calls.Why.TheVariants.{AlreadyOpen, NoTransaction, IsWaiting, IsDoomed, NothingAsked, NotHeld, ParentNotHeld, ChildHeld, TooManyLocks, WouldWait, NotWaiting}
 use Rattle.lock_rules.specs.declared.calls.TheConstants.{MAX_LOCKS}
 use Rattle.lock_rules.specs.State.{Table, State, held_mode, mode_or_nothing, request_of, claims_of, claims_but, is_open, is_waiting, is_doomed, with_begun, with_table}
-use Rattle.lock_rules.specs.Waits.{resource_of_request, after_victims}
+use Rattle.lock_rules.specs.Waits.{resource_of_request, after_cancel, after_victims}
 use Rattle.lock_rules.specs.Queue.{locks_but, after_grant, is_granted_at_once, with_request, after_promotion, after_promotions}
 
 -- the state after a call, and its reply
@@ -34,14 +34,22 @@ target_of o m = sup_of (mode_or_nothing o) m
 abbrev pub lacks_parent : Table → ℕ → List ℕ → Mode → Bool
 lacks_parent t s r m = has_parent r && not (at_or_below (need_of m) (mode_or_nothing (held_mode t s (parent_of r))))
 
+-- there is a held mode, and it covers m
+abbrev pub is_held : Option Mode → Mode → Bool
+is_held None m = false
+is_held (Some k) m = at_or_below m k
+
+-- a request for the target m would wait: the session's lock doesn't cover it, and it isn't granted at once
+abbrev pub would_wait : Table → ℕ → List ℕ → Mode → Bool
+would_wait t s r m = not (is_held (held_mode t s r) m) && not (is_granted_at_once t s r m)
+
 -- the session holds a lock on a descendant of the resource
 abbrev pub holds_child : Table → ℕ → List ℕ → Bool
 holds_child t s r = list_any (λ c. (c.session == s) && is_ancestor r c.resource) t.held
 
--- the tests of a call, in order: whether each fails, and the refusal that it gives
-abbrev pub tests : State → ℕ → Call → List (Bool × Why)
-tests st s Begin = (is_open st s, AlreadyOpen) ∷ []
-tests st s (Lock r m) =
+-- the tests of a request for a lock, in order: whether each fails, and the refusal that it gives
+abbrev pub lock_tests : State → ℕ → List ℕ → Mode → List (Bool × Why)
+lock_tests st s r m =
     (not (is_open st s), NoTransaction)
     ∷ (is_waiting st s, IsWaiting)
     ∷ (is_doomed st s, IsDoomed)
@@ -49,6 +57,11 @@ tests st s (Lock r m) =
     ∷ (lacks_parent st.table s r (target_of (held_mode st.table s r) m), ParentNotHeld)
     ∷ (not (is_some (held_mode st.table s r)) && nat_le MAX_LOCKS (length (claims_of s st.table.held)), TooManyLocks)
     ∷ []
+
+-- the tests of a call, in order: whether each fails, and the refusal that it gives
+abbrev pub tests : State → ℕ → Call → List (Bool × Why)
+tests st s Begin = (is_open st s, AlreadyOpen) ∷ []
+tests st s (Lock r m) = lock_tests st s r m
 tests st s (Convert r m) =
     (not (is_open st s), NoTransaction)
     ∷ (is_waiting st s, IsWaiting)
@@ -67,6 +80,8 @@ tests st s (Release r) =
     ∷ []
 tests st s Commit = (not (is_open st s), NoTransaction) ∷ (is_waiting st s, IsWaiting) ∷ (is_doomed st s, IsDoomed) ∷ []
 tests st s Abort = (not (is_open st s), NoTransaction) ∷ []
+tests st s (Try r m) = lock_tests st s r m ++ (would_wait st.table s r (target_of (held_mode st.table s r) m), WouldWait) ∷ []
+tests st s Withdraw = (not (is_open st s), NoTransaction) ∷ (is_doomed st s, IsDoomed) ∷ (not (is_waiting st s), NotWaiting) ∷ []
 
 -- the refusal of the first test that fails, None if all pass
 abbrev pub first_failing : List (Bool × Why) → Option Why
@@ -77,11 +92,6 @@ first_failing (t ∷ ts) = if t.0 then Some t.1 else first_failing ts
 -- Each victim has a waiting request and loses it, so this number of rounds is enough.
 abbrev pub after_wait : State → ℕ → List ℕ → Mode → State
 after_wait st s r m = after_victims (length st.table.requests + 2) s (with_table (with_request s r m st.table) st)
-
--- there is a held mode, and it covers m
-abbrev pub is_held : Option Mode → Mode → Bool
-is_held None m = false
-is_held (Some k) m = at_or_below m k
 
 -- the state after a request for the target m: unchanged if the session's lock covers it, else after a grant or a wait
 abbrev pub after_asking : State → ℕ → List ℕ → Mode → State
@@ -125,6 +135,8 @@ act st s Abort = record {
   state = with_begun s None (with_table (after_end s st.table) st);
   reply = Aborted (length (claims_of s st.table.held));
 }
+act st s (Try r m) = ask st s r (target_of (held_mode st.table s r) m)
+act st s Withdraw = record { state = with_table (after_cancel s st.table) st; reply = Withdrawn }
 
 -- a refused call changes nothing; any other call acts
 abbrev pub outcome_of : Option Why → State → ℕ → Call → Outcome

@@ -29,6 +29,12 @@ pub enum Call {
     Commit,
     /// Aborts the transaction, even if it waits or is doomed: cancels its request and releases all its locks.
     Abort,
+    /// Requests a lock as `Lock` does, with the same tests and the same grant, but never waits: if the request would wait,
+    /// it is refused with `Why::WouldWait`.
+    Try(Resource, Mode),
+    /// Takes the session's waiting request back. The transaction stays open and keeps its locks. Refused with
+    /// `Why::NotWaiting` if no request of the session waits.
+    Withdraw,
 }
 
 /// The open transaction of a session.
@@ -63,6 +69,10 @@ pub enum Why {
     ChildHeld = 8,
     /// The request would be one lock more than `MAX_LOCKS`. A conversion adds no lock.
     TooManyLocks = 9,
+    /// The request of a try would wait.
+    WouldWait = 11,
+    /// The session has no waiting request.
+    NotWaiting = 12,
 }
 
 /// The reply to a call.
@@ -88,6 +98,8 @@ pub enum Reply {
     Aborted(u32),
     /// The call is refused and changed nothing.
     Refused(Why),
+    /// The waiting request is taken back.
+    Withdrawn,
 }
 
 /// One call of one session, with its reply. A list of entries, oldest first, is a history.

@@ -23,10 +23,14 @@ pub enum Op {
     Commit = 6,
     /// `Call::Abort`.
     Abort = 7,
+    /// `Call::Try`.
+    Try = 8,
+    /// `Call::Withdraw`.
+    Withdraw = 9,
 }
 
 /// All operations, each once, in the order of their numbers.
-pub const OPS: [Op; 7] = [
+pub const OPS: [Op; 9] = [
     Op::Begin,
     Op::Lock,
     Op::Convert,
@@ -34,6 +38,8 @@ pub const OPS: [Op; 7] = [
     Op::Release,
     Op::Commit,
     Op::Abort,
+    Op::Try,
+    Op::Withdraw,
 ];
 
 impl Op {
@@ -73,6 +79,8 @@ impl Call {
             Call::Release(_) => Op::Release,
             Call::Commit => Op::Commit,
             Call::Abort => Op::Abort,
+            Call::Try(_, _) => Op::Try,
+            Call::Withdraw => Op::Withdraw,
         }
     }
 }
@@ -98,10 +106,12 @@ pub enum ReplyKind {
     Aborted = 8,
     /// `Reply::Refused`.
     Refused = 9,
+    /// `Reply::Withdrawn`.
+    Withdrawn = 10,
 }
 
 /// All kinds of replies, each once, in the order of their numbers.
-pub const REPLY_KINDS: [ReplyKind; 9] = [
+pub const REPLY_KINDS: [ReplyKind; 10] = [
     ReplyKind::Began,
     ReplyKind::Granted,
     ReplyKind::Waiting,
@@ -111,6 +121,7 @@ pub const REPLY_KINDS: [ReplyKind; 9] = [
     ReplyKind::Committed,
     ReplyKind::Aborted,
     ReplyKind::Refused,
+    ReplyKind::Withdrawn,
 ];
 
 impl ReplyKind {
@@ -139,12 +150,13 @@ impl Reply {
             Reply::Committed(_) => ReplyKind::Committed,
             Reply::Aborted(_) => ReplyKind::Aborted,
             Reply::Refused(_) => ReplyKind::Refused,
+            Reply::Withdrawn => ReplyKind::Withdrawn,
         }
     }
 }
 
 /// All refusals, each once, in the order of their numbers.
-pub const REFUSALS: [Why; 9] = [
+pub const REFUSALS: [Why; 11] = [
     Why::AlreadyOpen,
     Why::NoTransaction,
     Why::IsWaiting,
@@ -154,6 +166,8 @@ pub const REFUSALS: [Why; 9] = [
     Why::ParentNotHeld,
     Why::ChildHeld,
     Why::TooManyLocks,
+    Why::WouldWait,
+    Why::NotWaiting,
 ];
 
 impl Why {

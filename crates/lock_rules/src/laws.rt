@@ -7,9 +7,9 @@ ghost use Rattle.lock_modes.specs.declared.Mode.{Mode as ModeValue};
 ghost use Rattle.lock_modes.specs.declared.Mode.TheVariants.{IS, IX, S, SIX, X};
 ghost use Rattle.lock_rules.specs.declared.calls.Call.{Call as CallValue};
 ghost use Rattle.lock_rules.specs.declared.calls.Entry.{Entry as EntryValue};
-ghost use Rattle.lock_rules.specs.declared.calls.Reply.TheVariants.{Began, Granted, Waiting, Deadlock, Clear, Released, Committed, Aborted, Refused};
+ghost use Rattle.lock_rules.specs.declared.calls.Reply.TheVariants.{Began, Granted, Waiting, Deadlock, Clear, Released, Committed, Aborted, Refused, Withdrawn};
 ghost use Rattle.lock_rules.specs.declared.calls.Why.{Why as WhyValue};
-ghost use Rattle.lock_rules.specs.declared.calls.Why.TheVariants.{IsWaiting, NothingAsked, NotHeld, ParentNotHeld, ChildHeld, TooManyLocks};
+ghost use Rattle.lock_rules.specs.declared.calls.Why.TheVariants.{NoTransaction, IsWaiting, NothingAsked, NotHeld, ParentNotHeld, ChildHeld, TooManyLocks, WouldWait, NotWaiting};
 ghost use Rattle.lock_rules.specs.declared.calls.TheConstants.{MAX_LOCKS, MAX_SESSIONS};
 ghost use Rattle.lock_rules.specs.declared.kinds.Op.{Op as OpValue};
 ghost use Rattle.lock_rules.specs.declared.kinds.ReplyKind.{ReplyKind as KindValue};
@@ -19,12 +19,12 @@ ghost use Rattle.lock_rules.specs.Queue.{after_grant};
 ghost use Rattle.lock_rules.specs.Step.{step};
 ghost use Rattle.lock_rules.specs.Legal.{Answered, IsLegal, state_of, asked_in, calls_of};
 ghost use Rattle.lock_rules.specs.Laws.{AreRepliesOfSteps, IsEntryOf, ArePlacesRising, IsRefusalExact, DoesRefusalKeep, IsGrantOf, DoesPromotionGrantLongest, IsFitExact, AreHoldersCompatible, DoesNobodyWaitNeedlessly, AreLocksUnderParents, AreRequestsUnderParents, AreChildrenHeld, IsAccessCompatible, DoesGrantStand, DoesDoomStand, DoesRequestStand, AreOwnersOpen, AreNumbersDistinct, AreNumbersCounted, AreWaitsExact, HasNoCircle, DoDoomedWaitForNothing, AreVictimsDetermined, AreHoldersListed, AreLocksOnce, IsOneRequestEach, AreLocksBounded};
-ghost use Rattle.lock_rules.specs.Effects.{DoesBeginOpen, DoesPollReport, IsLockAnswered, IsConvertAnswered, IsLockOfHeldConvert, IsGrantedHeld, IsConversionHeld, DoVictimsKeepTheirLocks, DoesDoomPromote, DoesReleaseTakeOneLock, DoesCommitTakeAllLocks, DoesAbortTakeAllLocks};
+ghost use Rattle.lock_rules.specs.Effects.{DoesBeginOpen, DoesPollReport, IsLockAnswered, IsConvertAnswered, IsLockOfHeldConvert, IsGrantedHeld, IsConversionHeld, IsTryAnswered, DoesTryLeaveWaits, DoesWithdrawTakeRequest, DoVictimsKeepTheirLocks, DoesDoomPromote, DoesReleaseTakeOneLock, DoesCommitTakeAllLocks, DoesAbortTakeAllLocks};
 ghost use Rattle.lock_rules.specs.Refusals.{refusals_of, AreRefusalsMeant, AreOthersAccepted, AreNumbersRising, DoTestsGiveRefusals, AreRefusalsLowest, AreConversionsUnbounded, DoesAbortNeedTransaction, IsClearCommitAccepted};
 ghost use Rattle.lock_rules.specs.Ended.{AreEndedListed, DoesNothingEndNone, AreEndedToldByPoll, AreOthersToldAsBefore};
 ghost use Rattle.lock_rules.specs.Lawful.{IsLawfulState};
 ghost use Rattle.lock_rules.specs.Listing.{DoesListingShow};
-ghost use Rattle.lock_rules.specs.Examples.{with_reply, queue_in_order, promotion_stops, readers_together, promotion_in_order, intentions, refusals, down_the_tree, up_the_tree, release_promotes, release_of_one, asks_again, conversion_first, conversion_at_once, conversion_under_parent, abort_while_waiting, readers_that_convert, youngest_of_two, victim_in_the_way, conversions_that_meet, circle_through_the_queue, two_victims, begin_beside_others, polls, release_above_another, commit_of_four, conversion_to_the_upper_bound, conversion_needs_more_of_the_parent, parents_on_each_level, releases_promote_one_after_another, begins_again, polls_again, circle_of_five, three_victims, beside_the_circle};
+ghost use Rattle.lock_rules.specs.Examples.{with_reply, queue_in_order, promotion_stops, readers_together, promotion_in_order, intentions, refusals, down_the_tree, up_the_tree, release_promotes, release_of_one, asks_again, conversion_first, conversion_at_once, conversion_under_parent, abort_while_waiting, readers_that_convert, youngest_of_two, victim_in_the_way, conversions_that_meet, circle_through_the_queue, two_victims, begin_beside_others, polls, release_above_another, commit_of_four, conversion_to_the_upper_bound, conversion_needs_more_of_the_parent, parents_on_each_level, releases_promote_one_after_another, begins_again, polls_again, circle_of_five, three_victims, beside_the_circle, tries, try_closes_no_circle, withdrawals, withdrawal_from_the_midst, withdrawal_too_late};
 
 use crate::kinds::{OPS, REFUSALS, REPLY_KINDS};
 
@@ -124,6 +124,20 @@ pub fn requests_are_granted_or_wait()
 pub fn granted_locks_are_held()
     ensures lock { (history : List EntryValue) → IsGrantedHeld (state_of history) }
     ensures convert { (history : List EntryValue) → IsConversionHeld (state_of history) }
+{}
+
+/// A try that isn't refused does what a Lock does, and is granted. Refused or not, it changes no request and no
+/// transaction: nobody begins to wait, is granted what it waits for, or becomes a victim. It is refused with WouldWait
+/// exactly if it passes the tests of a Lock, and the session neither holds its target nor is the target free.
+pub fn tries_never_wait()
+    ensures granted { (st : State) → IsTryAnswered st }
+    ensures waits { (st : State) → DoesTryLeaveWaits st }
+{}
+
+/// A withdrawal that isn't refused takes the session's waiting request back and promotes its resource. The session keeps
+/// its transaction and its locks; each other session is unchanged, or its request for that resource is granted.
+pub fn withdrawals_take_one_request()
+    ensures { (history : List EntryValue) → DoesWithdrawTakeRequest (state_of history) }
 {}
 
 /// A promotion grants exactly the longest front of the queue in which each request fits once those before it are
@@ -290,11 +304,11 @@ pub fn states_are_lawful()
 /// order of their numbers, which go from 1 on.
 pub fn kinds_are_listed_once()
     ensures ops { (op : OpValue) → Contains OPS op }
-    ensures op_numbers { map number_of_op OPS ≡ range_with_len 1 7 }
+    ensures op_numbers { map number_of_op OPS ≡ range_with_len 1 9 }
     ensures kinds { (kind : KindValue) → Contains REPLY_KINDS kind }
-    ensures kind_numbers { map number_of_kind REPLY_KINDS ≡ range_with_len 1 9 }
+    ensures kind_numbers { map number_of_kind REPLY_KINDS ≡ range_with_len 1 10 }
     ensures refusals { (why : WhyValue) → Contains REFUSALS why }
-    ensures refusal_numbers { map number_of_why REFUSALS ≡ range_with_len 1 9 }
+    ensures refusal_numbers { map number_of_why REFUSALS ≡ range_with_len 1 9 ++ 11 ∷ 12 ∷ [] }
 {}
 
 /// Histories worked by hand are legal, and with a wrong reply they are not.
@@ -415,4 +429,28 @@ pub fn examples_are_legal()
     ensures beside_the_circle { IsLegal beside_the_circle }
     ensures younger_one_that_is_only_reached { IsLegal (with_reply 14 Deadlock beside_the_circle) → ⊥ }
     ensures younger_one_that_only_leads_to_the_asker { IsLegal (with_reply 15 Deadlock beside_the_circle) → ⊥ }
+    ensures tries { IsLegal tries }
+    ensures try_before_the_transaction { IsLegal (with_reply 2 (Refused WouldWait) tries) → ⊥ }
+    ensures try_waits { IsLegal (with_reply 6 Waiting tries) → ⊥ }
+    ensures try_past_a_holder { IsLegal (with_reply 6 (Granted X) tries) → ⊥ }
+    ensures try_leaves_its_request { IsLegal (with_reply 7 Waiting tries) → ⊥ }
+    ensures try_past_the_queue { IsLegal (with_reply 11 (Granted S) tries) → ⊥ }
+    ensures try_lowers { IsLegal (with_reply 14 (Granted IS) tries) → ⊥ }
+    ensures try_closes_no_circle { IsLegal try_closes_no_circle }
+    ensures try_chooses_a_victim { IsLegal (with_reply 6 Deadlock try_closes_no_circle) → ⊥ }
+    ensures doomed_session_tries { IsLegal (with_reply 9 (Granted S) try_closes_no_circle) → ⊥ }
+    ensures doomed_session_withdraws { IsLegal (with_reply 10 (Refused NotWaiting) try_closes_no_circle) → ⊥ }
+    ensures withdrawals { IsLegal withdrawals }
+    ensures withdrawal_before_the_transaction { IsLegal (with_reply 0 (Refused NotWaiting) withdrawals) → ⊥ }
+    ensures withdrawal_without_promotion { IsLegal (with_reply 12 Waiting withdrawals) → ⊥ }
+    ensures withdrawal_past_a_promotion { IsLegal (with_reply 13 Clear withdrawals) → ⊥ }
+    ensures withdrawal_leaves_its_request { IsLegal (with_reply 14 Waiting withdrawals) → ⊥ }
+    ensures withdrawal_of_nothing { IsLegal (with_reply 15 Withdrawn withdrawals) → ⊥ }
+    ensures withdrawal_ends_the_transaction { IsLegal (with_reply 18 (Refused NoTransaction) withdrawals) → ⊥ }
+    ensures withdrawal_of_the_lock { IsLegal (with_reply 21 (Refused NotHeld) withdrawals) → ⊥ }
+    ensures withdrawal_from_the_midst { IsLegal withdrawal_from_the_midst }
+    ensures withdrawal_grants_behind_the_front { IsLegal (with_reply 9 Clear withdrawal_from_the_midst) → ⊥ }
+    ensures withdrawal_takes_another_request { IsLegal (with_reply 10 Clear withdrawal_from_the_midst) → ⊥ }
+    ensures withdrawal_too_late { IsLegal withdrawal_too_late }
+    ensures withdrawal_of_what_was_granted { IsLegal (with_reply 5 Withdrawn withdrawal_too_late) → ⊥ }
 {}

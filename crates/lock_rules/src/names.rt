@@ -22,6 +22,8 @@ impl Why {
             Why::ParentNotHeld => "ParentNotHeld",
             Why::ChildHeld => "ChildHeld",
             Why::TooManyLocks => "TooManyLocks",
+            Why::WouldWait => "WouldWait",
+            Why::NotWaiting => "NotWaiting",
         }
     }
 

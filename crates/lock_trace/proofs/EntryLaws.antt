@@ -121,6 +121,7 @@ read_value reply_kind.Waiting w v r word e = without_cases w v reply.Waiting r (
 read_value reply_kind.Deadlock w v r word e = without_cases w v reply.Deadlock r (length v == 0) tt word refl refl e
 read_value reply_kind.Clear w v r word e = without_cases w v reply.Clear r (length v == 0) tt word refl refl e
 read_value reply_kind.Released w v r word e = without_cases w v reply.Released r (length v == 0) tt word refl refl e
+read_value reply_kind.Withdrawn w v r word e = without_cases w v reply.Withdrawn r (length v == 0) tt word refl refl e
 read_value reply_kind.Committed w v r word e =
     let (n, read, is) = bind_ok (number_in max_u32 v) (λ n. ok_reply (reply.Committed n)) r e in
     let of = number_is max_u32 n v few_32 read in
@@ -147,6 +148,7 @@ reply_back reply.Waiting is = refl
 reply_back reply.Deadlock is = refl
 reply_back reply.Clear is = refl
 reply_back reply.Released is = refl
+reply_back reply.Withdrawn is = refl
 reply_back (reply.Committed n) is = rw (number_back max_u32 n few_32 (within_32 n is)) refl
 reply_back (reply.Aborted n) is = rw (number_back max_u32 n few_32 (within_32 n is)) refl
 reply_back (reply.Refused w) is = rw (why_by_name w _ refl) refl

@@ -38,6 +38,7 @@ reply_fits reply.Waiting is = tt
 reply_fits reply.Deadlock is = tt
 reply_fits reply.Clear is = tt
 reply_fits reply.Released is = tt
+reply_fits reply.Withdrawn is = tt
 reply_fits (reply.Committed n) is = omega (arith, is)
 reply_fits (reply.Aborted n) is = omega (arith, is)
 reply_fits (reply.Refused w) is = tt

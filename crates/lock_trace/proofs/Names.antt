@@ -128,6 +128,8 @@ why_by_name why.NotHeld bs e = rw e refl
 why_by_name why.ParentNotHeld bs e = rw e refl
 why_by_name why.ChildHeld bs e = rw e refl
 why_by_name why.TooManyLocks bs e = rw e refl
+why_by_name why.WouldWait bs e = rw e refl
+why_by_name why.NotWaiting bs e = rw e refl
 
 -- The names of reasons of a refusal are UTF-8.
 why_text : (w : Why) → is_utf8 (name_of_why w) ≡ true
@@ -140,12 +142,14 @@ why_text why.NotHeld = is_text _ refl
 why_text why.ParentNotHeld = is_text _ refl
 why_text why.ChildHeld = is_text _ refl
 why_text why.TooManyLocks = is_text _ refl
+why_text why.WouldWait = is_text _ refl
+why_text why.NotWaiting = is_text _ refl
 
 -- A field that is no reason's name has the fault Value.
 pub no_why : (bs : List ℕ) → ((w : Why) → bs ≡ name_of_why w → ⊥) → why_in bs ≡ Err kind.Value
 no_why bs none =
     named_none name_of_why kind.Value REFUSALS bs
-    (none why.AlreadyOpen, (none why.NoTransaction, (none why.IsWaiting, (none why.IsDoomed, (none why.NothingAsked, (none why.NotHeld, (none why.ParentNotHeld, (none why.ChildHeld, (none why.TooManyLocks, tt)))))))))
+    (none why.AlreadyOpen, (none why.NoTransaction, (none why.IsWaiting, (none why.IsDoomed, (none why.NothingAsked, (none why.NotHeld, (none why.ParentNotHeld, (none why.ChildHeld, (none why.TooManyLocks, (none why.WouldWait, (none why.NotWaiting, tt)))))))))))
 
 -- A field that is not UTF-8 has the fault Value, as a reason of a refusal.
 pub no_text_no_why : (bs : List ℕ) → is_utf8 bs ≡ false → why_in bs ≡ Err kind.Value

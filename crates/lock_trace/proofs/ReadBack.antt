@@ -66,6 +66,8 @@ why_plain why.NotHeld = refl
 why_plain why.ParentNotHeld = refl
 why_plain why.ChildHeld = refl
 why_plain why.TooManyLocks = refl
+why_plain why.WouldWait = refl
+why_plain why.NotWaiting = refl
 
 -- The path of 32-bit numbers needs no quotes.
 joined_plain : (r : List ℕ) → AllByRecursion (λ n. n < 2 ^ 32) r → is_special (text_of r) ≡ false
@@ -90,6 +92,7 @@ reply_plain reply.Waiting fits = (refl, (refl, tt))
 reply_plain reply.Deadlock fits = (refl, (refl, tt))
 reply_plain reply.Clear fits = (refl, (refl, tt))
 reply_plain reply.Released fits = (refl, (refl, tt))
+reply_plain reply.Withdrawn fits = (refl, (refl, tt))
 reply_plain (reply.Committed n) fits = (refl, (decimal_plain n fits, tt))
 reply_plain (reply.Aborted n) fits = (refl, (decimal_plain n fits, tt))
 reply_plain (reply.Refused w) fits = (refl, (why_plain w, tt))
@@ -103,6 +106,8 @@ call_plain call.Poll fs has rest = (refl, (refl, (refl, rest)))
 call_plain (call.Release r) fs has rest = (refl, (resource_plain r has, (refl, rest)))
 call_plain call.Commit fs has rest = (refl, (refl, (refl, rest)))
 call_plain call.Abort fs has rest = (refl, (refl, (refl, rest)))
+call_plain (call.Try r m) fs has rest = (refl, (resource_plain r has, (mode_plain m, rest)))
+call_plain call.Withdraw fs has rest = (refl, (refl, (refl, rest)))
 
 -- The fields of an entry need no quotes.
 entry_plain : (place : ℕ) (e : Entry) → place < 18446744073709551616 → EntryFits e → ArePlain (fields_of_entry place e)

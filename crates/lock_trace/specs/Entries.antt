@@ -22,6 +22,7 @@ IsReply reply.Released = Unit {0}
 IsReply (reply.Committed n) = n < 2 ^ 32
 IsReply (reply.Aborted n) = n < 2 ^ 32
 IsReply (reply.Refused w) = Unit {0}
+IsReply reply.Withdrawn = Unit {0}
 
 -- The entry's session is between 1 and the number of sessions, its call names only valid resources, and its
 -- reply's numbers are in range.
@@ -56,6 +57,7 @@ value_in reply_kind.Aborted v = do
 value_in reply_kind.Refused v = do
   why ← why_in v
   Ok (reply.Refused why)
+value_in reply_kind.Withdrawn v = without_value reply.Withdrawn v
 
 -- The reply of a reply field and a value field, or the first fault.
 abbrev pub reply_in : List ℕ → List ℕ → Result Reply TraceKind

@@ -24,6 +24,8 @@ resource_field call.Poll = []
 resource_field (call.Release r) = text_of r
 resource_field call.Commit = []
 resource_field call.Abort = []
+resource_field (call.Try r m) = text_of r
+resource_field call.Withdraw = []
 
 -- The name of the mode that a call asks for, or the empty field.
 abbrev pub mode_field : Call → List ℕ
@@ -34,6 +36,8 @@ mode_field call.Poll = []
 mode_field (call.Release r) = []
 mode_field call.Commit = []
 mode_field call.Abort = []
+mode_field (call.Try r m) = name_of m
+mode_field call.Withdraw = []
 
 -- The fields of a call: operation, resource and mode.
 abbrev pub fields_of_call : Call → List (List ℕ)
@@ -52,6 +56,8 @@ HasResources call.Poll = Unit {0}
 HasResources (call.Release r) = IsResource r
 HasResources call.Commit = Unit {0}
 HasResources call.Abort = Unit {0}
+HasResources (call.Try r m) = IsResource r
+HasResources call.Withdraw = Unit {0}
 
 -- The row's session is between 1 and the number of sessions, and its call names only valid resources.
 pub record IsRow (sessions : ℕ) (row : TraceRow) : Type 0 where
@@ -95,6 +101,10 @@ call_in op.Poll r m = without_fields call.Poll r m
 call_in op.Release r m = with_resource (λ resource. call.Release resource) r m
 call_in op.Commit r m = without_fields call.Commit r m
 call_in op.Abort r m = without_fields call.Abort r m
+call_in op.Try r m = do
+  operands ← resource_and_mode_in r m
+  Ok (call.Try operands.0 operands.1)
+call_in op.Withdraw r m = without_fields call.Withdraw r m
 
 -- The trace row of four fields, or the first fault.
 abbrev pub row_in : ℕ → List ℕ → List ℕ → List ℕ → List ℕ → Result TraceRow TraceKind

@@ -14,6 +14,8 @@ word_of op.Poll = codes "poll"
 word_of op.Release = codes "release"
 word_of op.Commit = codes "commit"
 word_of op.Abort = codes "abort"
+word_of op.Try = codes "try"
+word_of op.Withdraw = codes "withdraw"
 
 -- The word of a kind of reply.
 abbrev pub word_of_reply : ReplyKind → List ℕ
@@ -26,3 +28,4 @@ word_of_reply reply_kind.Released = codes "released"
 word_of_reply reply_kind.Committed = codes "committed"
 word_of_reply reply_kind.Aborted = codes "aborted"
 word_of_reply reply_kind.Refused = codes "refused"
+word_of_reply reply_kind.Withdrawn = codes "withdrawn"

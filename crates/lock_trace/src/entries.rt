@@ -51,6 +51,7 @@ fn reply_of_kind(kind: ReplyKind, value: &[u8]) -> Result<Reply, TraceKind>
             let why = why_of(value)?;
             Ok(Reply::Refused(why))
         }
+        ReplyKind::Withdrawn => reply_without_value(Reply::Withdrawn, value),
     }
 }
 

@@ -67,6 +67,11 @@ fn call_of(op: Op, resource: &[u8], mode: &[u8]) -> Result<Call, TraceKind>
         }
         Op::Commit => call_without_fields(Call::Commit, resource, mode),
         Op::Abort => call_without_fields(Call::Abort, resource, mode),
+        Op::Try => {
+            let (resource, mode) = resource_and_mode(resource, mode)?;
+            Ok(Call::Try(resource, mode))
+        }
+        Op::Withdraw => call_without_fields(Call::Withdraw, resource, mode),
     }
 }
 

@@ -13,7 +13,7 @@ use lock_rules::{Call, Reply};
 #[inline(always)]
 pub(crate) fn op_token(call: &Call) -> (&'static [u8; 16], usize)
     ensures text { take result.1 result.0.now ≡ 44 ∷ (word_of (op_of_call call.now) ++ 44 ∷ []) }
-    ensures few { result.1 ≤ 9 }
+    ensures few { result.1 ≤ 10 }
 {
     match call {
         Call::Begin => (b",begin,.........", 7),
@@ -23,6 +23,8 @@ pub(crate) fn op_token(call: &Call) -> (&'static [u8; 16], usize)
         Call::Release(_) => (b",release,.......", 9),
         Call::Commit => (b",commit,........", 8),
         Call::Abort => (b",abort,.........", 7),
+        Call::Try(_, _) => (b",try,...........", 5),
+        Call::Withdraw => (b",withdraw,......", 10),
     }
 }
 
@@ -59,5 +61,6 @@ pub(crate) fn reply_token(reply: &Reply) -> (&'static [u8; 16], usize)
         Reply::Committed(_) => (b",committed,.....", 11),
         Reply::Aborted(_) => (b",aborted,.......", 9),
         Reply::Refused(_) => (b",refused,.......", 9),
+        Reply::Withdrawn => (b",withdrawn,.....", 11),
     }
 }

@@ -17,6 +17,8 @@ pub(crate) fn op_word(op: Op) -> &'static str
         Op::Release => "release",
         Op::Commit => "commit",
         Op::Abort => "abort",
+        Op::Try => "try",
+        Op::Withdraw => "withdraw",
     }
 }
 
@@ -34,5 +36,6 @@ pub(crate) fn reply_word(kind: ReplyKind) -> &'static str
         ReplyKind::Committed => "committed",
         ReplyKind::Aborted => "aborted",
         ReplyKind::Refused => "refused",
+        ReplyKind::Withdrawn => "withdrawn",
     }
 }

@@ -55,10 +55,11 @@ fn put_resource_field(line: &mut [u8], at: usize, call: &Call) -> usize
     ensures few { result ≤ at + RESOURCE_BYTES }
 {
     match call {
-        Call::Lock(resource, _) | Call::Convert(resource, _) | Call::Release(resource) => {
-            put_resource(line, at, resource)
-        }
-        Call::Begin | Call::Poll | Call::Commit | Call::Abort => at,
+        Call::Lock(resource, _)
+        | Call::Convert(resource, _)
+        | Call::Release(resource)
+        | Call::Try(resource, _) => put_resource(line, at, resource),
+        Call::Begin | Call::Poll | Call::Commit | Call::Abort | Call::Withdraw => at,
     }
 }
 
@@ -83,8 +84,11 @@ fn put_mode_field(line: &mut [u8], at: usize, call: &Call) -> usize
     ensures few { result ≤ at + 3 }
 {
     match call {
-        Call::Lock(_, mode) | Call::Convert(_, mode) => put_mode(line, at, *mode),
-        Call::Begin | Call::Poll | Call::Release(_) | Call::Commit | Call::Abort => at,
+        Call::Lock(_, mode) | Call::Convert(_, mode) | Call::Try(_, mode) => put_mode(
+            line, at, *mode,
+        ),
+        Call::Begin | Call::Poll | Call::Release(_) | Call::Commit | Call::Abort | Call::Withdraw =>
+            at,
     }
 }
 
@@ -94,7 +98,7 @@ fn put_call(line: &mut [u8], at: usize, call: &Call) -> usize
     requires room { at + CALL_BYTES ≤ length line.old }
     ensures text { take result line.new ≡ take at line.old ++ after_commas (fields_of_call call.now) }
     ensures room { length line.new ≡ length line.old }
-    ensures few { result ≤ at + RESOURCE_BYTES + 13 }
+    ensures few { result ≤ at + RESOURCE_BYTES + 14 }
 {
     let (token, count) = op_token(call);
     let after_op = put_token(line, at, token, count);
@@ -117,7 +121,7 @@ fn put_value(line: &mut [u8], at: usize, reply: &Reply) -> usize
         Reply::Began(number) => put_number(line, at, *number),
         Reply::Committed(locks) | Reply::Aborted(locks) => put_number(line, at, *locks as u64),
         Reply::Refused(why) => put_text(line, at, why.name().as_bytes()),
-        Reply::Waiting | Reply::Deadlock | Reply::Clear | Reply::Released => at,
+        Reply::Waiting | Reply::Deadlock | Reply::Clear | Reply::Released | Reply::Withdrawn => at,
     }
 }
 

@@ -5,12 +5,12 @@ use Rattle.lock_modes.specs.declared.Mode.{Mode}
 use Rattle.lock_modes.specs.Order.{at_or_below, need_of}
 use Rattle.lock_tree.specs.Paths.{same_path, parent_of, has_parent}
 use Rattle.lock_rules.specs.declared.calls.Call.{Call}
-use Rattle.lock_rules.specs.declared.calls.Call.TheVariants.{Begin, Lock, Convert, Poll, Release, Commit, Abort}
+use Rattle.lock_rules.specs.declared.calls.Call.TheVariants.{Begin, Lock, Convert, Poll, Release, Commit, Abort, Try, Withdraw}
 use Rattle.lock_rules.specs.declared.calls.Why.{Why}
-use Rattle.lock_rules.specs.declared.calls.Why.TheVariants.{AlreadyOpen, NoTransaction, IsWaiting, IsDoomed, NothingAsked, NotHeld, ParentNotHeld, ChildHeld, TooManyLocks}
+use Rattle.lock_rules.specs.declared.calls.Why.TheVariants.{AlreadyOpen, NoTransaction, IsWaiting, IsDoomed, NothingAsked, NotHeld, ParentNotHeld, ChildHeld, TooManyLocks, WouldWait, NotWaiting}
 use Rattle.lock_rules.specs.declared.calls.TheConstants.{MAX_LOCKS}
 use Rattle.lock_rules.specs.State.{mode_or_nothing, doomed_in}
-use Rattle.lock_rules.specs.Step.{is_nothing, target_of}
+use Rattle.lock_rules.specs.Step.{is_nothing, target_of, is_held}
 use Rattle.lock_rules.specs.Waits.{doom}
 use Rattle.lock_desk.specs.declared.lock_table.LockTable.{LockTable}
 use Rattle.lock_desk.specs.declared.cells.GivenUp.{GivenUp}
@@ -72,6 +72,14 @@ lock_tests d s r m =
     ∷ (not (is_some (mode_held d s r)) && nat_le MAX_LOCKS (length (standing s d).held), TooManyLocks)
     ∷ []
 
+-- a request of the session for the target `m` would wait: its lock doesn't cover the target, and it isn't granted at once
+abbrev pub would_wait : LockTable → ℕ → List ℕ → Mode → Bool
+would_wait d s r m = not (is_held (mode_held d s r) m) && not (can_grant (record { session = s; mode = m }) (view_at r d))
+
+-- the tests of a try that look at its resource and its mode
+abbrev pub try_tests : LockTable → ℕ → List ℕ → Mode → List (Bool × Why)
+try_tests d s r m = lock_tests d s r m ++ (would_wait d s r (target_of (mode_held d s r) m), WouldWait) ∷ []
+
 -- the tests of a conversion that look at its resource and its mode
 abbrev pub convert_tests : LockTable → ℕ → List ℕ → Mode → List (Bool × Why)
 convert_tests d s r m =
@@ -101,6 +109,8 @@ standing_tests d s (Lock r m) = idle_tests d s
 standing_tests d s (Convert r m) = idle_tests d s
 standing_tests d s (Release r) = idle_tests d s
 standing_tests d s Commit = idle_tests d s
+standing_tests d s (Try r m) = idle_tests d s
+standing_tests d s Withdraw = open_tests d s ++ (doomed_in (standing s d).transaction, IsDoomed) ∷ (not (is_some (standing s d).wanted), NotWaiting) ∷ []
 
 -- the tests of a call that look at its resource and its mode
 abbrev pub request_tests : LockTable → ℕ → Call → List (Bool × Why)
@@ -111,6 +121,8 @@ request_tests d s Begin = []
 request_tests d s Poll = []
 request_tests d s Commit = []
 request_tests d s Abort = []
+request_tests d s (Try r m) = try_tests d s r m
+request_tests d s Withdraw = []
 
 -- all tests of a call
 abbrev pub call_tests : LockTable → ℕ → Call → List (Bool × Why)

@@ -7,7 +7,7 @@ use Rattle.lock_modes.specs.Compatibility.{are_compatible}
 use Rattle.lock_modes.specs.Codes.{code_of, mask_of}
 use Rattle.lock_tree.specs.Paths.{parent_of, has_parent}
 use Rattle.lock_rules.specs.declared.calls.Call.{Call}
-use Rattle.lock_rules.specs.declared.calls.Call.TheVariants.{Begin, Lock, Convert, Poll, Release, Commit, Abort}
+use Rattle.lock_rules.specs.declared.calls.Call.TheVariants.{Begin, Lock, Convert, Poll, Release, Commit, Abort, Try, Withdraw}
 use Rattle.lock_rules.specs.declared.calls.Entry.{Entry}
 use Rattle.lock_rules.specs.Step.{first_failing}
 use Rattle.lock_rules.specs.Legal.{state_of, IsLegal}
@@ -45,6 +45,8 @@ mode_asked Begin = NL
 mode_asked Poll = NL
 mode_asked Commit = NL
 mode_asked Abort = NL
+mode_asked (Try r m) = m
+mode_asked Withdraw = NL
 
 -- the session of an item with the mode that it requests
 abbrev pub asker_of : Item → SessionMode

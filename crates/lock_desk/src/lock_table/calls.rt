@@ -2,7 +2,7 @@
 //! test fails.
 
 ghost use Rattle.std.specs.Prelude.{◌≡◌, ◌+◌, ◌<◌, ◌≤◌, IfOk, OnErr, vec_len};
-ghost use Rattle.lock_rules.specs.declared.calls.Call.TheVariants.{Begin, Lock, Convert, Poll, Release, Commit, Abort};
+ghost use Rattle.lock_rules.specs.declared.calls.Call.TheVariants.{Begin, Lock, Convert, Poll, Release, Commit, Abort, Try, Withdraw};
 ghost use Rattle.lock_rules.specs.State.{State};
 ghost use Rattle.lock_rules.specs.Step.{step};
 ghost use Rattle.lock_rules.specs.Sound.{IsNumbered, IsSound};
@@ -139,6 +139,56 @@ impl LockTable {
         self.ask(session, place, resource, held, mode)
     }
 
+    /// Requests a lock as `serve_lock` does, but is refused if the request would wait. If memory is refused, nothing that
+    /// contracts see changes.
+    #[inline(never)]
+    fn serve_try(
+        &mut self,
+        session: u16,
+        resource: Resource,
+        mode: Mode,
+    ) -> Result<Reply, AllocError>
+        requires some { 1 ≤ session }
+        requires within { session ≤ vec_len self.old.lockers }
+        requires whole { IsWhole self.old }
+        requires ready { IsReadyTable self.old }
+        ensures step { (st : State) → IsSound st.table → IsNumbered st → Shows self.old st
+            → IfOk result (DoesAnswer (step st session (Try resource mode)) self.new) }
+        ensures err { OnErr result (IsSameSeen self.old self.new) }
+        ensures listed { HasListed session self.old self.new }
+        ensures count { self.new.count ≤ self.old.count + 1 }
+        ensures kept { DoesKeep self.old self.new }
+    {
+        if let Some(why) = self.idle_refusal(session) {
+            return Ok(Reply::Refused(why));
+        }
+        let place = self.find_or_insert_key(resource);
+        let held = self.cells.mode_at(place, session);
+        if let Some(why) = self.try_refusal(session, place, held, resource, mode) {
+            return Ok(Reply::Refused(why));
+        }
+        self.ask(session, place, resource, held, mode)
+    }
+
+    /// Takes the session's waiting request back.
+    fn serve_withdraw(&mut self, session: u16) -> Reply
+        requires some { 1 ≤ session }
+        requires within { session ≤ vec_len self.old.lockers }
+        requires whole { IsWhole self.old }
+        requires ready { IsReadyTable self.old }
+        ensures step { (st : State) → IsSound st.table → IsNumbered st → Shows self.old st
+            → DoesAnswer (step st session Withdraw) self.new result }
+        ensures listed { HasListed session self.old self.new }
+        ensures count { self.new.count ≤ self.old.count + 1 }
+        ensures kept { DoesKeep self.old self.new }
+    {
+        if let Some(why) = self.withdraw_refusal(session) {
+            return Reply::Refused(why);
+        }
+        self.cancel(session);
+        Reply::Withdrawn
+    }
+
     /// Reports whether the session's transaction waits or is a deadlock's victim.
     fn serve_poll(&mut self, session: u16) -> Reply
         requires some { 1 ≤ session }
@@ -242,6 +292,8 @@ impl LockTable {
             Call::Release(resource) => Ok(self.serve_release(session, resource)),
             Call::Commit => Ok(self.serve_commit(session)),
             Call::Abort => Ok(self.serve_abort(session)),
+            Call::Try(resource, mode) => self.serve_try(session, resource, mode),
+            Call::Withdraw => Ok(self.serve_withdraw(session)),
         }
     }
 }

@@ -1,10 +1,12 @@
 //! The tests of each call, in their order: the first that fails gives the refusal.
 
 ghost use Rattle.std.specs.Prelude.{◌≡◌, ◌≤◌, vec_len};
+ghost use Rattle.lock_rules.specs.declared.calls.Call.TheVariants.{Withdraw};
 ghost use Rattle.lock_rules.specs.Step.{is_nothing, target_of, first_failing};
 ghost use Rattle.lock_desk.specs.inner.Cells.{IsPlace};
-ghost use Rattle.lock_desk.specs.inner.Changes.{mode_held, lacks_need, open_tests, idle_tests, lock_tests, convert_tests, release_tests, IsWhole};
+ghost use Rattle.lock_desk.specs.inner.Changes.{mode_held, lacks_need, would_wait, open_tests, idle_tests, standing_tests, lock_tests, try_tests, convert_tests, release_tests, IsWhole};
 
+use crate::cells::SessionMode;
 use crate::lock_table::LockTable;
 use lock_modes::Mode;
 use lock_rules::{MAX_LOCKS, Why};
@@ -61,6 +63,7 @@ impl LockTable {
     }
 
     /// The refusal of a lock by its resource and its mode. `held` is what the session holds on `resource`.
+    #[inline(always)]
     pub(crate) fn lock_refusal(
         &self,
         session: u16,
@@ -84,6 +87,74 @@ impl LockTable {
             return Some(Why::TooManyLocks);
         }
         None
+    }
+
+    /// Whether a request of `session` for the mode `target` would wait: what is held doesn't cover it, and it isn't granted
+    /// at once. `place` is the place of the cell of `resource`.
+    fn would_wait(
+        &self,
+        session: u16,
+        place: Option<usize>,
+        held: Option<Mode>,
+        resource: Resource,
+        target: Mode,
+    ) -> bool
+        requires place { IsPlace resource self.now.cells.entries place }
+        requires held { held ≡ mode_held self.now session resource }
+        ensures { result ≡ would_wait self.now session resource target }
+    {
+        let asker = SessionMode {
+            session,
+            mode: target,
+        };
+        match held {
+            Some(held) if held.covers(target) => false,
+            _ => !self.cells.would_grant_at(place, asker),
+        }
+    }
+
+    /// The refusal of a try by its resource and its mode. `held` is what the session holds on `resource`, whose cell is at
+    /// `place`.
+    pub(crate) fn try_refusal(
+        &self,
+        session: u16,
+        place: Option<usize>,
+        held: Option<Mode>,
+        resource: Resource,
+        mode: Mode,
+    ) -> Option<Why>
+        requires some { 1 ≤ session }
+        requires within { session ≤ vec_len self.now.lockers }
+        requires place { IsPlace resource self.now.cells.entries place }
+        requires held { held ≡ mode_held self.now session resource }
+        ensures { result ≡ first_failing (try_tests self.now session resource mode) }
+    {
+        if let Some(why) = self.lock_refusal(session, held, resource, mode) {
+            return Some(why);
+        }
+        if self.would_wait(session, place, held, resource, target_of(held, mode)) {
+            return Some(Why::WouldWait);
+        }
+        None
+    }
+
+    /// The refusal of a withdrawal.
+    pub(crate) fn withdraw_refusal(&self, session: u16) -> Option<Why>
+        requires some { 1 ≤ session }
+        requires within { session ≤ vec_len self.now.lockers }
+        ensures { result ≡ first_failing (standing_tests self.now session Withdraw) }
+    {
+        if let Some(why) = self.open_refusal(session) {
+            return Some(why);
+        }
+        let locker = self.locker(session);
+        if locker.is_doomed() {
+            Some(Why::IsDoomed)
+        } else if locker.is_waiting() {
+            None
+        } else {
+            Some(Why::NotWaiting)
+        }
     }
 
     /// The refusal of a conversion by its resource and its mode. `held` is what the session holds on `resource`.

@@ -1,9 +1,9 @@
 use Rattle.std.proofs.Common.{refl}
 use Rattle.lock_modes.specs.declared.Mode.TheVariants.{IS, IX, S, SIX, X}
-use Rattle.lock_rules.specs.declared.calls.Reply.TheVariants.{Began, Granted, Waiting, Deadlock, Clear, Released, Committed, Aborted, Refused}
-use Rattle.lock_rules.specs.declared.calls.Why.TheVariants.{IsWaiting, NothingAsked, NotHeld, ParentNotHeld, ChildHeld, TooManyLocks}
-use Rattle.lock_rules.specs.Examples.{queue_in_order, promotion_stops, readers_together, promotion_in_order, intentions, refusals, down_the_tree, up_the_tree, release_promotes, release_of_one, asks_again, conversion_first, conversion_at_once, conversion_under_parent, abort_while_waiting, readers_that_convert, youngest_of_two, victim_in_the_way, conversions_that_meet, circle_through_the_queue, two_victims, begin_beside_others, polls, release_above_another, commit_of_four, conversion_to_the_upper_bound, conversion_needs_more_of_the_parent, parents_on_each_level, releases_promote_one_after_another, begins_again, polls_again, circle_of_five, three_victims, beside_the_circle}
-use Rattle.lock_rules.proofs.Worked.{legal-queue_in_order, legal-promotion_stops, legal-readers_together, legal-promotion_in_order, legal-intentions, legal-refusals, legal-down_the_tree, legal-up_the_tree, legal-release_promotes, legal-release_of_one, legal-asks_again, legal-conversion_first, legal-conversion_at_once, legal-conversion_under_parent, legal-abort_while_waiting, legal-readers_that_convert, legal-youngest_of_two, legal-victim_in_the_way, legal-conversions_that_meet, legal-circle_through_the_queue, legal-two_victims, legal-begin_beside_others, legal-polls, legal-release_above_another, legal-commit_of_four, legal-conversion_to_the_upper_bound, legal-conversion_needs_more_of_the_parent, legal-parents_on_each_level, legal-releases_promote_one_after_another, legal-begins_again, legal-polls_again, legal-circle_of_five, legal-three_victims, legal-beside_the_circle}
+use Rattle.lock_rules.specs.declared.calls.Reply.TheVariants.{Began, Granted, Waiting, Deadlock, Clear, Released, Committed, Aborted, Refused, Withdrawn}
+use Rattle.lock_rules.specs.declared.calls.Why.TheVariants.{NoTransaction, IsWaiting, NothingAsked, NotHeld, ParentNotHeld, ChildHeld, TooManyLocks, WouldWait, NotWaiting}
+use Rattle.lock_rules.specs.Examples.{queue_in_order, promotion_stops, readers_together, promotion_in_order, intentions, refusals, down_the_tree, up_the_tree, release_promotes, release_of_one, asks_again, conversion_first, conversion_at_once, conversion_under_parent, abort_while_waiting, readers_that_convert, youngest_of_two, victim_in_the_way, conversions_that_meet, circle_through_the_queue, two_victims, begin_beside_others, polls, release_above_another, commit_of_four, conversion_to_the_upper_bound, conversion_needs_more_of_the_parent, parents_on_each_level, releases_promote_one_after_another, begins_again, polls_again, circle_of_five, three_victims, beside_the_circle, tries, try_closes_no_circle, withdrawals, withdrawal_from_the_midst, withdrawal_too_late}
+use Rattle.lock_rules.proofs.Worked.{legal-queue_in_order, legal-promotion_stops, legal-readers_together, legal-promotion_in_order, legal-intentions, legal-refusals, legal-down_the_tree, legal-up_the_tree, legal-release_promotes, legal-release_of_one, legal-asks_again, legal-conversion_first, legal-conversion_at_once, legal-conversion_under_parent, legal-abort_while_waiting, legal-readers_that_convert, legal-youngest_of_two, legal-victim_in_the_way, legal-conversions_that_meet, legal-circle_through_the_queue, legal-two_victims, legal-begin_beside_others, legal-polls, legal-release_above_another, legal-commit_of_four, legal-conversion_to_the_upper_bound, legal-conversion_needs_more_of_the_parent, legal-parents_on_each_level, legal-releases_promote_one_after_another, legal-begins_again, legal-polls_again, legal-circle_of_five, legal-three_victims, legal-beside_the_circle, legal-tries, legal-try_closes_no_circle, legal-withdrawals, legal-withdrawal_from_the_midst, legal-withdrawal_too_late}
 use Rattle.lock_rules.proofs.WrongReplies.{wrong}
 use Rattle.lock_rules.proofs.laws.examples_are_legal.Goals as goal
 
@@ -354,3 +354,75 @@ returns-clause-younger_one_that_is_only_reached c = wrong 14 Deadlock beside_the
 
 pub returns-clause-younger_one_that_only_leads_to_the_asker : goal.returns-clause-younger_one_that_only_leads_to_the_asker
 returns-clause-younger_one_that_only_leads_to_the_asker c = wrong 15 Deadlock beside_the_circle refl legal-beside_the_circle
+
+pub returns-clause-tries : goal.returns-clause-tries
+returns-clause-tries c = legal-tries
+
+pub returns-clause-try_before_the_transaction : goal.returns-clause-try_before_the_transaction
+returns-clause-try_before_the_transaction c = wrong 2 (Refused WouldWait) tries refl legal-tries
+
+pub returns-clause-try_waits : goal.returns-clause-try_waits
+returns-clause-try_waits c = wrong 6 Waiting tries refl legal-tries
+
+pub returns-clause-try_past_a_holder : goal.returns-clause-try_past_a_holder
+returns-clause-try_past_a_holder c = wrong 6 (Granted X) tries refl legal-tries
+
+pub returns-clause-try_leaves_its_request : goal.returns-clause-try_leaves_its_request
+returns-clause-try_leaves_its_request c = wrong 7 Waiting tries refl legal-tries
+
+pub returns-clause-try_past_the_queue : goal.returns-clause-try_past_the_queue
+returns-clause-try_past_the_queue c = wrong 11 (Granted S) tries refl legal-tries
+
+pub returns-clause-try_lowers : goal.returns-clause-try_lowers
+returns-clause-try_lowers c = wrong 14 (Granted IS) tries refl legal-tries
+
+pub returns-clause-try_closes_no_circle : goal.returns-clause-try_closes_no_circle
+returns-clause-try_closes_no_circle c = legal-try_closes_no_circle
+
+pub returns-clause-try_chooses_a_victim : goal.returns-clause-try_chooses_a_victim
+returns-clause-try_chooses_a_victim c = wrong 6 Deadlock try_closes_no_circle refl legal-try_closes_no_circle
+
+pub returns-clause-doomed_session_tries : goal.returns-clause-doomed_session_tries
+returns-clause-doomed_session_tries c = wrong 9 (Granted S) try_closes_no_circle refl legal-try_closes_no_circle
+
+pub returns-clause-doomed_session_withdraws : goal.returns-clause-doomed_session_withdraws
+returns-clause-doomed_session_withdraws c = wrong 10 (Refused NotWaiting) try_closes_no_circle refl legal-try_closes_no_circle
+
+pub returns-clause-withdrawals : goal.returns-clause-withdrawals
+returns-clause-withdrawals c = legal-withdrawals
+
+pub returns-clause-withdrawal_before_the_transaction : goal.returns-clause-withdrawal_before_the_transaction
+returns-clause-withdrawal_before_the_transaction c = wrong 0 (Refused NotWaiting) withdrawals refl legal-withdrawals
+
+pub returns-clause-withdrawal_without_promotion : goal.returns-clause-withdrawal_without_promotion
+returns-clause-withdrawal_without_promotion c = wrong 12 Waiting withdrawals refl legal-withdrawals
+
+pub returns-clause-withdrawal_past_a_promotion : goal.returns-clause-withdrawal_past_a_promotion
+returns-clause-withdrawal_past_a_promotion c = wrong 13 Clear withdrawals refl legal-withdrawals
+
+pub returns-clause-withdrawal_leaves_its_request : goal.returns-clause-withdrawal_leaves_its_request
+returns-clause-withdrawal_leaves_its_request c = wrong 14 Waiting withdrawals refl legal-withdrawals
+
+pub returns-clause-withdrawal_of_nothing : goal.returns-clause-withdrawal_of_nothing
+returns-clause-withdrawal_of_nothing c = wrong 15 Withdrawn withdrawals refl legal-withdrawals
+
+pub returns-clause-withdrawal_ends_the_transaction : goal.returns-clause-withdrawal_ends_the_transaction
+returns-clause-withdrawal_ends_the_transaction c = wrong 18 (Refused NoTransaction) withdrawals refl legal-withdrawals
+
+pub returns-clause-withdrawal_of_the_lock : goal.returns-clause-withdrawal_of_the_lock
+returns-clause-withdrawal_of_the_lock c = wrong 21 (Refused NotHeld) withdrawals refl legal-withdrawals
+
+pub returns-clause-withdrawal_from_the_midst : goal.returns-clause-withdrawal_from_the_midst
+returns-clause-withdrawal_from_the_midst c = legal-withdrawal_from_the_midst
+
+pub returns-clause-withdrawal_grants_behind_the_front : goal.returns-clause-withdrawal_grants_behind_the_front
+returns-clause-withdrawal_grants_behind_the_front c = wrong 9 Clear withdrawal_from_the_midst refl legal-withdrawal_from_the_midst
+
+pub returns-clause-withdrawal_takes_another_request : goal.returns-clause-withdrawal_takes_another_request
+returns-clause-withdrawal_takes_another_request c = wrong 10 Clear withdrawal_from_the_midst refl legal-withdrawal_from_the_midst
+
+pub returns-clause-withdrawal_too_late : goal.returns-clause-withdrawal_too_late
+returns-clause-withdrawal_too_late c = legal-withdrawal_too_late
+
+pub returns-clause-withdrawal_of_what_was_granted : goal.returns-clause-withdrawal_of_what_was_granted
+returns-clause-withdrawal_of_what_was_granted c = wrong 5 Withdrawn withdrawal_too_late refl legal-withdrawal_too_late

@@ -17,6 +17,8 @@ op_listed op.Poll = (3, omega arith, refl)
 op_listed op.Release = (4, omega arith, refl)
 op_listed op.Commit = (5, omega arith, refl)
 op_listed op.Abort = (6, omega arith, refl)
+op_listed op.Try = (7, omega arith, refl)
+op_listed op.Withdraw = (8, omega arith, refl)
 
 -- where each kind of replies is in the list
 kind_listed : (k : ReplyKind) → Contains REPLY_KINDS k
@@ -29,6 +31,7 @@ kind_listed kind.Released = (5, omega arith, refl)
 kind_listed kind.Committed = (6, omega arith, refl)
 kind_listed kind.Aborted = (7, omega arith, refl)
 kind_listed kind.Refused = (8, omega arith, refl)
+kind_listed kind.Withdrawn = (9, omega arith, refl)
 
 -- where each refusal is in the list
 refusal_listed : (w : Why) → Contains REFUSALS w
@@ -41,6 +44,8 @@ refusal_listed why.NotHeld = (5, omega arith, refl)
 refusal_listed why.ParentNotHeld = (6, omega arith, refl)
 refusal_listed why.ChildHeld = (7, omega arith, refl)
 refusal_listed why.TooManyLocks = (8, omega arith, refl)
+refusal_listed why.WouldWait = (9, omega arith, refl)
+refusal_listed why.NotWaiting = (10, omega arith, refl)
 
 pub returns-clause-ops : goal.returns-clause-ops
 returns-clause-ops c = op_listed

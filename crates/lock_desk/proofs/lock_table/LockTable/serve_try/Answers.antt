@@ -1,0 +1,53 @@
+use Rattle.std.proofs.Common.{◌≡◌, None, ◌∙◌, sym, subst}
+use Rattle.lock_rules.specs.declared.calls.Call.TheVariants.{Try}
+use Rattle.lock_rules.specs.Step.{first_failing}
+use Rattle.lock_desk.specs.declared.lock_table.LockTable.{LockTable}
+use Rattle.lock_desk.specs.inner.Changes.{IsWhole, idle_tests, try_tests}
+use Rattle.lock_desk.specs.inner.Shows.{Shows}
+use Rattle.lock_desk.proofs.Results.{first-some, first-none}
+use Rattle.lock_desk.proofs.Simulation.{try-may, refused-step, passed-steps}
+use Rattle.lock_desk.proofs.EndedWaits.{listed-none}
+use Rattle.lock_desk.specs.inner.Changes.{HasListed}
+use Rattle.lock_desk.proofs.lock_table.LockTable.serve_try.Goals as goal
+
+pub returns-in-Some-clause-step : goal.returns-in-Some-clause-step
+returns-in-Some-clause-step c = λ st i j h.
+    let d = c.args.self.now in
+    let s = c.args.session in
+    refused-step d st s (Try c.args.resource c.args.mode) c.in-Some.why c.requires.whole i h (first-some (idle_tests d s) (try_tests d s c.args.resource c.args.mode) c.in-Some.why c.in-Some.ensures)
+
+pub returns-in-Some-try_refusal-clause-step : goal.returns-in-Some-try_refusal-clause-step
+returns-in-Some-try_refusal-clause-step c = λ st i j h.
+    let d = c.find_or_insert_key-place.new.self in
+    let s = c.args.session in
+    let same = sym c.find_or_insert_key-place.ensures.same in
+    let idle = subst (λ (x : LockTable). None ≡ first_failing (idle_tests x s)) same c.in_default.ensures in
+    let none = first-none (idle_tests d s) (try_tests d s c.args.resource c.args.mode) idle in
+    refused-step d st s (Try c.args.resource c.args.mode) c.in-Some-try_refusal.why (subst IsWhole same c.requires.whole) i (subst (λ (x : LockTable). Shows x st) same h) (c.in-Some-try_refusal.ensures ∙ sym none)
+
+pub ask-requires-clause-may : goal.ask-requires-clause-may
+ask-requires-clause-may c =
+    let d = c.find_or_insert_key-place.new.self in
+    let s = c.args.session in
+    let same = sym c.find_or_insert_key-place.ensures.same in
+    let idle = subst (λ (x : LockTable). None ≡ first_failing (idle_tests x s)) same c.in_default.ensures in
+    try-may d s c.args.resource c.args.mode (subst IsWhole same c.requires.whole) (first-none (idle_tests d s) (try_tests d s c.args.resource c.args.mode) idle ∙ sym c.in_default-try_refusal.ensures)
+
+pub returns-clause-step : goal.returns-clause-step
+returns-clause-step c = λ st i j h.
+    let d = c.find_or_insert_key-place.new.self in
+    let s = c.args.session in
+    let same = sym c.find_or_insert_key-place.ensures.same in
+    let shown = subst (λ (x : LockTable). Shows x st) same h in
+    let idle = subst (λ (x : LockTable). None ≡ first_failing (idle_tests x s)) same c.in_default.ensures in
+    let none = first-none (idle_tests d s) (try_tests d s c.args.resource c.args.mode) idle in
+    passed-steps d c.ask.new.self st s (Try c.args.resource c.args.mode) c.ask.result (subst IsWhole same c.requires.whole) i shown (c.in_default-try_refusal.ensures ∙ sym none) (c.ask.ensures.ask st i j shown)
+
+pub returns-in-Some-clause-listed : goal.returns-in-Some-clause-listed
+returns-in-Some-clause-listed c = listed-none c.args.session c.args.self.now
+
+pub returns-in-Some-try_refusal-clause-listed : goal.returns-in-Some-try_refusal-clause-listed
+returns-in-Some-try_refusal-clause-listed c = subst (λ (x : LockTable). HasListed c.args.session c.args.self.now x) (sym c.find_or_insert_key-place.ensures.same) (listed-none c.args.session c.args.self.now)
+
+pub returns-clause-listed : goal.returns-clause-listed
+returns-clause-listed c = subst (λ (x : LockTable). HasListed c.args.session x c.ask.new.self) c.find_or_insert_key-place.ensures.same c.ask.ensures.listed
