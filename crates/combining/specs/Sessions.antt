@@ -4,7 +4,7 @@ use mathlib.Core.Option as opt
 use mathlib.Core.List.{IsPrefix}
 use lib.ListN.{get_elem?}
 use Rattle.lock_rules.specs.declared.calls.Call.{Call}
-use Rattle.lock_rules.specs.declared.calls.Call.TheVariants.{Release, Commit, Abort}
+use Rattle.lock_rules.specs.declared.calls.Call.TheVariants.{Release, Commit, Abort, Withdraw}
 use Rattle.lock_rules.specs.declared.calls.Reply.{Reply}
 use Rattle.lock_rules.specs.declared.calls.Entry.{Entry}
 use Rattle.lock_rules.specs.Legal.{IsLegal, calls_of}
@@ -90,12 +90,14 @@ pub record IsCollected (before after : TicketView) (place : ℕ) (reply : Reply)
   -- the session's calls in the known history are those that it collected
   pub calls : calls_of before.number after.front ≡ after.collected
 
--- Whether the call gives locks back: a release, a commit or an abort.
-abbrev pub gives_back : Call → Bool
-gives_back (Release resource) = true
-gives_back Commit = true
-gives_back Abort = true
-gives_back _ = false
+-- Whether the call makes room for requests of others: a release, a commit or an abort, which give locks back, or a
+-- withdrawal, which takes a request out of a queue.
+abbrev pub makes_room : Call → Bool
+makes_room (Release resource) = true
+makes_room Commit = true
+makes_room Abort = true
+makes_room Withdraw = true
+makes_room _ = false
 
 -- The session performed a call of its own, which it didn't publish, in a pass. It then knows the entries added before this
 -- pass, followed by those that this pass added: the call's own, and ahead of it or behind it those of `served` calls that
@@ -112,8 +114,8 @@ pub record IsPerformed (before after : TicketView) (call : Call) (place : ℕ) (
   pub front : after.front ≡ (before.front ++ others ++ ahead) ++ entry before.number call reply ∷ behind
   pub place_is : place ≡ length (before.front ++ others ++ ahead)
   pub count : length ahead + length behind ≡ served
-  -- a call that gives locks back is the first of the pass, any other call the last
-  pub order : cond (gives_back call) ahead behind ≡ []
+  -- a call that makes room is the first of the pass, any other call the last
+  pub order : cond (makes_room call) ahead behind ≡ []
   pub legal : IsLegal after.front
   -- the session's calls in the known history are those that it collected
   pub calls : calls_of before.number after.front ≡ after.collected

@@ -154,7 +154,7 @@ impl Office {
     /// own, until memory is refused for a call. The session need not be pending. If its call isn't listed, it first
     /// tries once to have it listed.
     ///
-    /// Commits, aborts and releases are served before the other calls, because locks given back make room for
+    /// Commits, aborts, releases and withdrawals are served before the other calls, because they make room for
     /// requests (this project's choice). Both groups are served in the order of the publication list, with the
     /// session's own call last in its group if its record isn't on the list.
     pub fn serve(&self, session: &mut Session) -> Turn

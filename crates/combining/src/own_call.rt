@@ -5,13 +5,13 @@ ghost use mathlib.Core.List.{IsPrefix};
 ghost use Rattle.lock_rules.specs.Legal.{IsLegal, calls_of};
 ghost use Rattle.publication.specs.Boards.{IsOf, IsNumber, OpensNone, heard_from};
 ghost use Rattle.publication.specs.Rule.{IsHome};
-ghost use Rattle.combining.specs.Sessions.{IsIdle, gives_back};
+ghost use Rattle.combining.specs.Sessions.{IsIdle, makes_room};
 ghost use Rattle.combining.specs.inner.Passes.{ended_behind};
 ghost use Rattle.combining.specs.inner.OwnCalls.{IsOwnEntered, IsPassWithOwn};
 ghost use Rattle.combining.specs.inner.Told.{HasTold};
 
 use crate::ended::Ended;
-use crate::pass::{Pass, gives_locks_back, serve_published};
+use crate::pass::{Pass, makes_room, serve_published};
 use lock_desk::{Call, Reply};
 use publication::{Board, Load, Ticket};
 
@@ -95,7 +95,7 @@ fn serve_own_last(
 }
 
 /// Runs a pass in which the combiner performs a call of its own, which it has not published: ahead of the others if the
-/// call gives locks back, else behind them. Returns the pass, and of the own call its place and reply; `None` if memory is
+/// call makes room, else behind them. Returns the pass, and of the own call its place and reply; `None` if memory is
 /// refused for it.
 pub(crate) fn serve_with_own(
     board: &Board,
@@ -107,7 +107,7 @@ pub(crate) fn serve_with_own(
     requires number { IsNumber board.now session.old.number }
     requires idle { IsIdle session.old }
     requires home { IsHome session.old.front (board.now.sessions + 1) load.old × IsLegal session.old.front }
-    ensures performed { IfSome result.1 (λ r. IsPassWithOwn (gives_back call) session.old session.new call r.0 r.1 result.0.served) }
+    ensures performed { IfSome result.1 (λ r. IsPassWithOwn (makes_room call) session.old session.new call r.0 r.1 result.0.served) }
     ensures refused { IfNone result.1 (session.new ≡ record session.old { front = session.new.front; route = session.new.route; put_backs = session.new.put_backs }) }
     ensures longer { IsPrefix session.old.front session.new.front }
     ensures starved { IsTrue result.0.starved ↔ (session.old.put_backs < session.new.put_backs) }
@@ -115,7 +115,7 @@ pub(crate) fn serve_with_own(
     ensures home { IsHome session.new.front (board.now.sessions + 1) load.new × IsLegal session.new.front }
     ensures taken { load.new.pieces.items ≡ load.old.pieces.items }
 {
-    if gives_locks_back(&call) {
+    if makes_room(&call) {
         serve_own_first(board, session, load, call)
     } else {
         serve_own_last(board, session, load, call)
@@ -239,7 +239,7 @@ pub(crate) fn serve_with_own_telling(
     requires idle { IsIdle session.old }
     requires home { IsHome session.old.front (board.now.sessions + 1) load.old × IsLegal session.old.front }
     requires room { board.now.sessions ≤ ended.old.room }
-    ensures performed { IfSome result.1 (λ r. IsPassWithOwn (gives_back call) session.old session.new call r.0 r.1 result.0.served) }
+    ensures performed { IfSome result.1 (λ r. IsPassWithOwn (makes_room call) session.old session.new call r.0 r.1 result.0.served) }
     ensures refused { IfNone result.1 (session.new ≡ record session.old { front = session.new.front; route = session.new.route; put_backs = session.new.put_backs }) }
     ensures longer { IsPrefix session.old.front session.new.front }
     ensures starved { IsTrue result.0.starved ↔ (session.old.put_backs < session.new.put_backs) }
@@ -248,7 +248,7 @@ pub(crate) fn serve_with_own_telling(
     ensures taken { load.new.pieces.items ≡ load.old.pieces.items }
     ensures told { HasTold board.now.sessions session.old.front session.new.front ended.old ended.new }
 {
-    if gives_locks_back(&call) {
+    if makes_room(&call) {
         serve_own_first_telling(board, session, load, call, ended)
     } else {
         serve_own_last_telling(board, session, load, call, ended)

@@ -10,7 +10,7 @@ ghost use Rattle.publication.specs.Rule.{IsHome};
 ghost use Rattle.publication.specs.List.{IsOn};
 ghost use Rattle.publication.specs.Kinds.{IsRoute};
 ghost use Rattle.combining.specs.inner.Passes.{AreOpened, HasCalls, KeepsCalls, IsVisited, HasVisitedOpened, IsNext, HasMet, IsSameSession, IsAfterRow, IsBookInHand, HasTakenNothing, ended_behind};
-ghost use Rattle.combining.specs.Sessions.{gives_back};
+ghost use Rattle.combining.specs.Sessions.{makes_room};
 ghost use Rattle.combining.specs.inner.Ages.{sessions_of, sessions_since, noted};
 
 use crate::clean_up::{clean_up, note_served};
@@ -35,11 +35,15 @@ pub(crate) struct MadePass {
     pub load: Box<Load>,
 }
 
-/// Whether the call releases locks. Such calls are served before the others, because they make room for requests.
-pub(crate) fn gives_locks_back(call: &Call) -> bool
-    ensures { result ≡ gives_back call.now }
+/// Whether the call makes room for requests of others: it releases locks, or takes a request out of a queue. Such calls are
+/// served before the others.
+pub(crate) fn makes_room(call: &Call) -> bool
+    ensures { result ≡ makes_room call.now }
 {
-    matches!(call, Call::Release(_) | Call::Commit | Call::Abort)
+    matches!(
+        call,
+        Call::Release(_) | Call::Commit | Call::Abort | Call::Withdraw
+    )
 }
 
 /// Inserts an item for the call of session `whose` into the row, which has room for it, behind the first `place` items.
@@ -69,7 +73,7 @@ fn insert_item(row: &mut Vec<Item>, place: usize, whose: u16, call: Call)
 }
 
 /// Opens record `whose` if a call is posted there, and inserts an item for it into the row: after the first `givers`
-/// items, which release locks, if this call does too; else at the end.
+/// items, which make room, if this call does too; else at the end.
 // Out of line, so that a pass over idle records only looks at them.
 #[inline(never)]
 fn open_posted(
@@ -94,7 +98,7 @@ fn open_posted(
     let Some(call) = board.open(session, whose) else {
         return;
     };
-    let gives = gives_locks_back(&call);
+    let gives = makes_room(&call);
     let place = if gives { *givers } else { row.len() };
     insert_item(row, place, whose, call);
     if gives {

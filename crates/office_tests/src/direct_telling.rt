@@ -13,7 +13,7 @@ use std::test::Fail;
 
 /// Performs this call of the session with this number at once, and expects this answer, this number of published calls served,
 /// and these sessions told.
-fn tell(
+pub(crate) fn tell(
     rt: &impl Abort,
     office: &Office,
     sessions: &mut Vec<Session>,
@@ -42,7 +42,7 @@ fn tell(
 }
 
 /// Begins a transaction in each of the four sessions.
-const BEGUN: [(u16, Step); 4] = [
+pub(crate) const BEGUN: [(u16, Step); 4] = [
     (1, Step::CallsAlone(Call::Begin, 0, Reply::Began(1))),
     (2, Step::CallsAlone(Call::Begin, 1, Reply::Began(2))),
     (3, Step::CallsAlone(Call::Begin, 2, Reply::Began(3))),
@@ -50,7 +50,7 @@ const BEGUN: [(u16, Step); 4] = [
 ];
 
 /// The step of a lock that is granted at this place.
-fn granted(session: u16, resource: Resource, mode: Mode, place: u64) -> (u16, Step) {
+pub(crate) fn granted(session: u16, resource: Resource, mode: Mode, place: u64) -> (u16, Step) {
     let reply = Reply::Granted(mode);
     (
         session,
@@ -59,7 +59,7 @@ fn granted(session: u16, resource: Resource, mode: Mode, place: u64) -> (u16, St
 }
 
 /// The step of a lock that waits, at this place.
-fn waits(session: u16, resource: Resource, mode: Mode, place: u64) -> (u16, Step) {
+pub(crate) fn waits(session: u16, resource: Resource, mode: Mode, place: u64) -> (u16, Step) {
     let reply = Reply::Waiting;
     (
         session,
@@ -68,7 +68,7 @@ fn waits(session: u16, resource: Resource, mode: Mode, place: u64) -> (u16, Step
 }
 
 /// The step of a poll at this place.
-fn polls(session: u16, place: u64, reply: Reply) -> (u16, Step) {
+pub(crate) fn polls(session: u16, place: u64, reply: Reply) -> (u16, Step) {
     (session, Step::CallsAlone(Call::Poll, place, reply))
 }
 

@@ -35,3 +35,5 @@ mod steps;
 mod telling;
 #[cfg(test)]
 mod threads;
+#[cfg(test)]
+mod withdrawals;

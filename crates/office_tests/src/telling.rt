@@ -37,7 +37,7 @@ pub(crate) fn want_sessions(rt: &impl Abort, ended: &Ended, told: &[u16]) {
 }
 
 /// Makes a pass, and a second one if memory is refused for a call, and expects the last one to tell these sessions.
-fn want_told(
+pub(crate) fn want_told(
     rt: &impl Abort,
     office: &Office,
     session: &mut Session,

@@ -19,7 +19,7 @@ const TURNS: u64 = 1_000_000_000;
 enum Load {
     /// Polls alone, without transactions.
     Polls,
-    /// Random calls: begins, locks, polls, commits and aborts.
+    /// Random calls: begins, locks, tries, withdrawals, polls, commits and aborts.
     Transactions,
     /// The same random calls, each performed at once if no other session has the lock table.
     TransactionsAtOnce,
@@ -62,7 +62,7 @@ impl Caller {
         self.state >> 33
     }
 
-    /// Returns the next call; locks are on three databases in X or S.
+    /// Returns the next call; locks and tries are on three databases in X or S.
     pub(crate) fn next(&mut self) -> Option<Call> {
         if let Load::Polls = self.load {
             return Some(Call::Poll);
@@ -72,14 +72,15 @@ impl Caller {
         } else {
             Mode::S
         };
-        match self.number() % 8 {
+        let numbers = [(self.number() % 3) as u32];
+        let database = Resource::from_numbers(&numbers)?;
+        match self.number() % 10 {
             0 => Some(Call::Begin),
-            1 | 2 | 3 => {
-                let numbers = [(self.number() % 3) as u32];
-                Some(Call::Lock(Resource::from_numbers(&numbers)?, mode))
-            }
+            1 | 2 | 3 => Some(Call::Lock(database, mode)),
             4 | 5 => Some(Call::Poll),
             6 => Some(Call::Commit),
+            7 => Some(Call::Try(database, mode)),
+            8 => Some(Call::Withdraw),
             _ => Some(Call::Abort),
         }
     }

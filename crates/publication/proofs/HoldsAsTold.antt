@@ -4,19 +4,26 @@ use Rattle.std.specs.List.{All}
 use Rattle.std.proofs.lemmas.List.Elements.{All-nil, All-cons, All-head, All-tail, All-append}
 use Rattle.lock_modes.specs.declared.Mode.{Mode}
 use Rattle.lock_rules.specs.declared.calls.Call.{Call}
-use Rattle.lock_rules.specs.declared.calls.Call.TheVariants.{Poll}
+use Rattle.lock_rules.specs.declared.calls.Call.TheVariants.{Poll, Withdraw}
+use Rattle.lock_rules.specs.declared.calls.Reply.{Reply}
 use Rattle.lock_rules.specs.declared.calls.Reply.TheVariants.{Granted, Waiting, Clear, Refused}
 use Rattle.lock_rules.specs.declared.calls.Why.{Why}
+use Rattle.lock_rules.specs.declared.calls.Why.TheVariants.{NotWaiting}
 use Rattle.lock_rules.specs.Legal.{Answered}
 use Rattle.publication.specs.Views.{Pending, answer, asks}
-use Rattle.publication.specs.HoldsAsTold.{AsksFor, KeepsLock, KeptLock, HoldsAsTold}
+use Rattle.publication.specs.HoldsAsTold.{AsksFor, KeepsLock, KeptLock, ToldOfGrant, TookNothingBack, HoldsAsTold}
 
 asking-keeps : (c : Call) (r x : List ℕ) (m : Mode) → AsksFor c r m → KeepsLock x c
 asking-keeps c r x m (inl e) = ((λ f. cc (e, f)), (λ f. cc (e, f)), (λ f. cc (e, f)))
-asking-keeps c r x m (inr e) = ((λ f. cc (e, f)), (λ f. cc (e, f)), (λ f. cc (e, f)))
+asking-keeps c r x m (inr (inl e)) = ((λ f. cc (e, f)), (λ f. cc (e, f)), (λ f. cc (e, f)))
+asking-keeps c r x m (inr (inr e)) = ((λ f. cc (e, f)), (λ f. cc (e, f)), (λ f. cc (e, f)))
 
 polling-keeps : (c : Call) (x : List ℕ) → c ≡ Poll → KeepsLock x c
 polling-keeps c x e = ((λ f. cc (e, f)), (λ f. cc (e, f)), (λ f. cc (e, f)))
+
+telling-keeps : (a : Answered) (x : List ℕ) → ToldOfGrant a → KeptLock x a
+telling-keeps a x (inl e) = inl (polling-keeps a.call x e.0)
+telling-keeps a x (inr e) = inr (NotWaiting, e.1)
 
 nothing-pending : (r : List ℕ) (p : Pending) → None ≡ Some p → KeepsLock r p.call
 nothing-pending r p e = absurd (cc e)
@@ -28,26 +35,36 @@ begins answers call place r k m asked = record {
   kept = nothing-pending r;
 }
 
--- After a wait it begins with the poll that is answered Clear.
-pub begins-later : (answers between : List Answered) (call : Call) (place later : ℕ) (r : List ℕ) (m : Mode) → AsksFor call r m → All (KeptLock r) between
-    → HoldsAsTold (answers ++ answer place call Waiting ∷ (between ++ answer later Poll Clear ∷ [])) None r m
-begins-later answers between call place later r m asked kept = record {
+-- After a wait it begins with the answer that tells of the grant.
+begins-told : (answers between : List Answered) (call c : Call) (a : Reply) (place later : ℕ) (r : List ℕ) (m : Mode) → ToldOfGrant (answer later c a) → AsksFor call r m → All (KeptLock r) between
+    → All TookNothingBack between → HoldsAsTold (answers ++ answer place call Waiting ∷ (between ++ answer later c a ∷ [])) None r m
+begins-told answers between call c a place later r m ended asked kept standing = record {
   told = inr (record {
     before = answers;
     wait = answer place call Waiting;
     between = between;
-    poll = answer later Poll Clear;
+    ending = answer later c a;
     after = [];
     answers_are = refl;
     asked = asked;
     waited = refl;
-    polled = refl;
-    clear = refl;
+    ended = ended;
     kept_waiting = kept;
+    not_withdrawn = standing;
     kept = All-nil (KeptLock r);
   });
   kept = nothing-pending r;
 }
+
+-- That is the poll that is answered Clear,
+pub begins-later : (answers between : List Answered) (call : Call) (place later : ℕ) (r : List ℕ) (m : Mode) → AsksFor call r m → All (KeptLock r) between → All TookNothingBack between
+    → HoldsAsTold (answers ++ answer place call Waiting ∷ (between ++ answer later Poll Clear ∷ [])) None r m
+begins-later answers between call place later r m = begins-told answers between call Poll Clear place later r m (inl (refl, refl))
+
+-- or the withdrawal that comes too late.
+pub begins-meanwhile : (answers between : List Answered) (call : Call) (place later : ℕ) (r : List ℕ) (m : Mode) → AsksFor call r m → All (KeptLock r) between → All TookNothingBack between
+    → HoldsAsTold (answers ++ answer place call Waiting ∷ (between ++ answer later Withdraw (Refused NotWaiting) ∷ [])) None r m
+begins-meanwhile answers between call place later r m = begins-told answers between call Withdraw (Refused NotWaiting) place later r m (inr (refl, refl))
 
 -- It lasts past each answer that kept the lock.
 one-more : (r : List ℕ) (after : List Answered) (x : Answered) → All (KeptLock r) after → KeptLock r x → All (KeptLock r) (after ++ x ∷ [])
@@ -72,15 +89,15 @@ goes-on answers x pending r m kept t = elim t.told [
       before = g.before;
       wait = g.wait;
       between = g.between;
-      poll = g.poll;
+      ending = g.ending;
       after = g.after ++ x ∷ [];
-      answers_are = ap (λ (l : List Answered). l ++ x ∷ []) g.answers_are ∙ (append_assoc g.before (g.wait ∷ (g.between ++ g.poll ∷ g.after)) (x ∷ [])
-          ∙ ap (λ (l : List Answered). g.before ++ g.wait ∷ l) (append_assoc g.between (g.poll ∷ g.after) (x ∷ [])));
+      answers_are = ap (λ (l : List Answered). l ++ x ∷ []) g.answers_are ∙ (append_assoc g.before (g.wait ∷ (g.between ++ g.ending ∷ g.after)) (x ∷ [])
+          ∙ ap (λ (l : List Answered). g.before ++ g.wait ∷ l) (append_assoc g.between (g.ending ∷ g.after) (x ∷ [])));
       asked = g.asked;
       waited = g.waited;
-      polled = g.polled;
-      clear = g.clear;
+      ended = g.ended;
       kept_waiting = g.kept_waiting;
+      not_withdrawn = g.not_withdrawn;
       kept = one-more r g.after x g.kept kept;
     });
     kept = nothing-pending r;
@@ -117,6 +134,6 @@ last-kept P (y ∷ ys) x (b ∷ bs) g after e here all = last-kept P ys x bs g a
 pub ends : (answers : List Answered) (x : Answered) (pending : Option Pending) (r : List ℕ) (m : Mode) → (KeptLock r x → ⊥) → HoldsAsTold (answers ++ x ∷ []) pending r m → ⊥
 ends answers x pending r m gives t = elim t.told [
   | inl g ↦ gives (last-kept (KeptLock r) answers x g.before g.grant g.after g.answers_are (inl (asking-keeps g.grant.call r r g.asked.0 g.asked.1)) g.kept)
-  | inr g ↦ gives (last-kept (KeptLock r) answers x g.before g.wait (g.between ++ g.poll ∷ g.after) g.answers_are (inl (asking-keeps g.wait.call r r m g.asked))
-      (All-append (KeptLock r) g.between (g.poll ∷ g.after) g.kept_waiting (All-cons (KeptLock r) g.poll g.after (inl (polling-keeps g.poll.call r g.polled)) g.kept)))
+  | inr g ↦ gives (last-kept (KeptLock r) answers x g.before g.wait (g.between ++ g.ending ∷ g.after) g.answers_are (inl (asking-keeps g.wait.call r r m g.asked))
+      (All-append (KeptLock r) g.between (g.ending ∷ g.after) g.kept_waiting (All-cons (KeptLock r) g.ending g.after (telling-keeps g.ending r g.ended) g.kept)))
 ]

@@ -1,5 +1,5 @@
 -- A lock that a session was granted, and gave nothing of back, is held in the state of the history.
-use Rattle.std.proofs.Common.{◌≡◌, ◌≢◌, ◌⊎◌, inl, inr, ℕ, ◌+◌, Bool, true, false, cond, eqb, Option, Some, None, List, [], ◌∷◌, ◌++◌, refl, sym, ap, subst, ◌∙◌, append_assoc, append-nil}
+use Rattle.std.proofs.Common.{◌≡◌, ◌≢◌, ◌⊎◌, inl, inr, ℕ, ◌+◌, Bool, true, false, not, cond, eqb, Option, Some, None, List, [], ◌∷◌, ◌++◌, refl, sym, ap, subst, ◌∙◌, append_assoc, append-nil}
 use mathlib.Core.Logic.{dite}
 use native.Mathlib.Decide.{ℕ_discrete}
 use Rattle.std.specs.List.{All}
@@ -9,14 +9,15 @@ use Rattle.lock_modes.specs.declared.Mode.{Mode}
 use Rattle.lock_modes.specs.Order.{IsAtOrBelow, same}
 use Rattle.lock_modes.proofs.Order.{order-from, order-tests, at_or_below-trans}
 use Rattle.lock_rules.specs.declared.calls.Call.{Call}
-use Rattle.lock_rules.specs.declared.calls.Call.TheVariants.{Lock, Convert, Poll, Abort}
+use Rattle.lock_rules.specs.declared.calls.Call.TheVariants.{Lock, Convert, Try, Poll, Abort, Withdraw}
 use Rattle.lock_rules.specs.declared.calls.Reply.{Reply}
-use Rattle.lock_rules.specs.declared.calls.Reply.TheVariants.{Granted, Waiting, Clear, Refused}
+use Rattle.lock_rules.specs.declared.calls.Reply.TheVariants.{Granted, Waiting, Clear, Refused, Withdrawn}
 use Rattle.lock_rules.specs.declared.calls.Why.{Why}
+use Rattle.lock_rules.specs.declared.calls.Why.TheVariants.{NoTransaction, IsDoomed, NotWaiting}
 use Rattle.lock_rules.specs.declared.calls.Entry.{Entry}
-use Rattle.lock_rules.specs.State.{Claim, State, held_mode, request_of, is_waiting, is_doomed, with_table}
+use Rattle.lock_rules.specs.State.{Claim, State, held_mode, request_of, is_open, is_waiting, is_doomed, with_table}
 use Rattle.lock_rules.specs.Queue.{with_request}
-use Rattle.lock_rules.specs.Step.{Outcome, tests, step}
+use Rattle.lock_rules.specs.Step.{Outcome, tests, first_failing, outcome_of, step}
 use Rattle.lock_rules.specs.Legal.{Answered, IsLegal, state_of, calls_from, calls_of}
 use Rattle.lock_rules.specs.Laws.{DoesRefusalKeep, DoesKeepLock, HoldsAtLeast, HasDoomedTransaction, IsNoAbort}
 use Rattle.lock_rules.specs.Effects.{request, IsTarget, IsAnswerTo, IsReplyAfterWait, DoVictimsKeepTheirLocks}
@@ -25,12 +26,12 @@ use Rattle.lock_rules.proofs.Grants.{grant-stands}
 use Rattle.lock_rules.proofs.DoomsStand.{doom-stands}
 use Rattle.lock_rules.proofs.RequestsStand.{request-stands}
 use Rattle.lock_rules.proofs.Doomed.{among-or-not}
-use Rattle.lock_rules.proofs.Sessions.{open-decides}
+use Rattle.lock_rules.proofs.Sessions.{open-decides, waiting-decides, doomed-decides}
 use Rattle.lock_rules.proofs.Steps.{all-pass}
 use Rattle.lock_rules.proofs.Taken.{passes}
 use Rattle.lock_rules.proofs.Lawful.{lawful}
 use Rattle.publication.specs.Views.{entry, answer}
-use Rattle.publication.specs.HoldsAsTold.{AsksFor, KeepsLock, KeptLock, WasGranted, WasGrantedLater}
+use Rattle.publication.specs.HoldsAsTold.{AsksFor, KeepsLock, KeptLock, TookNothingBack, WasGranted, WasGrantedLater}
 
 -- The entry of an answered call.
 
@@ -100,6 +101,41 @@ each-kept s k r (x ∷ xs) all = go (each-kept s (k + 1) r xs) (eqb x.session s)
     go deeper true mine every = ((λ _. All-head (KeptLock r) (answered k x) (calls_from s (k + 1) xs) every), deeper (All-tail (KeptLock r) (answered k x) (calls_from s (k + 1) xs) every))
     go deeper false mine every = ((λ e. absurd (let t = (Decides-eqb x.session s).1 e in cc (t, mine))), deeper every)
 
+-- A call that tells of a grant gives nothing back.
+telling-keeps : (r : List ℕ) (c : Call) (a : Reply) → ((c ≡ Poll) × (a ≡ Clear)) ⊎ ((c ≡ Withdraw) × (a ≡ Refused NotWaiting)) → KeepsIt r c a
+telling-keeps r c a (inl e) = inl ((λ f. let g = e.0 in cc (f, g)), (λ f. let g = e.0 in cc (f, g)), (λ f. let g = e.0 in cc (f, g)))
+telling-keeps r c a (inr e) = inr (NotWaiting, e.1)
+
+-- None of the session's calls in these entries took a waiting request back.
+abbrev EachStood : ℕ → List Entry → Type 0
+EachStood s [] = Unit {0}
+EachStood s (x ∷ xs) = (x.session ≡ s → x.reply ≢ Withdrawn) × EachStood s xs
+
+each-stood : (s k : ℕ) (h : List Entry) → All TookNothingBack (calls_from s k h) → EachStood s h
+each-stood s k [] all = tt
+each-stood s k (x ∷ xs) all = go (each-stood s (k + 1) xs) (eqb x.session s) refl all
+  where
+    go : (All TookNothingBack (calls_from s (k + 1) xs) → EachStood s xs) → (b : Bool) → eqb x.session s ≡ b → All TookNothingBack (cond b (answered k x ∷ calls_from s (k + 1) xs) (calls_from s (k + 1) xs)) → EachStood s (x ∷ xs)
+    go deeper true mine every = ((λ _. All-head TookNothingBack (answered k x) (calls_from s (k + 1) xs) every), deeper (All-tail TookNothingBack (answered k x) (calls_from s (k + 1) xs) every))
+    go deeper false mine every = ((λ e. absurd (let t = (Decides-eqb x.session s).1 e in cc (t, mine))), deeper every)
+
+-- A withdrawal is answered Withdrawn, or refused.
+withdrawal-told : (st : State) (s : ℕ) (o : Option Why) → ((outcome_of o st s Withdraw).reply ≡ Withdrawn) ⊎ ((why : Why) × ((outcome_of o st s Withdraw).reply ≡ Refused why))
+withdrawal-told st s None = inl refl
+withdrawal-told st s (Some why) = inr (why, refl)
+
+-- The call and its reply tell of a grant.
+abbrev TellsOfGrant : Call → Reply → Type 0
+TellsOfGrant c a = ((c ≡ Poll) × (a ≡ Clear)) ⊎ ((c ≡ Withdraw) × (a ≡ Refused NotWaiting))
+
+-- A withdrawal that is refused with NotWaiting passes its other tests.
+too-late : (st : State) (s : ℕ) (opened doomed waits : Bool) → (outcome_of (first_failing ((not opened, NoTransaction) ∷ (doomed, IsDoomed) ∷ (not waits, NotWaiting) ∷ [])) st s Withdraw).reply ≡ Refused NotWaiting
+    → (waits ≡ false) × (doomed ≡ false)
+too-late st s false doomed waits e = absurd (cc e)
+too-late st s true true waits e = absurd (cc e)
+too-late st s true false true e = absurd (cc e)
+too-late st s true false false e = (refl, refl)
+
 -- A lock stays held.
 
 module _ (refuses : (st : State) → DoesRefusalKeep st) (s : ℕ) (r : List ℕ) where
@@ -135,8 +171,15 @@ module _ (refuses : (st : State) → DoesRefusalKeep st) (s : ℕ) (r : List ℕ
   granted-held : (m k : Mode) (front : List Entry) (c : Call) → AsksFor c r k → (step (state_of front) s c).reply ≡ Granted m → held_mode (step (state_of front) s c).state.table s r ≡ Some m
   granted-held m k front c (inl is) told = subst (λ (y : Call). held_mode (step (state_of front) s y).state.table s r ≡ Some m) (sym is)
       ((lawful front).granted_is_held s r k m (ap (λ (y : Call). (step (state_of front) s y).reply) (sym is) ∙ told))
-  granted-held m k front c (inr is) told = subst (λ (y : Call). held_mode (step (state_of front) s y).state.table s r ≡ Some m) (sym is)
+  granted-held m k front c (inr (inl is)) told = subst (λ (y : Call). held_mode (step (state_of front) s y).state.table s r ≡ Some m) (sym is)
       ((lawful front).converted_is_held s r k m (ap (λ (y : Call). (step (state_of front) s y).reply) (sym is) ∙ told))
+  granted-held m k front c (inr (inr is)) told = subst (λ (y : Call). held_mode (step (state_of front) s y).state.table s r ≡ Some m) (sym is) here
+    where
+      here : held_mode (step (state_of front) s (Try r k)).state.table s r ≡ Some m
+      here =
+          let reply : (step (state_of front) s (Try r k)).reply ≡ Granted m = ap (λ (y : Call). (step (state_of front) s y).reply) (sym is) ∙ told in
+          let locks = ((lawful front).tries_answered s r k (λ why e. cc (reply, e))).0 in
+          ap (λ (o : Outcome). held_mode o.state.table s r) locks ∙ (lawful front).granted_is_held s r k m (ap (λ (o : Outcome). o.reply) (sym locks) ∙ reply)
 
   pub told-grant : (h : List Entry) → IsLegal h → (answers more : List Answered) → calls_of s h ≡ answers ++ more → All (KeptLock r) more → (m : Mode) → WasGranted answers r m → Holds m h
   told-grant h legal answers more calls all m g =
@@ -198,7 +241,14 @@ module _ (refuses : (st : State) → DoesRefusalKeep st) (s : ℕ) (r : List ℕ
           let a = l.locks_answered s r m open_question in
           let p = all-pass (tests (state_of front) s (Lock r m)) (passes (state_of front) s (Lock r m) open_question) in
           record { mode = a.0; least = at_least m a.0 (held_mode (state_of front).table s r) a.1; request_is = request-there (state_of front) a.0 (step (state_of front) s (Lock r m)) p.1.0 l.victims_keep_their_locks a.2 waits }
-  asked-waits m front c (inr is) told = subst (λ (y : Call). Waits m (step (state_of front) s y).state) (sym is) (here (ap (λ (y : Call). (step (state_of front) s y).reply) (sym is) ∙ told))
+  asked-waits m front c (inr (inr is)) told = absurd (let f = t.1.2 in cc (reply, f))
+    where
+      reply : (step (state_of front) s (Try r m)).reply ≡ Waiting
+      reply = ap (λ (y : Call). (step (state_of front) s y).reply) (sym is) ∙ told
+
+      t : (step (state_of front) s (Try r m) ≡ step (state_of front) s (Lock r m)) × ((k : Mode) × IsTarget (held_mode (state_of front).table s r) m k × ((step (state_of front) s (Try r m)).reply ≡ Granted k))
+      t = (lawful front).tries_answered s r m (waits-not-refused (state_of front) (Try r m) reply)
+  asked-waits m front c (inr (inl is)) told = subst (λ (y : Call). Waits m (step (state_of front) s y).state) (sym is) (here (ap (λ (y : Call). (step (state_of front) s y).reply) (sym is) ∙ told))
     where
       here : (step (state_of front) s (Convert r m)).reply ≡ Waiting → Waits m (step (state_of front) s (Convert r m)).state
       here waits =
@@ -227,15 +277,21 @@ module _ (refuses : (st : State) → DoesRefusalKeep st) (s : ℕ) (r : List ℕ
           ])
           (λ other. goes (λ mine. absurd (other mine)))
 
-  -- If a poll is answered Clear, the session has no request waiting and isn't doomed.
-  is-clear : (front : List Entry) (rest : List Entry) (p : Entry) → IsLegal (front ++ p ∷ rest) → p.session ≡ s → p.call ≡ Poll → p.reply ≡ Clear
+  -- If an answer tells of a grant, the session has no request waiting and isn't doomed.
+  is-granted : (front : List Entry) (rest : List Entry) (p : Entry) → IsLegal (front ++ p ∷ rest) → p.session ≡ s → TellsOfGrant p.call p.reply
       → ((q : Claim) → request_of s (state_of front).table.requests ≡ Some q → ⊥) × (HasDoomedTransaction (state_of front) s → ⊥)
-  is-clear front rest p legal whose polled clear =
+  is-granted front rest p legal whose (inl e) =
       let told : p.reply ≡ (step (state_of front) p.session p.call).reply = legal-steps (front ++ p ∷ rest) legal front rest p refl in
       let here : (step (state_of front) s Poll).reply ≡ Clear
-      = ap (λ (n : ℕ). (step (state_of front) n Poll).reply) (sym whose) ∙ (ap (λ (c : Call). (step (state_of front) p.session c).reply) (sym polled) ∙ (sym told ∙ clear)) in
+      = ap (λ (n : ℕ). (step (state_of front) n Poll).reply) (sym whose) ∙ (ap (λ (c : Call). (step (state_of front) p.session c).reply) (sym e.0) ∙ (sym told ∙ e.1)) in
       let c = ((lawful front).poll_reports s).clear.0 here in
-      ((λ q e. c.1 (q, e)), c.2)
+      ((λ q f. c.1 (q, f)), c.2)
+  is-granted front rest p legal whose (inr e) =
+      let told : p.reply ≡ (step (state_of front) p.session p.call).reply = legal-steps (front ++ p ∷ rest) legal front rest p refl in
+      let here : (step (state_of front) s Withdraw).reply ≡ Refused NotWaiting
+      = ap (λ (n : ℕ). (step (state_of front) n Withdraw).reply) (sym whose) ∙ (ap (λ (c : Call). (step (state_of front) p.session c).reply) (sym e.0) ∙ (sym told ∙ e.1)) in
+      let late = too-late (state_of front) s (is_open (state_of front) s) (is_doomed (state_of front) s) (is_waiting (state_of front) s) here in
+      ((λ q f. let w = (waiting-decides (state_of front) s).1 (q, f) in cc (w, late.0)), (λ d. let w = (doomed-decides (state_of front) s).1 d in cc (w, late.1)))
 
   -- A session that waits, and whose calls keep the lock, makes no abort.
   no-abort : (front : List Entry) (q : Claim) (x : Entry) → x.reply ≡ (step (state_of front) x.session x.call).reply → request_of s (state_of front).table.requests ≡ Some q
@@ -248,10 +304,10 @@ module _ (refuses : (st : State) → DoesRefusalKeep st) (s : ℕ) (r : List ℕ
       ((l.abort_needs_transaction s why.0).0 here).1 ((open-decides (state_of front) s).0 (l.owners_open s (inr (q, w))))
 
   -- If the session waits after the front, its request is granted by the time its poll is answered Clear.
-  resolved : (m : Mode) (es front rest : List Entry) (p : Entry) → IsLegal (front ++ (es ++ p ∷ rest)) → EachKept s r es → p.session ≡ s → p.call ≡ Poll → p.reply ≡ Clear
+  resolved : (m : Mode) (es front rest : List Entry) (p : Entry) → IsLegal (front ++ (es ++ p ∷ rest)) → EachKept s r es → EachStood s es → p.session ≡ s → TellsOfGrant p.call p.reply
       → Waits m (state_of front) → Holds m (front ++ es)
-  resolved m [] front rest p legal kept whose polled clear w = absurd ((is-clear front rest p legal whose polled clear).0 (request s r w.mode) w.request_is)
-  resolved m (x ∷ xs) front rest p legal kept whose polled clear w =
+  resolved m [] front rest p legal kept stood whose ended w = absurd ((is-granted front rest p legal whose ended).0 (request s r w.mode) w.request_is)
+  resolved m (x ∷ xs) front rest p legal kept stood whose ended w =
       let told : x.reply ≡ (step (state_of front) x.session x.call).reply = legal-steps (front ++ x ∷ (xs ++ p ∷ rest)) legal front (xs ++ p ∷ rest) x refl in
       let one : (front ++ x ∷ []) ++ xs ≡ front ++ x ∷ xs = append_assoc front (x ∷ []) xs in
       let all : (front ++ x ∷ []) ++ (xs ++ p ∷ rest) ≡ front ++ x ∷ (xs ++ p ∷ rest) = append_assoc front (x ∷ []) (xs ++ p ∷ rest) in
@@ -261,34 +317,42 @@ module _ (refuses : (st : State) → DoesRefusalKeep st) (s : ℕ) (r : List ℕ
       let legal-es : IsLegal ((front ++ x ∷ []) ++ xs) = legal-front ((front ++ x ∷ []) ++ xs) (p ∷ rest) legal-deep in
       let after : (step (state_of front) x.session x.call).state ≡ state_of (front ++ x ∷ []) = sym (state_of-push front x) in
       subst (Holds m) one (elim (request-stands front (x ∷ []) s (request s r w.mode) w.request_is).1 [
-        | inl own ↦ absurd (no-abort front (request s r w.mode) x told w.request_is (kept.0 own.0) own.0 own.1)
+        | inl own ↦ elim own.1 [
+          | inl aborts ↦ absurd (no-abort front (request s r w.mode) x told w.request_is (kept.0 own.0) own.0 aborts)
+          | inr takes ↦ elim (withdrawal-told (state_of front) x.session (first_failing (tests (state_of front) x.session Withdraw))) [
+            | inl back ↦ absurd (stood.0 own.0 (told ∙ (ap (λ (c : Call). (step (state_of front) x.session c).reply) takes ∙ back)))
+            | inr why ↦ resolved m xs (front ++ x ∷ []) rest p legal-all kept.1 stood.1 whose ended
+                (subst (Waits m) (refused front x why.0 told (told ∙ (ap (λ (c : Call). (step (state_of front) x.session c).reply) takes ∙ why.1))) w)
+          ]
+        ]
         | inr k ↦ elim k [
           | inl over ↦ elim over.1 [
             | inl held ↦ held-on m xs (front ++ x ∷ []) legal-es kept.1 (w.mode, ap (λ (st : State). held_mode st.table s r) (sym after) ∙ held, w.least)
-            | inr doomed ↦ absurd ((is-clear ((front ++ x ∷ []) ++ xs) rest p legal-deep whose polled clear).1
+            | inr doomed ↦ absurd ((is-granted ((front ++ x ∷ []) ++ xs) rest p legal-deep whose ended).1
                 (doomed-on xs (front ++ x ∷ []) legal-es kept.1 (subst (λ (st : State). HasDoomedTransaction st s) after doomed)))
           ]
-          | inr on ↦ resolved m xs (front ++ x ∷ []) rest p legal-all kept.1 whose polled clear
+          | inr on ↦ resolved m xs (front ++ x ∷ []) rest p legal-all kept.1 stood.1 whose ended
               record { mode = w.mode; least = w.least; request_is = ap (λ (st : State). request_of s st.table.requests) (sym after) ∙ on }
         ]
       ])
 
   pub told-later : (h : List Entry) → IsLegal h → (answers more : List Answered) → calls_of s h ≡ answers ++ more → All (KeptLock r) more → (m : Mode) → WasGrantedLater answers r m → Holds m h
   told-later h legal answers more calls all m g =
-      let whole : calls_of s h ≡ g.before ++ g.wait ∷ ((g.between ++ g.poll ∷ g.after) ++ more)
-      = calls ∙ (ap (λ (l : List Answered). l ++ more) g.answers_are ∙ append_assoc g.before (g.wait ∷ (g.between ++ g.poll ∷ g.after)) more) in
-      let t = split s 0 h g.before g.wait ((g.between ++ g.poll ∷ g.after) ++ more) whole in
+      let whole : calls_of s h ≡ g.before ++ g.wait ∷ ((g.between ++ g.ending ∷ g.after) ++ more)
+      = calls ∙ (ap (λ (l : List Answered). l ++ more) g.answers_are ∙ append_assoc g.before (g.wait ∷ (g.between ++ g.ending ∷ g.after)) more) in
+      let t = split s 0 h g.before g.wait ((g.between ++ g.ending ∷ g.after) ++ more) whole in
       let x : Entry = entry s g.wait.call g.wait.reply in
-      let u = split s t.at t.rest g.between g.poll (g.after ++ more) (t.after_is ∙ append_assoc g.between (g.poll ∷ g.after) more) in
-      let p : Entry = entry s g.poll.call g.poll.reply in
+      let u = split s t.at t.rest g.between g.ending (g.after ++ more) (t.after_is ∙ append_assoc g.between (g.ending ∷ g.after) more) in
+      let p : Entry = entry s g.ending.call g.ending.reply in
       let start : List Entry = t.front ++ x ∷ [] in
       let seam : start ++ (u.front ++ p ∷ u.rest) ≡ h
       = append_assoc t.front (x ∷ []) (u.front ++ p ∷ u.rest) ∙ (ap (λ (l : List Entry). t.front ++ x ∷ l) (sym u.whole) ∙ sym t.whole) in
       let reply : x.reply ≡ (step (state_of t.front) s g.wait.call).reply = legal-steps h legal t.front t.rest x t.whole in
       let waits : Waits m (state_of start) = subst (Waits m) (sym (state_of-push t.front x)) (asked-waits m t.front g.wait.call g.asked (sym reply ∙ g.waited)) in
       let kept : EachKept s r u.front = each-kept s t.at r u.front (subst (All (KeptLock r)) (sym u.before_is) g.kept_waiting) in
-      let here : Holds m (start ++ u.front) = resolved m u.front start u.rest p (subst IsLegal (sym seam) legal) kept refl g.polled g.clear waits in
+      let stood : EachStood s u.front = each-stood s t.at u.front (subst (All TookNothingBack) (sym u.before_is) g.not_withdrawn) in
+      let here : Holds m (start ++ u.front) = resolved m u.front start u.rest p (subst IsLegal (sym seam) legal) kept stood refl g.ended waits in
       let one : (start ++ u.front) ++ p ∷ u.rest ≡ h = append_assoc start u.front (p ∷ u.rest) ∙ seam in
       let later : EachKept s r u.rest = each-kept s u.at r u.rest (subst (All (KeptLock r)) (sym u.after_is) (All-append (KeptLock r) g.after more g.kept all)) in
-      let polls : p.session ≡ s → KeepsIt r p.call p.reply = λ _. inl ((λ e. let f = g.polled in cc (e, f)), (λ e. let f = g.polled in cc (e, f)), (λ e. let f = g.polled in cc (e, f))) in
-      subst (Holds m) one (held-on m (p ∷ u.rest) (start ++ u.front) (subst IsLegal (sym one) legal) (polls, later) here)
+      let ends : p.session ≡ s → KeepsIt r p.call p.reply = λ _. telling-keeps r p.call p.reply g.ended in
+      subst (Holds m) one (held-on m (p ∷ u.rest) (start ++ u.front) (subst IsLegal (sym one) legal) (ends, later) here)

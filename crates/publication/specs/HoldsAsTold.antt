@@ -4,16 +4,17 @@ use Rattle.lock_modes.specs.declared.Mode.{Mode}
 use Rattle.lock_modes.specs.declared.Mode.TheVariants.{S, X}
 use Rattle.lock_modes.specs.Order.{IsAtOrBelow}
 use Rattle.lock_rules.specs.declared.calls.Call.{Call}
-use Rattle.lock_rules.specs.declared.calls.Call.TheVariants.{Lock, Convert, Poll, Release, Commit, Abort}
-use Rattle.lock_rules.specs.declared.calls.Reply.TheVariants.{Granted, Waiting, Clear, Refused}
+use Rattle.lock_rules.specs.declared.calls.Call.TheVariants.{Lock, Convert, Try, Poll, Release, Commit, Abort, Withdraw}
+use Rattle.lock_rules.specs.declared.calls.Reply.TheVariants.{Granted, Waiting, Clear, Refused, Withdrawn}
 use Rattle.lock_rules.specs.declared.calls.Why.{Why}
+use Rattle.lock_rules.specs.declared.calls.Why.TheVariants.{NotWaiting}
 use Rattle.lock_rules.specs.Legal.{Answered}
 use Rattle.lock_rules.specs.Laws.{IsAtOrOver}
 use Rattle.publication.specs.Views.{Pending}
 
 -- The call requests the resource in this mode.
 abbrev pub AsksFor : Call → List ℕ → Mode → Type 0
-AsksFor c r m = (c ≡ Lock r m) ⊎ (c ≡ Convert r m)
+AsksFor c r m = (c ≡ Lock r m) ⊎ ((c ≡ Convert r m) ⊎ (c ≡ Try r m))
 
 -- The call doesn't give the resource back: it is no commit, no abort and no release of it.
 abbrev pub KeepsLock : List ℕ → Call → Type 0
@@ -22,6 +23,15 @@ KeepsLock r c = (c ≢ Commit) × (c ≢ Abort) × (c ≢ Release r)
 -- The answered call gave nothing of the resource back: it is a call that doesn't, or it was refused.
 abbrev pub KeptLock : List ℕ → Answered → Type 0
 KeptLock r a = KeepsLock r a.call ⊎ ((why : Why) × (a.reply ≡ Refused why))
+
+-- The answered call told that the session waits no more and is no victim: a poll was answered Clear, or a withdrawal was refused
+-- with NotWaiting.
+abbrev pub ToldOfGrant : Answered → Type 0
+ToldOfGrant a = ((a.call ≡ Poll) × (a.reply ≡ Clear)) ⊎ ((a.call ≡ Withdraw) × (a.reply ≡ Refused NotWaiting))
+
+-- The answered call took no waiting request back.
+abbrev pub TookNothingBack : Answered → Type 0
+TookNothingBack a = a.reply ≢ Withdrawn
 
 -- An answer granted the resource in this mode, and no later answered call gave it back.
 pub record WasGranted (answers : List Answered) (r : List ℕ) (m : Mode) : Type 0 where
@@ -33,20 +43,20 @@ pub record WasGranted (answers : List Answered) (r : List ℕ) (m : Mode) : Type
   pub granted : grant.reply ≡ Granted m
   pub kept : All (KeptLock r) after
 
--- A request for the resource in this mode was answered Waiting, a later poll Clear (the session waits no more and is no
--- victim), and no answered call since the request gave the resource back.
+-- A request for the resource in this mode was answered Waiting, and a later answer told that it was granted. No answered call
+-- between the two took the request back, and none since the request gave the resource back.
 pub record WasGrantedLater (answers : List Answered) (r : List ℕ) (m : Mode) : Type 0 where
   pub before : List Answered
   pub wait : Answered
   pub between : List Answered
-  pub poll : Answered
+  pub ending : Answered
   pub after : List Answered
-  pub answers_are : answers ≡ before ++ wait ∷ (between ++ poll ∷ after)
+  pub answers_are : answers ≡ before ++ wait ∷ (between ++ ending ∷ after)
   pub asked : AsksFor wait.call r m
   pub waited : wait.reply ≡ Waiting
-  pub polled : poll.call ≡ Poll
-  pub clear : poll.reply ≡ Clear
+  pub ended : ToldOfGrant ending
   pub kept_waiting : All (KeptLock r) between
+  pub not_withdrawn : All TookNothingBack between
   pub kept : All (KeptLock r) after
 
 -- A session with these answers and this pending call was told that it holds the resource in this mode, and has published

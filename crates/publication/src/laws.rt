@@ -11,8 +11,9 @@ ghost use Rattle.std.specs.Global.{Box};
 ghost use Rattle.atomic_table.specs.Table.{step, Act, Valid, carried_after, stepped};
 ghost use Rattle.lock_modes.specs.declared.Mode.{Mode};
 ghost use Rattle.lock_rules.specs.declared.calls.Call.{Call};
-ghost use Rattle.lock_rules.specs.declared.calls.Call.TheVariants.{Poll};
+ghost use Rattle.lock_rules.specs.declared.calls.Call.TheVariants.{Poll, Withdraw};
 ghost use Rattle.lock_rules.specs.declared.calls.Reply.TheVariants.{Granted, Waiting, Clear, Refused};
+ghost use Rattle.lock_rules.specs.declared.calls.Why.TheVariants.{NotWaiting};
 ghost use Rattle.lock_rules.specs.declared.calls.Entry.{Entry};
 ghost use Rattle.lock_rules.specs.declared.calls.Reply.{Reply};
 ghost use Rattle.lock_rules.specs.declared.calls.Why.{Why};
@@ -22,7 +23,7 @@ ghost use Rattle.publication.specs.Views.{Pending, IsAccountedIn, entry, answer,
 ghost use Rattle.publication.specs.Rule.{BoardState, seat, IsHome};
 ghost use Rattle.publication.specs.List.{IsRuled};
 ghost use Rattle.publication.specs.Kinds.{Seated};
-ghost use Rattle.publication.specs.HoldsAsTold.{AsksFor, KeepsLock, KeptLock, HoldsAsTold, ReadsAsTold, WritesAsTold};
+ghost use Rattle.publication.specs.HoldsAsTold.{AsksFor, KeepsLock, KeptLock, TookNothingBack, HoldsAsTold, ReadsAsTold, WritesAsTold};
 ghost use Rattle.publication.specs.Exclusion.{HasCollected, ToldModesGoTogether, IsToldExclusive, IsToldAccessCompatible};
 ghost use Rattle.publication.specs.BoardHistory.{new_board, history_of, IsAppended, IsEnteredDirectly, IsAccounted};
 ghost use Rattle.publication.specs.Runs.{StepName, answer_record, enter, kind_of, StepRequires, CarriesOnlyItsOwn, IsStep, IsSeatSplit, IsSeatJoin, IsRun, calls_made, RespectsRealTime};
@@ -33,15 +34,19 @@ ghost use Rattle.publication.specs.declared.view.View.{View};
 use lock_rules::laws;
 
 /// When a session holds a lock as told. It begins with the answer that grants the lock, or, after a wait, with the poll
-/// that is answered Clear. It lasts past each answer that gave nothing of the resource back, and while a call is
+/// that is answered Clear or the withdrawal that is refused with NotWaiting, unless the session took its request back
+/// meanwhile. It lasts past each answer that gave nothing of the resource back, and while a call is
 /// pending that gives nothing of it back. It ends when the session publishes a commit, an abort or a release of the
 /// resource, or enters one directly. The answer of that call doesn't bring it back, except a refusal.
 pub fn what_is_told_begins_and_ends()
     ensures granted { (answers : List Answered) (call : Call) (place : ℕ) (r : List ℕ) (k m : Mode) →
         AsksFor call r k → HoldsAsTold (answers ++ answer place call (Granted m) ∷ []) None r m }
     ensures granted_later { (answers between : List Answered) (call : Call) (place later : ℕ) (r : List ℕ) (m : Mode) →
-        AsksFor call r m → All (KeptLock r) between →
+        AsksFor call r m → All (KeptLock r) between → All TookNothingBack between →
         HoldsAsTold (answers ++ answer place call Waiting ∷ (between ++ answer later Poll Clear ∷ [])) None r m }
+    ensures granted_meanwhile { (answers between : List Answered) (call : Call) (place later : ℕ) (r : List ℕ) (m : Mode) →
+        AsksFor call r m → All (KeptLock r) between → All TookNothingBack between →
+        HoldsAsTold (answers ++ answer place call Waiting ∷ (between ++ answer later Withdraw (Refused NotWaiting) ∷ [])) None r m }
     ensures stays { (answers : List Answered) (x : Answered) (pending : Option Pending) (r : List ℕ) (m : Mode) →
         KeptLock r x → HoldsAsTold answers pending r m → HoldsAsTold (answers ++ x ∷ []) None r m }
     ensures asks_on { (answers : List Answered) (call : Call) (floor : ℕ) (r : List ℕ) (m : Mode) →

@@ -35,7 +35,7 @@ pub enum Performed {
 impl Office {
     /// Tries once to become the combiner, and if it does, performs the call at once and makes a pass, as `serve` does. The
     /// call is not published: its entry joins the history and its answer is collected at one step, and the session's
-    /// record stays as it is. A call that gives locks back is performed ahead of the published calls, any other call behind
+    /// record stays as it is. A call that makes room is performed ahead of the published calls, any other call behind
     /// them.
     ///
     /// `Elsewhere`: nothing changed, and the call may be published instead. `Starved`: the call is not in the history, and

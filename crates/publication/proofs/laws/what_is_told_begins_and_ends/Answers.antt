@@ -1,4 +1,4 @@
-use Rattle.publication.proofs.HoldsAsTold.{begins, begins-later, goes-on, asks-on, comes-back, ends-asked, ends}
+use Rattle.publication.proofs.HoldsAsTold.{begins, begins-later, begins-meanwhile, goes-on, asks-on, comes-back, ends-asked, ends}
 use Rattle.publication.proofs.laws.what_is_told_begins_and_ends.Goals as goal
 
 pub returns-clause-granted : goal.returns-clause-granted
@@ -6,6 +6,9 @@ returns-clause-granted c = begins
 
 pub returns-clause-granted_later : goal.returns-clause-granted_later
 returns-clause-granted_later c = begins-later
+
+pub returns-clause-granted_meanwhile : goal.returns-clause-granted_meanwhile
+returns-clause-granted_meanwhile c = begins-meanwhile
 
 pub returns-clause-stays : goal.returns-clause-stays
 returns-clause-stays c = goes-on

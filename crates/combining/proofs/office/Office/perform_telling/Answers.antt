@@ -4,7 +4,7 @@ use Rattle.lock_rules.specs.declared.calls.Entry.{Entry}
 use Rattle.lock_rules.specs.declared.calls.Reply.{Reply}
 use Rattle.publication.specs.Views.{BoardView, TicketView}
 use Rattle.combining.specs.Ended.{EndedView, AreToldBy}
-use Rattle.combining.specs.Sessions.{gives_back}
+use Rattle.combining.specs.Sessions.{makes_room}
 use Rattle.combining.specs.inner.OwnCalls.{IsPassWithOwn}
 use Rattle.combining.specs.inner.Told.{HasTold}
 use Rattle.combining.proofs.EndedWaits.{all-told}
@@ -23,10 +23,10 @@ returns-in-Some-own-clause-told c answer served starved is =
     let r : ℕ × Reply = (c.in-Some-own.place, c.in-Some-own.reply) in
     let none = ap (λ (v : EndedView). v.list) c.clear.ensures in
     let kept : after ≡ mid.front = ap (λ (t : TicketView). t.front) c.release.ensures.ticket in
-    let pass = subst (λ (o : Option (ℕ × Reply)). IfSome o (λ x. IsPassWithOwn (gives_back call) before mid call x.0 x.1 own.result.0.served)) c.in-Some-own.is own.ensures.performed in
+    let pass = subst (λ (o : Option (ℕ × Reply)). IfSome o (λ x. IsPassWithOwn (makes_room call) before mid call x.0 x.1 own.result.0.served)) c.in-Some-own.is own.ensures.performed in
     let same : own.result.0.served ≡ served = cc is in
     let told = all-told n (own.result.0.served + 1) before.front mid.front c.clear.new.self own.new.ended told_here none own.ensures.longer
-    (pass-count (gives_back call) before mid call r.0 r.1 own.result.0.served pass) in
+    (pass-count (makes_room call) before mid call r.0 r.1 own.result.0.served pass) in
     subst (λ (k : ℕ). AreToldBy n (k + 1) after own.new.ended.list) same
     (subst (λ (l : List Entry). AreToldBy n (own.result.0.served + 1) l own.new.ended.list) (sym kept) told)
 
