@@ -54,37 +54,43 @@ row_of_claim place word c =
 abbrev pub row_of_lock_below : ℕ → Claim → List ℕ
 row_of_lock_below place c = row_of_claim place (codes "held") c
 
--- the rows of a refusal: the reason, the parent lacked, and the locks below the resource
-abbrev pub rows_of_refusal : ℕ → ℕ → Refusal → List ℕ
-rows_of_refusal place s f =
-    row_of_why place s f.why ++ rows_of_missed place s f.missed ++ flat_map (row_of_lock_below place) f.below.items
-
--- the rows of the refusal, nothing for None
-abbrev pub refusal_rows : ℕ → ℕ → Option Refusal → List ℕ
-refusal_rows place s None = []
-refusal_rows place s (Some f) = rows_of_refusal place s f
-
 -- the word of a request's row
 abbrev pub word_of_kind : ClaimKind → List ℕ
 word_of_kind Held = codes "held"
 word_of_kind Conversion = codes "conversion"
 word_of_kind Fresh = codes "fresh"
 
--- the row of the request that began to wait
+-- the row of a request that waits or would wait
 abbrev pub row_of_request : ℕ → Claim → List ℕ
 row_of_request place q = row_of_claim place (word_of_kind q.kind) q
 
--- a row of what the request q waits for: the session, through this mode, nothing for None
+-- a row of what the request q waits for or would wait for: the session, through this mode, nothing for None
 abbrev pub row_of_block : ℕ → Claim → List ℕ → Party → Option Mode → List ℕ
 row_of_block place q word p None = []
 row_of_block place q word p (Some m) =
     row_of_fields
     (decimal place ∷ word ∷ decimal p.session ∷ decimal p.transaction ∷ text_of q.resource ∷ name_of m ∷ decimal q.session ∷ [])
 
--- the rows of a session that the request q waits for: its lock in conflict, and its request ahead
+-- the rows of a session that the request q waits for or would wait for: its lock in conflict, and its request ahead
 abbrev pub rows_of_blocker : ℕ → Claim → Blocker → List ℕ
 rows_of_blocker place q b =
     row_of_block place q (codes "holder") b.party b.held ++ row_of_block place q (codes "ahead") b.party b.ahead
+
+-- the rows of the request that would wait and of the sessions that it would wait for, nothing for None
+abbrev pub rows_if_asked : ℕ → Option Claim → List Blocker → List ℕ
+rows_if_asked place None blockers = []
+rows_if_asked place (Some q) blockers = row_of_request place q ++ flat_map (rows_of_blocker place q) blockers
+
+-- the rows of a refusal: the reason, the parent lacked, the locks below the resource, and the request that would wait
+abbrev pub rows_of_refusal : ℕ → ℕ → Refusal → List ℕ
+rows_of_refusal place s f =
+    row_of_why place s f.why ++ rows_of_missed place s f.missed ++ flat_map (row_of_lock_below place) f.below.items
+    ++ rows_if_asked place f.request f.blockers.items
+
+-- the rows of the refusal, nothing for None
+abbrev pub refusal_rows : ℕ → ℕ → Option Refusal → List ℕ
+refusal_rows place s None = []
+refusal_rows place s (Some f) = rows_of_refusal place s f
 
 -- the row of a session with its transaction, with this word
 abbrev pub row_of_party : ℕ → List ℕ → Party → List ℕ

@@ -5,7 +5,7 @@ use Rattle.lock_modes.specs.declared.Mode.{Mode}
 use Rattle.lock_modes.specs.Codes.{name_of}
 use Rattle.lock_tree.specs.Text.{text_of}
 use Rattle.lock_rules.specs.declared.calls.Why.{Why}
-use Rattle.lock_rules.specs.declared.calls.Why.TheVariants.{AlreadyOpen, NoTransaction, IsWaiting, IsDoomed, NothingAsked, NotHeld, ParentNotHeld, ChildHeld, TooManyLocks}
+use Rattle.lock_rules.specs.declared.calls.Why.TheVariants.{AlreadyOpen, NoTransaction, IsWaiting, IsDoomed, NothingAsked, NotHeld, ParentNotHeld, ChildHeld, TooManyLocks, WouldWait, NotWaiting}
 use Rattle.lock_rules.specs.declared.listing.Claim.{Claim}
 use Rattle.lock_rules.specs.declared.listing.ClaimKind.{ClaimKind}
 use Rattle.lock_rules.specs.declared.listing.ClaimKind.TheVariants.{Held, Conversion, Fresh}
@@ -36,6 +36,8 @@ words_of_why NotHeld = codes "the session doesn't hold the resource"
 words_of_why ParentNotHeld = codes "the parent isn't held as the request needs it"
 words_of_why ChildHeld = codes "the session holds a lock below the resource"
 words_of_why TooManyLocks = codes "the session holds 4096 locks"
+words_of_why WouldWait = codes "the request would wait"
+words_of_why NotWaiting = codes "the session doesn't wait"
 
 -- the line of the reason
 abbrev pub line_of_why : Why → List ℕ
@@ -61,15 +63,6 @@ lines_of_missed (Some p) = line_of_parent p
 abbrev pub line_of_lock_below : Claim → List ℕ
 line_of_lock_below c = codes "    holds " ++ text_of c.resource ++ codes " in " ++ name_of c.mode ++ codes "\n"
 
--- the lines of a refusal: the reason, the parent lacked, and the locks below the resource
-abbrev pub lines_of_refusal : Refusal → List ℕ
-lines_of_refusal f = line_of_why f.why ++ lines_of_missed f.missed ++ flat_map line_of_lock_below f.below.items
-
--- the lines of the refusal, nothing for None
-abbrev pub refusal_part : Option Refusal → List ℕ
-refusal_part None = []
-refusal_part (Some f) = lines_of_refusal f
-
 -- the words before the resource of a request
 abbrev pub request_word : ClaimKind → List ℕ
 request_word Held = codes "for"
@@ -87,9 +80,9 @@ abbrev pub words_of_request : Claim → List ℕ
 words_of_request c =
     request_word c.kind ++ codes " " ++ text_of c.resource ++ codes " " ++ target_word c.kind ++ codes " " ++ name_of c.mode
 
--- the line of the request that began to wait
-abbrev pub line_of_request : Claim → List ℕ
-line_of_request c = codes "  begins to wait " ++ words_of_request c ++ codes "\n"
+-- the line of a request that waits or would wait, with these words at its start
+abbrev pub line_of_request : List ℕ → Claim → List ℕ
+line_of_request start c = start ++ words_of_request c ++ codes "\n"
 
 -- the lock of a blocker, nothing if it doesn't conflict
 abbrev pub words_of_holding : Option Mode → List ℕ
@@ -106,11 +99,32 @@ abbrev pub words_of_ahead : Option Mode → Option Mode → List ℕ
 words_of_ahead held None = []
 words_of_ahead held (Some m) = link_word held ++ codes " waits ahead for " ++ name_of m
 
--- the line of a session that the request waits for
-abbrev pub line_of_blocker : Blocker → List ℕ
-line_of_blocker b =
-    codes "    waits for " ++ words_of_party b.party
+-- the line of a session that a request waits for or would wait for, with these words at its start
+abbrev pub line_of_blocker : List ℕ → Blocker → List ℕ
+line_of_blocker start b =
+    start ++ words_of_party b.party
     ++ words_of_holding b.held ++ words_of_ahead b.held b.ahead ++ codes "\n"
+
+-- the lines of a request that would wait, and of the sessions that it would wait for
+abbrev pub lines_of_asked : Claim → List Blocker → List ℕ
+lines_of_asked q blockers =
+    line_of_request (codes "  would begin to wait ") q ++ flat_map (line_of_blocker (codes "    would wait for ")) blockers
+
+-- the lines of the request that would wait, nothing for None
+abbrev pub lines_if_asked : Option Claim → List Blocker → List ℕ
+lines_if_asked None blockers = []
+lines_if_asked (Some q) blockers = lines_of_asked q blockers
+
+-- the lines of a refusal: the reason, the parent lacked, the locks below the resource, and the request that would wait
+abbrev pub lines_of_refusal : Refusal → List ℕ
+lines_of_refusal f =
+    line_of_why f.why ++ lines_of_missed f.missed ++ flat_map line_of_lock_below f.below.items
+    ++ lines_if_asked f.request f.blockers.items
+
+-- the lines of the refusal, nothing for None
+abbrev pub refusal_part : Option Refusal → List ℕ
+refusal_part None = []
+refusal_part (Some f) = lines_of_refusal f
 
 -- the line of a session on a cycle
 abbrev pub line_of_member : Party → List ℕ
@@ -140,7 +154,8 @@ lines_of_circle (p ∷ ps) edges = lines_of_members (p ∷ ps) ++ lines_of_edges
 -- the lines of a wait: the request, the sessions that it waits for, and the cycles that it closed
 abbrev pub lines_of_wait : Wait → List ℕ
 lines_of_wait w =
-    line_of_request w.request ++ flat_map line_of_blocker w.blockers.items ++ lines_of_circle w.circle.items w.edges.items
+    line_of_request (codes "  begins to wait ") w.request ++ flat_map (line_of_blocker (codes "    waits for ")) w.blockers.items
+    ++ lines_of_circle w.circle.items w.edges.items
 
 -- the lines of the wait, nothing for None
 abbrev pub wait_part : Option Wait → List ℕ

@@ -1,11 +1,11 @@
-//! What a request waits for and the cycles that it closed, as a graph for Graphviz.
+//! What a request waits for or would wait for and the cycles that it closed, as a graph for Graphviz.
 
 ghost use Rattle.std.specs.Prelude.{◌≡◌, ◌++◌, IfOk, OnOk, string_bytes};
 ghost use Rattle.std.specs.List.{flat_map};
-ghost use Rattle.explain_report.specs.ExplanationDot.{start_of_node, node_of_request, node_of_blocker, node_of_member, node_of_victim, edge_with, edge_of_blocker, edge_of_circle, nodes_of_wait, edges_of_wait, graph_of_wait, graph_part, dot_of_explanation};
+ghost use Rattle.explain_report.specs.ExplanationDot.{start_of_node, node_of_request, node_of_blocker, node_of_member, node_of_victim, edge_with, edge_of_blocker, edge_of_circle, nodes_of_wait, edges_of_wait, graph_of_wait, graph_part, nodes_of_asked, graph_of_asked, graph_if_asked, graph_of_refusal, dot_of_explanation};
 
 use crate::words::put_words;
-use lock_explain::{Blocker, Edge, Explanation, Party, Wait};
+use lock_explain::{Blocker, Edge, Explanation, Party, Refusal, Wait};
 use lock_rules::Claim;
 use std::alloc::{AllocError as NoMemory, Global};
 use std::fmt::Write;
@@ -20,7 +20,7 @@ fn put_start_of_node(out: &mut String, session: u16, number: u64) -> Result<(), 
     )
 }
 
-/// Writes the node of the session that waits.
+/// Writes the node of the session that waits or would wait.
 fn put_node_of_request(out: &mut String, request: &Claim) -> Result<(), NoMemory>
     ensures { OnOk result (string_bytes out.new ≡ string_bytes out.old ++ node_of_request request.now) }
 {
@@ -28,7 +28,7 @@ fn put_node_of_request(out: &mut String, request: &Claim) -> Result<(), NoMemory
     put_words(out, "\"];\n")
 }
 
-/// Writes the node of a session that the request waits for.
+/// Writes the node of a session that the request waits for or would wait for.
 fn put_node_of_blocker(out: &mut String, blocker: &Blocker) -> Result<(), NoMemory>
     ensures { OnOk result (string_bytes out.new ≡ string_bytes out.old ++ node_of_blocker blocker.now) }
 {
@@ -36,7 +36,7 @@ fn put_node_of_blocker(out: &mut String, blocker: &Blocker) -> Result<(), NoMemo
     put_words(out, "\"];\n")
 }
 
-/// Writes the nodes of the sessions that the request waits for.
+/// Writes the nodes of the sessions that the request waits for or would wait for.
 fn put_nodes_of_blockers(out: &mut String, blockers: &[Blocker]) -> Result<(), NoMemory>
     ensures { OnOk result (string_bytes out.new ≡ string_bytes out.old ++ flat_map node_of_blocker blockers.now) }
 {
@@ -92,14 +92,14 @@ fn put_edge_with(out: &mut String, session: u16, other: u16, end: &str) -> Resul
     write!(out, "  {session} -> {other}{end}")
 }
 
-/// Writes the edge from the session that waits to a session that it waits for.
+/// Writes the edge from the session that waits or would wait to a session that it waits for or would wait for.
 fn put_edge_of_blocker(out: &mut String, session: u16, blocker: &Blocker) -> Result<(), NoMemory>
     ensures { OnOk result (string_bytes out.new ≡ string_bytes out.old ++ edge_of_blocker session blocker.now) }
 {
     put_edge_with(out, session, blocker.party.session, ";\n")
 }
 
-/// Writes the edges from the session that waits to those that it waits for.
+/// Writes the edges from the session that waits or would wait to those that it waits for or would wait for.
 fn put_edges_of_blockers(
     out: &mut String,
     session: u16,
@@ -175,9 +175,67 @@ fn put_graph_part(
     }
 }
 
-/// What the request of the call at index `place` waits for and the cycles that it closed, as a directed graph of Graphviz:
-/// sessions and waits on a cycle are red, and victims are filled. Empty if no request began to wait. Fails only with
-/// `NoMemory`.
+/// Writes the node of the session that would wait, and those of the sessions that it would wait for.
+fn put_nodes_of_asked(
+    out: &mut String,
+    request: &Claim,
+    blockers: &[Blocker],
+) -> Result<(), NoMemory>
+    ensures { OnOk result (string_bytes out.new ≡ string_bytes out.old ++ nodes_of_asked request.now blockers.now) }
+{
+    put_node_of_request(out, request)?;
+    put_nodes_of_blockers(out, blockers)
+}
+
+/// Writes the graph of a request that would wait.
+fn put_graph_of_asked(
+    out: &mut String,
+    place: u64,
+    request: &Claim,
+    blockers: &[Blocker],
+) -> Result<(), NoMemory>
+    ensures { OnOk result (string_bytes out.new ≡ string_bytes out.old ++ graph_of_asked place request.now blockers.now) }
+{
+    put_words(out, "strict digraph place_")?;
+    write!(out, "{place}")?;
+    put_words(out, " {\n")?;
+    put_nodes_of_asked(out, request, blockers)?;
+    put_edges_of_blockers(out, request.session, blockers)?;
+    put_words(out, "}\n")
+}
+
+/// Writes the graph of a request that would wait, nothing for `None`.
+fn put_graph_if_asked(
+    out: &mut String,
+    place: u64,
+    request: &Option<Claim>,
+    blockers: &[Blocker],
+) -> Result<(), NoMemory>
+    ensures { OnOk result (string_bytes out.new ≡ string_bytes out.old ++ graph_if_asked place request.now blockers.now) }
+{
+    match request {
+        None => Ok(()),
+        Some(request) => put_graph_of_asked(out, place, request, blockers),
+    }
+}
+
+/// Writes the graph of a refusal, nothing for `None`.
+fn put_graph_of_refusal(
+    out: &mut String,
+    place: u64,
+    refusal: &Option<Refusal>,
+) -> Result<(), NoMemory>
+    ensures { OnOk result (string_bytes out.new ≡ string_bytes out.old ++ graph_of_refusal place refusal.now) }
+{
+    match refusal {
+        None => Ok(()),
+        Some(refusal) => put_graph_if_asked(out, place, &refusal.request, &refusal.blockers),
+    }
+}
+
+/// What the request of the call at index `place` waits for or would wait for, and the cycles that it closed, as a directed graph
+/// of Graphviz: sessions and waits on a cycle are red, and victims are filled. Empty if no request began to wait and none was
+/// refused since it would wait. Fails only with `NoMemory`.
 pub fn explanation_dot(
     alloc: Global,
     place: u64,
@@ -186,6 +244,7 @@ pub fn explanation_dot(
     ensures { IfOk result (λ text. string_bytes text ≡ dot_of_explanation place explanation.now) }
 {
     let mut out = String::new(alloc);
+    put_graph_of_refusal(&mut out, place, &explanation.refusal)?;
     put_graph_part(&mut out, place, &explanation.wait, &explanation.victims)?;
     Ok(out)
 }

@@ -3,6 +3,7 @@
 #![tactic(auto)]
 
 mod dot;
+mod request_text;
 mod rows;
 mod text;
 mod words;

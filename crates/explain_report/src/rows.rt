@@ -2,7 +2,7 @@
 
 ghost use Rattle.std.specs.Prelude.{◌≡◌, ◌++◌, IfOk, OnOk, string_bytes};
 ghost use Rattle.std.specs.List.{flat_map};
-ghost use Rattle.explain_report.specs.ExplanationRows.{row_of_why, row_of_need, row_of_parent, rows_of_missed, row_of_claim, row_of_lock_below, rows_of_refusal, refusal_rows, word_of_kind, row_of_request, row_of_block, rows_of_blocker, row_of_party, row_of_member, row_of_edge, rows_of_wait, wait_rows, row_of_victim, row_of_granted, own_row, row_of_done, rows_of_call, rows_of_explanation};
+ghost use Rattle.explain_report.specs.ExplanationRows.{row_of_why, row_of_need, row_of_parent, rows_of_missed, row_of_claim, row_of_lock_below, word_of_kind, row_of_request, row_of_block, rows_of_blocker, rows_if_asked, rows_of_refusal, refusal_rows, row_of_party, row_of_member, row_of_edge, rows_of_wait, wait_rows, row_of_victim, row_of_granted, own_row, row_of_done, rows_of_call, rows_of_explanation};
 
 use crate::text::has_nothing_to_tell;
 use lock_explain::{Blocker, Edge, Explanation, MissedParent, Party, Refusal, Wait};
@@ -97,6 +97,24 @@ fn put_locks_below(out: &mut String, place: u64, locks: &[Claim]) -> Result<(), 
     Ok(())
 }
 
+/// Writes the rows of the request that would wait and of the sessions that it would wait for, nothing for `None`.
+fn put_if_asked(
+    out: &mut String,
+    place: u64,
+    request: &Option<Claim>,
+    blockers: &[Blocker],
+) -> Result<(), NoMemory>
+    ensures { OnOk result (string_bytes out.new ≡ string_bytes out.old ++ rows_if_asked place request.now blockers.now) }
+{
+    match request {
+        None => Ok(()),
+        Some(request) => {
+            put_request(out, place, request)?;
+            put_blockers(out, place, request, blockers)
+        }
+    }
+}
+
 /// Writes the rows of a refusal.
 fn put_refusal(
     out: &mut String,
@@ -108,7 +126,8 @@ fn put_refusal(
 {
     put_why(out, place, session, refusal.why)?;
     put_missed(out, place, session, &refusal.missed)?;
-    put_locks_below(out, place, &refusal.below)
+    put_locks_below(out, place, &refusal.below)?;
+    put_if_asked(out, place, &refusal.request, &refusal.blockers)
 }
 
 /// Writes the rows of the refusal, nothing for `None`.
@@ -137,14 +156,14 @@ fn kind_word(kind: ClaimKind) -> &'static str
     }
 }
 
-/// Writes the row of the request that began to wait.
+/// Writes the row of a request that waits or would wait.
 fn put_request(out: &mut String, place: u64, request: &Claim) -> Result<(), NoMemory>
     ensures { OnOk result (string_bytes out.new ≡ string_bytes out.old ++ row_of_request place request.now) }
 {
     put_claim(out, place, kind_word(request.kind), request)
 }
 
-/// Writes the row of a session that the request waits for, through this mode, nothing for `None`.
+/// Writes the row of a session that the request waits for or would wait for, through this mode, nothing for `None`.
 fn put_block(
     out: &mut String,
     place: u64,
@@ -174,7 +193,7 @@ fn put_block(
     }
 }
 
-/// Writes the rows of a session that the request waits for.
+/// Writes the rows of a session that the request waits for or would wait for.
 fn put_blocker(
     out: &mut String,
     place: u64,
@@ -187,7 +206,7 @@ fn put_blocker(
     put_block(out, place, request, "ahead", blocker.party, blocker.ahead)
 }
 
-/// Writes the rows of the sessions that the request waits for.
+/// Writes the rows of the sessions that the request waits for or would wait for.
 fn put_blockers(
     out: &mut String,
     place: u64,

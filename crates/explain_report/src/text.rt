@@ -3,12 +3,15 @@
 ghost use Rattle.std.specs.Prelude.{◌≡◌, ◌++◌, IfOk, OnOk, string_bytes};
 ghost use Rattle.std.specs.List.{flat_map};
 ghost use Rattle.lock_modes.specs.Codes.{name_of};
-ghost use Rattle.explain_report.specs.ExplanationText.{has_nothing_to_tell, words_of_party, words_of_why, line_of_why, words_of_parent_held, line_of_parent, lines_of_missed, line_of_lock_below, lines_of_refusal, refusal_part, request_word, target_word, words_of_request, line_of_request, words_of_holding, link_word, words_of_ahead, line_of_blocker, line_of_member, line_of_edge, lines_of_members, words_of_edge, lines_of_edges, lines_of_circle, lines_of_wait, wait_part, line_of_victim, words_of_owned, line_of_granted, own_part, lines_of_explanation, text_of_explanation};
+ghost use Rattle.explain_report.specs.ExplanationText.{has_nothing_to_tell, words_of_why, line_of_why, words_of_parent_held, line_of_parent, lines_of_missed, line_of_lock_below, lines_of_refusal, refusal_part, lines_of_asked, lines_if_asked, line_of_member, line_of_edge, lines_of_members, words_of_edge, lines_of_edges, lines_of_circle, lines_of_wait, wait_part, line_of_victim, words_of_owned, line_of_granted, own_part, lines_of_explanation, text_of_explanation};
 
+use crate::request_text::{
+    put_blockers, put_line_of_request, put_party, put_request, put_words_and_mode,
+};
 use crate::words::put_words;
 use lock_explain::{Blocker, Edge, Explanation, MissedParent, Party, Refusal, Wait};
 use lock_modes::Mode;
-use lock_rules::{Claim, ClaimKind, Why};
+use lock_rules::{Claim, Why};
 use std::alloc::{AllocError as NoMemory, Global};
 use std::fmt::Write;
 
@@ -20,17 +23,6 @@ pub(crate) fn has_nothing_to_tell(explanation: &Explanation) -> bool
         && explanation.wait.is_none()
         && explanation.victims.is_empty()
         && explanation.granted.is_empty()
-}
-
-/// Writes a session with its transaction.
-fn put_party(out: &mut String, party: &Party) -> Result<(), NoMemory>
-    ensures { OnOk result (string_bytes out.new ≡ string_bytes out.old ++ words_of_party party.now) }
-{
-    write!(
-        out,
-        "session {}, transaction {}",
-        party.session, party.transaction
-    )
 }
 
 /// The reason of a refusal in words.
@@ -47,6 +39,8 @@ fn words_of_why(why: Why) -> &'static str
         Why::ParentNotHeld => "the parent isn't held as the request needs it",
         Why::ChildHeld => "the session holds a lock below the resource",
         Why::TooManyLocks => "the session holds 4096 locks",
+        Why::WouldWait => "the request would wait",
+        Why::NotWaiting => "the session doesn't wait",
     }
 }
 
@@ -56,14 +50,6 @@ fn put_why(out: &mut String, why: Why) -> Result<(), NoMemory>
 {
     let words = words_of_why(why);
     writeln!(out, "  refused: {words}")
-}
-
-/// Writes the words and the name of the mode.
-fn put_words_and_mode(out: &mut String, words: &str, mode: Mode) -> Result<(), NoMemory>
-    ensures { OnOk result (string_bytes out.new ≡ string_bytes out.old ++ (words.now ++ name_of mode)) }
-{
-    put_words(out, words)?;
-    put_words(out, mode.name())
 }
 
 /// Writes how the session holds the parent that it lacks.
@@ -116,13 +102,36 @@ fn put_locks_below(out: &mut String, locks: &[Claim]) -> Result<(), NoMemory>
     Ok(())
 }
 
+/// Writes the lines of a request that would wait, and of the sessions that it would wait for.
+fn put_asked(out: &mut String, request: &Claim, blockers: &[Blocker]) -> Result<(), NoMemory>
+    ensures { OnOk result (string_bytes out.new ≡ string_bytes out.old ++ lines_of_asked request.now blockers.now) }
+{
+    put_line_of_request(out, "  would begin to wait ", request)?;
+    put_blockers(out, "    would wait for ", blockers)
+}
+
+/// Writes the lines of the request that would wait, nothing for `None`.
+fn put_if_asked(
+    out: &mut String,
+    request: &Option<Claim>,
+    blockers: &[Blocker],
+) -> Result<(), NoMemory>
+    ensures { OnOk result (string_bytes out.new ≡ string_bytes out.old ++ lines_if_asked request.now blockers.now) }
+{
+    match request {
+        None => Ok(()),
+        Some(request) => put_asked(out, request, blockers),
+    }
+}
+
 /// Writes the lines of a refusal.
 fn put_refusal(out: &mut String, refusal: &Refusal) -> Result<(), NoMemory>
     ensures { OnOk result (string_bytes out.new ≡ string_bytes out.old ++ lines_of_refusal refusal.now) }
 {
     put_why(out, refusal.why)?;
     put_missed(out, &refusal.missed)?;
-    put_locks_below(out, &refusal.below)
+    put_locks_below(out, &refusal.below)?;
+    put_if_asked(out, &refusal.request, &refusal.blockers)
 }
 
 /// Writes the lines of the refusal, nothing for `None`.
@@ -133,100 +142,6 @@ fn put_refusal_part(out: &mut String, refusal: &Option<Refusal>) -> Result<(), N
         None => Ok(()),
         Some(refusal) => put_refusal(out, refusal),
     }
-}
-
-/// The words before the resource of a request.
-fn request_word(kind: ClaimKind) -> &'static str
-    ensures { result.now ≡ request_word kind }
-{
-    match kind {
-        ClaimKind::Held | ClaimKind::Fresh => "for",
-        ClaimKind::Conversion => "to convert",
-    }
-}
-
-/// The word before the target of a request.
-fn target_word(kind: ClaimKind) -> &'static str
-    ensures { result.now ≡ target_word kind }
-{
-    match kind {
-        ClaimKind::Held | ClaimKind::Fresh => "in",
-        ClaimKind::Conversion => "to",
-    }
-}
-
-/// Writes what a request asks for.
-fn put_request(out: &mut String, request: &Claim) -> Result<(), NoMemory>
-    ensures { OnOk result (string_bytes out.new ≡ string_bytes out.old ++ words_of_request request.now) }
-{
-    let verb = request_word(request.kind);
-    let resource = request.resource;
-    let word = target_word(request.kind);
-    let mode = request.mode.name();
-    write!(out, "{verb} {resource} {word} {mode}")
-}
-
-/// Writes the line of the request that began to wait.
-fn put_line_of_request(out: &mut String, request: &Claim) -> Result<(), NoMemory>
-    ensures { OnOk result (string_bytes out.new ≡ string_bytes out.old ++ line_of_request request.now) }
-{
-    put_words(out, "  begins to wait ")?;
-    put_request(out, request)?;
-    put_words(out, "\n")
-}
-
-/// Writes the lock of a blocker, nothing if it doesn't conflict.
-fn put_holding(out: &mut String, held: Option<Mode>) -> Result<(), NoMemory>
-    ensures { OnOk result (string_bytes out.new ≡ string_bytes out.old ++ words_of_holding held) }
-{
-    match held {
-        None => Ok(()),
-        Some(mode) => put_words_and_mode(out, ", which holds it in ", mode),
-    }
-}
-
-/// The words before a blocker's request ahead.
-fn link_word(held: Option<Mode>) -> &'static str
-    ensures { result.now ≡ link_word held }
-{
-    match held {
-        None => ", which",
-        Some(_) => " and",
-    }
-}
-
-/// Writes the request ahead of a blocker, nothing if none is ahead.
-fn put_ahead(out: &mut String, held: Option<Mode>, ahead: Option<Mode>) -> Result<(), NoMemory>
-    ensures { OnOk result (string_bytes out.new ≡ string_bytes out.old ++ words_of_ahead held ahead) }
-{
-    match ahead {
-        None => Ok(()),
-        Some(mode) => {
-            put_words(out, link_word(held))?;
-            put_words_and_mode(out, " waits ahead for ", mode)
-        }
-    }
-}
-
-/// Writes the line of a session that the request waits for.
-fn put_blocker(out: &mut String, blocker: &Blocker) -> Result<(), NoMemory>
-    ensures { OnOk result (string_bytes out.new ≡ string_bytes out.old ++ line_of_blocker blocker.now) }
-{
-    put_words(out, "    waits for ")?;
-    put_party(out, &blocker.party)?;
-    put_holding(out, blocker.held)?;
-    put_ahead(out, blocker.held, blocker.ahead)?;
-    put_words(out, "\n")
-}
-
-/// Writes the lines of the sessions that the request waits for.
-fn put_blockers(out: &mut String, blockers: &[Blocker]) -> Result<(), NoMemory>
-    ensures { OnOk result (string_bytes out.new ≡ string_bytes out.old ++ flat_map line_of_blocker blockers.now) }
-{
-    for blocker in blockers {
-        put_blocker(out, blocker)?;
-    }
-    Ok(())
 }
 
 /// Writes the line of a session on a cycle.
@@ -309,8 +224,8 @@ fn put_circle(out: &mut String, members: &[Party], edges: &[Edge]) -> Result<(),
 fn put_wait(out: &mut String, wait: &Wait) -> Result<(), NoMemory>
     ensures { OnOk result (string_bytes out.new ≡ string_bytes out.old ++ lines_of_wait wait.now) }
 {
-    put_line_of_request(out, &wait.request)?;
-    put_blockers(out, &wait.blockers)?;
+    put_line_of_request(out, "  begins to wait ", &wait.request)?;
+    put_blockers(out, "    waits for ", &wait.blockers)?;
     put_circle(out, &wait.circle, &wait.edges)
 }
 

@@ -4,26 +4,26 @@ use Rattle.std.specs.List.{All}
 use Rattle.std.proofs.lemmas.Bool.{and_parts, cases_Bool, not-false}
 use Rattle.std.proofs.lemmas.Bool.Decides.{Decides-eqb}
 use Rattle.lock_modes.specs.declared.Mode.{Mode}
-use Rattle.lock_modes.proofs.Order.{sup_only}
 use Rattle.lock_rules.specs.declared.calls.Call.{Call}
-use Rattle.lock_rules.specs.declared.calls.Call.TheVariants.{Begin, Lock, Convert, Poll, Release, Commit, Abort}
+use Rattle.lock_rules.specs.declared.calls.Call.TheVariants.{Begin, Lock, Convert, Poll, Release, Commit, Abort, Try, Withdraw}
 use Rattle.lock_rules.specs.declared.calls.Entry.{Entry}
-use Rattle.lock_rules.specs.declared.calls.Reply.TheVariants.{Waiting}
+use Rattle.lock_rules.specs.declared.calls.Reply.TheVariants.{Refused, Waiting}
+use Rattle.lock_rules.specs.declared.calls.Why.{Why}
 use Rattle.lock_rules.specs.declared.calls.Transaction.{Transaction}
 use Rattle.lock_rules.specs.State.{Claim, State, held_mode, request_of, is_open, is_doomed, doomed_in, with_table}
 use Rattle.lock_rules.specs.Queue.{with_request}
 use Rattle.lock_rules.specs.Waits.{doom}
-use Rattle.lock_rules.specs.Step.{target_of, tests, step}
+use Rattle.lock_rules.specs.Step.{Outcome, target_of, tests, step}
 use Rattle.lock_rules.specs.Legal.{state_of}
 use Rattle.lock_rules.specs.Laws.{AreVictims}
-use Rattle.lock_rules.specs.Effects.{IsNotRefused, IsTarget, IsFree, IsDoomOf, IsWaitSettled, IsAnswerTo, request}
+use Rattle.lock_rules.specs.Effects.{IsNotRefused, IsFree, IsDoomOf, IsWaitSettled, IsAnswerTo, request}
 use Rattle.lock_rules.proofs.Alters.{true≢false}
 use Rattle.lock_rules.proofs.Idle.{state-idle}
 use Rattle.lock_rules.proofs.Owners.{state-numbered}
-use Rattle.lock_rules.proofs.Steps.{all-pass, is-none, state-lawful}
+use Rattle.lock_rules.proofs.Steps.{all-pass, is-none, state-lawful, try-locks}
 use Rattle.lock_rules.proofs.Taken.{none, passes}
-use Rattle.lock_rules.proofs.Requests.{lock-asks, convert-asks}
-use Rattle.lock_rules.proofs.Refusals.{refused-keeps}
+use Rattle.lock_rules.proofs.Requests.{lock-asks, convert-asks, try-asks}
+use Rattle.lock_rules.proofs.Refusals.{refused-keeps, one-target}
 use Rattle.lock_rules.proofs.Doomed.{keep-theirs}
 use Rattle.lock_desk.specs.BookView.{IsEntryWithin}
 use Rattle.lock_explain.specs.Endings.{is_new_victim}
@@ -31,11 +31,6 @@ use Rattle.lock_explain.specs.Waiting.{BeginsToWait, request_made}
 use Rattle.lock_explain.proofs.OpenWithin.{waiting-within}
 
 -- the request of a call
-
--- a target is the one that `target_of` gives
-target-is : (o : Option Mode) (m k : Mode) → IsTarget o m k → k ≡ target_of o m
-target-is None m k h = h
-target-is (Some a) m k h = sup_only a m k h
 
 -- the request that a call makes is its session's
 pub made-session : (st : State) (s : ℕ) (c : Call) (q : Claim) → request_made st s c ≡ Some q → q.session ≡ s
@@ -46,24 +41,34 @@ made-session st s Poll q e = absurd (cc)
 made-session st s (Release r) q e = absurd (cc)
 made-session st s Commit q e = absurd (cc)
 made-session st s Abort q e = absurd (cc)
+made-session st s (Try r m) q e = let same : request s r (target_of (held_mode st.table s r) m) ≡ q = cc in ap (λ (c : Claim). c.session) (sym same)
+made-session st s Withdraw q e = absurd (cc)
+
+-- a lock is answered as the law states it
+lock-answered : (st : State) (s : ℕ) (r : List ℕ) (m : Mode) (q : Claim) → request s r (target_of (held_mode st.table s r) m) ≡ q → IsNotRefused st s (Lock r m) → IsAnswerTo s q.resource q.mode st (step st s (Lock r m))
+lock-answered st s r m q same h =
+    let a = lock-asks st s r m h in
+    let k = one-target (held_mode st.table s r) m a.0 a.1 in
+    subst (λ (p : Claim). IsAnswerTo s p.resource p.mode st (step st s (Lock r m))) same (subst (λ (j : Mode). IsAnswerTo s r j st (step st s (Lock r m))) k a.2)
 
 -- the request that a call makes is answered as the law states it
 pub made-answered : (st : State) (s : ℕ) (c : Call) (q : Claim) → request_made st s c ≡ Some q → IsNotRefused st s c → IsAnswerTo s q.resource q.mode st (step st s c)
 made-answered st s Begin q e h = absurd (cc)
-made-answered st s (Lock r m) q e h =
-    let same : request s r (target_of (held_mode st.table s r) m) ≡ q = cc in
-    let a = lock-asks st s r m h in
-    let k = target-is (held_mode st.table s r) m a.0 a.1 in
-    subst (λ (p : Claim). IsAnswerTo s p.resource p.mode st (step st s (Lock r m))) same (subst (λ (j : Mode). IsAnswerTo s r j st (step st s (Lock r m))) k a.2)
+made-answered st s (Lock r m) q e h = lock-answered st s r m q (cc) h
 made-answered st s (Convert r m) q e h =
     let same : request s r (target_of (held_mode st.table s r) m) ≡ q = cc in
     let a = convert-asks st s r m h in
-    let k = target-is (held_mode st.table s r) m a.0 a.1 in
+    let k = one-target (held_mode st.table s r) m a.0 a.1 in
     subst (λ (p : Claim). IsAnswerTo s p.resource p.mode st (step st s (Convert r m))) same (subst (λ (j : Mode). IsAnswerTo s r j st (step st s (Convert r m))) k a.2)
 made-answered st s Poll q e h = absurd (cc)
 made-answered st s (Release r) q e h = absurd (cc)
 made-answered st s Commit q e h = absurd (cc)
 made-answered st s Abort q e h = absurd (cc)
+made-answered st s (Try r m) q e h =
+    let locks : step st s (Try r m) ≡ step st s (Lock r m) = (try-asks st s r m h).0 in
+    let accepted : IsNotRefused st s (Lock r m) = λ (why : Why) (f : (step st s (Lock r m)).reply ≡ Refused why). h why (ap (λ (o : Outcome). o.reply) locks ∙ f) in
+    subst (λ (o : Outcome). IsAnswerTo s q.resource q.mode st o) (sym locks) (lock-answered st s r m q (cc) accepted)
+made-answered st s Withdraw q e h = absurd (cc)
 
 -- a session with an open transaction that neither waits nor is doomed
 pub record IsClear (st : State) (s : ℕ) : Type 0 where
@@ -80,6 +85,8 @@ made-clear st s Poll q e h = absurd (cc)
 made-clear st s (Release r) q e h = absurd (cc)
 made-clear st s Commit q e h = absurd (cc)
 made-clear st s Abort q e h = absurd (cc)
+made-clear st s (Try r m) q e h = let p = all-pass (tests st s (Lock r m)) (try-locks st s r m (passes st s (Try r m) h)) in record { opened = not-false _ p.0; idle = is-none (request_of s st.table.requests) p.1.0; alive = p.1.1.0 }
+made-clear st s Withdraw q e h = absurd (cc)
 
 -- new victims
 

@@ -9,8 +9,8 @@ use Rattle.lock_rules.specs.Waits.{waits_for, doom, after_victim}
 use Rattle.lock_rules.specs.Laws.{AreVictims}
 use Rattle.lock_rules.specs.Effects.{IsAmong}
 use Rattle.lock_rules.specs.Sound.{IsNumbered}
-use Rattle.lock_rules.proofs.Settle.{walk-waits, has-waits}
 use Rattle.lock_rules.proofs.Owners.{victim-numbered}
+use Rattle.lock_rules.proofs.Victims.{on_circle-open}
 use Rattle.lock_explain.proofs.KeptCircles.{cancelled-circle}
 
 -- lists that fall
@@ -64,10 +64,6 @@ victim-number v st u = elim (cases_Bool (eqb u v)) [
 
 -- victims one after another
 
--- a session on a cycle has an open transaction
-circle-open : (st : State) (s u : ℕ) → IsNumbered st → AreOnCircle (waits_for st.table) s u → is_open st u ≡ true
-circle-open st s u i c = let w = has-waits u st.table.requests (walk-waits st.table u c.back.others s c.back.walk) in i.owners.waiting u w.0 w.1
-
 -- each victim was on a cycle with s from the beginning
 victims-on : (s : ℕ) (vs : List ℕ) (st last : State) → AreVictims s vs st last → (u : ℕ) → IsAmong u vs → AreOnCircle (waits_for st.table) s u
 victims-on s [] st last a u i = absurd i
@@ -85,7 +81,7 @@ lower st i u v o p n le = elim (cases_Bool (eqb (number_of st u) (number_of st v
 pub victims-fall : (s : ℕ) (vs : List ℕ) (st last : State) → IsNumbered st → AreVictims s vs st last → IsFalling (number_of st) vs
 victims-fall s [] st last i a = tt
 victims-fall s (v ∷ vs) st last i a = (
-  λ u k. (let c = cancelled-circle v st.table s u (victims-on s vs (after_victim v st) last a.1 u k) in lower st i u v (circle-open st s u i c.0) (circle-open st s v i a.0.on_circle) c.1 (a.0.youngest u c.0)),
+  λ u k. (let c = cancelled-circle v st.table s u (victims-on s vs (after_victim v st) last a.1 u k) in lower st i u v (on_circle-open st s u i c.0) (on_circle-open st s v i a.0.on_circle) c.1 (a.0.youngest u c.0)),
   falling-alike (number_of (after_victim v st)) (number_of st) vs (victim-number v st) (victims-fall s vs (after_victim v st) last (victim-numbered v st i) a.1),
 )
 

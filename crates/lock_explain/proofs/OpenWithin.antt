@@ -6,7 +6,7 @@ use Rattle.std.proofs.lemmas.Bool.Decides.{Decides-eqb}
 use Rattle.std.proofs.lemmas.List.Elements.{All-head, All-tail}
 use Rattle.lock_modes.specs.declared.Mode.{Mode}
 use Rattle.lock_rules.specs.declared.calls.Call.{Call}
-use Rattle.lock_rules.specs.declared.calls.Call.TheVariants.{Begin, Lock, Convert, Poll, Release, Commit, Abort}
+use Rattle.lock_rules.specs.declared.calls.Call.TheVariants.{Begin, Lock, Convert, Poll, Release, Commit, Abort, Try, Withdraw}
 use Rattle.lock_rules.specs.declared.calls.Entry.{Entry}
 use Rattle.lock_rules.specs.declared.calls.Transaction.{Transaction}
 use Rattle.lock_rules.specs.declared.calls.Why.{Why}
@@ -57,6 +57,8 @@ act-open st s Poll u n = refl
 act-open st s (Release r) u n = refl
 act-open st s Commit u n = ap (λ (b : Bool). is_some (cond b None (st.begun u))) n
 act-open st s Abort u n = ap (λ (b : Bool). is_some (cond b None (st.begun u))) n
+act-open st s (Try r m) u n = asked-open st s r (target_of (held_mode st.table s r) m) u
+act-open st s Withdraw u n = refl
 
 -- the same, refused or not
 step-open : (st : State) (s : ℕ) (c : Call) (u : ℕ) → eqb u s ≡ false → is_open (step st s c).state u ≡ is_open st u

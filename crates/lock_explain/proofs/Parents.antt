@@ -3,7 +3,7 @@ use Rattle.std.proofs.Common.{◌≡◌, ◌∙◌, ℕ, true, List, ap, sym}
 use Rattle.lock_modes.specs.declared.Mode.{Mode}
 use Rattle.lock_tree.specs.Paths.{has_parent}
 use Rattle.lock_rules.specs.declared.calls.Call.{Call}
-use Rattle.lock_rules.specs.declared.calls.Call.TheVariants.{Lock, Convert}
+use Rattle.lock_rules.specs.declared.calls.Call.TheVariants.{Lock, Convert, Try}
 use Rattle.lock_rules.specs.declared.calls.Entry.{Entry}
 use Rattle.lock_rules.specs.declared.calls.Reply.TheVariants.{Refused}
 use Rattle.lock_rules.specs.declared.calls.Why.{Why}
@@ -23,3 +23,9 @@ pub convert-has-parent : (es : List Entry) (s : ℕ) (call : Call) (why : Why) (
 convert-has-parent es s call why r m h is because =
     let refused = ap (λ (x : Call). (step (state_of es) s x).reply) (sym is) ∙ h ∙ ap (λ (w : Why). Refused w) because in
     (((lawful es).refusals_meant s (Convert r m) ParentNotHeld).0 refused).3.2
+
+-- a try
+pub try-has-parent : (es : List Entry) (s : ℕ) (call : Call) (why : Why) (r : List ℕ) (m : Mode) → (step (state_of es) s call).reply ≡ Refused why → call ≡ Try r m → why ≡ ParentNotHeld → has_parent r ≡ true
+try-has-parent es s call why r m h is because =
+    let refused = ap (λ (x : Call). (step (state_of es) s x).reply) (sym is) ∙ h ∙ ap (λ (w : Why). Refused w) because in
+    (((lawful es).refusals_meant s (Try r m) ParentNotHeld).0 refused).3.2

@@ -5,7 +5,7 @@ use Rattle.std.proofs.lemmas.Bool.{and_parts, and_from, or_cases, le-leb, leb-tr
 use Rattle.std.proofs.lemmas.Bool.Decides.{Decides-eqb}
 use Rattle.lock_modes.specs.declared.Mode.{Mode}
 use Rattle.lock_rules.specs.declared.calls.Call.{Call}
-use Rattle.lock_rules.specs.declared.calls.Call.TheVariants.{Begin, Lock, Convert, Poll, Release, Commit, Abort}
+use Rattle.lock_rules.specs.declared.calls.Call.TheVariants.{Begin, Lock, Convert, Poll, Release, Commit, Abort, Try, Withdraw}
 use Rattle.lock_rules.specs.declared.calls.Why.{Why}
 use Rattle.lock_rules.specs.declared.calls.Entry.{Entry}
 use Rattle.lock_rules.specs.declared.calls.Transaction.{Transaction}
@@ -77,6 +77,8 @@ step-inside n st s c is h = go (first_failing (tests st s c))
     acted (Release r) = h
     acted Commit = changed-inside n s st None is h
     acted Abort = changed-inside n s st None is h
+    acted (Try r m) = asked-inside n st s r (target_of (held_mode st.table s r) m) h
+    acted Withdraw = h
 
     go : (o : Option Why) → AreInside n (outcome_of o st s c).state
     go None = acted c

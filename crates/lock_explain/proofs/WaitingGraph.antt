@@ -16,20 +16,12 @@ use Rattle.lock_rules.proofs.Lists.{In, In-append, In-filter, In-request, same_p
 use Rattle.lock_rules.proofs.Begins.{new, queue-fresh, queue-converted, queue-beside}
 use Rattle.lock_rules.proofs.Sound.{eqb-swap}
 use Rattle.lock_rules.proofs.Waiting.{request_of-filter}
+use Rattle.lock_rules.proofs.Listings.{request-in}
 use Rattle.lock_desk.proofs.WaitsOfTheState.{request-queued}
 use Rattle.lock_explain.specs.Waiting.{held_in_conflict, request_ahead}
 use Rattle.lock_explain.specs.inner.Graph.{is_fresh, is_fresh_on, waits_behind}
 
 -- requests in a list
-
--- a request that is found is in the list
-pub found-in : (s : ℕ) (qs : List Claim) (q : Claim) → request_of s qs ≡ Some q → In q qs
-found-in s [] q h = absurd (cc)
-found-in s (p ∷ qs) q h = go (eqb p.session s) h (found-in s qs q)
-  where
-    go : (b : Bool) → cond b (Some p) (request_of s qs) ≡ Some q → (request_of s qs ≡ Some q → In q qs) → (q ≡ p) ⊎ In q qs
-    go true h next = inl (cc)
-    go false h next = inr (next h)
 
 -- the session of a request in the list has a request
 pub in-found : (q : Claim) (qs : List Claim) → In q qs → is_some (request_of q.session qs) ≡ true
@@ -96,7 +88,7 @@ not-filtered i p qs q o h n = go (request_of i (filter p qs)) refl
     go : (w : Option Claim) → request_of i (filter p qs) ≡ w → w ≡ None
     go None e = refl
     go (Some c) e =
-        let k = In-filter p c qs (found-in i (filter p qs) c e) in
+        let k = In-filter p c qs (request-in i (filter p qs) c e) in
         let f = request_of-session i (filter p qs) c e in
         let g = In-request c qs (subst (λ (x : ℕ). times x qs ≤ 1) (sym f) o) k.0 in
         let same : Some c ≡ Some q = sym g ∙ (ap (λ (x : ℕ). request_of x qs) f ∙ h) in

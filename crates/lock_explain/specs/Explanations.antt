@@ -29,7 +29,7 @@ pub record IsWaitOfCall (n : ℕ) (st : State) (s : ℕ) (call : Call) (w : Wait
 -- with sessions 1 to n, what the call of session s did in this state, and why
 pub record IsExplanation (n : ℕ) (st : State) (s : ℕ) (call : Call) (e : Explanation) : Type 0 where
   -- the refusal is told exactly if the call was refused
-  pub refused : IfSome e.refusal (IsRefusalOf st s call)
+  pub refused : IfSome e.refusal (IsRefusalOf n st s call)
   pub accepted : IfNone e.refusal (IsNotRefused st s call)
   -- the wait is told exactly if a request of the call began to wait
   pub wait : IfSome e.wait (IsWaitOfCall n st s call)

@@ -1,6 +1,6 @@
 -- What public contracts speak of.
-pub mod Refused
 pub mod Waiting
+pub mod Refused
 pub mod Circles
 pub mod Endings
 pub mod Explanations

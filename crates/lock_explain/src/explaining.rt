@@ -1,28 +1,28 @@
 //! The explanation of a served call.
 
-ghost use Rattle.std.specs.Prelude.{◌≡◌, ◌≢◌, ◌⊎◌, ◌++◌, ◌&&◌, not, true, false, List, [], ◌∷◌, is_some, option_map, IfOk, IfNone, IfSome};
+ghost use Rattle.std.specs.Prelude.{◌≡◌, ◌≢◌, ◌⊎◌, ◌++◌, ◌&&◌, not, true, false, List, [], ◌∷◌, IfOk, IfNone, IfSome};
 ghost use Rattle.lock_rules.specs.declared.calls.Reply.{Reply as ReplyValue};
-ghost use Rattle.lock_rules.specs.State.{Claim as ClaimValue, held_mode, is_doomed, is_waiting};
+ghost use Rattle.lock_rules.specs.State.{Claim as ClaimValue, is_doomed, is_waiting};
 ghost use Rattle.lock_rules.specs.Effects.{IsNotRefused};
 ghost use Rattle.lock_rules.specs.Legal.{state_of};
-ghost use Rattle.lock_rules.specs.Listing.{kind_of_request, listed_as, transaction_of};
 ghost use Rattle.lock_rules.specs.Step.{step};
+ghost use Rattle.lock_desk.specs.BookView.{IsEntryWithin};
 ghost use Rattle.lock_explain.specs.Circles.{circle_of, edges_of};
 ghost use Rattle.lock_explain.specs.Endings.{AreNewVictims};
 ghost use Rattle.lock_explain.specs.Explanations.{IsExplanation, IsWaitOfCall, is_eventful};
 ghost use Rattle.lock_explain.specs.Refused.{IsRefusalOf};
-ghost use Rattle.lock_explain.specs.Waiting.{BeginsToWait, request_made, waiting_state};
+ghost use Rattle.lock_explain.specs.Waiting.{BeginsToWait, waiting_state};
 ghost use Rattle.lock_explain.specs.inner.Asked.{IsAskedIn, claim_of};
 ghost use Rattle.lock_explain.specs.inner.Served.{IsServed};
 
-use crate::asked::Asked;
+use crate::asked::{Asked, asked_by, request_line};
 use crate::circles::{Circle, circle_of};
 use crate::endings::{granted_requests, is_doomed, new_victims};
 use crate::explanation::{Explanation, Party, Refusal, Wait};
-use crate::refusal::{refusal_of, target_of};
+use crate::refusal::refusal_of;
 use crate::waiting::blockers_of;
 use lock_desk::Book;
-use lock_rules::{Call, Claim, ClaimKind, Entry, Reply, Transaction};
+use lock_rules::{Call, Entry, Reply};
 use std::alloc::{AllocError as NoMemory, Global};
 
 /// Why the served call was refused, `None` if it wasn't. Fails if memory is refused.
@@ -31,8 +31,9 @@ fn refusal_of_entry(
     before: &Book,
     entry: &Entry,
 ) -> Result<Option<Refusal>, NoMemory>
+    requires session { IsEntryWithin before.now.sessions entry.now }
     requires reply { entry.now.reply ≡ (step (state_of before.now.history) entry.now.session entry.now.call).reply }
-    ensures refused { IfOk result (λ refusal. IfSome refusal (IsRefusalOf (state_of before.now.history) entry.now.session entry.now.call)) }
+    ensures refused { IfOk result (λ refusal. IfSome refusal (IsRefusalOf before.now.sessions (state_of before.now.history) entry.now.session entry.now.call)) }
     ensures accepted { IfOk result (λ refusal. IfNone refusal (IsNotRefused (state_of before.now.history) entry.now.session entry.now.call)) }
 {
     let Reply::Refused(why) = entry.reply else {
@@ -40,25 +41,6 @@ fn refusal_of_entry(
     };
     let refusal = refusal_of(alloc, before, entry.session, entry.call, why)?;
     Ok(Some(refusal))
-}
-
-/// The request that the call makes, `None` if it requests no lock.
-fn asked_by(before: &Book, entry: &Entry) -> Option<Asked>
-    ensures made { option_map claim_of result ≡ request_made (state_of before.now.history) entry.now.session entry.now.call }
-    ensures converts { IfSome result (λ asked. asked.converts ≡ is_some (held_mode (state_of before.now.history).table asked.session asked.resource)) }
-{
-    match entry.call {
-        Call::Lock(resource, mode) | Call::Convert(resource, mode) => {
-            let held = before.held(entry.session, resource);
-            Some(Asked {
-                session: entry.session,
-                resource,
-                target: target_of(held, mode),
-                converts: held.is_some(),
-            })
-        }
-        _ => None,
-    }
 }
 
 /// Whether a call that requests a lock began to wait, by its reply and its victims: the request waits after the call, or the
@@ -83,39 +65,7 @@ fn wait_begun(before: &Book, entry: &Entry, victims: &[Party]) -> Option<Asked>
     if !has_begun_wait(entry.reply, victims) {
         return None;
     }
-    asked_by(before, entry)
-}
-
-/// The open transaction of the session, as a listing shows it.
-fn transaction_of(book: &Book, session: u16) -> Transaction
-    ensures { result ≡ transaction_of (state_of book.now.history) session }
-{
-    match book.transaction(session) {
-        Some(transaction) => transaction,
-        None => Transaction {
-            number: 0,
-            doomed: false,
-        },
-    }
-}
-
-/// The request as a line of the listing.
-fn request_line(before: &Book, asked: &Asked) -> Claim
-    requires asked { IsAskedIn before.now.sessions (state_of before.now.history) asked.now }
-    ensures { result ≡ listed_as (state_of before.now.history) (kind_of_request (state_of before.now.history) (claim_of asked.now)) (claim_of asked.now) }
-{
-    let kind = if asked.converts {
-        ClaimKind::Conversion
-    } else {
-        ClaimKind::Fresh
-    };
-    Claim {
-        resource: asked.resource,
-        session: asked.session,
-        transaction: transaction_of(before, asked.session),
-        mode: asked.target,
-        kind,
-    }
+    asked_by(before, entry.session, &entry.call)
 }
 
 /// Whether the session neither waits nor is a victim.

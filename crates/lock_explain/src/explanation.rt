@@ -42,6 +42,10 @@ pub struct Refusal {
     pub missed: Option<MissedParent>,
     /// The locks that the session holds below the resource, in the order of resources, for the reason `ChildHeld` alone.
     pub below: Vec<Claim>,
+    /// The request that would wait, with its target, for the reason `WouldWait` alone.
+    pub request: Option<Claim>,
+    /// The sessions that it would wait for, by session number, for the reason `WouldWait` alone.
+    pub blockers: Vec<Blocker>,
 }
 
 /// A session that a request waits for, and through what.

@@ -1,5 +1,5 @@
-//! What a served call did and why: the test that refused it, for whom its request waits and through what, the cycles that
-//! the request closed, the victims, and the requests of others that were granted.
+//! What a served call did and why: the test that refused it, for whom its request waits or would wait and through what, the
+//! cycles that the request closed, the victims, and the requests of others that were granted.
 //!
 //! `explanation.rt` has the types, `explaining.rt` the call that makes an explanation. `refusal.rt`, `waiting.rt`,
 //! `circles.rt` and `endings.rt` have its parts, and `laws.rt` says what the definitions mean.

@@ -1,29 +1,22 @@
 //! Why a call was refused, and what failed its test.
 
-ghost use Rattle.std.specs.Prelude.{◌≡◌, true, filter, IfOk, Some};
+ghost use Rattle.std.specs.Prelude.{◌≡◌, ◌≤◌, true, filter, option_map, IfOk, IfSome, Some};
 ghost use Rattle.lock_tree.specs.Paths.{has_parent, parent_of};
 ghost use Rattle.lock_rules.specs.declared.calls.Reply.{Reply as ReplyValue};
 ghost use Rattle.lock_rules.specs.Legal.{state_of};
-ghost use Rattle.lock_rules.specs.Listing.{listing_of};
-ghost use Rattle.lock_rules.specs.Step.{step, target_of};
-ghost use Rattle.lock_explain.specs.Refused.{IsRefusalOf, is_lock_below, locks_below, missed_by, parent_missed};
+ghost use Rattle.lock_rules.specs.Listing.{listed_request, listing_of};
+ghost use Rattle.lock_rules.specs.Step.{step};
+ghost use Rattle.lock_explain.specs.Refused.{IsRefusalOf, blockers_if_asked, is_lock_below, locks_below, missed_by, parent_missed, request_refused};
+ghost use Rattle.lock_explain.specs.inner.Asked.{IsAskedIn, claim_of};
 
-use crate::explanation::{MissedParent, Refusal};
+use crate::asked::{Asked, asked_by, request_line, target_of};
+use crate::explanation::{Blocker, MissedParent, Refusal};
+use crate::waiting::blockers_of;
 use lock_desk::Book;
 use lock_modes::Mode;
 use lock_rules::{Call, Claim, ClaimKind, Reply, Why};
 use lock_tree::Resource;
 use std::alloc::{AllocError as NoMemory, Global};
-
-/// The target of a request: the least mode at or above `asked` and what is held.
-pub(crate) fn target_of(held: Option<Mode>, asked: Mode) -> Mode
-    ensures { result ≡ target_of held asked }
-{
-    match held {
-        Some(held) => held.sup(asked),
-        None => asked,
-    }
-}
 
 /// What a request lacks of `parent`, the parent of `resource`.
 fn parent_missed(
@@ -65,6 +58,7 @@ fn missed_by(before: &Book, session: u16, call: &Call, why: Why) -> Option<Misse
         Why::ParentNotHeld => match *call {
             Call::Lock(resource, asked) => missed_for(before, session, resource, asked),
             Call::Convert(resource, asked) => missed_for(before, session, resource, asked),
+            Call::Try(resource, asked) => missed_for(before, session, resource, asked),
             _ => None,
         },
         _ => None,
@@ -120,6 +114,46 @@ fn locks_below(
     }
 }
 
+/// The request of the refused call, if it is refused since the request would wait; `None` if the refusal has another reason.
+fn request_refused(before: &Book, session: u16, call: &Call, why: Why) -> Option<Asked>
+    requires some { 1 ≤ session }
+    requires within { session ≤ before.now.sessions }
+    requires refused { (step (state_of before.now.history) session call.now).reply ≡ ReplyValue.Refused why }
+    ensures made { option_map claim_of result ≡ request_refused (state_of before.now.history) session call.now why }
+    ensures asked { IfSome result (IsAskedIn before.now.sessions (state_of before.now.history)) }
+{
+    match why {
+        Why::WouldWait => asked_by(before, session, call),
+        _ => None,
+    }
+}
+
+/// The request that would wait as a line of the listing, `None` if there is none.
+fn line_if_asked(before: &Book, asked: &Option<Asked>) -> Option<Claim>
+    requires asked { IfSome asked.now (IsAskedIn before.now.sessions (state_of before.now.history)) }
+    ensures { result ≡ listed_request (state_of before.now.history) (option_map claim_of asked.now) }
+{
+    match asked {
+        Some(asked) => Some(request_line(before, asked)),
+        None => None,
+    }
+}
+
+/// The sessions that the request would wait for, by session number, none if there is no request. Fails if memory is refused.
+fn blockers_if_asked(
+    alloc: Global,
+    before: &Book,
+    asked: &Option<Asked>,
+) -> Result<Vec<Blocker>, NoMemory>
+    requires asked { IfSome asked.now (IsAskedIn before.now.sessions (state_of before.now.history)) }
+    ensures { IfOk result (λ blockers. blockers.items ≡ blockers_if_asked before.now.sessions (state_of before.now.history) (option_map claim_of asked.now)) }
+{
+    match asked {
+        Some(asked) => blockers_of(alloc, before, *asked),
+        None => Ok(Vec::new(alloc)),
+    }
+}
+
 /// Why the call was refused, where `why` is its refusal. Fails if memory is refused.
 pub(crate) fn refusal_of(
     alloc: Global,
@@ -128,10 +162,21 @@ pub(crate) fn refusal_of(
     call: Call,
     why: Why,
 ) -> Result<Refusal, NoMemory>
-    requires { (step (state_of before.now.history) session call).reply ≡ ReplyValue.Refused why }
-    ensures { IfOk result (IsRefusalOf (state_of before.now.history) session call) }
+    requires some { 1 ≤ session }
+    requires within { session ≤ before.now.sessions }
+    requires refused { (step (state_of before.now.history) session call).reply ≡ ReplyValue.Refused why }
+    ensures { IfOk result (IsRefusalOf before.now.sessions (state_of before.now.history) session call) }
 {
     let missed = missed_by(before, session, &call, why);
     let below = locks_below(alloc, before, session, &call, why)?;
-    Ok(Refusal { why, missed, below })
+    let asked = request_refused(before, session, &call, why);
+    let request = line_if_asked(before, &asked);
+    let blockers = blockers_if_asked(alloc, before, &asked)?;
+    Ok(Refusal {
+        why,
+        missed,
+        below,
+        request,
+        blockers,
+    })
 }

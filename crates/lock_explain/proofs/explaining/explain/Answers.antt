@@ -6,7 +6,9 @@ use Rattle.lock_explain.proofs.ServedCalls.{is-served}
 use Rattle.lock_explain.proofs.explaining.explain.Goals as goal
 
 pub refusal_of_entry-requires : goal.refusal_of_entry-requires
-refusal_of_entry-requires c = record { reply = (is-served c.args.before.now.sessions c.args.after.now.sessions c.args.before.now.history c.args.after.now.history c.args.entry.now c.requires.sessions c.requires.served c.history-history.ensures.legal c.history-history.ensures.within).reply }
+refusal_of_entry-requires c =
+    let s = is-served c.args.before.now.sessions c.args.after.now.sessions c.args.before.now.history c.args.after.now.history c.args.entry.now c.requires.sessions c.requires.served c.history-history.ensures.legal c.history-history.ensures.within in
+    record { session = s.session; reply = s.reply }
 
 pub wait_of_entry-requires-clause-served : goal.wait_of_entry-requires-clause-served
 wait_of_entry-requires-clause-served c = is-served c.args.before.now.sessions c.args.after.now.sessions c.args.before.now.history c.args.after.now.history c.args.entry.now c.requires.sessions c.requires.served c.history-history.ensures.legal c.history-history.ensures.within

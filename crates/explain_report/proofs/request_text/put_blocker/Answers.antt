@@ -2,12 +2,12 @@ use Rattle.std.proofs.Common.{◌++◌, codes}
 use Rattle.std.proofs.lemmas.Result.{on_ok_weaker}
 use Rattle.explain_report.specs.ExplanationText.{words_of_party, words_of_holding, words_of_ahead}
 use Rattle.explain_report.proofs.Pieces.{next_part}
-use Rattle.explain_report.proofs.text.put_blocker.Goals as goal
+use Rattle.explain_report.proofs.request_text.put_blocker.Goals as goal
 
 pub returns : goal.returns
 returns c =
     let blocker = c.args.blocker.now in
-    let before = codes "    waits for " in
+    let before = c.args.start.now in
     let party = words_of_party blocker.party in
     let holding = words_of_holding blocker.held in
     let ahead = words_of_ahead blocker.held blocker.ahead in
