@@ -123,7 +123,8 @@ static void modes_held(pelgaisti_book *book, uint32_t modes[SESSIONS][RESOURCES]
         }
 }
 
-/* The kth call of a book: begins, locks that are granted, locks and conversions that wait, releases, polls, and ends. */
+/* The kth call of a book: begins, locks that are granted, locks and conversions that wait, releases, a try, a withdrawal, polls, and
+   ends. */
 static pelgaisti_call nth_call(uint32_t k) {
     if (k < 9) return begin;
     if (k < 45) return call_of(PELGAISTI_LOCK, PELGAISTI_IX, k);
@@ -131,6 +132,8 @@ static pelgaisti_call nth_call(uint32_t k) {
     if (k < 62) return call_of(PELGAISTI_CONVERT, PELGAISTI_X, 7); /* sessions 7 and 8: a wait, and a deadlock */
     if (k < 64) return call_of(PELGAISTI_LOCK, PELGAISTI_X, 9);    /* sessions 9 and 1: a wait, and the holder's own */
     if (k < 66) return call_of(PELGAISTI_RELEASE, 0, k - 54);      /* sessions 2 and 3: locks of theirs */
+    if (k == 66) return call_of(PELGAISTI_TRY, PELGAISTI_IX, 3);   /* session 4: a lock on a new resource */
+    if (k == 71) return call_of(PELGAISTI_WITHDRAW, 0, 0);         /* session 9, which waits */
     if (k < 75) return call_of(PELGAISTI_POLL, 0, 0);
     if (k < 84) return call_of(PELGAISTI_COMMIT, 0, 0);
     if (k < 93) return call_of(PELGAISTI_ABORT, 0, 0);
@@ -211,6 +214,7 @@ static void books(void) {
     CHECK(status == PELGAISTI_OK && count == 45 && claims[0].session == SESSIONS && claims[0].resource.numbers[0] == 7);
     CHECK(claims[1].session == 1 && claims[1].resource.numbers[0] == 9);
     for (uint32_t k = 60; k < CALLS; k++) serve_nth(&book, k);
+    CHECK(ample[66].kind == PELGAISTI_GRANTED && ample[71].kind == PELGAISTI_WITHDRAWN);
     pelgaisti_call end = call_of(PELGAISTI_ABORT, 0, 0);
     pelgaisti_reply ended;
     for (uint32_t s = 1; s <= SESSIONS; s++)

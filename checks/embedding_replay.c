@@ -5,9 +5,9 @@
 #include <stdlib.h>
 #include <string.h>
 
-static const char *const ops[] = {"begin", "lock", "convert", "poll", "release", "commit", "abort"};
+static const char *const ops[] = {"begin", "lock", "convert", "poll", "release", "commit", "abort", "try", "withdraw"};
 static const uint32_t op_numbers[] = {PELGAISTI_BEGIN, PELGAISTI_LOCK, PELGAISTI_CONVERT, PELGAISTI_POLL, PELGAISTI_RELEASE,
-                                      PELGAISTI_COMMIT, PELGAISTI_ABORT};
+                                      PELGAISTI_COMMIT, PELGAISTI_ABORT, PELGAISTI_TRY, PELGAISTI_WITHDRAW};
 static const char *const modes[] = {"NL", "IS", "IX", "S", "SIX", "U", "X"};
 static const uint32_t mode_numbers[] = {PELGAISTI_NL, PELGAISTI_IS, PELGAISTI_IX, PELGAISTI_S, PELGAISTI_SIX, PELGAISTI_U, PELGAISTI_X};
 #define COUNT(list) (sizeof(list) / sizeof((list)[0]))
@@ -23,7 +23,7 @@ static void write_entry(uint64_t place, const pelgaisti_entry *e) {
     const pelgaisti_resource *r = &e->call.resource;
     printf("%" PRIu64 ",%u,%s,", place, (unsigned)e->session, pelgaisti_op_name(e->call.op));
     for (uint32_t k = 0; k < r->level; k++) printf(k ? "/%u" : "%u", (unsigned)r->numbers[k]);
-    int has_mode = e->call.op == PELGAISTI_LOCK || e->call.op == PELGAISTI_CONVERT;
+    int has_mode = e->call.op == PELGAISTI_LOCK || e->call.op == PELGAISTI_CONVERT || e->call.op == PELGAISTI_TRY;
     printf(",%s,", has_mode ? pelgaisti_mode_name(e->call.mode) : "");
     printf("%s,", pelgaisti_reply_name(e->reply.kind));
     switch (e->reply.kind) {

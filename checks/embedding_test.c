@@ -32,7 +32,7 @@ static pelgaisti_call call_of(uint32_t op, uint32_t mode, uint32_t level, uint32
 }
 
 static const uint32_t off_sessions[] = {0, 4, 256, 1024, 1025, 65537, UINT32_MAX};
-static const uint32_t off_ops[] = {0, 8, 256, UINT32_MAX};
+static const uint32_t off_ops[] = {0, 10, 256, UINT32_MAX};
 static const uint32_t off_modes[] = {2, 4, 6, 8, 12, 14, 16, 255, 256, 257, UINT32_MAX};
 static const uint32_t off_levels[] = {0, 6, 256, 257, UINT32_MAX};
 #define COUNT(list) (sizeof(list) / sizeof((list)[0]))
@@ -94,9 +94,11 @@ static void books_refuse(void) {
         pelgaisti_call lock_off = call_of(PELGAISTI_LOCK, PELGAISTI_S, off_levels[k], 1, 0);
         pelgaisti_call convert_off = call_of(PELGAISTI_CONVERT, 2, off_levels[k], 1, 0);
         pelgaisti_call release_off = call_of(PELGAISTI_RELEASE, 0, off_levels[k], 1, 0);
+        pelgaisti_call try_off = call_of(PELGAISTI_TRY, 2, off_levels[k], 1, 0);
         CHECK(pelgaisti_book_serve(&book, 1, &lock_off, &reply) == PELGAISTI_NO_SUCH_LEVEL);
         CHECK(pelgaisti_book_serve(&book, 1, &convert_off, &reply) == PELGAISTI_NO_SUCH_LEVEL);
         CHECK(pelgaisti_book_serve(&book, 1, &release_off, &reply) == PELGAISTI_NO_SUCH_LEVEL);
+        CHECK(pelgaisti_book_serve(&book, 1, &try_off, &reply) == PELGAISTI_NO_SUCH_LEVEL);
         CHECK(pelgaisti_book_held(&book, 1, &lock_off.resource, &mode) == PELGAISTI_NO_SUCH_LEVEL);
         CHECK(pelgaisti_book_holders(&book, &lock_off.resource, list, 2, &count) == PELGAISTI_NO_SUCH_LEVEL);
         CHECK(pelgaisti_book_lock_path(&book, 1, &lock_off.resource, PELGAISTI_S, &level, &reply) == PELGAISTI_NO_SUCH_LEVEL);
@@ -104,8 +106,10 @@ static void books_refuse(void) {
     for (size_t k = 0; k < COUNT(off_modes); k++) {
         pelgaisti_call lock_off = call_of(PELGAISTI_LOCK, off_modes[k], 1, 1, 0);
         pelgaisti_call convert_off = call_of(PELGAISTI_CONVERT, off_modes[k], 4, 1, 0);
+        pelgaisti_call try_off = call_of(PELGAISTI_TRY, off_modes[k], 5, 1, 0);
         CHECK(pelgaisti_book_serve(&book, 1, &lock_off, &reply) == PELGAISTI_NO_SUCH_MODE);
         CHECK(pelgaisti_book_serve(&book, 1, &convert_off, &reply) == PELGAISTI_NO_SUCH_MODE);
+        CHECK(pelgaisti_book_serve(&book, 1, &try_off, &reply) == PELGAISTI_NO_SUCH_MODE);
         CHECK(pelgaisti_book_lock_path(&book, 1, &convert_off.resource, off_modes[k], &level, &reply) == PELGAISTI_NO_SUCH_MODE);
     }
     CHECK(pelgaisti_book_serve(NULL, 1, &begin, &reply) == PELGAISTI_NULL);
@@ -322,11 +326,13 @@ static void numbers_have_names(void) {
                                            "NO_ROOM"};
     static const char *const modes[] = {"NL", "IS", "unknown", "IX", "unknown", "S", "unknown", "SIX", "unknown", "unknown",
                                         "unknown", "unknown", "unknown", "U", "unknown", "X", "unknown"};
-    static const char *const ops[] = {"unknown", "begin", "lock", "convert", "poll", "release", "commit", "abort", "unknown"};
+    static const char *const ops[] = {"unknown", "begin", "lock", "convert", "poll", "release", "commit", "abort", "try", "withdraw",
+                                      "unknown"};
     static const char *const replies[] = {"unknown", "began", "granted", "waiting", "deadlock", "clear", "released", "committed",
-                                          "aborted", "refused", "unknown"};
+                                          "aborted", "refused", "withdrawn", "unknown"};
     static const char *const refusals[] = {"unknown", "AlreadyOpen", "NoTransaction", "IsWaiting", "IsDoomed", "NothingAsked",
-                                           "NotHeld", "ParentNotHeld", "ChildHeld", "TooManyLocks", "unknown"};
+                                           "NotHeld", "ParentNotHeld", "ChildHeld", "TooManyLocks", "unknown", "WouldWait",
+                                           "NotWaiting", "unknown"};
     static const uint64_t off[] = {21, 255, 256, 65536, UINT32_MAX, (uint64_t)1 << 32, ((uint64_t)1 << 32) + 1, UINT64_MAX};
 
     for (size_t k = 0; k < COUNT(statuses); k++) CHECK(!strcmp(pelgaisti_status_name(k), statuses[k]));
@@ -362,7 +368,7 @@ static void batches_are_served(void) {
     CHECK(pelgaisti_book_serve_batch(&book, items, 6, &count) == PELGAISTI_NO_SUCH_MODE && count == 99);
     items[4].call.resource.level = 6;
     CHECK(pelgaisti_book_serve_batch(&book, items, 6, &count) == PELGAISTI_NO_SUCH_LEVEL);
-    items[4].call.op = 8;
+    items[4].call.op = 10;
     CHECK(pelgaisti_book_serve_batch(&book, items, 6, &count) == PELGAISTI_NO_SUCH_OP);
     items[4].session = 0;
     CHECK(pelgaisti_book_serve_batch(&book, items, 6, &count) == PELGAISTI_NO_SUCH_SESSION);
@@ -973,6 +979,82 @@ static void ended_waits_of_a_book(void) {
     CHECK(pelgaisti_book_close(&book) == PELGAISTI_OK);
 }
 
+/* Whether the book serves this call of the session, and replies so. */
+static int replies(pelgaisti_book *book, uint32_t session, pelgaisti_call call, uint32_t kind, uint64_t value) {
+    pelgaisti_reply reply = {77, 88};
+    return pelgaisti_book_serve(book, session, &call, &reply) == PELGAISTI_OK && reply.kind == kind && reply.value == value;
+}
+
+/* Tries that are granted and that are refused; withdrawals of the first request of a queue and of a conversion, and their refusals.
+   Session s has transaction s. */
+static void tries_and_withdrawals(void) {
+    pelgaisti_book book = PELGAISTI_EMPTY;
+    pelgaisti_call begin = call_of(PELGAISTI_BEGIN, 0, 0, 0, 0), commit = call_of(PELGAISTI_COMMIT, 0, 0, 0, 0);
+    pelgaisti_call poll = call_of(PELGAISTI_POLL, 0, 0, 0, 0), withdraw = call_of(PELGAISTI_WITHDRAW, 77, 88, 5, 6);
+    pelgaisti_call try_x = call_of(PELGAISTI_TRY, PELGAISTI_X, 1, 1, 0), try_s = call_of(PELGAISTI_TRY, PELGAISTI_S, 1, 1, 0);
+    pelgaisti_call read = call_of(PELGAISTI_LOCK, PELGAISTI_S, 1, 1, 0), write = call_of(PELGAISTI_LOCK, PELGAISTI_X, 1, 1, 0);
+    pelgaisti_call write_two = call_of(PELGAISTI_LOCK, PELGAISTI_X, 1, 2, 0);
+    pelgaisti_call read_two = call_of(PELGAISTI_LOCK, PELGAISTI_S, 1, 2, 0);
+    pelgaisti_claim waiting;
+    pelgaisti_entry entries[2];
+    uint32_t list[4] = {77, 77, 77, 77}, mode = 99, edge = 99;
+    size_t count = 9;
+
+    CHECK(pelgaisti_book_open(&book, 4) == PELGAISTI_OK);
+    CHECK(replies(&book, 1, try_s, PELGAISTI_REFUSED, PELGAISTI_NO_TRANSACTION));
+    CHECK(replies(&book, 1, withdraw, PELGAISTI_REFUSED, PELGAISTI_NO_TRANSACTION));
+    for (uint32_t s = 1; s <= 4; s++) CHECK(replies(&book, s, begin, PELGAISTI_BEGAN, s));
+    CHECK(replies(&book, 1, call_of(PELGAISTI_TRY, PELGAISTI_NL, 1, 1, 0), PELGAISTI_REFUSED, PELGAISTI_NOTHING_ASKED));
+    CHECK(replies(&book, 1, call_of(PELGAISTI_TRY, PELGAISTI_S, 2, 1, 7), PELGAISTI_REFUSED, PELGAISTI_PARENT_NOT_HELD));
+    CHECK(replies(&book, 1, withdraw, PELGAISTI_REFUSED, PELGAISTI_NOT_WAITING));
+
+    /* granted to two readers, and to one that holds more; a writer would wait, and leaves nothing but the entry in the history */
+    CHECK(replies(&book, 1, try_s, PELGAISTI_GRANTED, PELGAISTI_S) && replies(&book, 2, try_s, PELGAISTI_GRANTED, PELGAISTI_S));
+    CHECK(replies(&book, 1, call_of(PELGAISTI_TRY, PELGAISTI_IS, 1, 1, 0), PELGAISTI_GRANTED, PELGAISTI_S));
+    CHECK(replies(&book, 3, try_x, PELGAISTI_REFUSED, PELGAISTI_WOULD_WAIT));
+    CHECK(replies(&book, 1, try_x, PELGAISTI_REFUSED, PELGAISTI_WOULD_WAIT));
+    CHECK(pelgaisti_book_held(&book, 1, &try_x.resource, &mode) == PELGAISTI_OK && mode == PELGAISTI_S);
+    CHECK(pelgaisti_book_request(&book, 3, &waiting) == PELGAISTI_OK && waiting.kind == 0);
+    CHECK(pelgaisti_book_waits_for(&book, 3, 1, &edge) == PELGAISTI_OK && edge == 0);
+    CHECK(replies(&book, 3, poll, PELGAISTI_CLEAR, 0));
+
+    /* the writer waits, and behind it a reader that conflicts with no holder: once the writer withdraws, the reader has the lock */
+    CHECK(replies(&book, 3, write_two, PELGAISTI_GRANTED, PELGAISTI_X) && replies(&book, 3, write, PELGAISTI_WAITING, 0));
+    CHECK(replies(&book, 4, try_s, PELGAISTI_REFUSED, PELGAISTI_WOULD_WAIT) && replies(&book, 4, read, PELGAISTI_WAITING, 0));
+    CHECK(replies(&book, 3, try_s, PELGAISTI_REFUSED, PELGAISTI_IS_WAITING));
+    CHECK(replies(&book, 3, withdraw, PELGAISTI_WITHDRAWN, 0));
+    CHECK(pelgaisti_book_ended(&book, list, 4, &count) == PELGAISTI_OK && count == 1 && list[0] == 4);
+    CHECK(replies(&book, 4, withdraw, PELGAISTI_REFUSED, PELGAISTI_NOT_WAITING) && replies(&book, 4, poll, PELGAISTI_CLEAR, 0));
+    CHECK(pelgaisti_book_held(&book, 4, &read.resource, &mode) == PELGAISTI_OK && mode == PELGAISTI_S);
+    CHECK(replies(&book, 3, withdraw, PELGAISTI_REFUSED, PELGAISTI_NOT_WAITING) && replies(&book, 3, poll, PELGAISTI_CLEAR, 0));
+
+    /* a conversion is taken back, and its lock stays */
+    CHECK(replies(&book, 1, write, PELGAISTI_WAITING, 0) && replies(&book, 1, withdraw, PELGAISTI_WITHDRAWN, 0));
+    CHECK(pelgaisti_book_held(&book, 1, &write.resource, &mode) == PELGAISTI_OK && mode == PELGAISTI_S);
+    CHECK(pelgaisti_book_ended(&book, list, 4, &count) == PELGAISTI_OK && count == 0);
+
+    /* 4 waits for 3, and then 3 for 4 among others: 4 is the younger, and has no request any more */
+    CHECK(replies(&book, 4, read_two, PELGAISTI_WAITING, 0) && replies(&book, 3, write, PELGAISTI_WAITING, 0));
+    CHECK(pelgaisti_book_ended(&book, list, 4, &count) == PELGAISTI_OK && count == 1 && list[0] == 4);
+    CHECK(replies(&book, 4, withdraw, PELGAISTI_REFUSED, PELGAISTI_IS_DOOMED));
+    CHECK(replies(&book, 4, try_s, PELGAISTI_REFUSED, PELGAISTI_IS_DOOMED) && replies(&book, 4, poll, PELGAISTI_DEADLOCK, 0));
+    CHECK(replies(&book, 4, call_of(PELGAISTI_ABORT, 0, 0, 0, 0), PELGAISTI_ABORTED, 1));
+
+    /* in a batch; the numbers that a withdrawal doesn't use become 0 */
+    memset(entries, 0x55, sizeof entries);
+    entries[0].session = 3;
+    entries[0].call = withdraw;
+    entries[1].session = 3;
+    entries[1].call = try_s;
+    CHECK(pelgaisti_book_serve_batch(&book, entries, 2, &count) == PELGAISTI_OK && count == 2);
+    CHECK(entries[0].call.op == 9 && entries[0].call.mode == 0 && entries[0].call.resource.level == 0);
+    CHECK(entries[0].reply.kind == 10 && entries[0].reply.value == 0);
+    CHECK(entries[1].call.op == 8 && entries[1].call.mode == PELGAISTI_S && entries[1].call.resource.level == 1);
+    CHECK(entries[1].reply.kind == PELGAISTI_GRANTED && entries[1].reply.value == PELGAISTI_S);
+    for (uint32_t s = 1; s <= 3; s++) CHECK(replies(&book, s, commit, PELGAISTI_COMMITTED, s == 3 ? 2 : 1));
+    CHECK(pelgaisti_book_close(&book) == PELGAISTI_OK);
+}
+
 /* Whether the claim is this one, of the session's transaction with the session's number. */
 static int is_claim(const pelgaisti_claim *claim, uint32_t session, uint32_t kind, uint32_t mode, uint32_t level, uint32_t doomed) {
     return claim->session == session && claim->kind == kind && claim->mode == mode && claim->transaction == session &&
@@ -1204,6 +1286,8 @@ static void calls_at_once(void) {
     pelgaisti_book book = PELGAISTI_EMPTY;
     pelgaisti_call begin = call_of(PELGAISTI_BEGIN, 0, 0, 0, 0), commit = call_of(PELGAISTI_COMMIT, 0, 0, 0, 0);
     pelgaisti_call write = call_of(PELGAISTI_LOCK, PELGAISTI_X, 1, 1, 0), poll = call_of(PELGAISTI_POLL, 0, 0, 0, 0);
+    pelgaisti_call read = call_of(PELGAISTI_LOCK, PELGAISTI_S, 1, 1, 0), withdraw = call_of(PELGAISTI_WITHDRAW, 0, 0, 0, 0);
+    pelgaisti_call try_write = call_of(PELGAISTI_TRY, PELGAISTI_X, 1, 1, 0);
     pelgaisti_call offs[3];
     const pelgaisti_status faults[3] = {PELGAISTI_NO_SUCH_OP, PELGAISTI_NO_SUCH_LEVEL, PELGAISTI_NO_SUCH_MODE};
     pelgaisti_answer answer = {99, {77, 88}};
@@ -1254,6 +1338,28 @@ static void calls_at_once(void) {
     CHECK(pelgaisti_session_collect(&sessions[1], &answer) == PELGAISTI_OK && answer.reply.kind == PELGAISTI_CLEAR);
     CHECK(pelgaisti_session_perform_telling(&sessions[1], &commit, &pass, &answer, list, 4, &count) == PELGAISTI_OK && count == 0);
 
+    /* 1 reads, 2 waits to write and 3 to read: a withdrawal of 2 goes ahead of the published poll of 3, and tells of 3 */
+    for (int s = 0; s < 3; s++) {
+        CHECK(pelgaisti_session_perform_at_once(&sessions[s], &begin, NULL, &answer) == PELGAISTI_OK);
+        CHECK(answer.place == 7 + 2 * (uint64_t)s);
+        CHECK(pelgaisti_session_perform_at_once(&sessions[s], s == 1 ? &write : &read, NULL, &answer) == PELGAISTI_OK);
+        CHECK(answer.reply.kind == (s == 0 ? PELGAISTI_GRANTED : PELGAISTI_WAITING));
+    }
+    CHECK(pelgaisti_session_publish(&sessions[2], &poll, NULL) == PELGAISTI_OK);
+    CHECK(pelgaisti_session_perform_telling(&sessions[1], &withdraw, &pass, &answer, list, 4, &count) == PELGAISTI_OK);
+    CHECK(pass.served == 1 && answer.place == 13 && answer.reply.kind == PELGAISTI_WITHDRAWN && answer.reply.value == 0);
+    CHECK(count == 1 && list[0] == 3);
+    CHECK(pelgaisti_session_collect(&sessions[2], &answer) == PELGAISTI_OK && answer.reply.kind == PELGAISTI_CLEAR);
+    CHECK(pelgaisti_session_perform_at_once(&sessions[1], &try_write, NULL, &answer) == PELGAISTI_OK && answer.place == 15);
+    CHECK(answer.reply.kind == PELGAISTI_REFUSED && answer.reply.value == PELGAISTI_WOULD_WAIT);
+    /* a try goes behind the published commits */
+    CHECK(pelgaisti_session_publish(&sessions[0], &commit, NULL) == PELGAISTI_OK);
+    CHECK(pelgaisti_session_publish(&sessions[2], &commit, NULL) == PELGAISTI_OK);
+    CHECK(pelgaisti_session_perform_at_once(&sessions[1], &try_write, &pass, &answer) == PELGAISTI_OK && pass.served == 2);
+    CHECK(answer.place == 18 && answer.reply.kind == PELGAISTI_GRANTED && answer.reply.value == PELGAISTI_X);
+    for (int s = 0; s < 3; s += 2)
+        CHECK(pelgaisti_session_collect(&sessions[s], &answer) == PELGAISTI_OK && answer.reply.kind == PELGAISTI_COMMITTED);
+
     CHECK(pelgaisti_session_retire(&sessions[2]) == PELGAISTI_OK);
     CHECK(pelgaisti_session_perform_at_once(&sessions[2], &begin, &pass, &answer) == PELGAISTI_RETIRED);
     CHECK(pelgaisti_session_perform_telling(&sessions[2], &begin, &pass, &answer, list, 3, &count) == PELGAISTI_RETIRED);
@@ -1273,7 +1379,7 @@ static uint32_t transactions = 100;
 typedef struct sleeper {
     pelgaisti_session *session;
     uint32_t number;
-    uint64_t waits, bad;
+    uint64_t waits, withdrawn, bad;
     uint32_t told[SLEEPERS];
 } sleeper;
 
@@ -1291,14 +1397,30 @@ static uint32_t call_and_wake(sleeper *j, uint32_t op, uint32_t database) {
     return answer.reply.kind;
 }
 
-/* Locks a database exclusively. A request that waits sleeps, and polls once. Returns 0 if the transaction became a victim. */
+/* Sleeps until the wait has ended, and polls once. Every fourth thread yields instead, and then takes the request back if nobody has
+   woken it; if that is refused, it sleeps until it is woken. Returns the kind of the last reply. */
+static uint32_t end_wait(sleeper *j) {
+    uint32_t kind;
+    if (j->number % 4 == 0) {
+        sched_yield();
+        if (sem_trywait(&woken[j->number]) == 0) return call_and_wake(j, PELGAISTI_POLL, 0);
+        kind = call_and_wake(j, PELGAISTI_WITHDRAW, 0);
+        if (kind == PELGAISTI_WITHDRAWN) return kind;
+        j->bad += kind != PELGAISTI_REFUSED;
+    }
+    while (sem_wait(&woken[j->number]) != 0) continue;
+    return call_and_wake(j, PELGAISTI_POLL, 0);
+}
+
+/* Locks a database exclusively. A request that waits sleeps, and polls once or is taken back. Returns 0 if the transaction became a
+   victim. */
 static int lock_asleep(sleeper *j, uint32_t database) {
     uint32_t kind = call_and_wake(j, PELGAISTI_LOCK, database);
     if (kind == PELGAISTI_WAITING) {
         j->waits++;
-        while (sem_wait(&woken[j->number]) != 0) continue;
-        kind = call_and_wake(j, PELGAISTI_POLL, 0);
-        j->bad += kind != PELGAISTI_CLEAR && kind != PELGAISTI_DEADLOCK;
+        kind = end_wait(j);
+        j->withdrawn += kind == PELGAISTI_WITHDRAWN;
+        j->bad += kind != PELGAISTI_CLEAR && kind != PELGAISTI_DEADLOCK && kind != PELGAISTI_WITHDRAWN;
     } else {
         j->bad += kind != PELGAISTI_GRANTED && kind != PELGAISTI_DEADLOCK;
     }
@@ -1337,14 +1459,15 @@ static void *sleep_and_work(void *argument) {
     return NULL;
 }
 
-/* Each thread is woken once for each wait, no wake-up is left over, and the history has a poll for each wait and no other. */
+/* Each thread is woken once for each wait that it doesn't end itself, no wake-up is left over, and the history has one poll for each
+   of these waits and no other. */
 static void threads_sleep(void) {
     static pelgaisti_session sessions[SLEEPERS];
     static sleeper jobs[SLEEPERS];
     static pelgaisti_entry entries[1000];
     pelgaisti_book book = PELGAISTI_EMPTY;
     pthread_t threads[SLEEPERS];
-    uint64_t waits = 0, polls = 0;
+    uint64_t waits = 0, polls = 0, withdrawn = 0, taken_back = 0;
     size_t count = 0;
 
     CHECK(pelgaisti_office_open(sessions, SLEEPERS) == PELGAISTI_OK);
@@ -1361,13 +1484,17 @@ static void threads_sleep(void) {
         CHECK(jobs[t].bad == 0 && sem_getvalue(&woken[t + 1], &left) == 0 && left == 0);
         CHECK(sem_destroy(&woken[t + 1]) == 0);
         waits += jobs[t].waits;
+        withdrawn += jobs[t].withdrawn;
     }
     for (int t = SLEEPERS - 1; t > 0; t--) CHECK(pelgaisti_session_hand_in(&sessions[t], &sessions[0]) == PELGAISTI_OK);
     CHECK(pelgaisti_office_close(&sessions[0], &book) == PELGAISTI_OK);
     for (uint64_t first = 0; pelgaisti_book_history(&book, first, entries, COUNT(entries), &count) == PELGAISTI_OK && count > 0;
          first += count)
-        for (size_t k = 0; k < count; k++) polls += entries[k].call.op == PELGAISTI_POLL;
-    CHECK(polls == waits && waits >= SLEEPERS - 1);
+        for (size_t k = 0; k < count; k++) {
+            polls += entries[k].call.op == PELGAISTI_POLL;
+            taken_back += entries[k].reply.kind == PELGAISTI_WITHDRAWN;
+        }
+    CHECK(polls + withdrawn == waits && taken_back == withdrawn && waits >= SLEEPERS - 1);
     CHECK(pthread_barrier_destroy(&all_here) == 0);
     CHECK(pelgaisti_book_close(&book) == PELGAISTI_OK);
 }
@@ -1414,6 +1541,7 @@ int main(int argc, char **argv) {
     threads_share();
     pieces_are_the_history();
     ended_waits_of_a_book();
+    tries_and_withdrawals();
     claims_of_a_book();
     sessions_ask();
     passes_tell();

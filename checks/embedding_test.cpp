@@ -65,6 +65,28 @@ static void books() {
     CHECK(throws(PELGAISTI_NO_SUCH_COUNT, [] { pelgaisti::book none{0}; }));
 }
 
+static void tries() {
+    const auto refused = [](const pelgaisti::reply &reply, pelgaisti::refusal why) {
+        return reply.kind == kind::refused && reply.value == static_cast<std::uint64_t>(why);
+    };
+    pelgaisti::book book{3};
+    CHECK(refused(book.serve(1, {op::try_lock, mode::S, {1}}), pelgaisti::refusal::no_transaction));
+    for (std::uint32_t session = 1; session <= 3; ++session) book.serve(session, {op::begin});
+    CHECK(book.serve(1, {op::try_lock, mode::S, {1}}).kind == kind::granted);
+    CHECK(refused(book.serve(2, {op::try_lock, mode::X, {1}}), pelgaisti::refusal::would_wait));
+    CHECK(refused(book.serve(2, {op::withdraw}), pelgaisti::refusal::not_waiting));
+    CHECK(book.serve(2, {op::lock, mode::X, {1}}).kind == kind::waiting);
+    CHECK(book.serve(3, {op::lock, mode::S, {1}}).kind == kind::waiting);
+    CHECK(book.serve(2, {op::withdraw}).kind == kind::withdrawn && book.ended() == std::vector<std::uint32_t>{3});
+    CHECK(book.serve(3, {op::poll}).kind == kind::clear && book.held(3, {1}) == mode::S && book.request(2).kind == 0);
+    // 3 and 1 wait for one another, and 3 is the younger
+    CHECK(book.serve(3, {op::lock, mode::X, {1}}).kind == kind::waiting);
+    CHECK(book.serve(1, {op::lock, mode::X, {1}}).kind == kind::waiting);
+    CHECK(refused(book.serve(3, {op::withdraw}), pelgaisti::refusal::is_doomed));
+    CHECK(refused(book.serve(3, {op::try_lock, mode::S, {2}}), pelgaisti::refusal::is_doomed));
+    CHECK(book.history(4, 1)[0].call.op == PELGAISTI_TRY && book.history(9, 1)[0].reply.kind == PELGAISTI_WITHDRAWN);
+}
+
 static void offices() {
     pelgaisti::office office{2};
     CHECK(office[0].perform({op::begin})->place == 0);
@@ -108,12 +130,15 @@ static void offices() {
 
 static void names() {
     CHECK(std::string(name(mode::U)) == "U" && std::string(name(op::release)) == "release");
-    CHECK(std::string(name(kind::clear)) == "clear" && std::string(name(static_cast<kind>(10))) == "unknown");
+    CHECK(std::string(name(kind::clear)) == "clear" && std::string(name(static_cast<kind>(11))) == "unknown");
     CHECK(std::string(name(pelgaisti::refusal::too_many_locks)) == "TooManyLocks");
+    CHECK(std::string(name(pelgaisti::refusal::not_waiting)) == "NotWaiting" && std::string(name(op::try_lock)) == "try");
+    CHECK(std::string(name(op::withdraw)) == "withdraw" && std::string(name(kind::withdrawn)) == "withdrawn");
 }
 
 int main() {
     books();
+    tries();
     offices();
     names();
     std::printf("%d passed, %d failed\n", passed, failed);

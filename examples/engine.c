@@ -1,8 +1,9 @@
 /*
  * A small engine: two tables of accounts, and four threads that move money between them. Each move locks the two records that it
- * changes, sleeps while it waits for a lock, and undoes its change if it is chosen as a deadlock's victim. Whoever ends a wait wakes
- * the thread that waits. The lock table keeps the newest 1024 entries of its history, so that the engine takes no more memory the
- * longer it runs.
+ * changes, sleeps while it waits for a lock, and undoes its change if it is chosen as a deadlock's victim, or if it has waited for a
+ * minute. Whoever ends a wait wakes the thread that waits. The lock table keeps the newest 1024 entries of its history, so that the
+ * engine takes no more memory the longer it runs. Before the threads start, a record that is held is asked for without waiting, and
+ * with a short limit.
  *
  *     ./embed && cc examples/engine.c -Iout -Lout -lpelgaisti -lpthread -o engine && ./engine
  *
@@ -10,13 +11,16 @@
  */
 #define _XOPEN_SOURCE 600 /* for barriers under -std=c99 */
 #include "pelgaisti.h"
+#include <errno.h>
 #include <pthread.h>
 #include <semaphore.h>
 #include <stdio.h>
 #include <stdlib.h>
+#include <time.h>
 
-/* The last record of each table is used only by the two moves that make a deadlock. */
-enum { TABLES = 2, RECORDS = 5, MEETING = 4, THREADS = 4, BALANCE = 100, KEPT = 1024 };
+/* The last record of each table is used only by the two moves that make a deadlock, and before the threads start. SHORT and LONG are
+   limits of waits, in milliseconds. */
+enum { TABLES = 2, RECORDS = 5, MEETING = 4, THREADS = 4, BALANCE = 100, KEPT = 1024, SHORT = 20, LONG = 60000 };
 
 static long accounts[TABLES][RECORDS];
 static pthread_barrier_t both_hold_one;
@@ -24,11 +28,11 @@ static pthread_barrier_t both_hold_one;
 /* For each session a semaphore, on which its thread sleeps while it waits for a lock. */
 static sem_t woken[THREADS + 1];
 
-/* A worker: its session, its number, how many moves it has to make and made, how often it was a victim, how often it waited and
-   polled, how many calls it made, and whom its passes wake, with room for their numbers. */
+/* A worker: its session, its number, how many moves it has to make and made, how often it was a victim, how often it waited, polled
+   and took a request back, how many calls it made, and whom its passes wake, with room for their numbers. */
 typedef struct worker {
     pelgaisti_session *session;
-    unsigned number, moves, moved, victims, waits, polls;
+    unsigned number, moves, moved, victims, waits, polls, withdrawn;
     uint64_t calls;
     pelgaisti_waker waker;
     uint32_t told[THREADS];
@@ -47,14 +51,27 @@ static pelgaisti_call plain(uint32_t op) {
     return call;
 }
 
-/* Performs a call without a resource and a mode. Without a bound on its turns there is an answer, unless memory is refused. */
-static pelgaisti_reply ask(worker *w, uint32_t op) {
-    pelgaisti_call call = plain(op);
+/* A record of database 1. */
+static pelgaisti_resource record_of(uint32_t table, uint32_t record) {
+    pelgaisti_resource resource = {3, {1, 0, 0}};
+    resource.numbers[1] = table;
+    resource.numbers[2] = record;
+    return resource;
+}
+
+/* Performs a call. Without a bound on its turns there is an answer, unless memory is refused. */
+static pelgaisti_reply perform(worker *w, const pelgaisti_call *call) {
     pelgaisti_answer answer;
-    pelgaisti_status status = pelgaisti_session_perform_waking(w->session, &call, UINT64_MAX, &w->waker, &answer);
+    pelgaisti_status status = pelgaisti_session_perform_waking(w->session, call, UINT64_MAX, &w->waker, &answer);
     if (status != PELGAISTI_OK) stop("perform", pelgaisti_status_name(status));
     w->calls++;
     return answer.reply;
+}
+
+/* Performs a call without a resource and a mode. */
+static pelgaisti_reply ask(worker *w, uint32_t op) {
+    pelgaisti_call call = plain(op);
+    return perform(w, &call);
 }
 
 /* Wakes the thread of a session. A pass of the calling thread has ended the session's wait. */
@@ -63,20 +80,39 @@ static void wake(void *engine, uint32_t session) {
     sem_post(&semaphores[session]);
 }
 
-/* Sleeps until a pass has ended the wait of the worker's session, and asks how it has ended. */
-static pelgaisti_reply sleep_and_poll(worker *w) {
-    while (sem_wait(&woken[w->number + 1]) != 0) continue; /* a signal may end the sleep early */
+/* Sleeps on the semaphore, at most for the limit. Returns 0 if it wasn't posted. */
+static int sleep_within(sem_t *semaphore, unsigned limit) {
+    struct timespec until;
+    clock_gettime(CLOCK_REALTIME, &until);
+    until.tv_nsec += limit % 1000 * 1000000L;
+    until.tv_sec += limit / 1000 + until.tv_nsec / 1000000000;
+    until.tv_nsec %= 1000000000;
+    while (sem_timedwait(semaphore, &until) != 0)
+        if (errno != EINTR) return 0; /* a signal may end the sleep early */
+    return 1;
+}
+
+/* Sleeps until a pass has ended the wait of the worker's session, and asks how it has ended. After the limit it takes the request
+   back. */
+static pelgaisti_reply end_wait(worker *w, unsigned limit) {
+    if (!sleep_within(&woken[w->number + 1], limit)) {
+        pelgaisti_reply reply = ask(w, PELGAISTI_WITHDRAW);
+        if (reply.kind == PELGAISTI_WITHDRAWN) {
+            w->withdrawn++;
+            return reply;
+        }
+        /* refused: a pass has ended the wait meanwhile, and its thread posts the semaphore */
+        while (sem_wait(&woken[w->number + 1]) != 0) continue;
+    }
     w->polls++;
     return ask(w, PELGAISTI_POLL);
 }
 
 /* Locks a record exclusively, under intention locks on the database and the table. While a request on this path waits, sleeps until
-   it is granted, and then goes on. Returns 0 if the transaction became a victim. */
-static int lock_record(worker *w, uint32_t table, uint32_t record) {
-    pelgaisti_resource resource = {3, {1, 0, 0}}; /* database 1 */
+   it is granted, and then goes on. Returns 0 if the transaction became a victim, or if a request wasn't granted within the limit. */
+static int lock_record(worker *w, uint32_t table, uint32_t record, unsigned limit) {
+    pelgaisti_resource resource = record_of(table, record);
     uint32_t level = 0;
-    resource.numbers[1] = table;
-    resource.numbers[2] = record;
     while (level < resource.level) {
         uint32_t before = level;
         pelgaisti_answer answer;
@@ -86,20 +122,46 @@ static int lock_record(worker *w, uint32_t table, uint32_t record) {
         pelgaisti_reply reply = answer.reply;
         w->calls += level - before + (reply.kind != PELGAISTI_GRANTED); /* one call for each level that was locked */
         w->waits += reply.kind == PELGAISTI_WAITING;
-        while (reply.kind == PELGAISTI_WAITING) reply = sleep_and_poll(w);
-        if (reply.kind == PELGAISTI_DEADLOCK) return 0;
+        while (reply.kind == PELGAISTI_WAITING) reply = end_wait(w, limit);
+        w->victims += reply.kind == PELGAISTI_DEADLOCK;
+        if (reply.kind == PELGAISTI_DEADLOCK || reply.kind == PELGAISTI_WITHDRAWN) return 0;
         if (reply.kind == PELGAISTI_REFUSED) stop("lock was refused", pelgaisti_refusal_name(reply.value));
     }
     return 1;
 }
 
+/* Locks a record as lock_record does, but never waits. Returns 0 if a lock on its path can't be granted at once. */
+static int try_record(worker *w, uint32_t table, uint32_t record) {
+    pelgaisti_resource resource = record_of(table, record);
+    for (uint32_t level = 0; level < resource.level; level++) {
+        pelgaisti_call call = pelgaisti_path_call(&resource, PELGAISTI_X, level);
+        call.op = PELGAISTI_TRY;
+        pelgaisti_reply reply = perform(w, &call);
+        if (reply.kind == PELGAISTI_REFUSED && reply.value == PELGAISTI_WOULD_WAIT) return 0;
+        if (reply.kind != PELGAISTI_GRANTED) stop("try was refused", pelgaisti_refusal_name(reply.value));
+    }
+    return 1;
+}
+
+/* While a worker holds a record, another asks for it without waiting, and then with a short limit. Its transaction goes on without
+   the record. Returns 0 if anything of this went otherwise. */
+static int do_without(worker *holder, worker *other) {
+    ask(holder, PELGAISTI_BEGIN);
+    ask(other, PELGAISTI_BEGIN);
+    int held = try_record(holder, 0, MEETING);
+    int refused = !try_record(other, 0, MEETING), withdrawn = !lock_record(other, 0, MEETING, SHORT);
+    int goes_on = try_record(other, 1, MEETING) && ask(other, PELGAISTI_COMMIT).kind == PELGAISTI_COMMITTED;
+    ask(holder, PELGAISTI_COMMIT);
+    return held && refused && withdrawn && goes_on;
+}
+
 /* Moves 1 from a record of one table to a record of the other. Returns 0 if the move was undone. */
 static int move(worker *w, uint32_t from, uint32_t record, uint32_t to, uint32_t other, int meet) {
     ask(w, PELGAISTI_BEGIN);
-    int taken = lock_record(w, from, record);
+    int taken = lock_record(w, from, record, LONG);
     if (taken) accounts[from][record] -= 1;
     if (meet) pthread_barrier_wait(&both_hold_one); /* makes sure that the first moves of two workers deadlock */
-    if (taken && lock_record(w, to, other)) {
+    if (taken && lock_record(w, to, other, LONG)) {
         accounts[to][other] += 1;
         if (ask(w, PELGAISTI_COMMIT).kind != PELGAISTI_COMMITTED) stop("commit", "was refused");
         return 1;
@@ -118,10 +180,7 @@ static void *work(void *argument) {
         random = random * 1664525u + 1013904223u;
         uint32_t record = meet ? MEETING : random >> 16 & 3, other = meet ? MEETING : random >> 20 & 3;
         int again = 0;
-        while (!move(w, from, record, 1 - from, other, meet && !again)) {
-            w->victims++;
-            again = 1;
-        }
+        while (!move(w, from, record, 1 - from, other, meet && !again)) again = 1;
         w->moved++;
         from = 1 - from;
     }
@@ -134,7 +193,7 @@ int main(int argc, char **argv) {
     pthread_t threads[THREADS];
     worker workers[THREADS];
     long sum = 0;
-    unsigned moves = argc > 1 ? (unsigned)strtoul(argv[1], NULL, 10) : 500, moved = 0, victims = 0, waits = 0, polls = 0;
+    unsigned moves = argc > 1 ? (unsigned)strtoul(argv[1], NULL, 10) : 500, moved = 0, victims = 0, waits = 0, ended = 0;
     uint64_t calls = 0;
 
     for (int t = 0; t < TABLES; t++)
@@ -143,10 +202,11 @@ int main(int argc, char **argv) {
     pelgaisti_status status = pelgaisti_office_open_keeping(sessions, THREADS, KEPT);
     if (status != PELGAISTI_OK) stop("open", pelgaisti_status_name(status));
     for (unsigned t = 0; t < THREADS; t++) {
-        worker w = {&sessions[t], t, moves, 0, 0, 0, 0, 0, {wake, woken, workers[t].told, THREADS}, {0}};
+        worker w = {&sessions[t], t, moves, 0, 0, 0, 0, 0, 0, {wake, woken, workers[t].told, THREADS}, {0}};
         workers[t] = w;
         sem_init(&woken[t + 1], 0, 0);
     }
+    int did_without = do_without(&workers[0], &workers[1]);
     for (unsigned t = 0; t < THREADS; t++) pthread_create(&threads[t], NULL, work, &workers[t]);
     for (unsigned t = 0; t < THREADS; t++) {
         pthread_join(threads[t], NULL);
@@ -154,7 +214,7 @@ int main(int argc, char **argv) {
         victims += workers[t].victims;
         calls += workers[t].calls;
         waits += workers[t].waits;
-        polls += workers[t].polls;
+        ended += workers[t].polls + workers[t].withdrawn;
     }
 
     /* hand in the sessions and close the office, which leaves one history of all calls */
@@ -171,7 +231,8 @@ int main(int argc, char **argv) {
     for (int t = 0; t < TABLES; t++)
         for (int r = 0; r < RECORDS; r++) sum += accounts[t][r];
     int whole = length == calls && kept > 0 && first + kept == length && entries[kept - 1].reply.kind == PELGAISTI_COMMITTED;
-    printf("%u moves; the sum is %ld; a deadlock was undone: %s; the history has each call: %s; one poll for each wait: %s\n", moved,
-           sum, victims > 0 ? "yes" : "no", whole ? "yes" : "no", polls == waits ? "yes" : "no");
-    return !(moved == THREADS * moves && sum == TABLES * RECORDS * BALANCE && victims > 0 && whole && polls == waits);
+    printf("%u moves; the sum is %ld; a deadlock was undone: %s; the history has each call: %s; one poll or withdrawal for each "
+           "wait: %s; a held record was done without: %s\n", moved, sum, victims > 0 ? "yes" : "no", whole ? "yes" : "no",
+           ended == waits ? "yes" : "no", did_without ? "yes" : "no");
+    return !(moved == THREADS * moves && sum == TABLES * RECORDS * BALANCE && victims > 0 && whole && ended == waits && did_without);
 }

@@ -1,12 +1,14 @@
 // A small engine in C++17 over pelgaisti.hpp: four threads move money between the accounts of two tables, under intention locks on
 // the tables and exclusive locks on the accounts. A thread whose request waits sleeps until whoever ends its wait wakes it. Whoever
-// becomes a deadlock's victim aborts and tries again.
+// becomes a deadlock's victim, or has waited for a minute, aborts and tries again. Before the threads start, an account that is held
+// is asked for without waiting, and with a short limit.
 //
 //     ./embed && c++ -std=c++17 -O2 examples/engine.cpp -Iout -Lout -lpelgaisti -lpthread -o engine && ./engine
 
 #include "pelgaisti.hpp"
 
 #include <algorithm>
+#include <chrono>
 #include <condition_variable>
 #include <cstdio>
 #include <mutex>
@@ -15,6 +17,7 @@
 
 namespace {
 
+using namespace std::chrono_literals;
 constexpr unsigned threads = 4, moves = 500, accounts = 8;
 constexpr long balance = 100;
 
@@ -37,9 +40,20 @@ struct bed {
         changed.wait(lock, [this] { return woken > 0; });
         --woken;
     }
+    // Sleeps at most for the limit. Whether it was woken.
+    bool sleep_within(std::chrono::milliseconds limit) {
+        std::unique_lock<std::mutex> lock(guard);
+        if (!changed.wait_for(lock, limit, [this] { return woken > 0; })) return false;
+        --woken;
+        return true;
+    }
 };
 bed beds[threads + 1];
 void wake(void *, std::uint32_t session) { beds[session].wake(); }
+
+struct account {
+    std::uint32_t table, number;
+};
 
 // A thread's session, with its number and with whom its passes wake.
 struct worker {
@@ -51,29 +65,47 @@ struct worker {
     // Performs a call: without a bound on its turns there is always an answer.
     pelgaisti::reply ask(const pelgaisti::call &call) { return session.perform(call, UINT64_MAX, &waker)->reply; }
 
-    // Locks a path down to the resource. While a request on it waits, sleeps, and then goes on. Whether it was granted.
-    bool lock(pelgaisti::mode mode, const pelgaisti::resource &resource) {
-        for (std::uint32_t level = 0;;) {
-            auto reply = session.lock_path(resource, mode, level, UINT64_MAX, &waker)->reply;
-            if (reply.kind != pelgaisti::kind::waiting) return reply.kind == pelgaisti::kind::granted;
-            while (reply.kind == pelgaisti::kind::waiting) {
-                beds[number].sleep();
-                reply = ask({pelgaisti::op::poll});
-            }
-            if (reply.kind == pelgaisti::kind::deadlock) return false;
+    // Sleeps until the wait of the session's request has ended. After the limit it takes the request back. Whether it was granted.
+    bool end_wait(std::chrono::milliseconds limit) {
+        if (!beds[number].sleep_within(limit)) {
+            if (ask({pelgaisti::op::withdraw}).kind == pelgaisti::kind::withdrawn) return false;
+            beds[number].sleep();  // refused: the wait has ended meanwhile, and whoever ended it wakes this thread
         }
+        return ask({pelgaisti::op::poll}).kind == pelgaisti::kind::clear;
+    }
+
+    // Locks an account and its table. While a request waits, sleeps, and then goes on. Whether both were granted within the limit.
+    bool lock(account it, std::chrono::milliseconds limit) {
+        for (std::uint32_t level = 0;;) {
+            const auto reply = session.lock_path({it.table, it.number}, pelgaisti::mode::X, level, UINT64_MAX, &waker)->reply;
+            if (reply.kind != pelgaisti::kind::waiting) return reply.kind == pelgaisti::kind::granted;
+            if (!end_wait(limit)) return false;
+        }
+    }
+
+    // Locks an account and its table if that is possible without waiting. Whether it was.
+    bool try_lock(account it) {
+        const auto granted = [this](const pelgaisti::call &call) { return ask(call).kind == pelgaisti::kind::granted; };
+        return granted({pelgaisti::op::try_lock, pelgaisti::mode::IX, {it.table}}) &&
+               granted({pelgaisti::op::try_lock, pelgaisti::mode::X, {it.table, it.number}});
     }
 };
 
-struct account {
-    std::uint32_t table, number;
-};
+// While one session holds an account, another asks for it without waiting, and then with a short limit. Its transaction goes on
+// without the account. Whether it was refused both times.
+bool do_without(pelgaisti::session &one, pelgaisti::session &two) {
+    worker holder{one, 1, {}}, other{two, 2, {}};
+    for (auto *it : {&holder, &other}) it->ask({pelgaisti::op::begin});
+    const bool held = holder.try_lock({0, 0}), refused = !other.try_lock({0, 0}), withdrawn = !other.lock({0, 0}, 20ms);
+    for (auto *it : {&other, &holder}) it->ask({pelgaisti::op::commit});
+    return held && refused && withdrawn;
+}
 
 // One transfer. Whether it was committed.
 bool transfer(worker &worker, account from, account to) {
     worker.ask({pelgaisti::op::begin});
     for (account it : {from, to}) {
-        if (!worker.lock(pelgaisti::mode::X, {it.table, it.number})) {
+        if (!worker.lock(it, 60s)) {
             worker.ask({pelgaisti::op::abort});
             return false;
         }
@@ -97,6 +129,7 @@ void work(pelgaisti::session &session, unsigned number, unsigned &victims) {
 int main() {
     for (auto &table : tables) std::fill(table, table + accounts, balance);
     pelgaisti::office office{threads};
+    const bool did_without = do_without(office[0], office[1]);
     std::vector<std::thread> running;
     unsigned victims[threads] = {};
     for (unsigned k = 0; k < threads; ++k) running.emplace_back([&, k] { work(office[k], k, victims[k]); });
@@ -108,5 +141,5 @@ int main() {
     again = std::accumulate(victims, victims + threads, 0u);
     std::printf("%u transfers, %u of them tried again after a deadlock; %llu calls in the history\n", threads * moves, again,
                 static_cast<unsigned long long>(book->length()));
-    return sum == 2 * static_cast<long>(accounts) * balance ? 0 : 1;
+    return did_without && sum == 2 * static_cast<long>(accounts) * balance ? 0 : 1;
 }

@@ -1,5 +1,6 @@
 //! The engine of `engine.c` in Rust, by `extern "C"`: two tables of accounts, and four threads that move money between them. Whoever
-//! ends a wait wakes the thread that waits.
+//! ends a wait wakes the thread that waits. A move that has waited for a minute is undone and made again. Before the threads start, a
+//! record that is held is asked for without waiting, and with a short limit.
 //! The types enforce the header's rules for handles: a handle is used only by `&mut`, is never moved, and its array outlives the
 //! threads.
 //!
@@ -10,6 +11,7 @@ use std::ptr::null_mut;
 use std::sync::{Barrier, Condvar, Mutex};
 use std::sync::atomic::{AtomicI64, Ordering::Relaxed};
 use std::thread;
+use std::time::Duration;
 
 const OK: u32 = 0;
 const NOT_SERVED: u32 = 11;
@@ -20,12 +22,17 @@ const LOCK: u32 = 2;
 const POLL: u32 = 4;
 const COMMIT: u32 = 6;
 const ABORT: u32 = 7;
+const TRY: u32 = 8;
+const WITHDRAW: u32 = 9;
 const GRANTED: u32 = 2;
 const WAITING: u32 = 3;
 const DEADLOCK: u32 = 4;
 const CLEAR: u32 = 5;
 const COMMITTED: u32 = 7;
 const ABORTED: u32 = 8;
+const REFUSED: u32 = 9;
+const WITHDRAWN: u32 = 10;
+const WOULD_WAIT: u64 = 11;
 
 #[repr(C)]
 #[derive(Clone, Copy, Default)]
@@ -97,8 +104,12 @@ const THREADS: usize = 4;
 const MOVES: u32 = 500;
 const BALANCE: i64 = 100;
 
-/// The last record of each table, which only the two moves that make a deadlock use.
+/// The last record of each table, which only the two moves that make a deadlock use, and `do_without`.
 const MEETING: usize = 4;
+
+/// How long a move waits for a lock.
+const LONG: Duration = Duration::from_secs(60);
+const SHORT: Duration = Duration::from_millis(20);
 
 /// Where a session's thread sleeps while it waits for a lock: how often it was woken and hasn't slept since.
 #[derive(Default)]
@@ -119,6 +130,16 @@ impl Bed {
             woken = self.changed.wait(woken).unwrap();
         }
         *woken -= 1;
+    }
+
+    /// Sleeps at most for the limit. Returns false if it wasn't woken.
+    fn sleep_within(&self, limit: Duration) -> bool {
+        let woken = self.woken.lock().unwrap();
+        let (mut woken, slept) = self.changed.wait_timeout_while(woken, limit, |woken| *woken == 0).unwrap();
+        if !slept.timed_out() {
+            *woken -= 1;
+        }
+        !slept.timed_out()
     }
 }
 
@@ -165,40 +186,85 @@ impl Worker<'_> {
         self.ask(Call { op, ..Call::default() })
     }
 
-    /// Locks a resource, and sleeps while the request waits. Returns false if the transaction became a victim.
-    fn lock(&mut self, mode: u32, numbers: &[u32]) -> bool {
+    /// Makes a call with a resource and a mode.
+    fn request(&mut self, op: u32, mode: u32, numbers: &[u32]) -> Reply {
         let mut resource = Resource {
             level: numbers.len() as u32,
             numbers: [0; 5],
         };
         resource.numbers[..numbers.len()].copy_from_slice(numbers);
-        let mut reply = self.ask(Call { op: LOCK, mode, resource });
-        while reply.kind == WAITING {
+        self.ask(Call { op, mode, resource })
+    }
+
+    /// Sleeps until a pass has ended the wait of the session, and asks how it has ended. After the limit it takes the request
+    /// back.
+    fn end_wait(&mut self, limit: Duration) -> Reply {
+        if !self.beds[self.number as usize].sleep_within(limit) {
+            let reply = self.plain(WITHDRAW);
+            if reply.kind == WITHDRAWN {
+                return reply;
+            }
+            // refused: a pass has ended the wait meanwhile, and its thread wakes this one
             self.beds[self.number as usize].sleep();
-            reply = self.plain(POLL);
         }
-        assert!([GRANTED, CLEAR, DEADLOCK].contains(&reply.kind));
-        reply.kind != DEADLOCK
+        self.plain(POLL)
+    }
+
+    /// Locks a resource, and sleeps while the request waits. Returns false if the transaction became a victim, or if the request
+    /// wasn't granted within the limit.
+    fn lock(&mut self, mode: u32, numbers: &[u32], limit: Duration) -> bool {
+        let mut reply = self.request(LOCK, mode, numbers);
+        while reply.kind == WAITING {
+            reply = self.end_wait(limit);
+        }
+        assert!([GRANTED, CLEAR, DEADLOCK, WITHDRAWN].contains(&reply.kind));
+        self.victims += u32::from(reply.kind == DEADLOCK);
+        [GRANTED, CLEAR].contains(&reply.kind)
     }
 
     /// Locks a record exclusively, under intention locks on the database and the table.
-    fn lock_record(&mut self, table: usize, record: usize) -> bool {
-        self.lock(IX, &[1])
-            && self.lock(IX, &[1, table as u32])
-            && self.lock(X, &[1, table as u32, record as u32])
+    fn lock_record(&mut self, table: usize, record: usize, limit: Duration) -> bool {
+        self.lock(IX, &[1], limit)
+            && self.lock(IX, &[1, table as u32], limit)
+            && self.lock(X, &[1, table as u32, record as u32], limit)
+    }
+
+    /// Locks a resource if that is possible without waiting.
+    fn try_lock(&mut self, mode: u32, numbers: &[u32]) -> bool {
+        let reply = self.request(TRY, mode, numbers);
+        assert!(reply.kind == GRANTED || (reply.kind == REFUSED && reply.value == WOULD_WAIT));
+        reply.kind == GRANTED
+    }
+
+    /// Locks a record as `lock_record` does, but never waits.
+    fn try_record(&mut self, table: usize, record: usize) -> bool {
+        self.try_lock(IX, &[1])
+            && self.try_lock(IX, &[1, table as u32])
+            && self.try_lock(X, &[1, table as u32, record as u32])
+    }
+
+    /// While this worker holds a record, another asks for it without waiting, and then with a short limit. Its transaction goes on
+    /// without the record.
+    fn do_without(&mut self, other: &mut Worker) {
+        self.plain(BEGIN);
+        other.plain(BEGIN);
+        assert!(self.try_record(0, MEETING));
+        assert!(!other.try_record(0, MEETING) && !other.lock_record(0, MEETING, SHORT));
+        assert_eq!(other.plain(COMMIT).kind, COMMITTED);
+        assert_eq!(self.plain(COMMIT).kind, COMMITTED);
     }
 
     /// Moves 1 from a record of one table to a record of the other. Returns false if the move was undone.
     fn make_move(&mut self, from: usize, record: usize, other: usize, meet: bool) -> bool {
         self.plain(BEGIN);
-        let taken = self.lock_record(from, record);
+        let taken = self.lock_record(from, record, LONG);
         if taken {
             self.accounts[from][record].fetch_sub(1, Relaxed);
         }
         if meet {
             self.both_hold_one.wait();
         }
-        if taken && self.lock_record(1 - from, other) {
+        if taken && self.lock_record(1 - from, other, LONG) {
             self.accounts[1 - from][other].fetch_add(1, Relaxed);
             assert_eq!(self.plain(COMMIT).kind, COMMITTED);
             return true;
@@ -223,7 +289,6 @@ impl Worker<'_> {
                 false => ((random >> 16 & 3) as usize, (random >> 20 & 3) as usize),
             };
             while !self.make_move(from, record, other, meet) {
-                self.victims += 1;
                 meet = false;
             }
             from = 1 - from;
@@ -238,26 +303,25 @@ fn main() {
     let mut sessions = [EMPTY; THREADS];
     let at = sessions.as_mut_ptr();
     assert_eq!(unsafe { pelgaisti_raw_office_open(at, THREADS, at as u64, u64::MAX) }, OK);
-    let victims: u32 = thread::scope(|scope| {
-        let workers: Vec<_> = (0..)
-            .zip(&mut sessions)
-            .map(|(number, session)| {
-                let mut worker = Worker {
-                    session,
-                    accounts: &accounts,
-                    both_hold_one: &both_hold_one,
-                    beds: &beds,
-                    number,
-                    victims: 0,
-                };
-                scope.spawn(move || {
-                    worker.work();
-                    worker.victims
-                })
-            })
-            .collect();
-        workers.into_iter().map(|worker| worker.join().unwrap()).sum()
+    let mut workers: Vec<_> = (0..)
+        .zip(&mut sessions)
+        .map(|(number, session)| Worker {
+            session,
+            accounts: &accounts,
+            both_hold_one: &both_hold_one,
+            beds: &beds,
+            number,
+            victims: 0,
+        })
+        .collect();
+    let (holder, others) = workers.split_first_mut().unwrap();
+    holder.do_without(&mut others[0]);
+    thread::scope(|scope| {
+        for worker in &mut workers {
+            scope.spawn(|| worker.work());
+        }
     });
+    let victims: u32 = workers.iter().map(|worker| worker.victims).sum();
     let mut book = EMPTY;
     let (first, others) = sessions.split_first_mut().unwrap();
     for session in others {

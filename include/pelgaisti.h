@@ -130,7 +130,7 @@ typedef enum pelgaisti_mode {
     PELGAISTI_U = 13  /* read, and announce a conversion to X: granted beside IS and S, which are not granted beside U */
 } pelgaisti_mode;
 
-/* The kinds of calls. LOCK and CONVERT use the call's resource and mode, RELEASE its resource. Other fields are not read. */
+/* The kinds of calls. LOCK, CONVERT and TRY use the call's resource and mode, RELEASE its resource. Other fields are not read. */
 typedef enum pelgaisti_op {
     PELGAISTI_BEGIN = 1,   /* begins a transaction */
     PELGAISTI_LOCK = 2,    /* locks a resource in a mode, or raises the mode held there to the least upper bound of both */
@@ -138,14 +138,17 @@ typedef enum pelgaisti_op {
     PELGAISTI_POLL = 4,    /* asks for the session's state: clear, waiting, or chosen as a deadlock's victim */
     PELGAISTI_RELEASE = 5, /* releases one lock */
     PELGAISTI_COMMIT = 6,  /* ends the transaction and releases all its locks */
-    PELGAISTI_ABORT = 7    /* like COMMIT, also for a transaction that waits or is a victim */
+    PELGAISTI_ABORT = 7,   /* like COMMIT, also for a transaction that waits or is a victim */
+    PELGAISTI_TRY = 8,     /* like LOCK, but never waits: where LOCK would wait, it is refused with WOULD_WAIT and changes nothing */
+    PELGAISTI_WITHDRAW = 9 /* takes the session's waiting request back: the transaction goes on, with the locks that it holds */
 } pelgaisti_op;
 
 /* The kinds of replies, with the meaning of the reply's value. */
 typedef enum pelgaisti_kind {
     PELGAISTI_BEGAN = 1,     /* the transaction's number; the first is 1 */
     PELGAISTI_GRANTED = 2,   /* the pelgaisti_mode that the session holds now */
-    PELGAISTI_WAITING = 3,   /* 0: poll until the reply is CLEAR, which means granted, or DEADLOCK */
+    PELGAISTI_WAITING = 3,   /* 0: poll until the reply is CLEAR, which means granted, or DEADLOCK; or take the request back by
+                                WITHDRAW */
     PELGAISTI_DEADLOCK = 4,  /* 0: the transaction was chosen as a victim. It keeps its locks: undo, then abort */
     PELGAISTI_CLEAR = 5,     /* 0: the session waits for nothing. What was granted after a wait: a lock in the mode that was asked
                                 for; after a conversion the or of the code held before and the one asked for. Whoever doesn't know
@@ -154,10 +157,12 @@ typedef enum pelgaisti_kind {
     PELGAISTI_RELEASED = 6,  /* 0 */
     PELGAISTI_COMMITTED = 7, /* the number of locks that were released */
     PELGAISTI_ABORTED = 8,   /* the number of locks that were released */
-    PELGAISTI_REFUSED = 9    /* a pelgaisti_why */
+    PELGAISTI_REFUSED = 9,   /* a pelgaisti_why */
+    PELGAISTI_WITHDRAWN = 10 /* 0: the request was not granted and waits no more */
 } pelgaisti_kind;
 
-/* The reason for a refusal: the first test that failed. A refused call is entered into the history and has no other effect. */
+/* The reason for a refusal: the first test that failed. A refused call is entered into the history and has no other effect. Number 10
+   is retired. */
 typedef enum pelgaisti_why {
     PELGAISTI_ALREADY_OPEN = 1,    /* the session already has a transaction */
     PELGAISTI_NO_TRANSACTION = 2,  /* the session has no transaction */
@@ -167,7 +172,9 @@ typedef enum pelgaisti_why {
     PELGAISTI_NOT_HELD = 6,        /* the session does not hold the resource */
     PELGAISTI_PARENT_NOT_HELD = 7, /* the session does not hold the parent in a mode that the lock needs there */
     PELGAISTI_CHILD_HELD = 8,      /* the session holds a resource below: locks are released from leaf to root */
-    PELGAISTI_TOO_MANY_LOCKS = 9   /* the transaction holds PELGAISTI_MAX_LOCKS locks */
+    PELGAISTI_TOO_MANY_LOCKS = 9,  /* the transaction holds PELGAISTI_MAX_LOCKS locks */
+    PELGAISTI_WOULD_WAIT = 11,     /* the lock that TRY asks for can't be granted at once */
+    PELGAISTI_NOT_WAITING = 12     /* the session has no waiting request to withdraw: one that it had was granted */
 } pelgaisti_why;
 
 /* Where a published call is. A publication record on the publication list is visited by the passes that walk the list. */
@@ -332,21 +339,23 @@ static inline const char *pelgaisti_mode_name(uint64_t mode) {
 }
 
 static inline const char *pelgaisti_op_name(uint64_t op) {
-    static const char *const names[] = {"unknown", "begin", "lock", "convert", "poll", "release", "commit", "abort"};
+    static const char *const names[] = {"unknown", "begin", "lock", "convert", "poll", "release", "commit", "abort", "try",
+                                        "withdraw"};
     return names[op < sizeof names / sizeof *names ? op : 0];
 }
 
 /* The name of a reply's kind. */
 static inline const char *pelgaisti_reply_name(uint64_t kind) {
     static const char *const names[] = {"unknown", "began", "granted", "waiting", "deadlock", "clear", "released", "committed",
-                                        "aborted", "refused"};
+                                        "aborted", "refused", "withdrawn"};
     return names[kind < sizeof names / sizeof *names ? kind : 0];
 }
 
 /* The name of the value of a REFUSED reply. */
 static inline const char *pelgaisti_refusal_name(uint64_t why) {
     static const char *const names[] = {"unknown", "AlreadyOpen", "NoTransaction", "IsWaiting", "IsDoomed", "NothingAsked",
-                                        "NotHeld", "ParentNotHeld", "ChildHeld", "TooManyLocks"};
+                                        "NotHeld", "ParentNotHeld", "ChildHeld", "TooManyLocks", "unknown", "WouldWait",
+                                        "NotWaiting"};
     return names[why < sizeof names / sizeof *names ? why : 0];
 }
 
@@ -628,7 +637,8 @@ static inline uint32_t pelgaisti_parent_mode(uint32_t mode) {
 }
 
 /* The next call on the way down a path of which `level` levels are locked: locks the next level in the mode that the parent of the
-   resource needs, or the resource itself in `mode`. `level` is less than `resource->level`. */
+   resource needs, or the resource itself in `mode`. `level` is less than `resource->level`. With PELGAISTI_TRY for its op the call
+   locks the level without waiting. */
 static inline pelgaisti_call pelgaisti_path_call(const pelgaisti_resource *resource, uint32_t mode, uint32_t level) {
     pelgaisti_call call;
     call.op = PELGAISTI_LOCK;
@@ -721,11 +731,17 @@ static inline pelgaisti_status pelgaisti_session_serve(pelgaisti_session *sessio
    The poll tells CLEAR or DEADLOCK. A session that polls unasked or aborts while it waits may find its semaphore posted once too
    often: then a poll after a sleep tells WAITING, and it sleeps again.
 
-   Why no wake-up is lost. (1) A wait ends by one entry of the history, which is another session's, and the pass that served this
-   entry tells of the session, also if the wait began in the same pass and its answer isn't collected yet [proved]. (2) Every
-   entry was served by one pass, and the thread that made the pass posts the semaphore [that is the caller's code]. (3) A
-   semaphore counts, so that a post before the thread sleeps wakes it as well [that is the system's]. (4) The next poll of a session
-   that was told of replies CLEAR or DEADLOCK, whatever others call before it [proved]. */
+   A thread that waits only for some time sleeps by sem_timedwait. When the time is over it makes the call WITHDRAW. The reply
+   WITHDRAWN means that no pass has ended the wait: the semaphore isn't posted for it, and the transaction goes on, or aborts. If the
+   call is refused with NOT_WAITING or IS_DOOMED, a pass has ended the wait meanwhile, and the semaphore is posted or will be: the
+   thread sleeps on it by sem_wait and polls, as if there were no limit. examples/engine.c does so.
+
+   Why no wake-up is lost. (1) A wait that the session itself doesn't end, by an abort or a withdrawal, ends by one entry of the
+   history, which is another session's, and the pass that served this entry tells of the session, also if the wait began in the same
+   pass and its answer isn't collected yet [proved]. (2) Every entry was served by one pass, and the thread that made the pass posts
+   the semaphore [that is the caller's code]. (3) A semaphore counts, so that a post before the thread sleeps wakes it as well [that
+   is the system's]. (4) The next poll of a session that was told of replies CLEAR or DEADLOCK, whatever others call before it
+   [proved]. */
 static inline pelgaisti_status pelgaisti_session_serve_telling(pelgaisti_session *session, pelgaisti_pass *pass, uint32_t *list,
                                                                size_t room, size_t *count) {
     pelgaisti_pass unread;
@@ -735,8 +751,8 @@ static inline pelgaisti_status pelgaisti_session_serve_telling(pelgaisti_session
 
 /* Tries once to take the lock table, without blocking, and if that succeeds, performs the session's call at once, in a pass that
    serves the calls on the publication list too. The call is not published, and there is nothing to collect: the answer is written
-   here. A release, a commit or an abort is performed ahead of the published calls, any other call behind them. `served` of the
-   pass counts the published calls. ELSEWHERE: nothing has changed, and the call may be published. NO_MEMORY: memory was refused
+   here. A release, a commit, an abort or a withdrawal is performed ahead of the published calls, any other call behind them. `served`
+   of the pass counts the published calls. ELSEWHERE: nothing has changed, and the call may be published. NO_MEMORY: memory was refused
    for the call, which is not in the history; it may be made again, or published. A pass was made, and other calls may have been
    served in it. Whose wait it has ended is told to nobody. `pass` may be NULL.
    NULL, CLOSED, NO_SUCH_OP, NO_SUCH_LEVEL, NO_SUCH_MODE, RETIRED, PENDING, NO_MEMORY or ELSEWHERE. */

@@ -26,10 +26,10 @@ using std::size_t, std::uint32_t, std::uint64_t;
 using entry = pelgaisti_entry;
 using waker = pelgaisti_waker;
 enum class mode : uint32_t { NL = 0, IS = 1, IX = 3, S = 5, SIX = 7, X = 15, U = 13 };
-enum class op : uint32_t { begin = 1, lock, convert, poll, release, commit, abort };
-enum class kind : uint32_t { began = 1, granted, waiting, deadlock, clear, released, committed, aborted, refused };
+enum class op : uint32_t { begin = 1, lock, convert, poll, release, commit, abort, try_lock, withdraw };
+enum class kind : uint32_t { began = 1, granted, waiting, deadlock, clear, released, committed, aborted, refused, withdrawn };
 enum class refusal : uint64_t { already_open = 1, no_transaction, is_waiting, is_doomed, nothing_asked, not_held, parent_not_held,
-                                child_held, too_many_locks };
+                                child_held, too_many_locks, would_wait = 11, not_waiting };
 inline const char *name(mode it) { return pelgaisti_mode_name(static_cast<uint64_t>(it)); }
 inline const char *name(op it) { return pelgaisti_op_name(static_cast<uint64_t>(it)); }
 inline const char *name(kind it) { return pelgaisti_reply_name(static_cast<uint64_t>(it)); }

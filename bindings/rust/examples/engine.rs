@@ -1,13 +1,15 @@
 //! A small engine: four threads move money between the accounts of two tables, under intention locks on the tables and exclusive
 //! locks on the accounts. A thread whose request waits sleeps until whoever ends its wait wakes it. Whoever becomes a deadlock's
-//! victim aborts and tries again.
+//! victim, or has waited for a minute, aborts and tries again. Before the threads start, a table that is held is asked for
+//! without waiting, and with a short limit.
 //!
 //!     cargo run --release --example engine
 
-use pelgaisti::{Call, Mode, Office, Reply, Resource, Session};
+use pelgaisti::{Call, Mode, Office, Refusal, Reply, Resource, Session};
 use std::sync::atomic::{AtomicI64, Ordering};
 use std::sync::{Arc, Condvar, Mutex};
 use std::thread;
+use std::time::Duration;
 
 const ACCOUNTS: u32 = 8;
 const MOVES: u32 = 500;
@@ -43,13 +45,38 @@ fn sleep(beds: &Beds, session: usize) {
     *woken -= 1;
 }
 
+/// Sleeps as `sleep` does, at most for the limit. Whether the thread was woken.
+fn sleep_within(beds: &Beds, session: usize, limit: Duration) -> bool {
+    let woken = beds[session].woken.lock().expect("no thread panics");
+    let (mut woken, slept) =
+        beds[session].changed.wait_timeout_while(woken, limit, |woken| *woken == 0).expect("no thread panics");
+    if !slept.timed_out() {
+        *woken -= 1;
+    }
+    !slept.timed_out()
+}
+
 /// Performs a call: without a bound on its turns there is an answer, unless memory is refused.
 fn ask(session: &mut Session, beds: &Beds, call: &Call) -> Reply {
     session.perform_waking(call, u64::MAX, |other| wake(beds, other)).expect("memory for a call").reply
 }
 
-/// Locks a path down to the resource. While a request on it waits, sleeps, and then goes on. Whether it was granted.
-fn lock(session: &mut Session, beds: &Beds, mode: Mode, numbers: &[u32]) -> bool {
+/// Sleeps until the wait of the session's request has ended, and asks how it has ended. After the limit it takes the request
+/// back.
+fn end_wait(session: &mut Session, beds: &Beds, limit: Duration) -> Reply {
+    if !sleep_within(beds, session.number(), limit) {
+        if ask(session, beds, &Call::Withdraw) == Reply::Withdrawn {
+            return Reply::Withdrawn;
+        }
+        // refused: the wait has ended meanwhile, and whoever ended it wakes this thread
+        sleep(beds, session.number());
+    }
+    ask(session, beds, &Call::Poll)
+}
+
+/// Locks a path down to the resource. While a request on it waits, sleeps, and then goes on. Whether it was granted, each request
+/// within the limit.
+fn lock(session: &mut Session, beds: &Beds, mode: Mode, numbers: &[u32], limit: Duration) -> bool {
     let resource = Resource::new(numbers).expect("1 to 5 numbers");
     let mut level = 0;
     while let Some(answer) = session
@@ -58,11 +85,10 @@ fn lock(session: &mut Session, beds: &Beds, mode: Mode, numbers: &[u32]) -> bool
     {
         let mut reply = answer.reply;
         while reply == Reply::Waiting {
-            sleep(beds, session.number());
-            reply = ask(session, beds, &Call::Poll);
+            reply = end_wait(session, beds, limit);
         }
         match reply {
-            Reply::Deadlock => return false,
+            Reply::Deadlock | Reply::Withdrawn => return false,
             Reply::Refused(why) => panic!("a lock was refused: {why}"),
             _ => (),
         }
@@ -70,11 +96,27 @@ fn lock(session: &mut Session, beds: &Beds, mode: Mode, numbers: &[u32]) -> bool
     true
 }
 
+/// While one session holds a table, another asks for it without waiting, and then with a short limit. Its transaction goes on
+/// without the table.
+fn do_without(sessions: &mut [Session], beds: &Beds) {
+    let table = Call::Try(Resource::new(&[0]).expect("one number"), Mode::X);
+    let [holder, other, ..] = sessions else {
+        panic!("two sessions")
+    };
+    ask(holder, beds, &Call::Begin);
+    ask(other, beds, &Call::Begin);
+    assert_eq!(ask(holder, beds, &table), Reply::Granted(Mode::X));
+    assert_eq!(ask(other, beds, &table), Reply::Refused(Refusal::WouldWait));
+    assert!(!lock(other, beds, Mode::S, &[0], Duration::from_millis(20)));
+    assert_eq!(ask(other, beds, &Call::Commit), Reply::Committed(0));
+    assert_eq!(ask(holder, beds, &Call::Commit), Reply::Committed(1));
+}
+
 /// One transfer. Whether it was committed.
 fn transfer(session: &mut Session, beds: &Beds, accounts: &Tables, from: (u32, u32), to: (u32, u32)) -> bool {
     ask(session, beds, &Call::Begin);
     for (table, account) in [from, to] {
-        if !lock(session, beds, Mode::X, &[table, account]) {
+        if !lock(session, beds, Mode::X, &[table, account], Duration::from_secs(60)) {
             ask(session, beds, &Call::Abort);
             return false;
         }
@@ -91,8 +133,9 @@ fn transfer(session: &mut Session, beds: &Beds, accounts: &Tables, from: (u32, u
 fn main() {
     let accounts: Arc<Tables> = Arc::new(std::array::from_fn(|_| std::array::from_fn(|_| AtomicI64::new(BALANCE))));
     let beds: Arc<Beds> = Arc::default();
-    let threads: Vec<_> = Office::open(THREADS)
-        .expect("an office of four sessions")
+    let mut sessions = Office::open(THREADS).expect("an office of four sessions");
+    do_without(&mut sessions, &beds);
+    let threads: Vec<_> = sessions
         .into_iter()
         .map(|mut session| {
             let (accounts, beds) = (accounts.clone(), beds.clone());

@@ -157,6 +157,10 @@ pub enum Call {
     Commit,
     /// Like `Commit`, also for a transaction that waits or is a victim.
     Abort,
+    /// Like `Lock`, but never waits: where `Lock` would wait, it is refused with [`Refusal::WouldWait`] and changes nothing.
+    Try(Resource, Mode),
+    /// Takes the session's waiting request back: the transaction goes on, with the locks that it holds.
+    Withdraw,
 }
 
 impl Call {
@@ -175,6 +179,8 @@ impl Call {
             Call::Release(resource) => of(5, resource, Mode::NL),
             Call::Commit => plain(6),
             Call::Abort => plain(7),
+            Call::Try(resource, mode) => of(8, resource, *mode),
+            Call::Withdraw => plain(9),
         }
     }
 
@@ -188,6 +194,8 @@ impl Call {
             (5, Some(resource)) => Call::Release(resource),
             (6, _) => Call::Commit,
             (7, _) => Call::Abort,
+            (8, Some(resource)) => Call::Try(resource, mode),
+            (9, _) => Call::Withdraw,
             _ => Call::Poll,
         }
     }
@@ -200,7 +208,8 @@ pub enum Reply {
     Began(u64),
     /// The mode that the session holds now.
     Granted(Mode),
-    /// The request waits. Poll until the reply is `Clear`, which means granted, or `Deadlock`.
+    /// The request waits. Poll until the reply is `Clear`, which means granted, or `Deadlock`; or take it back by
+    /// [`Call::Withdraw`].
     Waiting,
     /// The transaction was chosen as a victim. It keeps its locks: undo, then abort.
     Deadlock,
@@ -215,6 +224,8 @@ pub enum Reply {
     Aborted(u64),
     /// The call changed nothing, for this reason.
     Refused(Refusal),
+    /// The request was not granted and waits no more.
+    Withdrawn,
 }
 
 impl Reply {
@@ -228,6 +239,7 @@ impl Reply {
             6 => Reply::Released,
             7 => Reply::Committed(raw.value),
             8 => Reply::Aborted(raw.value),
+            10 => Reply::Withdrawn,
             _ => Reply::Refused(Refusal::of(raw.value)),
         }
     }
@@ -254,6 +266,10 @@ pub enum Refusal {
     ChildHeld,
     /// The transaction holds 4096 locks.
     TooManyLocks,
+    /// The lock that a try asks for can't be granted at once.
+    WouldWait,
+    /// The session has no waiting request to withdraw: one that it had was granted.
+    NotWaiting,
 }
 
 impl Refusal {
@@ -267,6 +283,8 @@ impl Refusal {
             6 => Refusal::NotHeld,
             7 => Refusal::ParentNotHeld,
             8 => Refusal::ChildHeld,
+            11 => Refusal::WouldWait,
+            12 => Refusal::NotWaiting,
             _ => Refusal::TooManyLocks,
         }
     }

@@ -226,6 +226,10 @@ impl Session {
     /// [`Reply::Waiting`] sleeps in place of polling, until a pass of another thread wakes it. It polls then. All threads of the
     /// office serve so.
     ///
+    /// A thread that waits only for some time makes the call [`Call::Withdraw`] when the time is over. [`Reply::Withdrawn`] means that
+    /// no pass has ended the wait, and nobody wakes it for it. If the call is refused, a pass has ended the wait meanwhile and wakes
+    /// the thread: it sleeps until then, and polls.
+    ///
     ///     # use pelgaisti::{Call, Mode, Office, Resource};
     ///     let mut sessions = Office::open(2)?;
     ///     for session in &mut sessions {

@@ -1,6 +1,7 @@
-//! The traces of `examples/` through the crate: their histories are those that are stored there, which `glm replay` writes.
+//! The traces of `examples/` through the crate: their histories are those that are stored there, which `glm replay` writes. Beside
+//! them tries and withdrawals, and threads that share an office.
 
-use pelgaisti::{Book, Call, Entry, Mode, Office, Reply, Resource};
+use pelgaisti::{Book, Call, Entry, Mode, Office, Refusal, Reply, Resource};
 use std::fs;
 use std::path::PathBuf;
 use std::thread;
@@ -24,6 +25,8 @@ fn calls(trace: &str) -> Vec<(u32, Call)> {
             "release" => Call::Release(resource(fields[2])),
             "commit" => Call::Commit,
             "abort" => Call::Abort,
+            "try" => Call::Try(resource(fields[2]), mode(fields[3])),
+            "withdraw" => Call::Withdraw,
             other => panic!("{other}"),
         };
         (fields[0].parse().unwrap(), call)
@@ -43,6 +46,8 @@ fn text(entries: &[Entry]) -> String {
             Call::Release(resource) => ("release", resource.to_string(), ""),
             Call::Commit => ("commit", String::new(), ""),
             Call::Abort => ("abort", String::new(), ""),
+            Call::Try(resource, mode) => ("try", resource.to_string(), mode.name()),
+            Call::Withdraw => ("withdraw", String::new(), ""),
         };
         let (reply, value) = match entry.reply {
             Reply::Began(number) => ("began", number.to_string()),
@@ -54,6 +59,7 @@ fn text(entries: &[Entry]) -> String {
             Reply::Committed(locks) => ("committed", locks.to_string()),
             Reply::Aborted(locks) => ("aborted", locks.to_string()),
             Reply::Refused(why) => ("refused", why.to_string()),
+            Reply::Withdrawn => ("withdrawn", String::new()),
         };
         lines += &format!("{place},{},{op},{resource},{mode},{reply},{value}\n", entry.session);
     }
@@ -100,6 +106,41 @@ fn offices_write_the_stored_histories() {
         let book = Office::close(sessions).ok().unwrap();
         assert_eq!(text(&book.history(0, usize::MAX).unwrap()), history);
     }
+}
+
+/// A try doesn't wait, and a withdrawal of the first request of a queue grants the one behind it. Both are in the history.
+#[test]
+fn tries_and_withdrawals() {
+    let database = Resource::new(&[7]).unwrap();
+    let (read, write) = (Call::Lock(database, Mode::S), Call::Lock(database, Mode::X));
+    let refused = |why| Reply::Refused(why);
+    let expected = [
+        (1, Call::Try(database, Mode::S), refused(Refusal::NoTransaction)),
+        (1, Call::Withdraw, refused(Refusal::NoTransaction)),
+        (1, Call::Begin, Reply::Began(1)),
+        (2, Call::Begin, Reply::Began(2)),
+        (3, Call::Begin, Reply::Began(3)),
+        (1, Call::Try(database, Mode::S), Reply::Granted(Mode::S)),
+        (2, Call::Try(database, Mode::X), refused(Refusal::WouldWait)),
+        (2, Call::Withdraw, refused(Refusal::NotWaiting)),
+        (2, write, Reply::Waiting),
+        (3, read, Reply::Waiting),
+        (2, Call::Withdraw, Reply::Withdrawn),
+        (3, Call::Poll, Reply::Clear),
+        // 3 waits for 1, and then 1 for 3, which is the younger
+        (3, write, Reply::Waiting),
+        (1, write, Reply::Waiting),
+        (3, Call::Withdraw, refused(Refusal::IsDoomed)),
+        (3, Call::Abort, Reply::Aborted(1)),
+        (1, Call::Poll, Reply::Clear),
+    ];
+    let mut book = Book::open(3).unwrap();
+    for (session, call, reply) in expected {
+        assert_eq!(book.serve(session, &call).unwrap(), reply);
+        assert_eq!(book.ended().contains(&3), reply == Reply::Withdrawn || (session, call) == (1, write));
+    }
+    let calls: Vec<_> = book.history(0, 99).unwrap().iter().map(|it| (it.session, it.call, it.reply)).collect();
+    assert_eq!(calls, expected);
 }
 
 /// Eight threads lock one database exclusively in turn: each transaction is granted alone, and all calls are in the history.

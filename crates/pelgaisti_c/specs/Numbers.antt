@@ -9,7 +9,7 @@ use Rattle.lock_rules.specs.declared.calls.Reply.{Reply}
 use Rattle.lock_rules.specs.declared.calls.Reply.TheVariants as reply
 use Rattle.lock_rules.specs.declared.calls.Entry.{Entry}
 use Rattle.lock_rules.specs.declared.kinds.Op.{Op}
-use Rattle.lock_rules.specs.declared.kinds.Op.TheVariants.{Begin, Lock, Convert, Poll, Release, Commit, Abort}
+use Rattle.lock_rules.specs.declared.kinds.Op.TheVariants.{Begin, Lock, Convert, Poll, Release, Commit, Abort, Try, Withdraw}
 use Rattle.lock_rules.specs.Kinds.{op_of_call, ops_with_resource, ops_with_mode, number_of_op, kind_of_reply, number_of_kind, number_of_why}
 use Rattle.pelgaisti_c.specs.declared.numbers.ResourceNumbers.{ResourceNumbers}
 use Rattle.pelgaisti_c.specs.declared.numbers.CallNumbers.{CallNumbers}
@@ -49,6 +49,8 @@ IsCall c call.Poll = c.op ≡ number_of_op Poll
 IsCall c (call.Release r) = (c.op ≡ number_of_op Release) × IsPath c.resource r
 IsCall c call.Commit = c.op ≡ number_of_op Commit
 IsCall c call.Abort = c.op ≡ number_of_op Abort
+IsCall c (call.Try r mode) = (c.op ≡ number_of_op Try) × IsPath c.resource r × (c.mode ≡ code_of mode)
+IsCall c call.Withdraw = c.op ≡ number_of_op Withdraw
 
 -- the status for numbers that encode no call: that of the first test that fails
 pub record IsCallFault (c : CallNumbers) (fault : ℕ) : Type 0 where
@@ -68,6 +70,7 @@ value_of reply.Released = 0
 value_of (reply.Committed n) = n
 value_of (reply.Aborted n) = n
 value_of (reply.Refused w) = number_of_why w
+value_of reply.Withdrawn = 0
 
 -- the numbers of a resource: its level, and its path padded with 0
 abbrev pub place_of : List ℕ → ResourceNumbers
@@ -86,6 +89,8 @@ mode_of_call call.Poll = 0
 mode_of_call (call.Release r) = 0
 mode_of_call call.Commit = 0
 mode_of_call call.Abort = 0
+mode_of_call (call.Try r mode) = code_of mode
+mode_of_call call.Withdraw = 0
 
 -- the resource that a call names, or none
 abbrev pub place_of_call : Call → ResourceNumbers
@@ -96,6 +101,8 @@ place_of_call call.Poll = nowhere
 place_of_call (call.Release r) = place_of r
 place_of_call call.Commit = nowhere
 place_of_call call.Abort = nowhere
+place_of_call (call.Try r mode) = place_of r
+place_of_call call.Withdraw = nowhere
 
 -- the numbers of a call; a call without a mode has mode 0
 abbrev pub numbers_of_call : Call → CallNumbers

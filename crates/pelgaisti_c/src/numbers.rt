@@ -93,7 +93,7 @@ fn read_mode(code: u32) -> Option<Mode>
     Mode::from_code(code as u8)
 }
 
-/// The resource and the mode of a lock or conversion. On failure returns the status of the first test that fails.
+/// The resource and the mode of a lock, a conversion or a try. On failure returns the status of the first test that fails.
 fn read_wanted(asked: &CallNumbers) -> Result<(Resource, Mode), u32>
     ensures ok { IfOk result (λ wanted. IsPath asked.now.resource wanted.0 × (asked.now.mode ≡ code_of wanted.1)) }
     ensures level { IfErr result (λ fault. fault ≡ NO_SUCH_LEVEL → ¬ (IsLevel asked.now.resource.level)) }
@@ -143,6 +143,11 @@ pub(crate) fn read_call(asked: &CallNumbers) -> Result<Call, u32>
         },
         Op::Commit => Ok(Call::Commit),
         Op::Abort => Ok(Call::Abort),
+        Op::Try => {
+            let (resource, mode) = read_wanted(asked)?;
+            Ok(Call::Try(resource, mode))
+        }
+        Op::Withdraw => Ok(Call::Withdraw),
     }
 }
 
@@ -165,11 +170,11 @@ pub(crate) fn call_numbers(call: &Call) -> CallNumbers
 {
     let op = call.op().number();
     let (mode, resource) = match *call {
-        Call::Lock(resource, mode) | Call::Convert(resource, mode) => {
+        Call::Lock(resource, mode) | Call::Convert(resource, mode) | Call::Try(resource, mode) => {
             (u32::from(mode.code()), place_of(&resource))
         }
         Call::Release(resource) => (0, place_of(&resource)),
-        Call::Begin | Call::Poll | Call::Commit | Call::Abort => (0, NOWHERE),
+        Call::Begin | Call::Poll | Call::Commit | Call::Abort | Call::Withdraw => (0, NOWHERE),
     };
     CallNumbers { op, mode, resource }
 }
@@ -184,7 +189,7 @@ fn value_of(reply: &Reply) -> u64
         Reply::Committed(count) => u64::from(count),
         Reply::Aborted(count) => u64::from(count),
         Reply::Refused(why) => u64::from(why.number()),
-        Reply::Waiting | Reply::Deadlock | Reply::Clear | Reply::Released => 0,
+        Reply::Waiting | Reply::Deadlock | Reply::Clear | Reply::Released | Reply::Withdrawn => 0,
     }
 }
 
