@@ -3,6 +3,7 @@
 use crate::harness::{want, want_errors, want_output};
 use crate::replays::EXAMPLES;
 use crate::shows::DEADLOCK;
+use crate::withdrawals::EXAMPLE_TOLD as WITHDRAWALS_TOLD;
 use std::test::Fail;
 
 /// What the calls of the history of `examples/deadlock.csv` did: two begin to wait, one closes a cycle and is granted once a
@@ -124,7 +125,7 @@ const ROWS_OF_CONVERSIONS: &str = "2,refused,1,,,,ParentNotHeld
 ";
 
 /// What the calls of each example did, in the order of `EXAMPLES`.
-const EXAMPLES_TOLD: [&str; 7] = [
+const EXAMPLES_TOLD: [&str; 8] = [
     "4,2,lock,1,X,waiting,
   begins to wait for 1 in X
     waits for session 1, transaction 1, which holds it in S
@@ -211,6 +212,7 @@ const EXAMPLES_TOLD: [&str; 7] = [
 14,1,commit,,,committed,1
   grants the request of session 2, transaction 4, for 1 in U
 ",
+    WITHDRAWALS_TOLD,
 ];
 
 /// The calls of a whole history are told one after another.

@@ -79,6 +79,9 @@ fn help_shows_rows_and_statuses(rt: HostRuntime) -> Result<(), Fail> {
         (["show", "--help"].as_slice(), "holds 1 in S"),
         (["explain", "--help"].as_slice(), "7,1,lock,1,S,granted,S"),
         (["help", "replay"].as_slice(), "1,release,1/2,"),
+        (["help", "replay"].as_slice(), "1,try,1/3,S"),
+        (["help", "run"].as_slice(), "1,withdraw,,"),
+        (["help", "check"].as_slice(), "6,3,withdraw,,,withdrawn,"),
         (["help"].as_slice(), "replay"),
     ] {
         want_help(&rt, &rt, words, row)?;

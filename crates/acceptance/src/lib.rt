@@ -44,4 +44,6 @@ mod threaded_runs;
 #[cfg(test)]
 mod updates;
 #[cfg(test)]
+mod withdrawals;
+#[cfg(test)]
 mod writer_faults;

@@ -4,6 +4,7 @@ use crate::conversions::EXAMPLE as CONVERSIONS;
 use crate::deadlocks::EXAMPLE as DEADLOCK;
 use crate::harness::{want_errors, want_histories, want_output};
 use crate::updates::EXAMPLE as UPDATES;
+use crate::withdrawals::EXAMPLE as WITHDRAWALS;
 use std::test::Fail;
 
 /// A writer waits for a reader, and a later reader queues behind the writer. A waiting session can't request a lock.
@@ -67,7 +68,7 @@ const PARENTS_OUTRIGHT: (&str, &str) = (
 );
 
 /// The example traces, with their histories.
-pub(crate) const EXAMPLES: [(&str, &str); 7] = [
+pub(crate) const EXAMPLES: [(&str, &str); 8] = [
     QUEUE,
     READERS,
     REFUSALS,
@@ -75,6 +76,7 @@ pub(crate) const EXAMPLES: [(&str, &str); 7] = [
     CONVERSIONS,
     DEADLOCK,
     UPDATES,
+    WITHDRAWALS,
 ];
 
 /// Queues, refusals, compatibility with SIX, a conversion by `lock`, and the empty trace.

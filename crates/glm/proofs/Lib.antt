@@ -9,12 +9,12 @@ pub mod IsPassed
 pub mod IsPerformed
 pub mod IsRunOf
 pub mod IsVerdict
-pub mod OverSessions
 pub mod PartsWritten
 pub mod ServedRows
 pub mod Silent
 pub mod Streamed
 pub mod StreamedRun
 pub mod UnderWay
+pub mod WithoutRequest
 pub mod Written
 pub mod WrittenUpTo

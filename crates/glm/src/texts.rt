@@ -17,6 +17,8 @@ database, a file, a page, a record and a field. A mode is IS, IX, S, SIX, U or X
   1,lock,1/2,S         asks for file 2 of database 1
   1,convert,1/2,X      asks for more of what is held
   1,poll,,             asks how a request that waits stands
+  1,try,1/3,S          asks as lock does, and is refused if it would wait
+  1,withdraw,,         takes a request that waits back
   1,release,1/2,       gives one lock back
   1,commit,,           gives all back; so does abort
 
@@ -33,13 +35,15 @@ An example: glm replay < examples/queue.csv";
 /// The beginning of the help of `run`.
 pub(crate) const ABOUT_RUN: &str =
     "Performs a trace from standard input on threads, one for each session that has a row, and writes the history that
-came about to standard output. The rows of a session are performed in their order; how those of two sessions fall
-between one another differs from run to run.
+came about to standard output. The rows of a session are performed in their order, each once the one before is answered,
+whatever the answer was; how those of two sessions fall between one another differs from run to run. While a request
+waits, its session's rows are refused, except poll, withdraw and abort.
 
 A row of a trace is session,op,resource,mode, one for each call, and one of the history
 place,session,op,resource,mode,reply,value; 'glm help replay' shows a row of each form.
 
   1,lock,1/2,S
+  1,withdraw,,
   3,1,lock,1/2,S,granted,S
 
 With --stream the history is written in pieces of about 4096 rows while the threads are at work, and a piece leaves memory
@@ -58,11 +62,12 @@ whose reply is another.
 A row of a history is place,session,op,resource,mode,reply,value, one for each call. A reply has the value beside it.
 
   0,1,begin,,,began,1                      the number of the transaction
-  1,1,lock,1,S,granted,S                   the mode that is held; so has convert
+  1,1,lock,1,S,granted,S                   the mode that is held; so have convert and try
   2,2,lock,1,X,waiting,                    so answers poll, or clear, or deadlock
   3,1,release,1,,released,
   4,1,commit,,,committed,0                 how many locks were given back; so has aborted
   5,1,lock,1,S,refused,NoTransaction       the name of the refusal
+  6,3,withdraw,,,withdrawn,
 
 An example: glm check < examples/queue.history.csv";
 

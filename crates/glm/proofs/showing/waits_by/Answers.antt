@@ -3,7 +3,8 @@ use Rattle.lock_report.specs.declared.snapshot.Wait.{Wait}
 use Rattle.lock_rules.specs.Legal.{state_of}
 use Rattle.lock_rules.specs.State.{request_of}
 use Rattle.glm.specs.Showing.{wait_of}
-use Rattle.glm.proofs.OverSessions.{no-request, no-waits, one-more}
+use Rattle.lock_explain.proofs.ForSessions.{next-session}
+use Rattle.glm.proofs.WithoutRequest.{no-request, no-waits}
 use Rattle.glm.proofs.showing.waits_by.Goals as goal
 
 pub returns-in_default : goal.returns-in_default
@@ -16,4 +17,4 @@ pub loop-before-preserved : goal.loop-before-preserved
 loop-before-preserved c =
     let st = state_of c.args.book.now.history in
     let n = c.loop-before.before in
-    c.in_ok-add_wait.ensures ∙ (ap (λ (l : List Wait). l ++ wait_of st c.args.session (n + 1)) c.loop-before.invariant ∙ sym (one-more (wait_of st c.args.session) n))
+    c.in_ok-add_wait.ensures ∙ (ap (λ (l : List Wait). l ++ wait_of st c.args.session (n + 1)) c.loop-before.invariant ∙ sym (next-session (wait_of st c.args.session) n))
