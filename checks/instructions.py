@@ -94,8 +94,8 @@ CASES = [
     ("the parent's cell is found at the noted place, without a hash", parents, None, 105),
     ("the cell of a lock that ends is found at the noted place, without a hash", ends, 4000, 205),
     ("modes of many holders are tested 16 at a time", readers_beside_readers, None, 575),
-    ("a wait for many holders is written by their mask", writers_beside_readers, None, 2300),
-    ("a second holder joins the first without memory", new_resources, None, 58),
+    ("a wait for many holders is written by their mask", writers_beside_readers, None, 1600),
+    ("a second holder joins the first without memory", new_resources, None, 70),
 ]
 # 32 locks of a batch are granted together: the most instructions of a lock, with all that a pass does for it
 MOST_OF_A_RUN = 790

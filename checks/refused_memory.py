@@ -44,11 +44,15 @@ PIECE = 4096
 # the tests whose allocations are refused, by the crate: all whose names begin so
 TESTED = {
     "base_tests": ("reports::refused_", "traces::reports_the_row_in_which_memory_was_refused", "waits::refused_"),
-    "desk_tests": ("batches::", "books::", "ended::", "kept::", "queues::", "refusals::", "refused_batches::"),
+    "desk_tests": (
+        *("batches::", "books::", "ended::", "kept::", "queues::", "refusals::", "refused_batches::"),
+        *("tries::", "withdrawals::"),
+    ),
     "office_tests": (
         *("ages::", "boards::", "calling::a_whole_call_that_found_no_memory", "closing::"),
         *("direct::a_call_that_found_no_memory", "dropping::", "hearing::", "listing::", "looks::"),
         *("offices::", "refusals::", "telling::a_commit"),
+        *("withdrawals::a_session", "withdrawals::a_pass", "withdrawals::a_published"),
     ),
 }
 # except these: tests with threads, with two offices, and of the publication list, where a starved pass counts as a pass, which
