@@ -52,19 +52,6 @@ next-in x at fits ne =
 none-in : (x at : ℕ) → x / 2 ^ (at % 64) ≡ 0 → (j : ℕ) → at ≤ j → j < at / 64 * 64 + 64 → (j / 64 ≡ at / 64) × (bit_at x (j % 64) ≡ 0)
 none-in x at z j le lt = (omega (arith, le, lt), no_bit-behind x (at % 64) z (j % 64) (omega (arith, le, lt)))
 
-module _ (words : List ℕ) (at : ℕ) where
-  -- The next set bit of a row is in the word of bit `at`, if there is one.
-  pub set-found : get_or words (at / 64) 0 < 2 ^ 64 → get_or words (at / 64) 0 / 2 ^ (at % 64) ≢ 0 → let p = at + trailing_zeros w64 (get_or words (at / 64) 0 / 2 ^ (at % 64)) in (has_bit words p ≡ true) × ((j : ℕ) → at ≤ j → j < p → has_bit words j ≡ false)
-  set-found fits ne =
-      let n = next-in (get_or words (at / 64) 0) at fits ne in (
-        rw n.0 (eq-eqb _ 1 n.1),
-        λ j le lt. let h = n.2 j le lt in rw h.0 (ap (λ (b : ℕ). eqb b 1) h.1),
-      )
-
-  -- Otherwise no bit from `at` on is set in this word.
-  pub none-set : get_or words (at / 64) 0 / 2 ^ (at % 64) ≡ 0 → (j : ℕ) → at ≤ j → j < at / 64 * 64 + 64 → has_bit words j ≡ false
-  none-set z j le lt = let h = none-in (get_or words (at / 64) 0) at z j le lt in rw h.0 (ap (λ (b : ℕ). eqb b 1) h.1)
-
 -- A word without the bits of another one.
 abbrev without : ℕ → ℕ → ℕ
 without a o = bit_xor a (bit_and a o)
@@ -104,3 +91,56 @@ module _ (row known : List ℕ) (at : ℕ) where
   -- Otherwise each bit of the row from `at` on in this word is known.
   pub none-new : new_word / 2 ^ (at % 64) ≡ 0 → (j : ℕ) → at ≤ j → j < at / 64 * 64 + 64 → has_bit row j ≡ true → has_bit known j ≡ true
   none-new z j le lt = known-at j (none-in new_word at z j le lt)
+
+module _ (row other : List ℕ) (w : ℕ) where
+  -- The bits that two rows have in common in word w.
+  abbrev pub common_word : ℕ
+  common_word = bit_and (get_or row w 0) (get_or other w 0)
+
+  common-both : (i : ℕ) → bit_at common_word i ≡ 1 → (bit_at (get_or row w 0) i ≡ 1) × (bit_at (get_or other w 0) i ≡ 1)
+  common-both i is =
+      let e = bit_at_and (get_or row w 0) (get_or other w 0) i in
+      let a = bit_at-lt (get_or row w 0) i in
+      let b = bit_at-lt (get_or other w 0) i in
+      (omega (arith, e, a, b, is), omega (arith, e, a, b, is))
+
+  common-none : (i : ℕ) → bit_at common_word i ≡ 0 → bit_at (get_or row w 0) i ≡ 1 → bit_at (get_or other w 0) i ≡ 0
+  common-none i z one =
+      let e = bit_at_and (get_or row w 0) (get_or other w 0) i in
+      omega (arith, e, z, one, bit_at-lt (get_or other w 0) i)
+
+  -- A bit of the word that is common is set in both rows.
+  common-at : (j : ℕ) → j / 64 ≡ w → bit_at common_word (j % 64) ≡ 1 → (has_bit row j ≡ true) × (has_bit other j ≡ true)
+  common-at j e is = let b = common-both (j % 64) is in (rw e (eq-eqb _ 1 b.0), rw e (eq-eqb _ 1 b.1))
+
+  -- A bit of the word that is set in the first row and isn't common is not set in the second.
+  apart-at : (j : ℕ) → j / 64 ≡ w → bit_at common_word (j % 64) ≡ 0 → has_bit row j ≡ true → has_bit other j ≡ false
+  apart-at j e z here = rw e (ap (λ (b : ℕ). eqb b 1) (common-none (j % 64) z (eqb-true _ 1 (rw e at here))))
+
+  -- If the word has common bits, the lowest of them is the next one of the word.
+  pub common-in : get_or row w 0 < 2 ^ 64 → common_word ≢ 0 → let p = w * 64 + trailing_zeros w64 common_word in ((has_bit row p ≡ true) × (has_bit other p ≡ true)) × ((j : ℕ) → w ≤ j / 64 → j < p → has_bit row j ≡ true → has_bit other j ≡ false)
+  common-in fits ne =
+      let n = bit_at-trailing_zeros w64 common_word (omega (arith, ne)) (omega (arith, and_le_l (get_or row w 0) (get_or other w 0), fits)) in
+      let small = n.0 in
+      let q : (w * 64 + trailing_zeros w64 common_word) / 64 ≡ w = omega (arith, small) in
+      let r : (w * 64 + trailing_zeros w64 common_word) % 64 ≡ trailing_zeros w64 common_word = omega (arith, small) in (
+        common-at _ q (rw r n.1),
+        λ j le lt. let e : j / 64 ≡ w = omega (arith, le, lt, small) in apart-at j e (n.2 (j % 64) (omega (arith, e, lt, small))),
+      )
+
+  -- If the word has none, no bit of the first row in it is set in the second.
+  pub common-not-in : common_word ≡ 0 → (j : ℕ) → j / 64 ≡ w → has_bit row j ≡ true → has_bit other j ≡ false
+  common-not-in z j e = apart-at j e (ap (λ (x : ℕ). bit_at x (j % 64)) z ∙ bit_at-zero (j % 64))
+
+module _ (row other : List ℕ) (at : ℕ) where
+  -- The next common bit from bit `at` on is in its word, if the word has one there.
+  pub common-behind : get_or row (at / 64) 0 < 2 ^ 64 → common_word row other (at / 64) / 2 ^ (at % 64) ≢ 0 → let p = at + trailing_zeros w64 (common_word row other (at / 64) / 2 ^ (at % 64)) in ((has_bit row p ≡ true) × (has_bit other p ≡ true)) × ((j : ℕ) → at ≤ j → j < p → has_bit row j ≡ true → has_bit other j ≡ false)
+  common-behind fits ne =
+      let n = next-in (common_word row other (at / 64)) at (omega (arith, and_le_l (get_or row (at / 64) 0) (get_or other (at / 64) 0), fits)) ne in (
+        common-at row other (at / 64) _ n.0 n.1,
+        λ j le lt. let h = n.2 j le lt in apart-at row other (at / 64) j h.0 h.1,
+      )
+
+  -- Otherwise no bit of the first row from `at` on in this word is set in the second.
+  pub common-not-behind : common_word row other (at / 64) / 2 ^ (at % 64) ≡ 0 → (j : ℕ) → at ≤ j → j < at / 64 * 64 + 64 → has_bit row j ≡ true → has_bit other j ≡ false
+  common-not-behind z j le lt = let h = none-in (common_word row other (at / 64)) at z j le lt in apart-at row other (at / 64) j h.0 h.1

@@ -230,26 +230,59 @@ pub(crate) fn first_new(row: &[u64], among: &[u64], known: &[u64]) -> Option<usi
     None
 }
 
-/// The least set bit at or behind `from` and below `end`; `end` if there is none.
+/// The least bit at or behind `from` that two rows have in common. `None` if there is none.
 #[inline]
-pub(crate) fn next_set(words: &[u64], from: usize, end: usize) -> usize
-    requires from_within { from ≤ end }
-    requires small { end + 64 ≤ usize.MAX }
-    requires room { words_for end ≤ length words.now }
-    ensures behind { from ≤ result }
-    ensures within { result ≤ end }
-    ensures set { result < end → has_bit words.now result ≡ true }
-    ensures unset { (j : ℕ) → from ≤ j → j < result → has_bit words.now j ≡ false }
+pub(crate) fn next_common(row: &[u64], other: &[u64], from: usize) -> Option<usize>
+    requires same { length other.now ≡ length row.now }
+    requires few { length row.now ≤ 1024 }
+    ensures some { IfSome result (λ k. (from ≤ k) × (has_bit row.now k ≡ true) × (has_bit other.now k ≡ true)) }
+    ensures least { IfSome result (λ k. (j : ℕ) → from ≤ j → j < k → has_bit row.now j ≡ true → has_bit other.now j ≡ false) }
+    ensures none { IfNone result ((j : ℕ) → from ≤ j → has_bit row.now j ≡ true → has_bit other.now j ≡ false) }
 {
-    let mut at = from;
-    while at < end {
-        let rest = words[at / 64] >> (at % 64);
-        if rest != 0 {
-            return (at + rest.trailing_zeros() as usize).min(end);
-        }
-        at = at / 64 * 64 + 64;
+    let first = from / 64;
+    if first >= row.len() {
+        return None;
     }
-    end
+    let rest = (row[first] & other[first]) >> (from % 64);
+    if rest != 0 {
+        return Some(from + rest.trailing_zeros() as usize);
+    }
+    let mut at = first + 1;
+    while at + 4 <= row.len() && are_apart(row, other, at) {
+        at += 4;
+    }
+    for w in at..row.len() {
+        let both = row[w] & other[w];
+        if both != 0 {
+            return Some(w * 64 + both.trailing_zeros() as usize);
+        }
+    }
+    None
+}
+
+/// Whether two rows have no bit in common in the four words from word `at` on.
+#[inline(always)]
+fn are_apart(row: &[u64], other: &[u64], at: usize) -> bool
+    requires same { length other.now ≡ length row.now }
+    requires few { length row.now ≤ 1024 }
+    requires room { at + 4 ≤ length row.now }
+    ensures { result ≡ true → (j : ℕ) → at ≤ j / 64 → j / 64 < at + 4 → has_bit row.now j ≡ true → has_bit other.now j ≡ false }
+{
+    let first = (row[at] & other[at]) | (row[at + 1] & other[at + 1]);
+    let second = (row[at + 2] & other[at + 2]) | (row[at + 3] & other[at + 3]);
+    (first | second) == 0
+}
+
+/// Makes `row` the bits of `all` that `other` does not have.
+pub(crate) fn set_without(row: &mut [u64], all: &[u64], other: &[u64])
+    requires same { length all.now ≡ length row.old }
+    requires same_too { length other.now ≡ length row.old }
+    ensures { (j : ℕ) → has_bit row.new j ≡ (has_bit all.now j && not (has_bit other.now j)) }
+{
+    for k in 0..row.len() {
+        let word = all[k];
+        row[k] = word ^ (word & other[k]);
+    }
 }
 
 /// The least bit at or behind `from` and below `end` that is set in `row`, but not in `known`; `end` if there is

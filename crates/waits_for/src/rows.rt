@@ -6,7 +6,7 @@ ghost use Rattle.waits_for.specs.Walks.{Reaches, IsYoungestOnCircle};
 
 use crate::bits::{has, set, unset, words_for};
 use crate::matrix::Matrix;
-use crate::search::{find_circle, find_reached, youngest_in};
+use crate::search::{find_reached, find_youngest};
 use crate::{MAX_SESSIONS, NoMemory};
 use std::alloc::Global;
 use std::marker::Model;
@@ -24,19 +24,26 @@ pub struct Rows {
     waiting: Vec<u64>,
     /// Scratch: the sessions that a search has reached.
     reached: Vec<u64>,
-    /// Scratch: the sessions whose rows a search has added.
-    expanded: Vec<u64>,
-    /// Scratch: the sessions on a circle.
+    /// Scratch: the sessions whose rows a search has added, or those that wait and that it hasn't met.
+    marked: Vec<u64>,
+    /// The sessions on a circle, as the last search found them.
     circle: Vec<u64>,
-    /// Scratch: sessions in the order in which a search has added their rows.
-    order: Vec<usize>,
+    /// The session number of whom `circle` still has all sessions on a circle with it, though it may have more: since
+    /// the search for its circle no edge was added. 0 for none.
+    searched: usize,
+    /// Scratch: the stack of a search.
+    stack: Vec<usize>,
+    /// For each session on that circle a session on it that it waited for directly.
+    hops: Vec<usize>,
+    /// For each session on that circle, but the one that was asked for, a session on it that waited for it directly.
+    parents: Vec<usize>,
 }
 
 impl Model for Rows {
     ghost use Rattle.std.specs.Prelude.{◌≡◌, length};
     ghost use Rattle.waits_for.specs.Pairs.{Pairs, pairs_of};
     ghost use Rattle.waits_for.specs.inner.Bits.{words_for};
-    ghost use Rattle.waits_for.specs.inner.Search.{HasAllWaiting};
+    ghost use Rattle.waits_for.specs.inner.Search.{HasAllWaiting, HasSearched};
 
     ghost Value = { Pairs };
 
@@ -46,8 +53,12 @@ impl Model for Rows {
         (length r.waiting.items ≡ words_for r.matrix.sessions)
         × HasAllWaiting (pairs_of r.matrix) r.waiting.items
         × (length r.reached.items ≡ words_for r.matrix.sessions)
-        × (length r.expanded.items ≡ words_for r.matrix.sessions)
-        × (length r.circle.items ≡ words_for r.matrix.sessions) };
+        × (length r.marked.items ≡ words_for r.matrix.sessions)
+        × (length r.circle.items ≡ words_for r.matrix.sessions)
+        × (length r.stack.items ≡ r.matrix.sessions)
+        × (length r.hops.items ≡ r.matrix.sessions)
+        × (length r.parents.items ≡ r.matrix.sessions)
+        × HasSearched (pairs_of r.matrix) r.searched r.circle.items };
 }
 
 impl Rows {
@@ -61,16 +72,21 @@ impl Rows {
         let matrix = Matrix::new(alloc, sessions)?;
         let waiting = vec![in alloc; 0; words_for(sessions)]?;
         let reached = vec![in alloc; 0; words_for(sessions)]?;
-        let expanded = vec![in alloc; 0; words_for(sessions)]?;
+        let marked = vec![in alloc; 0; words_for(sessions)]?;
         let circle = vec![in alloc; 0; words_for(sessions)]?;
-        let order = vec![in alloc; 0; sessions as usize]?;
+        let stack = vec![in alloc; 0; sessions as usize]?;
+        let hops = vec![in alloc; 0; sessions as usize]?;
+        let parents = vec![in alloc; 0; sessions as usize]?;
         Ok(Rows {
             matrix,
             waiting,
             reached,
-            expanded,
+            marked,
             circle,
-            order,
+            searched: 0,
+            stack,
+            hops,
+            parents,
         })
     }
 
@@ -93,6 +109,7 @@ impl Rows {
     {
         self.matrix.set(t, u);
         set(&mut self.waiting, t);
+        self.searched = 0;
     }
 
     /// Removes an edge, if there is one: the session at position `t` no longer waits for the session at position `u`.
@@ -119,6 +136,7 @@ impl Rows {
     {
         self.matrix.set_met(t, numbers, codes, mask);
         set(&mut self.waiting, t);
+        self.searched = 0;
     }
 
     /// Removes all edges from the session at position `t`: it waits for nobody. Edges to it stay.
@@ -143,6 +161,7 @@ impl Rows {
     {
         self.matrix.wait_as(t, u);
         set(&mut self.waiting, t);
+        self.searched = 0;
     }
 
     /// Whether the session at position `t` waits directly for the session at position `u`.
@@ -167,8 +186,7 @@ impl Rows {
             &self.waiting,
             t,
             &mut self.reached,
-            &mut self.expanded,
-            &mut self.order,
+            &mut self.marked,
         );
         has(&self.reached, u)
     }
@@ -195,19 +213,19 @@ impl Rows {
         ensures youngest { IfSome result (IsYoungestOnCircle (pairs_of self.old) ages.now t) }
         ensures same { self.new ≡ self.old }
     {
-        let matrix = &self.matrix;
-        if !find_circle(
-            matrix,
+        find_youngest(
+            &self.matrix,
             &self.waiting,
             t,
-            &mut self.reached,
-            &mut self.expanded,
+            ages,
+            &mut self.searched,
             &mut self.circle,
-            &mut self.order,
-        ) {
-            return None;
-        }
-        youngest_in(&self.circle, ages)
+            &mut self.reached,
+            &mut self.marked,
+            &mut self.stack,
+            &mut self.hops,
+            &mut self.parents,
+        )
     }
 }
 

@@ -1,33 +1,41 @@
 //! The search for the sessions that a session reaches, and for those among them that reach it.
 
-ghost use Rattle.std.specs.Prelude.{◌≡◌, ℕ, ◌+◌, ◌<◌, ◌≤◌, ◌↔◌, true, false, ◌&&◌, IsTrue, MatchBool, length};
+ghost use Rattle.std.specs.Prelude.{◌≡◌, ℕ, ◌+◌, ◌<◌, ◌≤◌, ◌↔◌, true, false, ◌&&◌, ◌||◌, ◌==◌, ◌/◌, Bool, Some, IsTrue, IfSome, IsSome, MatchBool, length};
 ghost use Rattle.std.specs.Option.{ForSome};
 ghost use Rattle.waits_for.specs.Pairs.{pairs_of};
-ghost use Rattle.waits_for.specs.Walks.{Reaches, AreOnCircle};
+ghost use Rattle.waits_for.specs.Walks.{Reaches, AreOnCircle, IsYoungestOnCircle};
 ghost use Rattle.waits_for.specs.inner.Bits.{has_bit, words_for, unset_below};
-ghost use Rattle.waits_for.specs.inner.Search.{HasAllWaiting, IsBestBelow, IsClosedBack, AddsPredecessors, younger};
+ghost use Rattle.waits_for.specs.inner.Search.{HasAllWaiting, HasAllOnCircle, HasSearched, DoesAddLead, IsBestBelow, IsTestOf, IsClosedBack, IsFrom, IsTo, AddsPredecessors, younger};
 
-use crate::bits::{clear, first_new, has, have_common, next_new, next_set, set};
+use crate::bits::{
+    clear, first_new, has, have_common, next_common, next_new, set, set_without, unset,
+};
 use crate::matrix::Matrix;
 use mode_lanes::{and_into, or_into};
 
 /// Finds the sessions on a cycle with position `t`, and returns whether there are any. If there are, they are the
-/// bits of `circle`; otherwise `circle` is not written. `reached`, `expanded` and `order` are scratch.
-pub(crate) fn find_circle(
+/// bits of `circle`. `hops` has for each a session that it waits for directly, as a rule one nearer to `t`, and
+/// `parents` for each but `t` the session in whose row it was found. `reached`, `unseen` and `stack` are scratch.
+fn find_circle(
     matrix: &Matrix,
     waiting: &[u64],
     t: usize,
     reached: &mut [u64],
-    expanded: &mut [u64],
+    unseen: &mut [u64],
     circle: &mut [u64],
-    order: &mut [usize],
+    stack: &mut [usize],
+    hops: &mut [usize],
+    parents: &mut [usize],
 ) -> bool
     requires t_below { t < matrix.now.sessions }
     requires waiting_room { length waiting.now ≡ words_for matrix.now.sessions }
     requires waiting { HasAllWaiting (pairs_of matrix.now) waiting.now }
     requires reached_room { length reached.old ≡ words_for matrix.now.sessions }
-    requires expanded_room { length expanded.old ≡ words_for matrix.now.sessions }
+    requires unseen_room { length unseen.old ≡ words_for matrix.now.sessions }
     requires circle_room { length circle.old ≡ words_for matrix.now.sessions }
+    requires stack_room { length stack.old ≡ matrix.now.sessions }
+    requires hops_room { length hops.old ≡ matrix.now.sessions }
+    requires parents_room { length parents.old ≡ matrix.now.sessions }
     ensures found { IsTrue result ↔ Reaches (pairs_of matrix.now) t t }
     ensures circle { result ≡ true →
         (u : ℕ) → IsTrue (has_bit circle.new u) ↔ AreOnCircle (pairs_of matrix.now) t u }
@@ -36,27 +44,26 @@ pub(crate) fn find_circle(
     if !have_common(matrix.row(t), waiting) {
         return false;
     }
-    let count = find_reached(matrix, waiting, t, reached, expanded, order);
-    if !has(reached, t) {
+    search_depth_first(matrix, waiting, t, unseen, circle, stack, hops, parents);
+    set_without(reached, waiting, unseen);
+    add_all_predecessors(matrix, waiting, t, reached, circle);
+    if !have_common(matrix.row(t), circle) {
         return false;
     }
-    find_reaching(matrix, t, reached, circle, &order[..count]);
     and_into(circle, reached);
     true
 }
 
 /// Finds the sessions that position `t` reaches, which become the bits of `reached`. Each round adds the row of a
 /// session that is reached and waiting and was not expanded before, so each row is added at most once, and empty
-/// rows are left out. `expanded` is scratch: the sessions whose rows were added. `order` lists these sessions in
-/// this order, as far as it has room; returns how many it lists.
+/// rows are left out. `expanded` is scratch: the sessions whose rows were added.
 pub(crate) fn find_reached(
     matrix: &Matrix,
     waiting: &[u64],
     t: usize,
     reached: &mut [u64],
     expanded: &mut [u64],
-    order: &mut [usize],
-) -> usize
+)
     requires t_below { t < matrix.now.sessions }
     requires waiting_room { length waiting.now ≡ words_for matrix.now.sessions }
     requires waiting { HasAllWaiting (pairs_of matrix.now) waiting.now }
@@ -64,63 +71,128 @@ pub(crate) fn find_reached(
     requires expanded_room { length expanded.old ≡ words_for matrix.now.sessions }
     ensures reached { (u : ℕ) →
         IsTrue (has_bit reached.new u) ↔ Reaches (pairs_of matrix.now) t u }
-    ensures listed { result ≤ length order.new }
 {
     clear(reached, 0, reached.len());
     clear(expanded, 0, expanded.len());
     or_into(reached, matrix.row(t));
-    let mut count = 0;
     while let Some(v) = first_new(reached, waiting, expanded) {
         set(expanded, v);
         or_into(reached, matrix.row(v));
-        if count < order.len() {
-            order[count] = v;
-            count += 1;
-        }
     }
-    count
 }
 
-/// Finds, of the sessions that position `t` reaches, all that reach `t`, which is on a cycle. They are among the
-/// bits of `reaching`; each bit is of a session that reaches `t`, but `t` need not reach that session.
+/// Takes the waiting sessions that position `t` reaches, and `t` itself, out of `waiting`; what is left becomes the
+/// bits of `unseen`. The bits of `circle` become `t` and sessions that reach it: of those that `t` reaches all, if the
+/// only cycles are those through `t`, though no contract says so. `hops` has for each of them, but `t`, a session that
+/// it waits for directly and by which it reaches `t`. `parents` has for each session that was taken out, but `t`, the
+/// session in whose row it was found.
 ///
-/// Tries the listed sessions first, from the last to the first: if they are listed in the order of a forward
-/// search, this finds most of them. Then passes over all reached sessions until a pass adds none.
-pub(crate) fn find_reaching(
+/// The search goes depth first: it is done with a session once it is done with all that this waits for. By then it
+/// knows from one of these whether the session reaches `t`. The search of a row goes on where it has come to.
+fn search_depth_first(
     matrix: &Matrix,
+    waiting: &[u64],
+    t: usize,
+    unseen: &mut [u64],
+    circle: &mut [u64],
+    stack: &mut [usize],
+    hops: &mut [usize],
+    parents: &mut [usize],
+)
+    requires t_below { t < matrix.now.sessions }
+    requires waiting_room { length waiting.now ≡ words_for matrix.now.sessions }
+    requires waiting { HasAllWaiting (pairs_of matrix.now) waiting.now }
+    requires unseen_room { length unseen.old ≡ words_for matrix.now.sessions }
+    requires circle_room { length circle.old ≡ words_for matrix.now.sessions }
+    requires stack_room { length stack.old ≡ matrix.now.sessions }
+    requires hops_room { length hops.old ≡ matrix.now.sessions }
+    requires parents_room { length parents.old ≡ matrix.now.sessions }
+    ensures seen { (u : ℕ) → has_bit waiting.now u ≡ true → has_bit unseen.new u ≡ false →
+        IsFrom (pairs_of matrix.now) t u }
+    ensures all { (u : ℕ) → IsFrom (pairs_of matrix.now) t u → has_bit unseen.new u ≡ false }
+    ensures own { has_bit circle.new t ≡ true }
+    ensures lead { (u : ℕ) → has_bit circle.new u ≡ true → IsTo (pairs_of matrix.now) t u }
+{
+    let sessions = matrix.sessions() as usize;
+    unseen.copy_from_slice(waiting);
+    unset(unseen, t);
+    clear(circle, 0, circle.len());
+    set(circle, t);
+    stack[0] = t;
+    let mut depth = 1;
+    let mut from = 0;
+    while depth > 0 {
+        let v = stack[depth - 1];
+        let row = matrix.row(v);
+        if let Some(u) = next_common(row, unseen, from) {
+            unset(unseen, u);
+            parents[u] = v;
+            stack[depth] = u;
+            depth += 1;
+            from = 0;
+        } else {
+            depth -= 1;
+            from = v + 1;
+            if note_if_leads(row, circle, hops, v) && depth > 0 {
+                note_lead(circle, hops, stack[depth - 1], v);
+            }
+        }
+    }
+}
+
+/// Adds position `v` to `circle`: it waits directly for position `u`, a member.
+#[inline(always)]
+fn note_lead(circle: &mut [u64], hops: &mut [usize], v: usize, u: usize)
+    requires circle_room { v / 64 < length circle.old }
+    requires hops_room { v < length hops.old }
+    ensures { (j : ℕ) → has_bit circle.new j ≡ (has_bit circle.old j || (j == v)) }
+{
+    set(circle, v);
+    hops[v] = u;
+}
+
+/// Adds position `v`, whose row is `row`, to `circle` if it waits directly for a member. Returns whether it is a member
+/// now.
+#[inline(always)]
+fn note_if_leads(row: &[u64], circle: &mut [u64], hops: &mut [usize], v: usize) -> bool
+    requires same { length circle.old ≡ length row.now }
+    requires few { length row.now ≤ 1024 }
+    requires circle_room { v / 64 < length circle.old }
+    requires hops_room { v < length hops.old }
+    ensures leads { result ≡ true → has_bit circle.new v ≡ true }
+    ensures adds { DoesAddLead row.now circle.old circle.new v }
+{
+    if has(circle, v) {
+        return true;
+    }
+    if let Some(u) = next_common(row, circle, 0) {
+        note_lead(circle, hops, v, u);
+        return true;
+    }
+    false
+}
+
+/// Adds to `reaching`, which has `t` and else only sessions that reach it, all sessions that position `t` reaches and
+/// that reach `t`. Passes over the reached sessions until a pass adds none.
+fn add_all_predecessors(
+    matrix: &Matrix,
+    waiting: &[u64],
     t: usize,
     reached: &[u64],
     reaching: &mut [u64],
-    listed: &[usize],
 )
-    requires t_below { t < matrix.now.sessions }
+    requires waiting { HasAllWaiting (pairs_of matrix.now) waiting.now }
     requires reached_room { length reached.now ≡ words_for matrix.now.sessions }
     requires room { length reaching.old ≡ words_for matrix.now.sessions }
-    requires reached { (u : ℕ) →
-        IsTrue (has_bit reached.now u) ↔ Reaches (pairs_of matrix.now) t u }
-    requires on_circle { Reaches (pairs_of matrix.now) t t }
-    ensures lead { (u : ℕ) → has_bit reaching.new u ≡ true → Reaches (pairs_of matrix.now) u t }
-    ensures all { (u : ℕ) → has_bit reached.now u ≡ true →
+    requires reached { (u : ℕ) → has_bit waiting.now u ≡ true → Reaches (pairs_of matrix.now) t u → has_bit reached.now u ≡ true }
+    requires own { has_bit reaching.old t ≡ true }
+    requires lead { (u : ℕ) → has_bit reaching.old u ≡ true → IsTo (pairs_of matrix.now) t u }
+    ensures own { has_bit reaching.new t ≡ true }
+    ensures lead { (u : ℕ) → has_bit reaching.new u ≡ true → IsTo (pairs_of matrix.now) t u }
+    ensures all { (u : ℕ) → Reaches (pairs_of matrix.now) t u →
         Reaches (pairs_of matrix.now) u t → has_bit reaching.new u ≡ true }
 {
-    clear(reaching, 0, reaching.len());
-    set(reaching, t);
-    add_listed_predecessors(matrix, reaching, listed);
     while add_predecessors(matrix, reached, reaching) {}
-}
-
-/// Adds to `reaching` each listed session with an edge to a member, from the last to the first.
-fn add_listed_predecessors(matrix: &Matrix, reaching: &mut [u64], listed: &[usize])
-    requires { length reaching.old ≡ words_for matrix.now.sessions }
-    ensures { AddsPredecessors (pairs_of matrix.now) reaching.old reaching.new }
-{
-    let sessions = matrix.sessions() as usize;
-    for k in (0..listed.len()).rev() {
-        let u = listed[k];
-        if u < sessions {
-            add_predecessor(matrix, reaching, u);
-        }
-    }
 }
 
 /// Adds to `reaching` each reached session with an edge to a member. Returns whether it added any. Looks only at the
@@ -165,15 +237,46 @@ fn add_predecessor(matrix: &Matrix, reaching: &mut [u64], u: usize) -> bool
 
 /// The position in the set with the greatest age, and the least of two positions of one age. `None` if the set has
 /// no position that has an age.
-pub(crate) fn youngest_in(set: &[u64], ages: &[u64]) -> Option<usize>
+fn youngest_in(set: &[u64], ages: &[u64]) -> Option<usize>
     requires { words_for (length ages.now) ≤ length set.now }
     ensures { IsBestBelow (has_bit set.now) ages.now (length ages.now) result }
 {
     let mut best = None;
-    let mut u = next_set(set, 0, ages.len());
-    while u < ages.len() {
-        best = Some(younger_of(ages, best, u));
-        u = next_set(set, u + 1, ages.len());
+    for w in 0..(ages.len() + 63) / 64 {
+        best = youngest_in_word(set[w], w * 64, ages, best);
+    }
+    best
+}
+
+/// The best of the best position so far, which is before `first`, and the positions from `first` on that the bits of
+/// `word` stand for and that have an age.
+#[inline(always)]
+fn youngest_in_word(word: u64, first: usize, ages: &[u64], best: Option<usize>) -> Option<usize>
+    requires small { first + 64 ≤ usize.MAX }
+    requires below { ForSome best (λ v. v < length ages.now) }
+    ensures below { ForSome result (λ v. v < length ages.now) }
+    ensures best { (test : ℕ → Bool) → IsTestOf test word first (length ages.now) → IsBestBelow test ages.now first best → IsBestBelow test ages.now (first + 64) result }
+{
+    let mut rest = word;
+    let mut best = best;
+    while rest != 0 {
+        let low = rest.trailing_zeros() as usize;
+        best = younger_within(ages, best, first + low);
+        rest &= !(1 << low);
+    }
+    best
+}
+
+/// The younger of the best position so far and position `u`, if that has an age; the best so far on a tie.
+#[inline(always)]
+fn younger_within(ages: &[u64], best: Option<usize>, u: usize) -> Option<usize>
+    requires below { ForSome best (λ v. v < length ages.now) }
+    ensures below { ForSome result (λ v. v < length ages.now) }
+    ensures within { u < length ages.now → result ≡ Some (younger ages.now best u) }
+    ensures past { length ages.now ≤ u → result ≡ best }
+{
+    if u < ages.len() {
+        return Some(younger_of(ages, best, u));
     }
     best
 }
@@ -188,4 +291,150 @@ fn younger_of(ages: &[u64], best: Option<usize>, u: usize) -> usize
         Some(v) if ages[u] <= ages[v] => v,
         _ => u,
     }
+}
+
+/// The youngest session on a cycle with position `t`, and of two of one age the one at the lesser position. `None` if
+/// `t` is on no cycle.
+///
+/// If `searched` is the number of a session, every session on a cycle with it is in `circle`, before and after.
+/// `reached`, `marked` and `stack` are scratch. `hops` and `parents` may hold anything: steps are looked for there
+/// first.
+pub(crate) fn find_youngest(
+    matrix: &Matrix,
+    waiting: &[u64],
+    t: usize,
+    ages: &[u64],
+    searched: &mut usize,
+    circle: &mut [u64],
+    reached: &mut [u64],
+    marked: &mut [u64],
+    stack: &mut [usize],
+    hops: &mut [usize],
+    parents: &mut [usize],
+) -> Option<usize>
+    requires t_below { t < matrix.now.sessions }
+    requires waiting_room { length waiting.now ≡ words_for matrix.now.sessions }
+    requires waiting { HasAllWaiting (pairs_of matrix.now) waiting.now }
+    requires an_age_each { length ages.now ≡ matrix.now.sessions }
+    requires searched { HasSearched (pairs_of matrix.now) searched.old circle.old }
+    requires circle_room { length circle.old ≡ words_for matrix.now.sessions }
+    requires reached_room { length reached.old ≡ words_for matrix.now.sessions }
+    requires marked_room { length marked.old ≡ words_for matrix.now.sessions }
+    requires stack_room { length stack.old ≡ matrix.now.sessions }
+    requires hops_room { length hops.old ≡ matrix.now.sessions }
+    requires parents_room { length parents.old ≡ matrix.now.sessions }
+    ensures on_circle { IsSome result ↔ Reaches (pairs_of matrix.now) t t }
+    ensures youngest { IfSome result (IsYoungestOnCircle (pairs_of matrix.now) ages.now t) }
+    ensures searched { HasSearched (pairs_of matrix.now) searched.new circle.new }
+{
+    if *searched == t + 1 {
+        // who waits no more is on no cycle
+        and_into(circle, waiting);
+        if !have_common(matrix.row(t), circle) {
+            return None;
+        }
+        if let Some(v) = youngest_at_hand(matrix, t, circle, hops, parents, ages) {
+            return Some(v);
+        }
+    }
+    *searched = 0;
+    if !find_circle(
+        matrix, waiting, t, reached, marked, circle, stack, hops, parents,
+    ) {
+        return None;
+    }
+    *searched = t + 1;
+    youngest_in(circle, ages)
+}
+
+/// The youngest session on a cycle with position `t`, if it is found without a search. `circle` must have all
+/// sessions on a cycle with `t`.
+///
+/// If steps lead from `t` to the youngest member, and steps through `circle` back to `t`, it is the one.
+fn youngest_at_hand(
+    matrix: &Matrix,
+    t: usize,
+    circle: &[u64],
+    hops: &[usize],
+    parents: &[usize],
+    ages: &[u64],
+) -> Option<usize>
+    requires t_below { t < matrix.now.sessions }
+    requires circle_room { length circle.now ≡ words_for matrix.now.sessions }
+    requires circle { HasAllOnCircle (pairs_of matrix.now) t circle.now }
+    requires hops_room { length hops.now ≡ matrix.now.sessions }
+    requires parents_room { length parents.now ≡ matrix.now.sessions }
+    requires an_age_each { length ages.now ≡ matrix.now.sessions }
+    ensures youngest { IfSome result (IsYoungestOnCircle (pairs_of matrix.now) ages.now t) }
+{
+    let v = youngest_in(circle, ages)?;
+    if is_led_to(matrix, parents, t, v) && leads_to(matrix, circle, hops, v, t) {
+        return Some(v);
+    }
+    None
+}
+
+/// Whether steps lead from position `t` to `u`, found backwards: each from `t` if it waits directly, and else from the
+/// first session that does of the one in `parents`, the one there for that, and so on. There may be other walks.
+fn is_led_to(matrix: &Matrix, parents: &[usize], t: usize, u: usize) -> bool
+    requires t_below { t < matrix.now.sessions }
+    requires u_below { u < matrix.now.sessions }
+    requires parents_room { length parents.now ≡ matrix.now.sessions }
+    ensures { result ≡ true → IsTo (pairs_of matrix.now) u t }
+{
+    if u == t {
+        return true;
+    }
+    let row = matrix.row(t);
+    let mut at = u;
+    let mut by = u;
+    for _step in 0..matrix.sessions() {
+        if has(row, at) {
+            return true;
+        }
+        by = parents[by];
+        if by == t || by >= parents.len() {
+            return false;
+        }
+        if has(matrix.row(by), at) {
+            at = by;
+        }
+    }
+    false
+}
+
+/// Whether steps through `circle` lead from position `u` to `t`: each to the session in `hops`, if it is one that is
+/// waited for directly, and else to the least member that is. There may be other walks.
+fn leads_to(matrix: &Matrix, circle: &[u64], hops: &[usize], u: usize, t: usize) -> bool
+    requires u_below { u < matrix.now.sessions }
+    requires t_below { t < matrix.now.sessions }
+    requires circle_room { length circle.now ≡ words_for matrix.now.sessions }
+    requires hops_room { length hops.now ≡ matrix.now.sessions }
+    ensures { result ≡ true → Reaches (pairs_of matrix.now) u t }
+{
+    let mut at = u;
+    for _step in 0..matrix.sessions() {
+        let row = matrix.row(at);
+        if has(row, t) {
+            return true;
+        }
+        let hop = hops[at];
+        match next_member(row, circle, hop) {
+            Some(next) => at = next,
+            None => return false,
+        }
+    }
+    false
+}
+
+/// A common member of `row` and `circle`: `hop` if it is one, and else the least. `None` if there is none.
+fn next_member(row: &[u64], circle: &[u64], hop: usize) -> Option<usize>
+    requires same { length circle.now ≡ length row.now }
+    requires few { length row.now ≤ 1024 }
+    ensures { IfSome result (λ k. (has_bit row.now k ≡ true) × (has_bit circle.now k ≡ true)) }
+{
+    if hop / 64 < row.len() && has(row, hop) && has(circle, hop) {
+        return Some(hop);
+    }
+    next_common(row, circle, 0)
 }

@@ -1,4 +1,4 @@
-use Rattle.std.proofs.Common.{◌≡◌, ℕ, ◌<◌, true, false, ◌||◌, List, get_or, refl, eqb, length, ◌∙◌, length-set, arith}
+use Rattle.std.proofs.Common.{◌≡◌, ℕ, ◌<◌, true, false, ◌||◌, List, get_or, refl, eqb, length, ◌∙◌, arith}
 use Rattle.std.specs.Prelude.{bit_or}
 use Rattle.std.proofs.lemmas.Bool.{or_left, or_right, eq-eqb}
 use Rattle.waits_for.specs.Pairs.{Pairs, pairs_of}
@@ -16,7 +16,6 @@ loop-v-init c =
       search = search_begun (pairs_of c.args.matrix.now) c.args.t c.row.result.now c.or_into.new.row c.clear-2.new.words c.row.ensures.bits
           (λ u. bit-or c.clear.new.words c.row.result.now c.or_into.new.row c.or_into.auto.row (omega (arith, c.clear.auto.words, c.requires.reached_room, c.row.ensures.room)) c.or_into.ensures.words u ∙ rw (none u) refl)
           (bit-all_cleared c.args.expanded.now c.clear-2.new.words (length c.args.expanded.now) (omega arith) c.clear-2.ensures);
-      listed = omega arith;
     }
 
 -- The session is reached and waiting, and was not expanded.
@@ -38,9 +37,6 @@ row-requires-in-Some c = new c.args.matrix.now c.args.t c.in-Some.v c.args.waiti
 pub loop-v-smaller : goal.loop-v-smaller
 loop-v-smaller c = fewer c.args.matrix.now c.args.t c.in-Some.v c.args.waiting.now c.loop-v.reached c.loop-v.expanded c.set.new.words c.loop-v.invariant.search c.in-Some.ensures.some c.set.ensures
 
-pub loop-v-smaller-then-count-order : goal.loop-v-smaller-then-count-order
-loop-v-smaller-then-count-order c = fewer c.args.matrix.now c.args.t c.in-Some.v c.args.waiting.now c.loop-v.reached c.loop-v.expanded c.set.new.words c.loop-v.invariant.search c.in-Some.ensures.some c.set.ensures
-
 -- After the row of the session is added, the search goes on.
 more : (p : Pairs) (t v : ℕ) (row reached after expanded now : List ℕ) → IsSearch (pairs_of p) t reached expanded → has_bit reached v ≡ true → ((u : ℕ) → has_bit row u ≡ pairs_of p v u) → length reached ≡ length row → length after ≡ length reached → ((k : ℕ) → k < length after → get_or after k 0 ≡ bit_or (get_or reached k 0) (get_or row k 0)) → ((u : ℕ) → has_bit now u ≡ (has_bit expanded u || eqb u v)) → IsSearch (pairs_of p) t after now
 more p t v row reached after expanded now s here bits same room words one = search_more (pairs_of p) t v row reached after expanded now s here bits (bit-or reached row after room same words) one
@@ -52,18 +48,7 @@ loop-v-preserved c =
       room = omega (arith, c.or_into-in-Some.auto.row, h.room);
       room_too = omega (arith, c.set.auto.words, h.room_too);
       search = more c.args.matrix.now c.args.t c.in-Some.v c.row-in-Some.result.now c.loop-v.reached c.or_into-in-Some.new.row c.loop-v.expanded c.set.new.words h.search c.in-Some.ensures.some.0 c.row-in-Some.ensures.bits (omega (arith, h.room, c.row-in-Some.ensures.room)) c.or_into-in-Some.auto.row c.or_into-in-Some.ensures.words c.set.ensures;
-      listed = h.listed;
     }
 
-pub loop-v-preserved-then-count-order : goal.loop-v-preserved-then-count-order
-loop-v-preserved-then-count-order c =
-    let h = c.loop-v.invariant in
-    record {
-      room = omega (arith, c.or_into-in-Some.auto.row, h.room);
-      room_too = omega (arith, c.set.auto.words, h.room_too);
-      search = more c.args.matrix.now c.args.t c.in-Some.v c.row-in-Some.result.now c.loop-v.reached c.or_into-in-Some.new.row c.loop-v.expanded c.set.new.words h.search c.in-Some.ensures.some.0 c.row-in-Some.ensures.bits (omega (arith, h.room, c.row-in-Some.ensures.room)) c.or_into-in-Some.auto.row c.or_into-in-Some.ensures.words c.set.ensures;
-      listed = omega (arith, c.if-count-order.true, length-set c.loop-v.order c.loop-v.count c.in-Some.v);
-    }
-
-pub returns-clause-reached : goal.returns-clause-reached
-returns-clause-reached c = search_all (pairs_of c.args.matrix.now) c.args.t c.args.waiting.now c.loop-v.reached c.loop-v.expanded c.requires.waiting c.loop-v.invariant.search c.in_default.ensures.none
+pub returns : goal.returns
+returns c = record { reached = search_all (pairs_of c.args.matrix.now) c.args.t c.args.waiting.now c.loop-v.reached c.loop-v.expanded c.requires.waiting c.loop-v.invariant.search c.in_default.ensures.none }

@@ -1,4 +1,4 @@
-use Rattle.std.proofs.Common.{◌≡◌, ◌≤◌, length}
+use Rattle.std.proofs.Common.{◌≡◌, length}
 use Rattle.waits_for.specs.Pairs.{pairs_of}
 use Rattle.waits_for.specs.inner.Bits.{words_for, unset_below}
 use Rattle.waits_for.proofs.Walks.{IsSearch}
@@ -10,7 +10,6 @@ invariant-loop-v l = record {
   room : length l.reached ≡ words_for l.matrix.sessions;
   room_too : length l.expanded ≡ words_for l.matrix.sessions;
   search : IsSearch (pairs_of l.matrix) l.t l.reached l.expanded;
-  listed : l.count ≤ length l.order;
 }
 
 -- Each round expands one more session.

@@ -9,8 +9,12 @@ invariant_of-result c =
       omega (arith, m, c.in_ok-waiting.ensures.len, c.words_for.ensures),
       λ t u h. absurd (false≢true (sym (none t u) ∙ h)),
       omega (arith, m, c.in_ok-reached.ensures.len, c.words_for-2.ensures),
-      omega (arith, m, c.in_ok-expanded.ensures.len, c.words_for-3.ensures),
+      omega (arith, m, c.in_ok-marked.ensures.len, c.words_for-3.ensures),
       omega (arith, m, c.in_ok-circle.ensures.len, c.words_for-4.ensures),
+      omega (arith, m, c.in_ok-stack.ensures.len),
+      omega (arith, m, c.in_ok-hops.ensures.len),
+      omega (arith, m, c.in_ok-parents.ensures.len),
+      λ t is. absurd (omega (arith, is)),
     )
 
 pub returns-clause-no_pairs : goal.returns-clause-no_pairs

@@ -1,4 +1,4 @@
-use Rattle.std.proofs.Common.{◌≡◌, ℕ, inl, inr, ◌||◌, ◌&&◌, eqb, Bool, List, ◌++◌, length, drop, take, ap, ◌∙◌, sym}
+use Rattle.std.proofs.Common.{◌≡◌, ℕ, inl, inr, ◌||◌, ◌&&◌, eqb, Bool, List, ◌++◌, length, drop, take, ap, ◌∙◌, sym, arith}
 use Rattle.std.proofs.lemmas.Bool.{or_cases, or_left, or_right, and_parts}
 use Rattle.std.proofs.lemmas.List.{take_at}
 use Rattle.waits_for.specs.inner.Bits.{words_for, has_bit}
@@ -22,7 +22,7 @@ invariant_of-self c =
     let one : (j : ℕ) → has_bit new j ≡ (has_bit w.items j || eqb j c.args.t) = λ j. rw (← c.deref_mut.ensures.value) (c.set-2.ensures j) in
     let marked = waiting-more (pairs_of c.self.inside.matrix) (pairs_of c.set.new.self) w.items new c.args.t c.args.u k.1 c.set.ensures.pairs one in
     let same = ap words_for (sym c.set.ensures.sessions) in
-    rw whole (c.set-2.auto.words ∙ ap length c.deref_mut.ensures.value ∙ k.0 ∙ same, marked, k.2 ∙ same, k.3 ∙ same, k.4 ∙ same)
+    rw whole (c.set-2.auto.words ∙ ap length c.deref_mut.ensures.value ∙ k.0 ∙ same, marked, k.2 ∙ same, k.3 ∙ same, k.4 ∙ same, k.5 ∙ sym c.set.ensures.sessions, k.6 ∙ sym c.set.ensures.sessions, k.7 ∙ sym c.set.ensures.sessions, λ a is. absurd (omega (arith, is)))
 
 pub returns-clause-pairs : goal.returns-clause-pairs
 returns-clause-pairs c = rw (← c.self.view_is) c.set.ensures.pairs

@@ -1,15 +1,15 @@
 use Rattle.std.proofs.Common.{◌≡◌, ℕ, true, length}
 use Rattle.waits_for.specs.Pairs.{pairs_of}
-use Rattle.waits_for.specs.Walks.{Reaches}
 use Rattle.waits_for.specs.inner.Bits.{has_bit, words_for, unset_below}
-use Rattle.waits_for.proofs.search.find_reaching.Given as goal
+use Rattle.waits_for.specs.inner.Search.{IsTo}
+use Rattle.waits_for.proofs.search.add_all_predecessors.Given as goal
 
--- All members of the set reach t, and t is a member.
+-- All members of the set are t or reach it, and t is a member.
 abbrev pub invariant-loop : goal.invariant-loop
 invariant-loop l = record {
   room : length l.reaching ≡ words_for l.matrix.sessions;
   own : has_bit l.reaching l.t ≡ true;
-  lead : (u : ℕ) → has_bit l.reaching u ≡ true → Reaches (pairs_of l.matrix) u l.t;
+  lead : (u : ℕ) → has_bit l.reaching u ≡ true → IsTo (pairs_of l.matrix) l.t u;
 }
 
 -- Each pass but the last adds a session.
