@@ -9,7 +9,11 @@ is the difference, of each trace the least of five times, divided by the number 
 queue     a wait behind all others but one, in one queue
 chain     a wait that leads on to all others but one, each of which waits for the next
 circle    a wait that closes a circle of all sessions, whose asker is the youngest and becomes the victim
+again     the same, if the asker waits for all others too
 victims   a wait that closes a circle with each of all others but one, who all become victims, one after another
+line      a wait for all others, each of whom waits for the next on the way back, who all become victims
+fan       a wait for one who waits for all others but one, who wait for the asker and become victims
+stairs    the same, if each of them waits for those of the next higher numbers too
 release   a release of one lock of 4096, where locks are released in neither the order in which they came nor the reverse
 whole     a transaction of 4096 locks, from its begin to its commit, beside an empty trace
 """
@@ -21,9 +25,6 @@ from pathlib import Path
 
 TOP = Path(__file__).resolve().parent.parent
 PROGRAM = TOP / "crates/glm_main/out/glm_main"
-SESSIONS = int(sys.argv[2]) if len(sys.argv) > 2 else 256
-ALL = range(1, SESSIONS + 1)
-OTHERS = range(2, SESSIONS)
 
 
 def begins(sessions):
@@ -34,38 +35,77 @@ def aborts(sessions):
     return [f"{s},abort,," for s in sessions]
 
 
-# Each case gives the rows of a round with the calls, those of one without them, and how many calls there are.
+# Each case, for n sessions, gives the rows of a round with the calls, those of one without them, and how many calls there are.
 
 
-def repeated(lead, call, rest):
+def repeated(n, lead, call, rest):
     """A round in which one call is made 200 times, each time with the rows that lead back to where it was."""
-    return lead + ([call] + rest) * 200 + aborts(ALL), lead + ([call.split(",")[0] + ",poll,,"] + rest) * 200 + aborts(ALL), 200
+    end, poll = aborts(range(1, n + 1)), call.split(",")[0] + ",poll,,"
+    return lead + ([call] + rest) * 200 + end, lead + ([poll] + rest) * 200 + end, 200
 
 
-def queue():
-    lead = begins(ALL) + [f"{s},lock,1,X" for s in [1, *OTHERS]]
-    return repeated(lead, f"{SESSIONS},lock,1,X", [f"{SESSIONS},abort,,", f"{SESSIONS},begin,,"])
+def once(n, lead, call):
+    """A round in which one call is made once."""
+    end = aborts(range(n, 0, -1))
+    return lead + [call] + end, lead + end, 1
 
 
-def chain():
-    lead = begins(ALL) + [f"{s},lock,{s},X" for s in [1, *OTHERS]] + [f"{s},lock,{s - 1},X" for s in OTHERS]
-    return repeated(lead, f"{SESSIONS},lock,{SESSIONS - 1},X", [f"{SESSIONS},abort,,", f"{SESSIONS},begin,,"])
+def queue(n):
+    lead = begins(range(1, n + 1)) + [f"{s},lock,1,X" for s in range(1, n)]
+    return repeated(n, lead, f"{n},lock,1,X", [f"{n},abort,,", f"{n},begin,,"])
 
 
-def circle():
-    last = SESSIONS
-    lead = begins(ALL) + [f"{s},lock,{s},X" for s in ALL] + [f"{s},lock,{s - 1},X" for s in OTHERS] + [f"1,lock,{last},X"]
-    again = [f"{last},abort,,", f"1,release,{last},", f"{last},begin,,", f"{last},lock,{last},X", f"1,lock,{last},X"]
-    return repeated(lead, f"{last},lock,{last - 1},X", again)
+def chain(n):
+    lead = begins(range(1, n + 1)) + [f"{s},lock,{s},X" for s in range(1, n)] + [f"{s},lock,{s - 1},X" for s in range(2, n)]
+    return repeated(n, lead, f"{n},lock,{n - 1},X", [f"{n},abort,,", f"{n},begin,,"])
 
 
-def victims():
-    lead = begins(ALL) + ["1,lock,1,X"] + [f"{s},lock,2,S" for s in OTHERS] + [f"{s},lock,1,S" for s in OTHERS]
-    end = aborts(reversed(ALL))
-    return lead + ["1,lock,2,X"] + end, lead + end, 1
+def circle(n):
+    lead = begins(range(1, n + 1)) + [f"{s},lock,{s},X" for s in range(1, n + 1)] + [f"{s},lock,{s - 1},X" for s in range(2, n)] + [f"1,lock,{n},X"]
+    rest = [f"{n},abort,,", f"1,release,{n},", f"{n},begin,,", f"{n},lock,{n},X", f"1,lock,{n},X"]
+    return repeated(n, lead, f"{n},lock,{n - 1},X", rest)
 
 
-def release():
+def on_a_line(n, begun):
+    """The rows by which sessions of a line wait, each for the one before it, and the first for session n. In the line are the first
+    session and then those from the highest number down. All of it hold database 0."""
+    line = [1, *range(n - 1, 1, -1)]
+    waits = [f"{s},lock,{before},S" for s, before in zip(line, [n, *line])]
+    return begins(begun(line)) + [f"{s},lock,0,S" for s in line] + [f"{s},lock,{s},X" for s in [n, *line]] + waits
+
+
+def again(n):
+    lead = on_a_line(n, lambda line: [*line, n])
+    rest = [f"{n},abort,,", f"1,release,{n},", f"{n},begin,,", f"{n},lock,{n},X", f"1,lock,{n},S"]
+    return repeated(n, lead, f"{n},lock,0,X", rest)
+
+
+def line(n):
+    return once(n, on_a_line(n, lambda line: [n, *line]), f"{n},lock,0,X")
+
+
+def victims(n):
+    others = range(2, n)
+    lead = begins(range(1, n + 1)) + ["1,lock,1,X"] + [f"{s},lock,2,S" for s in others] + [f"{s},lock,1,S" for s in others]
+    return once(n, lead, "1,lock,2,X")
+
+
+def fan_of(n, others):
+    """The asker is to wait for session 2, which waits for the others. These wait for the asker, and each for those before it."""
+    lead = begins([1, 2, *others, n]) + ["1,lock,1,X", "2,lock,2,X"]
+    lead += [f"{s},lock,3,S" for s in others] + [f"{s},lock,1,S" for s in others] + ["2,lock,3,X"]
+    return once(n, lead, "1,lock,2,X")
+
+
+def fan(n):
+    return fan_of(n, range(3, n))
+
+
+def stairs(n):
+    return fan_of(n, range(n - 1, 2, -1))
+
+
+def release(_n):
     locks = list(range(1, 4097))
     # from the middle outwards, in turn to either side
     mixed = [n for pair in zip(locks[2048:], reversed(locks[:2048])) for n in pair][:1024]
@@ -73,33 +113,34 @@ def release():
     return lead + [f"1,release,{n}," for n in mixed] + aborts([1]), lead + aborts([1]), len(mixed)
 
 
-def whole():
+def whole(_n):
     return begins([1]) + [f"1,lock,{n},X" for n in range(1, 4097)] + ["1,commit,,"], [], 1
 
 
-CASES = [queue, chain, circle, victims, release, whole]
+CASES = [queue, chain, circle, again, victims, line, fan, stairs, release, whole]
 
 
-def least_time(trace):
+def least_time(trace, sessions):
     times = []
     for _ in range(5):
         with trace.open() as given:
             start = time.monotonic()
-            subprocess.run([PROGRAM, "replay", "--sessions", str(SESSIONS)], stdin=given, stdout=subprocess.DEVNULL, check=True)
+            subprocess.run([PROGRAM, "replay", "--sessions", str(sessions)], stdin=given, stdout=subprocess.DEVNULL, check=True)
             times.append(time.monotonic() - start)
     return min(times)
 
 
 def main():
     rounds = int(sys.argv[1]) if len(sys.argv) > 1 else 20
+    sessions = int(sys.argv[2]) if len(sys.argv) > 2 else 256
     subprocess.run([TOP / "glm", "--help"], stdout=subprocess.DEVNULL, check=True)
     with tempfile.TemporaryDirectory() as name:
         with_calls, without = Path(name) / "with.csv", Path(name) / "without.csv"
         for case in CASES:
-            rows, others, calls = case()
+            rows, others, calls = case(sessions)
             with_calls.write_text("".join(row + "\n" for row in rows * rounds))
             without.write_text("".join(row + "\n" for row in others * rounds))
-            each = (least_time(with_calls) - least_time(without)) * 1e6 / (rounds * calls)
+            each = (least_time(with_calls, sessions) - least_time(without, sessions)) * 1e6 / (rounds * calls)
             print(f"{case.__name__}: {each:,.1f} microseconds")
 
 

@@ -10,6 +10,9 @@ what was counted when it was set (more for the smallest count), and below what t
 builds in which it was broken; for locks of a batch, with locks of two databases in turn, which make no run; for a second holder,
 with the least that two requests for memory take. If calls have become dearer for a good reason, set the bound anew.
 
+The dearest calls known (bench/worst.py) are counted by `glm replay`, as the difference between traces with them and without. A
+search for cycles that takes the square of the sessions for each victim goes far beyond their bounds.
+
 Memory is the peak of `glm replay` over short transactions on ever new resources, against as many rows on few resources.
 
 Builds the programs and the library first, if they aren't built; with --over-gate, takes those that a full run of the gate and
@@ -28,6 +31,9 @@ from concurrent.futures import ThreadPoolExecutor
 from pathlib import Path
 
 TOP = Path(__file__).resolve().parent.parent
+sys.path.insert(0, str(TOP / "bench"))
+import worst  # noqa: E402
+
 LOCK_BENCH = TOP / "crates/lock_bench/out/lock_bench"
 GLM = TOP / "crates/glm_main/out/glm_main"
 # the greatest peak over ever new resources, as a multiple of the peak over few
@@ -97,14 +103,23 @@ CASES = [
     ("a wait for many holders is written by their mask", writers_beside_readers, None, 1600),
     ("a second holder joins the first without memory", new_resources, None, 70),
 ]
+# Each of the dearest calls: what it is, its rows, the sessions, the most instructions of one.
+DEAREST = [
+    ("a request on a line of 1,024, 1,023 victims", worst.line, 1024, 40_000_000),
+    ("a request on a line of 256, 255 victims", worst.line, 256, 3_000_000),
+    ("a cycle of 1,024 whose asker is its victim, again and again", worst.again, 1024, 300_000),
+    ("cycles with each of 1,022, 1,022 victims", worst.victims, 1024, 20_000_000),
+    ("a request that leads on to 1,021, 1,021 victims", worst.fan, 1024, 20_000_000),
+    ("the same with their own waits the other way round", worst.stairs, 1024, 40_000_000),
+]
 # 32 locks of a batch are granted together: the most instructions of a lock, with all that a pass does for it
 MOST_OF_A_RUN = 790
 
 
-def counted(words, *flags):
+def counted(words, *flags, given=subprocess.DEVNULL):
     """The instructions of a command, as callgrind counts them."""
     valgrind = ["valgrind", "--tool=callgrind", "--callgrind-out-file=/dev/null", *flags]
-    ran = subprocess.run([*valgrind, *words], stdout=subprocess.DEVNULL, stderr=subprocess.PIPE, text=True, timeout=120)
+    ran = subprocess.run([*valgrind, *words], stdin=given, stdout=subprocess.DEVNULL, stderr=subprocess.PIPE, text=True, timeout=120)
     found = re.search(r"Collected : (\d+)", ran.stderr)
     if ran.returncode or not found:
         sys.exit(f"callgrind failed on {words[0]}: {ran.stderr}")
@@ -125,6 +140,20 @@ def instructions_of_a_call(case, folder):
     lead, calls, others = make()
     turns = [instructions_of_a_turn(lead + rows, folder) for rows in (calls, others)]
     return (turns[0] - turns[1]) / (number or len(calls))
+
+
+def instructions_of_a_replay(rows, sessions, folder):
+    """The instructions by which the program replays a trace."""
+    with tempfile.TemporaryFile("w+", dir=folder) as trace:
+        trace.writelines(row + "\n" for row in rows)
+        trace.seek(0)
+        return counted([GLM, "replay", "--sessions", str(sessions)], given=trace)
+
+
+def instructions_of_a_dear_call(case, folder):
+    _, make, sessions, _ = case
+    rows, others, number = make(sessions)
+    return (instructions_of_a_replay(rows, sessions, folder) - instructions_of_a_replay(others, sessions, folder)) / number
 
 
 def instructions_of_a_run(folder):
@@ -186,7 +215,8 @@ def main():
         if has_valgrind:
             in_a_run = pool.submit(instructions_of_a_run, folder)
             found = pool.map(lambda case: instructions_of_a_call(case, folder), CASES)
-            for (name, _, _, most), instructions in zip(CASES, found):
+            dear = pool.map(lambda case: instructions_of_a_dear_call(case, folder), DEAREST)
+            for (name, _, _, most), instructions in zip(CASES + DEAREST, [*found, *dear]):
                 judge(name, instructions, most, "instructions")
             judge("compatible locks of a batch are granted together", in_a_run.result(), MOST_OF_A_RUN, "instructions")
         few, new = (peak(transactions(databases), folder) for databases in (8, 100_000))
