@@ -45,8 +45,8 @@ PIECE = 4096
 TESTED = {
     "base_tests": ("reports::refused_", "traces::reports_the_row_in_which_memory_was_refused", "waits::refused_"),
     "desk_tests": (
-        *("batches::", "books::", "ended::", "kept::", "queues::", "refusals::", "refused_batches::"),
-        *("tries::", "withdrawals::"),
+        *("batches::", "books::", "chains::", "ended::", "kept::", "listing::", "queues::", "refusals::"),
+        *("refused_batches::", "tries::", "withdrawals::"),
     ),
     "office_tests": (
         *("ages::", "boards::", "calling::a_whole_call_that_found_no_memory", "closing::"),

@@ -4,8 +4,12 @@ ghost use Rattle.std.specs.Prelude.{◌≡◌, true};
 ghost use Rattle.std.specs.List.{All};
 ghost use Rattle.lock_desk.specs.Batches.{IsItemWithin};
 
-use crate::books::{new_book, resource, serve, wanted};
-use lock_desk::{Book, Call, Entry, Item, Mode, NoMemory, Reply, Why};
+use crate::books::{new_book, resource, serve};
+use crate::ended::want_ended;
+use crate::same::{same, same_at};
+use crate::scripts::want_scripts;
+use crate::stage::{Stage, add_entry};
+use lock_desk::{Book, Call, Entry, Item, Mode, NoMemory};
 use std::alloc::Global;
 use std::process::Abort;
 use std::test::Fail;
@@ -27,6 +31,14 @@ pub(crate) fn room_for(alloc: Global, count: usize) -> Result<Vec<Item>, NoMemor
     }
 }
 
+/// Adds the calls of the entries as the items of a batch.
+pub(crate) fn add_items(items: &mut Vec<Item>, entries: &[Entry]) -> Result<(), NoMemory> {
+    for entry in entries {
+        items.push(item(entry.session, entry.call))?;
+    }
+    Ok(())
+}
+
 /// Whether the session of each item is from 1 to `sessions`.
 pub(crate) fn is_within(items: &[Item], sessions: u16) -> bool
     ensures { result ≡ true → All (IsItemWithin sessions) items.now }
@@ -39,218 +51,91 @@ pub(crate) fn is_within(items: &[Item], sessions: u16) -> bool
     true
 }
 
-/// Serves the items, and tries the rest a second time if memory is refused. Returns the number of served items.
-fn serve_batch(rt: &impl Abort, book: &mut Book, items: &mut [Item]) -> usize {
+/// Serves the items, as far as memory is there. Returns the number of served items.
+fn serve_some(rt: &impl Abort, book: &mut Book, items: &mut [Item]) -> usize {
     assert!(rt; is_within(items, book.sessions()));
-    let served = book.serve_batch(items);
+    book.serve_batch(items)
+}
+
+/// Serves the items behind the first ones, if there are any, since memory was refused. None may be left then.
+fn serve_rest(rt: &impl Abort, book: &mut Book, items: &mut [Item], served: usize) {
+    assert!(rt; served <= items.len());
     let rest = &mut items[served..];
-    assert!(rt; is_within(rest, book.sessions()));
-    served + book.serve_batch(rest)
+    if rest.is_empty() {
+        return;
+    }
+    let count = rest.len();
+    assert_eq!(rt; serve_some(rt, book, rest), count);
 }
 
-/// The history that the batch must give.
-const BATCH: &str = "0,1,begin,,,began,1
-1,2,begin,,,began,2
-2,1,lock,1,X,granted,X
-3,2,lock,1,X,waiting,
-4,1,commit,,,committed,1
-5,2,poll,,,clear,
-";
+/// Serves the items, and tries the rest a second time if memory is refused. The batch must end the waits of these sessions,
+/// if any are given.
+fn serve_batch(
+    rt: &impl Abort,
+    name: &str,
+    book: &mut Book,
+    items: &mut [Item],
+    ended: &str,
+) -> Result<(), Fail> {
+    let served = serve_some(rt, book, items);
+    if !ended.is_empty() {
+        // Fewer are served if memory is refused.
+        want_ended(rt, name, book, if served > 0 { ended } else { "" })?;
+    }
+    serve_rest(rt, book, items, served);
+    Ok(())
+}
 
-/// Serves the items as a batch, and expects their replies and the history to be those of the entries.
-fn want_batch(rt: &impl Abort, book: &mut Book, items: &mut [Item], entries: &[Entry]) {
-    assert_eq!(rt; serve_batch(rt, book, items), entries.len());
+/// Expects the items to have the replies of the entries, which belong to the history.
+fn want_replies(
+    rt: &impl Abort,
+    name: &str,
+    stage: &mut Stage,
+    items: &[Item],
+    entries: &[Entry],
+) -> Result<(), NoMemory> {
     for (item, entry) in items.iter().zip(entries) {
-        assert_eq!(rt; item.reply, Some(entry.reply));
-    }
-    assert_eq!(rt; book.history(), entries);
-}
-
-/// Serves the calls of `BATCH` as a batch, and expects the replies and the history of `BATCH`.
-fn want_all_in_order(rt: &impl Abort, alloc: Global, book: &mut Book) -> Result<(), Fail> {
-    let one = resource(1)?;
-    let entries = wanted(alloc, BATCH)?;
-    let mut items = [
-        item(1, Call::Begin),
-        item(2, Call::Begin),
-        item(1, Call::Lock(one, Mode::X)),
-        item(2, Call::Lock(one, Mode::X)),
-        item(1, Call::Commit),
-        item(2, Call::Poll),
-    ];
-    want_batch(rt, book, &mut items, &entries);
-    Ok(())
-}
-
-/// A batch with a wait and a promotion gives the replies and the history of its calls in order.
-#[test]
-fn a_batch_is_served_in_order(rt: HostRuntime) -> Result<(), Fail> {
-    let mut book = new_book(&rt, rt.alloc(), 2)?;
-    want_all_in_order(&rt, rt.alloc(), &mut book)
-}
-
-/// Begins a transaction in each session.
-pub(crate) fn begin_all(rt: &impl Abort, book: &mut Book) -> Result<(), NoMemory> {
-    let sessions = book.sessions();
-    for session in 1..sessions + 1 {
-        serve(rt, book, session, Call::Begin)?;
+        let place = stage.past.len();
+        same_at(rt, name, "call", place, &item.reply, &Some(entry.reply));
+        add_entry(stage, entry)?;
     }
     Ok(())
 }
 
-/// Returns locks of database 1: 32 sessions in IS, and the next one in S.
-fn shared_locks(alloc: Global) -> Result<Vec<Item>, Fail> {
-    let one = resource(1)?;
-    let mut items = room_for(alloc, 33)?;
-    for session in 1..33 {
-        items.push(item(session, Call::Lock(one, Mode::IS)))?;
-    }
-    items.push(item(33, Call::Lock(one, Mode::S)))?;
-    Ok(items)
-}
-
-/// Serves locks as a batch, and expects each to be granted its mode.
-fn want_granted(rt: &impl Abort, book: &mut Book, items: &mut [Item]) {
-    assert_eq!(rt; serve_batch(rt, book, items), items.len());
-    for item in items {
-        let granted = match item.call {
-            Call::Lock(_, mode) => Some(Reply::Granted(mode)),
-            _ => None,
-        };
-        assert_eq!(rt; item.reply, granted);
-    }
-}
-
-/// Serves calls as a batch, and expects these replies.
-fn want_replies(rt: &impl Abort, book: &mut Book, items: &mut [Item], replies: &[Reply]) {
-    assert_eq!(rt; serve_batch(rt, book, items), replies.len());
-    for (item, reply) in items.iter().zip(replies) {
-        assert_eq!(rt; item.reply, Some(*reply));
-    }
-}
-
-/// Expects a compatible lock to wait behind a waiting request in the same batch.
-fn late_locks_wait(rt: &impl Abort, book: &mut Book) -> Result<(), Fail> {
-    let one = resource(1)?;
-    let mut items = [
-        item(34, Call::Lock(one, Mode::IX)),
-        item(35, Call::Lock(one, Mode::IS)),
-    ];
-    want_replies(rt, book, &mut items, &[Reply::Waiting, Reply::Waiting]);
+/// Adds the calls of the entries to the items, and serves them as a batch.
+fn want_batch_of(
+    rt: &impl Abort,
+    name: &str,
+    stage: &mut Stage,
+    ended: &str,
+    entries: &[Entry],
+    items: &mut Vec<Item>,
+) -> Result<(), Fail> {
+    add_items(items, entries)?;
+    serve_batch(rt, name, &mut stage.book, items, ended)?;
+    want_replies(rt, name, stage, items, entries)?;
     Ok(())
 }
 
-/// Expects only the first lock to be granted if the modes of a batch conflict.
-fn conflicting_locks_wait(rt: &impl Abort, book: &mut Book) -> Result<(), Fail> {
-    let two = resource(2)?;
-    let mut items = [
-        item(1, Call::Lock(two, Mode::IX)),
-        item(2, Call::Lock(two, Mode::S)),
-        item(3, Call::Lock(two, Mode::IX)),
-    ];
-    let replies = [Reply::Granted(Mode::IX), Reply::Waiting, Reply::Waiting];
-    want_replies(rt, book, &mut items, &replies);
+/// Serves the calls of the entries as a batch, and expects their replies. The batch must end the waits of these sessions, if
+/// any are given.
+pub(crate) fn want_batch(
+    rt: &impl Abort,
+    alloc: Global,
+    name: &str,
+    stage: &mut Stage,
+    ended: &str,
+    entries: &[Entry],
+) -> Result<(), Fail> {
+    let mut items = room_for(alloc, entries.len())?;
+    want_batch_of(rt, name, stage, ended, entries, &mut items)
+}
+
+/// Serves a batch of no calls.
+pub(crate) fn want_empty_batch(rt: &impl Abort, name: &str, stage: &mut Stage) -> Result<(), Fail> {
+    let served = stage.book.serve_batch(&mut []);
+    same(rt, name, "empty batch", &served, &0);
     Ok(())
-}
-
-/// Expects U to be granted beside S in one batch, and a later S to wait for it.
-fn late_readers_wait_for_an_update(rt: &impl Abort, book: &mut Book) -> Result<(), Fail> {
-    let three = resource(3)?;
-    let mut items = [
-        item(1, Call::Lock(three, Mode::S)),
-        item(4, Call::Lock(three, Mode::U)),
-        item(5, Call::Lock(three, Mode::S)),
-    ];
-    let replies = [
-        Reply::Granted(Mode::S),
-        Reply::Granted(Mode::U),
-        Reply::Waiting,
-    ];
-    want_replies(rt, book, &mut items, &replies);
-    Ok(())
-}
-
-/// Expects U to be granted beside IS in one batch, and a later IS to wait for it.
-fn late_intentions_wait_for_an_update(rt: &impl Abort, book: &mut Book) -> Result<(), Fail> {
-    let four = resource(4)?;
-    let mut items = [
-        item(1, Call::Lock(four, Mode::IS)),
-        item(4, Call::Lock(four, Mode::U)),
-        item(6, Call::Lock(four, Mode::IS)),
-    ];
-    let replies = [
-        Reply::Granted(Mode::IS),
-        Reply::Granted(Mode::U),
-        Reply::Waiting,
-    ];
-    want_replies(rt, book, &mut items, &replies);
-    Ok(())
-}
-
-/// Expects tries among locks to be granted or refused, and none of them to wait; no lock waits behind one that was refused.
-fn tries_do_not_wait(rt: &impl Abort, book: &mut Book) -> Result<(), Fail> {
-    let five = resource(5)?;
-    let mut items = [
-        item(7, Call::Lock(five, Mode::IS)),
-        item(8, Call::Lock(five, Mode::IX)),
-        item(9, Call::Try(five, Mode::IS)),
-        item(10, Call::Try(five, Mode::S)),
-        item(11, Call::Lock(five, Mode::IS)),
-        item(10, Call::Withdraw),
-    ];
-    let replies = [
-        Reply::Granted(Mode::IS),
-        Reply::Granted(Mode::IX),
-        Reply::Granted(Mode::IS),
-        Reply::Refused(Why::WouldWait),
-        Reply::Granted(Mode::IS),
-        Reply::Refused(Why::NotWaiting),
-    ];
-    want_replies(rt, book, &mut items, &replies);
-    Ok(())
-}
-
-/// Expects a lock to be granted that comes behind a withdrawal in the same batch.
-fn a_withdrawal_makes_room(rt: &impl Abort, book: &mut Book) -> Result<(), Fail> {
-    let five = resource(5)?;
-    let mut items = [
-        item(12, Call::Lock(five, Mode::X)),
-        item(13, Call::Lock(five, Mode::IS)),
-        item(12, Call::Withdraw),
-        item(13, Call::Poll),
-        item(14, Call::Lock(five, Mode::IX)),
-    ];
-    let replies = [
-        Reply::Waiting,
-        Reply::Waiting,
-        Reply::Withdrawn,
-        Reply::Clear,
-        Reply::Granted(Mode::IX),
-    ];
-    want_replies(rt, book, &mut items, &replies);
-    Ok(())
-}
-
-/// Begins all transactions and checks batches of compatible locks, of locks behind a waiting one, of conflicting locks, of locks
-/// with U among them, and of locks with tries and withdrawals among them.
-fn want_runs(rt: &impl Abort, alloc: Global, book: &mut Book) -> Result<(), Fail> {
-    begin_all(rt, book)?;
-    let mut items = shared_locks(alloc)?;
-    want_granted(rt, book, &mut items);
-    late_locks_wait(rt, book)?;
-    conflicting_locks_wait(rt, book)?;
-    late_readers_wait_for_an_update(rt, book)?;
-    late_intentions_wait_for_an_update(rt, book)?;
-    tries_do_not_wait(rt, book)?;
-    a_withdrawal_makes_room(rt, book)
-}
-
-/// 33 compatible locks of distinct sessions are granted; locks that conflict or come behind a waiting one wait, and readers that
-/// come behind U. Tries and withdrawals among them are served in their place.
-#[test]
-fn a_run_of_compatible_locks_is_granted(rt: HostRuntime) -> Result<(), Fail> {
-    let mut book = new_book(&rt, rt.alloc(), 40)?;
-    want_runs(&rt, rt.alloc(), &mut book)
 }
 
 /// Returns the next number of a linear congruential generator, below 2^31.
@@ -288,15 +173,14 @@ fn random_call(seed: &mut u64) -> Result<Call, Fail> {
     })
 }
 
-/// Returns 64 random calls of 40 sessions.
-fn random_calls(alloc: Global, seed: &mut u64) -> Result<Vec<Item>, Fail> {
-    let mut items = room_for(alloc, 64)?;
+/// Adds 64 random calls of 40 sessions.
+fn add_random_calls(items: &mut Vec<Item>, seed: &mut u64) -> Result<(), Fail> {
     for _call in 0..64 {
         let session = 1 + (next(seed) % 40) as u16;
         let call = random_call(seed)?;
         items.push(item(session, call))?;
     }
-    Ok(items)
+    Ok(())
 }
 
 /// Serves the calls of the items one by one, and expects the replies that the items have.
@@ -308,49 +192,144 @@ fn want_one_by_one(rt: &impl Abort, book: &mut Book, items: &[Item]) -> Result<(
     Ok(())
 }
 
-/// Serves the items as a batch in one book and one by one in the other, and expects equal replies and histories.
+/// Serves random calls as a batch in one book and one by one in the other, and expects equal replies and histories.
 fn want_same_replies(
     rt: &impl Abort,
+    name: &str,
     batches: &mut Book,
     singles: &mut Book,
-    items: &mut [Item],
-) -> Result<(), NoMemory> {
-    assert_eq!(rt; serve_batch(rt, batches, items), items.len());
+    seed: &mut u64,
+    items: &mut Vec<Item>,
+) -> Result<(), Fail> {
+    add_random_calls(items, seed)?;
+    serve_batch(rt, name, batches, items, "")?;
     want_one_by_one(rt, singles, items)?;
-    assert_eq!(rt; batches.history(), singles.history());
+    same(rt, name, "history", &batches.history(), &singles.history());
     Ok(())
+}
+
+/// Like `want_same_replies`, with a new list of items.
+fn want_same_batch(
+    rt: &impl Abort,
+    alloc: Global,
+    name: &str,
+    batches: &mut Book,
+    singles: &mut Book,
+    seed: &mut u64,
+) -> Result<(), Fail> {
+    let mut items = room_for(alloc, 64)?;
+    want_same_replies(rt, name, batches, singles, seed, &mut items)
 }
 
 /// Serves 16 batches of the same random calls in both books.
 fn want_same_replies_at_random(
     rt: &impl Abort,
     alloc: Global,
+    name: &str,
     batches: &mut Book,
     singles: &mut Book,
 ) -> Result<(), Fail> {
     let mut seed = 20_261_123;
     for _batch in 0..16 {
-        let mut items = random_calls(alloc, &mut seed)?;
-        want_same_replies(rt, batches, singles, &mut items)?;
+        want_same_batch(rt, alloc, name, batches, singles, &mut seed)?;
     }
     Ok(())
 }
 
-/// Compares the book with a fresh one of 40 sessions.
-fn want_same_replies_beside(
+/// Compares the book with a fresh one of as many sessions.
+pub(crate) fn want_same_at_random(
     rt: &impl Abort,
     alloc: Global,
+    name: &str,
     batches: &mut Book,
 ) -> Result<(), Fail> {
-    let mut singles = new_book(rt, alloc, 40)?;
-    want_same_replies_at_random(rt, alloc, batches, &mut singles)
+    let mut singles = new_book(rt, alloc, batches.sessions())?;
+    want_same_replies_at_random(rt, alloc, name, batches, &mut singles)
 }
 
-/// A batch is its calls in order: replies and history are those of a book that serves the calls one by one.
+/// Batches, one call in them behind another.
+const SCRIPTS: &str = "a_batch_is_served_in_order 2
+A batch with a wait and a promotion gives the replies and the history of its calls in order.
+%batch
+0,1,begin,,,began,1
+1,2,begin,,,began,2
+2,1,lock,1,X,granted,X
+3,2,lock,1,X,waiting,
+4,1,commit,,,committed,1
+5,2,poll,,,clear,
+=a_run_of_compatible_locks_is_granted 40
+33 compatible locks of distinct sessions are granted; locks that conflict or come behind a waiting one wait, and readers that
+come behind U. Tries and withdrawals among them are served in their place.
+%begin
+%batch
+0,1,lock,1,IS,granted,IS
+1,2,lock,1,IS,granted,IS
+2,3,lock,1,IS,granted,IS
+3,4,lock,1,IS,granted,IS
+4,5,lock,1,IS,granted,IS
+5,6,lock,1,IS,granted,IS
+6,7,lock,1,IS,granted,IS
+7,8,lock,1,IS,granted,IS
+8,9,lock,1,IS,granted,IS
+9,10,lock,1,IS,granted,IS
+10,11,lock,1,IS,granted,IS
+11,12,lock,1,IS,granted,IS
+12,13,lock,1,IS,granted,IS
+13,14,lock,1,IS,granted,IS
+14,15,lock,1,IS,granted,IS
+15,16,lock,1,IS,granted,IS
+16,17,lock,1,IS,granted,IS
+17,18,lock,1,IS,granted,IS
+18,19,lock,1,IS,granted,IS
+19,20,lock,1,IS,granted,IS
+20,21,lock,1,IS,granted,IS
+21,22,lock,1,IS,granted,IS
+22,23,lock,1,IS,granted,IS
+23,24,lock,1,IS,granted,IS
+24,25,lock,1,IS,granted,IS
+25,26,lock,1,IS,granted,IS
+26,27,lock,1,IS,granted,IS
+27,28,lock,1,IS,granted,IS
+28,29,lock,1,IS,granted,IS
+29,30,lock,1,IS,granted,IS
+30,31,lock,1,IS,granted,IS
+31,32,lock,1,IS,granted,IS
+32,33,lock,1,S,granted,S
+%batch
+0,34,lock,1,IX,waiting,
+1,35,lock,1,IS,waiting,
+%batch
+0,1,lock,2,IX,granted,IX
+1,2,lock,2,S,waiting,
+2,3,lock,2,IX,waiting,
+%batch
+0,1,lock,3,S,granted,S
+1,4,lock,3,U,granted,U
+2,5,lock,3,S,waiting,
+%batch
+0,1,lock,4,IS,granted,IS
+1,4,lock,4,U,granted,U
+2,6,lock,4,IS,waiting,
+%batch
+0,7,lock,5,IS,granted,IS
+1,8,lock,5,IX,granted,IX
+2,9,try,5,IS,granted,IS
+3,10,try,5,S,refused,WouldWait
+4,11,lock,5,IS,granted,IS
+5,10,withdraw,,,refused,NotWaiting
+%batch
+0,12,lock,5,X,waiting,
+1,13,lock,5,IS,waiting,
+2,12,withdraw,,,withdrawn,
+3,13,poll,,,clear,
+4,14,lock,5,IX,granted,IX
+=random_calls_get_the_same_replies_in_batches_and_one_by_one 40
+A batch is its calls in order: replies and history are those of a book that serves the calls one by one.
+%random
+";
+
+/// Batches get the replies of their calls in order.
 #[test]
-fn random_calls_get_the_same_replies_in_batches_and_one_by_one(
-    rt: HostRuntime,
-) -> Result<(), Fail> {
-    let mut batches = new_book(&rt, rt.alloc(), 40)?;
-    want_same_replies_beside(&rt, rt.alloc(), &mut batches)
+fn batches_get_their_replies(rt: HostRuntime) -> Result<(), Fail> {
+    want_scripts(&rt, rt.alloc(), SCRIPTS)
 }

@@ -1,168 +1,244 @@
-//! Books that let entries of their history go: by count, by a bound, and by pieces that are taken. Replies and entries are
-//! compared with a second book that keeps all. A call that is refused memory is made a second time.
+//! Books that let entries of their history go: by count, by a bound, and by pieces that are taken. The entries of all calls are
+//! known from the rows, so that what is kept is known too. A call that is refused memory is made a second time.
 
-use crate::books::{new_book, resource, serve};
-use lock_desk::{Book, Call, Entry, Mode, NO_BOUND};
+use crate::books::wanted;
+use crate::numbers::{one, two};
+use crate::same::same;
+use crate::scripts::want_scripts;
+use crate::stage::{Stage, keep_bound, want_call, want_past};
+use lock_desk::{Book, Entry, NO_BOUND, NoMemory, Reply};
 use std::alloc::Global;
 use std::process::Abort;
 use std::test::Fail;
 
 /// The calls of one round: a reader waits behind a writer, and both end. After each round no transaction is open.
-fn round() -> Result<[(u16, Call); 8], Fail> {
-    let database = resource(7)?;
-    Ok([
-        (1, Call::Begin),
-        (2, Call::Begin),
-        (1, Call::Lock(database, Mode::X)),
-        (2, Call::Lock(database, Mode::S)),
-        (2, Call::Poll),
-        (1, Call::Commit),
-        (2, Call::Poll),
-        (2, Call::Commit),
-    ])
-}
+const ROUND: &str = "0,1,begin,,,began,1
+1,2,begin,,,began,2
+2,1,lock,7,X,granted,X
+3,2,lock,7,S,waiting,
+4,2,poll,,,waiting,
+5,1,commit,,,committed,1
+6,2,poll,,,clear,
+7,2,commit,,,committed,1
+";
 
-/// Serves the calls of a round in both books, and wants the same replies.
-fn serve_round(rt: &impl Abort, book: &mut Book, twin: &mut Book) -> Result<(), Fail> {
-    for (session, call) in round()? {
-        let again = call;
-        let reply = serve(rt, book, session, call)?;
-        let want = serve(rt, twin, session, again)?;
-        assert_eq!(rt; reply, want);
+/// The entry after so many transactions.
+fn entry_after(begun: u64, entry: &Entry) -> Entry {
+    let reply = match entry.reply {
+        Reply::Began(number) => Reply::Began(number.wrapping_add(begun)),
+        other => other,
+    };
+    Entry {
+        session: entry.session,
+        call: entry.call,
+        reply,
     }
-    Ok(())
 }
 
-/// Wants the entries of the twin from the place `first` on.
-fn want_from(rt: &impl Abort, entries: &[Entry], twin: &Book, first: usize) {
-    let all = twin.history();
-    assert!(rt; first <= all.len());
-    assert_eq!(rt; entries, &all[first..]);
-}
-
-/// Serves 20 rounds under a bound, and wants the newest entries.
-fn keep_the_newest(
+/// Serves the calls of a round, and expects what is kept of the history. All calls before must be of rounds.
+fn want_round(
     rt: &impl Abort,
-    book: &mut Book,
-    twin: &mut Book,
-    bound: usize,
-) -> Result<(), Fail> {
-    book.keep_at_most(bound as u64);
-    assert_eq!(rt; book.bound(), bound as u64);
-    for _ in 0..20 {
-        serve_round(rt, book, twin)?;
-        let first = twin.history().len().saturating_sub(bound);
-        assert_eq!(rt; book.first_kept(), first as u64);
-        want_from(rt, book.history(), twin, first);
+    name: &str,
+    stage: &mut Stage,
+    entries: &[Entry],
+) -> Result<(), NoMemory> {
+    // two of eight calls begin a transaction
+    let begun = stage.past.len() as u64 / 4;
+    for entry in entries {
+        want_call(rt, name, stage, &entry_after(begun, entry))?;
     }
-    assert_eq!(rt; book.served(), 160);
+    want_past(rt, name, stage);
     Ok(())
 }
 
-/// Like `keep_the_newest`, with a new second book.
-fn keep_beside(rt: &impl Abort, alloc: Global, book: &mut Book, bound: usize) -> Result<(), Fail> {
-    let mut twin = new_book(rt, alloc, 2)?;
-    keep_the_newest(rt, book, &mut twin, bound)
-}
-
-/// Serves 20 rounds in a fresh book under a bound, and wants the newest entries.
-fn keep_in_a_fresh_book(rt: &impl Abort, alloc: Global, bound: usize) -> Result<(), Fail> {
-    let mut book = new_book(rt, alloc, 2)?;
-    keep_beside(rt, alloc, &mut book, bound)
-}
-
-/// With a bound the newest entries are kept, and replies are as without.
-#[test]
-fn a_bound_keeps_the_newest(rt: HostRuntime) -> Result<(), Fail> {
-    for bound in [0usize, 1, 3, 8, 4096] {
-        keep_in_a_fresh_book(&rt, rt.alloc(), bound)?;
+/// Serves so many rounds.
+fn want_rounds_of(
+    rt: &impl Abort,
+    name: &str,
+    stage: &mut Stage,
+    count: u16,
+    entries: &[Entry],
+) -> Result<(), NoMemory> {
+    for _ in 0..count {
+        want_round(rt, name, stage, entries)?;
     }
     Ok(())
 }
 
-/// Lets entries go by count and by a bound, which is then taken back.
-fn let_entries_go(rt: &impl Abort, book: &mut Book, twin: &mut Book) -> Result<(), Fail> {
-    serve_round(rt, book, twin)?;
-    assert_eq!(rt; book.let_go(3), 3);
-    assert_eq!(rt; book.first_kept(), 3);
-    want_from(rt, book.history(), twin, 3);
-    book.keep_at_most(2);
-    assert_eq!(rt; book.first_kept(), 6);
-    book.keep_at_most(NO_BOUND);
-    assert_eq!(rt; book.first_kept(), 6);
-    serve_round(rt, book, twin)?;
-    want_from(rt, book.history(), twin, 6);
-    assert_eq!(rt; book.let_go(0), 0);
-    assert_eq!(rt; book.let_go(100), 10);
-    assert_eq!(rt; book.first_kept(), 16);
-    assert_eq!(rt; book.let_go(1), 0);
-    assert!(rt; book.history().is_empty());
-    assert_eq!(rt; book.served(), 16);
-    serve_round(rt, book, twin)?;
-    want_from(rt, book.history(), twin, 16);
-    Ok(())
-}
-
-/// Like `let_entries_go`, with a new second book.
-fn let_entries_go_beside(rt: &impl Abort, alloc: Global, book: &mut Book) -> Result<(), Fail> {
-    let mut twin = new_book(rt, alloc, 2)?;
-    let_entries_go(rt, book, &mut twin)
-}
-
-/// What was let go stays so, whatever the bound is afterwards.
-#[test]
-fn entries_are_let_go_for_good(rt: HostRuntime) -> Result<(), Fail> {
-    let mut book = new_book(&rt, rt.alloc(), 2)?;
-    let_entries_go_beside(&rt, rt.alloc(), &mut book)
-}
-
-/// Serves two rounds, lets go of two entries, and takes the others.
-fn take_a_piece(
+/// Serves so many rounds, whose calls are read first.
+pub(crate) fn want_rounds(
     rt: &impl Abort,
     alloc: Global,
-    book: &mut Book,
-    twin: &mut Book,
-    turn: usize,
+    name: &str,
+    stage: &mut Stage,
+    numbers: &str,
 ) -> Result<(), Fail> {
-    serve_round(rt, book, twin)?;
-    serve_round(rt, book, twin)?;
-    assert_eq!(rt; book.let_go(2), 2);
-    let first = book.first_kept();
-    assert_eq!(rt; first, (turn as u64).wrapping_mul(16).wrapping_add(2));
-    let piece = book.take_history(alloc);
-    assert_eq!(rt; piece.len(), 14);
-    want_from(rt, &piece, twin, first as usize);
-    assert!(rt; book.history().is_empty());
+    let count = one(numbers)?;
+    let entries = wanted(alloc, ROUND)?;
+    want_rounds_of(rt, name, stage, count, &entries)?;
     Ok(())
 }
 
-/// Takes the history in pieces, and wants the rest to be kept.
-fn take_pieces(
+/// Sets a bound.
+fn set_bound(rt: &impl Abort, name: &str, stage: &mut Stage, bound: u64) {
+    stage.book.keep_at_most(bound);
+    same(rt, name, "bound", &stage.book.bound(), &bound);
+    stage.bound = bound;
+    keep_bound(stage);
+}
+
+/// Sets a bound to the entries that are kept.
+pub(crate) fn keep_newest(
+    rt: &impl Abort,
+    name: &str,
+    stage: &mut Stage,
+    numbers: &str,
+) -> Result<(), Fail> {
+    let bound = one(numbers)?;
+    set_bound(rt, name, stage, u64::from(bound));
+    Ok(())
+}
+
+/// Takes the bound back.
+pub(crate) fn keep_all(rt: &impl Abort, name: &str, stage: &mut Stage) {
+    set_bound(rt, name, stage, NO_BOUND);
+}
+
+/// Lets go of the first number of entries, and expects that the second number of them go.
+pub(crate) fn let_go(
+    rt: &impl Abort,
+    name: &str,
+    stage: &mut Stage,
+    numbers: &str,
+) -> Result<(), Fail> {
+    let (count, gone) = two(numbers)?;
+    let went = stage.book.let_go(u64::from(count));
+    same(rt, name, "entries let go", &went, &u64::from(gone));
+    stage.first = stage.first.saturating_add(usize::from(gone));
+    Ok(())
+}
+
+/// Expects the first number to be the place of the first entry that is kept, and the second one that of the next call.
+pub(crate) fn want_kept(
+    rt: &impl Abort,
+    name: &str,
+    book: &Book,
+    numbers: &str,
+) -> Result<(), Fail> {
+    let (first, served) = two(numbers)?;
+    same(
+        rt,
+        name,
+        "first entry kept",
+        &book.first_kept(),
+        &u64::from(first),
+    );
+    same(rt, name, "calls served", &book.served(), &u64::from(served));
+    Ok(())
+}
+
+/// Takes the history, and expects as many entries as the second number says, the first of them at the place of the first
+/// number.
+pub(crate) fn take(
     rt: &impl Abort,
     alloc: Global,
-    book: &mut Book,
-    twin: &mut Book,
+    name: &str,
+    stage: &mut Stage,
+    numbers: &str,
 ) -> Result<(), Fail> {
-    let none = book.take_history(alloc);
-    assert!(rt; none.is_empty());
-    for turn in 0..6usize {
-        take_a_piece(rt, alloc, book, twin, turn)?;
-    }
-    serve_round(rt, book, twin)?;
-    want_from(rt, book.history(), twin, 96);
-    assert_eq!(rt; book.served(), 104);
+    let (first, count) = two(numbers)?;
+    same(
+        rt,
+        name,
+        "first entry kept",
+        &stage.book.first_kept(),
+        &u64::from(first),
+    );
+    let piece = stage.book.take_history(alloc);
+    want_piece(rt, name, stage, &piece, count);
+    stage.first = stage.past.len();
     Ok(())
 }
 
-/// Like `take_pieces`, with a new second book.
-fn take_pieces_beside(rt: &impl Abort, alloc: Global, book: &mut Book) -> Result<(), Fail> {
-    let mut twin = new_book(rt, alloc, 2)?;
-    take_pieces(rt, alloc, book, &mut twin)
+/// Expects the piece to be all that was kept, and so many entries, and nothing to be left.
+fn want_piece(rt: &impl Abort, name: &str, stage: &Stage, piece: &[Entry], count: u16) {
+    same(rt, name, "entries taken", &piece.len(), &usize::from(count));
+    assert!(rt; stage.first <= stage.past.len());
+    same(rt, name, "piece", &piece, &&stage.past[stage.first..]);
+    same(rt, name, "history", &stage.book.history().is_empty(), &true);
 }
 
-/// Pieces that are taken follow one another, and the rest is still kept.
+/// Rounds, after each of which the entries are compared that are kept.
+const SCRIPTS: &str = "a_bound_of_0_keeps_the_newest 2
+With a bound the newest entries are kept, and replies are as without.
+%keep 0
+%rounds 20
+%kept 160 160
+=a_bound_of_1_keeps_the_newest 2
+So it is with the last entry alone.
+%keep 1
+%rounds 20
+%kept 159 160
+=a_bound_of_3_keeps_the_newest 2
+So it is with less than a round.
+%keep 3
+%rounds 20
+%kept 157 160
+=a_bound_of_8_keeps_the_newest 2
+So it is with a round.
+%keep 8
+%rounds 20
+%kept 152 160
+=a_bound_of_4096_keeps_the_newest 2
+So it is with more than all.
+%keep 4096
+%rounds 20
+%kept 0 160
+=entries_are_let_go_for_good 2
+What was let go stays so, whatever the bound is afterwards.
+%rounds 1
+%let_go 3 3
+%kept 3 8
+%keep 2
+%kept 6 8
+%keep_all
+%kept 6 8
+%rounds 1
+%kept 6 16
+%let_go 0 0
+%let_go 100 10
+%kept 16 16
+%let_go 1 0
+%kept 16 16
+%rounds 1
+%kept 16 24
+=pieces_follow_one_another 2
+Pieces that are taken follow one another, and the rest is still kept.
+%take 0 0
+%rounds 2
+%let_go 2 2
+%take 2 14
+%rounds 2
+%let_go 2 2
+%take 18 14
+%rounds 2
+%let_go 2 2
+%take 34 14
+%rounds 2
+%let_go 2 2
+%take 50 14
+%rounds 2
+%let_go 2 2
+%take 66 14
+%rounds 2
+%let_go 2 2
+%take 82 14
+%rounds 1
+%kept 96 104
+";
+
+/// The history keeps the entries that were not let go.
 #[test]
-fn pieces_follow_one_another(rt: HostRuntime) -> Result<(), Fail> {
-    let mut book = new_book(&rt, rt.alloc(), 2)?;
-    take_pieces_beside(&rt, rt.alloc(), &mut book)
+fn entries_are_kept_and_let_go(rt: HostRuntime) -> Result<(), Fail> {
+    want_scripts(&rt, rt.alloc(), SCRIPTS)
 }

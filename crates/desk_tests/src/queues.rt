@@ -1,157 +1,126 @@
 //! Long queues and many victims: 254 sessions wait at once, and 1,022.
 
-use crate::books::{new_book, resource, serve};
-use lock_desk::{Book, Call, Mode, NoMemory, Reply, Resource};
-use std::alloc::Global;
-use std::process::Abort;
+use crate::scripts::want_scripts;
 use std::test::Fail;
 
-/// Makes the call in each session from `first` to `last - 1`, in order, and expects this reply.
-fn want_each(
-    rt: &impl Abort,
-    book: &mut Book,
-    first: u16,
-    last: u16,
-    call: Call,
-    reply: Reply,
-) -> Result<(), NoMemory> {
-    for session in first..last {
-        let asked = call;
-        let answer = serve(rt, book, session, asked)?;
-        assert_eq!(rt; answer, reply);
-    }
-    Ok(())
-}
+/// Queues and victims of 256 sessions.
+const SCRIPTS: &str = "a_queue_of_254_goes_on_after_an_abort_in_its_middle 256
+All sessions but the last one wait for session 1. Requests before and behind an aborted one keep their order.
+%begin
+%calls
+0,1,lock,1,X,granted,X
+%each 2 255
+0,2,lock,1,X,waiting,
+%calls
+0,128,abort,,,aborted,0
+1,1,commit,,,committed,1
+%each 3 127
+0,3,poll,,,waiting,
+%each 2 127
+0,2,poll,,,clear,
+1,2,commit,,,committed,1
+%each 129 255
+0,129,poll,,,clear,
+1,129,commit,,,committed,1
+%held
+0,255,release,1,,released,
+=a_queue_of_254_goes_on_after_a_withdrawal_in_its_middle 256
+Requests before and behind a withdrawn one keep their order, too.
+%begin
+%calls
+0,1,lock,1,X,granted,X
+%each 2 255
+0,2,lock,1,X,waiting,
+%calls
+0,128,withdraw,,,withdrawn,
+1,1,commit,,,committed,1
+%each 3 127
+0,3,poll,,,waiting,
+%each 2 127
+0,2,poll,,,clear,
+1,2,commit,,,committed,1
+%each 129 255
+0,129,poll,,,clear,
+1,129,commit,,,committed,1
+%held
+0,255,release,1,,released,
+=one_call_has_254_victims 256
+All sessions but the last one share database 2 and wait for database 1 of session 1, which is the oldest. Its request for
+database 2 closes a cycle with each of them, and all of these are victims. It waits until they abort.
+%begin
+%calls
+0,1,lock,1,X,granted,X
+%each 2 255
+0,2,lock,2,S,granted,S
+%each 2 255
+0,2,lock,1,S,waiting,
+%calls
+0,1,lock,2,X,waiting,
+%each 2 255
+0,2,poll,,,deadlock,
+%each 2 255
+0,2,abort,,,aborted,1
+%calls
+0,1,poll,,,clear,
+1,1,commit,,,committed,2
+";
 
-/// Begins a transaction in each session of the book, in order.
-fn begin_all(rt: &impl Abort, book: &mut Book) -> Result<(), NoMemory> {
-    for before in 0..book.sessions() {
-        let session = before + 1;
-        let began = serve(rt, book, session, Call::Begin)?;
-        assert_eq!(rt; began, Reply::Began(session as u64));
-    }
-    Ok(())
-}
-
-/// Expects each session from `first` to `last - 1` in turn to have been granted its lock, and to release it to the next one
-/// by its commit.
-fn want_turns(rt: &impl Abort, book: &mut Book, first: u16, last: u16) -> Result<(), NoMemory> {
-    for session in first..last {
-        let polled = serve(rt, book, session, Call::Poll)?;
-        assert_eq!(rt; polled, Reply::Clear);
-        let ended = serve(rt, book, session, Call::Commit)?;
-        assert_eq!(rt; ended, Reply::Committed(1));
-    }
-    Ok(())
-}
-
-/// Locks the database in X in session 1, and lets all sessions behind it except the last wait for it.
-fn queue_up(rt: &impl Abort, book: &mut Book, one: Resource) -> Result<(), NoMemory> {
-    begin_all(rt, book)?;
-    let last = book.sessions();
-    let granted = Reply::Granted(Mode::X);
-    want_each(rt, book, 1, 2, Call::Lock(one, Mode::X), granted)?;
-    want_each(rt, book, 2, last, Call::Lock(one, Mode::X), Reply::Waiting)
-}
-
-/// Makes the call in one session in the middle of those that wait, which takes its request away, and expects the others to be
-/// granted the lock in turn.
-fn leave_in_the_middle(
-    rt: &impl Abort,
-    book: &mut Book,
-    call: Call,
-    reply: Reply,
-) -> Result<(), Fail> {
-    let one = resource(1)?;
-    let sessions = book.sessions();
-    let middle = sessions / 2;
-    queue_up(rt, book, one)?;
-    want_each(rt, book, middle, middle + 1, call, reply)?;
-    want_each(rt, book, 1, 2, Call::Commit, Reply::Committed(1))?;
-    want_each(rt, book, 3, middle, Call::Poll, Reply::Waiting)?;
-    want_turns(rt, book, 2, middle)?;
-    want_turns(rt, book, middle + 1, sessions)?;
-    assert!(rt; sessions > 1 && book.held(sessions - 1, one).is_none());
-    Ok(())
-}
-
-/// Like `leave_in_the_middle`, by an abort in a new book.
-fn abort_in_a_new_book(rt: &impl Abort, alloc: Global, sessions: u16) -> Result<(), Fail> {
-    let mut book = new_book(rt, alloc, sessions)?;
-    leave_in_the_middle(rt, &mut book, Call::Abort, Reply::Aborted(0))
-}
-
-/// Like `leave_in_the_middle`, by a withdrawal in a new book.
-fn withdraw_in_a_new_book(rt: &impl Abort, alloc: Global, sessions: u16) -> Result<(), Fail> {
-    let mut book = new_book(rt, alloc, sessions)?;
-    leave_in_the_middle(rt, &mut book, Call::Withdraw, Reply::Withdrawn)
-}
-
-/// Requests before and behind an aborted one keep their order.
+/// Long queues keep their order, and one call has many victims.
 #[test]
-fn a_queue_of_254_goes_on_after_an_abort_in_its_middle(rt: HostRuntime) -> Result<(), Fail> {
-    abort_in_a_new_book(&rt, rt.alloc(), 256)
+fn queues_and_victims_of_256_sessions(rt: HostRuntime) -> Result<(), Fail> {
+    want_scripts(&rt, rt.alloc(), SCRIPTS)
 }
 
-/// So do those of as many sessions as a book can have.
+/// All sessions but the last one wait for session 1.
+const LONGEST_QUEUE: &str = "a_queue_of_1022_goes_on_after_an_abort_in_its_middle 1024
+%begin
+%calls
+0,1,lock,1,X,granted,X
+%each 2 1023
+0,2,lock,1,X,waiting,
+%calls
+0,512,abort,,,aborted,0
+1,1,commit,,,committed,1
+%each 3 511
+0,3,poll,,,waiting,
+%each 2 511
+0,2,poll,,,clear,
+1,2,commit,,,committed,1
+%each 513 1023
+0,513,poll,,,clear,
+1,513,commit,,,committed,1
+%held
+0,1023,release,1,,released,
+";
+
+/// Requests of as many sessions as a book can have keep their order around an aborted one, too.
 #[test]
 fn a_queue_of_1022_goes_on_after_an_abort_in_its_middle(rt: HostRuntime) -> Result<(), Fail> {
-    abort_in_a_new_book(&rt, rt.alloc(), 1024)
+    want_scripts(&rt, rt.alloc(), LONGEST_QUEUE)
 }
 
-/// Requests before and behind a withdrawn one keep their order, too.
-#[test]
-fn a_queue_of_254_goes_on_after_a_withdrawal_in_its_middle(rt: HostRuntime) -> Result<(), Fail> {
-    withdraw_in_a_new_book(&rt, rt.alloc(), 256)
-}
+/// All sessions but the last one share database 2 and wait for session 1.
+const MOST_VICTIMS: &str = "one_call_has_1022_victims 1024
+%begin
+%calls
+0,1,lock,1,X,granted,X
+%each 2 1023
+0,2,lock,2,S,granted,S
+%each 2 1023
+0,2,lock,1,S,waiting,
+%calls
+0,1,lock,2,X,waiting,
+%each 2 1023
+0,2,poll,,,deadlock,
+%each 2 1023
+0,2,abort,,,aborted,1
+%calls
+0,1,poll,,,clear,
+1,1,commit,,,committed,2
+";
 
-/// Locks database 1 in session 1, and database 2 shared by all sessions behind it except the last, who then wait for database 1.
-fn build_cycles(
-    rt: &impl Abort,
-    book: &mut Book,
-    one: Resource,
-    two: Resource,
-) -> Result<(), NoMemory> {
-    begin_all(rt, book)?;
-    let last = book.sessions();
-    let granted = Reply::Granted(Mode::X);
-    want_each(rt, book, 1, 2, Call::Lock(one, Mode::X), granted)?;
-    let shared = Reply::Granted(Mode::S);
-    want_each(rt, book, 2, last, Call::Lock(two, Mode::S), shared)?;
-    want_each(rt, book, 2, last, Call::Lock(one, Mode::S), Reply::Waiting)
-}
-
-/// Requests database 2 in X in session 1, which closes a cycle with each session that waits, and expects all of these to be
-/// victims.
-fn ask_for_what_all_hold(rt: &impl Abort, book: &mut Book) -> Result<(), Fail> {
-    let one = resource(1)?;
-    let two = resource(2)?;
-    let sessions = book.sessions();
-    build_cycles(rt, book, one, two)?;
-    // session 1 is the oldest; it waits until the victims abort
-    let asked = Call::Lock(two, Mode::X);
-    want_each(rt, book, 1, 2, asked, Reply::Waiting)?;
-    want_each(rt, book, 2, sessions, Call::Poll, Reply::Deadlock)?;
-    want_each(rt, book, 2, sessions, Call::Abort, Reply::Aborted(1))?;
-    want_each(rt, book, 1, 2, Call::Poll, Reply::Clear)?;
-    want_each(rt, book, 1, 2, Call::Commit, Reply::Committed(2))?;
-    Ok(())
-}
-
-/// Like `ask_for_what_all_hold`, in a new book.
-fn ask_in_a_new_book(rt: &impl Abort, alloc: Global, sessions: u16) -> Result<(), Fail> {
-    let mut book = new_book(rt, alloc, sessions)?;
-    ask_for_what_all_hold(rt, &mut book)
-}
-
-/// One request closes a cycle with each of 254 sessions, and all of these are victims.
-#[test]
-fn one_call_has_254_victims(rt: HostRuntime) -> Result<(), Fail> {
-    ask_in_a_new_book(&rt, rt.alloc(), 256)
-}
-
-/// So does one with each of 1,022 sessions.
+/// One request closes a cycle with each of 1,022 sessions, and all of these are victims.
 #[test]
 fn one_call_has_1022_victims(rt: HostRuntime) -> Result<(), Fail> {
-    ask_in_a_new_book(&rt, rt.alloc(), 1024)
+    want_scripts(&rt, rt.alloc(), MOST_VICTIMS)
 }

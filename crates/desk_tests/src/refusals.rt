@@ -1,40 +1,46 @@
 //! A book that is refused memory: after the error it is compared with a second book, which serves the same calls and is refused
 //! nothing. Each test passes whichever single allocation is refused, and also if none is.
 
-use crate::books::{new_book, resource, serve, serve_all, serve_once, serve_text, wanted};
+use crate::books::{new_book, resource, serve, serve_all, serve_once};
+use crate::same::{same, same_at};
+use crate::scripts::want_scripts;
+use crate::stage::resource_of;
 use lock_desk::{Book, Call, Entry, Mode, NoMemory, Reply, Resource};
 use std::alloc::Global;
 use std::process::Abort;
 use std::test::Fail;
 
-/// The resource of a lock, a try or a release.
-fn resource_of(call: Call) -> Option<Resource> {
-    match call {
-        Call::Lock(resource, _) | Call::Try(resource, _) | Call::Release(resource) => Some(
-            resource,
-        ),
-        _ => None,
-    }
-}
-
 /// Expects each session to hold the same on the resource in both books.
-fn want_same_held(rt: &impl Abort, book: &Book, twin: &Book, resource: Resource) {
+fn want_same_held(rt: &impl Abort, name: &str, book: &Book, twin: &Book, resource: Resource) {
     let sessions = book.sessions();
     for session in 1..sessions + 1 {
         let held = book.held(session, resource);
-        assert_eq!(rt; held, twin.held(session, resource), "{session}");
+        same_at(
+            rt,
+            name,
+            "session",
+            usize::from(session),
+            &held,
+            &twin.held(session, resource),
+        );
     }
 }
 
 /// Expects the same history in both books, and the same locks on each resource of the entries.
-pub(crate) fn want_same_books(rt: &impl Abort, book: &Book, twin: &Book, entries: &[Entry]) {
-    assert_eq!(rt; book.history(), twin.history());
+pub(crate) fn want_same_books(
+    rt: &impl Abort,
+    name: &str,
+    book: &Book,
+    twin: &Book,
+    entries: &[Entry],
+) {
+    same(rt, name, "history", &book.history(), &twin.history());
     let mut compared = None;
     for entry in entries {
         let named = resource_of(entry.call);
         if let Some(resource) = named {
             if named != compared {
-                want_same_held(rt, book, twin, resource);
+                want_same_held(rt, name, book, twin, resource);
                 compared = named;
             }
         }
@@ -44,6 +50,7 @@ pub(crate) fn want_same_books(rt: &impl Abort, book: &Book, twin: &Book, entries
 /// Makes the call in each session of both books, and expects the same replies.
 pub(crate) fn want_same_replies(
     rt: &impl Abort,
+    name: &str,
     book: &mut Book,
     twin: &mut Book,
     call: &Call,
@@ -52,7 +59,7 @@ pub(crate) fn want_same_replies(
     for session in 1..sessions + 1 {
         let reply = serve(rt, twin, session, *call)?;
         let other = serve(rt, book, session, *call)?;
-        assert_eq!(rt; other, reply, "{session}");
+        same_at(rt, name, "session", usize::from(session), &other, &reply);
     }
     Ok(())
 }
@@ -60,31 +67,33 @@ pub(crate) fn want_same_replies(
 /// Expects the same books, and the same replies to a poll and to an abort of each session.
 pub(crate) fn want_same_end(
     rt: &impl Abort,
+    name: &str,
     book: &mut Book,
     twin: &mut Book,
     entries: &[Entry],
 ) -> Result<(), NoMemory> {
-    want_same_books(rt, book, twin, entries);
-    want_same_replies(rt, book, twin, &Call::Poll)?;
-    want_same_replies(rt, book, twin, &Call::Abort)
+    want_same_books(rt, name, book, twin, entries);
+    want_same_replies(rt, name, book, twin, &Call::Poll)?;
+    want_same_replies(rt, name, book, twin, &Call::Abort)
 }
 
 /// Expects `book` to be as `twin` is after the first `index` calls, and serves the other calls in both.
 fn want_as_twin(
     rt: &impl Abort,
+    name: &str,
     book: &mut Book,
     twin: &mut Book,
     entries: &[Entry],
     index: usize,
 ) -> Result<(), Fail> {
     assert!(rt; index <= entries.len());
-    serve_all(rt, twin, &entries[..index])?;
-    assert_eq!(rt; book.history(), &entries[..index]);
-    want_same_books(rt, book, twin, entries);
-    want_same_replies(rt, book, twin, &Call::Poll)?;
-    serve_all(rt, book, &entries[index..])?;
-    serve_all(rt, twin, &entries[index..])?;
-    want_same_end(rt, book, twin, entries)?;
+    serve_all(rt, name, twin, &entries[..index])?;
+    same(rt, name, "history", &book.history(), &&entries[..index]);
+    want_same_books(rt, name, book, twin, entries);
+    want_same_replies(rt, name, book, twin, &Call::Poll)?;
+    serve_all(rt, name, book, &entries[index..])?;
+    serve_all(rt, name, twin, &entries[index..])?;
+    want_same_end(rt, name, book, twin, entries)?;
     Ok(())
 }
 
@@ -92,65 +101,112 @@ fn want_as_twin(
 fn want_unchanged(
     rt: &impl Abort,
     alloc: Global,
+    name: &str,
     book: &mut Book,
     entries: &[Entry],
     index: usize,
 ) -> Result<(), Fail> {
     let mut twin = new_book(rt, alloc, book.sessions())?;
-    want_as_twin(rt, book, &mut twin, entries, index)
+    want_as_twin(rt, name, book, &mut twin, entries, index)
 }
 
-/// Serves the calls of the entries, and expects their replies and this history. The first call that is refused memory has to
-/// change nothing.
-fn want_entries(
+/// Serves the calls of the entries in a new book, and expects their replies and this history. The first call that is refused
+/// memory has to change nothing.
+pub(crate) fn want_refused(
     rt: &impl Abort,
     alloc: Global,
+    name: &str,
     book: &mut Book,
     entries: &[Entry],
 ) -> Result<(), Fail> {
     for (index, entry) in entries.iter().enumerate() {
         match serve_once(rt, book, entry.session, entry.call) {
-            Ok(reply) => assert_eq!(rt; reply, entry.reply),
-            Err(NoMemory) => return want_unchanged(rt, alloc, book, entries, index),
+            Ok(reply) => same_at(rt, name, "call", index, &reply, &entry.reply),
+            Err(NoMemory) => return want_unchanged(rt, alloc, name, book, entries, index),
         }
     }
-    assert_eq!(rt; book.history(), entries);
+    same(rt, name, "history", &book.history(), &entries);
     Ok(())
 }
 
-/// Like `want_entries`, in a new book.
-fn want_entries_of(
+/// Adds a call of each session from the first to the last, each with this reply.
+fn add_each(
+    entries: &mut Vec<Entry>,
+    first: u16,
+    last: u16,
+    call: &Call,
+    reply: Reply,
+) -> Result<(), NoMemory> {
+    for session in first..last.saturating_add(1) {
+        let reply = match reply {
+            Reply::Began(_) => Reply::Began(u64::from(session)),
+            other => other,
+        };
+        entries.push(Entry {
+            session,
+            call: *call,
+            reply,
+        })?;
+    }
+    Ok(())
+}
+
+/// Session 1 holds the database in X, and sessions 2 to 256 wait for it in IS. Its commit grants the lock to all of them.
+fn add_crowd(entries: &mut Vec<Entry>, one: Resource) -> Result<(), NoMemory> {
+    add_each(entries, 1, 256, &Call::Begin, Reply::Began(0))?;
+    let exclusive = Call::Lock(one, Mode::X);
+    add_each(entries, 1, 1, &exclusive, Reply::Granted(Mode::X))?;
+    let shared = Call::Lock(one, Mode::IS);
+    add_each(entries, 2, 256, &shared, Reply::Waiting)?;
+    add_each(entries, 1, 1, &Call::Commit, Reply::Committed(1))?;
+    add_each(entries, 2, 256, &Call::Poll, Reply::Clear)
+}
+
+/// Returns an empty vector with room for `count` entries. Tries a second time if memory is refused.
+fn room_for_entries(alloc: Global, count: usize) -> Result<Vec<Entry>, NoMemory> {
+    match Vec::with_capacity(alloc, count) {
+        Ok(entries) => Ok(entries),
+        Err(_) => Vec::with_capacity(alloc, count),
+    }
+}
+
+/// Adds the calls of the crowd to the entries, and serves them like `want_refused`.
+fn want_crowd_of(
     rt: &impl Abort,
     alloc: Global,
-    sessions: u16,
-    entries: &[Entry],
+    name: &str,
+    book: &mut Book,
+    entries: &mut Vec<Entry>,
 ) -> Result<(), Fail> {
-    let mut book = new_book(rt, alloc, sessions)?;
-    want_entries(rt, alloc, &mut book, entries)
+    add_crowd(entries, resource(1)?)?;
+    want_refused(rt, alloc, name, book, entries)
 }
 
-/// Serves the calls of the text in a new book, and expects the replies of the text.
-fn want_text(rt: &impl Abort, alloc: Global, sessions: u16, text: &str) -> Result<(), Fail> {
-    let entries = wanted(alloc, text)?;
-    want_entries_of(rt, alloc, sessions, &entries)
+/// Like `want_crowd_of`, with a new list of entries.
+pub(crate) fn want_crowd(
+    rt: &impl Abort,
+    alloc: Global,
+    name: &str,
+    book: &mut Book,
+) -> Result<(), Fail> {
+    let mut entries = room_for_entries(alloc, 768)?;
+    want_crowd_of(rt, alloc, name, book, &mut entries)
 }
 
-/// A session locks down the tree, and commits.
-const DOWN_THE_TREE: &str = "0,1,begin,,,began,1
+/// Calls of which each may be refused memory.
+const SCRIPTS: &str = "refused_locks_down_the_tree_change_nothing 1
+A session locks down the tree, and commits. Locks whose resources have no cell yet leave nothing if memory is refused.
+%refused
+0,1,begin,,,began,1
 1,1,lock,1,IX,granted,IX
 2,1,lock,1/2,IX,granted,IX
 3,1,lock,1/2/3,X,granted,X
 4,1,commit,,,committed,3
-";
-
-/// Locks whose resources have no cell yet leave nothing if memory is refused.
-#[test]
-fn refused_locks_down_the_tree_change_nothing(rt: HostRuntime) -> Result<(), Fail> {
-    want_text(&rt, rt.alloc(), 1, DOWN_THE_TREE)
-}
-
-/// A conversion waits ahead of a writer that came before it.
-const CONVERSION: &str = "0,1,begin,,,began,1
+=a_refused_wait_changes_nothing 3
+A conversion waits ahead of a writer that came before it. A second holder, a queue and a conversion ahead of it leave nothing
+if memory is refused.
+%refused
+0,1,begin,,,began,1
 1,2,begin,,,began,2
 2,3,begin,,,began,3
 3,1,lock,1,S,granted,S
@@ -160,16 +216,11 @@ const CONVERSION: &str = "0,1,begin,,,began,1
 7,2,commit,,,committed,1
 8,1,poll,,,clear,
 9,3,poll,,,waiting,
-";
-
-/// A second holder, a queue and a conversion ahead of it leave nothing if memory is refused.
-#[test]
-fn a_refused_wait_changes_nothing(rt: HostRuntime) -> Result<(), Fail> {
-    want_text(&rt, rt.alloc(), 3, CONVERSION)
-}
-
-/// Session 1 closes a cycle with session 2 and one with session 3, and both are doomed, the younger one first.
-const TWO_VICTIMS: &str = "0,1,begin,,,began,1
+=a_refused_wait_dooms_nobody 3
+Session 1 closes a cycle with session 2 and one with session 3, and both are doomed, the younger one first. A wait that closes
+two cycles dooms nobody if memory is refused.
+%refused
+0,1,begin,,,began,1
 1,2,begin,,,began,2
 2,3,begin,,,began,3
 3,1,lock,1,IX,granted,IX
@@ -188,16 +239,11 @@ const TWO_VICTIMS: &str = "0,1,begin,,,began,1
 16,1,poll,,,waiting,
 17,2,abort,,,aborted,2
 18,1,poll,,,clear,
-";
-
-/// A wait that closes two cycles dooms nobody if memory is refused.
-#[test]
-fn a_refused_wait_dooms_nobody(rt: HostRuntime) -> Result<(), Fail> {
-    want_text(&rt, rt.alloc(), 3, TWO_VICTIMS)
-}
-
-/// Session 1 closes a cycle of three. The victim leaves the queue ahead of it, so that it is granted its lock.
-const GRANTED_BY_A_VICTIM: &str = "0,1,begin,,,began,1
+=a_refused_lock_makes_no_victim 3
+Session 1 closes a cycle of three. The victim leaves the queue ahead of it, so that it is granted its lock. A lock that would
+be granted by a victim's end leaves nothing if memory is refused.
+%refused
+0,1,begin,,,began,1
 1,2,begin,,,began,2
 2,3,begin,,,began,3
 3,1,lock,2,X,granted,X
@@ -207,16 +253,12 @@ const GRANTED_BY_A_VICTIM: &str = "0,1,begin,,,began,1
 7,1,lock,1,S,granted,S
 8,3,poll,,,deadlock,
 9,2,poll,,,waiting,
-";
-
-/// A lock that would be granted by a victim's end leaves nothing if memory is refused.
-#[test]
-fn a_refused_lock_makes_no_victim(rt: HostRuntime) -> Result<(), Fail> {
-    want_text(&rt, rt.alloc(), 3, GRANTED_BY_A_VICTIM)
-}
-
-/// Session 1 tries down the tree. Four more sessions try beside it, and session 6 is refused what session 1 has.
-const TRIES: &str = "0,1,begin,,,began,1
+=refused_tries_change_nothing 6
+Session 1 tries down the tree. Four more sessions try beside it, and session 6 is refused what session 1 has. Tries whose
+resources have no cell yet, or no room for one more holder, leave nothing if memory is refused, and so do those that are
+refused for WouldWait.
+%refused
+0,1,begin,,,began,1
 1,2,begin,,,began,2
 2,3,begin,,,began,3
 3,4,begin,,,began,4
@@ -235,18 +277,11 @@ const TRIES: &str = "0,1,begin,,,began,1
 16,6,try,1/2/4,X,granted,X
 17,6,commit,,,committed,3
 18,1,commit,,,committed,3
-";
-
-/// Tries whose resources have no cell yet, or no room for one more holder, leave nothing if memory is refused, and so do
-/// those that are refused for `WouldWait`.
-#[test]
-fn refused_tries_change_nothing(rt: HostRuntime) -> Result<(), Fail> {
-    want_text(&rt, rt.alloc(), 6, TRIES)
-}
-
-/// Three readers and a writer wait behind a writer that withdraws. A conversion waits ahead of the last writer, and is
-/// withdrawn too.
-const WITHDRAWALS: &str = "0,1,begin,,,began,1
+=refused_withdrawals_change_nothing 6
+Three readers and a writer wait behind a writer that withdraws. A conversion waits ahead of the last writer, and is withdrawn
+too. A withdrawal keeps the request and promotes nobody if memory is refused.
+%refused
+0,1,begin,,,began,1
 1,2,begin,,,began,2
 2,3,begin,,,began,3
 3,4,begin,,,began,4
@@ -269,60 +304,14 @@ const WITHDRAWALS: &str = "0,1,begin,,,began,1
 20,6,withdraw,,,withdrawn,
 21,2,try,1,S,granted,S
 22,1,commit,,,committed,1
-";
-
-/// A withdrawal keeps the request and promotes nobody if memory is refused.
-#[test]
-fn refused_withdrawals_change_nothing(rt: HostRuntime) -> Result<(), Fail> {
-    want_text(&rt, rt.alloc(), 6, WITHDRAWALS)
-}
-
-/// Returns an entry of a history.
-fn entry(session: u16, call: Call, reply: Reply) -> Entry {
-    Entry {
-        session,
-        call,
-        reply,
-    }
-}
-
-/// Returns an empty vector with room for `count` entries. Tries a second time if memory is refused.
-fn room_for_entries(alloc: Global, count: usize) -> Result<Vec<Entry>, NoMemory> {
-    match Vec::with_capacity(alloc, count) {
-        Ok(entries) => Ok(entries),
-        Err(_) => Vec::with_capacity(alloc, count),
-    }
-}
-
-/// Session 1 holds database 1 in X, and sessions 2 to 256 wait for it in IS. Its commit grants the lock to all of them.
-fn crowd(alloc: Global) -> Result<Vec<Entry>, Fail> {
-    let one = resource(1)?;
-    let mut entries = room_for_entries(alloc, 768)?;
-    for session in 1..257 {
-        let began = Reply::Began(session as u64);
-        entries.push(entry(session, Call::Begin, began))?;
-    }
-    let exclusive = Call::Lock(one, Mode::X);
-    entries.push(entry(1, exclusive, Reply::Granted(Mode::X)))?;
-    for session in 2..257 {
-        entries.push(entry(session, Call::Lock(one, Mode::IS), Reply::Waiting))?;
-    }
-    entries.push(entry(1, Call::Commit, Reply::Committed(1)))?;
-    for session in 2..257 {
-        entries.push(entry(session, Call::Poll, Reply::Clear))?;
-    }
-    Ok(entries)
-}
-
-/// A commit that would promote 255 sessions promotes none if memory is refused.
-#[test]
-fn a_refused_commit_promotes_nobody(rt: HostRuntime) -> Result<(), Fail> {
-    let entries = crowd(rt.alloc())?;
-    want_entries_of(&rt, rt.alloc(), 256, &entries)
-}
-
-/// Six sessions hold database 1.
-const SIX_HOLDERS: &str = "0,1,begin,,,began,1
+=a_refused_commit_promotes_nobody 256
+A commit that would promote 255 sessions promotes none if memory is refused.
+%crowd
+=a_refused_list_of_holders_is_unchanged 6
+Six sessions hold database 1. A list of holders keeps what it has if memory is refused, and has the holders at the second
+asking.
+%calls
+0,1,begin,,,began,1
 1,2,begin,,,began,2
 2,3,begin,,,began,3
 3,4,begin,,,began,4
@@ -334,49 +323,19 @@ const SIX_HOLDERS: &str = "0,1,begin,,,began,1
 9,3,lock,1,IX,granted,IX
 10,2,lock,1,IS,granted,IS
 11,1,lock,1,IX,granted,IX
+%holders 1
+0,1,lock,1,IX,granted,IX
+1,2,lock,1,IS,granted,IS
+2,3,lock,1,IX,granted,IX
+3,4,lock,1,IS,granted,IS
+4,5,lock,1,IX,granted,IX
+5,6,lock,1,IS,granted,IS
 ";
 
-/// Returns a list with one entry, and with room for no more. Tries a second time if memory is refused.
-fn full_list(alloc: Global) -> Result<Vec<(u16, Mode)>, NoMemory> {
-    let mut list = match Vec::with_capacity(alloc, 1) {
-        Ok(list) => list,
-        Err(_) => Vec::with_capacity(alloc, 1)?,
-    };
-    list.push((9, Mode::X))?;
-    Ok(list)
-}
-
-/// Expects the six holders in place of what the list has, and what it has if memory is refused.
-fn want_six_holders(rt: &impl Abort, alloc: Global, book: &Book) -> Result<(), Fail> {
-    let one = resource(1)?;
-    let mut list = full_list(alloc)?;
-    if book.holders(one, &mut list).is_err() {
-        assert_eq!(rt; list.as_slice(), [(9, Mode::X)].as_slice());
-        book.holders(one, &mut list)?;
-    }
-    let six = [
-        (1, Mode::IX),
-        (2, Mode::IS),
-        (3, Mode::IX),
-        (4, Mode::IS),
-        (5, Mode::IX),
-        (6, Mode::IS),
-    ];
-    assert_eq!(rt; list.as_slice(), six.as_slice());
-    Ok(())
-}
-
-/// Serves the calls of `SIX_HOLDERS`, and expects the six holders in a list.
-fn list_six_holders(rt: &impl Abort, alloc: Global, book: &mut Book) -> Result<(), Fail> {
-    serve_text(rt, alloc, book, SIX_HOLDERS)?;
-    want_six_holders(rt, alloc, book)
-}
-
-/// A list of holders keeps what it has if memory is refused, and has the holders at the second asking.
+/// A call that is refused memory changes nothing, and gets its reply when it is made again.
 #[test]
-fn a_refused_list_of_holders_is_unchanged(rt: HostRuntime) -> Result<(), Fail> {
-    let mut book = new_book(&rt, rt.alloc(), 6)?;
-    list_six_holders(&rt, rt.alloc(), &mut book)
+fn refused_calls_change_nothing(rt: HostRuntime) -> Result<(), Fail> {
+    want_scripts(&rt, rt.alloc(), SCRIPTS)
 }
 
 /// Makes a book of 1,024 sessions, a second time if memory is refused. Returns whether it was.

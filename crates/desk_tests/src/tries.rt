@@ -1,82 +1,91 @@
 //! Tries: beside each mode, behind a queue, of conversions, and where a lock would close a cycle. A try is granted where a lock
 //! would be granted at once; anywhere else it is refused, and nobody waits or becomes a victim.
 
-use crate::books::{new_book, resource, serve, want_text};
-use lock_desk::{Book, Call, Mode, NoMemory, Reply, Resource, Why};
-use std::process::Abort;
+use crate::scripts::want_scripts;
 use std::test::Fail;
 
-/// The modes that a try can be granted, in the order of the columns below.
-const MODES: [Mode; 6] = [Mode::IS, Mode::IX, Mode::S, Mode::SIX, Mode::U, Mode::X];
+/// Session 1 locks database 7 in each mode, and session 2 tries IS, IX, S, SIX, U and X beside it.
+const BESIDE: &str = "a_try_is_granted_beside_compatible_modes_alone 2
+%begin
+%calls
+0,1,lock,7,IS,granted,IS
+1,2,try,7,IS,granted,IS
+2,2,release,7,,released,
+3,2,try,7,IX,granted,IX
+4,2,release,7,,released,
+5,2,try,7,S,granted,S
+6,2,release,7,,released,
+7,2,try,7,SIX,granted,SIX
+8,2,release,7,,released,
+9,2,try,7,U,granted,U
+10,2,release,7,,released,
+11,2,try,7,X,refused,WouldWait
+12,1,release,7,,released,
+%calls
+0,1,lock,7,IX,granted,IX
+1,2,try,7,IS,granted,IS
+2,2,release,7,,released,
+3,2,try,7,IX,granted,IX
+4,2,release,7,,released,
+5,2,try,7,S,refused,WouldWait
+6,2,try,7,SIX,refused,WouldWait
+7,2,try,7,U,refused,WouldWait
+8,2,try,7,X,refused,WouldWait
+9,1,release,7,,released,
+%calls
+0,1,lock,7,S,granted,S
+1,2,try,7,IS,granted,IS
+2,2,release,7,,released,
+3,2,try,7,IX,refused,WouldWait
+4,2,try,7,S,granted,S
+5,2,release,7,,released,
+6,2,try,7,SIX,refused,WouldWait
+7,2,try,7,U,granted,U
+8,2,release,7,,released,
+9,2,try,7,X,refused,WouldWait
+10,1,release,7,,released,
+%calls
+0,1,lock,7,SIX,granted,SIX
+1,2,try,7,IS,granted,IS
+2,2,release,7,,released,
+3,2,try,7,IX,refused,WouldWait
+4,2,try,7,S,refused,WouldWait
+5,2,try,7,SIX,refused,WouldWait
+6,2,try,7,U,refused,WouldWait
+7,2,try,7,X,refused,WouldWait
+8,1,release,7,,released,
+%calls
+0,1,lock,7,U,granted,U
+1,2,try,7,IS,refused,WouldWait
+2,2,try,7,IX,refused,WouldWait
+3,2,try,7,S,refused,WouldWait
+4,2,try,7,SIX,refused,WouldWait
+5,2,try,7,U,refused,WouldWait
+6,2,try,7,X,refused,WouldWait
+7,1,release,7,,released,
+%calls
+0,1,lock,7,X,granted,X
+1,2,try,7,IS,refused,WouldWait
+2,2,try,7,IX,refused,WouldWait
+3,2,try,7,S,refused,WouldWait
+4,2,try,7,SIX,refused,WouldWait
+5,2,try,7,U,refused,WouldWait
+6,2,try,7,X,refused,WouldWait
+7,1,release,7,,released,
+";
 
-/// Tries the database in session 2, and expects the mode or the refusal `WouldWait`, and no request. A granted lock is
-/// released.
-fn want_try(
-    rt: &impl Abort,
-    book: &mut Book,
-    database: Resource,
-    mode: Mode,
-    fits: bool,
-) -> Result<(), NoMemory> {
-    let reply = serve(rt, book, 2, Call::Try(database, mode))?;
-    assert_eq!(rt; book.request(2), None);
-    if fits {
-        assert_eq!(rt; reply, Reply::Granted(mode));
-        assert_eq!(rt; book.held(2, database), Some(mode));
-        let released = serve(rt, book, 2, Call::Release(database))?;
-        assert_eq!(rt; released, Reply::Released);
-    } else {
-        assert_eq!(rt; reply, Reply::Refused(Why::WouldWait));
-        assert_eq!(rt; book.held(2, database), None);
-    }
-    Ok(())
-}
-
-/// Locks the database in session 1, tries each mode in session 2, and releases the database.
-fn want_tries_beside(
-    rt: &impl Abort,
-    book: &mut Book,
-    database: Resource,
-    held: Mode,
-    fits: &[bool; 6],
-) -> Result<(), NoMemory> {
-    let granted = serve(rt, book, 1, Call::Lock(database, held))?;
-    assert_eq!(rt; granted, Reply::Granted(held));
-    for (mode, is_granted) in MODES.into_iter().zip(fits) {
-        want_try(rt, book, database, mode, *is_granted)?;
-    }
-    let released = serve(rt, book, 1, Call::Release(database))?;
-    assert_eq!(rt; released, Reply::Released);
-    Ok(())
-}
-
-/// Begins in both sessions, and tries each mode beside each mode.
-fn want_all_tries(rt: &impl Abort, book: &mut Book) -> Result<(), Fail> {
-    let database = resource(7)?;
-    serve(rt, book, 1, Call::Begin)?;
-    serve(rt, book, 2, Call::Begin)?;
-    for (held, fits) in [
-        (Mode::IS, [true, true, true, true, true, false]),
-        (Mode::IX, [true, true, false, false, false, false]),
-        (Mode::S, [true, false, true, false, true, false]),
-        (Mode::SIX, [true, false, false, false, false, false]),
-        (Mode::U, [false, false, false, false, false, false]),
-        (Mode::X, [false, false, false, false, false, false]),
-    ] {
-        want_tries_beside(rt, book, database, held, &fits)?;
-    }
-    Ok(())
-}
-
-/// The columns are IS, IX, S, SIX, U and X, the modes that are tried.
+/// A try is granted beside each compatible mode, and beside no other.
 #[test]
 fn a_try_is_granted_beside_compatible_modes_alone(rt: HostRuntime) -> Result<(), Fail> {
-    let mut book = new_book(&rt, rt.alloc(), 2)?;
-    want_all_tries(&rt, &mut book)
+    want_scripts(&rt, rt.alloc(), BESIDE)
 }
 
-/// Session 3 tries behind a waiting writer, and again once it has withdrawn; session 2 tries until it is alone.
-const BEHIND_A_QUEUE: &str = "0,1,begin,,,began,1
+/// Tries beside requests of others, and tries that are refused.
+const SCRIPTS: &str = "a_try_does_not_overtake_a_queue 3
+Session 3 tries behind a waiting writer, and again once it has withdrawn; session 2 tries until it is alone. A try that would
+fit beside the holders doesn't overtake a queue. One whose mode is held is granted, whoever waits.
+%calls
+0,1,begin,,,began,1
 1,2,begin,,,began,2
 2,3,begin,,,began,3
 3,1,lock,1,S,granted,S
@@ -95,16 +104,11 @@ const BEHIND_A_QUEUE: &str = "0,1,begin,,,began,1
 16,2,commit,,,committed,1
 17,3,commit,,,committed,1
 18,1,commit,,,committed,0
-";
-
-/// A try that would fit beside the holders doesn't overtake a queue. One whose mode is held is granted, whoever waits.
-#[test]
-fn a_try_does_not_overtake_a_queue(rt: HostRuntime) -> Result<(), Fail> {
-    want_text(&rt, rt.alloc(), 3, BEHIND_A_QUEUE)
-}
-
-/// Readers try to convert: to SIX and to U beside a reader, to U beside U, and to X alone, while a reader waits.
-const CONVERSIONS: &str = "0,1,begin,,,began,1
+=a_try_converts_at_once_or_not_at_all 3
+Readers try to convert: to SIX and to U beside a reader, to U beside U, and to X alone, while a reader waits. A try of a
+conversion that would wait leaves the mode held. One that fits is granted ahead of those that wait.
+%calls
+0,1,begin,,,began,1
 1,2,begin,,,began,2
 2,3,begin,,,began,3
 3,1,lock,1,S,granted,S
@@ -120,16 +124,11 @@ const CONVERSIONS: &str = "0,1,begin,,,began,1
 13,1,commit,,,committed,1
 14,3,poll,,,clear,
 15,3,try,1,X,granted,X
-";
-
-/// A try of a conversion that would wait leaves the mode held. One that fits is granted ahead of those that wait.
-#[test]
-fn a_try_converts_at_once_or_not_at_all(rt: HostRuntime) -> Result<(), Fail> {
-    want_text(&rt, rt.alloc(), 3, CONVERSIONS)
-}
-
-/// Session 1 waits for session 2, which tries what session 1 holds.
-const NO_CYCLE: &str = "0,1,begin,,,began,1
+=a_try_makes_no_victim 2
+Session 1 waits for session 2, which tries what session 1 holds. Where a lock would close a cycle, a try is refused, and
+nobody becomes a victim.
+%calls
+0,1,begin,,,began,1
 1,2,begin,,,began,2
 2,1,lock,1,X,granted,X
 3,2,lock,2,X,granted,X
@@ -141,16 +140,10 @@ const NO_CYCLE: &str = "0,1,begin,,,began,1
 9,2,commit,,,committed,1
 10,1,poll,,,clear,
 11,1,commit,,,committed,2
-";
-
-/// Where a lock would close a cycle, a try is refused, and nobody becomes a victim.
-#[test]
-fn a_try_makes_no_victim(rt: HostRuntime) -> Result<(), Fail> {
-    want_text(&rt, rt.alloc(), 2, NO_CYCLE)
-}
-
-/// Tries that fail one test or several.
-const REFUSALS: &str = "0,1,try,1,NL,refused,NoTransaction
+=refusals_of_a_try_are_tested_in_order 2
+Tries that fail one test or several. A refusal names the first test that the try fails; WouldWait is the last one.
+%calls
+0,1,try,1,NL,refused,NoTransaction
 1,1,begin,,,began,1
 2,1,try,1/2,NL,refused,NothingAsked
 3,1,try,1/2,S,refused,ParentNotHeld
@@ -176,8 +169,8 @@ const REFUSALS: &str = "0,1,try,1,NL,refused,NoTransaction
 23,1,commit,,,committed,2
 ";
 
-/// A refusal of a try names the first test that it fails; `WouldWait` is the last one.
+/// Tries beside requests of others are granted or refused at once.
 #[test]
-fn refusals_of_a_try_are_tested_in_order(rt: HostRuntime) -> Result<(), Fail> {
-    want_text(&rt, rt.alloc(), 2, REFUSALS)
+fn tries_get_their_replies(rt: HostRuntime) -> Result<(), Fail> {
+    want_scripts(&rt, rt.alloc(), SCRIPTS)
 }
