@@ -2,6 +2,7 @@
 
 use glm::Gate;
 use std::hint;
+use std::process::Abort;
 use std::sync::atomic::AtomicU64;
 use std::sync::atomic::Ordering::SeqCst;
 
@@ -26,13 +27,11 @@ impl Counting {
         }
     }
 
-    /// The steps of session 1, of session 2, and those out of turn.
-    pub(crate) fn steps(&self) -> [u64; 3] {
-        [
-            self.first.load(SeqCst),
-            self.second.load(SeqCst),
-            self.out_of_turn.load(SeqCst),
-        ]
+    /// Expects these steps of session 1, of session 2, and out of turn.
+    pub(crate) fn want(&self, abort: &impl Abort, steps: [u64; 3]) {
+        let [first, second, out_of_turn] = steps;
+        let same = self.first.load(SeqCst) == first && self.second.load(SeqCst) == second;
+        assert!(abort; same && self.out_of_turn.load(SeqCst) == out_of_turn);
     }
 
     /// Counts a step of a session, which is in turn as step `turn`.

@@ -1,118 +1,242 @@
-//! The command line: usage errors, help, and the option `--sessions`.
+//! The command line: the version, usage errors and help.
 
-use crate::harness::{run_words, want_bytes, want_output, want_status};
+use crate::harness::{failed, status_of, want, words_of};
+use glm::{OpenGate, VERSION, VERSION_TEXT};
+use lock_modes::{MODES, Mode};
 use std::process::Abort;
 use std::str;
 use std::sync::Wait;
 use std::test::Fail;
 use std::thread::Threads;
 
-/// Expects something to have been written.
-fn want_some(abort: &impl Abort, words: &[&str], written: &[u8]) {
-    assert!(abort; !written.is_empty(), "{words:?}");
+/// Whether a text begins with a part, if `begins`, or has it somewhere. `None` if the text isn't UTF-8.
+fn has_part(written: &[u8], part: &str, begins: bool) -> Option<bool> {
+    let text = str::from_utf8(written).ok()?;
+    if begins {
+        return Some(text.starts_with(part));
+    }
+    Some(text.contains(part))
 }
 
-/// Expects the words to end with status 2, a message on standard error, and no output.
-fn want_misused(
+/// Expects text to have been written on standard output alone if the status is 0, else on standard error alone, and to have a
+/// part, or not to have it. The text of a usage error has to begin with it.
+fn want_part(
+    abort: &impl Abort,
+    case: &str,
+    status: u8,
+    output: &[u8],
+    errors: &[u8],
+    part: &str,
+    has: bool,
+) {
+    let is_error = status == 2;
+    let (written, other) = if is_error {
+        (errors, output)
+    } else {
+        (output, errors)
+    };
+    let is_alone = other.is_empty() && !written.is_empty();
+    assert!(abort;
+        is_alone && has_part(written, part, is_error) == Some(has),
+        "{case}"
+    );
+}
+
+/// Runs the program for a case: words, `>` and a part of what is written. Expects the status, and the text to have the part, or
+/// not to have it.
+fn want_case(
     rt: &(impl AllocGlobal + Threads + Wait),
     abort: &impl Abort,
-    words: &[&str],
+    case: &str,
+    wanted: u8,
+    has: bool,
 ) -> Result<(), Fail> {
-    let input = "1,begin,,\n";
-    let ran = run_words(rt, words, input.as_bytes())?;
-    want_status(abort, words, input, &ran, 2);
-    want_bytes(abort, words, input, &ran.output, b"".as_slice());
-    want_some(abort, words, &ran.errors);
+    let (line, part) = case.split_once('>').ok_or("no case")?;
+    let words = words_of(rt, line)?;
+    let input = b"".as_slice();
+    let mut output = Vec::new(rt.alloc());
+    let mut errors = Vec::new(rt.alloc());
+    let status = status_of(rt, &words, input, &mut output, &mut errors, &OpenGate);
+    assert!(abort; status == wanted, "{case}");
+    want_part(abort, case, status, &output, &errors, part, has);
     Ok(())
 }
 
-/// Unknown commands and options, missing values, and values out of range.
+/// Runs the program for each case of a text. There is `|` with a line end between cases.
+fn want_parts(
+    rt: &(impl AllocGlobal + Threads + Wait),
+    abort: &impl Abort,
+    cases: &str,
+    status: u8,
+    has: bool,
+) -> Result<(), Fail> {
+    for case in cases.split("|\n") {
+        want_case(rt, abort, case, status, has)?;
+    }
+    Ok(())
+}
+
+/// The version that the library names is the one that the program writes.
+#[test]
+fn the_version_is_that_of_the_text(rt: HostRuntime) {
+    assert!(rt; VERSION == "0.7.0" && VERSION_TEXT.contains(VERSION));
+}
+
+/// Unknown commands and options, missing values, and values out of range. No words at all are a usage error, too. `--stream`
+/// where a command doesn't have it is reported like a flag that no command has.
+const MISUSED: &str = "glm>|
+glm reply>|
+glm replay extra>|
+glm replay --sessions>|
+glm replay --sessions 0>|
+glm replay --sessions 1025>|
+glm replay --sessions 65536>|
+glm replay --sessions -1>|
+glm replay --sessions two>|
+glm replay --session 2>|
+glm replay --stream=true>|
+glm replay --stream --stream>|
+glm --stream replay>|
+glm run --stream=true>|
+glm run --stream --sessions=1024>|
+glm check --stream>error: unexpected argument '--stream' found
+|
+glm show --csv --dot>|
+glm show --at>|
+glm show --at -1>|
+glm show --at=07>|
+glm show --at 4294967296>|
+glm explain --csv --dot>|
+glm explain --at=07>|
+glm explain --at 4294967296>|
+glm explain --stream>|
+glm check --at=1>";
+
+/// Misused words end with status 2, a message on standard error, and no output.
 #[test]
 fn usage_errors_end_with_status_2(rt: HostRuntime) -> Result<(), Fail> {
-    for words in [
-        ["reply"].as_slice(),
-        ["replay", "extra"].as_slice(),
-        ["replay", "--sessions"].as_slice(),
-        ["replay", "--sessions", "0"].as_slice(),
-        ["replay", "--sessions", "1025"].as_slice(),
-        ["replay", "--sessions", "65536"].as_slice(),
-        ["replay", "--sessions", "-1"].as_slice(),
-        ["replay", "--sessions", "two"].as_slice(),
-        ["replay", "--session", "2"].as_slice(),
-        ["replay", "--stream=true"].as_slice(),
-        ["replay", "--stream", "--stream"].as_slice(),
-        ["--stream", "replay"].as_slice(),
-        ["run", "--stream=true"].as_slice(),
-        ["run", "--stream", "--sessions=1024"].as_slice(),
-        ["check", "--stream"].as_slice(),
-        ["show", "--csv", "--dot"].as_slice(),
-        ["show", "--at"].as_slice(),
-        ["show", "--at", "-1"].as_slice(),
-        ["show", "--at=07"].as_slice(),
-        ["show", "--at", "4294967296"].as_slice(),
-        ["explain", "--csv", "--dot"].as_slice(),
-        ["explain", "--at=07"].as_slice(),
-        ["explain", "--at", "4294967296"].as_slice(),
-        ["explain", "--stream"].as_slice(),
-        ["check", "--at=1"].as_slice(),
-    ] {
-        want_misused(&rt, &rt, words)?;
+    want_parts(&rt, &rt, MISUSED, 2, true)
+}
+
+/// Words with a number that has a zero or a sign in front, with as many sessions as an office has for a run in pieces, and
+/// with two forms.
+const NO_NUMERALS: &str = "glm replay --sessions 01
+glm check --sessions=+1
+glm run --turns 010
+glm run --stream --sessions=1024
+glm show --at=07
+glm show --csv --dot
+glm explain --at=07
+glm explain --csv --dot
+";
+
+/// A number with a leading zero or a plus sign is a usage error, for each option and command that is tried, and so are as
+/// many sessions as an office has for a run in pieces, and a state or an explanation in two forms.
+#[test]
+fn option_numbers_have_no_sign_and_no_leading_zero(rt: HostRuntime) -> Result<(), Fail> {
+    let message =
+        "error: a number is written with digits alone, with no sign and no zero before it, and 'run --stream' has at most 1023\nsessions; 'show' and 'explain' take one of --csv and --dot\n\nFor more information, try '--help'.\n";
+    for line in NO_NUMERALS.lines() {
+        let wanted = failed(2, message.as_bytes());
+        want(&rt, &rt, line, b"".as_slice(), &wanted)?;
     }
     Ok(())
 }
 
-/// Expects the message to say that the flag is unknown.
-fn want_unknown(abort: &impl Abort, words: &[&str], text: &str) {
-    let line = "error: unexpected argument '--stream' found\n";
-    assert!(abort; text.starts_with(line), "{words:?} {text}");
-}
+/// What the help of the program and of each command has: a row of its format or a word, what it reads, and the exit statuses.
+const HELP: &str = "glm --help>replay|
+glm help>replay|
+glm help>standard input|
+glm help>
+  4  memory was refused
+|
+glm replay --help>1,convert,1/2,X|
+glm replay --help>--stream|
+glm replay --help>standard input|
+glm replay --help>
+  4  memory was refused
+|
+glm run --help>1,lock,1/2,S|
+glm run --help>--stream|
+glm run --help>standard input|
+glm run --help>
+  4  memory was refused
+|
+glm check --help>0,1,begin,,,began,1|
+glm check --help>standard input|
+glm check --help>
+  4  memory was refused
+|
+glm show --help>holds 1 in S|
+glm show --help>standard input|
+glm show --help>
+  4  memory was refused
+|
+glm explain --help>7,1,lock,1,S,granted,S|
+glm explain --help>standard input|
+glm explain --help>
+  4  memory was refused
+|
+glm help replay>1,release,1/2,|
+glm help replay>1,try,1/3,S|
+glm help replay>standard input|
+glm help replay>
+  4  memory was refused
+|
+glm help run>1,withdraw,,|
+glm help run>standard input|
+glm help run>
+  4  memory was refused
+|
+glm help check>6,3,withdraw,,,withdrawn,|
+glm help check>standard input|
+glm help check>
+  4  memory was refused
+|
+glm replay -h>--stream|
+glm run -h>--stream";
 
-/// No words at all are a usage error.
+/// The help that doesn't name a flag, since the command doesn't have it.
+const NO_FLAG: &str = "glm check --help>--stream|
+glm check -h>--stream";
+
+/// Help goes to standard output. Every command's help shows a row of its format, the exit statuses, and the flag `--stream`
+/// where the command has it.
 #[test]
-fn a_command_is_required(rt: HostRuntime) -> Result<(), Fail> {
-    want_misused(&rt, &rt, &[])
+fn help_shows_rows_and_statuses(rt: HostRuntime) -> Result<(), Fail> {
+    want_parts(&rt, &rt, HELP, 0, true)?;
+    want_parts(&rt, &rt, NO_FLAG, 0, false)
 }
 
-/// Expects the words to end with status 0, some output, and no errors.
-fn want_written(
-    rt: &(impl AllocGlobal + Threads + Wait),
-    abort: &impl Abort,
-    words: &[&str],
-) -> Result<(), Fail> {
-    let ran = run_words(rt, words, b"".as_slice())?;
-    want_status(abort, words, "", &ran, 0);
-    want_some(abort, words, &ran.output);
-    want_bytes(abort, words, "", &ran.errors, b"".as_slice());
-    Ok(())
-}
-
-/// Help goes to standard output, for the program and for a command.
-#[test]
-fn help_is_written_to_the_output(rt: HostRuntime) -> Result<(), Fail> {
-    for words in [["--help"].as_slice(), ["replay", "--help"].as_slice()] {
-        want_written(&rt, &rt, words)?;
+/// Whether the text has the word, alone or before a comma or a full stop.
+fn has_word(text: &str, word: &str) -> bool {
+    for found in text.split_whitespace() {
+        if found == word
+            || found.strip_suffix(',') == Some(word)
+            || found.strip_suffix('.') == Some(word)
+        {
+            return true;
+        }
     }
-    Ok(())
+    false
 }
 
-/// `--stream` where a command doesn't have it is reported like a flag that no command has.
-#[test]
-fn a_flag_of_another_command_is_unknown(rt: HostRuntime) -> Result<(), Fail> {
-    let words = ["check", "--stream"];
-    let ran = run_words(&rt, &words, b"".as_slice())?;
-    let text = str::from_utf8(&ran.errors).map_err(|_| "no text")?;
-    want_unknown(&rt, &words, text);
-    Ok(())
-}
-
-/// `--sessions N` and `--sessions=N` are both read.
-#[test]
-fn the_sessions_option_is_read_in_both_forms(rt: HostRuntime) -> Result<(), Fail> {
-    for words in [
-        ["replay", "--sessions", "1"].as_slice(),
-        ["replay", "--sessions=1024"].as_slice(),
-    ] {
-        want_output(&rt, &rt, words, "1,begin,,\n", "0,1,begin,,,began,1\n")?;
+/// Expects status 0, and each mode that a call can ask for to be named.
+fn want_modes(abort: &impl Abort, status: u8, text: &[u8]) {
+    assert!(abort; status == 0);
+    let text = str::from_utf8(text).unwrap_or("");
+    for mode in MODES {
+        assert!(abort; mode == Mode::NL || has_word(text, mode.name()));
     }
-    Ok(())
+}
+
+/// The help of `replay` names each mode that a call can ask for.
+#[test]
+fn help_names_every_mode(rt: HostRuntime) {
+    let mut output = Vec::new(rt.alloc());
+    let mut errors = Vec::new(rt.alloc());
+    let words = ["glm", "replay", "--help"];
+    let input = b"".as_slice();
+    let status = status_of(&rt, &words, input, &mut output, &mut errors, &OpenGate);
+    want_modes(&rt, status, &output);
 }

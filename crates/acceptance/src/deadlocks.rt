@@ -1,11 +1,12 @@
 //! Deadlocks: traces with their histories, worked out by hand.
 
-use crate::harness::want_histories;
+use crate::harness::want_cases;
 use std::test::Fail;
 
-/// Two readers convert to X: the younger one is the victim at once, and the older one is granted when the victim aborts.
-const CONVERSIONS_AGAINST_EACH_OTHER: (&str, &str) = (
-    "1,begin,,
+/// Which session is the victim, what it keeps, and who goes on.
+const DEADLOCKS: &str =
+    "Two readers convert to X: the younger one is the victim at once, and the older one is granted when the victim aborts:
+1,begin,,
 2,begin,,
 1,lock,1,S
 2,lock,1,S
@@ -14,8 +15,8 @@ const CONVERSIONS_AGAINST_EACH_OTHER: (&str, &str) = (
 1,poll,,
 2,abort,,
 1,poll,,
-",
-    "0,1,begin,,,began,1
+>
+0,1,begin,,,began,1
 1,2,begin,,,began,2
 2,1,lock,1,S,granted,S
 3,2,lock,1,S,granted,S
@@ -24,13 +25,10 @@ const CONVERSIONS_AGAINST_EACH_OTHER: (&str, &str) = (
 6,1,poll,,,waiting,
 7,2,abort,,,aborted,1
 8,1,poll,,,clear,
-",
-);
-
-/// The victim is the youngest on the cycle, not the session whose request closed the cycle. It keeps its locks, and can only
-/// poll and abort.
-const VICTIM_IS_NOT_THE_ASKER: (&str, &str) = (
-    "1,begin,,
+|
+The victim is the youngest on the cycle, not the session whose request closed the cycle. It keeps its locks, and can only
+poll and abort:
+1,begin,,
 2,begin,,
 1,lock,1,IX
 1,lock,1/1,X
@@ -45,8 +43,8 @@ const VICTIM_IS_NOT_THE_ASKER: (&str, &str) = (
 2,commit,,
 2,abort,,
 1,poll,,
-",
-    "0,1,begin,,,began,1
+>
+0,1,begin,,,began,1
 1,2,begin,,,began,2
 2,1,lock,1,IX,granted,IX
 3,1,lock,1/1,X,granted,X
@@ -61,12 +59,9 @@ const VICTIM_IS_NOT_THE_ASKER: (&str, &str) = (
 12,2,commit,,,refused,IsDoomed
 13,2,abort,,,aborted,2
 14,1,poll,,,clear,
-",
-);
-
-/// A request closes two cycles: both other sessions become victims.
-const TWO_VICTIMS: (&str, &str) = (
-    "1,begin,,
+|
+A request closes two cycles: both other sessions become victims:
+1,begin,,
 2,begin,,
 3,begin,,
 1,lock,1,IX
@@ -85,8 +80,8 @@ const TWO_VICTIMS: (&str, &str) = (
 1,poll,,
 2,abort,,
 1,poll,,
-",
-    "0,1,begin,,,began,1
+>
+0,1,begin,,,began,1
 1,2,begin,,,began,2
 2,3,begin,,,began,3
 3,1,lock,1,IX,granted,IX
@@ -105,12 +100,9 @@ const TWO_VICTIMS: (&str, &str) = (
 16,1,poll,,,waiting,
 17,2,abort,,,aborted,2
 18,1,poll,,,clear,
-",
-);
-
-/// The victim's request leaves the queue, so that the request that closed the cycle is granted at once.
-const VICTIM_MAKES_ROOM: (&str, &str) = (
-    "1,begin,,
+|
+The victim's request leaves the queue, so that the request that closed the cycle is granted at once:
+1,begin,,
 2,begin,,
 3,begin,,
 1,lock,2,X
@@ -120,8 +112,8 @@ const VICTIM_MAKES_ROOM: (&str, &str) = (
 1,lock,1,S
 3,poll,,
 2,poll,,
-",
-    "0,1,begin,,,began,1
+>
+0,1,begin,,,began,1
 1,2,begin,,,began,2
 2,3,begin,,,began,3
 3,1,lock,2,X,granted,X
@@ -131,49 +123,9 @@ const VICTIM_MAKES_ROOM: (&str, &str) = (
 7,1,lock,1,S,granted,S
 8,3,poll,,,deadlock,
 9,2,poll,,,waiting,
-",
-);
-
-/// The victim is doomed until it aborts, and then the others go on to their commits. This pair is also the example
-/// `deadlock.csv`.
-pub(crate) const EXAMPLE: (&str, &str) = (
-    "1,begin,,
-2,begin,,
-3,begin,,
-1,lock,2,X
-2,lock,1,S
-3,lock,1,X
-2,lock,2,S
-1,lock,1,S
-3,poll,,
-3,lock,3,S
-2,poll,,
-3,abort,,
-1,commit,,
-2,poll,,
-2,commit,,
-",
-    "0,1,begin,,,began,1
-1,2,begin,,,began,2
-2,3,begin,,,began,3
-3,1,lock,2,X,granted,X
-4,2,lock,1,S,granted,S
-5,3,lock,1,X,waiting,
-6,2,lock,2,S,waiting,
-7,1,lock,1,S,granted,S
-8,3,poll,,,deadlock,
-9,3,lock,3,S,refused,IsDoomed
-10,2,poll,,,waiting,
-11,3,abort,,,aborted,0
-12,1,commit,,,committed,2
-13,2,poll,,,clear,
-14,2,commit,,,committed,2
-",
-);
-
-/// Two holders of IS on a database both convert to X.
-const PARENTS_IN_A_CIRCLE: (&str, &str) = (
-    "1,begin,,
+|
+Two holders of IS on a database both convert to X:
+1,begin,,
 2,begin,,
 1,lock,1,IS
 2,lock,1,IS
@@ -182,8 +134,8 @@ const PARENTS_IN_A_CIRCLE: (&str, &str) = (
 2,lock,1,X
 1,lock,1,X
 2,poll,,
-",
-    "0,1,begin,,,began,1
+>
+0,1,begin,,,began,1
 1,2,begin,,,began,2
 2,1,lock,1,IS,granted,IS
 3,2,lock,1,IS,granted,IS
@@ -192,12 +144,9 @@ const PARENTS_IN_A_CIRCLE: (&str, &str) = (
 6,2,lock,1,X,waiting,
 7,1,lock,1,X,waiting,
 8,2,poll,,,deadlock,
-",
-);
-
-/// A cycle through a wait for an earlier request in the same queue.
-const CIRCLE_THROUGH_A_PLACE: (&str, &str) = (
-    "1,begin,,
+|
+A cycle through a wait for an earlier request in the same queue:
+1,begin,,
 2,begin,,
 3,begin,,
 1,lock,1,S
@@ -211,8 +160,8 @@ const CIRCLE_THROUGH_A_PLACE: (&str, &str) = (
 1,poll,,
 1,commit,,
 2,poll,,
-",
-    "0,1,begin,,,began,1
+>
+0,1,begin,,,began,1
 1,2,begin,,,began,2
 2,3,begin,,,began,3
 3,1,lock,1,S,granted,S
@@ -226,23 +175,10 @@ const CIRCLE_THROUGH_A_PLACE: (&str, &str) = (
 11,1,poll,,,clear,
 12,1,commit,,,committed,2
 13,2,poll,,,clear,
-",
-);
+";
 
 /// Victims are chosen, keep their locks until they abort, and let the others go on.
 #[test]
 fn deadlocks_replay_to_their_histories(rt: HostRuntime) -> Result<(), Fail> {
-    want_histories(
-        &rt,
-        &rt,
-        &[
-            CONVERSIONS_AGAINST_EACH_OTHER,
-            VICTIM_IS_NOT_THE_ASKER,
-            TWO_VICTIMS,
-            VICTIM_MAKES_ROOM,
-            EXAMPLE,
-            PARENTS_IN_A_CIRCLE,
-            CIRCLE_THROUGH_A_PLACE,
-        ],
-    )
+    want_cases(&rt, &rt, "glm replay", 0, DEADLOCKS)
 }

@@ -51,8 +51,8 @@ fn want_settled(
     requires within { session ≤ book.old.sessions }
     ensures { book.new.sessions ≡ book.old.sessions }
 {
-    assert_eq!(rt; reply, expected);
-    assert_eq!(rt; settle(book, session, reply)?, ended);
+    let settled = settle(book, session, reply)?;
+    assert!(rt; reply == expected && settled == ended);
     Ok(())
 }
 

@@ -1,21 +1,45 @@
-//! Runs the program in memory, and compares its status and what it writes.
+//! Runs the program in memory, and compares its status and what it writes. Tables of cases are texts, one loop over which
+//! runs them all.
 
 use glm::{Gate, OpenGate, program};
+use std::alloc::AllocError;
 use std::io::{Read, Write};
 use std::process::Abort;
 use std::sync::Wait;
 use std::test::Fail;
 use std::thread::Threads;
 
-/// The result of one execution of the program.
-#[derive(Drop)]
-pub(crate) struct Ran {
+/// What an execution of the program has to end with and to write.
+#[derive(Clone, Copy)]
+pub(crate) struct Wanted<'a> {
+    /// What a failed test is told by, beside the words.
+    pub title: &'a str,
     /// The exit status.
     pub status: u8,
     /// The bytes on standard output.
-    pub output: Vec<u8>,
+    pub output: &'a [u8],
     /// The bytes on standard error.
-    pub errors: Vec<u8>,
+    pub errors: &'a [u8],
+}
+
+/// Status 0 and this output.
+pub(crate) fn done(output: &[u8]) -> Wanted<'_> {
+    Wanted {
+        title: "",
+        status: 0,
+        output,
+        errors: b"".as_slice(),
+    }
+}
+
+/// This status and these errors, with no output.
+pub(crate) fn failed(status: u8, errors: &[u8]) -> Wanted<'_> {
+    Wanted {
+        title: "",
+        status,
+        output: b"".as_slice(),
+        errors,
+    }
 }
 
 /// Runs the program on these words, the program's name first, and returns the exit status.
@@ -30,122 +54,96 @@ pub(crate) fn status_of<R: Read + Drop, W: Write, E: Write, G: Gate>(
     program(rt, rt.alloc(), words, input, output, errors, gate)
 }
 
-/// Returns the program's name followed by these words.
-fn with_program_name<'a>(
+/// Returns the words of a line.
+pub(crate) fn words_of<'a>(
     rt: &(impl AllocGlobal + Threads + Wait),
-    words: &[&'a str],
-) -> Result<Vec<&'a str>, Fail> {
-    let mut all = vec![in rt.alloc(); "glm"]?;
-    for word in words {
-        all.push(*word)?;
-    }
-    Ok(all)
+    line: &'a str,
+) -> Result<Vec<&'a str>, AllocError> {
+    line.split_whitespace().collect(rt.alloc())
 }
 
-/// Runs the program on its name and these words.
-pub(crate) fn run_words(
-    rt: &(impl AllocGlobal + Threads + Wait),
-    words: &[&str],
-    input: &[u8],
-) -> Result<Ran, Fail> {
-    run_words_at(rt, words, input, &OpenGate)
-}
-
-/// Runs the program on its name and these words, with a gate.
-pub(crate) fn run_words_at<G: Gate>(
-    rt: &(impl AllocGlobal + Threads + Wait),
-    words: &[&str],
-    input: &[u8],
-    gate: &G,
-) -> Result<Ran, Fail> {
-    let all = with_program_name(rt, words)?;
-    let mut output = Vec::new(rt.alloc());
-    let mut errors = Vec::new(rt.alloc());
-    let status = status_of(rt, &all, input, &mut output, &mut errors, gate);
-    Ok(Ran {
-        status,
-        output,
-        errors,
-    })
-}
-
-/// Expects the program to have ended with this status.
-pub(crate) fn want_status(abort: &impl Abort, words: &[&str], input: &str, ran: &Ran, status: u8) {
-    assert_eq!(abort; ran.status, status, "{words:?} {input}");
-}
-
-/// Expects these bytes to have been written.
-pub(crate) fn want_bytes(
-    abort: &impl Abort,
-    words: &[&str],
-    input: &str,
-    written: &[u8],
-    wanted: &[u8],
-) {
-    assert_eq!(abort; written, wanted, "{words:?} {input}");
-}
-
-/// Expects the program to have ended with this status, and to have written this output and these errors.
+/// Expects this status and these bytes.
 pub(crate) fn want_ran(
     abort: &impl Abort,
-    words: &[&str],
-    input: &str,
-    ran: &Ran,
+    line: &str,
     status: u8,
-    output: &str,
-    errors: &str,
+    output: &[u8],
+    errors: &[u8],
+    wanted: &Wanted<'_>,
 ) {
-    want_status(abort, words, input, ran, status);
-    want_bytes(abort, words, input, &ran.output, output.as_bytes());
-    want_bytes(abort, words, input, &ran.errors, errors.as_bytes());
+    let same = output == wanted.output && errors == wanted.errors;
+    assert!(abort;
+        same && status == wanted.status,
+        "{line}: {}: status {status}",
+        wanted.title
+    );
 }
 
-/// Runs the program on these words, and expects this status, this output and these errors.
-pub(crate) fn want(
+/// Runs the program on the words of a line, with a gate, and expects what is wanted.
+pub(crate) fn want_at<G: Gate>(
     rt: &(impl AllocGlobal + Threads + Wait),
     abort: &impl Abort,
-    words: &[&str],
-    input: &str,
-    status: u8,
-    output: &str,
-    errors: &str,
+    line: &str,
+    input: &[u8],
+    wanted: &Wanted<'_>,
+    gate: &G,
 ) -> Result<(), Fail> {
-    let ran = run_words(rt, words, input.as_bytes())?;
-    want_ran(abort, words, input, &ran, status, output, errors);
+    let words = words_of(rt, line)?;
+    let mut output = Vec::new(rt.alloc());
+    let mut errors = Vec::new(rt.alloc());
+    let status = status_of(rt, &words, input, &mut output, &mut errors, gate);
+    want_ran(abort, line, status, &output, &errors, wanted);
     Ok(())
 }
 
-/// Runs the program on these words, and expects status 0, this output and no errors.
-pub(crate) fn want_output(
+/// Runs the program on the words of a line, and expects what is wanted.
+pub(crate) fn want(
     rt: &(impl AllocGlobal + Threads + Wait),
     abort: &impl Abort,
-    words: &[&str],
-    input: &str,
-    output: &str,
+    line: &str,
+    input: &[u8],
+    wanted: &Wanted<'_>,
 ) -> Result<(), Fail> {
-    want(rt, abort, words, input, 0, output, "")
+    want_at(rt, abort, line, input, wanted, &OpenGate)
 }
 
-/// Runs the program on these words, and expects this status, these errors and no output.
-pub(crate) fn want_errors(
+/// The input of a case, and what is written for it. A case is a title that ends with a colon and a line end, the input, `>`
+/// with a line end, and what is written. `None` if the text isn't one.
+pub(crate) fn parts_of(case: &str) -> Option<(&str, &str)> {
+    let (_title, parts) = case.split_once(":\n")?;
+    parts.split_once(">\n")
+}
+
+/// Runs the program on the words of a line with the input of a case, and expects this status and what the case says, on
+/// standard output for the statuses 0 and 3, else on standard error.
+fn want_case(
     rt: &(impl AllocGlobal + Threads + Wait),
     abort: &impl Abort,
-    words: &[&str],
-    input: &str,
+    line: &str,
     status: u8,
-    errors: &str,
+    case: &str,
 ) -> Result<(), Fail> {
-    want(rt, abort, words, input, status, "", errors)
+    let (input, text) = parts_of(case).ok_or("no case")?;
+    let mut wanted = failed(status, text.as_bytes());
+    if status == 0 || status == 3 {
+        wanted = done(text.as_bytes());
+        wanted.status = status;
+    }
+    wanted.title = case;
+    want(rt, abort, line, input.as_bytes(), &wanted)
 }
 
-/// Replays each trace, and expects the history beside it.
-pub(crate) fn want_histories(
+/// Runs the program on the words of a line for each case of a text, and expects this status and what the case says. There is
+/// `|` with a line end between cases.
+pub(crate) fn want_cases(
     rt: &(impl AllocGlobal + Threads + Wait),
     abort: &impl Abort,
-    pairs: &[(&str, &str)],
+    line: &str,
+    status: u8,
+    cases: &str,
 ) -> Result<(), Fail> {
-    for (trace, history) in pairs {
-        want_output(rt, abort, ["replay"].as_slice(), trace, history)?;
+    for case in cases.split("|\n") {
+        want_case(rt, abort, line, status, case)?;
     }
     Ok(())
 }

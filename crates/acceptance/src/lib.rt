@@ -6,8 +6,6 @@ mod bad_input;
 #[cfg(test)]
 mod call_gates;
 #[cfg(test)]
-mod check_command;
-#[cfg(test)]
 mod command_line;
 #[cfg(test)]
 mod conversions;
@@ -16,17 +14,17 @@ mod deadlocks;
 #[cfg(test)]
 mod engine;
 #[cfg(test)]
-mod explanations;
+mod examples;
 #[cfg(test)]
 mod harness;
-#[cfg(test)]
-mod help;
 #[cfg(test)]
 mod history_checks;
 #[cfg(test)]
 mod limits;
 #[cfg(test)]
 mod mode_pairs;
+#[cfg(test)]
+mod numbered;
 #[cfg(test)]
 mod other_sessions;
 #[cfg(test)]
@@ -37,8 +35,6 @@ mod reader_faults;
 mod replays;
 #[cfg(test)]
 mod runs_in_pieces;
-#[cfg(test)]
-mod shows;
 #[cfg(test)]
 mod threaded_runs;
 #[cfg(test)]

@@ -1,89 +1,99 @@
 //! Every two modes through `replay`: one requested beside the other in both orders, and one converted to by a holder of the
 //! other. The tables are typed by hand, and have the modes by rising code.
 
-use crate::limits::{TraceBuilder, begin, empty, row, want_replayed};
-use std::fmt::Display;
+use crate::numbered::{Built, Values, empty, row, want_replayed};
 use std::test::Fail;
 
 /// The names of the modes.
-const NAMES: [&str; 7] = ["NL", "IS", "IX", "S", "SIX", "U", "X"];
+const NAMES: &str = "NL IS IX S SIX U X";
 
-/// The mode is granted.
-const YES: bool = true;
+/// A row for each requested mode: its name, and whether it is granted beside each mode.
+const BESIDE: &str = "NL yes yes yes yes yes yes yes
+IS yes yes yes yes yes no no
+IX yes yes yes no no no no
+S yes yes no yes no no no
+SIX yes yes no no no no no
+U yes yes no yes no no no
+X yes no no no no no no
+";
 
-/// The request waits.
-const NO: bool = false;
+/// A row for each mode held: its name, and the mode held after a request for each mode.
+const AFTER: &str = "NL NL IS IX S SIX U X
+IS IS IS IX S SIX U X
+IX IX IX IX SIX SIX X X
+S S S SIX S SIX U X
+SIX SIX SIX SIX SIX SIX X X
+U U U X U X U X
+X X X X X X X X
+";
 
-/// A row for each requested mode: beside which granted modes it is granted.
-const BESIDE: [[bool; 7]; 7] = [
-    [YES, YES, YES, YES, YES, YES, YES],
-    [YES, YES, YES, YES, YES, NO, NO],
-    [YES, YES, YES, NO, NO, NO, NO],
-    [YES, YES, NO, YES, NO, NO, NO],
-    [YES, YES, NO, NO, NO, NO, NO],
-    [YES, YES, NO, YES, NO, NO, NO],
-    [YES, NO, NO, NO, NO, NO, NO],
-];
-
-/// A row for each mode held: the mode held after a request for each mode.
-const AFTER: [[&str; 7]; 7] = [
-    ["NL", "IS", "IX", "S", "SIX", "U", "X"],
-    ["IS", "IS", "IX", "S", "SIX", "U", "X"],
-    ["IX", "IX", "IX", "SIX", "SIX", "X", "X"],
-    ["S", "S", "SIX", "S", "SIX", "U", "X"],
-    ["SIX", "SIX", "SIX", "SIX", "SIX", "X", "X"],
-    ["U", "U", "X", "U", "X", "U", "X"],
-    ["X", "X", "X", "X", "X", "X", "X"],
-];
-
-/// Appends a lock of a database. NL is refused; another mode gets this reply.
-fn lock(
-    built: &mut TraceBuilder,
-    session: u32,
-    database: u32,
-    mode: &str,
-    reply: impl Display + Drop,
-) -> Result<(), Fail> {
-    let call = format_args!("lock,{database},{mode}");
+/// The reply to a lock in a mode: NL is refused, and another mode gets this reply.
+fn reply_to<'a>(mode: &str, reply: &'a str) -> &'a str {
     if mode == "NL" {
-        return row(built, session, call, "refused,NothingAsked");
+        return "refused,NothingAsked";
     }
-    row(built, session, call, reply)
+    reply
 }
 
-/// Appends a lock by one session, and one by another beside it. Each pair has two sessions and a database of its own.
-fn ask_beside(
-    built: &mut TraceBuilder,
-    pair: u32,
-    granted: &str,
-    asked: &str,
-    fits: bool,
-) -> Result<(), Fail> {
-    let first = pair.saturating_mul(2).saturating_add(1);
-    let second = first.saturating_add(1);
-    begin(built, first)?;
-    begin(built, second)?;
-    lock(
-        built,
-        first,
-        pair,
-        granted,
-        format_args!("granted,{granted}"),
-    )?;
-    if fits {
-        return lock(built, second, pair, asked, format_args!("granted,{asked}"));
-    }
-    lock(built, second, pair, asked, "waiting,")
+/// Appends a lock by one session, and one by another beside it. Each pair has two sessions and a database of its own, all
+/// named by the pair's number.
+fn ask_beside(built: &mut Built, number: u32, texts: [&str; 3]) -> Result<(), Fail> {
+    let [granted, asked, fits] = texts;
+    let values = Values { number, texts };
+    let reply = if fits == "yes" {
+        "granted,>"
+    } else {
+        "waiting,"
+    };
+    row(built, "#,begin,,", "began,#", &values)?;
+    row(built, "@,begin,,", "began,@", &values)?;
+    row(built, "#,lock,#,<", reply_to(granted, "granted,<"), &values)?;
+    row(built, "@,lock,#,>", reply_to(asked, reply), &values)
 }
 
-/// Appends all pairs of a requested and a granted mode.
-fn ask_all_beside(built: &mut TraceBuilder) -> Result<(), Fail> {
-    let mut pair = 0u32;
-    for (asked, row) in NAMES.into_iter().zip(BESIDE) {
-        for (granted, fits) in NAMES.into_iter().zip(row) {
-            ask_beside(built, pair, granted, asked, fits)?;
-            pair = pair.saturating_add(1);
+/// The reply to a conversion of a lock in a mode to another mode, which makes it a third one.
+fn reply_to_conversion(held: &str, asked: &str) -> &'static str {
+    if held == "NL" {
+        return reply_to(asked, "refused,NotHeld");
+    }
+    reply_to(asked, "granted,=")
+}
+
+/// Appends a lock by a session, and a second one in another mode; and a lock by the next session, and a conversion to the other
+/// mode. Each has a database of its own.
+fn raise(built: &mut Built, number: u32, texts: [&str; 3]) -> Result<(), Fail> {
+    let [held, asked, _after] = texts;
+    let values = Values { number, texts };
+    let granted = reply_to(held, "granted,<");
+    row(built, "#,begin,,", "began,#", &values)?;
+    row(built, "#,lock,#,<", granted, &values)?;
+    row(built, "#,lock,#,>", reply_to(asked, "granted,="), &values)?;
+    row(built, "@,begin,,", "began,@", &values)?;
+    row(built, "@,lock,@,<", granted, &values)?;
+    let converted = reply_to_conversion(held, asked);
+    row(built, "@,convert,@,>", converted, &values)
+}
+
+/// Appends the pairs of a row of a table. Each pair has two numbers.
+fn pairs_of_row(built: &mut Built, number: &mut u32, line: &str, raises: bool) -> Result<(), Fail> {
+    let mut words = line.split_whitespace();
+    let name = words.next().unwrap_or("");
+    for (other, cell) in NAMES.split_whitespace().zip(words) {
+        if raises {
+            raise(built, *number, [name, other, cell])?;
+        } else {
+            ask_beside(built, *number, [other, name, cell])?;
         }
+        *number = number.saturating_add(2);
+    }
+    Ok(())
+}
+
+/// Appends the pairs of a table.
+fn pairs_of_table(built: &mut Built, table: &str, raises: bool) -> Result<(), Fail> {
+    let mut number = 1;
+    for line in table.lines() {
+        pairs_of_row(built, &mut number, line, raises)?;
     }
     Ok(())
 }
@@ -92,62 +102,14 @@ fn ask_all_beside(built: &mut TraceBuilder) -> Result<(), Fail> {
 #[test]
 fn every_mode_is_requested_beside_every_mode(rt: HostRuntime) -> Result<(), Fail> {
     let mut built = empty(&rt);
-    ask_all_beside(&mut built)?;
+    pairs_of_table(&mut built, BESIDE, false)?;
     want_replayed(&rt, &rt, &built)
-}
-
-/// Appends a lock by a session, and a second one in another mode. Each pair has a session and a database of its own.
-fn lock_again(
-    built: &mut TraceBuilder,
-    pair: u32,
-    held: &str,
-    asked: &str,
-    after: &str,
-) -> Result<(), Fail> {
-    let session = pair.saturating_add(1);
-    begin(built, session)?;
-    lock(built, session, pair, held, format_args!("granted,{held}"))?;
-    lock(built, session, pair, asked, format_args!("granted,{after}"))
-}
-
-/// Appends a lock by a session, and a conversion to another mode. Each pair has a session and a database of its own.
-fn convert(
-    built: &mut TraceBuilder,
-    pair: u32,
-    held: &str,
-    asked: &str,
-    after: &str,
-) -> Result<(), Fail> {
-    let session = pair.saturating_add(1);
-    begin(built, session)?;
-    lock(built, session, pair, held, format_args!("granted,{held}"))?;
-    let call = format_args!("convert,{pair},{asked}");
-    if asked == "NL" {
-        return row(built, session, call, "refused,NothingAsked");
-    }
-    if held == "NL" {
-        return row(built, session, call, "refused,NotHeld");
-    }
-    row(built, session, call, format_args!("granted,{after}"))
-}
-
-/// Appends all pairs of a mode held and a mode asked for, first with a lock and then with a conversion.
-fn raise_all(built: &mut TraceBuilder) -> Result<(), Fail> {
-    let mut pair = 0u32;
-    for (held, row) in NAMES.into_iter().zip(AFTER) {
-        for (asked, after) in NAMES.into_iter().zip(row) {
-            lock_again(built, pair, held, asked, after)?;
-            convert(built, pair.saturating_add(1), held, asked, after)?;
-            pair = pair.saturating_add(2);
-        }
-    }
-    Ok(())
 }
 
 /// Every two modes: what a holder of the first holds after a request for the second.
 #[test]
 fn every_mode_is_requested_by_a_holder_of_every_mode(rt: HostRuntime) -> Result<(), Fail> {
     let mut built = empty(&rt);
-    raise_all(&mut built)?;
+    pairs_of_table(&mut built, AFTER, true)?;
     want_replayed(&rt, &rt, &built)
 }

@@ -1,12 +1,13 @@
 //! Calls of one session beside the others: traces with their histories, worked out by hand.
 
-use crate::harness::want_histories;
+use crate::harness::want_cases;
 use std::test::Fail;
 
-/// A begin changes nothing for other sessions: session 2 keeps waiting, and session 3 stays a victim until it aborts. The
-/// next transaction of session 3 is no victim.
-const BEGIN_BESIDE_WAITING_AND_DOOMED: (&str, &str) = (
-    "1,begin,,
+/// Begins, polls, releases and commits, each seen beside the other sessions.
+const CALLS: &str =
+    "A begin changes nothing for other sessions: session 2 keeps waiting, and session 3 stays a victim until it aborts. The next
+transaction of session 3 is no victim:
+1,begin,,
 2,begin,,
 1,lock,1,X
 2,lock,1,S
@@ -28,8 +29,8 @@ const BEGIN_BESIDE_WAITING_AND_DOOMED: (&str, &str) = (
 1,commit,,
 2,poll,,
 2,commit,,
-",
-    "0,1,begin,,,began,1
+>
+0,1,begin,,,began,1
 1,2,begin,,,began,2
 2,1,lock,1,X,granted,X
 3,2,lock,1,S,waiting,
@@ -51,12 +52,9 @@ const BEGIN_BESIDE_WAITING_AND_DOOMED: (&str, &str) = (
 19,1,commit,,,committed,2
 20,2,poll,,,clear,
 21,2,commit,,,committed,1
-",
-);
-
-/// A poll of a session that doesn't wait replies `clear`, with or without locks, also while another session waits for it.
-const POLLS_OF_A_HOLDER: (&str, &str) = (
-    "7,begin,,
+|
+A poll of a session that doesn't wait replies `clear`, with or without locks, also while another session waits for it:
+7,begin,,
 7,poll,,
 7,lock,3,SIX
 7,poll,,
@@ -67,8 +65,8 @@ const POLLS_OF_A_HOLDER: (&str, &str) = (
 7,lock,3,IS
 7,commit,,
 7,poll,,
-",
-    "0,7,begin,,,began,1
+>
+0,7,begin,,,began,1
 1,7,poll,,,clear,
 2,7,lock,3,SIX,granted,SIX
 3,7,poll,,,clear,
@@ -79,12 +77,9 @@ const POLLS_OF_A_HOLDER: (&str, &str) = (
 8,7,lock,3,IS,granted,SIX
 9,7,commit,,,committed,1
 10,7,poll,,,refused,NoTransaction
-",
-);
-
-/// A release is refused for the session's own locks on children, and not for another session's.
-const RELEASE_ABOVE_ANOTHER: (&str, &str) = (
-    "1,begin,,
+|
+A release is refused for the session's own locks on children, and not for another session's:
+1,begin,,
 2,begin,,
 1,lock,5,IS
 2,lock,5,IX
@@ -96,8 +91,8 @@ const RELEASE_ABOVE_ANOTHER: (&str, &str) = (
 2,release,5,
 1,commit,,
 2,commit,,
-",
-    "0,1,begin,,,began,1
+>
+0,1,begin,,,began,1
 1,2,begin,,,began,2
 2,1,lock,5,IS,granted,IS
 3,2,lock,5,IX,granted,IX
@@ -109,12 +104,9 @@ const RELEASE_ABOVE_ANOTHER: (&str, &str) = (
 9,2,release,5,,released,
 10,1,commit,,,committed,0
 11,2,commit,,,committed,0
-",
-);
-
-/// A commit releases the locks of all four levels.
-const COMMIT_OF_FOUR: (&str, &str) = (
-    "1,begin,,
+|
+A commit releases the locks of all four levels:
+1,begin,,
 1,lock,9,IX
 1,lock,9/8,IX
 1,lock,9/8/7,SIX
@@ -122,8 +114,8 @@ const COMMIT_OF_FOUR: (&str, &str) = (
 1,commit,,
 1,begin,,
 1,commit,,
-",
-    "0,1,begin,,,began,1
+>
+0,1,begin,,,began,1
 1,1,lock,9,IX,granted,IX
 2,1,lock,9/8,IX,granted,IX
 3,1,lock,9/8/7,SIX,granted,SIX
@@ -131,20 +123,10 @@ const COMMIT_OF_FOUR: (&str, &str) = (
 5,1,commit,,,committed,4
 6,1,begin,,,began,2
 7,1,commit,,,committed,0
-",
-);
+";
 
 /// Begins, polls, releases and commits, each seen beside the other sessions.
 #[test]
 fn calls_beside_other_sessions_replay_to_their_histories(rt: HostRuntime) -> Result<(), Fail> {
-    want_histories(
-        &rt,
-        &rt,
-        &[
-            BEGIN_BESIDE_WAITING_AND_DOOMED,
-            POLLS_OF_A_HOLDER,
-            RELEASE_ABOVE_ANOTHER,
-            COMMIT_OF_FOUR,
-        ],
-    )
+    want_cases(&rt, &rt, "glm replay", 0, CALLS)
 }

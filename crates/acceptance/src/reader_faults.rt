@@ -1,9 +1,8 @@
 //! Readers that fail: the fault `Device` of the row that was being read, status 5, and no output.
 
 use crate::call_gates::Counting;
-use crate::harness::status_of;
-use crate::replays::EXAMPLES;
-use crate::shows::DEADLOCK;
+use crate::examples::{DEADLOCK, EXAMPLES};
+use crate::harness::{parts_of, status_of};
 use glm::{OpenGate, ToolFault, check, replay, run};
 use lock_trace::{TraceFault, TraceKind};
 use lock_tree::PathFault;
@@ -16,11 +15,11 @@ use std::thread::Threads;
 
 /// A reader that gives a text, at most `piece` bytes a call, and then fails.
 #[derive(Drop)]
-pub(crate) struct Cut<'a> {
+struct Cut<'a> {
     /// The bytes that are still to be given.
-    pub(crate) left: &'a [u8],
+    left: &'a [u8],
     /// The number of bytes that a call gives at most.
-    pub(crate) piece: usize,
+    piece: usize,
 }
 
 impl Read for Cut<'_> {
@@ -39,9 +38,6 @@ impl Read for Cut<'_> {
     }
 }
 
-/// A trace whose reader fails after its first row.
-const GIVEN: &[u8] = b"1,begin,,\n";
-
 /// The number of each fault.
 #[test]
 fn tool_faults_have_their_numbers(rt: HostRuntime) {
@@ -49,40 +45,18 @@ fn tool_faults_have_their_numbers(rt: HostRuntime) {
         row: 1,
         kind: TraceKind::Op,
     };
-    for (fault, number) in [
-        (ToolFault::Trace(bad_row), 1),
-        (ToolFault::NoMemory, 2),
-        (ToolFault::Device, 3),
-        (ToolFault::GateShut, 4),
-        (ToolFault::TurnLimit, 5),
-    ] {
-        assert_eq!(rt; fault.number(), number);
-    }
+    let first = ToolFault::Trace(bad_row).number() == 1 && ToolFault::NoMemory.number() == 2;
+    let others = ToolFault::GateShut.number() == 4 && ToolFault::TurnLimit.number() == 5;
+    assert!(rt; first && ToolFault::Device.number() == 3 && others);
 }
 
 /// A replay returns the number of rows, without blank lines.
 #[test]
-fn a_replay_counts_its_rows(rt: HostRuntime) -> Result<(), Fail> {
+fn a_replay_counts_its_rows(rt: HostRuntime) {
     let mut output = Vec::new(rt.alloc());
-    let rows = replay(
-        rt.alloc(),
-        b"1,begin,,\n\n1,commit,,".as_slice(),
-        &mut output,
-        1,
-    );
+    let trace = b"1,begin,,\n\n1,commit,,".as_slice();
+    let rows = replay(rt.alloc(), trace, &mut output, 1);
     assert!(rt; rows == Ok(2));
-    Ok(())
-}
-
-/// A command with the input that it is tried on.
-#[derive(Clone, Copy)]
-struct Try<'a> {
-    /// The word of the command.
-    word: &'a str,
-    /// The input.
-    text: &'a str,
-    /// The first faulty row of the input, with the line that the program writes for it.
-    bad: Option<(TraceFault, &'a str)>,
 }
 
 /// Calls a command of the library for 256 sessions. Returns its fault, or `None` if it succeeded.
@@ -101,34 +75,22 @@ fn fault_of<R: Read + Drop>(
     check(rt.alloc(), input, 256).err()
 }
 
-/// The fault of an input whose reader gives these bytes and then fails, with the line that the program writes for it: the
-/// faulty row if it was read to its end, else `Device` in the row that was being read.
-fn fault_after<'a>(given: &[u8], bad: Option<(TraceFault, &'a str)>) -> (TraceFault, &'a str) {
-    let row = 1 + given.iter().filter(|b| **b == b'\n').count() as u64;
-    match bad {
-        Some((fault, line)) if fault.row < row => (fault, line),
-        _ => (
-            TraceFault {
-                row,
-                kind: TraceKind::Device,
-            },
-            "glm: device\n",
-        ),
-    }
-}
-
-/// Calls a command of the library with a reader that gives these bytes and then fails. Expects the fault, and no output.
+/// Expects a fault of a row, and no output.
 fn want_fault(
-    rt: &(impl AllocGlobal + Threads + Wait),
     abort: &impl Abort,
     word: &str,
-    input: Cut<'_>,
+    fault: Option<ToolFault>,
+    output: &[u8],
     wanted: TraceFault,
 ) {
-    let mut output = Vec::new(rt.alloc());
-    let fault = fault_of(rt, word, input, &mut output);
-    assert!(abort; fault == Some(ToolFault::Trace(wanted)), "{word}");
-    assert!(abort; output.is_empty(), "{word}");
+    let same = fault == Some(ToolFault::Trace(wanted));
+    assert!(abort; same && output.is_empty(), "{word}");
+}
+
+/// Expects this status and line, and no output.
+fn want_line(abort: &impl Abort, status: u8, output: &[u8], errors: &[u8], wanted: u8, line: &str) {
+    let same = errors == line.as_bytes() && output.is_empty();
+    assert!(abort; same && status == wanted, "{status} {line}");
 }
 
 /// Runs the program with a reader that gives these bytes and then fails. Expects this status and line, and no output.
@@ -136,104 +98,145 @@ fn want_status_and_line(
     rt: &(impl AllocGlobal + Threads + Wait),
     abort: &impl Abort,
     word: &str,
-    input: Cut<'_>,
+    left: &[u8],
     wanted: u8,
     line: &str,
 ) {
     let mut output = Vec::new(rt.alloc());
     let mut errors = Vec::new(rt.alloc());
     let words = ["glm", word];
+    let input = Cut { left, piece: 16 };
     let status = status_of(rt, &words, input, &mut output, &mut errors, &OpenGate);
-    assert_eq!(abort; status, wanted);
-    assert_eq!(abort; errors.as_slice(), line.as_bytes());
-    assert!(abort; output.is_empty(), "{word}");
+    want_line(abort, status, &output, &errors, wanted, line);
 }
 
-/// Tries a command with readers that give the first `length` bytes of the input, a byte or up to 16 bytes a call, and then
-/// fail. The program itself is run only at the ends of rows.
+/// The fault of an input whose reader fails in a row: of row 2 if that one is faulty and was read to its end, else `Device`.
+fn fault_in(row: u64, is_faulty: bool) -> TraceFault {
+    if is_faulty && row > 2 {
+        return TraceFault {
+            row: 2,
+            kind: TraceKind::Path(PathFault::LeadingZero),
+        };
+    }
+    TraceFault {
+        row,
+        kind: TraceKind::Device,
+    }
+}
+
+/// Calls a command of the library with a reader that gives these bytes, at most `piece` a call, and then fails. Expects this
+/// fault, and no output.
+fn want_fault_of(
+    rt: &(impl AllocGlobal + Threads + Wait),
+    abort: &impl Abort,
+    word: &str,
+    left: &[u8],
+    piece: usize,
+    wanted: TraceFault,
+) {
+    let mut output = Vec::new(rt.alloc());
+    let fault = fault_of(rt, word, Cut { left, piece }, &mut output);
+    want_fault(abort, word, fault, &output, wanted);
+}
+
+/// Tries a command with readers that give these bytes, a byte or up to 16 bytes a call, and then fail in a row.
 fn want_failed_reader(
     rt: &(impl AllocGlobal + Threads + Wait),
     abort: &impl Abort,
-    tried: &Try<'_>,
-    length: usize,
+    word: &str,
+    left: &[u8],
+    row: u64,
+    is_faulty: bool,
 ) {
-    assert!(abort; length <= tried.text.len());
-    let left = &tried.text.as_bytes()[..length];
-    let (fault, line) = fault_after(left, tried.bad);
-    for piece in [1, 16] {
-        want_fault(rt, abort, tried.word, Cut { left, piece }, fault);
-    }
-    if left.ends_with(b"\n".as_slice()) {
-        let status = if fault.kind == TraceKind::Device {
-            5
-        } else {
-            1
-        };
-        let input = Cut { left, piece: 16 };
-        want_status_and_line(rt, abort, tried.word, input, status, line);
+    let wanted = fault_in(row, is_faulty);
+    want_fault_of(rt, abort, word, left, 1, wanted);
+    want_fault_of(rt, abort, word, left, 16, wanted);
+}
+
+/// Runs the program with a reader that gives these bytes and then fails in a row.
+fn want_failed_program(
+    rt: &(impl AllocGlobal + Threads + Wait),
+    abort: &impl Abort,
+    word: &str,
+    left: &[u8],
+    row: u64,
+    is_faulty: bool,
+) {
+    if is_faulty && row > 2 {
+        let line = "glm: row 2: Path LeadingZero\n";
+        want_status_and_line(rt, abort, word, left, 1, line);
+    } else {
+        want_status_and_line(rt, abort, word, left, 5, "glm: device\n");
     }
 }
 
-/// Tries a command with readers that fail at each of their calls.
+/// Tries a command with readers that fail at each of their calls. The program itself is run only at the ends of rows.
 fn want_failed_readers(
     rt: &(impl AllocGlobal + Threads + Wait),
     abort: &impl Abort,
-    tried: &Try<'_>,
+    word: &str,
+    text: &str,
+    is_faulty: bool,
 ) {
-    for length in 0..=tried.text.len() {
-        want_failed_reader(rt, abort, tried, length);
+    let bytes = text.as_bytes();
+    let mut row = 1u64;
+    for length in 0..=bytes.len() {
+        let left = &bytes[..length];
+        if left.ends_with(b"\n".as_slice()) {
+            row = row.saturating_add(1);
+            want_failed_program(rt, abort, word, left, row, is_faulty);
+        }
+        want_failed_reader(rt, abort, word, left, row, is_faulty);
     }
+}
+
+/// Tries `replay` and `run` with readers of the input of each case of a text, and `check` with readers of what is written.
+fn want_failed_readers_of(
+    rt: &(impl AllocGlobal + Threads + Wait),
+    abort: &impl Abort,
+    cases: &str,
+    is_faulty: bool,
+) -> Result<(), Fail> {
+    for case in cases.split("|\n") {
+        let (trace, history) = parts_of(case).ok_or("no case")?;
+        want_failed_readers(rt, abort, "replay", trace, is_faulty);
+        want_failed_readers(rt, abort, "run", trace, is_faulty);
+        want_failed_readers(rt, abort, "check", history, is_faulty);
+    }
+    Ok(())
 }
 
 /// A reader that fails is reported with the row that was being read, wherever it fails in an example trace or history, and
 /// nothing is written.
 #[test]
-fn a_failed_reader_is_reported_with_its_row(rt: HostRuntime) {
-    for (trace, history) in EXAMPLES.as_slice() {
-        for (word, text) in [("replay", *trace), ("run", *trace), ("check", *history)] {
-            let tried = Try {
-                word,
-                text,
-                bad: None,
-            };
-            want_failed_readers(&rt, &rt, &tried);
-        }
-    }
+fn a_failed_reader_is_reported_with_its_row(rt: HostRuntime) -> Result<(), Fail> {
+    want_failed_readers_of(&rt, &rt, EXAMPLES, false)
 }
+
+/// A trace and a history whose row 2 is faulty.
+const FAULTY_CASE: &str = "A zero in front of a number:
+1,begin,,
+1,lock,01,S
+1,commit,,
+>
+0,1,begin,,,began,1
+1,1,lock,01,S,granted,S
+2,1,commit,,,committed,1
+";
 
 /// A reader that fails behind a faulty row changes nothing: the faulty row is reported.
 #[test]
-fn a_faulty_row_is_reported_before_a_failed_reader(rt: HostRuntime) {
-    let path = TraceFault {
-        row: 2,
-        kind: TraceKind::Path(PathFault::LeadingZero),
-    };
-    let line = "glm: row 2: Path LeadingZero\n";
-    for (word, text) in [
-        ("replay", "1,begin,,\n1,lock,01,S\n1,commit,,\n"),
-        ("run", "1,begin,,\n1,lock,01,S\n1,commit,,\n"),
-        (
-            "check",
-            "0,1,begin,,,began,1\n1,1,lock,01,S,granted,S\n2,1,commit,,,committed,1\n",
-        ),
-    ] {
-        let tried = Try {
-            word,
-            text,
-            bad: Some((path, line)),
-        };
-        want_failed_readers(&rt, &rt, &tried);
-    }
+fn a_faulty_row_is_reported_before_a_failed_reader(rt: HostRuntime) -> Result<(), Fail> {
+    want_failed_readers_of(&rt, &rt, FAULTY_CASE, true)
 }
 
 /// Wherever the reader of a history fails that is to be shown or explained, nothing is written.
 #[test]
 fn a_failed_reader_shows_and_explains_nothing(rt: HostRuntime) {
-    let device = "glm: device\n";
+    let history = DEADLOCK.as_bytes();
     for word in ["show", "explain"] {
-        for length in 0..=DEADLOCK.len() {
-            let left = &DEADLOCK.as_bytes()[..length];
-            want_status_and_line(&rt, &rt, word, Cut { left, piece: 16 }, 5, device);
+        for length in 0..=history.len() {
+            want_status_and_line(&rt, &rt, word, &history[..length], 5, "glm: device\n");
         }
     }
 }
@@ -244,14 +247,14 @@ fn a_run_whose_reader_fails_starts_no_thread(rt: HostRuntime) {
     let gate = Counting::new();
     let mut output = Vec::new(rt.alloc());
     let input = Cut {
-        left: GIVEN,
+        left: b"1,begin,,\n".as_slice(),
         piece: 1,
     };
-    let fault = run(&rt, rt.alloc(), input, &mut output, 1, 9, &gate);
-    assert!(rt; gate.steps().as_slice() == [0, 0, 0].as_slice());
+    let fault = run(&rt, rt.alloc(), input, &mut output, 1, 9, &gate).err();
     let wanted = TraceFault {
         row: 2,
         kind: TraceKind::Device,
     };
-    assert!(rt; fault == Err(ToolFault::Trace(wanted)));
+    want_fault(&rt, "run", fault, &output, wanted);
+    gate.want(&rt, [0, 0, 0]);
 }

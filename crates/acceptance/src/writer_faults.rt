@@ -1,8 +1,7 @@
 //! Writers that fail: the fault `Device`, status 5, and what was written before.
 
-use crate::explanations::DEADLOCK_TOLD;
-use crate::harness::{run_words, status_of};
-use crate::shows::{DEADLOCK, LINES_AT_7};
+use crate::examples::{DEADLOCK, DEADLOCK_TOLD, LINES_AT_7};
+use crate::harness::{status_of, words_of};
 use crate::threaded_runs::{TREE, TREE_HISTORY};
 use glm::{OpenGate, ToolFault, VERSION_TEXT, replay, run};
 use std::io;
@@ -84,63 +83,75 @@ impl Write for Halting {
     }
 }
 
-/// The command line of a replay.
-const WORDS: [&str; 2] = ["glm", "replay"];
-
 /// Expects status 5 and its line on standard error.
 fn want_device(abort: &impl Abort, status: u8, errors: &[u8]) {
-    assert_eq!(abort; status, 5);
-    assert_eq!(abort; errors, b"glm: device\n".as_slice());
-}
-
-/// Runs the program on these words with an output that takes no bytes, and expects status 5 and its line.
-fn want_failed_writer(
-    rt: &(impl AllocGlobal + Threads + Wait),
-    abort: &impl Abort,
-    words: &[&str],
-    input: &[u8],
-) {
-    let mut errors = Vec::new(rt.alloc());
-    let status = status_of(rt, words, input, &mut Full, &mut errors, &OpenGate);
-    want_device(abort, status, &errors);
+    let is_told = errors == b"glm: device\n".as_slice();
+    assert!(abort; is_told && status == 5, "{status}");
 }
 
 /// A replay or a run whose output takes no bytes ends with the fault `Device`, and a replay with status 5.
 #[test]
 fn a_failed_writer_ends_with_status_5(rt: HostRuntime) {
     let input = b"1,begin,,\n".as_slice();
-    want_failed_writer(&rt, &rt, WORDS.as_slice(), input);
+    let mut errors = Vec::new(rt.alloc());
+    let words = ["glm", "replay"];
+    let status = status_of(&rt, &words, input, &mut Full, &mut errors, &OpenGate);
+    want_device(&rt, status, &errors);
     let fault = replay(rt.alloc(), input, &mut Full, 1);
     assert!(rt; fault == Err(ToolFault::Device));
     let fault = run(&rt, rt.alloc(), input, &mut Full, 1, 9, &OpenGate);
     assert!(rt; fault == Err(ToolFault::Device));
 }
 
-/// Runs the program on these words and a faulty row with a standard error that takes no bytes. Expects this status and no
-/// output.
-fn want_status_without_errors(
-    rt: &(impl AllocGlobal + Threads + Wait),
-    abort: &impl Abort,
-    words: &[&str],
-    wanted: u8,
-) {
-    let mut output = Vec::new(rt.alloc());
-    let bad = b"x,begin,,\n".as_slice();
-    let status = status_of(rt, words, bad, &mut output, &mut Full, &OpenGate);
-    assert_eq!(abort; status, wanted);
-    assert!(abort; output.is_empty());
+/// Expects this status, and no output.
+fn want_status(abort: &impl Abort, status: u8, output: &[u8], wanted: u8) {
+    assert!(abort; status == wanted && output.is_empty(), "{status}");
 }
 
-/// The exit status is the same if standard error takes no bytes, for a faulty row and for a usage error.
+/// The exit status is the same if standard error takes no bytes, for a faulty row and for a usage error, and nothing is
+/// written.
 #[test]
-fn a_failed_standard_error_changes_no_status(rt: HostRuntime) -> Result<(), Fail> {
-    want_status_without_errors(&rt, &rt, WORDS.as_slice(), 1);
-    want_status_without_errors(&rt, &rt, &["glm"], 2);
-    Ok(())
+fn a_failed_standard_error_changes_no_status(rt: HostRuntime) {
+    let mut output = Vec::new(rt.alloc());
+    let bad = b"x,begin,,\n".as_slice();
+    let status = status_of(
+        &rt,
+        &["glm", "replay"],
+        bad,
+        &mut output,
+        &mut Full,
+        &OpenGate,
+    );
+    want_status(&rt, status, &output, 1);
+    let status = status_of(&rt, &["glm"], bad, &mut output, &mut Full, &OpenGate);
+    want_status(&rt, status, &output, 2);
+}
+
+/// Expects the beginning of the text `whole` as what was written, with status 5 and its line, or the whole text with status 0.
+/// With a byte a call, each of the calls before the failure counts. Returns whether it was the whole.
+fn is_whole(
+    abort: &impl Abort,
+    status: u8,
+    written: &[u8],
+    errors: &[u8],
+    whole: &[u8],
+    bytes: Option<usize>,
+) -> bool {
+    assert!(abort; whole.starts_with(written), "{bytes:?}");
+    if status == 0 {
+        assert!(abort; written.len() == whole.len());
+        return true;
+    }
+    want_device(abort, status, errors);
+    assert!(abort;
+        bytes.is_none() || bytes == Some(written.len()),
+        "{bytes:?}"
+    );
+    false
 }
 
 /// Runs the program with an output that takes `piece` bytes a call and fails after `calls` calls. Expects the beginning of the
-/// text `whole` as the output, with status 5 and its line, or the whole text with status 0. Returns whether it was the whole.
+/// text `whole`, or all of it. Returns whether it was all.
 fn has_written_all(
     rt: &(impl AllocGlobal + Threads + Wait),
     abort: &impl Abort,
@@ -157,82 +168,62 @@ fn has_written_all(
     };
     let mut errors = Vec::new(rt.alloc());
     let status = status_of(rt, words, input, &mut output, &mut errors, &OpenGate);
-    let written = output.taken.as_slice();
-    assert!(abort; whole.starts_with(written), "{words:?} {calls}");
-    if status == 0 {
-        assert_eq!(abort; written.len(), whole.len());
-        return true;
-    }
-    want_device(abort, status, &errors);
-    // with a byte a call, each call before the failure counts
-    assert!(abort; piece > 1 || written.len() == calls, "{words:?} {calls}");
-    false
+    let bytes = if piece == 1 { Some(calls) } else { None };
+    is_whole(abort, status, &output.taken, &errors, whole, bytes)
 }
 
-/// Runs the program with outputs that fail at each of their calls, until one takes the whole text.
+/// Runs the program on the words of a line with outputs that fail at each of their calls, until one takes the whole text.
 pub(crate) fn want_parts(
     rt: &(impl AllocGlobal + Threads + Wait),
     abort: &impl Abort,
-    words: &[&str],
+    line: &str,
     input: &[u8],
     whole: &[u8],
     piece: usize,
-) {
-    for calls in 0..whole.len() {
-        if has_written_all(rt, abort, words, input, whole, calls, piece) {
+) -> Result<(), Fail> {
+    let words = words_of(rt, line)?;
+    for calls in 0..=whole.len() {
+        if has_written_all(rt, abort, &words, input, whole, calls, piece) {
             // the first output took nothing
             assert!(abort; calls > 0);
-            return;
+            return Ok(());
         }
     }
-    assert!(abort; has_written_all(rt, abort, words, input, whole, whole.len(), piece));
+    panic!(abort; "{line}")
 }
 
 /// Wherever the writer fails, what was written is the beginning of the text, for each command and the version.
 #[test]
-fn a_failed_writer_leaves_the_beginning_of_the_text(rt: HostRuntime) {
-    let history = TREE_HISTORY.as_bytes();
-    for (words, input, whole) in [
-        (["glm", "replay"].as_slice(), TREE.as_bytes(), history),
-        (
-            ["glm", "replay", "--stream"].as_slice(),
-            TREE.as_bytes(),
-            history,
-        ),
-        (["glm", "run"].as_slice(), TREE.as_bytes(), history),
-        (
-            ["glm", "check"].as_slice(),
-            history,
-            b"legal 5\n".as_slice(),
-        ),
-        (
-            ["glm", "show", "--at=7"].as_slice(),
-            DEADLOCK.as_bytes(),
-            LINES_AT_7.as_bytes(),
-        ),
-        (
-            ["glm", "explain"].as_slice(),
-            DEADLOCK.as_bytes(),
-            DEADLOCK_TOLD.as_bytes(),
-        ),
-        (
-            ["glm", "--version"].as_slice(),
-            b"".as_slice(),
-            VERSION_TEXT.as_bytes(),
-        ),
+fn a_failed_writer_leaves_the_beginning_of_the_text(rt: HostRuntime) -> Result<(), Fail> {
+    for (line, input, whole) in [
+        ("glm replay", TREE, TREE_HISTORY),
+        ("glm replay --stream", TREE, TREE_HISTORY),
+        ("glm run", TREE, TREE_HISTORY),
+        ("glm check", TREE_HISTORY, "legal 5\n"),
+        ("glm show --at=7", DEADLOCK, LINES_AT_7),
+        ("glm explain", DEADLOCK, DEADLOCK_TOLD),
+        ("glm --version", "", VERSION_TEXT),
     ] {
-        want_parts(&rt, &rt, words, input, whole, 1);
+        want_parts(&rt, &rt, line, input.as_bytes(), whole.as_bytes(), 1)?;
     }
+    Ok(())
 }
 
 /// Wherever the writer fails, what was written is the beginning of the help that a writer gets which doesn't fail.
 #[test]
 fn a_failed_writer_leaves_the_beginning_of_the_help(rt: HostRuntime) -> Result<(), Fail> {
-    let whole = run_words(&rt, &["--help"], b"".as_slice())?;
-    let words = ["glm", "--help"];
+    let mut whole = Vec::new(rt.alloc());
+    let mut errors = Vec::new(rt.alloc());
     let nothing = b"".as_slice();
-    want_parts(&rt, &rt, &words, nothing, &whole.output, usize::MAX);
-    Ok(())
+    let words = ["glm", "--help"];
+    let status = status_of(&rt, &words, nothing, &mut whole, &mut errors, &OpenGate);
+    want_ended(&rt, status, &errors);
+    want_parts(&rt, &rt, "glm --help", nothing, &whole, usize::MAX)
+}
+
+/// Expects status 0 and no errors.
+fn want_ended(abort: &impl Abort, status: u8, errors: &[u8]) {
+    assert!(abort; status == 0 && errors.is_empty(), "{status}");
 }
 
 /// A write that is interrupted is repeated.
@@ -244,14 +235,13 @@ fn an_interrupted_write_is_repeated(rt: HostRuntime) {
     };
     let mut errors = Vec::new(rt.alloc());
     let input = TREE.as_bytes();
-    let status = status_of(
-        &rt,
-        WORDS.as_slice(),
-        input,
-        &mut output,
-        &mut errors,
-        &OpenGate,
-    );
-    assert_eq!(rt; status, 0);
-    assert!(rt; output.taken.as_slice() == TREE_HISTORY.as_bytes());
+    let words = ["glm", "replay"];
+    let status = status_of(&rt, &words, input, &mut output, &mut errors, &OpenGate);
+    want_ended(&rt, status, &errors);
+    want_history(&rt, &output.taken);
+}
+
+/// Expects the history of `TREE`.
+fn want_history(abort: &impl Abort, written: &[u8]) {
+    assert!(abort; written == TREE_HISTORY.as_bytes());
 }
