@@ -1,6 +1,6 @@
 //! The command line: the version, usage errors and help.
 
-use crate::harness::{failed, status_of, want, words_of};
+use crate::harness::{status_of, words_of};
 use glm::{OpenGate, VERSION, VERSION_TEXT};
 use lock_modes::{MODES, Mode};
 use std::process::Abort;
@@ -22,7 +22,7 @@ fn has_part(written: &[u8], part: &str, begins: bool) -> Option<bool> {
 /// part, or not to have it. The text of a usage error has to begin with it.
 fn want_part(
     abort: &impl Abort,
-    case: &str,
+    line: &str,
     status: u8,
     output: &[u8],
     errors: &[u8],
@@ -38,31 +38,32 @@ fn want_part(
     let is_alone = other.is_empty() && !written.is_empty();
     assert!(abort;
         is_alone && has_part(written, part, is_error) == Some(has),
-        "{case}"
+        "{line}"
     );
 }
 
-/// Runs the program for a case: words, `>` and a part of what is written. Expects the status, and the text to have the part, or
-/// not to have it.
+/// Runs the program on the words of a line. Expects the status, and the text that is written to have the part, or not to have
+/// it.
 fn want_case(
     rt: &(impl AllocGlobal + Threads + Wait),
     abort: &impl Abort,
-    case: &str,
+    line: &str,
+    part: &str,
     wanted: u8,
     has: bool,
 ) -> Result<(), Fail> {
-    let (line, part) = case.split_once('>').ok_or("no case")?;
     let words = words_of(rt, line)?;
     let input = b"".as_slice();
     let mut output = Vec::new(rt.alloc());
     let mut errors = Vec::new(rt.alloc());
     let status = status_of(rt, &words, input, &mut output, &mut errors, &OpenGate);
-    assert!(abort; status == wanted, "{case}");
-    want_part(abort, case, status, &output, &errors, part, has);
+    assert!(abort; status == wanted, "{line}");
+    want_part(abort, line, status, &output, &errors, part, has);
     Ok(())
 }
 
-/// Runs the program for each case of a text. There is `|` with a line end between cases.
+/// Runs the program for each case of a text: words, `>` and a part of what is written. There is `|` with a line end between
+/// cases. Expects the status, and the texts to have the parts, or not to have them.
 fn want_parts(
     rt: &(impl AllocGlobal + Threads + Wait),
     abort: &impl Abort,
@@ -71,7 +72,8 @@ fn want_parts(
     has: bool,
 ) -> Result<(), Fail> {
     for case in cases.split("|\n") {
-        want_case(rt, abort, case, status, has)?;
+        let (line, part) = case.split_once('>').unwrap_or((case, "no part"));
+        want_case(rt, abort, line, part, status, has)?;
     }
     Ok(())
 }
@@ -116,31 +118,6 @@ glm check --at=1>";
 #[test]
 fn usage_errors_end_with_status_2(rt: HostRuntime) -> Result<(), Fail> {
     want_parts(&rt, &rt, MISUSED, 2, true)
-}
-
-/// Words with a number that has a zero or a sign in front, with as many sessions as an office has for a run in pieces, and
-/// with two forms.
-const NO_NUMERALS: &str = "glm replay --sessions 01
-glm check --sessions=+1
-glm run --turns 010
-glm run --stream --sessions=1024
-glm show --at=07
-glm show --csv --dot
-glm explain --at=07
-glm explain --csv --dot
-";
-
-/// A number with a leading zero or a plus sign is a usage error, for each option and command that is tried, and so are as
-/// many sessions as an office has for a run in pieces, and a state or an explanation in two forms.
-#[test]
-fn option_numbers_have_no_sign_and_no_leading_zero(rt: HostRuntime) -> Result<(), Fail> {
-    let message =
-        "error: a number is written with digits alone, with no sign and no zero before it, and 'run --stream' has at most 1023\nsessions; 'show' and 'explain' take one of --csv and --dot\n\nFor more information, try '--help'.\n";
-    for line in NO_NUMERALS.lines() {
-        let wanted = failed(2, message.as_bytes());
-        want(&rt, &rt, line, b"".as_slice(), &wanted)?;
-    }
-    Ok(())
 }
 
 /// What the help of the program and of each command has: a row of its format or a word, what it reads, and the exit statuses.

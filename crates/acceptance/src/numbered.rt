@@ -46,10 +46,11 @@ fn text_for<'a>(c: char, values: &Values<'a>) -> &'a str {
     }
 }
 
-/// Appends a text with the values put in.
+/// Appends a text with the values put in, and a character.
 pub(crate) fn push_filled(
     text: &mut String,
     pattern: &str,
+    end: char,
     values: &Values<'_>,
 ) -> Result<(), Fail> {
     for c in pattern.chars() {
@@ -63,6 +64,7 @@ pub(crate) fn push_filled(
             _ => text.push(c)?,
         }
     }
+    text.push(end)?;
     Ok(())
 }
 
@@ -73,13 +75,10 @@ pub(crate) fn row(
     reply: &str,
     values: &Values<'_>,
 ) -> Result<(), Fail> {
-    push_filled(&mut built.trace, call, values)?;
-    built.trace.push('\n')?;
+    push_filled(&mut built.trace, call, '\n', values)?;
     write!(built.history, "{},", built.rows)?;
-    push_filled(&mut built.history, call, values)?;
-    built.history.push(',')?;
-    push_filled(&mut built.history, reply, values)?;
-    built.history.push('\n')?;
+    push_filled(&mut built.history, call, ',', values)?;
+    push_filled(&mut built.history, reply, '\n', values)?;
     built.rows = built.rows.saturating_add(1);
     Ok(())
 }

@@ -253,16 +253,16 @@ fn runs_of_the_example_traces_are_legal(rt: HostRuntime) -> Result<(), Fail> {
 /// Appends a row of each session. The transactions of all sessions conflict on two databases.
 fn push_rows(trace: &mut String, sessions: u16, number: u64) -> Result<(), Fail> {
     let row = match number % 5 {
-        0 => "#,begin,,\n",
-        1 => "#,lock,1,S\n",
-        2 => "#,lock,2,IX\n",
-        3 => "#,lock,1,X\n",
-        _ => "#,abort,,\n",
+        0 => "#,begin,,",
+        1 => "#,lock,1,S",
+        2 => "#,lock,2,IX",
+        3 => "#,lock,1,X",
+        _ => "#,abort,,",
     };
     for session in 1..=sessions {
         let number = u32::from(session);
         let texts = [""; 3];
-        push_filled(trace, row, &Values { number, texts })?;
+        push_filled(trace, row, '\n', &Values { number, texts })?;
     }
     Ok(())
 }
