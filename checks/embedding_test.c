@@ -37,6 +37,11 @@ static const uint32_t off_modes[] = {2, 4, 6, 8, 12, 14, 16, 255, 256, 257, UINT
 static const uint32_t off_levels[] = {0, 6, 256, 257, UINT32_MAX};
 #define COUNT(list) (sizeof(list) / sizeof((list)[0]))
 
+static void post(void *engine, uint32_t session) {
+    sem_t *semaphores = (sem_t *)engine;
+    sem_post(&semaphores[session]);
+}
+
 /* Every bad argument of a book's calls gives its status, and then nothing is written. */
 static void books_refuse(void) {
     pelgaisti_book book = PELGAISTI_EMPTY;
@@ -487,12 +492,11 @@ static void paths_are_locked(void) {
     CHECK(pelgaisti_book_first_kept(&book, &length) == PELGAISTI_OK && length == 7);
     CHECK(pelgaisti_book_close(&book) == PELGAISTI_OK);
 
-    /* the same in an office, where a path may also be left with a call that isn't served */
+    /* the same in an office */
     CHECK(pelgaisti_office_open(two, 2) == PELGAISTI_OK);
     for (size_t k = 0; k < 2; k++) CHECK(pelgaisti_session_perform(&two[k], &begin, 9, &answer) == PELGAISTI_OK && answer.place == k);
     level = 0;
     path.level = 2;
-    CHECK(pelgaisti_session_lock_path(&two[0], &path, PELGAISTI_S, &level, 0, &answer) == PELGAISTI_NOT_SERVED && level == 0);
     CHECK(pelgaisti_session_lock_path(&two[0], &path, PELGAISTI_S, &level, 1, &answer) == PELGAISTI_OK && level == 2);
     CHECK(answer.place == 3 && answer.reply.kind == PELGAISTI_GRANTED && answer.reply.value == PELGAISTI_S);
     level = 0;
@@ -506,6 +510,97 @@ static void paths_are_locked(void) {
     CHECK(pelgaisti_session_hand_in(&two[1], &two[0]) == PELGAISTI_OK && pelgaisti_office_close(&two[0], &book) == PELGAISTI_OK);
     CHECK(pelgaisti_book_length(&book, &length) == PELGAISTI_OK && length == 10);
     CHECK(pelgaisti_book_held(&book, 2, &read.resource, &mode) == PELGAISTI_OK && mode == PELGAISTI_IX);
+    CHECK(pelgaisti_book_close(&book) == PELGAISTI_OK);
+}
+
+/* A path takes no pending call for its own: PENDING, and nothing has changed, whether the call is served or not. */
+static void paths_and_pending_calls(void) {
+    pelgaisti_call begin = call_of(PELGAISTI_BEGIN, 0, 0, 0, 0), lock = call_of(PELGAISTI_LOCK, PELGAISTI_X, 1, 1, 0);
+    pelgaisti_session two[2] = {PELGAISTI_EMPTY, PELGAISTI_EMPTY};
+    pelgaisti_book book = PELGAISTI_EMPTY;
+    pelgaisti_resource other = {1, {2}};
+    pelgaisti_answer answer;
+    uint32_t mode = 99, level = 0, list[2];
+    uint64_t seen = 99, before = 0;
+
+    CHECK(pelgaisti_office_open(two, 2) == PELGAISTI_OK);
+    CHECK(pelgaisti_session_perform(&two[0], &begin, 9, &answer) == PELGAISTI_OK);
+    CHECK(pelgaisti_session_perform(&two[0], &lock, 0, &answer) == PELGAISTI_NOT_SERVED);
+    answer.place = 99;
+    for (int is_served = 0; is_served <= 1; is_served++) {
+        pelgaisti_waker waker = {post, NULL, list, 2};
+        CHECK(pelgaisti_session_seen(&two[0], &before) == PELGAISTI_OK);
+        for (uint64_t turns = 0; turns <= 40; turns += 20) {
+            CHECK(pelgaisti_session_lock_path(&two[0], &other, PELGAISTI_X, &level, turns, &answer) == PELGAISTI_PENDING);
+            CHECK(pelgaisti_session_lock_path_waking(&two[0], &other, PELGAISTI_X, &level, turns, &waker, &answer) == PELGAISTI_PENDING);
+            waker.room = 1;
+        }
+        CHECK(level == 0 && answer.place == 99 && pelgaisti_session_seen(&two[0], &seen) == PELGAISTI_OK && seen == before);
+        if (!is_served) CHECK(pelgaisti_session_serve(&two[1], NULL) == PELGAISTI_OK);
+    }
+    CHECK(pelgaisti_session_held(&two[1], 1, &lock.resource, &mode, &seen) == PELGAISTI_OK && mode == PELGAISTI_X && seen == 2);
+    CHECK(pelgaisti_session_held(&two[1], 1, &other, &mode, &seen) == PELGAISTI_OK && mode == PELGAISTI_NL && seen == 2);
+    CHECK(pelgaisti_session_collect(&two[0], &answer) == PELGAISTI_OK && answer.place == 1);
+    CHECK(pelgaisti_session_lock_path(&two[0], &other, PELGAISTI_X, &level, 9, &answer) == PELGAISTI_OK);
+    CHECK(level == 1 && answer.place == 2);
+    CHECK(pelgaisti_session_held(&two[1], 1, &other, &mode, &seen) == PELGAISTI_OK && mode == PELGAISTI_X && seen == 3);
+    CHECK(pelgaisti_session_hand_in(&two[1], &two[0]) == PELGAISTI_OK && pelgaisti_office_close(&two[0], &book) == PELGAISTI_OK);
+    CHECK(pelgaisti_book_close(&book) == PELGAISTI_OK);
+}
+
+/* A path that ran out of turns leaves a call of its own pending, which is finished by itself. Then the same call goes on, with the
+   level that it was left, whether that call was granted, had to wait or was refused. */
+static void paths_without_turns(void) {
+    pelgaisti_call begin = call_of(PELGAISTI_BEGIN, 0, 0, 0, 0), commit = call_of(PELGAISTI_COMMIT, 0, 0, 0, 0);
+    pelgaisti_call poll = call_of(PELGAISTI_POLL, 0, 0, 0, 0);
+    pelgaisti_session two[2] = {PELGAISTI_EMPTY, PELGAISTI_EMPTY}, *s = &two[1];
+    pelgaisti_book book = PELGAISTI_EMPTY;
+    pelgaisti_resource path = {3, {1, 2, 3}};
+    pelgaisti_answer answer;
+    uint32_t level = 0, mode = 99;
+    uint64_t length = 0;
+
+    CHECK(pelgaisti_office_open(two, 2) == PELGAISTI_OK);
+    /* refused, as there is no transaction */
+    CHECK(pelgaisti_session_lock_path(s, &path, PELGAISTI_X, &level, 0, &answer) == PELGAISTI_NOT_SERVED && level == 0);
+    CHECK(pelgaisti_session_perform(s, NULL, 9, &answer) == PELGAISTI_OK && answer.place == 0);
+    CHECK(answer.reply.kind == PELGAISTI_REFUSED && answer.reply.value == PELGAISTI_NO_TRANSACTION);
+    CHECK(pelgaisti_session_lock_path(s, &path, PELGAISTI_X, &level, 9, &answer) == PELGAISTI_OK && level == 0 && answer.place == 1);
+    CHECK(answer.reply.kind == PELGAISTI_REFUSED && answer.reply.value == PELGAISTI_NO_TRANSACTION);
+    /* granted, at the first level and at the next one */
+    CHECK(pelgaisti_session_perform(s, &begin, 9, &answer) == PELGAISTI_OK);
+    CHECK(pelgaisti_session_lock_path(s, &path, PELGAISTI_X, &level, 0, &answer) == PELGAISTI_NOT_SERVED && level == 0);
+    CHECK(pelgaisti_session_lock_path(s, &path, PELGAISTI_X, &level, 9, &answer) == PELGAISTI_PENDING && level == 0);
+    CHECK(pelgaisti_session_perform(s, NULL, 9, &answer) == PELGAISTI_OK && answer.place == 3);
+    CHECK(answer.reply.kind == PELGAISTI_GRANTED && answer.reply.value == PELGAISTI_IX);
+    path.level = 1;
+    CHECK(pelgaisti_session_lock_path(s, &path, PELGAISTI_IX, &level, 9, &answer) == PELGAISTI_OK && level == 1 && answer.place == 4);
+    path.level = 3;
+    CHECK(pelgaisti_session_lock_path(s, &path, PELGAISTI_X, &level, 0, &answer) == PELGAISTI_NOT_SERVED && level == 1);
+    CHECK(pelgaisti_session_perform(s, NULL, 9, &answer) == PELGAISTI_OK && answer.place == 5);
+    CHECK(answer.reply.kind == PELGAISTI_GRANTED && answer.reply.value == PELGAISTI_IX);
+    CHECK(pelgaisti_session_lock_path(s, &path, PELGAISTI_X, &level, 9, &answer) == PELGAISTI_OK && level == 3 && answer.place == 7);
+    CHECK(answer.reply.kind == PELGAISTI_GRANTED && answer.reply.value == PELGAISTI_X);
+    /* a wait for session 2, which has the database in IX */
+    s = &two[0];
+    path.level = 2;
+    path.numbers[1] = 9;
+    level = 0;
+    CHECK(pelgaisti_session_perform(s, &begin, 9, &answer) == PELGAISTI_OK);
+    CHECK(pelgaisti_session_lock_path(s, &path, PELGAISTI_S, &level, 9, &answer) == PELGAISTI_OK && level == 2);
+    path.level = 1;
+    level = 0;
+    CHECK(pelgaisti_session_lock_path(s, &path, PELGAISTI_S, &level, 0, &answer) == PELGAISTI_NOT_SERVED && level == 0);
+    CHECK(pelgaisti_session_perform(s, NULL, 9, &answer) == PELGAISTI_OK && answer.reply.kind == PELGAISTI_WAITING);
+    CHECK(pelgaisti_session_lock_path(s, &path, PELGAISTI_S, &level, 9, &answer) == PELGAISTI_OK && level == 0);
+    CHECK(answer.reply.kind == PELGAISTI_REFUSED && answer.reply.value == PELGAISTI_IS_WAITING);
+    CHECK(pelgaisti_session_perform(&two[1], &commit, 9, &answer) == PELGAISTI_OK && answer.reply.value == 3);
+    CHECK(pelgaisti_session_perform(s, &poll, 9, &answer) == PELGAISTI_OK && answer.reply.kind == PELGAISTI_CLEAR);
+    CHECK(pelgaisti_session_lock_path(s, &path, PELGAISTI_S, &level, 9, &answer) == PELGAISTI_OK && level == 1);
+    CHECK(answer.reply.kind == PELGAISTI_GRANTED && answer.reply.value == PELGAISTI_S);
+    CHECK(pelgaisti_session_hand_in(&two[1], &two[0]) == PELGAISTI_OK && pelgaisti_office_close(&two[0], &book) == PELGAISTI_OK);
+    CHECK(pelgaisti_book_length(&book, &length) == PELGAISTI_OK && length == 16);
+    CHECK(pelgaisti_book_held(&book, 1, &path, &mode) == PELGAISTI_OK && mode == PELGAISTI_S);
     CHECK(pelgaisti_book_close(&book) == PELGAISTI_OK);
 }
 
@@ -1383,11 +1478,6 @@ typedef struct sleeper {
     uint32_t told[SLEEPERS];
 } sleeper;
 
-static void post(void *engine, uint32_t session) {
-    sem_t *semaphores = (sem_t *)engine;
-    sem_post(&semaphores[session]);
-}
-
 /* Makes a call, and posts the semaphore of each session whose wait a pass of this thread has ended. Returns the reply's kind. */
 static uint32_t call_and_wake(sleeper *j, uint32_t op, uint32_t database) {
     pelgaisti_call call = call_of(op, PELGAISTI_X, 1, database, 0);
@@ -1533,6 +1623,8 @@ int main(int argc, char **argv) {
     numbers_have_names();
     batches_are_served();
     paths_are_locked();
+    paths_and_pending_calls();
+    paths_without_turns();
     modes_meet();
     sessions_refuse();
     copies_are_told();

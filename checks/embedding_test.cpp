@@ -96,8 +96,12 @@ static void offices() {
     office[0].publish({op::lock, mode::S, {7}});
     CHECK(!office[0].collect() && office[1].serve()->served == 1 && office[0].collect()->reply.kind == kind::granted);
     std::uint32_t level = 0;
+    // the path's own call is left without turns, and finished by itself; a path takes no pending call for its own
     CHECK(!office[1].lock_path({7, 8}, mode::X, level, 0) && level == 0);
-    CHECK(office[1].lock_path({7, 8}, mode::X, level)->reply.kind == kind::waiting && level == 0);
+    CHECK(throws(PELGAISTI_PENDING, [&] { office[1].lock_path({7, 8}, mode::X, level); }) && level == 0);
+    CHECK(throws(PELGAISTI_PENDING, [&] { office[1].lock_path({9}, mode::X, level); }) && level == 0);
+    CHECK(office[0].held(2, {9})->found == mode::NL);
+    CHECK(office[1].resume()->reply.kind == kind::waiting);
     static std::uint32_t told = 0;
     std::uint32_t list[2];
     pelgaisti::waker waker{[](void *, std::uint32_t session) { told = session; }, nullptr, list, 2};

@@ -1037,9 +1037,14 @@ static inline pelgaisti_status pelgaisti_session_perform(pelgaisti_session *sess
 }
 
 /* Like pelgaisti_book_lock_path, for a session of an office: performs the calls one after another, each in at most `turns` turns by
-   passes that wake as the waker says, and writes the last answer. A call that is pending is taken to be the one that an earlier call
-   of this function has left, with the same arguments.
-   NULL, NO_SUCH_LEVEL, and the statuses of pelgaisti_session_perform_waking. */
+   passes that wake as the waker says, and writes the last answer.
+   PENDING: the session has a pending call, be it one that an earlier call of this function has left. Nothing has changed, and
+   nothing was written.
+   NOT_SERVED, NO_MEMORY, NO_ROOM: the path's next call, which locks level `level` + 1, is pending, and `level` and `answer` tell of
+   the calls that were answered before it. The caller finishes it by pelgaisti_session_perform_waking with NULL for `call`, or by serve
+   and collect, and goes by its answer as by one of this function: after GRANTED, or a WAITING that ended with CLEAR, it makes the
+   same call again, with the `level` that it was left. That begins with this level again, which is granted once more and changes nothing.
+   NULL, NO_SUCH_LEVEL, and the statuses of pelgaisti_session_perform_waking with a call. */
 static inline pelgaisti_status pelgaisti_session_lock_path_waking(pelgaisti_session *session, const pelgaisti_resource *resource,
                                                                   uint32_t mode, uint32_t *level, uint64_t turns,
                                                                   const pelgaisti_waker *waker, pelgaisti_answer *answer) {
@@ -1048,7 +1053,6 @@ static inline pelgaisti_status pelgaisti_session_lock_path_waking(pelgaisti_sess
     while (*level < resource->level) {
         pelgaisti_call call = pelgaisti_path_call(resource, mode, *level);
         pelgaisti_status status = pelgaisti_session_perform_waking(session, &call, turns, waker, answer);
-        if (status == PELGAISTI_PENDING) status = pelgaisti_session_perform_waking(session, NULL, turns, waker, answer);
         if (status != PELGAISTI_OK) return status;
         if (answer->reply.kind != PELGAISTI_GRANTED) break;
         *level += 1;
@@ -1057,7 +1061,7 @@ static inline pelgaisti_status pelgaisti_session_lock_path_waking(pelgaisti_sess
 }
 
 /* Locks a path as pelgaisti_session_lock_path_waking does, by passes that wake nobody.
-   NULL, NO_SUCH_LEVEL, and the statuses of pelgaisti_session_perform. */
+   NULL, NO_SUCH_LEVEL, and the statuses of pelgaisti_session_perform with a call. */
 static inline pelgaisti_status pelgaisti_session_lock_path(pelgaisti_session *session, const pelgaisti_resource *resource,
                                                            uint32_t mode, uint32_t *level, uint64_t turns,
                                                            pelgaisti_answer *answer) {

@@ -167,7 +167,9 @@ public:
     std::optional<answer> resume(uint64_t turns = UINT64_MAX, const waker *wake = nullptr) {
         return told([&](auto *found) { return pelgaisti_session_perform_waking(&handle_, nullptr, turns, wake, found); });
     }
-    // Like book::lock_path, each call in at most `turns` turns. Nothing: a call is pending yet, and the same call goes on with it.
+    // Like book::lock_path, each call in at most `turns` turns. PENDING: the session has a pending call already, and nothing has
+    // changed. Nothing, or NO_MEMORY: the call that locks level `level` + 1 is pending. resume() gives its answer. If that is granted,
+    // or waiting and then clear, the same call goes on, with the `level` that it was left.
     std::optional<answer> lock_path(const resource &on, mode in, uint32_t &level, uint64_t turns = UINT64_MAX,
                                     const waker *wake = nullptr) {
         const auto how = static_cast<uint32_t>(in);

@@ -401,8 +401,13 @@ impl Session {
     }
 
     /// Like [`Book::lock_path`], for a session of an office: performs the calls one after another, each in at most `turns` turns,
-    /// and returns the last answer, `None` if all levels were locked. After [`Error::NotServed`] and [`Error::NoMemory`] a call is
-    /// pending, and the same call goes on with it.
+    /// and returns the last answer, `None` if all levels were locked.
+    ///
+    /// [`Error::Pending`]: the session has a pending call, be it one that an earlier call of this function has left. Nothing has
+    /// changed. [`Error::NotServed`], [`Error::NoMemory`]: the path's next call, which locks level `level` + 1, is pending, and
+    /// `level` tells of the calls that were answered before it. [`Session::resume`] finishes it. After the answer `Granted`, or
+    /// `Waiting` and then `Clear`, the same call goes on, with the `level` that it was left: it begins with this level again, which
+    /// is granted once more and changes nothing.
     ///
     ///     # use pelgaisti::{Call, Mode, Office, Reply, Resource};
     ///     let mut sessions = Office::open(2)?;
@@ -413,15 +418,11 @@ impl Session {
     ///     assert_eq!((answer.reply, answer.place, level), (Reply::Granted(Mode::S), 3, 3));
     ///     # Ok::<(), pelgaisti::Error>(())
     pub fn lock_path(&mut self, resource: Resource, mode: Mode, level: &mut usize, turns: u64) -> Result<Option<Answer>, Error> {
-        self.lock_path_by(resource, mode, level, |session, call| match session.perform(call, turns) {
-            // the call that an earlier one has left
-            Err(Error::Pending) => session.resume(turns),
-            answer => answer,
-        })
+        self.lock_path_by(resource, mode, level, |session, call| session.perform(call, turns))
     }
 
     /// Locks a path as [`Session::lock_path`] does, by passes that wake whose wait they have ended, as [`Session::serve_waking`]
-    /// does.
+    /// does. [`Session::resume_waking`] finishes a call that is left pending.
     ///
     ///     # use pelgaisti::{Call, Mode, Office, Resource};
     ///     let mut sessions = Office::open(2)?;
@@ -438,16 +439,10 @@ impl Session {
         turns: u64,
         mut wake: impl FnMut(usize),
     ) -> Result<Option<Answer>, Error> {
-        self.lock_path_by(resource, mode, level, |session, call| {
-            match session.perform_waking(call, turns, &mut wake) {
-                // the call that an earlier one has left
-                Err(Error::Pending) => session.resume_waking(turns, &mut wake),
-                answer => answer,
-            }
-        })
+        self.lock_path_by(resource, mode, level, |session, call| session.perform_waking(call, turns, &mut wake))
     }
 
-    /// Locks a path by `perform`, which goes on with a call that is pending.
+    /// Locks a path by `perform`.
     fn lock_path_by(
         &mut self,
         resource: Resource,

@@ -1,0 +1,65 @@
+//! Paths that stop on their way: they take no pending call for their own, and go on with the level that they were left.
+
+use pelgaisti::{Call, Error, Mode, Office, Refusal, Reply, Resource, Session};
+
+fn resource(numbers: &[u32]) -> Resource {
+    Resource::new(numbers).unwrap()
+}
+
+/// What session 1 holds on the resource, which the other session asks.
+fn held(other: &mut Session, numbers: &[u32]) -> Mode {
+    other.held(1, resource(numbers)).unwrap().found
+}
+
+/// A lock of database 1 is pending, first not served and then served. A path to database 2 isn't granted by it.
+#[test]
+fn a_path_takes_no_pending_call() {
+    let mut sessions = Office::open(2).unwrap();
+    let [one, other] = &mut sessions[..] else { panic!() };
+    one.perform(&Call::Begin, 9).unwrap();
+    assert_eq!(one.perform(&Call::Lock(resource(&[1]), Mode::X), 0), Err(Error::NotServed));
+    let mut level = 0;
+    for is_served in [false, true] {
+        for turns in [0, 1, 40] {
+            assert_eq!(one.lock_path(resource(&[2]), Mode::X, &mut level, turns), Err(Error::Pending));
+            assert_eq!(one.lock_path_waking(resource(&[2]), Mode::X, &mut level, turns, |_| ()), Err(Error::Pending));
+        }
+        assert_eq!((level, one.seen()), (0, 1));
+        if !is_served {
+            assert_eq!(other.serve().unwrap().served, 1);
+        }
+    }
+    assert_eq!((held(other, &[1]), held(other, &[2])), (Mode::X, Mode::NL));
+    assert_eq!(one.collect().unwrap().reply, Reply::Granted(Mode::X));
+    assert_eq!(one.lock_path(resource(&[2]), Mode::X, &mut level, 9).unwrap().unwrap().place, 2);
+    assert_eq!((level, held(other, &[2])), (1, Mode::X));
+}
+
+/// Without turns a path leaves its own call pending. Once that is finished, the same call goes on, whatever its answer was.
+#[test]
+fn a_path_without_turns_goes_on() {
+    let mut sessions = Office::open(2).unwrap();
+    let [one, other] = &mut sessions[..] else { panic!() };
+    let page = resource(&[7, 2, 40]);
+    let mut level = 0;
+    let refused = Reply::Refused(Refusal::NoTransaction);
+    assert_eq!(one.lock_path(page, Mode::X, &mut level, 0), Err(Error::NotServed));
+    assert_eq!(one.resume(9).unwrap().reply, refused);
+    assert_eq!((one.lock_path(page, Mode::X, &mut level, 9).unwrap().unwrap().reply, level), (refused, 0));
+
+    one.perform(&Call::Begin, 9).unwrap();
+    other.perform(&Call::Begin, 9).unwrap();
+    other.perform(&Call::Lock(resource(&[7]), Mode::S), 9).unwrap();
+    assert_eq!(one.lock_path_waking(page, Mode::X, &mut level, 0, |_| ()), Err(Error::NotServed));
+    assert_eq!(one.lock_path_waking(page, Mode::X, &mut level, 9, |_| ()), Err(Error::Pending));
+    assert_eq!(one.resume_waking(9, |_| ()).unwrap().reply, Reply::Waiting);
+    other.perform(&Call::Commit, 9).unwrap();
+    assert_eq!(one.perform(&Call::Poll, 9).unwrap().reply, Reply::Clear);
+    // the first level once more, and of the second one the call is left
+    assert_eq!(one.lock_path(resource(&[7]), Mode::IX, &mut level, 9).unwrap().unwrap().reply, Reply::Granted(Mode::IX));
+    assert_eq!((one.lock_path(page, Mode::X, &mut level, 0), level), (Err(Error::NotServed), 1));
+    assert_eq!(one.resume(9).unwrap().reply, Reply::Granted(Mode::IX));
+    assert_eq!(one.lock_path(page, Mode::X, &mut level, 9).unwrap().unwrap().reply, Reply::Granted(Mode::X));
+    assert_eq!((level, held(other, &[7, 2])), (3, Mode::IX));
+    assert_eq!(one.lock_path(page, Mode::X, &mut level, 9), Ok(None));
+}
