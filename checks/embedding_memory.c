@@ -73,11 +73,12 @@ void *__wrap_realloc(void *at, size_t size) { return is_refused() ? NULL : __rea
     } while (0)
 
 /* The calls that may lack memory, and how often memory was refused to each. */
-enum { BOOK_OPEN, BOOK_SERVE, BOOK_SERVE_BATCH, BOOK_HOLDERS, BOOK_LOCKS, OFFICE_OPEN, SESSION_SERVE, AT_ONCE, TELLING, SESSION_HOLDERS,
-       SESSION_BLOCKERS, SESSION_LOCKS, HAND_IN, OFFICE_CLOSE, LACKING };
-static const char *const lacking[LACKING] = {"book_open", "book_serve", "book_serve_batch", "book_holders", "book_locks", "office_open",
-                                             "session_serve", "session_perform_at_once", "session_perform_telling", "session_holders",
-                                             "session_blockers", "session_locks", "session_hand_in", "office_close"};
+enum { BOOK_OPEN, BOOK_SERVE, BOOK_SERVE_BATCH, BOOK_LOCK_PATH, BOOK_HOLDERS, BOOK_LOCKS, OFFICE_OPEN, SESSION_SERVE, AT_ONCE, TELLING,
+       SESSION_HOLDERS, SESSION_BLOCKERS, SESSION_LOCKS, HAND_IN, OFFICE_CLOSE, LACKING };
+static const char *const lacking[LACKING] = {"book_open", "book_serve", "book_serve_batch", "book_lock_path", "book_holders",
+                                             "book_locks", "office_open", "session_serve", "session_perform_at_once",
+                                             "session_perform_telling", "session_holders", "session_blockers", "session_locks",
+                                             "session_hand_in", "office_close"};
 static long lacked[LACKING];
 
 /* How many batches were refused memory behind the calls that they served. */
@@ -222,6 +223,49 @@ static void books(void) {
     serve_batch(&book);
     CHECK(pelgaisti_book_close(&book) == PELGAISTI_OK);
     is_ample = 0;
+}
+
+/* How many paths were refused memory behind a call that had ended a wait. */
+static long told_before;
+
+/* Serves a call of the book, again if memory is refused. */
+static void serve_surely(pelgaisti_book *book, uint32_t session, pelgaisti_call call, uint32_t kind) {
+    pelgaisti_reply reply = {77, 88};
+    while (is_lacking(BOOK_SERVE, pelgaisti_book_serve(book, session, &call, &reply))) continue;
+    CHECK(reply.kind == kind);
+}
+
+/* Session 1 locks a path whose first call makes 3 a victim, as 1 would wait for 3, which waits for 2, which waits for 1. If memory is
+   refused, the path tells of 3 exactly if that call was served, and the same path tells of it else. From round to round session 4 has
+   one lock more, so that a path's later calls meet a table that is full. */
+static void paths(void) {
+    pelgaisti_book book = PELGAISTI_EMPTY;
+    while (is_lacking(BOOK_OPEN, pelgaisti_book_open(&book, 4))) continue;
+    for (uint32_t round = 0; round < 12; round++) {
+        pelgaisti_resource path = {PELGAISTI_LEVELS, {7, round, 1, 1, 1}};
+        uint32_t level = 0, list[4] = {77, 77, 77, 77}, status, told_of = 0;
+        size_t count = 99;
+        for (uint32_t s = 1; s <= 3 + (round == 0); s++) serve_surely(&book, s, begin, PELGAISTI_BEGAN);
+        serve_surely(&book, 4, call_of(PELGAISTI_LOCK, PELGAISTI_IX, 100 + round), PELGAISTI_GRANTED);
+        serve_surely(&book, 1, call_of(PELGAISTI_LOCK, PELGAISTI_X, 8), PELGAISTI_GRANTED);
+        serve_surely(&book, 2, call_of(PELGAISTI_LOCK, PELGAISTI_IX, 7), PELGAISTI_GRANTED);
+        serve_surely(&book, 2, call_of(PELGAISTI_LOCK, PELGAISTI_S, 8), PELGAISTI_WAITING);
+        serve_surely(&book, 3, call_of(PELGAISTI_LOCK, PELGAISTI_X, 7), PELGAISTI_WAITING);
+        do {
+            uint32_t before = level;
+            pelgaisti_reply reply = {77, 88};
+            status = pelgaisti_book_lock_path(&book, 1, &path, PELGAISTI_S, &level, &reply, list, 4, &count);
+            CHECK(status == PELGAISTI_OK || is_lacking(BOOK_LOCK_PATH, status));
+            CHECK(count == (before == 0 && level > 0) && (count == 0 || list[0] == 3) && list[1] == 77);
+            CHECK(reply.kind == (level > before ? (uint32_t)PELGAISTI_GRANTED : 77));
+            told_of += (uint32_t)count;
+            told_before += status == PELGAISTI_NO_MEMORY && count > 0;
+        } while (status == PELGAISTI_NO_MEMORY);
+        CHECK(level == PELGAISTI_LEVELS && told_of == 1);
+        serve_surely(&book, 3, call_of(PELGAISTI_POLL, 0, 0), PELGAISTI_DEADLOCK);
+        for (uint32_t s = 1; s <= 3; s++) serve_surely(&book, s, call_of(PELGAISTI_ABORT, 0, 0), PELGAISTI_ABORTED);
+    }
+    CHECK(pelgaisti_book_close(&book) == PELGAISTI_OK);
 }
 
 enum { CLERKS = 5 };
@@ -385,13 +429,14 @@ static void each_in_turn(const char *name, void (*play)(void)) {
 
 int main(void) {
     each_in_turn("books", books);
+    each_in_turn("paths", paths);
     each_in_turn("offices", offices);
     for (int call = 0; call < LACKING; call++)
         if (!lacked[call]) {
             failed++;
             printf("memory was never refused to %s\n", lacking[call]);
         }
-    CHECK(met > 0 && cut_short > 0);
+    CHECK(met > 0 && cut_short > 0 && told_before > 0);
     elsewhere();
     printf("elsewhere: %ld checks failed\n", failed);
     return failed != 0;

@@ -49,8 +49,8 @@ static void books_refuse(void) {
     pelgaisti_reply reply = {77, 88};
     pelgaisti_holder list[2] = {{5, 6}, {7, 8}};
     pelgaisti_entry entry;
-    uint32_t mode = 99, level = 0;
-    size_t count = 99;
+    uint32_t mode = 99, level = 0, told[3] = {77, 77, 77};
+    size_t count = 99, ended = 99;
     uint64_t length = 99;
 
     memset(&entry, 0x55, sizeof entry);
@@ -65,7 +65,8 @@ static void books_refuse(void) {
     CHECK(pelgaisti_book_serve_batch(&book, &entry, 1, &count) == PELGAISTI_CLOSED);
     CHECK(pelgaisti_book_waits_for(&book, 1, 2, &mode) == PELGAISTI_CLOSED);
     CHECK(pelgaisti_book_blockers(&book, 1, NULL, 0, &count) == PELGAISTI_CLOSED);
-    CHECK(pelgaisti_book_lock_path(&book, 1, &lock.resource, PELGAISTI_S, &level, &reply) == PELGAISTI_CLOSED && level == 0);
+    CHECK(pelgaisti_book_lock_path(&book, 1, &lock.resource, PELGAISTI_S, &level, &reply, told, 3, &ended) == PELGAISTI_CLOSED);
+    CHECK(level == 0);
     CHECK(pelgaisti_book_held(&book, 1, &lock.resource, &mode) == PELGAISTI_CLOSED);
     CHECK(pelgaisti_book_holders(&book, &lock.resource, list, 2, &count) == PELGAISTI_CLOSED);
     CHECK(pelgaisti_book_length(&book, &length) == PELGAISTI_CLOSED);
@@ -88,7 +89,8 @@ static void books_refuse(void) {
         CHECK(pelgaisti_book_held(&book, off_sessions[k], &lock.resource, &mode) == PELGAISTI_NO_SUCH_SESSION);
         CHECK(pelgaisti_book_waits_for(&book, off_sessions[k], 1, &mode) == PELGAISTI_NO_SUCH_SESSION);
         CHECK(pelgaisti_book_waits_for(&book, 1, off_sessions[k], &mode) == PELGAISTI_NO_SUCH_SESSION);
-        CHECK(pelgaisti_book_lock_path(&book, off_sessions[k], &lock.resource, 5, &level, &reply) == PELGAISTI_NO_SUCH_SESSION);
+        CHECK(pelgaisti_book_lock_path(&book, off_sessions[k], &lock.resource, 5, &level, &reply, told, 3, &ended) ==
+              PELGAISTI_NO_SUCH_SESSION);
     }
     for (size_t k = 0; k < COUNT(off_ops); k++) {
         pelgaisti_call off = call_of(off_ops[k], PELGAISTI_S, 1, 1, 0);
@@ -106,7 +108,8 @@ static void books_refuse(void) {
         CHECK(pelgaisti_book_serve(&book, 1, &try_off, &reply) == PELGAISTI_NO_SUCH_LEVEL);
         CHECK(pelgaisti_book_held(&book, 1, &lock_off.resource, &mode) == PELGAISTI_NO_SUCH_LEVEL);
         CHECK(pelgaisti_book_holders(&book, &lock_off.resource, list, 2, &count) == PELGAISTI_NO_SUCH_LEVEL);
-        CHECK(pelgaisti_book_lock_path(&book, 1, &lock_off.resource, PELGAISTI_S, &level, &reply) == PELGAISTI_NO_SUCH_LEVEL);
+        CHECK(pelgaisti_book_lock_path(&book, 1, &lock_off.resource, PELGAISTI_S, &level, &reply, told, 3, &ended) ==
+              PELGAISTI_NO_SUCH_LEVEL);
     }
     for (size_t k = 0; k < COUNT(off_modes); k++) {
         pelgaisti_call lock_off = call_of(PELGAISTI_LOCK, off_modes[k], 1, 1, 0);
@@ -115,7 +118,8 @@ static void books_refuse(void) {
         CHECK(pelgaisti_book_serve(&book, 1, &lock_off, &reply) == PELGAISTI_NO_SUCH_MODE);
         CHECK(pelgaisti_book_serve(&book, 1, &convert_off, &reply) == PELGAISTI_NO_SUCH_MODE);
         CHECK(pelgaisti_book_serve(&book, 1, &try_off, &reply) == PELGAISTI_NO_SUCH_MODE);
-        CHECK(pelgaisti_book_lock_path(&book, 1, &convert_off.resource, off_modes[k], &level, &reply) == PELGAISTI_NO_SUCH_MODE);
+        CHECK(pelgaisti_book_lock_path(&book, 1, &convert_off.resource, off_modes[k], &level, &reply, told, 3, &ended) ==
+              PELGAISTI_NO_SUCH_MODE);
     }
     CHECK(pelgaisti_book_serve(NULL, 1, &begin, &reply) == PELGAISTI_NULL);
     CHECK(pelgaisti_book_serve(&book, 1, NULL, &reply) == PELGAISTI_NULL);
@@ -128,12 +132,22 @@ static void books_refuse(void) {
     CHECK(pelgaisti_book_holders(&book, &lock.resource, NULL, 2, &count) == PELGAISTI_NULL);
     CHECK(pelgaisti_book_holders(&book, &lock.resource, list, 2, NULL) == PELGAISTI_NULL);
     level = 1;
-    CHECK(pelgaisti_book_lock_path(&book, 1, &lock.resource, PELGAISTI_S, &level, &reply) == PELGAISTI_NO_SUCH_LEVEL && level == 1);
+    CHECK(pelgaisti_book_lock_path(&book, 1, &lock.resource, PELGAISTI_S, &level, &reply, told, 3, &ended) == PELGAISTI_NO_SUCH_LEVEL);
+    CHECK(level == 1);
     level = 0;
-    CHECK(pelgaisti_book_lock_path(NULL, 1, &lock.resource, PELGAISTI_S, &level, &reply) == PELGAISTI_NULL);
-    CHECK(pelgaisti_book_lock_path(&book, 1, NULL, PELGAISTI_S, &level, &reply) == PELGAISTI_NULL);
-    CHECK(pelgaisti_book_lock_path(&book, 1, &lock.resource, PELGAISTI_S, NULL, &reply) == PELGAISTI_NULL);
-    CHECK(pelgaisti_book_lock_path(&book, 1, &lock.resource, PELGAISTI_S, &level, NULL) == PELGAISTI_NULL);
+    CHECK(pelgaisti_book_lock_path(NULL, 1, &lock.resource, PELGAISTI_S, &level, &reply, told, 3, &ended) == PELGAISTI_NULL);
+    CHECK(pelgaisti_book_lock_path(&book, 1, NULL, PELGAISTI_S, &level, &reply, told, 3, &ended) == PELGAISTI_NULL);
+    CHECK(pelgaisti_book_lock_path(&book, 1, &lock.resource, PELGAISTI_S, NULL, &reply, told, 3, &ended) == PELGAISTI_NULL);
+    CHECK(pelgaisti_book_lock_path(&book, 1, &lock.resource, PELGAISTI_S, &level, NULL, told, 3, &ended) == PELGAISTI_NULL);
+    ended = 99;
+    CHECK(pelgaisti_book_lock_path(&book, 1, &lock.resource, PELGAISTI_S, &level, &reply, NULL, 3, &ended) == PELGAISTI_NULL);
+    CHECK(ended == 99);
+    CHECK(pelgaisti_book_lock_path(&book, 1, &lock.resource, PELGAISTI_S, &level, &reply, told, 3, NULL) == PELGAISTI_NULL);
+    for (size_t room = 0; room < 3; room++) {
+        ended = 99;
+        CHECK(pelgaisti_book_lock_path(&book, 9, &lock.resource, 2, &level, &reply, told, room, &ended) == PELGAISTI_NO_ROOM);
+        CHECK(ended == 0);
+    }
     CHECK(pelgaisti_book_serve_batch(NULL, &entry, 1, &count) == PELGAISTI_NULL);
     CHECK(pelgaisti_book_serve_batch(&book, NULL, 1, &count) == PELGAISTI_NULL);
     CHECK(pelgaisti_book_serve_batch(&book, &entry, 1, NULL) == PELGAISTI_NULL);
@@ -427,8 +441,9 @@ static void paths_are_locked(void) {
     pelgaisti_book book = PELGAISTI_EMPTY;
     pelgaisti_answer answer;
     pelgaisti_reply reply;
-    uint32_t mode = 99, level;
+    uint32_t mode = 99, level, told[3];
     uint64_t length = 0;
+    size_t ended;
 
     CHECK(pelgaisti_book_open(&book, 2) == PELGAISTI_OK);
     for (size_t m = 0; m < COUNT(modes); m++)
@@ -437,7 +452,8 @@ static void paths_are_locked(void) {
             level = 0;
             CHECK(pelgaisti_parent_mode(modes[m][0]) == modes[m][1]);
             CHECK(pelgaisti_book_serve(&book, 1, &begin, &reply) == PELGAISTI_OK);
-            CHECK(pelgaisti_book_lock_path(&book, 1, &path, modes[m][0], &level, &reply) == PELGAISTI_OK && level == depth);
+            CHECK(pelgaisti_book_lock_path(&book, 1, &path, modes[m][0], &level, &reply, told, 3, &ended) == PELGAISTI_OK);
+            CHECK(level == depth);
             CHECK(reply.kind == PELGAISTI_GRANTED && reply.value == modes[m][0]);
             for (path.level = 1; path.level <= depth; path.level++)
                 CHECK(pelgaisti_book_held(&book, 1, &path, &mode) == PELGAISTI_OK && mode == modes[m][path.level < depth]);
@@ -447,23 +463,23 @@ static void paths_are_locked(void) {
     /* NL is refused at once, and so is a path without a transaction */
     pelgaisti_resource path = {3, {1, 2, 3, 0, 0}};
     level = 0;
-    CHECK(pelgaisti_book_lock_path(&book, 1, &path, PELGAISTI_X, &level, &reply) == PELGAISTI_OK && level == 0);
+    CHECK(pelgaisti_book_lock_path(&book, 1, &path, PELGAISTI_X, &level, &reply, told, 3, &ended) == PELGAISTI_OK && level == 0);
     CHECK(reply.kind == PELGAISTI_REFUSED && reply.value == PELGAISTI_NO_TRANSACTION);
     for (uint32_t s = 1; s <= 2; s++) CHECK(pelgaisti_book_serve(&book, s, &begin, &reply) == PELGAISTI_OK);
-    CHECK(pelgaisti_book_lock_path(&book, 1, &path, PELGAISTI_NL, &level, &reply) == PELGAISTI_OK && level == 0);
+    CHECK(pelgaisti_book_lock_path(&book, 1, &path, PELGAISTI_NL, &level, &reply, told, 3, &ended) == PELGAISTI_OK && level == 0);
     CHECK(reply.kind == PELGAISTI_REFUSED && reply.value == PELGAISTI_NOTHING_ASKED);
     /* session 1 reads the file, so that the path of session 2 waits there, and goes on once it is granted */
     path.level = 2;
-    CHECK(pelgaisti_book_lock_path(&book, 1, &path, PELGAISTI_S, &level, &reply) == PELGAISTI_OK && level == 2);
+    CHECK(pelgaisti_book_lock_path(&book, 1, &path, PELGAISTI_S, &level, &reply, told, 3, &ended) == PELGAISTI_OK && level == 2);
     path.level = 3;
     level = 0;
-    CHECK(pelgaisti_book_lock_path(&book, 2, &path, PELGAISTI_X, &level, &reply) == PELGAISTI_OK && level == 1);
+    CHECK(pelgaisti_book_lock_path(&book, 2, &path, PELGAISTI_X, &level, &reply, told, 3, &ended) == PELGAISTI_OK && level == 1);
     CHECK(reply.kind == PELGAISTI_WAITING);
-    CHECK(pelgaisti_book_lock_path(&book, 2, &path, PELGAISTI_X, &level, &reply) == PELGAISTI_OK && level == 1);
+    CHECK(pelgaisti_book_lock_path(&book, 2, &path, PELGAISTI_X, &level, &reply, told, 3, &ended) == PELGAISTI_OK && level == 1);
     CHECK(reply.kind == PELGAISTI_REFUSED && reply.value == PELGAISTI_IS_WAITING);
     CHECK(pelgaisti_book_serve(&book, 1, &commit, &reply) == PELGAISTI_OK);
     CHECK(pelgaisti_book_serve(&book, 2, &poll, &reply) == PELGAISTI_OK && reply.kind == PELGAISTI_CLEAR);
-    CHECK(pelgaisti_book_lock_path(&book, 2, &path, PELGAISTI_X, &level, &reply) == PELGAISTI_OK && level == 3);
+    CHECK(pelgaisti_book_lock_path(&book, 2, &path, PELGAISTI_X, &level, &reply, told, 3, &ended) == PELGAISTI_OK && level == 3);
     CHECK(reply.kind == PELGAISTI_GRANTED && reply.value == PELGAISTI_X);
     CHECK(pelgaisti_book_serve(&book, 2, &commit, &reply) == PELGAISTI_OK && reply.value == 3);
     /* what is held after a conversion that waited is told by the same lock again */
@@ -1080,6 +1096,62 @@ static int replies(pelgaisti_book *book, uint32_t session, pelgaisti_call call, 
     return pelgaisti_book_serve(book, session, &call, &reply) == PELGAISTI_OK && reply.kind == kind && reply.value == value;
 }
 
+/* Opens a book for sessions 1 to 3 and lets `first` begin, then `second`, and then 3. Session 1 has database 8, for which 2 waits; 2
+   has record 7/1 and its database in IX; 3 waits to write database 7. If session 1 asks to read database 7, it waits for 3, which waits
+   for 2, which waits for 1: 3 becomes the victim, and the request is granted. */
+static void cross(pelgaisti_book *book, uint32_t first, uint32_t second) {
+    pelgaisti_call begin = call_of(PELGAISTI_BEGIN, 0, 0, 0, 0), read = call_of(PELGAISTI_LOCK, PELGAISTI_S, 1, 8, 0);
+    CHECK(pelgaisti_book_open(book, 3) == PELGAISTI_OK);
+    CHECK(replies(book, first, begin, PELGAISTI_BEGAN, 1) && replies(book, second, begin, PELGAISTI_BEGAN, 2));
+    CHECK(replies(book, 3, begin, PELGAISTI_BEGAN, 3));
+    CHECK(replies(book, 1, call_of(PELGAISTI_LOCK, PELGAISTI_X, 1, 8, 0), PELGAISTI_GRANTED, PELGAISTI_X));
+    CHECK(replies(book, 2, call_of(PELGAISTI_LOCK, PELGAISTI_IX, 1, 7, 0), PELGAISTI_GRANTED, PELGAISTI_IX));
+    CHECK(replies(book, 2, call_of(PELGAISTI_LOCK, PELGAISTI_X, 2, 7, 1), PELGAISTI_GRANTED, PELGAISTI_X));
+    CHECK(replies(book, 2, read, PELGAISTI_WAITING, 0));
+    CHECK(replies(book, 3, call_of(PELGAISTI_LOCK, PELGAISTI_X, 1, 7, 0), PELGAISTI_WAITING, 0));
+}
+
+/* A path tells whose wait each of its calls has ended, also where a later one ends nobody's, waits, is refused, or makes its own session
+   a victim. The first call of the path makes 3 a victim. */
+static void paths_tell(void) {
+    static const struct { uint32_t first, second, record, kind, level, ended; } ways[] = {
+        {1, 2, 2, PELGAISTI_GRANTED, 2, 1},  /* the second call ends nobody's wait */
+        {1, 2, 1, PELGAISTI_WAITING, 1, 2},  /* it waits for 2, which becomes a victim, too */
+        {2, 1, 1, PELGAISTI_DEADLOCK, 1, 1}, /* it waits for 2, which began before 1 */
+        {1, 2, 3, PELGAISTI_REFUSED, 1, 1},  /* it is one lock too many */
+    };
+    pelgaisti_call poll = call_of(PELGAISTI_POLL, 0, 0, 0, 0);
+    for (size_t k = 0; k < COUNT(ways); k++) {
+        pelgaisti_book book = PELGAISTI_EMPTY;
+        pelgaisti_resource path = {2, {7, ways[k].record}};
+        pelgaisti_reply reply = {77, 88};
+        static uint32_t wide[PELGAISTI_MAX_SESSIONS + 1];
+        uint32_t level = 0, list[3] = {77, 77, 77};
+        uint64_t before = 0, after = 0;
+        size_t count = 99;
+        cross(&book, ways[k].first, ways[k].second);
+        for (uint32_t n = 1; ways[k].kind == PELGAISTI_REFUSED && n < PELGAISTI_MAX_LOCKS - 1; n++)
+            CHECK(replies(&book, 1, call_of(PELGAISTI_LOCK, PELGAISTI_S, 1, 100 + n, 0), PELGAISTI_GRANTED, PELGAISTI_S));
+        /* without room for all sessions no call is made */
+        CHECK(pelgaisti_book_length(&book, &before) == PELGAISTI_OK);
+        CHECK(pelgaisti_book_lock_path(&book, 1, &path, PELGAISTI_S, &level, &reply, list, 2, &count) == PELGAISTI_NO_ROOM);
+        CHECK(level == 0 && reply.kind == 77 && list[0] == 77 && count == 0);
+        CHECK(pelgaisti_book_length(&book, &after) == PELGAISTI_OK && after == before);
+        count = 99;
+        CHECK(pelgaisti_book_lock_path(&book, 1, &path, PELGAISTI_S, &level, &reply, list, 3, &count) == PELGAISTI_OK);
+        CHECK(level == ways[k].level && reply.kind == ways[k].kind);
+        CHECK(count == ways[k].ended && list[0] == 3 && list[1] == (count == 2 ? 2u : 77u) && list[2] == 77);
+        CHECK(replies(&book, 3, poll, PELGAISTI_DEADLOCK, 0));
+        /* the next path tells of none of them again, and has room enough with more than there are sessions */
+        level = 0;
+        path.level = 1;
+        count = 99;
+        CHECK(pelgaisti_book_lock_path(&book, 1, &path, PELGAISTI_IS, &level, &reply, wide, COUNT(wide), &count) == PELGAISTI_OK);
+        CHECK(count == 0 && pelgaisti_book_ended(&book, list, 3, &count) == PELGAISTI_OK && count == 0);
+        CHECK(pelgaisti_book_close(&book) == PELGAISTI_OK);
+    }
+}
+
 /* Tries that are granted and that are refused; withdrawals of the first request of a queue and of a conversion, and their refusals.
    Session s has transaction s. */
 static void tries_and_withdrawals(void) {
@@ -1625,6 +1697,7 @@ int main(int argc, char **argv) {
     paths_are_locked();
     paths_and_pending_calls();
     paths_without_turns();
+    paths_tell();
     modes_meet();
     sessions_refuse();
     copies_are_told();

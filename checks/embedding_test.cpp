@@ -36,10 +36,13 @@ static void books() {
     CHECK(reply.kind == kind::refused && reply.value == static_cast<std::uint64_t>(pelgaisti::refusal::no_transaction));
     book.serve(1, {op::begin});
     std::uint32_t level = 0;
-    CHECK(book.lock_path(1, {1, 2, 3}, mode::X, level).kind == kind::granted && level == 3);
+    std::vector<std::uint32_t> ended{9};
+    CHECK(book.lock_path(1, {1, 2, 3}, mode::X, level, ended).kind == kind::granted && level == 3);
     CHECK(book.held(1, {1, 2}) == mode::IX && book.held(1, {1, 2, 3}) == mode::X && book.held(2, {1}) == mode::NL);
     level = 0;
-    CHECK(book.lock_path(2, {1, 2}, mode::S, level).kind == kind::waiting && level == 1);
+    CHECK(book.lock_path(2, {1, 2}, mode::S, level, ended).kind == kind::waiting && level == 1);
+    CHECK(throws(PELGAISTI_NO_SUCH_LEVEL, [&] { book.lock_path(1, {1}, mode::S, level, ended); }) && level == 1);
+    CHECK(ended == std::vector<std::uint32_t>{9});
     CHECK(book.waits_for(2, 1) && !book.waits_for(1, 2));
     CHECK(book.blockers(2) == std::vector<std::uint32_t>{1} && book.blockers(3).empty());
     const auto holders = book.holders({1});
@@ -63,6 +66,26 @@ static void books() {
     CHECK(throws(PELGAISTI_NO_SUCH_SESSION, [&] { book.serve(4, {op::begin}); }));
     CHECK(throws(PELGAISTI_NO_SUCH_LEVEL, [&] { book.serve(1, {op::lock, mode::S, {1, 2, 3, 4, 5, 6}}); }));
     CHECK(throws(PELGAISTI_NO_SUCH_COUNT, [] { pelgaisti::book none{0}; }));
+}
+
+// The first call of session 1's path makes 3 a victim, since 1 would wait for 3, which waits for 2, which waits for 1. The second call
+// ends nobody's wait where it is granted; else it waits for 2, which becomes a victim, too.
+static void paths_tell() {
+    for (const bool waits : {false, true}) {
+        pelgaisti::book book{3};
+        for (std::uint32_t session = 1; session <= 3; ++session) book.serve(session, {op::begin});
+        CHECK(book.serve(1, {op::lock, mode::X, {8}}).kind == kind::granted);
+        CHECK(book.serve(2, {op::lock, mode::IX, {7}}).kind == kind::granted);
+        CHECK(book.serve(2, {op::lock, mode::X, {7, 1}}).kind == kind::granted);
+        CHECK(book.serve(2, {op::lock, mode::S, {8}}).kind == kind::waiting);
+        CHECK(book.serve(3, {op::lock, mode::X, {7}}).kind == kind::waiting);
+        std::uint32_t level = 0;
+        std::vector<std::uint32_t> ended;
+        const auto reply = book.lock_path(1, {7, waits ? 1u : 2u}, mode::S, level, ended);
+        CHECK(reply.kind == (waits ? kind::waiting : kind::granted) && level == (waits ? 1 : 2));
+        CHECK(ended == (waits ? std::vector<std::uint32_t>{3, 2} : std::vector<std::uint32_t>{3}));
+        CHECK(book.serve(3, {op::poll}).kind == kind::deadlock && book.ended().empty());
+    }
 }
 
 static void tries() {
@@ -141,10 +164,13 @@ static void names() {
 }
 
 int main() {
-    books();
-    tries();
-    offices();
-    names();
+    for (const auto test : {books, paths_tell, tries, offices, names}) {
+        try {
+            test();
+        } catch (const pelgaisti::error &error) {
+            tell(false, __LINE__, error.what());
+        }
+    }
     std::printf("%d passed, %d failed\n", passed, failed);
     return failed != 0;
 }

@@ -116,7 +116,8 @@ typedef enum pelgaisti_status {
     PELGAISTI_NULL = 17,           /* a pointer is NULL and must not be [tested: only this header returns it] */
     PELGAISTI_SAME = 18,           /* both arguments are the same handle [tested: only this header returns it] */
     PELGAISTI_LET_GO = 19,         /* the entry at this place of the history was let go [let_go, exactly then] */
-    PELGAISTI_NO_ROOM = 20         /* the array has room for fewer sessions than the office has [room, exactly then] */
+    PELGAISTI_NO_ROOM = 20         /* the array has room for fewer sessions than the office has [room, exactly then], or than the book
+                                      has [tested: only this header returns it of a book] */
 } pelgaisti_status;
 
 /* The lock modes of Gray, Lorie, Putzolu and Traiger (1976), and U. The or of two codes is their least upper bound's code. */
@@ -569,7 +570,8 @@ static inline pelgaisti_status pelgaisti_book_locks(pelgaisti_book *book, size_t
 /* Writes the first `room` of the sessions whose wait the last call or batch has ended to `list`, each once, in no particular order,
    and the number of all of them to `count`: a request of the session that waited was granted, or its transaction became a
    deadlock's victim. A poll of each tells which. The session of the call itself isn't among them: its reply tells. After a batch
-   they are those whose wait one of its calls has ended, also those that wait again since. `list` may be NULL if `room` is 0.
+   they are those whose wait one of its calls has ended, also those that wait again since. pelgaisti_book_lock_path makes several calls
+   and tells of all of them itself: after it this call tells of the last one. `list` may be NULL if `room` is 0.
    Requires `room` elements at `list`.
    NULL, CLOSED. */
 static inline pelgaisti_status pelgaisti_book_ended(pelgaisti_book *book, uint32_t *list, size_t room, size_t *count) {
@@ -653,16 +655,34 @@ static inline pelgaisti_call pelgaisti_path_call(const pelgaisti_resource *resou
    its own in the history, and raises `level` by 1 for each that is granted. It stops at the first reply other than GRANTED, or when
    `level` is that of the resource, and writes the last reply to `reply`. After a WAITING that ended with CLEAR the caller makes the
    same call again, with the `level` that it was left: what is held already is granted once more and changes nothing.
-   With a status other than OK, `level` and `reply` are those of the calls that were served before it.
-   NULL, NO_SUCH_LEVEL (the resource's, or `level` isn't less than it), CLOSED, NO_SUCH_SESSION, NO_SUCH_MODE, NO_MEMORY. */
+   Writes the sessions whose wait one of these calls has ended to `list`, each once, in no particular order, and how many they are to
+   `count`: those that pelgaisti_book_ended would tell of after each call. Where threads sleep, the caller wakes these, whatever the
+   status is: each status but NULL writes `count`, 0 if nobody's wait has ended. `room` is at least the book's number of sessions,
+   which PELGAISTI_MAX_SESSIONS always is. With NO_ROOM no call was made.
+   With a status other than OK, `level`, `reply`, `list` and `count` tell of the calls that were served before it.
+   Requires `room` elements at `list`.
+   NULL, NO_SUCH_LEVEL (the resource's, or `level` isn't less than it), CLOSED, NO_ROOM, NO_SUCH_SESSION, NO_SUCH_MODE, NO_MEMORY. */
 static inline pelgaisti_status pelgaisti_book_lock_path(pelgaisti_book *book, uint32_t session, const pelgaisti_resource *resource,
-                                                        uint32_t mode, uint32_t *level, pelgaisti_reply *reply) {
-    if (!book || !resource || !level || !reply) return PELGAISTI_NULL;
+                                                        uint32_t mode, uint32_t *level, pelgaisti_reply *reply, uint32_t *list,
+                                                        size_t room, size_t *count) {
+    pelgaisti_transaction open;
+    pelgaisti_status status;
+    if (!book || !resource || !level || !reply || !list || !count) return PELGAISTI_NULL;
+    *count = 0;
     if (resource->level > PELGAISTI_LEVELS || *level >= resource->level) return PELGAISTI_NO_SUCH_LEVEL;
+    if (room < PELGAISTI_MAX_SESSIONS) { /* too few elements if the book has a session with the next number */
+        status = pelgaisti_book_transaction(book, (uint32_t)room + 1, &open);
+        if (status != PELGAISTI_NO_SUCH_SESSION) return status == PELGAISTI_OK ? PELGAISTI_NO_ROOM : status;
+    }
     while (*level < resource->level) {
         pelgaisti_call call = pelgaisti_path_call(resource, mode, *level);
-        pelgaisti_status status = pelgaisti_book_serve(book, session, &call, reply);
+        size_t ended = 0;
+        status = pelgaisti_book_serve(book, session, &call, reply);
         if (status != PELGAISTI_OK) return status;
+        /* a session whose wait has ended waits again only after a call of its own, so that none is told of twice */
+        status = pelgaisti_book_ended(book, list + *count, room - *count, &ended);
+        if (status != PELGAISTI_OK) return status;
+        *count += ended;
         if (reply->kind != PELGAISTI_GRANTED) break;
         *level += 1;
     }

@@ -84,16 +84,23 @@ public:
         return made_by<size_t>([&](auto *n) { return pelgaisti_book_serve_batch(&handle_, calls.data(), calls.size(), n); });
     }
     // Locks the ancestors of the resource in the mode that it needs there, and then the resource, from the level `level` on, which
-    // it raises by 1 for each that is granted. It stops at the first reply other than granted.
-    pelgaisti::reply lock_path(uint32_t session, const pelgaisti::resource &on, mode in, uint32_t &level) {
-        const auto code = static_cast<uint32_t>(in);
-        return reply(made_by<pelgaisti_reply>([&](auto *made) {
-            return pelgaisti_book_lock_path(&handle_, session, &on, code, &level, made); }));
+    // it raises by 1 for each that is granted. It stops at the first reply other than granted. Adds the sessions whose wait one of
+    // these calls has ended to `ended`, each once, also if a later one of them throws.
+    pelgaisti::reply lock_path(uint32_t session, const pelgaisti::resource &on, mode in, uint32_t &level,
+                               std::vector<uint32_t> &ended) {
+        uint32_t list[all];
+        size_t count = 0;
+        pelgaisti_reply made{};
+        ended.reserve(ended.size() + all);  // before any call, so that none of them is lost for want of memory
+        const auto status = pelgaisti_book_lock_path(&handle_, session, &on, static_cast<uint32_t>(in), &level, &made, list, all, &count);
+        ended.insert(ended.end(), list, list + count);
+        return check(status), reply(made);
     }
     bool waits_for(uint32_t session, uint32_t other) {
         return made_by<uint32_t>([&](auto *edge) { return pelgaisti_book_waits_for(&handle_, session, other, edge); }) != 0;
     }
-    // The sessions for which the session waits directly, by number; and those whose wait the last call or batch has ended.
+    // The sessions for which the session waits directly, by number; and those whose wait the last call or batch has ended. After
+    // lock_path, which makes several calls and tells of all of them itself, the latter are those of its last call.
     std::vector<uint32_t> blockers(uint32_t session) {
         return list_by<uint32_t>(all, [&](auto *at, auto *n) { return pelgaisti_book_blockers(&handle_, session, at, all, n); });
     }

@@ -87,21 +87,37 @@ impl Book {
     /// Locks a path: the ancestors of the resource, from the database down, each in the mode that `mode` needs of a parent, and
     /// then the resource in `mode`. `level` says how many levels are locked already, 0 at first, and is raised by 1 for each that
     /// is granted. Stops at the first reply other than `Granted`, and returns the last reply, `None` if all levels were locked.
-    /// After a wait that ended with `Clear` the same call goes on. After an error `level` tells what was locked before it.
+    /// After a wait that ended with `Clear` the same call goes on.
+    ///
+    /// Adds the sessions whose wait one of these calls has ended to `ended`, each once: those that [`Book::ended`] would tell of
+    /// after each call. Where threads sleep, the caller wakes these, also after an error. After an error `level` and `ended` tell of
+    /// the calls that were served before it.
     ///
     ///     # use pelgaisti::{Book, Call, Mode, Reply, Resource};
     ///     let mut book = Book::open(1)?;
     ///     book.serve(1, &Call::Begin)?;
-    ///     let mut level = 0;
+    ///     let (mut level, mut ended) = (0, Vec::new());
     ///     let page = Resource::new(&[7, 2, 40]).unwrap();
-    ///     assert_eq!(book.lock_path(1, page, Mode::X, &mut level)?, Some(Reply::Granted(Mode::X)));
-    ///     assert_eq!((level, book.held(1, Resource::new(&[7]).unwrap())?), (3, Mode::IX));
+    ///     assert_eq!(book.lock_path(1, page, Mode::X, &mut level, &mut ended)?, Some(Reply::Granted(Mode::X)));
+    ///     assert_eq!((level, book.held(1, Resource::new(&[7]).unwrap())?, ended), (3, Mode::IX, vec![]));
     ///     # Ok::<(), pelgaisti::Error>(())
-    pub fn lock_path(&mut self, session: u32, resource: Resource, mode: Mode, level: &mut usize) -> Result<Option<Reply>, Error> {
+    pub fn lock_path(
+        &mut self,
+        session: u32,
+        resource: Resource,
+        mode: Mode,
+        level: &mut usize,
+        ended: &mut Vec<u32>,
+    ) -> Result<Option<Reply>, Error> {
+        // before any call, so that none of them is lost for want of memory
+        ended.try_reserve(MAX_SESSIONS).map_err(|_| Error::NoMemory)?;
+        let mut list = [0; MAX_SESSIONS];
         let mut last = None;
         while let Some(call) = resource.path_call(mode, *level) {
             let reply = self.serve(session, &call)?;
             last = Some(reply);
+            // a session whose wait has ended waits again only after a call of its own, so that none is added twice
+            ended.extend_from_slice(self.write_ended(&mut list));
             if !matches!(reply, Reply::Granted(_)) {
                 break;
             }
@@ -134,7 +150,8 @@ impl Book {
 
     /// The sessions whose wait the last call or batch has ended, each once, in no particular order: a request of theirs that waited
     /// was granted, or their transaction became a deadlock's victim. A poll of each tells which. The session of the call itself
-    /// isn't among them.
+    /// isn't among them. After [`Book::lock_path`], which makes several calls and tells of all of them itself, they are those of its
+    /// last call.
     ///
     ///     # use pelgaisti::{Book, Call, Mode, Reply, Resource};
     ///     let mut book = Book::open(2)?;
@@ -148,12 +165,15 @@ impl Book {
     ///     assert_eq!(book.ended(), [2]);
     ///     # Ok::<(), pelgaisti::Error>(())
     pub fn ended(&self) -> Vec<u32> {
-        let mut list = vec![0; MAX_SESSIONS];
+        self.write_ended(&mut [0; MAX_SESSIONS]).to_vec()
+    }
+
+    /// Writes the sessions whose wait the last call or batch has ended to `list`, and returns them.
+    fn write_ended<'a>(&self, list: &'a mut [u32; MAX_SESSIONS]) -> &'a [u32] {
         let mut count = 0;
         let status = unsafe { ffi::pelgaisti_raw_book_ended(self.raw(), list.as_mut_ptr(), list.len(), &mut count) };
         done(status).expect("an open book tells whose wait has ended");
-        list.truncate(count);
-        list
+        &list[..count]
     }
 
     /// The mode that the session holds on the resource itself, `NL` if none. The mode of a waiting request doesn't count.

@@ -1,6 +1,7 @@
-//! Paths that stop on their way: they take no pending call for their own, and go on with the level that they were left.
+//! Paths that stop on their way: they take no pending call for their own, go on with the level that they were left, and tell whose
+//! wait each of their calls has ended.
 
-use pelgaisti::{Call, Error, Mode, Office, Refusal, Reply, Resource, Session};
+use pelgaisti::{Book, Call, Error, Mode, Office, Refusal, Reply, Resource, Session};
 
 fn resource(numbers: &[u32]) -> Resource {
     Resource::new(numbers).unwrap()
@@ -62,4 +63,28 @@ fn a_path_without_turns_goes_on() {
     assert_eq!(one.lock_path(page, Mode::X, &mut level, 9).unwrap().unwrap().reply, Reply::Granted(Mode::X));
     assert_eq!((level, held(other, &[7, 2])), (3, Mode::IX));
     assert_eq!(one.lock_path(page, Mode::X, &mut level, 9), Ok(None));
+}
+
+/// The first call of session 1's path makes 3 a victim, since 1 would wait for 3, which waits for 2, which waits for 1. The second call
+/// ends nobody's wait where it is granted; else it waits for 2, which becomes a victim, too.
+#[test]
+fn a_path_tells_whose_wait_it_ended() {
+    let lock = |numbers: &[u32], mode| Call::Lock(resource(numbers), mode);
+    for (record, reply, expected) in [(2, Reply::Granted(Mode::S), vec![9, 3]), (1, Reply::Waiting, vec![9, 3, 2])] {
+        let mut book = Book::open(3).unwrap();
+        for session in 1..=3 {
+            book.serve(session, &Call::Begin).unwrap();
+        }
+        assert_eq!(book.serve(1, &lock(&[8], Mode::X)), Ok(Reply::Granted(Mode::X)));
+        assert_eq!(book.serve(2, &lock(&[7], Mode::IX)), Ok(Reply::Granted(Mode::IX)));
+        assert_eq!(book.serve(2, &lock(&[7, 1], Mode::X)), Ok(Reply::Granted(Mode::X)));
+        assert_eq!(book.serve(2, &lock(&[8], Mode::S)), Ok(Reply::Waiting));
+        assert_eq!(book.serve(3, &lock(&[7], Mode::X)), Ok(Reply::Waiting));
+        let (mut level, mut ended) = (0, vec![9]);
+        assert_eq!(book.lock_path(4, resource(&[7, record]), Mode::S, &mut level, &mut ended), Err(Error::NoSuchSession));
+        assert_eq!((level, &ended[..]), (0, &[9][..]));
+        assert_eq!(book.lock_path(1, resource(&[7, record]), Mode::S, &mut level, &mut ended), Ok(Some(reply)));
+        assert_eq!((level, ended), (if record == 2 { 2 } else { 1 }, expected));
+        assert_eq!(book.serve(3, &Call::Poll), Ok(Reply::Deadlock));
+    }
 }
