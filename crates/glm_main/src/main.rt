@@ -1,4 +1,14 @@
-//! The program `glm`: passes the command line and the standard streams to the library `glm`, and returns its exit status.
+//! The program `glm`: passes the command line and the standard streams to the library `glm`, and returns its exit
+//! status.
+//!
+//! `main.rt` reads the words and calls `glm::program` with a gate that is always open. `awaited.rt` is standard input
+//! that prints a hint if rows are awaited from a terminal.
+//!
+//! Nothing is decided here except the status for a command line that can't be read: `USAGE` if a word isn't UTF-8, else
+//! `NO_MEMORY`. The library has a crate of its own, since a library and a program can't share a name.
+//!
+//! Proved: that the program is safe. What it writes and returns for its words is proved of `glm::program`. Only tested:
+//! what is here, with built programs.
 #![tactic(auto)]
 
 mod awaited;

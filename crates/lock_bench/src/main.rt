@@ -1,4 +1,14 @@
 //! The program `lock_bench`: times the lock table, the office, and a mutex around the lock table on a trace.
+//!
+//! `main.rt` reads the words and the trace, and prints the result. `single.rt` times one book on one thread,
+//! `threads.rt` an office and `mutexes.rt` a book behind a mutex, each on many threads; `spans.rt` has the time from
+//! the first thread's start to the last one's end, `timing.rt` nanoseconds and faults.
+//!
+//! A turn makes a fresh lock table and serves all rows of the trace; the clock starts once the trace is read. The
+//! fastest of some turns counts, divided by the number of rows.
+//!
+//! Proved: that the program is safe and meets what the calls that it times ask for. Nothing is said of the times.
+//! Traces have sessions up to `SESSIONS`.
 #![tactic(auto)]
 
 mod mutexes;

@@ -39,7 +39,7 @@ pub struct Book {
     sessions: u16,
     /// Represents the state that the history leads to.
     lock_table: LockTable,
-    /// Every served call with its reply, oldest first; in memory are those that are kept.
+    /// All served calls with their replies, oldest first. Only those that are kept can be read from memory.
     history: TrimmedList<Entry>,
     /// Scratch space of `serve_batch`: a mark for each session, to find a session that occurs twice.
     marks: Marks,
@@ -212,9 +212,9 @@ impl Book {
     /// transaction was made a deadlock victim. Each is there once, in no particular order.
     ///
     /// An engine wakes the threads of these sessions alone; a poll tells each of them which of the two it was. The session
-    /// of the call itself isn't among them: its reply tells. After a batch they are those whose wait one of its calls has
-    /// ended that was not their own, also those that wait again since. A batch of which nothing was served leaves none, a
-    /// call whose memory was refused leaves them as they were. That a call tells whose wait it ended is this project's own.
+    /// of the call itself isn't among them: its reply tells. After a batch: every session whose wait another session's call
+    /// has ended, even if it waits again. A batch of which nothing was served leaves none, a call whose memory was refused
+    /// leaves them as they were. That a call tells whose wait it ended is this project's own.
     pub fn ended(&self) -> &[u16]
         ensures ended { (u : ℕ) → Contains result.now u ↔ Contains self.now.ended u }
         ensures once { (j k : ℕ) → j < k → k < length result.now → slice_index result.now j ≢ slice_index result.now k }

@@ -1,25 +1,29 @@
 //! The lock table for one thread. Sessions begin transactions, lock, convert and release resources of a tree, poll,
-//! commit and abort. A deadlock is resolved by dooming a victim. Every served call is recorded in a history with its
-//! reply.
+//! commit, abort and withdraw requests. A deadlock is resolved by dooming a victim. Every served call is recorded in a
+//! history with its reply.
 //!
 //! Three layers, each of which uses only the contracts of the layers below:
 //!
 //! 1. The structures.
-//!    - By resource: a cell has the holders and the wait queue of one resource (`cells.rt`), and `cell_table.rt` is
-//!      the table of all cells. The holders of a cell are in `holders.rt`: a single holder by itself, several in two
+//!    - By resource: a cell has the holders and the wait queue of one resource (`cells.rt`), and `cell_table.rt` is the
+//!      table of all cells. The holders of a cell are in `holders.rt`: a single holder by itself, several in two
 //!      columns (`holder_columns.rt`). `resource_order.rt` brings resources into their order.
 //!    - By session: a locker has the transaction, the waiting request and the locks of one session (`lockers.rt`). Its
 //!      list of locks counts, for each indexed lock, the children held below it (`locks.rt`).
-//!    - Across both: `promotion.rt` grants queued requests in a cell and in the lockers, `waits.rt` keeps the
-//!      waits-for graph, `ended.rt` lists the sessions whose wait has ended, and `positions.rt` maps session numbers
-//!      to list indices.
+//!    - Across both: `promotion.rt` grants queued requests in a cell and in the lockers, `waits.rt` keeps the waits-for
+//!      graph, `ended.rt` lists the sessions whose wait has ended, `positions.rt` maps session numbers to list indices.
 //! 2. The lock table: all cells, all lockers and the waits-for graph (`lock_table.rt`). `lock_table/calls.rt` serves
-//!    each kind of call: first the tests that can refuse it (`lock_table/refusals.rt`), then its effect.
-//!    `lock_table/requests.rt` has the effect of a lock or a conversion, `lock_table/deadlocks.rt` resolves the
-//!    deadlocks that a wait closes. `lock_table/runs.rt` grants several locks on one resource together, by the
-//!    operations of `lock_table/grants.rt`. `lock_table/listing.rt` tells all locks and requests.
-//! 3. The book: the lock table with its history (`book.rt`). It is all that callers see. `recording.rt` serves one call and
-//!    adds it to the history.
+//!    each kind of call: first the tests that can refuse it (`refusals.rt`), then its effect. `requests.rt` has the
+//!    effect of a lock or a conversion, `deadlocks.rt` resolves the deadlocks that a wait closes. `runs.rt` grants
+//!    several locks on one resource together, by the operations of `grants.rt`. `listing.rt` lists all locks and
+//!    requests.
+//! 3. The book: the lock table with its history (`book.rt`). It is all that callers see. `recording.rt` serves one call
+//!    and adds it to the history.
+//!
+//! Proved: each reply is that of the sequential lock manager of `lock_rules` in the state that the history leads to,
+//! and a call for which memory is refused changes nothing that callers see. Only tested: that memory follows the
+//! resources in use, and that the fast ways are taken. Limits: [`MAX_SESSIONS`] sessions, [`MAX_LOCKS`] locks of a
+//! session.
 #![tactic(auto)]
 
 mod book;

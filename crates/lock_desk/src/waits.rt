@@ -16,9 +16,9 @@ use waits_for::{MAX_SESSIONS, Rows};
 /// The waits-for graph, and the number of each session's transaction. Both go by position: session number less 1.
 ///
 /// A session waits for one resource at most, so a change of one cell changes only the rows of the sessions that wait
-/// there. A request that waits writes its own row, and adds an edge to it for each request behind it. Who gives up a
-/// lock or a request, or is granted one, changes only the edges to it. After many grants at once, the rows of all
-/// requests that still wait are written anew.
+/// there. A request that waits writes its own row, and adds an edge to it for each request behind it. When a session
+/// gives up a lock or a request, or is granted one, the rows of the others change only in their edge to it. After many
+/// grants at once, the rows of all requests that still wait are written anew.
 #[derive(Drop)]
 pub struct Waits {
     /// The edges: the row of a session has those for whom it waits directly, holders and requests ahead of its own.

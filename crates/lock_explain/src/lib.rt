@@ -1,8 +1,15 @@
-//! What a served call did and why: the test that refused it, for whom its request waits or would wait and through what, the
-//! cycles that the request closed, the victims, and the requests of others that were granted.
+//! What a served call did and why: the test that refused it, for whom its request waits or would wait and through what,
+//! the cycles that the request closed, the victims, and the requests of others that were granted.
 //!
-//! `explanation.rt` has the types, `explaining.rt` the call that makes an explanation. `refusal.rt`, `waiting.rt`,
-//! `circles.rt` and `endings.rt` have its parts, and `laws.rt` says what the definitions mean.
+//! `explanation.rt` has the types, `explaining.rt` the call that makes an explanation. `asked.rt` finds the request
+//! that a call makes, `refusal.rt`, `waiting.rt`, `circles.rt` and `endings.rt` have the parts of an explanation, and
+//! `laws.rt` says what the definitions mean.
+//!
+//! [`explain`] compares two books, one before the call and one after it. Refusal and blockers are found in the book
+//! before, victims and grants by comparing both; cycles by a waits-for graph of its own, with the request in it.
+//!
+//! Proved: an explanation has exactly what the definitions in `specs/` say of the call. It says nothing of what the
+//! call didn't do, and gives cycles as one connected part, not one by one. The only error is that memory was refused.
 #![tactic(auto)]
 
 mod asked;

@@ -1,4 +1,15 @@
 //! The seven lock modes: their order, which are compatible, what they need of the parent, and their codes and names.
+//!
+//! [`Mode`] has the tables as methods, [`MODES`] lists the modes, [`laws`] says how the tables go together. In
+//! `specs/`, `Order.antt` and `Compatibility.antt` have order and compatibility both as listed pairs and as functions
+//! that compute; `Codes.antt` has codes, masks and names.
+//!
+//! A whole column of holders is tested at once: the or of the codes of IS (1) and S (5) is 5, the conflict mask of X is
+//! 1, and the two have a common bit, so X conflicts with a holder.
+//!
+//! Proved: each method returns what its table says; codes and masks agree with order and compatibility; the functions
+//! of `specs/` are the listed pairs. Only tested: that the tables are those of docs/RULES.md, and that a mode is one
+//! byte. No call takes memory.
 #![tactic(auto)]
 
 ghost use Rattle.std.specs.Prelude.{◌≡◌, ◌↔◌, IsTrue, bit_and, bit_or};

@@ -1,4 +1,15 @@
 //! The state of a lock table as text: for people, as CSV rows, and the waits-for graph for Graphviz.
+//!
+//! `text.rt` writes the text for people, `rows.rt` the rows, `dot.rt` the graph. `snapshot.rt` has the open
+//! transactions and the waits that a report shows beside the claims of a listing, `by_session.rt` sorts the claims by
+//! session.
+//!
+//! A report is written from lists that the caller took from a lock table, one line or row for each item, in the order
+//! given. The text for people also has the claims of each transaction, found in the sorted copy.
+//!
+//! Proved: each text is exactly that of the lists given, by the definitions in `specs/`. That the lists are those of
+//! one state is the caller's to see to. Only tested: what the texts look like. The only error is that memory was
+//! refused. The formats are this project's own choice.
 #![tactic(auto)]
 
 mod by_session;

@@ -1,4 +1,17 @@
 //! The locking rules: the calls of a session, the replies, the sequential lock manager as definitions, and its laws.
+//!
+//! `calls.rt` has calls, replies, refusals and limits, `kinds.rt` their kinds with numbers, `names.rt` the names of
+//! refusals, `listing.rt` the lines of a listing. In `specs/`, `State.antt`, `Queue.antt` and `Waits.antt` have the
+//! state, the wait queues and the waits, `Step.antt` what each call does, `Legal.antt` the legal histories. `laws.rt`
+//! and `update_laws.rt` have the laws.
+//!
+//! A step makes the tests of a call in order. The first that fails is the reason of the refusal, and the state stays;
+//! if none fails, the call acts on the state and is answered.
+//!
+//! Proved: the laws, for every history; among them that there is no incompatible access and no cycle of waits, and that
+//! a session that holds a resource holds its parent, if there is one. The only code is that of kinds, numbers and
+//! names. The manager is in definitions alone; `lock_desk` has the lock table that is proved to reply as it does. No
+//! call takes memory.
 #![tactic(auto)]
 
 mod calls;

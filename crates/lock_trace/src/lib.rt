@@ -1,4 +1,15 @@
 //! Traces and histories as text: reads traces, and reads and writes histories.
+//!
+//! To read: `reading.rt` takes a whole file as records of the `csv` crate, `row.rt` is what both formats have in
+//! common, `rows.rt` reads a row of a trace and `entries.rt` one of a history, field by field (`fields.rt`;
+//! `fast_path.rt` for numbers and resources without a fault), `faults.rt` has the faults. To write: `writing.rt`, with
+//! one line at a time in a fixed buffer (`line.rt`) out of ready-made words (`tokens.rt`, `words.rt`).
+//!
+//! A record is tested field by field. The first test that fails is the fault, and nothing of the file is returned.
+//!
+//! Proved: known bytes are read exactly as the rows of which they are the text, else the first bad row is reported with
+//! its fault; the text of a history is exactly its rows, and is read back as that history. Only tested: that `Device`
+//! and `NoMemory` are reported for a failed reader and refused memory. Whether a history is legal isn't tested here.
 #![tactic(auto)]
 
 mod entries;

@@ -1,8 +1,17 @@
 //! The lock manager for C: exports over books and over the sessions of offices, which C holds by handles in its own
 //! memory.
 //!
-//! Each export makes one call of `lock_desk` or `combining` and states the clauses of that call again. The rules for
-//! callers in C are in `include/pelgaisti.h`.
+//! Exports: `book.rt`, `listing_exports.rt`, `office.rt`, `session.rt`, `look_exports.rt`, `close_exports.rt`,
+//! `version.rt`. What they do, on what a handle holds: `book_calls.rt`, `batch.rt`, `listing.rt`, `session_calls.rt`,
+//! `looks.rt`, `hand_in.rt`. Numbers of C's structs: `numbers.rt`, `claims.rt`, `status.rt`. Handles: `book_handle.rt`,
+//! `session_handle.rt`, and what is in them.
+//!
+//! An export takes the value out of the handle, makes one call of `lock_desk` or `combining`, writes the reply in
+//! numbers, puts the value back, and returns a status.
+//!
+//! Proved: each export states the clauses of its call again, in numbers; one that failed has changed nothing, but for
+//! the exceptions that docs/PROMISES.md lists. Not proved is what C must keep to: the rules for callers in
+//! `include/pelgaisti.h`. Only tested: the header, and that a status of refused memory means refused memory.
 #![tactic(auto)]
 
 mod batch;

@@ -7,8 +7,8 @@ use std::alloc::Global;
 use std::marker::Model;
 use std::mem;
 
-/// The list in which the calls of a session tell whose wait they have ended. The first of them makes it, and later ones use it
-/// again, so that they take no memory for it. Contracts see for how many sessions it has room, whether it is made yet or not.
+/// Scratch list for the `*_telling` calls of a session: allocated by the first, then reused. Contracts see for how many sessions
+/// it has room, whether it is allocated yet or not.
 #[derive(Drop)]
 pub struct ToldList {
     /// For how many sessions the list has room.

@@ -1,12 +1,19 @@
 //! The board: a lock word for the lock table, and one publication record a session, through which sessions hand calls
 //! to the combiner and get the replies back. This is flat combining (Hendler, Incze, Shavit and Tzafrir 2010).
 //!
-//! A record is a state word, a link word and a slot. A session publishes a call in its slot. The session that wins
-//! the lock word is the combiner: it has the lock table, walks the publication list, opens the records in which calls
-//! are posted, and answers them. How a call is served is `lock_desk`'s concern, not this crate's.
+//! A record is a state word, a link word and a slot. A session publishes a call in its slot. The session that wins the
+//! lock word is the combiner: it has the lock table, walks the publication list, opens the records in which calls are
+//! posted, and answers them. How a call is served is `lock_desk`'s concern, not this crate's.
 //!
-//! `specs/Rule.antt` and `specs/List.antt` state what holds between any two atomic steps, and `specs/Kinds.antt`
-//! lists the steps.
+//! `board.rt` has what a session calls, `board/combiner.rt` what the combiner does, `board/knowledge.rt` what a session
+//! knows as a value. Below them, `steps.rt` makes the atomic steps, `kinds.rt` names their kinds, `slot.rt`, `view.rt`
+//! and `words.rt` have what slots, seats and words hold; `new_board.rt`, `closing.rt`, `roll.rt` and `piece.rt` open a
+//! board, close it and note pieces of the history. The `laws` modules say what follows.
+//!
+//! `specs/Rule.antt` and `specs/List.antt` state the rule of the board, `specs/Kinds.antt` lists the steps.
+//!
+//! Proved: the rule holds between any two atomic steps; so there is one legal history, and no posted call is lost. Not
+//! claimed: that a published call is ever served. No call waits, and [`Board::new`] alone takes memory.
 #![tactic(auto)]
 
 mod board;

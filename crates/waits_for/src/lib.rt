@@ -1,8 +1,16 @@
 //! The waits-for graph of sessions, and the search for its cycles, which are deadlocks.
 //!
-//! A session is given by its position, which is its session number less 1. [`Rows`] holds the edges: pairs (t, u)
-//! such that t waits for u. Its queries search walks along these edges. [`Marks`] is a set of sessions. The crate
-//! knows nothing of locks or modes.
+//! A session is given by its position, which is its session number less 1. [`Rows`] holds the edges: pairs (t, u) such
+//! that t waits for u. Its queries search walks along these edges. [`Marks`] is a set of sessions. `rows.rt` has the
+//! public calls, `matrix.rt` the edges as bits, `search.rt` the search, `bits.rt` operations on rows of bits, `laws.rt`
+//! the laws of edges and walks.
+//!
+//! [`Rows::youngest_on_circle`] searches depth first from the session that asks, and returns the youngest session on a
+//! cycle with it. It keeps what it found, so the next victim of the same request seldom needs a search.
+//!
+//! Proved: each update changes exactly the edges that it names, and each query answers by walks, in every graph. Only
+//! measured: the time of a search. Memory is taken by [`Rows::new`] and [`Marks::new`] alone. The crate knows nothing
+//! of locks or modes.
 #![tactic(auto)]
 
 pub use marks::Marks;
