@@ -96,16 +96,16 @@ fn perform_soon(office: &Office, session: &mut Session, call: &Call, tries: u64)
     Performed::Elsewhere
 }
 
-/// Tries once to serve, if `tries`. Returns whether the session made a pass in which memory was refused.
-fn serve_if(office: &Office, session: &mut Session, tries: bool) -> bool
+/// Tries once to serve, if `serve_now`. Returns whether the session made a pass in which memory was refused.
+fn serve_if(office: &Office, session: &mut Session, serve_now: bool) -> bool
     requires ours { IsSessionOf office.now session.old }
     requires pending { session.old.pending ≢ None }
     ensures ours { IsSessionOf office.now session.new }
     ensures waits { IsWaitingOn session.old session.new }
     ensures starved { result ≡ true → session.old.put_backs < session.new.put_backs }
-    ensures served { result ≡ false → tries ≡ true → IsPendingServed session.new ⊎ (1 < office.now.sessions) }
+    ensures served { result ≡ false → serve_now ≡ true → IsPendingServed session.new ⊎ (1 < office.now.sessions) }
 {
-    if !tries {
+    if !serve_now {
         return false;
     }
     match office.serve(session) {
@@ -114,8 +114,8 @@ fn serve_if(office: &Office, session: &mut Session, tries: bool) -> bool
     }
 }
 
-/// Takes one turn of waiting: serves if `tries`, and looks for the answer. `None` if the answer isn't there.
-fn turn(office: &Office, session: &mut Session, tries: bool) -> Option<Called>
+/// Takes one turn of waiting: serves if `serve_now`, and looks for the answer. `None` if the answer isn't there.
+fn turn(office: &Office, session: &mut Session, serve_now: bool) -> Option<Called>
     requires ours { IsSessionOf office.now session.old }
     requires pending { session.old.pending ≢ None }
     ensures ours { IsSessionOf office.now session.new }
@@ -123,9 +123,9 @@ fn turn(office: &Office, session: &mut Session, tries: bool) -> Option<Called>
     ensures starved { result ≡ Some Called.Starved → IsWaitingOn session.old session.new × (session.old.put_backs < session.new.put_backs) }
     ensures never { result ≢ Some Called.NotYet }
     ensures none { IfNone result (IsWaitingOn session.old session.new) }
-    ensures others { IfNone result (tries ≡ true → 1 < office.now.sessions) }
+    ensures others { IfNone result (serve_now ≡ true → 1 < office.now.sessions) }
 {
-    let starved = serve_if(office, session, tries);
+    let starved = serve_if(office, session, serve_now);
     if let Some(answer) = office.collect(session) {
         return Some(Called::Answered(answer));
     }

@@ -86,8 +86,8 @@ pub(crate) fn clean_up(board: &Board, session: &mut Ticket, ages: &[u64], passes
     requires ours { IsOf board.now session.old × (session.old.has_book ≡ true) }
     requires ages { length ages.now ≡ board.now.sessions }
     ensures session { session.new ≡ record session.old { route = session.new.route } }
-    ensures not_due { passes % 64 ≢ 0 → session.new ≡ session.old }
-    ensures due { passes % 64 ≡ 0 → IsRoute (board.now.sessions + 1) session.new.route }
+    ensures not_due { passes % PASSES_KEPT ≢ 0 → session.new ≡ session.old }
+    ensures due { passes % PASSES_KEPT ≡ 0 → IsRoute (board.now.sessions + 1) session.new.route }
 {
     if passes % PASSES_KEPT != 0 {
         return;

@@ -34,10 +34,10 @@ pub fn closed_offices_have_one_history()
     laws::calls_are_in_order();
 }
 
-/// What two sessions of an office were told goes together, by what `Office::hear` says when one of them has heard the other:
-/// one legal history has the calls of both, those that each collected, or those and its pending call. The modes in which
-/// both were told that they hold one resource go together. If one was told that it may write a resource, outright or
-/// through an ancestor, the other was not told that it may read or write it.
+/// After a `hear`, the locks that the two sessions were told they hold are compatible, in at least one order. `Office::hear`
+/// says that one legal history then has the calls of both: those that each collected, or those and its pending call. If one
+/// was told that it may write a resource, outright or through an ancestor, the other was not told that it may read or write
+/// it.
 pub fn told_locks_go_together()
     ensures modes { (history : List Entry) (session other : TicketView) (r : List ℕ) (m k : Mode) →
         IsLegal history → session.number ≢ other.number → HasCallsOf history session → HasCallsOf history other →

@@ -72,25 +72,25 @@ fn insert_item(row: &mut Vec<Item>, place: usize, whose: u16, call: Call)
     };
 }
 
-/// Opens record `whose` if a call is posted there, and inserts an item for it into the row: after the first `givers`
-/// items, which make room, if this call does too; else at the end.
+/// Opens record `whose` if a call is posted there, and inserts an item for it into the row: a call that makes room behind
+/// the first `released_first` items, which make room too, any other call at the end.
 // Out of line, so that a pass over idle records only looks at them.
 #[inline(never)]
 fn open_posted(
     board: &Board,
     session: &mut Ticket,
     row: &mut Vec<Item>,
-    givers: &mut usize,
+    released_first: &mut usize,
     whose: u16,
 )
     requires ours { IsOf board.now session.old × (session.old.has_book ≡ true) }
     requires whose { IsNumber board.now whose }
     requires row { AreOpened board.now.sessions session.old.opened row.old.items }
-    requires room { (board.now.sessions ≤ vec_capacity row.old) × (givers.old ≤ vec_len row.old) }
+    requires room { (board.now.sessions ≤ vec_capacity row.old) × (released_first.old ≤ vec_len row.old) }
     requires visited { HasVisitedOpened session.old }
     ensures session { IsSameSession session.old session.new × (session.new.front ≡ session.old.front) × (session.new.route ≡ session.old.route) }
     ensures row { AreOpened board.now.sessions session.new.opened row.new.items }
-    ensures room { (board.now.sessions ≤ vec_capacity row.new) × (givers.new ≤ vec_len row.new) }
+    ensures room { (board.now.sessions ≤ vec_capacity row.new) × (released_first.new ≤ vec_len row.new) }
     ensures calls { KeepsCalls session.old session.new }
     ensures visited { HasVisitedOpened session.new }
     ensures met { IsVisited whose session.new }
@@ -99,10 +99,10 @@ fn open_posted(
         return;
     };
     let gives = makes_room(&call);
-    let place = if gives { *givers } else { row.len() };
+    let place = if gives { *released_first } else { row.len() };
     insert_item(row, place, whose, call);
     if gives {
-        *givers += 1;
+        *released_first += 1;
     }
 }
 
@@ -112,23 +112,23 @@ fn open_record(
     board: &Board,
     session: &mut Ticket,
     row: &mut Vec<Item>,
-    givers: &mut usize,
+    released_first: &mut usize,
     whose: u16,
 )
     requires ours { IsOf board.now session.old × (session.old.has_book ≡ true) }
     requires whose { IsNumber board.now whose }
     requires row { AreOpened board.now.sessions session.old.opened row.old.items }
-    requires room { (board.now.sessions ≤ vec_capacity row.old) × (givers.old ≤ vec_len row.old) }
+    requires room { (board.now.sessions ≤ vec_capacity row.old) × (released_first.old ≤ vec_len row.old) }
     requires visited { HasVisitedOpened session.old }
     ensures session { IsSameSession session.old session.new × (session.new.front ≡ session.old.front) × (session.new.route ≡ session.old.route) }
     ensures row { AreOpened board.now.sessions session.new.opened row.new.items }
-    ensures room { (board.now.sessions ≤ vec_capacity row.new) × (givers.new ≤ vec_len row.new) }
+    ensures room { (board.now.sessions ≤ vec_capacity row.new) × (released_first.new ≤ vec_len row.new) }
     ensures calls { KeepsCalls session.old session.new }
     ensures visited { HasVisitedOpened session.new }
     ensures met { IsVisited whose session.new }
 {
     if board.is_posted(session, whose) {
-        open_posted(board, session, row, givers, whose);
+        open_posted(board, session, row, released_first, whose);
     }
 }
 
@@ -138,46 +138,46 @@ fn open_walked(
     board: &Board,
     session: &mut Ticket,
     row: &mut Vec<Item>,
-    givers: &mut usize,
+    released_first: &mut usize,
     next: Option<u16>,
 )
     requires ours { IsOf board.now session.old × (session.old.has_book ≡ true) }
     requires route { IsRoute (board.now.sessions + 1) session.old.route }
     requires next { IsNext next session.old.route × HasMet next session.old }
     requires row { AreOpened board.now.sessions session.old.opened row.old.items }
-    requires room { (board.now.sessions ≤ vec_capacity row.old) × (givers.old ≤ vec_len row.old) }
+    requires room { (board.now.sessions ≤ vec_capacity row.old) × (released_first.old ≤ vec_len row.old) }
     requires visited { HasVisitedOpened session.old }
     ensures session { IsSameSession session.old session.new × (session.new.front ≡ session.old.front) }
     ensures row { AreOpened board.now.sessions session.new.opened row.new.items }
-    ensures room { (board.now.sessions ≤ vec_capacity row.new) × (givers.new ≤ vec_len row.new) }
+    ensures room { (board.now.sessions ≤ vec_capacity row.new) × (released_first.new ≤ vec_len row.new) }
     ensures calls { KeepsCalls session.old session.new }
     ensures visited { HasVisitedOpened session.new }
     ensures met { (j : _) → IsOn j session.old.route → IsVisited j session.new }
 {
     let mut next = next;
     while let Some(whose) = next {
-        open_record(board, session, row, givers, whose);
+        open_record(board, session, row, released_first, whose);
         next = board.walk(session, Some(whose));
     }
 }
 
 /// Walks the publication list from the head word to the end mark, and opens each record in which a call is posted.
 #[inline(always)]
-fn open_listed(board: &Board, session: &mut Ticket, row: &mut Vec<Item>, givers: &mut usize)
+fn open_listed(board: &Board, session: &mut Ticket, row: &mut Vec<Item>, released_first: &mut usize)
     requires ours { IsOf board.now session.old × (session.old.has_book ≡ true) }
     requires none { OpensNone session.old }
     requires row { AreOpened board.now.sessions session.old.opened row.old.items }
-    requires room { (board.now.sessions ≤ vec_capacity row.old) × (givers.old ≤ vec_len row.old) }
+    requires room { (board.now.sessions ≤ vec_capacity row.old) × (released_first.old ≤ vec_len row.old) }
     ensures session { IsSameSession session.old session.new × (session.new.front ≡ session.old.front) }
     ensures row { AreOpened board.now.sessions session.new.opened row.new.items }
-    ensures room { (board.now.sessions ≤ vec_capacity row.new) × (givers.new ≤ vec_len row.new) }
+    ensures room { (board.now.sessions ≤ vec_capacity row.new) × (released_first.new ≤ vec_len row.new) }
     ensures calls { KeepsCalls session.old session.new }
     ensures visited { HasVisitedOpened session.new }
     ensures met { (j : _) → 0 < j → j ≤ board.now.sessions → HasCalls (heard_from session.old j) j session.new }
 {
     let next = board.walk(session, None);
     if next.is_some() {
-        open_walked(board, session, row, givers, next);
+        open_walked(board, session, row, released_first, next);
     }
 }
 
@@ -199,10 +199,10 @@ fn open_records(board: &Board, session: &mut Ticket, row: &mut Vec<Item>)
 {
     // the number of sessions fits into 16 bits, so a u32 counts the calls of the row
     let _sessions = board.sessions();
-    let mut givers = 0;
-    open_listed(board, session, row, &mut givers);
+    let mut released_first = 0;
+    open_listed(board, session, row, &mut released_first);
     if session.is_unlisted() {
-        open_record(board, session, row, &mut givers, session.number());
+        open_record(board, session, row, &mut released_first, session.number());
     }
 }
 
@@ -304,7 +304,7 @@ fn serve_opened(board: &Board, session: &mut Ticket, load: &mut Load) -> Pass
     }
 }
 
-/// Serves the row as `serve_opened` does, unless it is empty. Whose wait has ended is then what the book told before.
+/// Like `serve_opened`, but does nothing if the row is empty; `Book::ended` then still describes an earlier pass.
 #[inline(always)]
 fn serve_any(board: &Board, session: &mut Ticket, load: &mut Load) -> Pass
     requires ours { IsOf board.now session.old × (session.old.has_book ≡ true) }

@@ -3,6 +3,7 @@ use Rattle.std.specs.Prelude.{◌≡◌, ◌⊎◌, ℕ, ◌+◌, ◌-◌, ◌<�
 use Rattle.lock_rules.specs.declared.calls.Entry.{Entry}
 use Rattle.lock_desk.specs.declared.book.Item.{Item}
 use Rattle.publication.specs.List.{IsOn, first_of}
+use Rattle.combining.specs.declared.clean_up.TheConstants.{PASSES_KEPT}
 
 -- The sessions of these items, in order.
 abbrev pub sessions_of : List Item → List ℕ
@@ -18,9 +19,9 @@ abbrev pub noted : List ℕ → List ℕ → ℕ → List ℕ
 noted ages [] passes = ages
 noted ages (j ∷ js) passes = noted (slice_set ages (j - 1) passes) js passes
 
--- Record j was last served more than 64 passes before this one.
+-- Record j was last served more than PASSES_KEPT passes before this one.
 abbrev pub IsUnused : List ℕ → ℕ → ℕ → Type 0
-IsUnused ages passes j = slice_index ages (j - 1) + 64 < passes
+IsUnused ages passes j = slice_index ages (j - 1) + PASSES_KEPT < passes
 
 -- What a clean-up may do to the list: its first record stays the first, and only unused records leave it.
 pub record IsCleaned (ages : List ℕ) (passes : ℕ) (before after : List ℕ) : Type 0 where

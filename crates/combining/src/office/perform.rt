@@ -39,8 +39,8 @@ impl Office {
     /// them.
     ///
     /// `Elsewhere`: nothing changed, and the call may be published instead. `Starved`: the call is not in the history, and
-    /// may be performed again or published. The session is idle again in each case. Whose wait the pass has ended is told to
-    /// nobody: where threads sleep until a pass tells of them, all calls are performed by `perform_telling`.
+    /// may be performed again or published. The session is idle again in each case. Reports no ended waits: if threads sleep
+    /// until a pass tells of them, use `perform_telling` everywhere.
     pub fn perform(&self, session: &mut Session, call: Call) -> Performed
         requires ours { IsSessionOf self.now session.old }
         requires idle { IsIdle session.old }
