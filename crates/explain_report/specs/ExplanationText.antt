@@ -6,6 +6,7 @@ use Rattle.lock_modes.specs.Codes.{name_of}
 use Rattle.lock_tree.specs.Text.{text_of}
 use Rattle.lock_rules.specs.declared.calls.Why.{Why}
 use Rattle.lock_rules.specs.declared.calls.Why.TheVariants.{AlreadyOpen, NoTransaction, IsWaiting, IsDoomed, NothingAsked, NotHeld, ParentNotHeld, ChildHeld, TooManyLocks, WouldWait, NotWaiting}
+use Rattle.lock_rules.specs.declared.calls.TheConstants.{MAX_LOCKS}
 use Rattle.lock_rules.specs.declared.listing.Claim.{Claim}
 use Rattle.lock_rules.specs.declared.listing.ClaimKind.{ClaimKind}
 use Rattle.lock_rules.specs.declared.listing.ClaimKind.TheVariants.{Held, Conversion, Fresh}
@@ -35,7 +36,7 @@ words_of_why NothingAsked = codes "mode NL asks for nothing"
 words_of_why NotHeld = codes "the session doesn't hold the resource"
 words_of_why ParentNotHeld = codes "the parent isn't held as the request needs it"
 words_of_why ChildHeld = codes "the session holds a lock below the resource"
-words_of_why TooManyLocks = codes "the session holds 4096 locks"
+words_of_why TooManyLocks = codes "the session holds " ++ decimal MAX_LOCKS ++ codes " locks"
 words_of_why WouldWait = codes "the request would wait"
 words_of_why NotWaiting = codes "the session doesn't wait"
 

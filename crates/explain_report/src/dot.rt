@@ -92,14 +92,14 @@ fn put_edge_with(out: &mut String, session: u16, other: u16, end: &str) -> Resul
     write!(out, "  {session} -> {other}{end}")
 }
 
-/// Writes the edge from the session that waits or would wait to a session that it waits for or would wait for.
+/// Writes the edge from the asker, which waits or would wait, to one of its blockers.
 fn put_edge_of_blocker(out: &mut String, session: u16, blocker: &Blocker) -> Result<(), NoMemory>
     ensures { OnOk result (string_bytes out.new ≡ string_bytes out.old ++ edge_of_blocker session blocker.now) }
 {
     put_edge_with(out, session, blocker.party.session, ";\n")
 }
 
-/// Writes the edges from the session that waits or would wait to those that it waits for or would wait for.
+/// Writes an edge from the asker to each blocker.
 fn put_edges_of_blockers(
     out: &mut String,
     session: u16,

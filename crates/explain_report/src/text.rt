@@ -25,7 +25,7 @@ pub(crate) fn has_nothing_to_tell(explanation: &Explanation) -> bool
         && explanation.granted.is_empty()
 }
 
-/// The reason of a refusal in words.
+/// The reason of a refusal in words. The number of locks is `MAX_LOCKS`: the contract fails if the limit becomes another.
 fn words_of_why(why: Why) -> &'static str
     ensures { result.now ≡ words_of_why why }
 {
