@@ -24,7 +24,7 @@ use std::io::{Read, Write};
 
 /// The text that `explain` writes of a history, and the verdict on the history.
 #[derive(Drop)]
-struct Told {
+struct Report {
     /// Whether the history is legal.
     verdict: Verdict,
     /// The accounts of its calls, or the line of the verdict.
@@ -73,8 +73,8 @@ fn account(
     account_text(alloc, place, entry, &explanation, form)
 }
 
-/// Adds the account of the entry that `after` has served and `before` hasn't to the text, if it is told: if the call was refused,
-/// its request waited, or it ended the wait of another session. Fails if memory is refused.
+/// Appends the account of `entry` to `text` if the call is eventful. `before` ends just ahead of the entry, `after` with it.
+/// Fails if memory is refused.
 fn add_account_if_told(
     alloc: Global,
     before: &Book,
@@ -114,13 +114,13 @@ fn serve_alike(book: &mut Book, entry: &Entry) -> Result<bool, NoMemory>
 }
 
 /// The line of the verdict on a history whose first wrong entry is at the place `first`. Fails if memory is refused.
-fn illegal_told(alloc: Global, first: u64) -> Result<Told, NoMemory>
+fn illegal_told(alloc: Global, first: u64) -> Result<Report, NoMemory>
     ensures verdict { IfOk result (λ told. told.verdict ≡ Verdict.Illegal first) }
     ensures text { IfOk result (λ told. told.text.items ≡ text_of_verdict (Verdict.Illegal first)) }
 {
     let verdict = Verdict::Illegal(first);
     let line = verdict_line(alloc, verdict)?;
-    Ok(Told {
+    Ok(Report {
         verdict,
         text: line.into_bytes(),
     })
@@ -147,7 +147,7 @@ fn told_at(
     entries: &[Entry],
     place: usize,
     form: Form,
-) -> Result<Told, NoMemory>
+) -> Result<Report, NoMemory>
     requires within { All (IsEntry before.old.sessions) entries.now }
     requires sessions { after.old.sessions ≡ before.old.sessions }
     requires behind { before.old.history ≡ [] }
@@ -169,7 +169,7 @@ fn told_at(
     if let Some(first) = late {
         return illegal_told(alloc, first);
     }
-    Ok(Told {
+    Ok(Report {
         verdict: Verdict::Legal(entries.len() as u64),
         text,
     })
@@ -212,8 +212,8 @@ fn tell_next(
     Ok(true)
 }
 
-/// Serves the entries on both books, which have served none, one of them an entry behind the other, adds the accounts of those that
-/// are told to the text, and stops at the first reply that isn't the books', whose place it returns. Fails if memory is refused.
+/// Replays the entries on two fresh books, `before` one entry behind `after`, and appends the accounts of the eventful calls to
+/// `text`. Returns the place of the first wrong reply, where it stops. Fails if memory is refused.
 fn tell_all(
     alloc: Global,
     before: &mut Book,
@@ -247,7 +247,7 @@ fn all_told(
     after: &mut Book,
     entries: &[Entry],
     form: Form,
-) -> Result<Told, NoMemory>
+) -> Result<Report, NoMemory>
     requires within { All (IsEntry before.old.sessions) entries.now }
     requires sessions { after.old.sessions ≡ before.old.sessions }
     requires behind { before.old.history ≡ [] }
@@ -260,7 +260,7 @@ fn all_told(
     if let Some(first) = wrong {
         return illegal_told(alloc, first);
     }
-    Ok(Told {
+    Ok(Report {
         verdict: Verdict::Legal(entries.len() as u64),
         text,
     })
@@ -274,7 +274,7 @@ fn told_behind(
     entries: &[Entry],
     place: Option<u32>,
     form: Form,
-) -> Result<Told, NoMemory>
+) -> Result<Report, NoMemory>
     requires within { All (IsEntry before.old.sessions) entries.now }
     requires behind { before.old.history ≡ [] }
     requires place { HasPlace place entries.now }
@@ -296,7 +296,7 @@ fn told_of(
     sessions: u16,
     place: Option<u32>,
     form: Form,
-) -> Result<Told, NoMemory>
+) -> Result<Report, NoMemory>
     requires some { 0 < sessions }
     requires few { sessions ≤ MAX_SESSIONS }
     requires within { All (IsEntry sessions) entries.now }

@@ -1,4 +1,18 @@
-//! The tool `glm`: replays, runs and checks traces of lock calls, with its command line.
+//! The tool `glm`: replays, runs and checks traces of lock calls, shows states and explains calls, with its command
+//! line.
+//!
+//! `commands.rt` is the whole program except its streams: `args.rt` parses the words, `outcomes.rt` has statuses and
+//! messages, `texts.rt` the help. A file for each command: `replaying.rt`, `running.rt`, `checking.rt`, `showing.rt`,
+//! `explaining.rt`, and `replaying_in_pieces.rt` and `running_in_pieces.rt`, which write the history on the way (by
+//! `pieces.rt`, `streaming.rt`, `pacing.rt`). A run has a thread for each session with rows (`threads.rt`,
+//! `workers.rt`), whose calls pass a gate (`call_gate.rt`).
+//!
+//! A replay reads the whole trace before it serves a row, so a bad row is reported with nothing written. Then it serves
+//! the rows on one lock table and writes the text of the history.
+//!
+//! Proved: what each command wrote, with its result and exit status, for every input, also after a fault. Only tested:
+//! that memory or a device failed when a status says so, the lines on standard error, and when a history is written in
+//! pieces. Not claimed: that a run on threads returns.
 #![tactic(auto)]
 
 mod args;

@@ -9,7 +9,7 @@ ghost use Rattle.glm.specs.Runs.{HasPerformed, HasPerformedPart, IsRunOf, IsText
 ghost use Rattle.glm.specs.Workers.{fault_of_stop};
 
 use crate::call_gate::Gate;
-use crate::threads::perform_all;
+use crate::threads::work_in_threads;
 use crate::tool_fault::ToolFault;
 use crate::workers::Stop;
 use crate::writing::write_text;
@@ -38,7 +38,7 @@ pub(crate) fn greatest_session(rows: &[TraceRow], sessions: u16) -> u16
 
 /// Performs the rows by threads, one thread for each session with a row, and returns the closed office's lock table. Fails
 /// with the reason why some thread stopped.
-fn performed<R: Threads + Wait, G: Gate>(
+fn run_in_office<R: Threads + Wait, G: Gate>(
     rt: &R,
     alloc: Global,
     rows: &[TraceRow],
@@ -54,7 +54,7 @@ fn performed<R: Threads + Wait, G: Gate>(
     let Ok((office, all)) = Office::open(alloc, sessions) else {
         return Err(Stop::NoMemory);
     };
-    let all = perform_all(rt, alloc, &office, all, rows, turns, gate)?;
+    let all = work_in_threads(rt, alloc, &office, all, rows, turns, gate)?;
     match office.close(all) {
         Ok(book) => Ok(book),
         Err(_) => unreachable!(),
@@ -63,7 +63,7 @@ fn performed<R: Threads + Wait, G: Gate>(
 
 /// Performs the rows by threads and returns the text of the history. Frees the rows before it makes the text, and the lock
 /// table afterwards.
-fn performed_text<R: Threads + Wait, G: Gate>(
+fn run_to_text<R: Threads + Wait, G: Gate>(
     rt: &R,
     alloc: Global,
     rows: Vec<TraceRow>,
@@ -77,7 +77,7 @@ fn performed_text<R: Threads + Wait, G: Gate>(
     ensures { IfOk result (λ text. IsTextOfRun rows.items text.items) }
 {
     let greatest = greatest_session(&rows, sessions);
-    let book = performed(rt, alloc, &rows, greatest, turns, gate)?;
+    let book = run_in_office(rt, alloc, &rows, greatest, turns, gate)?;
     drop(rows);
     // nobody lets entries of this office go, but no clause of a closed office says so: the text is made of the whole history
     if book.first_kept() != 0 {
@@ -121,7 +121,7 @@ pub fn run<R: Read + Drop, W: Write, T: Threads + Wait, G: Gate>(
         Err(fault) => return Err(ToolFault::Trace(fault)),
     };
     let count = rows.len() as u64;
-    let text = match performed_text(rt, alloc, rows, sessions, turns, gate) {
+    let text = match run_to_text(rt, alloc, rows, sessions, turns, gate) {
         Ok(text) => text,
         Err(stop) => return Err(stop.fault()),
     };

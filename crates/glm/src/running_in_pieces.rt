@@ -15,7 +15,7 @@ ghost use Rattle.glm.specs.Streams.{HasWrittenRest, IsFaultOfRest, IsFaultOfStre
 use crate::call_gate::Gate;
 use crate::pieces::write_piece;
 use crate::running::greatest_session;
-use crate::streaming::{Streamed, perform_in_pieces};
+use crate::streaming::{Streamed, stream_in_threads};
 use crate::tool_fault::ToolFault;
 use combining::{Office, Session};
 use lock_desk::Book;
@@ -140,7 +140,7 @@ fn stream_opened<T: Threads + Wait, W: Write, G: Gate>(
         output,
         taker,
         done,
-    } = perform_in_pieces(
+    } = stream_in_threads(
         rt, alloc, &office, workers, taker, rows, turns, gate, output,
     );
     match done {

@@ -129,7 +129,7 @@ fn write_while_at_work<R: Wait, W: Write>(
 
 /// Puts together how the writing and the threads ended: the sessions of the threads, with the number of entries that are
 /// written, or the fault of the writing, or else that of the threads.
-fn both(
+fn combine_results(
     written: Result<u64, ToolFault>,
     joined: Result<Vec<Session>, Stop>,
 ) -> Result<(Vec<Session>, u64), ToolFault>
@@ -149,7 +149,7 @@ fn both(
 
 /// Performs the sessions' rows in threads of this scope, and takes and writes the history until all of them have ended. If
 /// writing fails, the threads stop before their next call. A fault of the writing is reported before that of a thread.
-fn perform_and_write<'s, 'o, E, R: Threads + Wait, W: Write, G: Gate>(
+fn start_and_stream<'s, 'o, E, R: Threads + Wait, W: Write, G: Gate>(
     scope: &Scope<'s, E>,
     rt: &R,
     alloc: Global,
@@ -187,7 +187,7 @@ fn perform_and_write<'s, 'o, E, R: Threads + Wait, W: Write, G: Gate>(
     );
     let written = write_while_at_work(rt, alloc, office, &mut taker, progress, output);
     let joined = join_all(rt, alloc, started, reason);
-    let done = both(written, joined);
+    let done = combine_results(written, joined);
     Streamed {
         output,
         taker,
@@ -197,7 +197,7 @@ fn perform_and_write<'s, 'o, E, R: Threads + Wait, W: Write, G: Gate>(
 
 /// Performs the rows of each session in a thread of its own, and takes the history by the session `taker` and writes it in
 /// pieces meanwhile. Returns once all threads have ended.
-pub(crate) fn perform_in_pieces<'o, R: Threads + Wait, W: Write, G: Gate>(
+pub(crate) fn stream_in_threads<'o, R: Threads + Wait, W: Write, G: Gate>(
     rt: &R,
     alloc: Global,
     office: &Office,
@@ -240,7 +240,7 @@ pub(crate) fn perform_in_pieces<'o, R: Threads + Wait, W: Write, G: Gate>(
             ensures written { IfOk result.done (λ done. IsWrittenUpTo done.1 result.taker.front (W.contents output.entry.now) (W.contents result.output.now)) }
             ensures fault { IfErr result.done (λ fault. IsFaultOfStream (W.contents output.entry.now) (W.contents result.output.now) fault) }
         {
-            perform_and_write(
+            start_and_stream(
                 scope, rt, alloc, office, sessions, taker, rows, turns, pace, output,
             )
         },

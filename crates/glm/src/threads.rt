@@ -7,7 +7,7 @@ ghost use Rattle.glm.specs.Calls.{calls_of_rows};
 ghost use Rattle.glm.specs.Workers.{IsNewSession, IsPerformed, IsWorkOf, IsStart, number_of_start, numbers_of, numbers_of_starts, first_of_stops};
 
 use crate::call_gate::Gate;
-use crate::workers::{Stop, perform_rows};
+use crate::workers::{Stop, work_through};
 use combining::{Office, Session};
 use lock_trace::TraceRow;
 use std::alloc::Global;
@@ -66,7 +66,7 @@ fn work<G: Gate>(
 {
     let mut session = session;
     let number = session.number();
-    let performed = perform_rows(office, &mut session, number, rows, turns, gate);
+    let performed = work_through(office, &mut session, number, rows, turns, gate);
     at_work.fetch_sub(1, Ordering::SeqCst);
     match performed {
         Ok(()) => ThreadResult {
@@ -230,7 +230,7 @@ pub(crate) fn join_all<R: Threads>(
 
 /// Performs the sessions' rows in threads of this scope, waits for all of them, and returns the sessions in their order.
 /// Fails with the reason to report if a thread stopped early or couldn't be started.
-fn perform_within<'s, E, R: Threads, G: Gate>(
+fn start_and_join<'s, E, R: Threads, G: Gate>(
     scope: &Scope<'s, E>,
     rt: &R,
     alloc: Global,
@@ -261,7 +261,7 @@ fn perform_within<'s, E, R: Threads, G: Gate>(
 
 /// Performs the rows of each session in a thread of its own and returns all sessions in their order. Fails with the reason to
 /// report if a thread stopped early or couldn't be started.
-pub(crate) fn perform_all<R: Threads + Wait, G: Gate>(
+pub(crate) fn work_in_threads<R: Threads + Wait, G: Gate>(
     rt: &R,
     alloc: Global,
     office: &Office,
@@ -284,7 +284,7 @@ pub(crate) fn perform_all<R: Threads + Wait, G: Gate>(
             ensures numbers { IfOk result (λ done. numbers_of done.items ≡ numbers_of sessions.items) }
             ensures performed { IfOk result (λ done. All (IsPerformed office.entry.now rows.entry.now) done.items) }
         {
-            perform_within(
+            start_and_join(
                 scope, rt, alloc, office, sessions, rows, turns, gate, at_work,
             )
         },

@@ -286,7 +286,7 @@ fn make_call<S: Service>(
 
 /// Performs call number `place` of session `number`: enters the gate, makes the call and leaves the gate. Fails with
 /// `GateShut` if the gate stayed shut, or as `make_call` fails.
-fn perform<S: Service, G: Gate>(
+fn call_through_gate<S: Service, G: Gate>(
     service: &S,
     session: &mut S::Session,
     number: u16,
@@ -315,7 +315,7 @@ fn perform<S: Service, G: Gate>(
 
 /// Performs the rows of session `number` in their order, each once. The session must have made no call yet. Fails at the
 /// first call that fails.
-pub(crate) fn perform_rows<S: Service, G: Gate>(
+pub(crate) fn work_through<S: Service, G: Gate>(
     service: &S,
     session: &mut S::Session,
     number: u16,
@@ -334,7 +334,7 @@ pub(crate) fn perform_rows<S: Service, G: Gate>(
     let mut place = 0;
     for row in rows {
         if row.session == number {
-            perform(service, session, number, place, row.call, turns, gate)?;
+            call_through_gate(service, session, number, place, row.call, turns, gate)?;
             place += 1;
         }
     }

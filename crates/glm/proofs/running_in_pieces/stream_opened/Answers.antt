@@ -12,7 +12,7 @@ use Rattle.glm.proofs.running_in_pieces.stream_opened.Goals as goal
 pub close_and_write-requires-clause-ours : goal.close_and_write-requires-clause-ours
 close_and_write-requires-clause-ours g c =
     let opened = c.args.opened in
-    let made = c.perform_in_pieces-output in
+    let made = c.stream_in_threads-output in
     let performed = IfOk-at_ok (λ d. All (IsPerformed opened.office c.args.rows.now) d.0.items) c.in-Ok.is made.ensures.performed in
     all_ours opened.office c.args.rows.now _
     (all_ready c.requires.0 opened.office opened.workers.items opened.taker c.args.rows.now c.in-Ok.done.items made.result.taker
@@ -21,7 +21,7 @@ close_and_write-requires-clause-ours g c =
 pub close_and_write-requires-clause-closes : goal.close_and_write-requires-clause-closes
 close_and_write-requires-clause-closes g c =
     let opened = c.args.opened in
-    let made = c.perform_in_pieces-output in
+    let made = c.stream_in_threads-output in
     let performed = IfOk-at_ok (λ d. All (IsPerformed opened.office c.args.rows.now) d.0.items) c.in-Ok.is made.ensures.performed in
     let numbers = IfOk-at_ok (λ d. numbers_of d.0.items ≡ numbers_of opened.workers.items) c.in-Ok.is made.ensures.numbers in
     never_refused c.requires.0 opened.office opened.workers.items opened.taker c.args.rows.now c.in-Ok.done.items made.result.taker
@@ -32,7 +32,7 @@ close_and_write-requires-clause-closes g c =
 pub returns-in-Ok-clause-run : goal.returns-in-Ok-clause-run
 returns-in-Ok-clause-run g c =
     let opened = c.args.opened in
-    let made = c.perform_in_pieces-output in
+    let made = c.stream_in_threads-output in
     let performed = IfOk-at_ok (λ d. All (IsPerformed opened.office c.args.rows.now) d.0.items) c.in-Ok.is made.ensures.performed in
     let numbers = IfOk-at_ok (λ d. numbers_of d.0.items ≡ numbers_of opened.workers.items) c.in-Ok.is made.ensures.numbers in
     let way = IfOk-at_ok (λ d. IsWrittenUpTo d.1 made.result.taker.front (g.W.Write.contents c.args.output.now) (g.W.Write.contents made.result.output.now)) c.in-Ok.is made.ensures.written in
@@ -47,7 +47,7 @@ returns-in-Ok-clause-run g c =
 
 pub returns-in-Ok-clause-fault : goal.returns-in-Ok-clause-fault
 returns-in-Ok-clause-fault g c =
-    let made = c.perform_in_pieces-output in
+    let made = c.stream_in_threads-output in
     let way = IfOk-at_ok (λ d. IsWrittenUpTo d.1 made.result.taker.front (g.W.Write.contents c.args.output.now) (g.W.Write.contents made.result.output.now)) c.in-Ok.is made.ensures.written in
     let old = g.W.Write.contents c.args.output.now in
     let new = g.W.Write.contents c.close_and_write.new.output in

@@ -7,8 +7,8 @@ use Rattle.lock_rules.specs.declared.calls.Call.{Call}
 use Rattle.lock_trace.specs.declared.rows.TraceRow.{TraceRow}
 use Rattle.glm.specs.Calls.{calls_of_rows}
 use Rattle.glm.specs.Workers.{Calls, TriedAtMost}
-use Rattle.glm.proofs.workers.perform_rows.Goals as goal
-use Rattle.glm.proofs.workers.perform_rows.Goals.{then-row-number+in_ok-perform, else-row-number}
+use Rattle.glm.proofs.workers.work_through.Goals as goal
+use Rattle.glm.proofs.workers.work_through.Goals.{then-row-number+in_ok-call_through_gate, else-row-number}
 
 -- the calls of the rows
 abbrev calls_in : List TraceRow → List Call
@@ -61,16 +61,16 @@ loop-row-preserved g c =
     let row = c.row-item.result in
     let before = c.loop-row.invariant in
     elim c.if-row-number.branch [
-      | then-row-number+in_ok-perform w ↦ record {
-        ours = rw w.session-is w.in_ok-perform.ensures.ours;
-        performed = ap g.S.Service.calls w.session-is ∙ w.in_ok-perform.ensures.performed ∙ ap (with_call row.call) before.performed
+      | then-row-number+in_ok-call_through_gate w ↦ record {
+        ours = rw w.session-is w.in_ok-call_through_gate.ensures.ours;
+        performed = ap g.S.Service.calls w.session-is ∙ w.in_ok-call_through_gate.ensures.performed ∙ ap (with_call row.call) before.performed
             ∙ ap (collected_by number) (sym (one_more number at row c.args.rows.now c.loop-row-test.true c.row-item.is w.if-row-number.true));
         few = omega (arith, w.place-is, before.few);
         tried = λ start h.
             let (tries, few, so_far) = before.tried start h in
             rw w.session-is (more_tries (g.S.Service.has_tried _) start c.args.turns tries _ _ row.call
             (one_more number at row c.args.rows.now c.loop-row-test.true c.row-item.is w.if-row-number.true) few
-            (w.in_ok-perform.ensures.tried tries so_far));
+            (w.in_ok-call_through_gate.ensures.tried tries so_far));
       }
       | else-row-number w ↦ record {
         ours = rw w.session-is before.ours;

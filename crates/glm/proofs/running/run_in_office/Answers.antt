@@ -1,8 +1,8 @@
 use Rattle.glm.proofs.IsRunOf.{all_ours, closes, run_of_closed, sessions_new}
-use Rattle.glm.proofs.running.performed.Goals as goal
+use Rattle.glm.proofs.running.run_in_office.Goals as goal
 
-pub perform_all-requires-after_bounds : goal.perform_all-requires-after_bounds
-perform_all-requires-after_bounds g c κs within =
+pub work_in_threads-requires-after_bounds : goal.work_in_threads-requires-after_bounds
+work_in_threads-requires-after_bounds g c κs within =
     sessions_new c.in-Ok.office c.args.sessions c.in-Ok.all.items c.in-Ok.ensures.sessions c.in-Ok.ensures.ready
 
 pub close-requires : goal.close-requires

@@ -1,5 +1,5 @@
 use Rattle.glm.proofs.Streamed.{all_joined}
-use Rattle.glm.proofs.threads.perform_within.Goals as goal
+use Rattle.glm.proofs.threads.start_and_join.Goals as goal
 
 -- if all sessions were started and none stopped, the joined ones are all of them
 pub returns-clause-numbers : goal.returns-clause-numbers

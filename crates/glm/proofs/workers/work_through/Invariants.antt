@@ -1,7 +1,7 @@
 use Rattle.std.proofs.Common.{◌≡◌, ◌≤◌, ◌*◌, ℕ, length, take, None}
 use Rattle.glm.specs.Calls.{calls_of_rows}
 use Rattle.glm.specs.Workers.{TriedAtMost}
-use Rattle.glm.proofs.workers.perform_rows.Given as goal
+use Rattle.glm.proofs.workers.work_through.Given as goal
 
 -- the session performed its rows so far, and no others, with at most `turns` tries for each
 abbrev pub invariant-loop-row : goal.invariant-loop-row
