@@ -12,8 +12,6 @@ mod conversions;
 #[cfg(test)]
 mod deadlocks;
 #[cfg(test)]
-mod engine;
-#[cfg(test)]
 mod examples;
 #[cfg(test)]
 mod harness;

@@ -13,6 +13,8 @@ mod each;
 #[cfg(test)]
 mod ended;
 #[cfg(test)]
+mod engine;
+#[cfg(test)]
 mod kept;
 #[cfg(test)]
 mod listing;

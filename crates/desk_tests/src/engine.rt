@@ -1,4 +1,4 @@
-//! A storage engine that locks its files and pages in a book; README begins with this code.
+//! A storage engine that locks its files and pages in a book; docs/EMBEDDING.md begins with this code.
 
 ghost use Rattle.std.specs.Prelude.{◌≡◌, ◌≤◌};
 
