@@ -51,8 +51,7 @@ TESTED = {
     "office_tests": (
         *("ages::", "boards::", "calling::a_whole_call_that_found_no_memory", "closing::"),
         *("direct::a_call_that_found_no_memory", "dropping::", "hearing::", "listing::", "looks::"),
-        *("offices::", "refusals::", "telling::a_commit"),
-        *("withdrawals::a_session", "withdrawals::a_pass", "withdrawals::a_published"),
+        *("offices::", "refusals::", "telling::a_commit", "withdrawals::a_session"),
     ),
 }
 # except these: tests with threads, with two offices, and of the publication list, where a starved pass counts as a pass, which
@@ -63,9 +62,8 @@ LEFT_OUT = {
     "closing::all_1024_sessions_close_in_any_order",
     "closing::two_offices_have_their_own_sessions",
     "hearing::eight_threads_hear",
-    "listing::a_record_whose_answer_is_not_collected_stays_on_the_list",
-    "listing::idle_records_are_unlinked",
     "listing::sixty_four_sessions_poll_in_turn",
+    "listing::unused_records_are_unlinked",
     "queues::a_queue_of_1022_goes_on_after_an_abort_in_its_middle",
     "queues::one_call_has_1022_victims",
 }

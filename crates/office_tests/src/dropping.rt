@@ -1,98 +1,62 @@
 //! Sessions that are dropped: with a call pending, retired, or between two passes. What they published is served, what they
 //! locked stays locked, and their office isn't closed any more.
 
-ghost use Rattle.std.specs.Prelude.{◌≡◌, [], All};
-ghost use Rattle.combining.specs.Sessions.{IsSessionOf};
-
-use crate::closing::{entries_of, refused};
-use crate::offices::{database, new_office};
-use crate::steps::{Step, perform};
+use crate::cases::{closed, perform_cases, refused};
+use crate::offices::new_office;
 use combining::CloseFault;
-use lock_desk::{Call, Mode, Reply};
-use std::alloc::Global;
-use std::process::Abort;
 use std::test::Fail;
 
-/// Performs the steps in a fresh office of two sessions, one of which is dropped on the way, and expects each close with the
-/// other one to be refused, and all to be given back.
-fn want_missing(rt: &impl Abort, alloc: Global, steps: &[(u16, Step)]) -> Result<(), Fail> {
-    let (office, mut sessions) = new_office(alloc, 2)?;
-    let _starved = perform(rt, &office, &mut sessions, steps);
-    let (office, sessions) = refused(rt, office, sessions, CloseFault::Missing);
-    let (_office, sessions) = refused(rt, office, sessions, CloseFault::Missing);
-    assert_eq!(rt; sessions.len(), 1);
-    Ok(())
-}
+/// Sessions that leave, each in an office that can't be closed with the other one.
+const LEAVING: &str = "\
+2: an office does not close without a dropped session
+1 leaves
+end: missing 1
 
-/// A pass serves the call of a session that was dropped with the call pending.
-#[test]
-fn the_call_of_a_dropped_session_is_served(rt: HostRuntime) -> Result<(), Fail> {
-    let steps = [
-        (1, Step::Publishes(Call::Begin)),
-        (1, Step::IsDropped),
-        (2, Step::Publishes(Call::Begin)),
-        // the list is 2, 1
-        (2, Step::Serves(2)),
-        (2, Step::Collects(0, Reply::Began(1))),
-        (2, Step::HasSeen(2)),
-    ];
-    want_missing(&rt, rt.alloc(), &steps)
-}
+2: the call of a session that was dropped with the call pending is served
+1 publishes begin
+1 leaves
+2 publishes begin
+# the list is 2, 1
+2 serves 2
+2 collects 0 began 1
+2 saw 2
+end: missing 1
 
-/// A dropped session keeps its locks, those that a pass granted it afterwards, too.
-#[test]
-fn the_locks_of_a_dropped_session_stay(rt: HostRuntime) -> Result<(), Fail> {
-    let one = database(1)?;
-    let two = database(2)?;
-    let steps = [
-        (1, Step::CallsAlone(Call::Begin, 0, Reply::Began(1))),
-        (2, Step::CallsAlone(Call::Begin, 1, Reply::Began(2))),
-        (
-            1,
-            Step::CallsAlone(Call::Lock(one, Mode::S), 2, Reply::Granted(Mode::S)),
-        ),
-        (1, Step::Publishes(Call::Lock(two, Mode::X))),
-        (1, Step::IsDropped),
-        (2, Step::Serves(1)),
-        (
-            2,
-            Step::CallsAlone(Call::Lock(two, Mode::S), 4, Reply::Waiting),
-        ),
-        (2, Step::CallsAlone(Call::Abort, 5, Reply::Aborted(0))),
-        (2, Step::CallsAlone(Call::Begin, 6, Reply::Began(3))),
-        (
-            2,
-            Step::CallsAlone(Call::Lock(one, Mode::X), 7, Reply::Waiting),
-        ),
-    ];
-    want_missing(&rt, rt.alloc(), &steps)
-}
+2: the locks of a dropped session stay, those that a pass granted it afterwards, too
+1 makes begin: 0 began 1
+2 makes begin: 1 began 2
+1 makes lock 1 S: 2 granted S
+1 publishes lock 2 X
+1 leaves
+2 serves 1
+2 makes lock 2 S: 4 waiting
+2 makes abort: 5 aborted 0
+2 makes begin: 6 began 3
+2 makes lock 1 X: 7 waiting
+end: missing 1
 
-/// A session that retired and was dropped is missing, too.
-#[test]
-fn an_office_does_not_close_without_a_retired_session(rt: HostRuntime) -> Result<(), Fail> {
-    let steps = [
-        (1, Step::CallsAlone(Call::Begin, 0, Reply::Began(1))),
-        (1, Step::Retires),
-        (1, Step::IsDropped),
-        (2, Step::CallsAlone(Call::Begin, 1, Reply::Began(2))),
-    ];
-    want_missing(&rt, rt.alloc(), &steps)
-}
+2: an office does not close without a session that retired and was dropped
+1 makes begin: 0 began 1
+1 retires
+1 leaves
+2 makes begin: 1 began 2
+end: missing 1
 
-/// A combiner that is dropped after its pass has given the lock table back, so another session makes the next pass.
+2: the lock table is free after its combiner was dropped
+1 publishes begin
+2 publishes begin
+# the list is 2, 1
+1 serves 2
+1 leaves
+2 collects 0 began 1
+2 makes poll: 2 clear
+end: missing 1";
+
+/// What a dropped session has published is served, what it has locked stays locked, and its office isn't closed, however often
+/// it is tried.
 #[test]
-fn the_lock_table_is_free_after_its_combiner_was_dropped(rt: HostRuntime) -> Result<(), Fail> {
-    let steps = [
-        (1, Step::Publishes(Call::Begin)),
-        (2, Step::Publishes(Call::Begin)),
-        // the list is 2, 1
-        (1, Step::Serves(2)),
-        (1, Step::IsDropped),
-        (2, Step::Collects(0, Reply::Began(1))),
-        (2, Step::CallsAlone(Call::Poll, 2, Reply::Clear)),
-    ];
-    want_missing(&rt, rt.alloc(), &steps)
+fn an_office_goes_on_without_a_dropped_session(rt: HostRuntime) -> Result<(), Fail> {
+    perform_cases(&rt, rt.alloc(), LEAVING)
 }
 
 /// An office isn't closed with no session at all. It is given back, and closes with both.
@@ -101,6 +65,6 @@ fn an_office_does_not_close_with_no_session(rt: HostRuntime) -> Result<(), Fail>
     let (office, sessions) = new_office(rt.alloc(), 2)?;
     let (office, none) = refused(&rt, office, Vec::new(rt.alloc()), CloseFault::Missing);
     assert!(rt; none.is_empty());
-    assert_eq!(rt; entries_of(&rt, office, sessions), 0);
+    assert_eq!(rt; closed(&rt, office, sessions).history().len(), 0);
     Ok(())
 }

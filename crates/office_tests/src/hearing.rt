@@ -10,6 +10,7 @@ use std::alloc::{AllocError, Global};
 use std::process::Abort;
 use std::test::Fail;
 use std::thread;
+use std::thread::Threads;
 
 /// The two sessions of a thread.
 #[derive(Drop)]
@@ -21,7 +22,7 @@ struct Team {
 }
 
 /// Counts over the answers of a team.
-#[derive(Drop)]
+#[derive(Clone, Copy)]
 struct Tally {
     /// The number of answers.
     answers: u64,
@@ -128,23 +129,51 @@ fn work(office: &Office, team: Team, calls: u64) -> Tally
     tally
 }
 
+/// Makes 500 calls in each team of an office of 16 sessions, with a thread for each team.
+fn tallies_of_threads<R: Threads + Abort + Sync>(
+    rt: &R,
+    alloc: Global,
+    office: &Office,
+    sessions: Vec<Session>,
+) -> Result<Vec<Tally>, Fail>
+    requires ours { All (λ session. IsSessionOf office.now session × IsIdle session) sessions.items }
+{
+    let teams = teams_of(alloc, office, sessions)?;
+    let all = thread::map_vec(rt, teams, &|team: Team| work(office, team, 500))?;
+    Ok(all)
+}
+
+/// Opens an office, and makes the calls of eight threads in it.
+fn tallies_of_an_office<R: Threads + Abort + Sync>(
+    rt: &R,
+    alloc: Global,
+) -> Result<Vec<Tally>, Fail> {
+    let (office, sessions) = Office::open(alloc, 16)?;
+    tallies_of_threads(rt, alloc, &office, sessions)
+}
+
+/// Adds up the counts. Expects each call after a `hear` to come behind the entries that the other session had seen.
+fn sum_of(rt: &impl Abort, all: Vec<Tally>) -> Tally {
+    let mut sum = Tally {
+        answers: 0,
+        places: 0,
+        hears: 0,
+        behind: 0,
+    };
+    for tally in all {
+        sum.answers = sum.answers.wrapping_add(tally.answers);
+        sum.places = sum.places.wrapping_add(tally.places);
+        sum.hears = sum.hears.wrapping_add(tally.hears);
+        assert_eq!(rt; tally.behind, tally.hears);
+    }
+    sum
+}
+
 /// The places of 4000 answers add up to the sum of 0 to 3999, and each call after a `hear` comes behind the entries that the
 /// other session had seen.
 #[test]
 fn eight_threads_hear(rt: HostRuntime) -> Result<(), Fail> {
-    let (office, sessions) = Office::open(rt.alloc(), 16)?;
-    let teams = teams_of(rt.alloc(), &office, sessions)?;
-    let office = &office;
-    let all = thread::map_vec(&rt, teams, &|team: Team| work(office, team, 500))?;
-    let mut answers = 0u64;
-    let mut places = 0u64;
-    let mut hears = 0u64;
-    for tally in all {
-        answers = answers.wrapping_add(tally.answers);
-        places = places.wrapping_add(tally.places);
-        hears = hears.wrapping_add(tally.hears);
-        assert_eq!(rt; tally.behind, tally.hears);
-    }
-    assert!(rt; answers == 4000 && places == 3999 * 2000 && hears > 1000);
+    let sum = sum_of(&rt, tallies_of_an_office(&rt, rt.alloc())?);
+    assert!(rt; sum.answers == 4000 && sum.places == 3999 * 2000 && sum.hears > 1000);
     Ok(())
 }

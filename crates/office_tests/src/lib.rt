@@ -9,6 +9,8 @@ mod boards;
 #[cfg(test)]
 mod calling;
 #[cfg(test)]
+mod cases;
+#[cfg(test)]
 mod closing;
 #[cfg(test)]
 mod direct;
@@ -30,6 +32,8 @@ mod pieces;
 #[cfg(test)]
 mod refusals;
 #[cfg(test)]
+mod script;
+#[cfg(test)]
 mod steps;
 #[cfg(test)]
 mod telling;
@@ -37,3 +41,5 @@ mod telling;
 mod threads;
 #[cfg(test)]
 mod withdrawals;
+#[cfg(test)]
+mod workers;

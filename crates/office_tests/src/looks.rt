@@ -1,123 +1,226 @@
 //! Questions that a session asks of the lock table of an open office. A call that is refused memory is made a second time, so
 //! that these tests also pass if any one of their allocations is refused.
 
-ghost use Rattle.std.specs.Prelude.{◌≡◌};
-ghost use Rattle.combining.specs.Sessions.{IsSessionOf, IsIdle};
+ghost use Rattle.combining.specs.Sessions.{IsSessionOf};
 
-use crate::offices::{call_alone, database, new_office, served_by};
-use combining::{Office, Posted, Session};
-use lock_desk::{Call, Claim, ClaimKind, Mode, NoMemory, Reply, Resource, Transaction};
+use crate::cases::perform_cases;
+use crate::script::{cut, is_list, mode_of, number_of, resource_of, session_of};
+use combining::{Office, Session};
+use lock_desk::{Claim, ClaimKind, Mode, NoMemory, Resource, Transaction};
 use std::alloc::Global;
 use std::process::Abort;
 use std::test::Fail;
 
-/// Begins a transaction and locks the database, and expects this reply to the lock.
-fn begin_and_lock(
-    rt: &impl Abort,
-    office: &Office,
-    session: &mut Session,
-    database: Resource,
-    mode: Mode,
-    reply: Reply,
-)
-    requires ours { IsSessionOf office.now session.old × IsIdle session.old }
-    ensures ours { IsSessionOf office.now session.new × IsIdle session.new }
-{
-    let _began = call_alone(rt, office, session, Call::Begin);
-    let locked = call_alone(rt, office, session, Call::Lock(database, mode));
-    assert_eq!(rt; locked.reply, reply);
+/// Questions about a writer and two readers behind it, and about calls that are published.
+const QUESTIONS: &str = "\
+3: a session asks who holds and who waits, while the office is open, and then knows the whole history
+1 makes begin: 0 began 1
+1 makes lock 1 X: 1 granted X
+2 makes begin: 2 began 2
+2 makes lock 1 S: 3 waiting
+3 makes begin: 4 began 3
+3 makes lock 1 S: 5 waiting
+1 saw 2
+3 saw 6
+1 asks held 1 1: 6 X
+1 asks held 2 1: 6 nothing
+1 asks waits 2 1: 6 true
+1 asks waits 3 2: 6 true
+1 asks waits 1 2: 6 false
+1 asks holders 1: 6 1 X
+1 asks blockers 3: 6 1 2
+1 asks blockers 2: 6 1
+1 asks blockers 1: 6
+2 asks transaction 2: 6 2
+2 asks transaction 9: 6 nothing
+2 asks request 1: 6 nothing
+2 asks request 3: 6 fresh 3 1 S
+2 asks locks: 6 held 1 1 X, fresh 2 1 S, fresh 3 1 S
+1 saw 6
+# a session that isn't there holds nothing and waits for nobody, and nobody holds what nobody has locked
+2 asks held 9 1: 6 nothing
+2 asks waits 9 1: 6 false
+2 asks waits 2 0: 6 false
+2 asks blockers 0: 6
+2 asks holders 2: 6
+
+2: a question serves no call, also none of its own session, and the next pass serves both
+1 publishes begin
+2 publishes begin
+1 asks held 1 1: 0 nothing
+2 asks blockers 1: 0
+1 is pending
+1 serves 2
+2 asks held 1 1: 2 nothing";
+
+/// A session asks who holds a resource and who waits for whom. A question serves no call.
+#[test]
+fn a_session_asks_who_holds_and_who_waits(rt: HostRuntime) -> Result<(), Fail> {
+    perform_cases(&rt, rt.alloc(), QUESTIONS)
 }
 
-/// Asks what session `whose` holds on the database, and expects this, behind so many calls.
-fn want_held(
-    rt: &impl Abort,
-    office: &Office,
-    session: &mut Session,
-    whose: u16,
-    database: Resource,
-    length: u64,
-    held: Option<Mode>,
-)
-    requires ours { IsSessionOf office.now session.old }
-    ensures ours { IsSessionOf office.now session.new }
-{
-    let seen = office
-        .held(session, whose, database)
-        .expect(rt, "the lock table");
-    assert_eq!(rt; seen.length, length);
-    assert_eq!(rt; seen.found, held);
-}
-
-/// Asks whether session `whose` waits for `other`, and expects this, behind so many calls.
-fn want_waits_for(
-    rt: &impl Abort,
-    office: &Office,
-    session: &mut Session,
-    whose: u16,
-    other: u16,
-    length: u64,
-    waits: bool,
-)
-    requires ours { IsSessionOf office.now session.old }
-    ensures ours { IsSessionOf office.now session.new }
-{
-    let seen = office
-        .waits_for(session, whose, other)
-        .expect(rt, "the lock table");
-    assert_eq!(rt; seen.length, length);
-    assert_eq!(rt; seen.found, waits);
-}
-
-/// Asks for the holders of the database, a second time if memory is refused.
-fn holders(
-    office: &Office,
-    session: &mut Session,
-    database: Resource,
-    list: &mut Vec<(u16, Mode)>,
-) -> Result<Option<u64>, NoMemory>
-    requires ours { IsSessionOf office.now session.old }
-    ensures ours { IsSessionOf office.now session.new }
-{
-    match office.holders(session, database, list) {
-        Ok(seen) => Ok(seen),
-        Err(_) => office.holders(session, database, list),
-    }
-}
-
-/// Asks for the holders of the database, and expects these, behind so many calls.
-fn want_holders(
+/// Asks a question, as `held 2 1`, and wants this behind so many calls, as `6 X`.
+pub(crate) fn ask(
     rt: &impl Abort,
     alloc: Global,
     office: &Office,
     session: &mut Session,
-    database: Resource,
-    length: u64,
-    expected: &[(u16, Mode)],
-) -> Result<(), Fail>
+    text: &str,
+) -> bool
     requires ours { IsSessionOf office.now session.old }
     ensures ours { IsSessionOf office.now session.new }
 {
-    let mut list = Vec::new(alloc);
-    let seen = holders(office, session, database, &mut list)?;
-    assert_eq!(rt; seen, Some(length));
-    assert_eq!(rt; list.as_slice(), expected);
-    Ok(())
+    let (question, wanted) = cut(text, ": ");
+    let (word, about) = cut(question, " ");
+    let (length, found) = cut(wanted, " ");
+    let seen = match word {
+        "held" => held(rt, office, session, about, found),
+        "waits" => waits_for(rt, office, session, about, found),
+        "transaction" => transaction(rt, office, session, about, found),
+        "request" => request(rt, office, session, about, found),
+        "holders" => holders(rt, alloc, office, session, about, found),
+        "blockers" => blockers(rt, alloc, office, session, about, found),
+        _ => locks(rt, alloc, office, session, found),
+    };
+    seen == Some(number_of(rt, length))
 }
 
-/// Asks for whom session `whose` waits, a second time if memory is refused.
-fn blockers(
+/// Asks what a session holds on a resource. Returns the number of calls, or `None` if something else was found.
+fn held(
+    rt: &impl Abort,
     office: &Office,
     session: &mut Session,
-    whose: u16,
-    list: &mut Vec<u16>,
-) -> Result<Option<u64>, NoMemory>
+    about: &str,
+    found: &str,
+) -> Option<u64>
     requires ours { IsSessionOf office.now session.old }
     ensures ours { IsSessionOf office.now session.new }
 {
-    match office.blockers(session, whose, list) {
-        Ok(seen) => Ok(seen),
-        Err(_) => office.blockers(session, whose, list),
+    let (whose, resource) = cut(about, " ");
+    let seen = office.held(session, session_of(rt, whose), resource_of(rt, resource))?;
+    (seen.found == Mode::parse(found)).then_some(seen.length)
+}
+
+/// Asks whether a session waits for another one. Returns the number of calls, or `None` if something else was found.
+fn waits_for(
+    rt: &impl Abort,
+    office: &Office,
+    session: &mut Session,
+    about: &str,
+    found: &str,
+) -> Option<u64>
+    requires ours { IsSessionOf office.now session.old }
+    ensures ours { IsSessionOf office.now session.new }
+{
+    let (whose, other) = cut(about, " ");
+    let seen = office.waits_for(session, session_of(rt, whose), session_of(rt, other))?;
+    (seen.found == (found == "true")).then_some(seen.length)
+}
+
+/// An open transaction that isn't a victim.
+fn open(number: u64) -> Transaction {
+    Transaction {
+        number,
+        doomed: false,
     }
+}
+
+/// Asks for the open transaction of a session. Returns the number of calls, or `None` if something else was found.
+fn transaction(
+    rt: &impl Abort,
+    office: &Office,
+    session: &mut Session,
+    whose: &str,
+    found: &str,
+) -> Option<u64>
+    requires ours { IsSessionOf office.now session.old }
+    ensures ours { IsSessionOf office.now session.new }
+{
+    let seen = office.transaction(session, session_of(rt, whose))?;
+    let wanted = match found {
+        "nothing" => None,
+        number => Some(open(number_of(rt, number))),
+    };
+    (seen.found == wanted).then_some(seen.length)
+}
+
+/// Reads a lock or a fresh request of a session, whose transaction has the session's number, as `held 1 1 X`: the kind, the
+/// session, the resource and the mode.
+fn claim_of(rt: &impl Abort, text: &str) -> Claim {
+    let (kind, rest) = cut(text, " ");
+    let (session, rest) = cut(rest, " ");
+    let (resource, mode) = cut(rest, " ");
+    let kind = match kind {
+        "held" => ClaimKind::Held,
+        "fresh" => ClaimKind::Fresh,
+        _ => panic!(rt; "not a claim: {text}"),
+    };
+    Claim {
+        resource: resource_of(rt, resource),
+        session: session_of(rt, session),
+        transaction: open(number_of(rt, session)),
+        mode: mode_of(rt, mode),
+        kind,
+    }
+}
+
+/// Asks for the waiting request of a session. Returns the number of calls, or `None` if something else was found.
+fn request(
+    rt: &impl Abort,
+    office: &Office,
+    session: &mut Session,
+    whose: &str,
+    found: &str,
+) -> Option<u64>
+    requires ours { IsSessionOf office.now session.old }
+    ensures ours { IsSessionOf office.now session.new }
+{
+    let seen = office.request(session, session_of(rt, whose))?;
+    let wanted = match found {
+        "nothing" => None,
+        claim => Some(claim_of(rt, claim)),
+    };
+    (seen.found == wanted).then_some(seen.length)
+}
+
+/// Tests whether a list of holders is that of the text, as `1 X`.
+fn are_holders(rt: &impl Abort, list: &[(u16, Mode)], text: &str) -> bool {
+    if text == "" {
+        return list.is_empty();
+    }
+    let mut rest = list.iter();
+    for holder in text.split(", ") {
+        let (session, mode) = cut(holder, " ");
+        if rest.next().copied() != Some((session_of(rt, session), mode_of(rt, mode))) {
+            return false;
+        }
+    }
+    rest.next().is_none()
+}
+
+/// Asks for the holders of a resource, a second time if memory is refused. Returns the number of calls, or `None` if others were
+/// found.
+fn holders(
+    rt: &impl Abort,
+    alloc: Global,
+    office: &Office,
+    session: &mut Session,
+    about: &str,
+    found: &str,
+) -> Option<u64>
+    requires ours { IsSessionOf office.now session.old }
+    ensures ours { IsSessionOf office.now session.new }
+{
+    let resource = resource_of(rt, about);
+    let mut list = Vec::new(alloc);
+    let seen = match office.holders(session, resource, &mut list) {
+        Ok(seen) => seen,
+        Err(_) => office.holders(session, resource, &mut list).ok()?,
+    };
+    if !are_holders(rt, &list, found) {
+        return None;
+    }
+    seen
 }
 
 /// A list with one session. Tries to make room a second time if memory is refused.
@@ -130,221 +233,60 @@ fn list_of_one(alloc: Global) -> Result<Vec<u16>, NoMemory> {
     Ok(list)
 }
 
-/// Asks for whom session `whose` waits, with a list that has another session before, and expects these, behind so many calls.
-fn want_blockers(
+/// Asks for whom a session waits, with a list that has another session before; a second time if memory is refused. Returns the
+/// number of calls, or `None` if others were found.
+fn blockers(
     rt: &impl Abort,
     alloc: Global,
     office: &Office,
     session: &mut Session,
-    whose: u16,
-    length: u64,
-    expected: &[u16],
-) -> Result<(), Fail>
+    about: &str,
+    found: &str,
+) -> Option<u64>
     requires ours { IsSessionOf office.now session.old }
     ensures ours { IsSessionOf office.now session.new }
 {
-    let mut list = list_of_one(alloc)?;
-    let seen = blockers(office, session, whose, &mut list)?;
-    assert_eq!(rt; seen, Some(length));
-    assert_eq!(rt; list.as_slice(), expected);
-    Ok(())
-}
-
-/// Asks for the open transaction of session `whose`, and expects one with this number that isn't a victim, or none for 0,
-/// behind so many calls.
-fn want_transaction(
-    rt: &impl Abort,
-    office: &Office,
-    session: &mut Session,
-    whose: u16,
-    length: u64,
-    number: u64,
-)
-    requires ours { IsSessionOf office.now session.old }
-    ensures ours { IsSessionOf office.now session.new }
-{
-    let seen = office
-        .transaction(session, whose)
-        .expect(rt, "the lock table");
-    let expected = match number {
-        0 => None,
-        _ => Some(open(number)),
+    let whose = session_of(rt, about);
+    let mut list = list_of_one(alloc).ok()?;
+    let seen = match office.blockers(session, whose, &mut list) {
+        Ok(seen) => seen,
+        Err(_) => office.blockers(session, whose, &mut list).ok()?,
     };
-    assert_eq!(rt; seen.length, length);
-    assert_eq!(rt; seen.found, expected);
-}
-
-/// Asks for the waiting request of session `whose`, and expects this, behind so many calls.
-fn want_request(
-    rt: &impl Abort,
-    office: &Office,
-    session: &mut Session,
-    whose: u16,
-    length: u64,
-    expected: Option<Claim>,
-)
-    requires ours { IsSessionOf office.now session.old }
-    ensures ours { IsSessionOf office.now session.new }
-{
-    let seen = office.request(session, whose).expect(rt, "the lock table");
-    assert_eq!(rt; seen.length, length);
-    assert_eq!(rt; seen.found, expected);
-}
-
-/// Asks for all locks and requests, a second time if memory is refused.
-fn locks(
-    alloc: Global,
-    office: &Office,
-    session: &mut Session,
-    list: &mut Vec<Claim>,
-) -> Result<Option<u64>, NoMemory>
-    requires ours { IsSessionOf office.now session.old }
-    ensures ours { IsSessionOf office.now session.new }
-{
-    match office.locks(alloc, session, list) {
-        Ok(seen) => Ok(seen),
-        Err(_) => office.locks(alloc, session, list),
+    if !is_list(rt, &list, found) {
+        return None;
     }
+    seen
 }
 
-/// Asks for all locks and requests, and expects these, behind so many calls.
-fn want_locks(
+/// Tests whether a list of locks and requests is that of the text, as `held 1 1 X, fresh 2 1 S`.
+fn are_claims(rt: &impl Abort, list: &[Claim], text: &str) -> bool {
+    let mut rest = list.iter();
+    for claim in text.split(", ") {
+        if rest.next().copied() != Some(claim_of(rt, claim)) {
+            return false;
+        }
+    }
+    rest.next().is_none()
+}
+
+/// Asks for all locks and requests, a second time if memory is refused. Returns the number of calls, or `None` if others were found.
+fn locks(
     rt: &impl Abort,
     alloc: Global,
     office: &Office,
     session: &mut Session,
-    length: u64,
-    expected: &[Claim],
-) -> Result<(), Fail>
+    found: &str,
+) -> Option<u64>
     requires ours { IsSessionOf office.now session.old }
     ensures ours { IsSessionOf office.now session.new }
 {
     let mut list = Vec::new(alloc);
-    let seen = locks(alloc, office, session, &mut list)?;
-    assert_eq!(rt; seen, Some(length));
-    assert_eq!(rt; list.as_slice(), expected);
-    Ok(())
-}
-
-/// An open transaction that isn't a victim.
-fn open(number: u64) -> Transaction {
-    Transaction {
-        number,
-        doomed: false,
+    let seen = match office.locks(alloc, session, &mut list) {
+        Ok(seen) => seen,
+        Err(_) => office.locks(alloc, session, &mut list).ok()?,
+    };
+    if !are_claims(rt, &list, found) {
+        return None;
     }
-}
-
-/// A claim of the session, whose transaction has the session's number.
-fn claim(resource: Resource, session: u16, mode: Mode, kind: ClaimKind) -> Claim {
-    Claim {
-        resource,
-        session,
-        transaction: open(u64::from(session)),
-        mode,
-        kind,
-    }
-}
-
-/// Asks for the transactions and the claims of an office in which session 1 holds the database in X, and sessions 2 and 3 wait
-/// for it in S.
-fn want_writer_and_requests(
-    rt: &impl Abort,
-    alloc: Global,
-    office: &Office,
-    session: &mut Session,
-    row: Resource,
-) -> Result<(), Fail>
-    requires ours { IsSessionOf office.now session.old }
-    ensures ours { IsSessionOf office.now session.new }
-{
-    let third = claim(row, 3, Mode::S, ClaimKind::Fresh);
-    want_transaction(rt, office, session, 2, 6, 2);
-    want_transaction(rt, office, session, 9, 6, 0);
-    want_request(rt, office, session, 1, 6, None);
-    want_request(rt, office, session, 3, 6, Some(third));
-    let lines = [
-        claim(row, 1, Mode::X, ClaimKind::Held),
-        claim(row, 2, Mode::S, ClaimKind::Fresh),
-        claim(row, 3, Mode::S, ClaimKind::Fresh),
-    ];
-    want_locks(rt, alloc, office, session, 6, &lines)
-}
-
-/// Asks the other four questions about an office in which session 1 holds the database in X, session 2 waits for it in S, and
-/// session 3 behind that one in S too.
-fn want_writer_and_readers(
-    rt: &impl Abort,
-    alloc: Global,
-    office: &Office,
-    session: &mut Session,
-    row: Resource,
-) -> Result<(), Fail>
-    requires ours { IsSessionOf office.now session.old }
-    ensures ours { IsSessionOf office.now session.new }
-{
-    want_held(rt, office, session, 1, row, 6, Some(Mode::X));
-    want_held(rt, office, session, 2, row, 6, None);
-    want_waits_for(rt, office, session, 2, 1, 6, true);
-    want_waits_for(rt, office, session, 3, 2, 6, true);
-    want_waits_for(rt, office, session, 1, 2, 6, false);
-    want_holders(rt, alloc, office, session, row, 6, &[(1, Mode::X)])?;
-    want_blockers(rt, alloc, office, session, 3, 6, &[1, 2])?;
-    want_blockers(rt, alloc, office, session, 2, 6, &[1])?;
-    want_blockers(rt, alloc, office, session, 1, 6, &[])
-}
-
-/// A session that isn't there holds nothing and waits for nobody, and nobody holds a resource that nobody has locked.
-fn want_nothing(
-    rt: &impl Abort,
-    alloc: Global,
-    office: &Office,
-    session: &mut Session,
-    row: Resource,
-) -> Result<(), Fail>
-    requires ours { IsSessionOf office.now session.old }
-    ensures ours { IsSessionOf office.now session.new }
-{
-    want_held(rt, office, session, 9, row, 6, None);
-    want_waits_for(rt, office, session, 9, 1, 6, false);
-    want_waits_for(rt, office, session, 2, 0, 6, false);
-    want_blockers(rt, alloc, office, session, 0, 6, &[])?;
-    want_holders(rt, alloc, office, session, database(2)?, 6, &[])
-}
-
-/// A session asks who holds a database and who waits for whom, while the office is open. It then knows the whole history.
-#[test]
-fn a_session_asks_who_holds_and_who_waits(rt: HostRuntime) -> Result<(), Fail> {
-    let row = database(1)?;
-    let (office, sessions) = new_office(rt.alloc(), 3)?;
-    let mut sessions = sessions;
-    let mut third = sessions.pop().expect(&rt, "session 3");
-    let mut second = sessions.pop().expect(&rt, "session 2");
-    let mut first = sessions.pop().expect(&rt, "session 1");
-    let granted = Reply::Granted(Mode::X);
-    begin_and_lock(&rt, &office, &mut first, row, Mode::X, granted);
-    begin_and_lock(&rt, &office, &mut second, row, Mode::S, Reply::Waiting);
-    begin_and_lock(&rt, &office, &mut third, row, Mode::S, Reply::Waiting);
-    assert!(rt; first.seen() == 2 && third.seen() == 6);
-    want_writer_and_readers(&rt, rt.alloc(), &office, &mut first, row)?;
-    want_writer_and_requests(&rt, rt.alloc(), &office, &mut second, row)?;
-    assert_eq!(rt; first.seen(), 6);
-    want_nothing(&rt, rt.alloc(), &office, &mut second, row)
-}
-
-/// A question serves no call, also none of its own session: both stay published, and the next pass serves them.
-#[test]
-fn a_question_serves_no_calls(rt: HostRuntime) -> Result<(), Fail> {
-    let row = database(1)?;
-    let (office, sessions) = new_office(rt.alloc(), 2)?;
-    let mut sessions = sessions;
-    let mut second = sessions.pop().expect(&rt, "session 2");
-    let mut first = sessions.pop().expect(&rt, "session 1");
-    assert_eq!(rt; office.publish(&mut first, Call::Begin), Posted::Listed);
-    assert_eq!(rt; office.publish(&mut second, Call::Begin), Posted::Listed);
-    want_held(&rt, &office, &mut first, 1, row, 0, None);
-    want_blockers(&rt, rt.alloc(), &office, &mut second, 1, 0, &[])?;
-    assert_eq!(rt; office.collect(&mut first), None);
-    assert_eq!(rt; served_by(&rt, &office, &mut first), 2);
-    want_held(&rt, &office, &mut second, 1, row, 2, None);
-    Ok(())
+    seen
 }

@@ -1,310 +1,303 @@
-//! Steps of the sessions of an office, as lists that one loop performs and checks.
+//! Steps of the sessions of an office, as lines of a text that one loop performs and checks.
 
-ghost use Rattle.std.specs.Prelude.{◌<◌, All, length};
-ghost use Rattle.combining.specs.Sessions.{IsSessionOf, IsIdle};
+ghost use Rattle.std.specs.Prelude.{◌≡◌, ◌<◌, All, IfSome, length};
+ghost use Rattle.combining.specs.Sessions.{IsSessionOf};
 
-use crate::offices::{answer, new_office, served_in_all};
-use combining::{Called, Office, Performed, Posted, Session};
+use crate::script::{answer_of, call_of, count_of, cut, number_of, session_of};
+use combining::{Answer, Called, Office, Performed, Posted, Session, Turn};
 use lock_desk::{Call, Reply};
-use std::alloc::Global;
 use std::process::Abort;
-use std::test::Fail;
 
-/// A call of a session, or a check of its state.
-#[derive(Clone, Copy)]
-pub(crate) enum Step {
-    /// Publishes this call; the session's record is on the list afterwards.
-    Publishes(Call),
-    /// Makes a pass that serves this number of calls, with a second pass if memory is refused.
-    Serves(u32),
-    /// Collects the answer with this place and this reply.
-    Collects(u64, Reply),
-    /// Publishes this call, serves it in a pass that serves no other, and collects the answer with this place and this reply.
-    CallsAlone(Call, u64, Reply),
-    /// Performs this call without publishing it, in a pass that serves this number of published calls. The answer has this
-    /// place and this reply.
-    PerformsAtOnce(Call, u64, Reply, u32),
-    /// Makes this call by `combining::call`. The answer has this place and this reply.
-    Calls(Call, u64, Reply),
-    /// Resumes the published call, whose answer has this place and this reply.
-    Resumes(u64, Reply),
-    /// Resumes the published call for no turn: it stays pending, and the session sees no more of the history.
-    ResumesForNoTurn,
-    /// Polls in an open transaction, each time in a pass that serves no other call. The first poll has the first of these
-    /// places, and the last poll has the place before the second one.
-    PollsAlone(u64, u64),
-    /// Checks that there is no answer, and that the session's call is pending.
-    IsPending,
-    /// Checks that there is no answer, and that the session may publish.
-    IsIdle,
-    /// Checks the number of entries of the history that the session has seen.
-    HasSeen(u64),
-    /// Retires.
-    Retires,
-    /// Is dropped, whether or not a call is pending.
-    IsDropped,
-}
-
-/// Publishes a call of an idle session, and expects its record to be on the list.
-fn publish(rt: &impl Abort, office: &Office, session: &mut Session, call: Call)
+/// Publishes a call of an idle session. Its record has to be on the list afterwards.
+pub(crate) fn publish(office: &Office, session: &mut Session, call: Call) -> bool
     requires ours { IsSessionOf office.now session.old }
     ensures ours { IsSessionOf office.now session.new }
 {
-    assert!(rt; session.is_idle());
-    assert_eq!(rt; office.publish(session, call), Posted::Listed);
+    session.is_idle() && office.publish(session, call) == Posted::Listed
 }
 
-/// Publishes a call of an idle session, serves and collects it, and expects this answer. Adds a starved pass to `starved`.
-fn call_alone(
-    rt: &impl Abort,
+/// Makes a pass, and a second one if memory is refused for a call, which has to serve that call. Adds a starved pass to
+/// `starved`. Returns the number of served calls, or `None` if a pass can't be made or the second one is starved too.
+pub(crate) fn serve(office: &Office, session: &mut Session, starved: &mut u32) -> Option<u32>
+    requires ours { IsSessionOf office.now session.old }
+    ensures ours { IsSessionOf office.now session.new }
+{
+    let before = match office.serve(session) {
+        Turn::Pass {
+            served,
+            starved: false,
+        } => return Some(served),
+        Turn::Pass {
+            served,
+            starved: true,
+        } => served,
+        Turn::Elsewhere => return None,
+    };
+    *starved = starved.wrapping_add(1);
+    match office.serve(session) {
+        Turn::Pass {
+            served,
+            starved: false,
+        } if served > 0 => Some(before.wrapping_add(served)),
+        _ => None,
+    }
+}
+
+/// Publishes a call of an idle session, serves it in a pass that serves no other, and collects this answer.
+pub(crate) fn make(
     office: &Office,
     session: &mut Session,
     call: Call,
-    place: u64,
-    reply: Reply,
+    answer: Answer,
     starved: &mut u32,
-)
+) -> bool
     requires ours { IsSessionOf office.now session.old }
     ensures ours { IsSessionOf office.now session.new }
 {
-    publish(rt, office, session, call);
-    assert_eq!(rt; served_in_all(rt, office, session, starved), 1);
-    assert_eq!(rt; office.collect(session), Some(answer(place, reply)));
+    publish(office, session, call)
+        && serve(office, session, starved) == Some(1)
+        && office.collect(session) == Some(answer)
 }
 
-/// Performs a call of an idle session without publishing it, and expects this answer and this number of published calls
-/// served.
+/// Performs a call of an idle session without publishing it, and wants the answer with the number of published calls that its
+/// pass serves, as `1 began 2, serving 1`.
 fn perform_at_once(
     rt: &impl Abort,
     office: &Office,
     session: &mut Session,
     call: Call,
-    place: u64,
-    reply: Reply,
-    served: u32,
-)
+    wanted: &str,
+) -> bool
     requires ours { IsSessionOf office.now session.old }
     ensures ours { IsSessionOf office.now session.new }
 {
-    assert!(rt; session.is_idle());
-    let expected = Performed::Answered {
-        answer: answer(place, reply),
-        served,
-        starved: false,
-    };
-    assert_eq!(rt; office.perform(session, call), expected);
+    session.is_idle() && office.perform(session, call) == performed_of(rt, wanted)
 }
 
-/// Expects the session's call to be pending, and resumes it for so many turns; a second time if memory is refused for a call.
-/// Adds a starved pass to `starved`.
-fn resume(
-    rt: &impl Abort,
-    office: &Office,
-    session: &mut Session,
-    turns: u64,
-    starved: &mut u32,
-) -> Called
+/// Reads how a call was performed at once: its answer and how many published calls its pass served, as `1 began 2, serving 1`.
+pub(crate) fn performed_of(rt: &impl Abort, text: &str) -> Performed {
+    let (answer, served) = cut(text, ", serving ");
+    Performed::Answered {
+        answer: answer_of(rt, answer),
+        served: count_of(rt, served),
+        starved: false,
+    }
+}
+
+/// Resumes the session's pending call for so many turns; a second time if memory is refused for a call. Returns `None` if no call
+/// is pending. Adds a starved pass to `starved`.
+fn resume(office: &Office, session: &mut Session, turns: u64, starved: &mut u32) -> Option<Called>
     requires ours { IsSessionOf office.now session.old }
     ensures ours { IsSessionOf office.now session.new }
 {
-    assert!(rt; !session.is_idle() && !session.is_retired());
+    if session.is_idle() || session.is_retired() {
+        return None;
+    }
     let called = combining::resume(office, session, turns);
     let Called::Starved = called else {
-        return called;
+        return Some(called);
     };
     *starved = starved.wrapping_add(1);
-    assert!(rt; !session.is_idle() && !session.is_retired());
-    combining::resume(office, session, turns)
+    if session.is_idle() || session.is_retired() {
+        return None;
+    }
+    Some(combining::resume(office, session, turns))
 }
 
-/// Resumes the published call for one turn, which is enough if nobody else has the lock table, and expects this answer.
+/// Resumes the published call for one turn, which is enough if nobody else has the lock table, and wants this answer.
 fn resume_to_answer(
-    rt: &impl Abort,
     office: &Office,
     session: &mut Session,
-    place: u64,
-    reply: Reply,
+    answer: Answer,
     starved: &mut u32,
-)
+) -> bool
     requires ours { IsSessionOf office.now session.old }
     ensures ours { IsSessionOf office.now session.new }
 {
-    let expected = Called::Answered(answer(place, reply));
-    assert_eq!(rt; resume(rt, office, session, 1, starved), expected);
-    assert!(rt; session.is_idle());
+    resume(office, session, 1, starved) == Some(Called::Answered(answer)) && session.is_idle()
 }
 
-/// Resumes the published call for no turn, and expects it to stay pending, and the session to have seen what it had.
-fn resume_for_no_turn(rt: &impl Abort, office: &Office, session: &mut Session, starved: &mut u32)
+/// Resumes the published call for no turn. It has to stay pending, and the session to have seen what it had.
+fn resume_for_no_turn(office: &Office, session: &mut Session, starved: &mut u32) -> bool
     requires ours { IsSessionOf office.now session.old }
     ensures ours { IsSessionOf office.now session.new }
 {
     let seen = session.seen();
-    assert_eq!(rt; resume(rt, office, session, 0, starved), Called::NotYet);
-    assert!(rt; !session.is_idle() && session.seen() == seen);
+    resume(office, session, 0, starved) == Some(Called::NotYet)
+        && !session.is_idle()
+        && session.seen() == seen
 }
 
-/// Makes a call of an idle session by `combining::call`, and resumes it if memory is refused. Expects this answer.
+/// Makes a call of an idle session by `combining::call`, and resumes it if memory is refused. Wants this answer.
 fn call_whole(
-    rt: &impl Abort,
     office: &Office,
     session: &mut Session,
     call: Call,
-    place: u64,
-    reply: Reply,
+    answer: Answer,
     starved: &mut u32,
-)
+) -> bool
     requires ours { IsSessionOf office.now session.old }
     ensures ours { IsSessionOf office.now session.new }
 {
-    assert!(rt; session.is_idle());
+    if !session.is_idle() {
+        return false;
+    }
     let called = combining::call(office, session, call, 1);
     if let Called::Starved = called {
         *starved = starved.wrapping_add(1);
-        resume_to_answer(rt, office, session, place, reply, starved);
-        return;
+        return resume_to_answer(office, session, answer, starved);
     }
-    assert_eq!(rt; called, Called::Answered(answer(place, reply)));
-    assert!(rt; session.is_idle());
+    called == Called::Answered(answer) && session.is_idle()
 }
 
-/// Polls at each place from `first` up to the one before `end`. Adds starved passes to `starved`.
-fn poll_alone(
+/// Polls in an open transaction at each place of the range, as `4..62`, each time in a pass that serves no other call.
+fn poll(
     rt: &impl Abort,
     office: &Office,
     session: &mut Session,
-    first: u64,
-    end: u64,
+    places: &str,
     starved: &mut u32,
-)
+) -> bool
     requires ours { IsSessionOf office.now session.old }
     ensures ours { IsSessionOf office.now session.new }
 {
-    for place in first..end {
-        call_alone(
-            rt,
-            office,
-            session,
-            Call::Poll,
+    let (first, end) = cut(places, "..");
+    for place in number_of(rt, first)..number_of(rt, end) {
+        let clear = Answer {
             place,
-            Reply::Clear,
-            starved,
-        );
+            reply: Reply::Clear,
+        };
+        if !make(office, session, Call::Poll, clear, starved) {
+            return false;
+        }
     }
+    true
 }
 
-/// Expects no answer, and the session to be idle or not.
-fn find_nothing(rt: &impl Abort, office: &Office, session: &mut Session, idle: bool)
+/// Tests whether there is no answer, and whether the session is idle or its call is pending, as the word says.
+fn finds_nothing(office: &Office, session: &mut Session, state: &str) -> bool
     requires ours { IsSessionOf office.now session.old }
     ensures ours { IsSessionOf office.now session.new }
 {
-    assert_eq!(rt; office.collect(session), None);
-    assert_eq!(rt; session.is_idle(), idle);
+    office.collect(session).is_none()
+        && match state {
+            "idle" => session.is_idle(),
+            "pending" => !session.is_idle() && !session.is_retired(),
+            _ => false,
+        }
 }
 
-/// Retires an idle session.
-fn retire(rt: &impl Abort, office: &Office, session: &mut Session)
+/// Retires an idle session, which is retired and no longer idle then.
+fn retire(office: &Office, session: &mut Session) -> bool
     requires ours { IsSessionOf office.now session.old }
     ensures ours { IsSessionOf office.now session.new }
 {
-    assert!(rt; session.is_idle());
+    if !session.is_idle() || session.is_retired() {
+        return false;
+    }
     office.retire(session);
+    !session.is_idle() && session.is_retired()
 }
 
-/// Performs one step of a session that stays. Adds starved passes to `starved`.
-fn perform_step(
+/// Makes a call of the session, in the way that the verb says, and wants this answer.
+fn perform_call(
     rt: &impl Abort,
     office: &Office,
     session: &mut Session,
-    step: Step,
+    verb: &str,
+    rest: &str,
     starved: &mut u32,
-)
+) -> bool
     requires ours { IsSessionOf office.now session.old }
     ensures ours { IsSessionOf office.now session.new }
 {
-    match step {
-        Step::Publishes(call) => publish(rt, office, session, call),
-        Step::Serves(served) => {
-            assert_eq!(rt; served_in_all(rt, office, session, starved), served);
-        }
-        Step::Collects(place, reply) => {
-            assert_eq!(rt; office.collect(session), Some(answer(place, reply)));
-        }
-        Step::CallsAlone(call, place, reply) => call_alone(
-            rt, office, session, call, place, reply, starved,
-        ),
-        Step::PerformsAtOnce(call, place, reply, served) => perform_at_once(
-            rt, office, session, call, place, reply, served,
-        ),
-        Step::Calls(call, place, reply) => call_whole(
-            rt, office, session, call, place, reply, starved,
-        ),
-        Step::Resumes(place, reply) => resume_to_answer(rt, office, session, place, reply, starved),
-        Step::ResumesForNoTurn => resume_for_no_turn(rt, office, session, starved),
-        Step::PollsAlone(first, end) => poll_alone(rt, office, session, first, end, starved),
-        Step::IsPending => find_nothing(rt, office, session, false),
-        Step::IsIdle => find_nothing(rt, office, session, true),
-        Step::HasSeen(entries) => assert_eq!(rt; session.seen(), entries),
-        Step::Retires => retire(rt, office, session),
-        Step::IsDropped => panic!(rt; "the session is gone"),
+    let (call, wanted) = cut(rest, ": ");
+    let call = call_of(rt, call);
+    match verb {
+        "makes" => make(office, session, call, answer_of(rt, wanted), starved),
+        "calls" => call_whole(office, session, call, answer_of(rt, wanted), starved),
+        "performs" => perform_at_once(rt, office, session, call, wanted),
+        _ => false,
+    }
+}
+
+/// Performs one step of a session: the verb and what is behind it, as `collects` and `3 granted X`. Returns whether all went as
+/// the words say. Adds starved passes to `starved`.
+pub(crate) fn perform_step(
+    rt: &impl Abort,
+    office: &Office,
+    session: &mut Session,
+    verb: &str,
+    rest: &str,
+    starved: &mut u32,
+) -> bool
+    requires ours { IsSessionOf office.now session.old }
+    ensures ours { IsSessionOf office.now session.new }
+{
+    match verb {
+        "publishes" => publish(office, session, call_of(rt, rest)),
+        "serves" => serve(office, session, starved) == Some(count_of(rt, rest)),
+        "collects" => office.collect(session) == Some(answer_of(rt, rest)),
+        "resumes" => resume_to_answer(office, session, answer_of(rt, rest), starved),
+        "stays" => resume_for_no_turn(office, session, starved),
+        "polls" => poll(rt, office, session, rest, starved),
+        "is" => finds_nothing(office, session, rest),
+        "saw" => session.seen() == number_of(rt, rest),
+        "retires" => retire(office, session),
+        _ => perform_call(rt, office, session, verb, rest, starved),
     }
 }
 
 /// Returns the index of the session with this number.
-pub(crate) fn index_of(rt: &impl Abort, sessions: &[Session], number: u16) -> usize
-    ensures { result < length sessions.now }
+pub(crate) fn index_of(sessions: &[Session], number: u16) -> Option<usize>
+    ensures { IfSome result (λ index. index < length sessions.now) }
 {
-    let index = sessions
+    sessions
         .iter()
-        .position(|session| session.number() == number);
-    index.expect(rt, "the session is there")
+        .position(|session| session.number() == number)
 }
 
-/// Performs one step of the session with this number. Adds starved passes to `starved`.
-fn perform_one(
+/// Performs one line: the number of a session, and a step or `leaves`, for which the session is dropped. A line with `#` is a
+/// remark.
+pub(crate) fn perform_line(
     rt: &impl Abort,
     office: &Office,
     sessions: &mut Vec<Session>,
-    number: u16,
-    step: Step,
+    line: &str,
     starved: &mut u32,
-)
+) -> bool
     requires ours { All (IsSessionOf office.now) sessions.old.items }
     ensures ours { All (IsSessionOf office.now) sessions.new.items }
 {
-    let at = index_of(rt, sessions.as_slice(), number);
-    if let Step::IsDropped = step {
-        drop(sessions.remove(at));
-        return;
+    let (number, step) = cut(line, " ");
+    let (verb, rest) = cut(step, " ");
+    if number == "#" {
+        return true;
     }
-    perform_step(rt, office, &mut sessions[at], step, starved);
+    let Some(at) = index_of(sessions.as_slice(), session_of(rt, number)) else {
+        return false;
+    };
+    if verb == "leaves" {
+        drop(sessions.remove(at));
+        return true;
+    }
+    perform_step(rt, office, &mut sessions[at], verb, rest, starved)
 }
 
-/// Performs the steps in order, each by the session with its number. Returns the number of starved passes.
+/// Performs the lines of a text in order. Returns the number of starved passes.
 pub(crate) fn perform(
     rt: &impl Abort,
     office: &Office,
     sessions: &mut Vec<Session>,
-    steps: &[(u16, Step)],
+    text: &str,
 ) -> u32
     requires ours { All (IsSessionOf office.now) sessions.old.items }
     ensures ours { All (IsSessionOf office.now) sessions.new.items }
 {
     let mut starved = 0;
-    for (session, step) in steps {
-        perform_one(rt, office, sessions, *session, *step, &mut starved);
+    for line in text.lines() {
+        let is_so = perform_line(rt, office, sessions, line, &mut starved);
+        assert!(rt; is_so, "{line}");
     }
     starved
-}
-
-/// Performs the steps in order in a fresh office of `sessions` sessions. Fails if the office can't be opened.
-pub(crate) fn perform_in_office(
-    rt: &impl Abort,
-    alloc: Global,
-    sessions: u16,
-    steps: &[(u16, Step)],
-) -> Result<(), Fail> {
-    let (office, mut sessions) = new_office(alloc, sessions)?;
-    let _starved = perform(rt, &office, &mut sessions, steps);
-    Ok(())
 }

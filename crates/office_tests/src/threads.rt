@@ -1,11 +1,12 @@
 //! One history has all answers of many threads.
 
-ghost use Rattle.std.specs.Prelude.{◌≡◌, All, IfOk, IfSome};
+ghost use Rattle.std.specs.Prelude.{IfSome};
 ghost use Rattle.combining.specs.Sessions.{IsSessionOf, IsIdle};
 
+use crate::workers::{Notes, Worked, book_of_threads, no_notes};
 use combining::{Answer, Called, Office, Performed, Session, resume};
 use lock_desk::{Book, Call, Entry, Mode, NoMemory, Reply, Resource, Why};
-use std::alloc::{AllocError, Global};
+use std::alloc::Global;
 use std::process::Abort;
 use std::test::Fail;
 use std::thread;
@@ -14,9 +15,9 @@ use std::thread::Threads;
 /// The greatest number of tries for one answer.
 const TURNS: u64 = 1_000_000_000;
 
-/// The calls of the sessions in a test with threads.
+/// The work of the sessions in a test with threads.
 #[derive(Clone, Copy)]
-enum Load {
+pub(crate) enum Load {
     /// Polls alone, without transactions.
     Polls,
     /// Random calls: begins, locks, tries, withdrawals, polls, commits and aborts.
@@ -25,6 +26,10 @@ enum Load {
     TransactionsAtOnce,
     /// The same random calls, some made by `combining::call`, and some published, served and collected.
     TransactionsMixed,
+    /// The same random calls, published and served by passes that tell whose waits they end.
+    Telling,
+    /// Polls of sessions 1 to 8, while the others take the history.
+    Taking,
 }
 
 /// A generator of the calls of one session, by pseudorandom numbers.
@@ -64,7 +69,7 @@ impl Caller {
 
     /// Returns the next call; locks and tries are on three databases in X or S.
     pub(crate) fn next(&mut self) -> Option<Call> {
-        if let Load::Polls = self.load {
+        if let Load::Polls | Load::Taking = self.load {
             return Some(Call::Poll);
         }
         let mode = if self.number() % 3 == 0 {
@@ -88,15 +93,15 @@ impl Caller {
 
 /// A call with its answer.
 #[derive(Clone, Copy)]
-struct Answered {
+pub(crate) struct Answered {
     /// The place of the call in the history.
-    place: u64,
+    pub(crate) place: u64,
     /// The session's number.
-    session: u16,
+    pub(crate) session: u16,
     /// The call.
-    call: Call,
+    pub(crate) call: Call,
     /// The reply.
-    reply: Reply,
+    pub(crate) reply: Reply,
 }
 
 /// Returns a call with its answer.
@@ -180,71 +185,36 @@ fn call_as(office: &Office, session: &mut Session, load: Load, asked: &Call) -> 
     match load {
         Load::TransactionsAtOnce => call_at_once(office, session, asked),
         Load::TransactionsMixed => call_mixed(office, session, asked),
-        Load::Polls | Load::Transactions => call(office, session, *asked),
+        _ => call(office, session, *asked),
     }
 }
 
-/// A session with the answers that it collected.
-#[derive(Drop)]
-struct Worked {
-    /// The session, which the thread gives back.
-    session: Session,
-    /// Its answers, oldest first.
-    answers: Vec<Answered>,
-}
-
-/// Makes `calls` calls, one after another, and returns the session with their answers. Stops early if an answer doesn't come,
-/// or if memory is refused to the list.
-fn work(alloc: Global, office: &Office, session: Session, load: Load, calls: u64) -> Worked
-    requires ours { IsSessionOf office.now session × IsIdle session }
-    ensures ours { IsSessionOf office.now result.session }
+/// Makes `calls` calls, one after another, and notes their answers. Stops early if an answer doesn't come, or if memory is refused
+/// to the list.
+pub(crate) fn work_calling(office: &Office, worked: &mut Worked, load: Load, calls: u64)
+    requires ours { IsSessionOf office.now worked.old.session × IsIdle worked.old.session }
+    ensures ours { IsSessionOf office.now worked.new.session }
 {
-    let mut session = session;
-    let number = session.number();
+    let number = worked.session.number();
     let mut caller = Caller {
         load,
         state: u64::from(number),
     };
-    let mut answers = Vec::new(alloc);
     for _call in 0..calls {
         let Some(asked) = caller.next() else {
             break;
         };
-        let Some(answer) = call_as(office, &mut session, load, &asked) else {
+        let Some(answer) = call_as(office, &mut worked.session, load, &asked) else {
             break;
         };
-        if answers.push(with_answer(number, asked, answer)).is_err() {
+        if worked
+            .answers
+            .push(with_answer(number, asked, answer))
+            .is_err()
+        {
             break;
         }
     }
-    Worked { session, answers }
-}
-
-/// The sessions of an office and all their answers.
-#[derive(Drop)]
-struct Gathered {
-    /// The sessions.
-    sessions: Vec<Session>,
-    /// Their answers.
-    answers: Vec<Answered>,
-}
-
-/// Gathers what the threads gave back.
-fn gather(alloc: Global, office: &Office, all: Vec<Worked>) -> Result<Gathered, AllocError>
-    requires ours { All (λ worked. IsSessionOf office.now worked.session) all.items }
-    ensures ours { IfOk result (λ gathered. All (IsSessionOf office.now) gathered.sessions.items) }
-{
-    let mut sessions = Vec::new(alloc);
-    let mut answers = Vec::new(alloc);
-    for worked in all {
-        let Worked {
-            session,
-            answers: own,
-        } = worked;
-        sessions.push(session)?;
-        answers.extend_from_slice(own.as_slice())?;
-    }
-    Ok(Gathered { sessions, answers })
 }
 
 /// Expects the history to have exactly these answers, each at its place.
@@ -258,43 +228,19 @@ fn want_history(rt: &impl Abort, history: &[Entry], answers: &[Answered]) {
     }
 }
 
-/// Closes the office with all its sessions, and expects its history to have exactly the answers that they collected. Returns
-/// the answers by place.
-fn closed_history(
-    rt: &impl Abort,
-    alloc: Global,
-    office: Office,
-    all: Vec<Worked>,
-) -> Result<Vec<Answered>, AllocError>
-    requires ours { All (λ worked. IsSessionOf office worked.session) all.items }
-{
-    let Gathered {
-        sessions,
-        mut answers,
-    } = gather(alloc, &office, all)?;
-    answers.sort_unstable_by_key(|answered| answered.place);
-    let book = office.close(sessions).ok().expect(rt, "the book");
-    want_history(rt, book.history(), &answers);
-    Ok(answers)
-}
-
-/// Makes `calls` calls in each of `threads` threads with one session each, closes the office, and returns all answers by
-/// place.
+/// Makes `calls` calls in each of `threads` threads with one session each, and expects the history of the closed office to have
+/// exactly the answers that they collected. Returns the answers by place.
 fn history_of_threads<R: Threads + Abort + Sync>(
     rt: &R,
     alloc: Global,
     threads: u16,
     load: Load,
     calls: u64,
-) -> Result<Vec<Answered>, Fail> {
-    let (office, sessions) = Office::open(alloc, threads)?;
-    let shared = &office;
-    let all = thread::map_vec(
-        rt,
-        sessions,
-        &|session: Session| work(alloc, shared, session, load, calls),
-    )?;
-    Ok(closed_history(rt, alloc, office, all)?)
+) -> Result<Notes, Fail> {
+    let mut notes = no_notes(alloc);
+    let book = book_of_threads(rt, alloc, threads, load, calls, &mut notes)?;
+    want_history(rt, book.history(), notes.answers.as_slice());
+    Ok(notes)
 }
 
 /// Returns how many of the answers are this session's.
@@ -320,68 +266,52 @@ fn want_refused_polls(rt: &impl Abort, history: &[Answered], sessions: u16, poll
 /// 8,000 polls of eight threads get 8,000 places, each once, and are the whole history of the closed office.
 #[test]
 fn eight_threads_poll(rt: HostRuntime) -> Result<(), Fail> {
-    let history = history_of_threads(&rt, rt.alloc(), 8, Load::Polls, 1000)?;
-    want_refused_polls(&rt, &history, 8, 1000);
+    let notes = history_of_threads(&rt, rt.alloc(), 8, Load::Polls, 1000)?;
+    want_refused_polls(&rt, &notes.answers, 8, 1000);
     Ok(())
 }
 
 /// 12,800 polls of 64 threads get 12,800 places, each once, and are the whole history of the closed office.
 #[test]
 fn sixty_four_threads_poll(rt: HostRuntime) -> Result<(), Fail> {
-    let history = history_of_threads(&rt, rt.alloc(), 64, Load::Polls, 200)?;
-    want_refused_polls(&rt, &history, 64, 200);
+    let notes = history_of_threads(&rt, rt.alloc(), 64, Load::Polls, 200)?;
+    want_refused_polls(&rt, &notes.answers, 64, 200);
     Ok(())
-}
-
-/// Serves a call of one of the book's sessions.
-fn serve(rt: &impl Abort, book: &mut Book, session: u16, call: Call) -> Result<Reply, NoMemory> {
-    assert!(rt; session >= 1);
-    assert!(rt; session <= book.sessions());
-    book.serve(session, call)
 }
 
 /// Serves the calls by place in the book, and expects the replies that the threads got.
 fn want_replies_of(rt: &impl Abort, book: &mut Book, history: &[Answered]) -> Result<(), NoMemory> {
     for answered in history {
-        let reply = serve(rt, book, answered.session, answered.call)?;
+        assert!(rt; answered.session >= 1 && answered.session <= book.sessions());
+        let reply = book.serve(answered.session, answered.call)?;
         assert_eq!(rt; reply, answered.reply);
     }
     Ok(())
 }
 
-/// Serves the calls by place in a fresh book, and expects the replies that the threads got.
-fn want_replies_of_a_fresh_book(
+/// Serves the calls by place in a fresh book of ten sessions, and expects the replies that the threads got.
+pub(crate) fn want_replies_of_a_fresh_book(
     rt: &impl Abort,
     alloc: Global,
     history: &[Answered],
 ) -> Result<(), NoMemory> {
-    let mut book = Book::new(alloc, 8)?;
+    assert_eq!(rt; history.len(), 8000);
+    let mut book = Book::new(alloc, 10)?;
     want_replies_of(rt, &mut book, history)
 }
 
-/// The answers of eight threads, in the order of their places, are those of one book that serves the calls in this order.
+/// The answers of eight threads, in the order of their places, are those of one book that serves the calls in this order. So are
+/// those of threads that perform their calls at once where they can, and of threads that make some of their calls whole and publish
+/// the others.
 #[test]
 fn eight_threads_get_the_replies_of_one_book(rt: HostRuntime) -> Result<(), Fail> {
-    let history = history_of_threads(&rt, rt.alloc(), 8, Load::Transactions, 1000)?;
-    assert_eq!(rt; history.len(), 8000);
-    want_replies_of_a_fresh_book(&rt, rt.alloc(), &history)?;
-    Ok(())
-}
-
-/// So are those of eight threads that perform their calls at once where they can.
-#[test]
-fn eight_threads_perform_their_calls_at_once(rt: HostRuntime) -> Result<(), Fail> {
-    let history = history_of_threads(&rt, rt.alloc(), 8, Load::TransactionsAtOnce, 1000)?;
-    assert_eq!(rt; history.len(), 8000);
-    want_replies_of_a_fresh_book(&rt, rt.alloc(), &history)?;
-    Ok(())
-}
-
-/// So are those of eight threads that make some of their calls whole and publish the others.
-#[test]
-fn eight_threads_mix_whole_calls_and_published_ones(rt: HostRuntime) -> Result<(), Fail> {
-    let history = history_of_threads(&rt, rt.alloc(), 8, Load::TransactionsMixed, 1000)?;
-    assert_eq!(rt; history.len(), 8000);
-    want_replies_of_a_fresh_book(&rt, rt.alloc(), &history)?;
+    for load in [
+        Load::Transactions,
+        Load::TransactionsAtOnce,
+        Load::TransactionsMixed,
+    ] {
+        let notes = history_of_threads(&rt, rt.alloc(), 8, load, 1000)?;
+        want_replies_of_a_fresh_book(&rt, rt.alloc(), &notes.answers)?;
+    }
     Ok(())
 }

@@ -3,5 +3,5 @@ use Rattle.combining.specs.Sessions.{IsSessionOf}
 use Rattle.office_tests.proofs.steps.perform.Given as goal
 
 -- the sessions belong to the office
-abbrev pub invariant-loop-session : goal.invariant-loop-session
-invariant-loop-session g l = All (IsSessionOf l.office) l.sessions.items
+abbrev pub invariant-loop-line : goal.invariant-loop-line
+invariant-loop-line g l = All (IsSessionOf l.office) l.sessions.items

@@ -1,6 +1,6 @@
 use Rattle.std.proofs.Common.{◌≤◌}
 use Rattle.combining.specs.Sessions.{IsSessionOf, IsIdle}
-use Rattle.office_tests.proofs.telling.work.Given as goal
+use Rattle.office_tests.proofs.telling.call_each_noted.Given as goal
 
 -- the session belongs to the office and is idle, and the list has room for all sessions
 abbrev pub invariant-loop-call : goal.invariant-loop-call

@@ -1,6 +1,6 @@
 use Rattle.std.specs.Prelude.{All}
 use Rattle.combining.specs.Sessions.{IsSessionOf}
-use Rattle.office_tests.proofs.pieces.gather.Given as goal
+use Rattle.office_tests.proofs.workers.gather.Given as goal
 
 -- the gathered sessions belong to the office
 abbrev pub invariant-loop-worked : goal.invariant-loop-worked

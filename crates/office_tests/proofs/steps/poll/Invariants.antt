@@ -1,5 +1,5 @@
 use Rattle.combining.specs.Sessions.{IsSessionOf}
-use Rattle.office_tests.proofs.steps.poll_alone.Given as goal
+use Rattle.office_tests.proofs.steps.poll.Given as goal
 
 -- the session belongs to the office
 abbrev pub invariant-loop-place : goal.invariant-loop-place

@@ -1,6 +1,0 @@
-use Rattle.combining.specs.Sessions.{IsSessionOf, IsIdle}
-use Rattle.office_tests.proofs.threads.work.Given as goal
-
--- the session belongs to the office and is idle
-abbrev pub invariant-loop-call : goal.invariant-loop-call
-invariant-loop-call l = IsSessionOf l.office l.session × IsIdle l.session

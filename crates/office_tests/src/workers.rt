@@ -1,0 +1,160 @@
+//! Threads that work in one office, each with a session of its own, and note what they see.
+
+ghost use Rattle.std.specs.Prelude.{◌≤◌, All, IfOk};
+ghost use Rattle.combining.specs.Sessions.{IsSessionOf, IsIdle};
+
+use crate::cases::closed;
+use crate::pieces::take_all;
+use crate::telling::{SeenPass, work_telling};
+use crate::threads::{Answered, Load, work_calling};
+use combining::{Office, Session};
+use lock_desk::Book;
+use std::alloc::{AllocError, Global};
+use std::process::Abort;
+use std::test::Fail;
+use std::thread;
+use std::thread::Threads;
+
+/// A session that a thread gives back, with what it noted.
+#[derive(Drop)]
+pub(crate) struct Worked {
+    /// The session.
+    pub(crate) session: Session,
+    /// The answers that it collected, oldest first.
+    pub(crate) answers: Vec<Answered>,
+    /// The entries that it took, oldest first.
+    pub(crate) taken: Vec<Answered>,
+    /// The passes that it made, oldest first, if it noted them.
+    pub(crate) passes: Vec<SeenPass>,
+    /// How many of its tries found the lock table elsewhere and told somebody.
+    pub(crate) wrong: u64,
+}
+
+/// What the threads of a test do.
+#[derive(Clone, Copy)]
+struct Task {
+    /// How many threads there are, with one session each.
+    threads: u16,
+    /// Their work.
+    load: Load,
+    /// How many calls each session makes.
+    calls: u64,
+}
+
+/// The work of a thread.
+fn work(alloc: Global, office: &Office, session: Session, task: Task) -> Worked
+    requires ours { IsSessionOf office.now session × IsIdle session }
+    requires few { office.now.sessions ≤ task.threads }
+    ensures ours { IsSessionOf office.now result.session }
+{
+    let is_taker = session.number() > 8;
+    let mut worked = Worked {
+        session,
+        answers: Vec::new(alloc),
+        taken: Vec::new(alloc),
+        passes: Vec::new(alloc),
+        wrong: 0,
+    };
+    match task.load {
+        Load::Telling => work_telling(alloc, office, &mut worked, task.threads, task.calls),
+        Load::Taking if is_taker => take_all(alloc, office, &mut worked),
+        _ => work_calling(office, &mut worked, task.load, task.calls),
+    }
+    worked
+}
+
+/// What the sessions of an office have noted.
+#[derive(Drop)]
+pub(crate) struct Notes {
+    /// All answers, by place.
+    pub(crate) answers: Vec<Answered>,
+    /// All entries that were taken, by place.
+    pub(crate) taken: Vec<Answered>,
+    /// All passes that were noted, in their order.
+    pub(crate) passes: Vec<SeenPass>,
+    /// How many tries found the lock table elsewhere and told somebody.
+    pub(crate) wrong: u64,
+}
+
+/// Gathers the notes of the threads, and returns their sessions.
+fn gather(
+    alloc: Global,
+    office: &Office,
+    all: Vec<Worked>,
+    notes: &mut Notes,
+) -> Result<Vec<Session>, AllocError>
+    requires ours { All (λ worked. IsSessionOf office.now worked.session) all.items }
+    ensures ours { IfOk result (λ sessions. All (IsSessionOf office.now) sessions.items) }
+{
+    let mut sessions = Vec::new(alloc);
+    for worked in all {
+        let Worked {
+            session,
+            answers,
+            taken,
+            passes,
+            wrong,
+        } = worked;
+        sessions.push(session)?;
+        notes.answers.extend_from_slice(answers.as_slice())?;
+        notes.taken.extend_from_slice(taken.as_slice())?;
+        notes.passes.extend_from_slice(passes.as_slice())?;
+        notes.wrong = notes.wrong.wrapping_add(wrong);
+    }
+    notes
+        .answers
+        .sort_unstable_by_key(|answered| answered.place);
+    notes.taken.sort_unstable_by_key(|answered| answered.place);
+    notes.passes.sort_unstable_by_key(|pass| pass.upto);
+    Ok(sessions)
+}
+
+/// Works in a thread for each session, gathers what they noted, and returns the sessions.
+fn work_in_threads<R: Threads + Abort + Sync>(
+    rt: &R,
+    alloc: Global,
+    office: &Office,
+    sessions: Vec<Session>,
+    task: Task,
+    notes: &mut Notes,
+) -> Result<Vec<Session>, Fail>
+    requires few { office.now.sessions ≤ task.threads }
+    requires ours { All (λ session. IsSessionOf office.now session × IsIdle session) sessions.items }
+    ensures ours { IfOk result (λ sessions. All (IsSessionOf office.now) sessions.items) }
+{
+    let all = thread::map_vec(
+        rt,
+        sessions,
+        &|session: Session| work(alloc, office, session, task),
+    )?;
+    Ok(gather(alloc, office, all, notes)?)
+}
+
+/// Works in `threads` threads with one session each, in a fresh office, and closes it. Returns its book.
+pub(crate) fn book_of_threads<R: Threads + Abort + Sync>(
+    rt: &R,
+    alloc: Global,
+    threads: u16,
+    load: Load,
+    calls: u64,
+    notes: &mut Notes,
+) -> Result<Book, Fail> {
+    let task = Task {
+        threads,
+        load,
+        calls,
+    };
+    let (office, sessions) = Office::open(alloc, threads)?;
+    let sessions = work_in_threads(rt, alloc, &office, sessions, task, notes)?;
+    Ok(closed(rt, office, sessions))
+}
+
+/// Returns empty notes.
+pub(crate) fn no_notes(alloc: Global) -> Notes {
+    Notes {
+        answers: Vec::new(alloc),
+        taken: Vec::new(alloc),
+        passes: Vec::new(alloc),
+        wrong: 0,
+    }
+}
