@@ -112,6 +112,22 @@ fn take(rt: &impl Abort, alloc: Global, office: &Office, session: &mut Session, 
     }
 }
 
+/// Lets a session hear the one with this number among the others.
+fn hear_one(office: &Office, session: &mut Session, others: &mut Vec<Session>, number: u16) -> bool
+    requires ours { IsSessionOf office.now session.old }
+    requires others { All (IsSessionOf office.now) others.old.items }
+    ensures ours { IsSessionOf office.now session.new }
+    ensures others { All (IsSessionOf office.now) others.new.items }
+{
+    match index_of(others.as_slice(), number) {
+        Some(at) => {
+            office.hear(session, &mut others[at]);
+            true
+        }
+        None => false,
+    }
+}
+
 /// Lets the session with one number hear the one with the other number.
 fn hear(
     rt: &impl Abort,
@@ -127,14 +143,9 @@ fn hear(
         return false;
     };
     let mut session = sessions.remove(at);
-    let Some(from) = index_of(sessions.as_slice(), other) else {
-        return false;
-    };
-    office.hear(&mut session, &mut sessions[from]);
-    match sessions.push(session) {
-        Ok(()) => true,
-        Err(_) => false,
-    }
+    let is_so = hear_one(office, &mut session, sessions, other);
+    assert!(rt; sessions.push(session).is_ok());
+    is_so
 }
 
 /// Performs a step of a session that tells, takes or asks.

@@ -64,7 +64,7 @@ fn take_once(alloc: Global, office: &Office, worked: &mut Worked) -> bool
     ensures ours { IsSessionOf office.now worked.new.session }
 {
     match office.take_history(alloc, &mut worked.session) {
-        Some(piece) => note_piece(&mut worked.taken, &piece).is_ok(),
+        Some(piece) => note_piece(&mut worked.noted.taken, &piece).is_ok(),
         None => true,
     }
 }

@@ -75,7 +75,7 @@ fn note_pass(worked: &mut Worked, served: u32, sessions: &[u16]) -> Result<(), A
 {
     let mut told = [false; 9];
     mark(&mut told, sessions);
-    worked.passes.push(SeenPass {
+    worked.noted.passes.push(SeenPass {
         upto: worked.session.seen(),
         served,
         told,
@@ -93,7 +93,10 @@ fn turn_noted(office: &Office, worked: &mut Worked, ended: &mut Ended) -> Result
 {
     match office.serve_telling(&mut worked.session, ended) {
         Turn::Elsewhere => {
-            worked.wrong = worked.wrong.wrapping_add(ended.sessions().len() as u64);
+            worked.noted.wrong = worked
+                .noted
+                .wrong
+                .wrapping_add(ended.sessions().len() as u64);
             Ok(())
         }
         Turn::Pass { served: 0, .. } => Ok(()),

@@ -208,6 +208,7 @@ pub(crate) fn work_calling(office: &Office, worked: &mut Worked, load: Load, cal
             break;
         };
         if worked
+            .noted
             .answers
             .push(with_answer(number, asked, answer))
             .is_err()

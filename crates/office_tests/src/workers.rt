@@ -20,14 +20,8 @@ use std::thread::Threads;
 pub(crate) struct Worked {
     /// The session.
     pub(crate) session: Session,
-    /// The answers that it collected, oldest first.
-    pub(crate) answers: Vec<Answered>,
-    /// The entries that it took, oldest first.
-    pub(crate) taken: Vec<Answered>,
-    /// The passes that it made, oldest first, if it noted them.
-    pub(crate) passes: Vec<SeenPass>,
-    /// How many of its tries found the lock table elsewhere and told somebody.
-    pub(crate) wrong: u64,
+    /// What the thread noted, oldest first.
+    pub(crate) noted: Notes,
 }
 
 /// What the threads of a test do.
@@ -50,10 +44,7 @@ fn work(alloc: Global, office: &Office, session: Session, task: Task) -> Worked
     let is_taker = session.number() > 8;
     let mut worked = Worked {
         session,
-        answers: Vec::new(alloc),
-        taken: Vec::new(alloc),
-        passes: Vec::new(alloc),
-        wrong: 0,
+        noted: no_notes(alloc),
     };
     match task.load {
         Load::Telling => work_telling(alloc, office, &mut worked, task.threads, task.calls),
@@ -63,17 +54,26 @@ fn work(alloc: Global, office: &Office, session: Session, task: Task) -> Worked
     worked
 }
 
-/// What the sessions of an office have noted.
+/// What sessions have noted. Of an office: by place, and the passes in their order.
 #[derive(Drop)]
 pub(crate) struct Notes {
-    /// All answers, by place.
+    /// All answers that they collected.
     pub(crate) answers: Vec<Answered>,
-    /// All entries that were taken, by place.
+    /// All entries that they took.
     pub(crate) taken: Vec<Answered>,
-    /// All passes that were noted, in their order.
+    /// All passes that they made, if they noted them.
     pub(crate) passes: Vec<SeenPass>,
     /// How many tries found the lock table elsewhere and told somebody.
     pub(crate) wrong: u64,
+}
+
+/// Adds what a thread has noted.
+fn add(notes: &mut Notes, noted: &Notes) -> Result<(), AllocError> {
+    notes.answers.extend_from_slice(noted.answers.as_slice())?;
+    notes.taken.extend_from_slice(noted.taken.as_slice())?;
+    notes.passes.extend_from_slice(noted.passes.as_slice())?;
+    notes.wrong = notes.wrong.wrapping_add(noted.wrong);
+    Ok(())
 }
 
 /// Gathers the notes of the threads, and returns their sessions.
@@ -88,25 +88,20 @@ fn gather(
 {
     let mut sessions = Vec::new(alloc);
     for worked in all {
-        let Worked {
-            session,
-            answers,
-            taken,
-            passes,
-            wrong,
-        } = worked;
+        let Worked { session, noted } = worked;
         sessions.push(session)?;
-        notes.answers.extend_from_slice(answers.as_slice())?;
-        notes.taken.extend_from_slice(taken.as_slice())?;
-        notes.passes.extend_from_slice(passes.as_slice())?;
-        notes.wrong = notes.wrong.wrapping_add(wrong);
+        add(notes, &noted)?;
     }
+    Ok(sessions)
+}
+
+/// Puts the notes in order.
+fn sort(notes: &mut Notes) {
     notes
         .answers
         .sort_unstable_by_key(|answered| answered.place);
     notes.taken.sort_unstable_by_key(|answered| answered.place);
     notes.passes.sort_unstable_by_key(|pass| pass.upto);
-    Ok(sessions)
 }
 
 /// Works in a thread for each session, gathers what they noted, and returns the sessions.
@@ -127,7 +122,9 @@ fn work_in_threads<R: Threads + Abort + Sync>(
         sessions,
         &|session: Session| work(alloc, office, session, task),
     )?;
-    Ok(gather(alloc, office, all, notes)?)
+    let sessions = gather(alloc, office, all, notes)?;
+    sort(notes);
+    Ok(sessions)
 }
 
 /// Works in `threads` threads with one session each, in a fresh office, and closes it. Returns its book.
