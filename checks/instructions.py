@@ -106,12 +106,12 @@ CASES = [
 ]
 # Each of the dearest calls: what it is, its rows, the sessions, the most instructions of one.
 DEAREST = [
-    ("a request on a line of 1,024, 1,023 victims", worst.line, 1024, 40_000_000),
-    ("a request on a line of 256, 255 victims", worst.line, 256, 3_000_000),
-    ("a cycle of 1,024 whose asker is its victim, again and again", worst.again, 1024, 300_000),
-    ("cycles with each of 1,022, 1,022 victims", worst.victims, 1024, 20_000_000),
-    ("a request that leads on to 1,021, 1,021 victims", worst.fan, 1024, 20_000_000),
-    ("the same with their own waits the other way round", worst.stairs, 1024, 40_000_000),
+    ("a request on a line of 1,024, 1,023 victims", worst.line, 1024, 30_000_000),
+    ("a request on a line of 256, 255 victims", worst.line, 256, 1_900_000),
+    ("a cycle of 1,024 whose asker is its victim, again and again", worst.again, 1024, 260_000),
+    ("cycles with each of 1,022, 1,022 victims", worst.victims, 1024, 13_000_000),
+    ("a request that leads on to 1,021, 1,021 victims", worst.fan, 1024, 13_000_000),
+    ("the same, each waiting for those of higher numbers", worst.stairs, 1024, 15_000_000),
 ]
 # 32 locks of a batch are granted together: the most instructions of a lock, with all that a pass does for it
 MOST_OF_A_RUN = 790
