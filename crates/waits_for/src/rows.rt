@@ -4,9 +4,9 @@ ghost use Rattle.std.specs.Prelude.{◌≡◌, ℕ, ◌<◌, ◌≤◌, ◌↔�
 ghost use Rattle.waits_for.specs.Pairs.{is_met, pairs_of};
 ghost use Rattle.waits_for.specs.Walks.{Reaches, IsYoungestOnCircle};
 
-use crate::bits::{has, set, unset, words_for};
+use crate::bits::{has, have_common, set, unset, words_for};
 use crate::matrix::Matrix;
-use crate::search::{find_reached, find_youngest};
+use crate::search::{find_reached, find_youngest, is_waited_for};
 use crate::{MAX_SESSIONS, NoMemory};
 use std::alloc::Global;
 use std::marker::Model;
@@ -213,6 +213,13 @@ impl Rows {
         ensures youngest { IfSome result (IsYoungestOnCircle (pairs_of self.old) ages.now t) }
         ensures same { self.new ≡ self.old }
     {
+        // on a cycle, `t` waits directly for a session that waits, and a session for `t`: most waits end here
+        if !have_common(self.matrix.row(t), &self.waiting) {
+            return None;
+        }
+        if self.searched != t + 1 && !is_waited_for(&self.matrix, &self.waiting, t) {
+            return None;
+        }
         find_youngest(
             &self.matrix,
             &self.waiting,

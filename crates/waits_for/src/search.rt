@@ -1,6 +1,7 @@
 //! The search for the sessions that a session reaches, and for those among them that reach it.
 
 ghost use Rattle.std.specs.Prelude.{◌≡◌, ℕ, ◌+◌, ◌<◌, ◌≤◌, ◌↔◌, true, false, ◌&&◌, ◌||◌, ◌==◌, ◌/◌, Bool, Some, IsTrue, IfSome, IsSome, MatchBool, length};
+ghost use Rattle.std.specs.Int.{bit_at};
 ghost use Rattle.std.specs.Option.{ForSome};
 ghost use Rattle.waits_for.specs.Pairs.{pairs_of};
 ghost use Rattle.waits_for.specs.Walks.{Reaches, AreOnCircle, IsYoungestOnCircle};
@@ -40,10 +41,6 @@ fn find_circle(
     ensures circle { result ≡ true →
         (u : ℕ) → IsTrue (has_bit circle.new u) ↔ AreOnCircle (pairs_of matrix.now) t u }
 {
-    // If `t` is on a cycle, a session that it waits for directly waits too.
-    if !have_common(matrix.row(t), waiting) {
-        return false;
-    }
     search_depth_first(matrix, waiting, t, unseen, circle, stack, hops, parents);
     set_without(reached, waiting, unseen);
     add_all_predecessors(matrix, waiting, t, reached, circle);
@@ -293,12 +290,61 @@ fn younger_of(ages: &[u64], best: Option<usize>, u: usize) -> usize
     }
 }
 
+/// Whether a session waits directly for position `t`. Looks only at the rows of those in `waiting`.
+pub(crate) fn is_waited_for(matrix: &Matrix, waiting: &[u64], t: usize) -> bool
+    requires t_below { t < matrix.now.sessions }
+    requires waiting_room { length waiting.now ≡ words_for matrix.now.sessions }
+    requires waiting { HasAllWaiting (pairs_of matrix.now) waiting.now }
+    ensures { IsTrue result ↔ ((u : ℕ) × (pairs_of matrix.now u t ≡ true)) }
+{
+    let sessions = matrix.sessions() as usize;
+    for w in 0..(sessions + 63) / 64 {
+        if is_waited_for_in_word(matrix, waiting[w], w * 64, t) {
+            return true;
+        }
+    }
+    false
+}
+
+/// Whether one of the sessions that the bits of `word` stand for, from position `first` on, waits directly for position
+/// `t`.
+#[inline(always)]
+fn is_waited_for_in_word(matrix: &Matrix, word: u64, first: usize, t: usize) -> bool
+    requires t_below { t < matrix.now.sessions }
+    requires small { first + 64 ≤ usize.MAX }
+    ensures some { result ≡ true → ((u : ℕ) × (pairs_of matrix.now u t ≡ true)) }
+    ensures none { result ≡ false → (i : ℕ) → i < 64 → bit_at word i ≡ 1 → pairs_of matrix.now (first + i) t ≡ false }
+{
+    let mut rest = word;
+    while rest != 0 {
+        let low = rest.trailing_zeros() as usize;
+        if has_edge(matrix, first + low, t) {
+            return true;
+        }
+        rest &= !(1 << low);
+    }
+    false
+}
+
+/// Whether position `u` is a session's, and this waits directly for position `t`.
+#[inline(always)]
+fn has_edge(matrix: &Matrix, u: usize, t: usize) -> bool
+    requires t_below { t < matrix.now.sessions }
+    ensures { result ≡ pairs_of matrix.now u t }
+{
+    if u >= matrix.sessions() as usize {
+        return false;
+    }
+    has(matrix.row(u), t)
+}
+
 /// The youngest session on a cycle with position `t`, and of two of one age the one at the lesser position. `None` if
 /// `t` is on no cycle.
 ///
 /// If `searched` is the number of a session, every session on a cycle with it is in `circle`, before and after.
 /// `reached`, `marked` and `stack` are scratch. `hops` and `parents` may hold anything: steps are looked for there
 /// first.
+#[inline(never)]
 pub(crate) fn find_youngest(
     matrix: &Matrix,
     waiting: &[u64],
