@@ -40,15 +40,15 @@
  * - malloc, realloc and free belong to one allocator, and align blocks as those of the C library do.
  *
  * WHAT A THREAD SEES. What a thread wrote before it published the call that gives a lock back is seen by the thread of another
- * session once it has collected the grant of a conflicting lock: the reply GRANTED, or CLEAR after a wait. This is no clause of a
- * contract, since contracts speak of the history and not of the caller's memory. It follows from the words by which an office
- * works, each step of which is sequentially consistent: a publish swaps the word of the session's record, and the combiner takes
- * the call by a compare-exchange of that word; a combiner gives the lock table on by a store of the lock word, and the next one
- * takes it by a compare-exchange; the answer that tells of the grant is a store of the word of the other session's record, and
- * its collect takes it by a compare-exchange. A call that is performed at once is made between the compare-exchange of the lock
- * word and its store. So the writes before the publish happen before the reads behind the collect, in the sense of C11 and C++11.
- * The calls lead into an archive, so that no compiler moves an access to shared memory across one. For a book behind a mutex it
- * is the mutex that does this.
+ * session once it has collected the grant of a conflicting lock: the reply GRANTED, or CLEAR after a wait, or the refusal
+ * NOT_WAITING of a withdrawal. This is no clause of a contract, since contracts speak of the history and not of the caller's
+ * memory. It follows from the words by which an office works, each step of which is sequentially consistent: a publish swaps the
+ * word of the session's record, and the combiner takes the call by a compare-exchange of that word; a combiner gives the lock
+ * table on by a store of the lock word, and the next one takes it by a compare-exchange; the answer that tells of the grant is a
+ * store of the word of the other session's record, and its collect takes it by a compare-exchange. A call that is performed at
+ * once is made between the compare-exchange of the lock word and its store. So the writes before the publish happen before the
+ * reads behind the collect, in the sense of C11 and C++11. The calls lead into an archive, so that no compiler moves an access to
+ * shared memory across one. For a book behind a mutex it is the mutex that does this.
  * ThreadSanitizer can't see the archive's steps. Built with -fsanitize=thread the functions of this header tell it of them: a
  * publish releases and a collect acquires, a call that is performed at once does both, and what is done inside the archive is
  * left out.
@@ -90,9 +90,10 @@ extern "C" {
    NO_SUCH_SESSION, NO_SUCH_OP, NO_SUCH_LEVEL and NO_SUCH_MODE is `fault`. */
 typedef enum pelgaisti_status {
     PELGAISTI_OK = 0,              /* [ok, served, after: what the call did] */
-    PELGAISTI_NO_MEMORY = 1,       /* memory was refused; the same call may be made again [memory, possible: all tests before it
-                                      passed, and nothing has changed, or a pass was made without the call that was to be performed
-                                      at once; that memory was refused is tested] */
+    PELGAISTI_NO_MEMORY = 1,       /* memory was refused; the same call may be made again, but for pelgaisti_session_perform and its
+                                      like, which leave it pending [memory, possible: all tests before it passed, and nothing has
+                                      changed, or a pass was made without the call that was to be performed at once; that memory
+                                      was refused is tested] */
     PELGAISTI_CLOSED = 2,          /* the handle is closed [closed, exactly then] */
     PELGAISTI_NO_SUCH_SESSION = 3, /* the book, or the office, has no session with this number [session] */
     PELGAISTI_NO_SUCH_OP = 4,      /* the op is not a pelgaisti_op [call] */
