@@ -12,8 +12,8 @@ use Rattle.glm.specs.declared.args.TheConstants.{MAX_TURNS}
 use Rattle.glm.specs.declared.running_in_pieces.TheConstants.{MAX_STREAMED_SESSIONS}
 use Rattle.glm.specs.declared.args.Delivery.{Delivery}
 use Rattle.glm.specs.declared.args.Delivery.TheVariants as delivery
-use Rattle.glm.specs.declared.args.Request.{Request}
-use Rattle.glm.specs.declared.args.Request.TheVariants as request
+use Rattle.glm.specs.declared.args.CommandRequest.{CommandRequest}
+use Rattle.glm.specs.declared.args.CommandRequest.TheVariants as request
 use Rattle.glm.specs.declared.args.Form.{Form}
 use Rattle.glm.proofs.AskShow.{form-one, place-one}
 use Rattle.glm.specs.CommandLine.{Ask, Gives, GivesPlace, WantsForm, IsRequest, HasFlag, IsRequestIn, Wants, faults_of, glm_command, most_sessions}
@@ -48,7 +48,7 @@ delivery-one rows delivery.InPieces delivery.InPieces a b = refl
 
 -- no request is in the options if they give no number of sessions
 pub no_sessions : (name : Text) (rows : List Row) → ((n : ℕ) → ¬ Gives (codes "sessions") MAX_SESSIONS rows n)
-    → (asked : Request) → ¬ IsRequest (Some (name, rows)) asked
+    → (asked : CommandRequest) → ¬ IsRequest (Some (name, rows)) asked
 no_sessions name rows none (request.Replay n d) is = none n is.1
 no_sessions name rows none (request.Run n t d) is = none n (as_sessions rows d n is.1)
 no_sessions name rows none (request.Check n) is = none n is.1
@@ -57,7 +57,7 @@ no_sessions name rows none (request.Explain n p f) is = none n is.1
 
 -- no request is in the options of `run` if they give no number of turns
 pub no_turns : (name : Text) (rows : List Row) → name ≡ codes "run" → ((n : ℕ) → ¬ Gives (codes "turns") MAX_TURNS rows n)
-    → (asked : Request) → ¬ IsRequest (Some (name, rows)) asked
+    → (asked : CommandRequest) → ¬ IsRequest (Some (name, rows)) asked
 no_turns name rows run none (request.Replay n d) is = let bad : codes "run" ≡ codes "replay" = sym run ∙ is.0 in cc
 no_turns name rows run none (request.Run n t d) is = none t is.2
 no_turns name rows run none (request.Check n) is = let bad : codes "run" ≡ codes "check" = sym run ∙ is.0 in cc
@@ -66,7 +66,7 @@ no_turns name rows run none (request.Explain n p f) is = let bad : codes "run" �
 
 -- no request is in the options of a run that want the history in pieces, and the greatest number of sessions
 pub no_streamed : (name : Text) (rows : List Row) (n : ℕ) → name ≡ codes "run" → Gives (codes "sessions") MAX_SESSIONS rows n → MAX_STREAMED_SESSIONS < n
-    → HasFlag (codes "stream") rows → (asked : Request) → ¬ IsRequest (Some (name, rows)) asked
+    → HasFlag (codes "stream") rows → (asked : CommandRequest) → ¬ IsRequest (Some (name, rows)) asked
 no_streamed name rows n run given many flag (request.Replay m d) is = let bad : codes "run" ≡ codes "replay" = sym run ∙ is.0 in cc
 no_streamed name rows n run given many flag (request.Run m t delivery.Whole) is = is.3 flag
 no_streamed name rows n run given many flag (request.Run m t delivery.InPieces) is =
@@ -78,7 +78,7 @@ no_streamed name rows n run given many flag (request.Explain m p f) is = let bad
 
 -- no request is in the options of `show` if they don't give both a place and a form
 pub nothing_shown : (name : Text) (rows : List Row) → name ≡ codes "show" → ((p : Option ℕ) (f : Form) → GivesPlace rows p → ¬ WantsForm rows f)
-    → (asked : Request) → ¬ IsRequest (Some (name, rows)) asked
+    → (asked : CommandRequest) → ¬ IsRequest (Some (name, rows)) asked
 nothing_shown name rows show none (request.Replay n d) is = let bad : codes "show" ≡ codes "replay" = sym show ∙ is.0 in cc
 nothing_shown name rows show none (request.Run n t d) is = let bad : codes "show" ≡ codes "run" = sym show ∙ is.0 in cc
 nothing_shown name rows show none (request.Check n) is = let bad : codes "show" ≡ codes "check" = sym show ∙ is.0 in cc
@@ -87,7 +87,7 @@ nothing_shown name rows show none (request.Explain n p f) is = let bad : codes "
 
 -- no request is in the options of `explain` if they don't give both a place and a form
 pub nothing_explained : (name : Text) (rows : List Row) → name ≡ codes "explain" → ((p : Option ℕ) (f : Form) → GivesPlace rows p → ¬ WantsForm rows f)
-    → (asked : Request) → ¬ IsRequest (Some (name, rows)) asked
+    → (asked : CommandRequest) → ¬ IsRequest (Some (name, rows)) asked
 nothing_explained name rows explain none (request.Replay n d) is = let bad : codes "explain" ≡ codes "replay" = sym explain ∙ is.0 in cc
 nothing_explained name rows explain none (request.Run n t d) is = let bad : codes "explain" ≡ codes "run" = sym explain ∙ is.0 in cc
 nothing_explained name rows explain none (request.Check n) is = let bad : codes "explain" ≡ codes "check" = sym explain ∙ is.0 in cc
@@ -96,13 +96,13 @@ nothing_explained name rows explain none (request.Explain n p f) is = none p f i
 
 -- no request is in the options of `show` or `explain` if they don't give both a place and a form
 pub nothing_told : (name : Text) (rows : List Row) → (name ≡ codes "show") ⊎ (name ≡ codes "explain")
-    → ((p : Option ℕ) (f : Form) → GivesPlace rows p → ¬ WantsForm rows f) → (asked : Request) → ¬ IsRequest (Some (name, rows)) asked
+    → ((p : Option ℕ) (f : Form) → GivesPlace rows p → ¬ WantsForm rows f) → (asked : CommandRequest) → ¬ IsRequest (Some (name, rows)) asked
 nothing_told name rows (inl show) none asked is = nothing_shown name rows show none asked is
 nothing_told name rows (inr explain) none asked is = nothing_explained name rows explain none asked is
 
 -- no request has a name other than `replay`, `run`, `check`, `show` and `explain`
 pub no_name : (name : Text) (rows : List Row) → name ≢ codes "replay" → name ≢ codes "run" → name ≢ codes "check" → name ≢ codes "show"
-    → name ≢ codes "explain" → (asked : Request) → ¬ IsRequest (Some (name, rows)) asked
+    → name ≢ codes "explain" → (asked : CommandRequest) → ¬ IsRequest (Some (name, rows)) asked
 no_name name rows replay run check show explain (request.Replay n d) is = replay is.0
 no_name name rows replay run check show explain (request.Run n t d) is = run is.0
 no_name name rows replay run check show explain (request.Check n) is = check is.0
@@ -116,13 +116,13 @@ sessions_text (Some found) = first_of (codes "sessions") found.1
 
 -- no request is in a command whose `--sessions` isn't read as a number
 pub no_such_sessions : (found : Option (Text × List Row)) (text : Text) (fault : NumeralFault) → sessions_text found ≡ Some text
-    → reading_of_numeral MAX_SESSIONS text ≡ Err fault → (asked : Request) → ¬ IsRequest found asked
+    → reading_of_numeral MAX_SESSIONS text ≡ Err fault → (asked : CommandRequest) → ¬ IsRequest found asked
 no_such_sessions None text fault is wrong asked h = h
 no_such_sessions (Some found) text fault is wrong asked h =
     no_sessions found.0 found.1 (numeral_not_given _ text MAX_SESSIONS found.1 (omega arith) is (λ m read some. let bad : Ok m ≡ Err fault = sym read ∙ wrong in cc)) asked h
 
 -- a name with its options is at most one request
-one-in : (name : Text) (rows : List Row) (r q : Request) → IsRequestIn name rows r → IsRequestIn name rows q → r ≡ q
+one-in : (name : Text) (rows : List Row) (r q : CommandRequest) → IsRequestIn name rows r → IsRequestIn name rows q → r ≡ q
 one-in name rows (request.Replay m d) (request.Replay n e) a b =
     ap₂ (λ k l. request.Replay k l) (sessions-one rows m n a.1 b.1) (delivery-one rows d e a.2 b.2)
 one-in name rows (request.Replay m d) (request.Run n t e) a b = let bad : codes "replay" ≡ codes "run" = sym a.0 ∙ b.0 in cc
@@ -163,7 +163,7 @@ one-in name rows (request.Explain m p f) (request.Explain n q g) a b =
     cc
 
 -- a command that was found is at most one request
-pub one_request : (found : Option (Text × List Row)) (r q : Request) → IsRequest found r → IsRequest found q → r ≡ q
+pub one_request : (found : Option (Text × List Row)) (r q : CommandRequest) → IsRequest found r → IsRequest found q → r ≡ q
 one_request None r q a b = absurd a
 one_request (Some found) r q a b = one-in found.0 found.1 r q a b
 
@@ -184,30 +184,30 @@ not_both_of_runs None m n t u a b = a
 not_both_of_runs (Some found) m n t u a b = a.3 b.3
 
 -- a request in the name and options is a request in the parsed command
-pub requests_moved : (found : Option (Text × List Row)) (name : Text) (rows : List Row) (r : Option Request) → found ≡ Some (name, rows)
+pub requests_moved : (found : Option (Text × List Row)) (name : Text) (rows : List Row) (r : Option CommandRequest) → found ≡ Some (name, rows)
     → IfSome r (IsRequest (Some (name, rows))) → IfSome r (IsRequest found)
 requests_moved found name rows r is h = subst (λ (f : Option (Text × List Row)). IfSome r (IsRequest f)) (sym is) h
 
 -- no request in the name and options means no request in the parsed command
-pub no_requests_moved : (found : Option (Text × List Row)) (name : Text) (rows : List Row) (r : Option Request) → found ≡ Some (name, rows)
-    → IfNone r ((asked : Request) → ¬ IsRequest (Some (name, rows)) asked) → IfNone r ((asked : Request) → ¬ IsRequest found asked)
-no_requests_moved found name rows r is h = subst (λ (f : Option (Text × List Row)). IfNone r ((asked : Request) → ¬ IsRequest f asked)) (sym is) h
+pub no_requests_moved : (found : Option (Text × List Row)) (name : Text) (rows : List Row) (r : Option CommandRequest) → found ≡ Some (name, rows)
+    → IfNone r ((asked : CommandRequest) → ¬ IsRequest (Some (name, rows)) asked) → IfNone r ((asked : CommandRequest) → ¬ IsRequest found asked)
+no_requests_moved found name rows r is h = subst (λ (f : Option (Text × List Row)). IfNone r ((asked : CommandRequest) → ¬ IsRequest f asked)) (sym is) h
 
 -- no request is in words without a command
-pub no_command : (found : Option (Text × List Row)) → found ≡ None → (asked : Request) → ¬ IsRequest found asked
+pub no_command : (found : Option (Text × List Row)) → found ≡ None → (asked : CommandRequest) → ¬ IsRequest found asked
 no_command None is asked h = h
 no_command (Some p) is asked h = cc
 
 -- words without an error ask for the request of their command
-pub words_ask : (words : List Text) (found : Option (Text × List Row)) (r : Option Request) → faults_of words ≡ [] → found ≡ subcommand_of glm_command words
+pub words_ask : (words : List Text) (found : Option (Text × List Row)) (r : Option CommandRequest) → faults_of words ≡ [] → found ≡ subcommand_of glm_command words
     → IfSome r (IsRequest found) → IfSome r (Ask words)
 words_ask words found None whole is h = search rules
 words_ask words found (Some asked) whole is h =
     record { whole = whole; request_is = subst (λ (f : Option (Text × List Row)). IsRequest f asked) is h }
 
 -- words ask for nothing if no request is in their command
-pub words_ask_nothing : (words : List Text) (found : Option (Text × List Row)) (r : Option Request) → found ≡ subcommand_of glm_command words
-    → IfNone r ((asked : Request) → ¬ IsRequest found asked) → IfNone r ((asked : Request) → ¬ Ask words asked)
+pub words_ask_nothing : (words : List Text) (found : Option (Text × List Row)) (r : Option CommandRequest) → found ≡ subcommand_of glm_command words
+    → IfNone r ((asked : CommandRequest) → ¬ IsRequest found asked) → IfNone r ((asked : CommandRequest) → ¬ Ask words asked)
 words_ask_nothing words found (Some asked) is h = search rules
 words_ask_nothing words found None is h =
     λ asked ask. h asked (subst (λ (f : Option (Text × List Row)). IsRequest f asked) (sym is) ask.request_is)

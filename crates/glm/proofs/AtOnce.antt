@@ -8,8 +8,8 @@ use Rattle.combining.specs.Sessions.{IsPerformed, IsRefused}
 use Rattle.combining.specs.declared.office.Answer.{Answer}
 use Rattle.combining.specs.declared.office.perform.Performed.{Performed}
 use Rattle.combining.specs.declared.office.perform.Performed.TheVariants as performed
-use Rattle.glm.specs.declared.workers.Direct.TheVariants as direct
-use Rattle.glm.specs.Workers.{Calls, calls_known, direct_of}
+use Rattle.glm.specs.declared.workers.TryOutcome.TheVariants as outcome
+use Rattle.glm.specs.Workers.{Calls, calls_known, outcome_of_try}
 
 -- what an answered call tells of its session
 abbrev Tells : Performed → TicketView → TicketView → Call → Type 0
@@ -39,7 +39,7 @@ calls-performed before after call a served is = ap calls_known is.session
     ∙ ap (collecting before) (map-append (λ (b : Answered). b.call) before.collected (answer a.place call a.reply ∷ []))
 
 -- after an answered try the call is the last of the session's collected ones
-pub calls-at_once : (p : Performed) (before after : TicketView) (call : Call) → Tells p before after call → direct_of p ≡ direct.Answered
+pub calls-at_once : (p : Performed) (before after : TicketView) (call : Call) → Tells p before after call → outcome_of_try p ≡ outcome.Answered
     → calls_known after ≡ record (calls_known before) { collected = (calls_known before).collected ++ call ∷ [] }
 calls-at_once (performed.Answered a served false) before after call tells is = calls-performed before after call a served (tells a served false refl)
 calls-at_once (performed.Answered a served true) before after call tells is = cc
@@ -47,7 +47,7 @@ calls-at_once performed.Elsewhere before after call tells is = cc
 calls-at_once performed.Starved before after call tells is = cc
 
 -- a lost try leaves the session as it was
-pub same-at_once : (p : Performed) (before after : TicketView) (sessions : ℕ) → Keeps p before after sessions → direct_of p ≡ direct.Elsewhere
+pub same-at_once : (p : Performed) (before after : TicketView) (sessions : ℕ) → Keeps p before after sessions → outcome_of_try p ≡ outcome.Elsewhere
     → after ≡ before
 same-at_once (performed.Answered a served false) before after sessions keeps is = cc
 same-at_once (performed.Answered a served true) before after sessions keeps is = cc

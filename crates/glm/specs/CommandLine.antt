@@ -14,8 +14,8 @@ use Rattle.glm.specs.declared.args.Delivery.{Delivery}
 use Rattle.glm.specs.declared.args.Delivery.TheVariants as delivery
 use Rattle.glm.specs.declared.args.Form.{Form}
 use Rattle.glm.specs.declared.args.Form.TheVariants as form
-use Rattle.glm.specs.declared.args.Request.{Request}
-use Rattle.glm.specs.declared.args.Request.TheVariants as request
+use Rattle.glm.specs.declared.args.CommandRequest.{CommandRequest}
+use Rattle.glm.specs.declared.args.CommandRequest.TheVariants as request
 
 -- the option `--sessions N`: 1 to MAX_SESSIONS, by default 256
 abbrev pub sessions_option : Rule
@@ -124,7 +124,7 @@ WantsForm rows form.Rows = HasFlag (codes "csv") rows × (¬ HasFlag (codes "dot
 WantsForm rows form.Graph = (¬ HasFlag (codes "csv") rows) × HasFlag (codes "dot") rows
 
 -- the parsed command, by its name and its options, is this request
-abbrev pub IsRequestIn : Text → List Row → Request → Type 0
+abbrev pub IsRequestIn : Text → List Row → CommandRequest → Type 0
 IsRequestIn name rows (request.Replay sessions asked) =
     (name ≡ codes "replay") × Gives (codes "sessions") MAX_SESSIONS rows sessions × Wants rows asked
 IsRequestIn name rows (request.Run sessions turns asked) =
@@ -136,12 +136,12 @@ IsRequestIn name rows (request.Explain sessions place asked) =
     (name ≡ codes "explain") × Gives (codes "sessions") MAX_SESSIONS rows sessions × GivesPlace rows place × WantsForm rows asked
 
 -- the parser found a command, and the command is this request
-abbrev pub IsRequest : Option (Text × List Row) → Request → Type 0
+abbrev pub IsRequest : Option (Text × List Row) → CommandRequest → Type 0
 IsRequest None asked = ⊥
 IsRequest (Some found) asked = IsRequestIn found.0 found.1 asked
 
 -- the words have no error and make this request
-pub record Ask (words : List Text) (request : Request) : Type 0 where
+pub record Ask (words : List Text) (request : CommandRequest) : Type 0 where
   pub whole : faults_of words ≡ []
   pub request_is : IsRequest (subcommand_of glm_command words) request
 
@@ -186,6 +186,6 @@ AskVersion words = IsAmong DisplayVersion (faults_of words)
 
 -- the words make no request, and ask neither for help alone nor for the version alone
 pub record AskNothing (words : List Text) : Type 0 where
-  pub no_request : (asked : Request) → ¬ Ask words asked
+  pub no_request : (asked : CommandRequest) → ¬ Ask words asked
   pub no_help : ¬ (faults_of words ≡ DisplayHelp ∷ [])
   pub no_version : ¬ (faults_of words ≡ DisplayVersion ∷ [])

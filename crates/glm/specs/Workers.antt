@@ -12,8 +12,8 @@ use Rattle.glm.specs.Statuses.{number_of_fault}
 use Rattle.glm.specs.Calls.{calls_answered, calls_of_rows}
 use Rattle.glm.specs.declared.tool_fault.ToolFault.{ToolFault}
 use Rattle.glm.specs.declared.tool_fault.ToolFault.TheVariants as tool
-use Rattle.glm.specs.declared.workers.Direct.{Direct}
-use Rattle.glm.specs.declared.workers.Direct.TheVariants as direct
+use Rattle.glm.specs.declared.workers.TryOutcome.{TryOutcome}
+use Rattle.glm.specs.declared.workers.TryOutcome.TheVariants as outcome
 use Rattle.glm.specs.declared.workers.Stop.{Stop}
 use Rattle.glm.specs.declared.workers.Stop.TheVariants as stop
 use Rattle.glm.specs.declared.threads.ThreadResult.{ThreadResult}
@@ -40,11 +40,11 @@ is_starved_turn turn.Elsewhere = false
 is_starved_turn (turn.Pass served starved) = starved
 
 -- what came of a try to perform a call at once: a pass that put calls back is starved, also if it performed this call
-abbrev pub direct_of : Performed → Direct
-direct_of (performed.Answered answer served true) = direct.Starved
-direct_of (performed.Answered answer served false) = direct.Answered
-direct_of performed.Elsewhere = direct.Elsewhere
-direct_of performed.Starved = direct.Starved
+abbrev pub outcome_of_try : Performed → TryOutcome
+outcome_of_try (performed.Answered answer served true) = outcome.Starved
+outcome_of_try (performed.Answered answer served false) = outcome.Answered
+outcome_of_try performed.Elsewhere = outcome.Elsewhere
+outcome_of_try performed.Starved = outcome.Starved
 
 -- at most `turns` more tries than `before`
 abbrev pub TriedAtMost : (ℕ → Type 0) → ℕ → ℕ → Type 0

@@ -8,7 +8,7 @@ ghost use Rattle.clap.specs.Values.{kind_of};
 ghost use Rattle.clap.specs.Walk.{first_of, rows_of, rule_of, texts};
 ghost use Rattle.clap.specs.declared.builder.command.Command.TheViews.{out-Command as fields_of};
 ghost use Rattle.lock_rules.specs.declared.calls.TheConstants.{MAX_SESSIONS};
-ghost use Rattle.glm.specs.declared.args.Request.{Request as RequestValue};
+ghost use Rattle.glm.specs.declared.args.CommandRequest.{CommandRequest as RequestValue};
 ghost use Rattle.glm.specs.declared.args.Form.{Form as FormValue};
 ghost use Rattle.glm.specs.CommandLine.{Ask, Gives, GivesPlace, HasFlag, IsRequest, Wants, WantsForm, app_with_forms, at_option, command_for_sessions, faults_of, flag_named, glm_command, sessions_option, stream_flag, turns_option, with_forms};
 
@@ -49,7 +49,7 @@ pub enum Form {
 
 /// A command that the words ask for, with its numbers.
 #[derive(Clone, Copy, Debug, Drop, PartialEq, Eq)]
-pub(crate) enum Request {
+pub(crate) enum CommandRequest {
     /// Replay a trace; holds the number of sessions, and how the history is written.
     Replay(u16, Delivery),
     /// Run a trace on threads; holds the number of sessions, the greatest number of tries for each answer, and how the history
@@ -371,7 +371,7 @@ fn place_and_form(given: &ArgMatches) -> Option<(Option<u32>, Form)>
 
 /// Returns the request of `show`, or `None` if its place isn't a valid number or it is asked for two forms.
 #[tactic(auto, using(crate::proofs::Ask::nothing_shown))]
-fn show_request(sessions: u16, given: &ArgMatches) -> Option<Request>
+fn show_request(sessions: u16, given: &ArgMatches) -> Option<CommandRequest>
     requires given { Gives (codes "sessions") MAX_SESSIONS (rows_of (found_of given.now)) sessions }
     ensures some { IfSome result (IsRequest (Some (codes "show", rows_of (found_of given.now)))) }
     ensures none { IfNone result ((asked : RequestValue) → ¬ (IsRequest (Some (codes "show", rows_of (found_of given.now))) asked)) }
@@ -379,12 +379,12 @@ fn show_request(sessions: u16, given: &ArgMatches) -> Option<Request>
     let Some((place, form)) = place_and_form(given) else {
         return None;
     };
-    Some(Request::Show(sessions, place, form))
+    Some(CommandRequest::Show(sessions, place, form))
 }
 
 /// Returns the request of `explain`, or `None` if its place isn't a valid number or it is asked for two forms.
 #[tactic(auto, using(crate::proofs::Ask::nothing_explained))]
-fn explain_request(sessions: u16, given: &ArgMatches) -> Option<Request>
+fn explain_request(sessions: u16, given: &ArgMatches) -> Option<CommandRequest>
     requires given { Gives (codes "sessions") MAX_SESSIONS (rows_of (found_of given.now)) sessions }
     ensures some { IfSome result (IsRequest (Some (codes "explain", rows_of (found_of given.now)))) }
     ensures none { IfNone result ((asked : RequestValue) → ¬ (IsRequest (Some (codes "explain", rows_of (found_of given.now))) asked)) }
@@ -392,13 +392,13 @@ fn explain_request(sessions: u16, given: &ArgMatches) -> Option<Request>
     let Some((place, form)) = place_and_form(given) else {
         return None;
     };
-    Some(Request::Explain(sessions, place, form))
+    Some(CommandRequest::Explain(sessions, place, form))
 }
 
 /// Returns the request of the command `name` with the options `given`, or `None` if there is no such command or a number
 /// isn't valid, as the greatest number of sessions isn't for a run whose history is written in pieces.
 #[tactic(auto, using(crate::proofs::Ask::no_sessions, crate::proofs::Ask::no_turns, crate::proofs::Ask::no_streamed, crate::proofs::Ask::no_name))]
-fn request_named(name: &str, given: &ArgMatches) -> Option<Request>
+fn request_named(name: &str, given: &ArgMatches) -> Option<CommandRequest>
     ensures some { IfSome result (IsRequest (Some (name.now, rows_of (found_of given.now)))) }
     ensures none { IfNone result ((asked : RequestValue) → ¬ (IsRequest (Some (name.now, rows_of (found_of given.now))) asked)) }
 {
@@ -406,7 +406,7 @@ fn request_named(name: &str, given: &ArgMatches) -> Option<Request>
         return None;
     };
     if name == "replay" {
-        return Some(Request::Replay(sessions, delivery_of(given)));
+        return Some(CommandRequest::Replay(sessions, delivery_of(given)));
     }
     if name == "run" {
         let Some(turns) = option_number(given, "turns", MAX_TURNS) else {
@@ -414,11 +414,11 @@ fn request_named(name: &str, given: &ArgMatches) -> Option<Request>
         };
         return match delivery_of(given) {
             Delivery::InPieces if sessions > MAX_STREAMED_SESSIONS => None,
-            delivery => Some(Request::Run(sessions, turns, delivery)),
+            delivery => Some(CommandRequest::Run(sessions, turns, delivery)),
         };
     }
     if name == "check" {
-        return Some(Request::Check(sessions));
+        return Some(CommandRequest::Check(sessions));
     }
     if name == "show" {
         return show_request(sessions, given);
@@ -431,7 +431,7 @@ fn request_named(name: &str, given: &ArgMatches) -> Option<Request>
 
 /// Returns the request in the matches, or `None` if there is no command or a number isn't valid.
 #[tactic(auto, using(crate::proofs::Ask::requests_moved, crate::proofs::Ask::no_requests_moved, crate::proofs::Ask::no_command))]
-fn found_request(matches: &ArgMatches) -> Option<Request>
+fn found_request(matches: &ArgMatches) -> Option<CommandRequest>
     ensures some { IfSome result (IsRequest (subcommand_rows_of matches.now)) }
     ensures none { IfNone result ((asked : RequestValue) → ¬ (IsRequest (subcommand_rows_of matches.now) asked)) }
 {
@@ -444,7 +444,10 @@ fn found_request(matches: &ArgMatches) -> Option<Request>
 /// Parses the words. Returns the request, or `None` if the words ask for no command with valid numbers. The error is the
 /// parser's; help and the version are among its errors.
 #[tactic(auto, using(crate::proofs::Ask::words_ask, crate::proofs::Ask::words_ask_nothing))]
-pub(crate) fn request_of<'a>(alloc: Global, words: &'a [&'a str]) -> Result<Option<Request>, Error>
+pub(crate) fn request_of<'a>(
+    alloc: Global,
+    words: &'a [&'a str],
+) -> Result<Option<CommandRequest>, Error>
     ensures fails { FailsBy (faults_of (texts words.entry.now)) result }
     ensures some { IfOk result (λ asked. IfSome asked (Ask (texts words.entry.now))) }
     ensures none { IfOk result (λ asked. IfNone asked ((request : RequestValue) → ¬ (Ask (texts words.entry.now) request))) }

@@ -14,7 +14,7 @@ ghost use Rattle.glm.specs.ParserErrors.{IsOutcomeOfError};
 ghost use Rattle.glm.specs.Replays.{IsFaultOfOneThread};
 ghost use Rattle.glm.specs.Statuses.{IsStatus};
 
-use crate::args::{Delivery, Request, request_of};
+use crate::args::{CommandRequest, Delivery, request_of};
 use crate::call_gate::Gate;
 use crate::checking::{Verdict, check};
 use crate::explaining::explain;
@@ -105,27 +105,27 @@ fn outcome_of<'a, T: Threads + Wait, R: Read + Drop, W: Write, E: Write, G: Gate
     ensures { HasDone (texts words.entry.now) (R.remaining input) (W.contents output.old) (W.contents output.new) result }
 {
     match request_of(alloc, words) {
-        Ok(Some(Request::Replay(sessions, Delivery::Whole))) => {
+        Ok(Some(CommandRequest::Replay(sessions, Delivery::Whole))) => {
             Outcome::Replay(replay(alloc, input, output, sessions))
         }
-        Ok(Some(Request::Replay(sessions, Delivery::InPieces))) => {
+        Ok(Some(CommandRequest::Replay(sessions, Delivery::InPieces))) => {
             Outcome::ReplayInPieces(replay_in_pieces(alloc, input, output, sessions))
         }
-        Ok(Some(Request::Run(sessions, turns, Delivery::Whole))) => {
+        Ok(Some(CommandRequest::Run(sessions, turns, Delivery::Whole))) => {
             let turns = u64::from(turns);
             Outcome::Run(run(rt, alloc, input, output, sessions, turns, gate))
         }
-        Ok(Some(Request::Run(sessions, turns, Delivery::InPieces))) => {
+        Ok(Some(CommandRequest::Run(sessions, turns, Delivery::InPieces))) => {
             let turns = u64::from(turns);
             Outcome::RunInPieces(run_in_pieces(rt, alloc, input, output, sessions, turns, gate))
         }
-        Ok(Some(Request::Check(sessions))) => {
+        Ok(Some(CommandRequest::Check(sessions))) => {
             Outcome::Check(write_verdict(alloc, input, output, sessions))
         }
-        Ok(Some(Request::Show(sessions, place, form))) => {
+        Ok(Some(CommandRequest::Show(sessions, place, form))) => {
             Outcome::Show(show(alloc, input, output, sessions, place, form))
         }
-        Ok(Some(Request::Explain(sessions, place, form))) => {
+        Ok(Some(CommandRequest::Explain(sessions, place, form))) => {
             Outcome::Explain(explain(alloc, input, output, sessions, place, form))
         }
         Ok(None) => {

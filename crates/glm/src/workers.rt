@@ -3,7 +3,7 @@
 ghost use Rattle.std.specs.Prelude.{◌≡◌, ℕ, ◌+◌, ◌*◌, ◌<◌, ◌++◌, ◌∷◌, [], false, Some, None, Err, OnOk, length};
 ghost use Rattle.std.specs.Bool.{OnTrue};
 ghost use Rattle.glm.specs.Calls.{calls_of_rows};
-ghost use Rattle.glm.specs.Workers.{TriedAtMost, direct_of, fault_of_stop, is_starved_turn, rank_of_stop};
+ghost use Rattle.glm.specs.Workers.{TriedAtMost, outcome_of_try, fault_of_stop, is_starved_turn, rank_of_stop};
 
 use crate::call_gate::Gate;
 use crate::tool_fault::ToolFault;
@@ -49,7 +49,7 @@ impl Stop {
 
 /// What came of a try to perform a call at once.
 #[derive(Clone, Copy, Debug, PartialEq, Eq)]
-pub(crate) enum Direct {
+pub(crate) enum TryOutcome {
     /// The call is performed, and its answer collected.
     Answered,
     /// Another session has the lock table. The call may be published instead.
@@ -90,16 +90,16 @@ pub(crate) trait Service: Sync {
 
     /// Tries once to perform a call of the session, which has none pending, without publishing it. `Elsewhere` changes nothing
     /// that the session knows of the history.
-    fn perform(&self, session: &mut Self::Session, call: Call) -> Direct
+    fn perform(&self, session: &mut Self::Session, call: Call) -> TryOutcome
         requires ours { is_of self.now session.old }
         requires idle { (calls session.old).pending ≡ None }
         ensures ours { is_of self.now session.new }
-        ensures answered { result ≡ Direct.Answered → calls session.new ≡ record (calls session.old) {
+        ensures answered { result ≡ TryOutcome.Answered → calls session.new ≡ record (calls session.old) {
           collected = (calls session.old).collected ++ call ∷ [];
         } }
-        ensures elsewhere { result ≡ Direct.Elsewhere → (calls session.new ≡ calls session.old) × (known session.new ≡ known session.old) }
-        ensures tried { (tries : ℕ) → result ≢ Direct.Starved → has_tried session.old tries → has_tried session.new (tries + 1) }
-        ensures starved { result ≡ Direct.Starved → was_starved session.new };
+        ensures elsewhere { result ≡ TryOutcome.Elsewhere → (calls session.new ≡ calls session.old) × (known session.new ≡ known session.old) }
+        ensures tried { (tries : ℕ) → result ≢ TryOutcome.Starved → has_tried session.old tries → has_tried session.new (tries + 1) }
+        ensures starved { result ≡ TryOutcome.Starved → was_starved session.new };
 
     /// Publishes a call of the session, which has none pending.
     fn publish(&self, session: &mut Self::Session, call: Call)
@@ -156,7 +156,7 @@ impl Service for Office {
     ghost is_served = { IsPendingServed };
 
     /// Performs the call as the combiner, or returns at once if another session is the combiner.
-    fn perform(&self, session: &mut Session, call: Call) -> Direct {
+    fn perform(&self, session: &mut Session, call: Call) -> TryOutcome {
         outcome_of(Office::perform(self, session, call))
     }
 
@@ -178,19 +178,19 @@ impl Service for Office {
 
 /// What came of a try of an office to perform a call at once. A pass that found no memory for another session's call is
 /// starved, too, also if it performed the session's own.
-fn outcome_of(performed: Performed) -> Direct
-    ensures { result ≡ direct_of performed }
+fn outcome_of(performed: Performed) -> TryOutcome
+    ensures { result ≡ outcome_of_try performed }
 {
     match performed {
         Performed::Answered { starved, .. } => {
             if starved {
-                Direct::Starved
+                TryOutcome::Starved
             } else {
-                Direct::Answered
+                TryOutcome::Answered
             }
         }
-        Performed::Elsewhere => Direct::Elsewhere,
-        Performed::Starved => Direct::Starved,
+        Performed::Elsewhere => TryOutcome::Elsewhere,
+        Performed::Starved => TryOutcome::Starved,
     }
 }
 
@@ -275,12 +275,12 @@ fn make_call<S: Service>(
     }
     let asked = call;
     match service.perform(session, call) {
-        Direct::Answered => Ok(()),
-        Direct::Elsewhere => {
+        TryOutcome::Answered => Ok(()),
+        TryOutcome::Elsewhere => {
             service.publish(session, asked);
             wait_for_answer(service, session, turns - 1)
         }
-        Direct::Starved => Err(Stop::NoMemory),
+        TryOutcome::Starved => Err(Stop::NoMemory),
     }
 }
 
