@@ -11,8 +11,8 @@ use Rattle.lock_rules.specs.Legal.{IsLegal}
 use Rattle.publication.specs.declared.slot.Load.{Load}
 use Rattle.combining.specs.Sessions.{HasTriedToList, IsPassed}
 use Rattle.combining.specs.inner.Passes.{HasMadePass}
-use Rattle.combining.specs.Looks.{HasLooked}
-use Rattle.combining.specs.inner.Looks.{HasBegunToLook}
+use Rattle.combining.specs.Queries.{HasLooked}
+use Rattle.combining.specs.inner.Queries.{HasBegunToLook}
 use mathlib.Core.List.{IsPrefix}
 
 -- A session that isn't the combiner is none afterwards, has begun no walk, and knows nothing of others' pieces.

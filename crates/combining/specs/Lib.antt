@@ -3,6 +3,6 @@ pub mod Sessions
 pub mod Closed
 pub mod Ended
 pub mod Calls
-pub mod Looks
+pub mod Queries
 -- What only private contracts cite.
 pub mod inner

@@ -2,4 +2,4 @@ pub mod Passes
 pub mod Ages
 pub mod OwnCalls
 pub mod Told
-pub mod Looks
+pub mod Queries

@@ -3,7 +3,7 @@
 //! Shavit and Tzafrir 2010).
 //!
 //! `office.rt` has the calls of sessions, `office/perform.rt` a call that its session performs itself,
-//! `office/looks.rt` questions, `office/passes.rt` what all ways to serve have in common. `calling.rt` makes a whole
+//! `office/queries.rt` questions, `office/passes.rt` what all ways to serve have in common. `calling.rt` makes a whole
 //! call. `pass.rt` is the combiner's pass, `own_call.rt` a pass with a call of its own, `clean_up.rt` takes unused
 //! records off the publication list. `ended.rt` lists the sessions whose wait a pass has ended.
 //!
@@ -25,5 +25,5 @@ mod pass;
 
 pub use calling::{Called, call, resume};
 pub use ended::Ended;
-pub use office::{Answer, HistoryPiece, Office, OpenFault, Performed, Seen, Turn};
+pub use office::{Answer, HistoryPiece, Office, OpenFault, Performed, Snapshot, Turn};
 pub use publication::{CloseFault, Knowledge, Posted, Ticket as Session};

@@ -10,16 +10,16 @@ ghost use Rattle.combining.specs.Sessions.{IsSessionOf, IsIdle, HasNothingPendin
 ghost use Rattle.combining.specs.Closed.{IsClosed};
 ghost use Rattle.combining.specs.Ended.{AreToldBy};
 
-mod looks;
 mod passes;
 mod perform;
+mod queries;
 
 use crate::ended::Ended;
 use lock_desk::{Book, Call, Entry, MOST_DROPPED, NO_BOUND, NoMemory, Reply};
 use lock_rules::MAX_SESSIONS;
-pub use looks::Seen;
 pub use perform::Performed;
 use publication::{Board, CloseFault, Knowledge, Piece, Posted, Ticket as Session};
+pub use queries::Snapshot;
 use std::alloc::Global;
 use std::marker::Model;
 use thiserror::Error;

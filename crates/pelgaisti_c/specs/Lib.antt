@@ -4,8 +4,8 @@ pub mod Calls
 pub mod Claims
 pub mod Batches
 pub mod Sessions
-pub mod Looks
-pub mod ToldLists
+pub mod Queries
+pub mod EndedLists
 pub mod Offices
 -- what only private items speak of
 pub mod inner

@@ -64,7 +64,7 @@ fn take_in(share: Box<SessionShare>, to: &mut SessionShare) -> Result<(), Box<Se
         handed: _,
         sessions: _,
         mark: _,
-        told: _,
+        ended: _,
     } = Box::into_inner(share);
     to.handed.push_reserved(session);
     Ok(())
@@ -125,7 +125,7 @@ fn finish(share: SessionShare, room: Box<Book>) -> Option<Box<Book>>
         handed,
         sessions: _,
         mark: _,
-        told: _,
+        ended: _,
     } = share;
     let mut all = handed;
     all.push_reserved(session);

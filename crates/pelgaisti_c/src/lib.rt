@@ -1,9 +1,9 @@
 //! The lock manager for C: exports over books and over the sessions of offices, which C holds by handles in its own
 //! memory.
 //!
-//! Exports: `book.rt`, `listing_exports.rt`, `office.rt`, `session.rt`, `look_exports.rt`, `close_exports.rt`,
+//! Exports: `book.rt`, `listing_exports.rt`, `office.rt`, `session.rt`, `query_exports.rt`, `close_exports.rt`,
 //! `version.rt`. What they do, on what a handle holds: `book_calls.rt`, `batch.rt`, `listing.rt`, `session_calls.rt`,
-//! `looks.rt`, `hand_in.rt`. Numbers of C's structs: `numbers.rt`, `claims.rt`, `status.rt`. Handles: `book_handle.rt`,
+//! `queries.rt`, `hand_in.rt`. Numbers of C's structs: `numbers.rt`, `claims.rt`, `status.rt`. Handles: `book_handle.rt`,
 //! `session_handle.rt`, and what is in them.
 //!
 //! An export takes the value out of the handle, makes one call of `lock_desk` or `combining`, writes the reply in
@@ -20,22 +20,22 @@ mod book_calls;
 mod book_handle;
 mod claims;
 mod close_exports;
+mod ended_list;
 mod hand_in;
 mod held_book;
 mod held_share;
 mod listing;
 mod listing_exports;
-mod look_exports;
-mod looks;
 mod numbers;
 mod office;
+mod queries;
+mod query_exports;
 mod raw_box;
 mod session;
 mod session_calls;
 mod session_handle;
 mod session_share;
 mod status;
-mod told_list;
 mod version;
 
 pub use book_handle::BookHandle;

@@ -6,10 +6,10 @@ ghost use Rattle.lock_rules.specs.declared.calls.TheConstants.{MAX_SESSIONS};
 ghost use Rattle.publication.specs.Views.{BoardView};
 ghost use Rattle.pelgaisti_c.specs.Offices.{IsOfOffice, AreSessionsOf};
 
+use crate::ended_list::EndedList;
 use crate::session_handle::SessionHandle;
 use crate::session_share::SessionShare;
 use crate::status::{NO_MEMORY, NO_SUCH_COUNT, OK, OPEN};
-use crate::told_list::ToldList;
 use combining::{Office, Session};
 use lock_rules::MAX_SESSIONS;
 use std::alloc::{AllocError, Global};
@@ -50,7 +50,7 @@ fn share_of(
         handed: Vec::new(alloc),
         sessions: count,
         mark,
-        told: ToldList::new(count),
+        ended: EndedList::new(count),
     };
     let boxed = Box::new(alloc, share)?;
     Ok(boxed)

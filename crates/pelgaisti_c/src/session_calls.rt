@@ -110,15 +110,15 @@ pub(crate) fn serve(share: &mut SessionShare, pass: &mut PassNumbers) -> u32
     write_turn(turn, pass)
 }
 
-/// Writes the sessions that a call has told to `list`, which has room for them, and how many they are to `count`.
-fn write_told(ended: &Ended, list: &mut [u32], count: &mut usize)
+/// Writes the sessions whose wait a call has ended to `list`, which has room for them, and how many they are to `count`.
+fn write_ended(ended: &Ended, list: &mut [u32], count: &mut usize)
     requires room { ended.now.room ≤ length list.old }
     ensures list { list.new ≡ are_written (λ u. u) ended.now.list list.old }
     ensures count { (count.new ≡ length ended.now.list) × (count.new ≤ length list.old) }
 {
-    let told = ended.sessions();
-    write_sessions(told, list);
-    *count = told.len();
+    let sessions = ended.sessions();
+    write_sessions(sessions, list);
+    *count = sessions.len();
 }
 
 /// Serves as `serve` does, and writes the sessions whose wait the pass has ended to `list`, and how many they are to `count`.
@@ -140,15 +140,15 @@ pub(crate) fn serve_telling(
     if list.len() < usize::from(share.sessions) {
         return NO_ROOM;
     }
-    let Some(mut ended) = share.told.take(alloc) else {
+    let Some(mut ended) = share.ended.take(alloc) else {
         return NO_MEMORY;
     };
     let turn = share.office.serve_telling(&mut share.session, &mut ended);
     let status = write_turn(turn, pass);
     if status == OK {
-        write_told(&ended, list, count);
+        write_ended(&ended, list, count);
     }
-    share.told.put(ended);
+    share.ended.put(ended);
     status
 }
 
@@ -255,7 +255,7 @@ pub(crate) fn perform_telling(
         Ok(call) => call,
         Err(fault) => return fault,
     };
-    let Some(mut ended) = share.told.take(alloc) else {
+    let Some(mut ended) = share.ended.take(alloc) else {
         *count = 0;
         return NO_MEMORY;
     };
@@ -264,9 +264,9 @@ pub(crate) fn perform_telling(
         .perform_telling(&mut share.session, call, &mut ended);
     let status = write_performed(performed, pass, answer);
     if status != ELSEWHERE {
-        write_told(&ended, list, count);
+        write_ended(&ended, list, count);
     }
-    share.told.put(ended);
+    share.ended.put(ended);
     status
 }
 

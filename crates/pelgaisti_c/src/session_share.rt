@@ -4,7 +4,7 @@ ghost use Rattle.std.specs.Prelude.{◌≡◌, ◌≤◌, All};
 ghost use Rattle.lock_rules.specs.declared.calls.TheConstants.{MAX_SESSIONS};
 ghost use Rattle.combining.specs.Sessions.{IsSessionOf, HasNothingPending};
 
-use crate::told_list::ToldList;
+use crate::ended_list::EndedList;
 use combining::{Office, Session};
 use std::sync::Arc;
 
@@ -21,11 +21,11 @@ pub struct SessionShare {
     pub(crate) sessions: u16,
     /// The caller's number for the office. The caller gives no two open offices the same.
     pub(crate) mark: u64,
-    /// The list in which the session's calls tell whose wait they have ended.
-    pub(crate) told: ToldList,
+    /// Scratch list of the sessions whose wait a call of the session has ended.
+    pub(crate) ended: EndedList,
     ghost ours: { IsSessionOf office.value session },
     ghost theirs: { All (λ one. IsSessionOf office.value one × HasNothingPending one) handed.items },
     ghost count: { sessions ≡ office.value.sessions },
     ghost few: { sessions ≤ MAX_SESSIONS },
-    ghost room: { told.room ≡ sessions },
+    ghost room: { ended.room ≡ sessions },
 }

@@ -25,7 +25,7 @@ returns-clause-ok c = λ e.
         record { office = refl; handed = refl; sessions = refl; mark = refl },
       ),
       elim c.if-status-eq-OK.branch [
-        | then-status-eq-OK w ↦ (told, subst (λ (n : ℕ). AreToldBy n pass.served c.serve_telling-turn.new.session.front told) many (turn.told _ _ is), w.list-is ∙ w.write_told.ensures.list, w.count-is ∙ w.write_told.ensures.count.0, (let few = w.write_told.ensures.count.1 in omega (arith, w.count-is, few)))
+        | then-status-eq-OK w ↦ (told, subst (λ (n : ℕ). AreToldBy n pass.served c.serve_telling-turn.new.session.front told) many (turn.told _ _ is), w.list-is ∙ w.write_ended.ensures.list, w.count-is ∙ w.write_ended.ensures.count.0, (let few = w.write_ended.ensures.count.1 in omega (arith, w.count-is, few)))
         | else-status-eq-OK w ↦ absurd (w.if-status-eq-OK.false e)
       ],
     )

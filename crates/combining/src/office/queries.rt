@@ -11,8 +11,8 @@ ghost use Rattle.lock_rules.specs.Legal.{state_of};
 ghost use Rattle.lock_rules.specs.Listing.{listing_of, waiting_line};
 ghost use Rattle.publication.specs.Boards.{HasCallsOf};
 ghost use Rattle.combining.specs.Sessions.{IsSessionOf};
-ghost use Rattle.combining.specs.Looks.{HasLooked, blockers_among};
-ghost use Rattle.combining.specs.inner.Looks.{IsLooking, HasBegunToLook};
+ghost use Rattle.combining.specs.Queries.{HasLooked, blockers_among};
+ghost use Rattle.combining.specs.inner.Queries.{IsLooking, HasBegunToLook};
 
 use crate::office::Office;
 use lock_desk::{Book, Claim, Mode, NoMemory, Resource, Transaction};
@@ -21,7 +21,7 @@ use std::alloc::Global;
 
 /// The answer to a question about the lock table of an open office.
 #[derive(Clone, Copy, Debug, PartialEq, Eq)]
-pub struct Seen<T> {
+pub struct Snapshot<T> {
     /// How many calls the history had: the answer is that of the state behind these.
     pub length: u64,
     /// The answer.
@@ -77,7 +77,7 @@ impl Office {
         session: &mut Session,
         whose: u16,
         resource: Resource,
-    ) -> Option<Seen<Option<Mode>>>
+    ) -> Option<Snapshot<Option<Mode>>>
         requires ours { IsSessionOf self.now session.old }
         ensures ours { IsSessionOf self.now session.new }
         ensures looked { IfSome result (λ _. HasLooked session.old session.new) }
@@ -89,11 +89,11 @@ impl Office {
         let load = self.look(session)?;
         let found = load.book.held(whose, resource);
         let length = self.end_look(session, load);
-        Some(Seen { length, found })
+        Some(Snapshot { length, found })
     }
 
     /// Whether session `whose` waits for `other` directly, as `Book::waits_for` tells it. `None` is as with `held`.
-    pub fn waits_for(&self, session: &mut Session, whose: u16, other: u16) -> Option<Seen<bool>>
+    pub fn waits_for(&self, session: &mut Session, whose: u16, other: u16) -> Option<Snapshot<bool>>
         requires ours { IsSessionOf self.now session.old }
         ensures ours { IsSessionOf self.now session.new }
         ensures looked { IfSome result (λ _. HasLooked session.old session.new) }
@@ -105,7 +105,7 @@ impl Office {
         let load = self.look(session)?;
         let found = load.book.waits_for(whose, other);
         let length = self.end_look(session, load);
-        Some(Seen { length, found })
+        Some(Snapshot { length, found })
     }
 
     /// The open transaction of session `whose`, as `Book::transaction` tells it. `None` in place of an answer is as with
@@ -114,7 +114,7 @@ impl Office {
         &self,
         session: &mut Session,
         whose: u16,
-    ) -> Option<Seen<Option<Transaction>>>
+    ) -> Option<Snapshot<Option<Transaction>>>
         requires ours { IsSessionOf self.now session.old }
         ensures ours { IsSessionOf self.now session.new }
         ensures looked { IfSome result (λ _. HasLooked session.old session.new) }
@@ -126,11 +126,11 @@ impl Office {
         let load = self.look(session)?;
         let found = load.book.transaction(whose);
         let length = self.end_look(session, load);
-        Some(Seen { length, found })
+        Some(Snapshot { length, found })
     }
 
     /// The waiting request of session `whose`, as `Book::request` tells it. `None` in place of an answer is as with `held`.
-    pub fn request(&self, session: &mut Session, whose: u16) -> Option<Seen<Option<Claim>>>
+    pub fn request(&self, session: &mut Session, whose: u16) -> Option<Snapshot<Option<Claim>>>
         requires ours { IsSessionOf self.now session.old }
         ensures ours { IsSessionOf self.now session.new }
         ensures looked { IfSome result (λ _. HasLooked session.old session.new) }
@@ -142,7 +142,7 @@ impl Office {
         let load = self.look(session)?;
         let found = load.book.request(whose);
         let length = self.end_look(session, load);
-        Some(Seen { length, found })
+        Some(Snapshot { length, found })
     }
 
     /// Replaces the contents of `list` by the sessions that hold `resource`, each with its mode, by session number, as

@@ -1,5 +1,5 @@
 use Rattle.std.proofs.Common.{rules, ◌≡◌, Some}
-use Rattle.pelgaisti_c.proofs.look_exports.pelgaisti_raw_session_transaction.Goals as goal
+use Rattle.pelgaisti_c.proofs.query_exports.pelgaisti_raw_session_transaction.Goals as goal
 
 pub returns-clause-ok : goal.returns-clause-ok
 returns-clause-ok c = λ e. let was : c.args.session.now.held.share ≡ Some c.deref_mut.result.now = search rules in (c.deref_mut.result.now, c.transaction-status.new.share, was, c.put.ensures.1, c.transaction-status.ensures.ok e)

@@ -2,7 +2,7 @@
 
 ghost use Rattle.std.specs.Prelude.{◌≡◌, ◌≢◌, ◌≤◌, ◌⊎◌, IfSome, IfNone, length};
 ghost use Rattle.pelgaisti_c.specs.Numbers.{IsLevel};
-ghost use Rattle.pelgaisti_c.specs.Looks.{IsOfOffice, HasSeen, IsHeldSeen, IsWaitSeen, AreHoldersSeen, AreBlockersSeen, IsTransactionSeen, IsRequestSeen, AreLocksSeen};
+ghost use Rattle.pelgaisti_c.specs.Queries.{IsOfOffice, HasSeen, IsHeldSeen, IsWaitSeen, AreHoldersSeen, AreBlockersSeen, IsTransactionSeen, IsRequestSeen, AreLocksSeen};
 
 use crate::book_calls::{write_holders, write_sessions};
 use crate::claims::{

@@ -1,7 +1,7 @@
 use Rattle.std.proofs.Common.{◌≡◌, ◌≤◌, vec_len, vec_capacity}
 use Rattle.lock_rules.specs.Legal.{state_of}
-use Rattle.combining.specs.Looks.{blockers_among}
-use Rattle.combining.proofs.office.looks.list_blockers.Given as goal
+use Rattle.combining.specs.Queries.{blockers_among}
+use Rattle.combining.proofs.office.queries.list_blockers.Given as goal
 
 -- The sessions so far are listed, and there is room for all others.
 abbrev pub invariant-loop-before : goal.invariant-loop-before

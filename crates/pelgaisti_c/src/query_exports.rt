@@ -3,12 +3,12 @@
 
 ghost use Rattle.std.specs.Prelude.{◌≡◌, ◌≢◌, ◌≤◌, ◌↔◌, ◌⊎◌, Some};
 ghost use Rattle.pelgaisti_c.specs.Numbers.{IsLevel};
-ghost use Rattle.pelgaisti_c.specs.Looks.{IsOfOffice, HasSeen, IsHeldSeen, IsWaitSeen, AreHoldersSeen, AreBlockersSeen, IsTransactionSeen, IsRequestSeen, AreLocksSeen};
+ghost use Rattle.pelgaisti_c.specs.Queries.{IsOfOffice, HasSeen, IsHeldSeen, IsWaitSeen, AreHoldersSeen, AreBlockersSeen, IsTransactionSeen, IsRequestSeen, AreLocksSeen};
 ghost use Rattle.pelgaisti_c.specs.declared.session_share.SessionShare.{SessionShare};
 
 use crate::claims::{ClaimNumbers, TransactionNumbers};
-use crate::looks;
 use crate::numbers::{HolderNumbers, ResourceNumbers};
+use crate::queries;
 use crate::session_handle::SessionHandle;
 use crate::status::{CLOSED, ELSEWHERE, NO_MEMORY, NO_SUCH_LEVEL, NO_SUCH_SESSION, OK};
 use std::alloc::Global;
@@ -36,7 +36,7 @@ pub extern "C" fn pelgaisti_raw_session_held(
     let Some(mut share) = session.take(alloc) else {
         return CLOSED;
     };
-    let status = looks::held(&mut share, whose, resource, mode, seen);
+    let status = queries::held(&mut share, whose, resource, mode, seen);
     session.put(share);
     status
 }
@@ -63,7 +63,7 @@ pub extern "C" fn pelgaisti_raw_session_waits_for(
     let Some(mut share) = session.take(alloc) else {
         return CLOSED;
     };
-    let status = looks::waits_for(&mut share, whose, other, edge, seen);
+    let status = queries::waits_for(&mut share, whose, other, edge, seen);
     session.put(share);
     status
 }
@@ -94,7 +94,7 @@ pub extern "C" fn pelgaisti_raw_session_holders(
     let Some(mut share) = session.take(alloc) else {
         return CLOSED;
     };
-    let status = looks::holders(alloc, &mut share, resource, list, count, seen);
+    let status = queries::holders(alloc, &mut share, resource, list, count, seen);
     session.put(share);
     status
 }
@@ -123,7 +123,7 @@ pub extern "C" fn pelgaisti_raw_session_blockers(
     let Some(mut share) = session.take(alloc) else {
         return CLOSED;
     };
-    let status = looks::blockers(alloc, &mut share, whose, list, count, seen);
+    let status = queries::blockers(alloc, &mut share, whose, list, count, seen);
     session.put(share);
     status
 }
@@ -150,7 +150,7 @@ pub extern "C" fn pelgaisti_raw_session_transaction(
     let Some(mut share) = session.take(alloc) else {
         return CLOSED;
     };
-    let status = looks::transaction(&mut share, whose, found, seen);
+    let status = queries::transaction(&mut share, whose, found, seen);
     session.put(share);
     status
 }
@@ -176,7 +176,7 @@ pub extern "C" fn pelgaisti_raw_session_request(
     let Some(mut share) = session.take(alloc) else {
         return CLOSED;
     };
-    let status = looks::request(&mut share, whose, found, seen);
+    let status = queries::request(&mut share, whose, found, seen);
     session.put(share);
     status
 }
@@ -206,7 +206,7 @@ pub extern "C" fn pelgaisti_raw_session_locks(
     let Some(mut share) = session.take(alloc) else {
         return CLOSED;
     };
-    let status = looks::locks(alloc, &mut share, first, list, count, seen);
+    let status = queries::locks(alloc, &mut share, first, list, count, seen);
     session.put(share);
     status
 }

@@ -1,11 +1,11 @@
 -- The list in which calls of a session tell whose wait they have ended, as it is kept.
 use Rattle.std.specs.Prelude.{◌≡◌, IfSome}
-use Rattle.pelgaisti_c.specs.ToldLists.{ToldListView}
-use Rattle.pelgaisti_c.specs.declared.told_list.ToldList.TheInside.{Inside}
+use Rattle.pelgaisti_c.specs.EndedLists.{EndedListView}
+use Rattle.pelgaisti_c.specs.declared.ended_list.EndedList.TheInside.{Inside}
 
 -- what contracts see of the list
-abbrev pub told_list_view_of : Inside → ToldListView
-told_list_view_of a = record { room = a.room }
+abbrev pub ended_list_view_of : Inside → EndedListView
+ended_list_view_of a = record { room = a.room }
 
 -- a list that is made has the room that contracts see
 pub record HasItsRoom (a : Inside) : Type 0 where

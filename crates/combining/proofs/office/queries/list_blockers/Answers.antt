@@ -2,8 +2,8 @@ use Rattle.std.proofs.Common.{rules, ◌≡◌, ◌+◌, ℕ, Bool, true, false,
 use Rattle.lock_rules.specs.Legal.{state_of}
 use Rattle.lock_rules.specs.Waits.{waits_for}
 use Rattle.combining.proofs.Blockers.{entered, skipped}
-use Rattle.combining.proofs.office.looks.list_blockers.Goals as goal
-use Rattle.combining.proofs.office.looks.list_blockers.Goals.{then-waits_for, else-waits_for}
+use Rattle.combining.proofs.office.queries.list_blockers.Goals as goal
+use Rattle.combining.proofs.office.queries.list_blockers.Goals.{then-waits_for, else-waits_for}
 
 pub loop-before-preserved : goal.loop-before-preserved
 loop-before-preserved c =

@@ -1,4 +1,4 @@
-//! The list in which calls of a session tell whose wait they have ended.
+//! The scratch list of a session's calls for the sessions whose wait they have ended.
 
 ghost use Rattle.std.specs.Prelude.{◌≡◌, IfSome};
 
@@ -10,30 +10,30 @@ use std::mem;
 /// Scratch list for the `*_telling` calls of a session: allocated by the first, then reused. Contracts see for how many sessions
 /// it has room, whether it is allocated yet or not.
 #[derive(Drop)]
-pub struct ToldList {
+pub struct EndedList {
     /// For how many sessions the list has room.
     room: u16,
     /// The list. `None` if it isn't made yet, or was taken out.
     list: Option<Ended>,
 }
 
-impl Model for ToldList {
-    ghost use Rattle.pelgaisti_c.specs.ToldLists.{ToldListView};
-    ghost use Rattle.pelgaisti_c.specs.inner.ToldLists.{told_list_view_of, HasItsRoom};
+impl Model for EndedList {
+    ghost use Rattle.pelgaisti_c.specs.EndedLists.{EndedListView};
+    ghost use Rattle.pelgaisti_c.specs.inner.EndedLists.{ended_list_view_of, HasItsRoom};
 
-    ghost Value = { ToldListView };
+    ghost Value = { EndedListView };
 
-    ghost view = { told_list_view_of };
+    ghost view = { ended_list_view_of };
 
     ghost invariant = { HasItsRoom };
 }
 
-impl ToldList {
+impl EndedList {
     /// A list with room for so many sessions, which isn't made yet.
-    pub(crate) fn new(room: u16) -> ToldList
+    pub(crate) fn new(room: u16) -> EndedList
         ensures { result.room ≡ room }
     {
-        ToldList { room, list: None }
+        EndedList { room, list: None }
     }
 
     /// Takes the list out, or makes it. Returns `None` if memory is refused.

@@ -2,5 +2,5 @@
 use Rattle.std.specs.Prelude.{ℕ}
 
 -- what contracts see of the list: for how many sessions it has room
-pub record ToldListView : Type 0 where
+pub record EndedListView : Type 0 where
   pub room : ℕ
