@@ -14,7 +14,7 @@ use Rattle.publication.specs.declared.closing.CloseFault.TheVariants as close
 use Rattle.publication.specs.Boards.{IsEachOnce, AccountsFor, new_ticket, new_tickets}
 use Rattle.combining.specs.Sessions.{IsSessionOf, IsIdle, HasNothingPending}
 use Rattle.combining.specs.Closed.{IsClosed, answers_of}
-use Rattle.lock_trace.specs.declared.rows.TraceRow.{TraceRow}
+use Rattle.lock_trace.specs.declared.trace_row.TraceRow.{TraceRow}
 use Rattle.lock_trace.specs.Rows.{IsRow}
 use Rattle.glm.specs.Calls.{calls_answered, calls_of_rows}
 use Rattle.glm.specs.Runs.{IsRunOf}

@@ -5,7 +5,7 @@ use Rattle.std.specs.List.{All}
 use Rattle.lock_rules.specs.declared.calls.Entry.{Entry}
 use Rattle.lock_trace.specs.Entries.{IsEntry}
 use Rattle.lock_trace.specs.ReadHistories.{history_of}
-use Rattle.lock_trace.specs.declared.rows.TraceRow.{TraceRow}
+use Rattle.lock_trace.specs.declared.trace_row.TraceRow.{TraceRow}
 use Rattle.lock_trace.specs.Traces.{trace_of}
 use Rattle.glm.specs.declared.checking.Verdict.{Verdict}
 use Rattle.glm.specs.declared.tool_fault.ToolFault.TheVariants as tool

@@ -7,7 +7,7 @@ use Rattle.lock_rules.specs.State.{State, empty}
 use Rattle.lock_rules.specs.Step.{step}
 use Rattle.lock_rules.specs.Legal.{asked_in, state_after, state_of, IsLegal, IsLegalFrom}
 use Rattle.lock_rules.proofs.Histories.{one-history}
-use Rattle.lock_trace.specs.declared.rows.TraceRow.{TraceRow}
+use Rattle.lock_trace.specs.declared.trace_row.TraceRow.{TraceRow}
 use Rattle.lock_trace.specs.Histories.{row_of_entry, text_of_history, text_of_piece}
 use Rattle.lock_trace.proofs.Lines.{lines_append}
 use Rattle.glm.specs.Replays.{HasReplayedFront, HasReplayedPart, IsHistoryOf, IsTextFor}

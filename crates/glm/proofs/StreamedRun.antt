@@ -13,7 +13,7 @@ use Rattle.publication.specs.declared.closing.CloseFault.TheVariants as close
 use Rattle.publication.specs.Boards.{AccountsFor, IsEachOnce, new_ticket, new_tickets}
 use Rattle.combining.specs.Sessions.{HasNothingPending, IsSessionOf, IsIdle}
 use Rattle.combining.specs.Closed.{IsClosed}
-use Rattle.lock_trace.specs.declared.rows.TraceRow.{TraceRow}
+use Rattle.lock_trace.specs.declared.trace_row.TraceRow.{TraceRow}
 use Rattle.lock_trace.specs.Rows.{IsRow}
 use Rattle.glm.specs.Calls.{calls_answered}
 use Rattle.lock_trace.specs.Histories.{text_of_history}

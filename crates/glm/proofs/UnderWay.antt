@@ -9,7 +9,7 @@ use Rattle.lock_rules.specs.declared.calls.Entry.{Entry}
 use Rattle.lock_rules.specs.Step.{step}
 use Rattle.lock_rules.specs.Legal.{state_of, IsLegal}
 use Rattle.lock_rules.proofs.Histories.{legal-front, legal-push}
-use Rattle.lock_trace.specs.declared.rows.TraceRow.{TraceRow}
+use Rattle.lock_trace.specs.declared.trace_row.TraceRow.{TraceRow}
 use Rattle.lock_trace.specs.Histories.{row_of_entry, text_of_history, text_of_piece}
 use Rattle.glm.specs.declared.pieces.TheConstants.{PIECE_ENTRIES}
 use Rattle.glm.specs.declared.tool_fault.ToolFault.{ToolFault}

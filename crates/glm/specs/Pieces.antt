@@ -1,7 +1,7 @@
 -- The faults of a history that is written in pieces; cited by private contracts only.
 use Rattle.std.specs.Prelude.{ℕ, List, Option}
 use Rattle.std.specs.Io.KnownBytes.{Keeps}
-use Rattle.lock_trace.specs.declared.rows.TraceRow.{TraceRow}
+use Rattle.lock_trace.specs.declared.trace_row.TraceRow.{TraceRow}
 use Rattle.glm.specs.declared.tool_fault.ToolFault.{ToolFault}
 use Rattle.glm.specs.declared.tool_fault.ToolFault.TheVariants as tool
 use Rattle.glm.specs.Replays.{HasReplayedFront, HasReplayedPart}

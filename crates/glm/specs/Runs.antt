@@ -3,7 +3,7 @@ use Rattle.std.specs.Prelude.{◌≡◌, ◌⊎◌, ℕ, List, length, Option, R
 use Rattle.std.specs.Io.KnownBytes.{Keeps, Appends}
 use Rattle.lock_rules.specs.declared.calls.Entry.{Entry}
 use Rattle.lock_rules.specs.Legal.{IsLegal, calls_of}
-use Rattle.lock_trace.specs.declared.rows.TraceRow.{TraceRow}
+use Rattle.lock_trace.specs.declared.trace_row.TraceRow.{TraceRow}
 use Rattle.lock_trace.specs.Traces.{trace_of, Tells}
 use Rattle.lock_trace.specs.Histories.{text_of_history}
 use Rattle.glm.specs.declared.tool_fault.ToolFault.{ToolFault}

@@ -7,7 +7,7 @@ use Rattle.combining.specs.declared.office.perform.Performed.{Performed}
 use Rattle.combining.specs.declared.office.perform.Performed.TheVariants as performed
 use Rattle.combining.specs.declared.office.Turn.{Turn}
 use Rattle.combining.specs.declared.office.Turn.TheVariants as turn
-use Rattle.lock_trace.specs.declared.rows.TraceRow.{TraceRow}
+use Rattle.lock_trace.specs.declared.trace_row.TraceRow.{TraceRow}
 use Rattle.glm.specs.Statuses.{number_of_fault}
 use Rattle.glm.specs.Calls.{calls_answered, calls_of_rows}
 use Rattle.glm.specs.declared.tool_fault.ToolFault.{ToolFault}

@@ -3,7 +3,7 @@
 ghost use Rattle.std.specs.Prelude.{◌≡◌, ℕ, List, [], ◌∷◌, Option, None, Some, codes};
 ghost use Rattle.clap.specs.Walk.{Text};
 ghost use Rattle.lock_rules.specs.declared.calls.TheConstants.{MAX_SESSIONS};
-ghost use Rattle.lock_trace.specs.declared.rows.TraceRow.{TraceRow as RowValue};
+ghost use Rattle.lock_trace.specs.declared.trace_row.TraceRow.{TraceRow as RowValue};
 ghost use Rattle.glm.specs.declared.args.CommandRequest.{CommandRequest as RequestValue};
 ghost use Rattle.glm.specs.declared.args.TheConstants.{MAX_TURNS};
 ghost use Rattle.glm.specs.declared.running_in_pieces.TheConstants.{MAX_STREAMED_SESSIONS};

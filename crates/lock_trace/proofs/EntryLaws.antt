@@ -12,7 +12,7 @@ use Rattle.lock_trace.specs.declared.faults.TraceKind.{TraceKind}
 use Rattle.lock_trace.specs.declared.faults.TraceKind.TheVariants as kind
 use Rattle.lock_rules.specs.declared.kinds.ReplyKind.{ReplyKind}
 use Rattle.lock_rules.specs.declared.kinds.ReplyKind.TheVariants as reply_kind
-use Rattle.lock_trace.specs.declared.rows.TraceRow.{TraceRow}
+use Rattle.lock_trace.specs.declared.trace_row.TraceRow.{TraceRow}
 use Rattle.lock_rules.specs.Kinds.{kind_of_reply}
 use Rattle.lock_trace.specs.Words.{word_of_reply}
 use Rattle.lock_trace.specs.Fields.{place_in, reply_kind_in, or_value, number_in, granted_in, mode_in, why_in, max_u64, max_u32}

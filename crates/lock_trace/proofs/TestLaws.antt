@@ -16,7 +16,7 @@ use Rattle.lock_trace.specs.declared.faults.TraceKind.{TraceKind}
 use Rattle.lock_trace.specs.declared.faults.TraceKind.TheVariants as kind
 use Rattle.lock_rules.specs.declared.kinds.Op.{Op}
 use Rattle.lock_rules.specs.declared.kinds.Op.TheVariants as op
-use Rattle.lock_trace.specs.declared.rows.TraceRow.{TraceRow}
+use Rattle.lock_trace.specs.declared.trace_row.TraceRow.{TraceRow}
 use Rattle.lock_modes.specs.declared.TheConstants.{MODES}
 use Rattle.lock_rules.specs.declared.kinds.TheConstants.{OPS}
 use Rattle.lock_rules.specs.Kinds.{ops_with_resource, ops_with_mode}

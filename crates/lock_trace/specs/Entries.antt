@@ -5,7 +5,7 @@ use Rattle.lock_rules.specs.declared.calls.Reply.TheVariants as reply
 use Rattle.lock_rules.specs.declared.calls.Entry.{Entry}
 use Rattle.lock_trace.specs.declared.faults.TraceKind.{TraceKind}
 use Rattle.lock_trace.specs.declared.faults.TraceKind.TheVariants as kind
-use Rattle.lock_trace.specs.declared.rows.TraceRow.{TraceRow}
+use Rattle.lock_trace.specs.declared.trace_row.TraceRow.{TraceRow}
 use Rattle.lock_rules.specs.declared.kinds.ReplyKind.{ReplyKind}
 use Rattle.lock_rules.specs.declared.kinds.ReplyKind.TheVariants as reply_kind
 use Rattle.lock_trace.specs.Fields.{place_in, reply_kind_in, number_in, granted_in, why_in, max_u64, max_u32}

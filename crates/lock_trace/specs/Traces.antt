@@ -2,7 +2,7 @@
 use Rattle.std.specs.Prelude.{ℕ, List, map, Result}
 use Rattle.std.specs.Global.{Vec}
 use Rattle.lock_trace.specs.declared.faults.TraceFault.{TraceFault}
-use Rattle.lock_trace.specs.declared.rows.TraceRow.{TraceRow}
+use Rattle.lock_trace.specs.declared.trace_row.TraceRow.{TraceRow}
 use Rattle.lock_trace.specs.Rows.{IsRow, fields_of_row, row_of}
 use Rattle.lock_trace.specs.Tests.{tests_of_row}
 use Rattle.lock_trace.specs.Records.{records_of}

@@ -7,8 +7,8 @@ ghost use Rattle.lock_trace.specs.Entries.{without_value, value_in, reply_in, en
 
 use crate::faults::TraceKind;
 use crate::fields::{check_place, count_of, granted_of, number_of, reply_kind_of, why_of};
-use crate::row::{Row, field_at};
-use crate::rows::{TraceRow, read_row};
+use crate::record::{Row, field_at};
+use crate::trace_row::{TraceRow, read_row};
 use csv::ByteRecord;
 use lock_rules::{Entry, Reply, ReplyKind};
 

@@ -11,7 +11,7 @@ ghost use Rattle.lock_tree.specs.Text.{text_of};
 ghost use Rattle.lock_rules.specs.declared.calls.Entry.{Entry};
 ghost use Rattle.lock_rules.specs.declared.calls.Reply.{Reply};
 ghost use Rattle.lock_rules.specs.declared.kinds.Op.{Op as OpValue};
-ghost use Rattle.lock_trace.specs.declared.rows.TraceRow.{TraceRow as RowValue};
+ghost use Rattle.lock_trace.specs.declared.trace_row.TraceRow.{TraceRow as RowValue};
 ghost use Rattle.lock_trace.specs.declared.faults.TraceFault.{TraceFault as FaultValue};
 ghost use Rattle.lock_trace.specs.Words.{word_of};
 ghost use Rattle.lock_trace.specs.Fields.{session_in, op_in, resource_in, mode_in, place_in, IsSessionText};

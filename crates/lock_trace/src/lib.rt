@@ -1,7 +1,7 @@
 //! Traces and histories as text: reads traces, and reads and writes histories.
 //!
-//! To read: `reading.rt` takes a whole file as records of the `csv` crate, `row.rt` is what both formats have in
-//! common, `rows.rt` reads a row of a trace and `entries.rt` one of a history, field by field (`fields.rt`;
+//! To read: `reading.rt` takes a whole file as records of the `csv` crate, `record.rt` is what both formats have in
+//! common, `trace_row.rt` reads a row of a trace and `entries.rt` one of a history, field by field (`fields.rt`;
 //! `fast_path.rt` for numbers and resources without a fault), `faults.rt` has the faults. To write: `writing.rt`, with
 //! one line at a time in a fixed buffer (`line.rt`) out of ready-made words (`tokens.rt`, `words.rt`).
 //!
@@ -19,14 +19,14 @@ mod fields;
 pub mod laws;
 mod line;
 mod reading;
-mod row;
-mod rows;
+mod record;
 mod tokens;
+mod trace_row;
 mod words;
 mod writing;
 
 pub use faults::{TraceFault, TraceKind};
 pub use reading::{read_history, read_trace};
-pub use rows::TraceRow;
 pub use std::alloc::AllocError as NoMemory;
+pub use trace_row::TraceRow;
 pub use writing::{history_text, piece_text};

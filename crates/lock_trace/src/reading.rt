@@ -14,8 +14,8 @@ ghost use Rattle.lock_trace.specs.ReadHistories.{AnswersHistory};
 ghost use Rattle.lock_trace.specs.inner.Reading.{IsRecordReader, IsFormat, IsNextRecord, IsNextRow, is_io_or_memory_error};
 
 use crate::faults::{TraceFault, TraceKind};
-use crate::row::Row;
-use crate::rows::TraceRow;
+use crate::record::Row;
+use crate::trace_row::TraceRow;
 use csv::{ByteRecord, Error, ErrorKind, Reader, ReaderBuilder};
 use lock_rules::Entry;
 use std::alloc::{AllocError, Global};

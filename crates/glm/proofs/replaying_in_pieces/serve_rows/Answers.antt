@@ -1,7 +1,7 @@
 use Rattle.std.proofs.Common.{◌+◌, List, length, take, drop, ap, refl, sym, subst, take-append-drop, take_all, rules, arith}
 use Rattle.std.proofs.lemmas.Result.{IfErr-weaker, on_ok_weaker}
 use Rattle.lock_trace.specs.Rows.{IsRow}
-use Rattle.lock_trace.specs.declared.rows.TraceRow.{TraceRow}
+use Rattle.lock_trace.specs.declared.trace_row.TraceRow.{TraceRow}
 use Rattle.glm.specs.Pieces.{IsFaultOfPieces}
 use Rattle.glm.proofs.UnderWay.{IsUnderWay, begun, fault_on_the_way, few_are_kept, front_written, last_written, none_are_kept, piece_written, row_served}
 use Rattle.glm.proofs.replaying_in_pieces.serve_rows.Goals as goal

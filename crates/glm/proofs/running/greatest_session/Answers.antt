@@ -1,6 +1,6 @@
 use Rattle.std.proofs.Common.{rules, subst, ◌≤◌, ◌+◌, ℕ, List, take, take_all}
 use Rattle.std.specs.List.{All}
-use Rattle.lock_trace.specs.declared.rows.TraceRow.{TraceRow}
+use Rattle.lock_trace.specs.declared.trace_row.TraceRow.{TraceRow}
 use Rattle.glm.proofs.AreRows.{rows_below, rows_within}
 use Rattle.glm.proofs.running.greatest_session.Goals as goal
 

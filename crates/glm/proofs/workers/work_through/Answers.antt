@@ -4,7 +4,7 @@ use Rattle.std.proofs.lemmas.Bool.{eq-eqb, ne_eqb}
 use Rattle.std.proofs.lemmas.List.{map-append}
 use Rattle.std.proofs.lemmas.List.Elements.{filter_more}
 use Rattle.lock_rules.specs.declared.calls.Call.{Call}
-use Rattle.lock_trace.specs.declared.rows.TraceRow.{TraceRow}
+use Rattle.lock_trace.specs.declared.trace_row.TraceRow.{TraceRow}
 use Rattle.glm.specs.Calls.{calls_of_rows}
 use Rattle.glm.specs.Workers.{Calls, TriedAtMost}
 use Rattle.glm.proofs.workers.work_through.Goals as goal

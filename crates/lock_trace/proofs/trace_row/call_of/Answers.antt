@@ -7,7 +7,7 @@ use Rattle.lock_rules.specs.declared.kinds.Op.{Op}
 use Rattle.lock_rules.specs.declared.kinds.Op.TheVariants as op
 use Rattle.lock_trace.specs.Fields.{resource_in}
 use Rattle.lock_trace.specs.Rows.{call_in}
-use Rattle.lock_trace.proofs.rows.call_of.Goals as goal
+use Rattle.lock_trace.proofs.trace_row.call_of.Goals as goal
 
 -- A release with an empty mode field is read as the release of its resource.
 without_mode : (o : Op) (r m : List ℕ) (x : Result (List ℕ) TraceKind) (resource : List ℕ) (none : Bool)

@@ -2,7 +2,7 @@ use Rattle.std.proofs.Common.{◌∙◌, ◌≡◌, Option, Some, None, refl, Li
 use Rattle.std.specs.Prelude.{IsSome, option_map}
 use Rattle.csv.specs.Records.{fields_of}
 use Rattle.lock_trace.proofs.RecordSteps.{some_field, field_is}
-use Rattle.lock_trace.proofs.row.field_at.Goals as goal
+use Rattle.lock_trace.proofs.record.field_at.Goals as goal
 
 -- An optional field whose value is some field is not `None`.
 is_there : (o : Option (Bor (List ℕ))) (f : List ℕ) → option_map (λ s. s.now) o ≡ Some f → IsSome o

@@ -1,7 +1,7 @@
 use Rattle.std.proofs.Common.{◌∙◌, rules}
 use Rattle.csv.specs.Records.{fields_of}
 use Rattle.lock_trace.proofs.RowLaws.{four}
-use Rattle.lock_trace.proofs.rows.TraceRowRow.in_record.Goals as goal
+use Rattle.lock_trace.proofs.trace_row.TraceRowRow.in_record.Goals as goal
 
 pub returns : goal.returns
 returns c =

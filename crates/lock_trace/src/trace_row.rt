@@ -5,7 +5,7 @@ ghost use Rattle.lock_trace.specs.Rows.{without_fields, resource_and_mode_in, ca
 
 use crate::faults::TraceKind;
 use crate::fields::{mode_of, op_of, resource_of, session_of};
-use crate::row::{Row, field_at};
+use crate::record::{Row, field_at};
 use csv::ByteRecord;
 use lock_modes::Mode;
 use lock_rules::{Call, Op};
