@@ -20,7 +20,7 @@ use Rattle.publication.specs.Views.{TicketView, entry}
 use Rattle.publication.specs.declared.slot.Load.{Load}
 use mathlib.Core.List.{IsPrefix}
 use Rattle.combining.specs.Ended.{EndedView, HasEndedIn, AreEndedBy, AreToldBy, IsOnce}
-use Rattle.combining.specs.inner.Told.{HasTold}
+use Rattle.combining.specs.inner.EndedList.{HasAddedEnded}
 use Rattle.combining.specs.inner.Passes.{IsBookInHand, HasMadePass, ended_behind}
 use Rattle.combining.proofs.PerformedCalls.{in-hand}
 
@@ -202,7 +202,7 @@ told-since n served before after told is u some h = told-within n before (drop (
 -- After one step, the list tells whose wait its entries have ended.
 pub step-told : (n served : ℕ) (before after : List Entry) (told : List ℕ) (old new : EndedView) → IsPrefix before after → length after ≡ length before + served
     → (0 < served → told ≡ ended_behind n before (drop (length before) after)) → new.room ≡ old.room
-    → ((u : ℕ) → Contains new.list u ↔ (Contains old.list u ⊎ ((0 < served) × Contains told u))) → (IsOnce old.list → IsOnce new.list) → HasTold n before after old new
+    → ((u : ℕ) → Contains new.list u ↔ (Contains old.list u ⊎ ((0 < served) × Contains told u))) → (IsOnce old.list → IsOnce new.list) → HasAddedEnded n before after old new
 step-told n served before after told old new longer count is room same once = record {
   room = room;
   listed = λ u. let t = told-of n served before (drop (length before) after) told gained is u in
@@ -234,7 +234,7 @@ since-either f g h u first later =
     )
 
 -- After two steps, it tells whose wait the entries of both have ended.
-pub steps-told : (n : ℕ) (f g h : List Entry) (old mid new : EndedView) → IsPrefix f g → IsPrefix g h → HasTold n f g old mid → HasTold n g h mid new → HasTold n f h old new
+pub steps-told : (n : ℕ) (f g h : List Entry) (old mid new : EndedView) → IsPrefix f g → IsPrefix g h → HasAddedEnded n f g old mid → HasAddedEnded n g h mid new → HasAddedEnded n f h old new
 steps-told n f g h old mid new first later one two = record {
   room = two.room ∙ one.room;
   listed = λ u. let e = since-either f g h u first later in (
@@ -251,7 +251,7 @@ steps-told n f g h old mid new first later one two = record {
 }
 
 -- After no step, it tells nobody more.
-pub none-told : (n : ℕ) (f g : List Entry) (old new : EndedView) → g ≡ f → new ≡ old → HasTold n f g old new
+pub none-told : (n : ℕ) (f g : List Entry) (old new : EndedView) → g ≡ f → new ≡ old → HasAddedEnded n f g old new
 none-told n f g old new same is = record {
   room = ap (λ (v : EndedView). v.room) is;
   listed = λ u. (
@@ -279,7 +279,7 @@ pub once-empty : (old : List ℕ) → old ≡ [] → IsOnce old
 once-empty old none = subst (λ (l : List ℕ). IsOnce l) (sym none) (λ j k lt few. absurd (omega (arith, few)))
 
 -- What the list tells after a pass with a call of one's own, if it was empty before.
-pub all-told : (n served : ℕ) (before after : List Entry) (old new : EndedView) → HasTold n before after old new → old.list ≡ [] → IsPrefix before after → length after ≡ length before + served
+pub all-told : (n served : ℕ) (before after : List Entry) (old new : EndedView) → HasAddedEnded n before after old new → old.list ≡ [] → IsPrefix before after → length after ≡ length before + served
     → AreToldBy n served after new.list
 all-told n served before after old new told none longer count = record {
   front = before;

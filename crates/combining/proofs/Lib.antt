@@ -10,7 +10,7 @@ pub mod NotedAges
 pub mod AnswerCount
 pub mod PendingSessions
 pub mod TakenPieces
-pub mod ToldList
+pub mod EndedList
 pub mod EndedWaits
 pub mod WakesTold
 pub mod OwnCalls

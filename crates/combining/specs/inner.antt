@@ -1,5 +1,5 @@
 pub mod Passes
 pub mod Ages
 pub mod OwnCalls
-pub mod Told
+pub mod EndedList
 pub mod Queries

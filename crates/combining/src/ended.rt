@@ -19,13 +19,13 @@ pub struct Ended {
 
 impl Model for Ended {
     ghost use Rattle.combining.specs.Ended.{EndedView};
-    ghost use Rattle.combining.specs.inner.Told.{told_view_of, IsToldList};
+    ghost use Rattle.combining.specs.inner.EndedList.{ended_view_of, IsEndedList};
 
     ghost Value = { EndedView };
 
-    ghost view = { told_view_of };
+    ghost view = { ended_view_of };
 
-    ghost invariant = { IsToldList };
+    ghost invariant = { IsEndedList };
 }
 
 impl Ended {

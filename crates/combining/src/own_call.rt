@@ -8,7 +8,7 @@ ghost use Rattle.publication.specs.Rule.{IsHome};
 ghost use Rattle.combining.specs.Sessions.{IsIdle, makes_room};
 ghost use Rattle.combining.specs.inner.Passes.{ended_behind};
 ghost use Rattle.combining.specs.inner.OwnCalls.{IsOwnEntered, IsPassWithOwn};
-ghost use Rattle.combining.specs.inner.Told.{HasTold};
+ghost use Rattle.combining.specs.inner.EndedList.{HasAddedEnded};
 
 use crate::ended::Ended;
 use crate::pass::{Pass, makes_room, serve_published};
@@ -139,7 +139,7 @@ fn perform_own_telling(
     ensures none { IfNone result (session.new ≡ session.old) }
     ensures home { IsHome session.new.front (board.now.sessions + 1) load.new × IsLegal session.new.front }
     ensures taken { load.new.pieces.items ≡ load.old.pieces.items }
-    ensures told { HasTold board.now.sessions session.old.front session.new.front ended.old ended.new }
+    ensures ended { HasAddedEnded board.now.sessions session.old.front session.new.front ended.old ended.new }
 {
     let answer = perform_own(board, session, load, call)?;
     ended.add_ended(&load.book, 1);
@@ -166,7 +166,7 @@ fn serve_published_telling(
     ensures served { length session.new.front ≡ length session.old.front + result.served }
     ensures heard { result.starved ≡ false → (j : _) → 0 < j → j ≤ board.now.sessions → heard_from session.old j ≤ length (calls_of j session.new.front) }
     ensures taken { load.new.pieces.items ≡ load.old.pieces.items }
-    ensures told { HasTold board.now.sessions session.old.front session.new.front ended.old ended.new }
+    ensures ended { HasAddedEnded board.now.sessions session.old.front session.new.front ended.old ended.new }
 {
     let pass = serve_published(board, session, load);
     ended.add_ended(&load.book, pass.served);
@@ -193,7 +193,7 @@ fn serve_own_first_telling(
     ensures heard { result.0.starved ≡ false → (j : _) → 0 < j → j ≤ board.now.sessions → heard_from session.old j ≤ length (calls_of j session.new.front) }
     ensures home { IsHome session.new.front (board.now.sessions + 1) load.new × IsLegal session.new.front }
     ensures taken { load.new.pieces.items ≡ load.old.pieces.items }
-    ensures told { HasTold board.now.sessions session.old.front session.new.front ended.old ended.new }
+    ensures ended { HasAddedEnded board.now.sessions session.old.front session.new.front ended.old ended.new }
 {
     let answer = perform_own_telling(board, session, load, call, ended);
     (serve_published_telling(board, session, load, ended), answer)
@@ -219,7 +219,7 @@ fn serve_own_last_telling(
     ensures heard { result.0.starved ≡ false → (j : _) → 0 < j → j ≤ board.now.sessions → heard_from session.old j ≤ length (calls_of j session.new.front) }
     ensures home { IsHome session.new.front (board.now.sessions + 1) load.new × IsLegal session.new.front }
     ensures taken { load.new.pieces.items ≡ load.old.pieces.items }
-    ensures told { HasTold board.now.sessions session.old.front session.new.front ended.old ended.new }
+    ensures ended { HasAddedEnded board.now.sessions session.old.front session.new.front ended.old ended.new }
 {
     let pass = serve_published_telling(board, session, load, ended);
     let answer = perform_own_telling(board, session, load, call, ended);
@@ -246,7 +246,7 @@ pub(crate) fn serve_with_own_telling(
     ensures heard { result.0.starved ≡ false → (j : _) → 0 < j → j ≤ board.now.sessions → heard_from session.old j ≤ length (calls_of j session.new.front) }
     ensures home { IsHome session.new.front (board.now.sessions + 1) load.new × IsLegal session.new.front }
     ensures taken { load.new.pieces.items ≡ load.old.pieces.items }
-    ensures told { HasTold board.now.sessions session.old.front session.new.front ended.old ended.new }
+    ensures ended { HasAddedEnded board.now.sessions session.old.front session.new.front ended.old ended.new }
 {
     if makes_room(&call) {
         serve_own_first_telling(board, session, load, call, ended)

@@ -16,8 +16,8 @@ add_ended-requires c =
           let few = k.1 in (k.0, omega (arith, few, c.requires.room));
     }
 
-pub returns-clause-told : goal.returns-clause-told
-returns-clause-told c =
+pub returns-clause-ended : goal.returns-clause-ended
+returns-clause-ended c =
     let t = c.args.session.now in
     let u = c.perform_own.new.session in
     let own = c.in_ok-answer.ensures.some in

@@ -11,10 +11,10 @@ returns-clause-heard c unstarved j some few =
     let grows = entered-longer pass.new.session own.new.session c.args.call own.result own.ensures.some own.ensures.none in
     omega (arith, pass.ensures.heard unstarved j some few, calls-fewer j pass.new.session.front own.new.session.front grows)
 
-pub returns-clause-told : goal.returns-clause-told
-returns-clause-told c =
+pub returns-clause-ended : goal.returns-clause-ended
+returns-clause-ended c =
     let before = c.args.session.now in
     let own = c.perform_own_telling-answer in
     let pass = c.serve_published_telling-pass in
     steps-told c.args.board.now.sessions before.front pass.new.session.front own.new.session.front c.args.ended.now pass.new.ended own.new.ended
-    pass.ensures.longer (entered-longer pass.new.session own.new.session c.args.call own.result own.ensures.some own.ensures.none) pass.ensures.told own.ensures.told
+    pass.ensures.longer (entered-longer pass.new.session own.new.session c.args.call own.result own.ensures.some own.ensures.none) pass.ensures.ended own.ensures.ended

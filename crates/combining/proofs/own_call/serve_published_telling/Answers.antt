@@ -11,8 +11,8 @@ add_ended-requires c =
           let few = k.1 in (k.0, omega (arith, few, c.requires.room));
     }
 
-pub returns-clause-told : goal.returns-clause-told
-returns-clause-told c =
+pub returns-clause-ended : goal.returns-clause-ended
+returns-clause-ended c =
     let pass = c.serve_published-pass in
     step-told c.args.board.now.sessions pass.result.served c.args.session.now.front pass.new.session.front pass.new.load.book.ended c.args.ended.now c.add_ended.new.self
     pass.ensures.longer pass.ensures.served pass.ensures.ended c.add_ended.ensures.room c.add_ended.ensures.listed c.add_ended.ensures.once

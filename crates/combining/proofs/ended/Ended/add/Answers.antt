@@ -2,7 +2,7 @@ use Rattle.std.proofs.Common.{rules, ◌≡◌, ◌↔◌, ◌⊎◌, ◌≤◌,
 use Rattle.std.specs.List.{Contains}
 use Rattle.std.proofs.lemmas.List.{length-set, get_or_default}
 use Rattle.combining.specs.Ended.{EndedView}
-use Rattle.combining.proofs.ToldList.{AreMarked, few-marked, marked-pushed, push-listed}
+use Rattle.combining.proofs.EndedList.{AreMarked, few-marked, marked-pushed, push-listed}
 use Rattle.combining.proofs.ended.Ended.add.Goals as goal
 
 pub unreachable-requires : goal.unreachable-requires

@@ -1,7 +1,7 @@
 use Rattle.std.proofs.Common.{◌↔◌, ◌⊎◌, ◌∙◌, List, ℕ, subst}
 use Rattle.std.specs.List.{Contains}
 use Rattle.std.proofs.lemmas.List.{take_all}
-use Rattle.combining.proofs.ToldList.{added-next}
+use Rattle.combining.proofs.EndedList.{added-next}
 use Rattle.combining.proofs.ended.Ended.add_all.Goals as goal
 
 pub loop-session-preserved : goal.loop-session-preserved

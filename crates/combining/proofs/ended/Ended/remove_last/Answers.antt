@@ -2,7 +2,7 @@ use Rattle.std.proofs.Common.{◌≡◌, ◌-◌, ◌∷◌, ◌++◌, [], false
 use Rattle.std.proofs.lemmas.List.{length-set}
 use Rattle.std.proofs.lemmas.List.Elements.{Contains-push}
 use Rattle.std.specs.List.{Contains}
-use Rattle.combining.proofs.ToldList.{AreMarked, marked-popped}
+use Rattle.combining.proofs.EndedList.{AreMarked, marked-popped}
 use Rattle.combining.proofs.ended.Ended.remove_last.Goals as goal
 
 pub overflow_sub-from : goal.overflow_sub-from

@@ -1,6 +1,6 @@
 use Rattle.std.proofs.Common.{rules, ◌≡◌, List, ℕ, length, ap, arith}
 use Rattle.combining.specs.Ended.{EndedView}
-use Rattle.combining.proofs.ToldList.{few-marked}
+use Rattle.combining.proofs.EndedList.{few-marked}
 use Rattle.combining.proofs.ended.Ended.sessions.Goals as goal
 
 pub returns-clause-few : goal.returns-clause-few

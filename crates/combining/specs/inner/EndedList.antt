@@ -5,11 +5,11 @@ use Rattle.combining.specs.Ended.{EndedView, HasEndedIn, IsOnce}
 use Rattle.combining.specs.declared.ended.Ended.TheInside.{Inside}
 
 -- What contracts see of the list.
-abbrev pub told_view_of : Inside → EndedView
-told_view_of a = record { room = length a.is_in.items; list = a.list.items }
+abbrev pub ended_view_of : Inside → EndedView
+ended_view_of a = record { room = length a.is_in.items; list = a.list.items }
 
 -- Each session of the list is marked as one of it, and no other session is. There is room for all.
-pub record IsToldList (a : Inside) : Type 0 where
+pub record IsEndedList (a : Inside) : Type 0 where
   pub room : length a.is_in.items ≤ vec_capacity a.list
   pub once : IsOnce a.list.items
   pub listed : (u : ℕ) → Contains a.list.items u ↔ ((1 ≤ u) × (u ≤ length a.is_in.items) × (slice_index_or a.is_in.items (u - 1) false ≡ true))
@@ -20,7 +20,7 @@ IsEndedSince n before after u = (1 ≤ u) × (u ≤ n) × HasEndedIn before (dro
 
 -- Exactly the sessions were added to the list whose wait was ended by an entry that the known history has gained, each if it
 -- wasn't in it.
-pub record HasTold (n : ℕ) (before after : List Entry) (old new : EndedView) : Type 0 where
+pub record HasAddedEnded (n : ℕ) (before after : List Entry) (old new : EndedView) : Type 0 where
   pub room : new.room ≡ old.room
   pub listed : (u : ℕ) → Contains new.list u ↔ (Contains old.list u ⊎ IsEndedSince n before after u)
   pub once : IsOnce old.list → IsOnce new.list
