@@ -41,19 +41,19 @@ abbrev pub edge_of_blocker : ℕ → Blocker → List ℕ
 edge_of_blocker s b = edge_with s b.party.session (codes ";\n")
 
 -- the edge of a wait of one session on a cycle for another
-abbrev pub edge_of_circle : Edge → List ℕ
-edge_of_circle w = edge_with w.session w.other (codes " [color=red];\n")
+abbrev pub edge_of_cycle : Edge → List ℕ
+edge_of_cycle w = edge_with w.session w.other (codes " [color=red];\n")
 
 -- the nodes: the session that waits, those that it waits for, those on a cycle, and the victims
 abbrev pub nodes_of_wait : Wait → List Party → List ℕ
 nodes_of_wait w victims =
     node_of_request w.request ++ flat_map node_of_blocker w.blockers.items
-    ++ flat_map node_of_member w.circle.items ++ flat_map node_of_victim victims
+    ++ flat_map node_of_member w.cycle.items ++ flat_map node_of_victim victims
 
 -- the edges: from the session that waits to those that it waits for, and the waits on a cycle
 abbrev pub edges_of_wait : Wait → List ℕ
 edges_of_wait w =
-    flat_map (edge_of_blocker w.request.session) w.blockers.items ++ flat_map edge_of_circle w.edges.items
+    flat_map (edge_of_blocker w.request.session) w.blockers.items ++ flat_map edge_of_cycle w.edges.items
 
 -- a graph with this place of the history in its name, with these nodes and these edges
 abbrev pub graph_with : ℕ → List ℕ → List ℕ → List ℕ

@@ -110,7 +110,7 @@ row_of_edge place w =
 abbrev pub rows_of_wait : ℕ → Wait → List ℕ
 rows_of_wait place w =
     row_of_request place w.request ++ flat_map (rows_of_blocker place w.request) w.blockers.items
-    ++ flat_map (row_of_member place) w.circle.items ++ flat_map (row_of_edge place) w.edges.items
+    ++ flat_map (row_of_member place) w.cycle.items ++ flat_map (row_of_edge place) w.edges.items
 
 -- the rows of the wait, nothing for None
 abbrev pub wait_rows : ℕ → Option Wait → List ℕ

@@ -148,15 +148,15 @@ abbrev pub lines_of_edges : List Edge → List ℕ
 lines_of_edges edges = codes "  where\n" ++ flat_map line_of_edge edges
 
 -- the lines of the cycles that the request closed, nothing if it closed none
-abbrev pub lines_of_circle : List Party → List Edge → List ℕ
-lines_of_circle [] edges = []
-lines_of_circle (p ∷ ps) edges = lines_of_members (p ∷ ps) ++ lines_of_edges edges
+abbrev pub lines_of_cycle : List Party → List Edge → List ℕ
+lines_of_cycle [] edges = []
+lines_of_cycle (p ∷ ps) edges = lines_of_members (p ∷ ps) ++ lines_of_edges edges
 
 -- the lines of a wait: the request, the sessions that it waits for, and the cycles that it closed
 abbrev pub lines_of_wait : Wait → List ℕ
 lines_of_wait w =
     line_of_request (codes "  begins to wait ") w.request ++ flat_map (line_of_blocker (codes "    waits for ")) w.blockers.items
-    ++ lines_of_circle w.circle.items w.edges.items
+    ++ lines_of_cycle w.cycle.items w.edges.items
 
 -- the lines of the wait, nothing for None
 abbrev pub wait_part : Option Wait → List ℕ

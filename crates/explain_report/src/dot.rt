@@ -2,7 +2,7 @@
 
 ghost use Rattle.std.specs.Prelude.{◌≡◌, ◌++◌, IfOk, OnOk, string_bytes};
 ghost use Rattle.std.specs.List.{flat_map};
-ghost use Rattle.explain_report.specs.ExplanationDot.{start_of_node, node_of_request, node_of_blocker, node_of_member, node_of_victim, edge_with, edge_of_blocker, edge_of_circle, nodes_of_wait, edges_of_wait, graph_of_wait, graph_part, nodes_of_asked, graph_of_asked, graph_if_asked, graph_of_refusal, dot_of_explanation};
+ghost use Rattle.explain_report.specs.ExplanationDot.{start_of_node, node_of_request, node_of_blocker, node_of_member, node_of_victim, edge_with, edge_of_blocker, edge_of_cycle, nodes_of_wait, edges_of_wait, graph_of_wait, graph_part, nodes_of_asked, graph_of_asked, graph_if_asked, graph_of_refusal, dot_of_explanation};
 
 use crate::words::put_words;
 use lock_explain::{Blocker, Edge, Explanation, Party, Refusal, Wait};
@@ -114,18 +114,18 @@ fn put_edges_of_blockers(
 }
 
 /// Writes the edge of a wait of one session on a cycle for another.
-fn put_edge_of_circle(out: &mut String, edge: &Edge) -> Result<(), NoMemory>
-    ensures { OnOk result (string_bytes out.new ≡ string_bytes out.old ++ edge_of_circle edge.now) }
+fn put_edge_of_cycle(out: &mut String, edge: &Edge) -> Result<(), NoMemory>
+    ensures { OnOk result (string_bytes out.new ≡ string_bytes out.old ++ edge_of_cycle edge.now) }
 {
     put_edge_with(out, edge.session, edge.other, " [color=red];\n")
 }
 
 /// Writes the edges of the waits on a cycle.
-fn put_edges_of_circle(out: &mut String, edges: &[Edge]) -> Result<(), NoMemory>
-    ensures { OnOk result (string_bytes out.new ≡ string_bytes out.old ++ flat_map edge_of_circle edges.now) }
+fn put_edges_of_cycle(out: &mut String, edges: &[Edge]) -> Result<(), NoMemory>
+    ensures { OnOk result (string_bytes out.new ≡ string_bytes out.old ++ flat_map edge_of_cycle edges.now) }
 {
     for edge in edges {
-        put_edge_of_circle(out, edge)?;
+        put_edge_of_cycle(out, edge)?;
     }
     Ok(())
 }
@@ -136,7 +136,7 @@ fn put_nodes(out: &mut String, wait: &Wait, victims: &[Party]) -> Result<(), NoM
 {
     put_node_of_request(out, &wait.request)?;
     put_nodes_of_blockers(out, &wait.blockers)?;
-    put_nodes_of_members(out, &wait.circle)?;
+    put_nodes_of_members(out, &wait.cycle)?;
     put_nodes_of_victims(out, victims)
 }
 
@@ -145,7 +145,7 @@ fn put_edges(out: &mut String, wait: &Wait) -> Result<(), NoMemory>
     ensures { OnOk result (string_bytes out.new ≡ string_bytes out.old ++ edges_of_wait wait.now) }
 {
     put_edges_of_blockers(out, wait.request.session, &wait.blockers)?;
-    put_edges_of_circle(out, &wait.edges)
+    put_edges_of_cycle(out, &wait.edges)
 }
 
 /// Writes the graph of a request that began to wait.

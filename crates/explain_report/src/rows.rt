@@ -272,7 +272,7 @@ fn put_wait(out: &mut String, place: u64, wait: &Wait) -> Result<(), NoMemory>
 {
     put_request(out, place, &wait.request)?;
     put_blockers(out, place, &wait.request, &wait.blockers)?;
-    put_members(out, place, &wait.circle)?;
+    put_members(out, place, &wait.cycle)?;
     put_edges(out, place, &wait.edges)
 }
 

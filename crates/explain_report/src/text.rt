@@ -3,7 +3,7 @@
 ghost use Rattle.std.specs.Prelude.{◌≡◌, ◌++◌, IfOk, OnOk, string_bytes};
 ghost use Rattle.std.specs.List.{flat_map};
 ghost use Rattle.lock_modes.specs.Codes.{name_of};
-ghost use Rattle.explain_report.specs.ExplanationText.{has_nothing_to_tell, words_of_why, line_of_why, words_of_parent_held, line_of_parent, lines_of_missed, line_of_lock_below, lines_of_refusal, refusal_part, lines_of_asked, lines_if_asked, line_of_member, line_of_edge, lines_of_members, words_of_edge, lines_of_edges, lines_of_circle, lines_of_wait, wait_part, line_of_victim, words_of_owned, line_of_granted, own_part, lines_of_explanation, text_of_explanation};
+ghost use Rattle.explain_report.specs.ExplanationText.{has_nothing_to_tell, words_of_why, line_of_why, words_of_parent_held, line_of_parent, lines_of_missed, line_of_lock_below, lines_of_refusal, refusal_part, lines_of_asked, lines_if_asked, line_of_member, line_of_edge, lines_of_members, words_of_edge, lines_of_edges, lines_of_cycle, lines_of_wait, wait_part, line_of_victim, words_of_owned, line_of_granted, own_part, lines_of_explanation, text_of_explanation};
 
 use crate::request_text::{
     put_blockers, put_line_of_request, put_party, put_request, put_words_and_mode,
@@ -210,8 +210,8 @@ fn put_edges_part(out: &mut String, edges: &[Edge]) -> Result<(), NoMemory>
 }
 
 /// Writes the lines of the cycles that the request closed, nothing if it closed none.
-fn put_circle(out: &mut String, members: &[Party], edges: &[Edge]) -> Result<(), NoMemory>
-    ensures { OnOk result (string_bytes out.new ≡ string_bytes out.old ++ lines_of_circle members.now edges.now) }
+fn put_cycle(out: &mut String, members: &[Party], edges: &[Edge]) -> Result<(), NoMemory>
+    ensures { OnOk result (string_bytes out.new ≡ string_bytes out.old ++ lines_of_cycle members.now edges.now) }
 {
     if members.is_empty() {
         return Ok(());
@@ -226,7 +226,7 @@ fn put_wait(out: &mut String, wait: &Wait) -> Result<(), NoMemory>
 {
     put_line_of_request(out, "  begins to wait ", &wait.request)?;
     put_blockers(out, "    waits for ", &wait.blockers)?;
-    put_circle(out, &wait.circle, &wait.edges)
+    put_cycle(out, &wait.cycle, &wait.edges)
 }
 
 /// Writes the lines of the wait, nothing for `None`.

@@ -11,7 +11,7 @@ use Rattle.lock_rules.specs.Effects.{IsAmong}
 use Rattle.lock_rules.specs.Sound.{IsNumbered}
 use Rattle.lock_rules.proofs.Owners.{victim-numbered}
 use Rattle.lock_rules.proofs.Victims.{on_circle-open}
-use Rattle.lock_explain.proofs.KeptCircles.{cancelled-circle}
+use Rattle.lock_explain.proofs.KeptCycles.{cancelled-cycle}
 
 -- lists that fall
 
@@ -68,7 +68,7 @@ victim-number v st u = elim (cases_Bool (eqb u v)) [
 victims-on : (s : ℕ) (vs : List ℕ) (st last : State) → AreVictims s vs st last → (u : ℕ) → IsAmong u vs → AreOnCircle (waits_for st.table) s u
 victims-on s [] st last a u i = absurd i
 victims-on s (v ∷ vs) st last a u (inl e) = rw e a.0.on_circle
-victims-on s (v ∷ vs) st last a u (inr i) = (cancelled-circle v st.table s u (victims-on s vs (after_victim v st) last a.1 u i)).0
+victims-on s (v ∷ vs) st last a u (inr i) = (cancelled-cycle v st.table s u (victims-on s vs (after_victim v st) last a.1 u i)).0
 
 -- a lower or equal number of another session is lower
 lower : (st : State) → IsNumbered st → (u v : ℕ) → is_open st u ≡ true → is_open st v ≡ true → eqb u v ≡ false → number_of st u ≤ number_of st v → number_of st u < number_of st v
@@ -81,7 +81,7 @@ lower st i u v o p n le = elim (cases_Bool (eqb (number_of st u) (number_of st v
 pub victims-fall : (s : ℕ) (vs : List ℕ) (st last : State) → IsNumbered st → AreVictims s vs st last → IsFalling (number_of st) vs
 victims-fall s [] st last i a = tt
 victims-fall s (v ∷ vs) st last i a = (
-  λ u k. (let c = cancelled-circle v st.table s u (victims-on s vs (after_victim v st) last a.1 u k) in lower st i u v (on_circle-open st s u i c.0) (on_circle-open st s v i a.0.on_circle) c.1 (a.0.youngest u c.0)),
+  λ u k. (let c = cancelled-cycle v st.table s u (victims-on s vs (after_victim v st) last a.1 u k) in lower st i u v (on_circle-open st s u i c.0) (on_circle-open st s v i a.0.on_circle) c.1 (a.0.youngest u c.0)),
   falling-alike (number_of (after_victim v st)) (number_of st) vs (victim-number v st) (victims-fall s vs (after_victim v st) last (victim-numbered v st i) a.1),
 )
 

@@ -4,12 +4,12 @@ pub mod Parents
 pub mod WaitingGraph
 pub mod SessionsOfAHistory
 pub mod GraphRows
-pub mod OnCircle
+pub mod OnCycle
 pub mod NewVictims
 pub mod OpenWithin
 pub mod Beginnings
 pub mod BegunWaits
 pub mod ServedCalls
-pub mod KeptCircles
+pub mod KeptCycles
 pub mod FallingVictims
 pub mod ChosenVictims

@@ -12,7 +12,7 @@ use Rattle.lock_explain.specs.declared.explanation.Wait.{Wait}
 use Rattle.lock_explain.specs.declared.explanation.Explanation.{Explanation}
 use Rattle.lock_explain.specs.Refused.{IsRefusalOf}
 use Rattle.lock_explain.specs.Waiting.{BeginsToWait, waiting_state, blockers_of}
-use Rattle.lock_explain.specs.Circles.{circle_of, edges_of}
+use Rattle.lock_explain.specs.Cycles.{cycle_of, edges_of}
 use Rattle.lock_explain.specs.Endings.{AreNewVictims, granted_requests}
 
 -- with sessions 1 to n, the request with which the call of session s begins to wait, what it waits for, and the cycles that it closes
@@ -21,7 +21,7 @@ pub record IsWaitOfCall (n : ℕ) (st : State) (s : ℕ) (call : Call) (w : Wait
   pub begins : BeginsToWait st s call request
   pub told : w.request ≡ listed_as st (kind_of_request st request) request
   pub blockers : w.blockers.items ≡ blockers_of n (waiting_state st request) request
-  pub circle : w.circle.items ≡ circle_of n (waiting_state st request) s
+  pub cycle : w.cycle.items ≡ cycle_of n (waiting_state st request) s
   pub edges : w.edges.items ≡ edges_of n (waiting_state st request) s
   -- after the call the session neither waits nor is a victim
   pub granted : w.granted ≡ (not (is_waiting (step st s call).state s) && not (is_doomed (step st s call).state s))

@@ -1,7 +1,7 @@
 -- What public contracts speak of.
 pub mod Waiting
 pub mod Refused
-pub mod Circles
+pub mod Cycles
 pub mod Endings
 pub mod Explanations
 -- What only private contracts speak of.

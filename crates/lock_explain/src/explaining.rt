@@ -7,7 +7,7 @@ ghost use Rattle.lock_rules.specs.Effects.{IsNotRefused};
 ghost use Rattle.lock_rules.specs.Legal.{state_of};
 ghost use Rattle.lock_rules.specs.Step.{step};
 ghost use Rattle.lock_desk.specs.BookView.{IsEntryWithin};
-ghost use Rattle.lock_explain.specs.Circles.{circle_of, edges_of};
+ghost use Rattle.lock_explain.specs.Cycles.{cycle_of, edges_of};
 ghost use Rattle.lock_explain.specs.Endings.{AreNewVictims};
 ghost use Rattle.lock_explain.specs.Explanations.{IsExplanation, IsWaitOfCall, is_eventful};
 ghost use Rattle.lock_explain.specs.Refused.{IsRefusalOf};
@@ -16,7 +16,7 @@ ghost use Rattle.lock_explain.specs.inner.Asked.{IsAskedIn, claim_of};
 ghost use Rattle.lock_explain.specs.inner.Served.{IsServed};
 
 use crate::asked::{Asked, asked_by, request_line};
-use crate::circles::{Circle, circle_of};
+use crate::cycles::{Cycle, cycle_of};
 use crate::endings::{granted_requests, is_doomed, new_victims};
 use crate::explanation::{Explanation, Party, Refusal, Wait};
 use crate::refusal::refusal_of;
@@ -77,28 +77,28 @@ fn is_clear(after: &Book, session: u16) -> bool
 
 /// The cycles that the request of the call closed, none if the call made no victim. Fails if memory is refused.
 // A request that closes a cycle makes a victim, so the waits-for graph is looked at only then.
-fn circle_closed(
+fn cycle_closed(
     alloc: Global,
     before: &Book,
     entry: &Entry,
     asked: &Asked,
     victims: &[Party],
-) -> Result<Circle, NoMemory>
+) -> Result<Cycle, NoMemory>
     requires served { IsServed before.now.sessions before.now.history entry.now (step (state_of before.now.history) entry.now.session entry.now.call).state }
     requires own { asked.now.session ≡ entry.now.session }
     requires asked { IsAskedIn before.now.sessions (state_of before.now.history) asked.now }
     requires begins { BeginsToWait (state_of before.now.history) entry.now.session entry.now.call (claim_of asked.now) }
     requires victims { AreNewVictims before.now.sessions (state_of before.now.history) (step (state_of before.now.history) entry.now.session entry.now.call).state victims.now }
-    ensures members { IfOk result (λ circle. circle.members.items ≡ circle_of before.now.sessions (waiting_state (state_of before.now.history) (claim_of asked.now)) asked.now.session) }
-    ensures edges { IfOk result (λ circle. circle.edges.items ≡ edges_of before.now.sessions (waiting_state (state_of before.now.history) (claim_of asked.now)) asked.now.session) }
+    ensures members { IfOk result (λ cycle. cycle.members.items ≡ cycle_of before.now.sessions (waiting_state (state_of before.now.history) (claim_of asked.now)) asked.now.session) }
+    ensures edges { IfOk result (λ cycle. cycle.edges.items ≡ edges_of before.now.sessions (waiting_state (state_of before.now.history) (claim_of asked.now)) asked.now.session) }
 {
     if victims.is_empty() {
-        return Ok(Circle {
+        return Ok(Cycle {
             members: Vec::new(alloc),
             edges: Vec::new(alloc),
         });
     }
-    circle_of(alloc, before, *asked)
+    cycle_of(alloc, before, *asked)
 }
 
 /// What the request of the call waits for, once it has begun to wait. Fails if memory is refused.
@@ -118,12 +118,12 @@ fn wait_of(
     ensures { IfOk result (IsWaitOfCall before.now.sessions (state_of before.now.history) entry.now.session entry.now.call) }
 {
     let blockers = blockers_of(alloc, before, *asked)?;
-    let circle = circle_closed(alloc, before, entry, asked, victims)?;
+    let cycle = cycle_closed(alloc, before, entry, asked, victims)?;
     Ok(Wait {
         request: request_line(before, asked),
         blockers,
-        circle: circle.members,
-        edges: circle.edges,
+        cycle: cycle.members,
+        edges: cycle.edges,
         granted: is_clear(after, asked.session),
     })
 }

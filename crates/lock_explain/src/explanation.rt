@@ -67,7 +67,7 @@ pub struct Wait {
     /// The sessions that it waits for, by session number.
     pub blockers: Vec<Blocker>,
     /// The sessions on a cycle with the caller, by session number: none if the request closed no cycle.
-    pub circle: Vec<Party>,
+    pub cycle: Vec<Party>,
     /// The waits of these sessions for one another, by session number.
     pub edges: Vec<Edge>,
     /// Whether the call granted the request after all, since victims made room.

@@ -11,7 +11,7 @@ ghost use Rattle.lock_rules.specs.Laws.{AreVictims};
 ghost use Rattle.lock_rules.specs.Step.{step};
 ghost use Rattle.waits_for.specs.Walks.{AreOnCircle};
 ghost use Rattle.lock_desk.specs.BookView.{IsEntryWithin};
-ghost use Rattle.lock_explain.specs.Circles.{is_on_circle};
+ghost use Rattle.lock_explain.specs.Cycles.{is_on_cycle};
 ghost use Rattle.lock_explain.specs.Endings.{AreNewVictims};
 ghost use Rattle.lock_explain.specs.Waiting.{BeginsToWait, waiting_state};
 ghost use Rattle.lock_explain.specs.declared.explanation.Party.{Party as PartyValue};
@@ -27,6 +27,6 @@ pub fn victims_are_chosen_youngest_first()
 {}
 
 /// The sessions on a cycle with a session are those that a walk of the waits-for graph leads to and back.
-pub fn circles_are_closed_walks()
-    ensures { (st : State) (session other : ℕ) → (is_on_circle st session other ≡ true) ↔ AreOnCircle (waits_for st.table) session other }
+pub fn cycles_are_closed_walks()
+    ensures { (st : State) (session other : ℕ) → (is_on_cycle st session other ≡ true) ↔ AreOnCircle (waits_for st.table) session other }
 {}

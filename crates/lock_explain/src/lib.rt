@@ -2,7 +2,7 @@
 //! the cycles that the request closed, the victims, and the requests of others that were granted.
 //!
 //! `explanation.rt` has the types, `explaining.rt` the call that makes an explanation. `asked.rt` finds the request
-//! that a call makes, `refusal.rt`, `waiting.rt`, `circles.rt` and `endings.rt` have the parts of an explanation, and
+//! that a call makes, `refusal.rt`, `waiting.rt`, `cycles.rt` and `endings.rt` have the parts of an explanation, and
 //! `laws.rt` says what the definitions mean.
 //!
 //! [`explain`] compares two books, one before the call and one after it. Refusal and blockers are found in the book
@@ -13,7 +13,7 @@
 #![tactic(auto)]
 
 mod asked;
-mod circles;
+mod cycles;
 mod endings;
 mod explaining;
 mod explanation;
