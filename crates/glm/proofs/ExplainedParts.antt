@@ -11,7 +11,7 @@ use Rattle.lock_rules.specs.Step.{step}
 use Rattle.lock_explain.specs.Explanations.{is_eventful}
 use Rattle.lock_trace.specs.Entries.{IsEntry}
 use Rattle.lock_trace.specs.ReadHistories.{history_of}
-use Rattle.glm.specs.Explaining.{AreAccounts, Explains, HasExplainedPart, IsAccount, IsAccountIfTold, IsExplained, IsTextExplained, is_told}
+use Rattle.glm.specs.Explaining.{AreAccounts, Explains, HasExplainedPart, IsAccount, IsAccountIfEventful, IsExplained, IsTextExplained, is_entry_eventful}
 use Rattle.glm.specs.Verdicts.{text_of_verdict}
 use Rattle.glm.specs.Written.{AppendsPart}
 use Rattle.glm.proofs.IsVerdict.{one_more}
@@ -33,7 +33,7 @@ explain_part_known form n asked bytes history found text old new read is part = 
 
 -- the text is the account of the entry behind these entries, if that is told
 abbrev pub IsToldBehind : Form → ℕ → List Entry → Entry → List ℕ → Type 0
-IsToldBehind form n front e added = IsAccountIfTold (is_told n front e) form n front e added
+IsToldBehind form n front e added = IsAccountIfEventful (is_entry_eventful n front e) form n front e added
 
 -- the accounts of one entry more, which follows the others
 pub accounts_grow : (form : Form) (n : ℕ) (front es : List Entry) (e : Entry) (text added : List ℕ) → AreAccounts form n front es text
@@ -80,17 +80,17 @@ eventful_alike call reply (u ∷ us) (v ∷ vs) same = ended_tells call reply u 
 -- an entry is told by what a book lists of the waits that it ended
 pub told_as_listed : (n : ℕ) (front : List Entry) (e : Entry) (listed ended : List ℕ)
     → ended ≡ ended_waits n e.session (state_of front) (step (state_of front) e.session e.call).state
-    → ((u : ℕ) → Contains listed u ↔ Contains ended u) → is_eventful e.call e.reply listed ≡ is_told n front e
+    → ((u : ℕ) → Contains listed u ↔ Contains ended u) → is_eventful e.call e.reply listed ≡ is_entry_eventful n front e
 told_as_listed n front e listed ended is same = eventful_alike e.call e.reply listed ended same ∙ ap (is_eventful e.call e.reply) is
 
 -- the account of an entry that is told
-pub account_told : (form : Form) (n : ℕ) (front : List Entry) (e : Entry) (account : List ℕ) → is_told n front e ≡ true
+pub account_told : (form : Form) (n : ℕ) (front : List Entry) (e : Entry) (account : List ℕ) → is_entry_eventful n front e ≡ true
     → IsAccount form n front e account → IsToldBehind form n front e account
-account_told form n front e account told is = subst (λ (b : Bool). IsAccountIfTold b form n front e account) (sym told) is
+account_told form n front e account told is = subst (λ (b : Bool). IsAccountIfEventful b form n front e account) (sym told) is
 
 -- nothing is written of an entry that isn't told
-pub nothing_told : (form : Form) (n : ℕ) (front : List Entry) (e : Entry) → is_told n front e ≡ false → IsToldBehind form n front e []
-nothing_told form n front e untold = subst (λ (b : Bool). IsAccountIfTold b form n front e []) (sym untold) refl
+pub nothing_told : (form : Form) (n : ℕ) (front : List Entry) (e : Entry) → is_entry_eventful n front e ≡ false → IsToldBehind form n front e []
+nothing_told form n front e untold = subst (λ (b : Bool). IsAccountIfEventful b form n front e []) (sym untold) refl
 
 -- the waits that a call ended, in the same history of the same sessions
 pub ended_alike : (n m : ℕ) (front back : List Entry) (e : Entry) → n ≡ m → front ≡ back

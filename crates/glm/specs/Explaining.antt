@@ -34,19 +34,19 @@ IsAccount form n front e text =
     (x : Explanation) × IsExplanation n (state_of front) e.session e.call x × (text ≡ account_in form (length front) e x)
 
 -- with sessions 1 to n, the entry behind these entries was refused, its request waited, or it ended the wait of another session
-abbrev pub is_told : ℕ → List Entry → Entry → Bool
-is_told n front e = is_eventful e.call e.reply (ended_waits n e.session (state_of front) (step (state_of front) e.session e.call).state)
+abbrev pub is_entry_eventful : ℕ → List Entry → Entry → Bool
+is_entry_eventful n front e = is_eventful e.call e.reply (ended_waits n e.session (state_of front) (step (state_of front) e.session e.call).state)
 
--- the text is the account of the entry if that is told, and empty if it isn't
-abbrev pub IsAccountIfTold : Bool → Form → ℕ → List Entry → Entry → List ℕ → Type 0
-IsAccountIfTold true form n front e text = IsAccount form n front e text
-IsAccountIfTold false form n front e text = text ≡ []
+-- the text is the account of the entry if its call is eventful, and else empty
+abbrev pub IsAccountIfEventful : Bool → Form → ℕ → List Entry → Entry → List ℕ → Type 0
+IsAccountIfEventful true form n front e text = IsAccount form n front e text
+IsAccountIfEventful false form n front e text = text ≡ []
 
--- the text is the accounts of these entries that are told, one after another; the first of them is behind `front`
+-- the text is the accounts of the eventful ones of these entries, one after another; the first of them is behind `front`
 abbrev pub AreAccounts : Form → ℕ → List Entry → List Entry → List ℕ → Type 0
 AreAccounts form n front [] text = text ≡ []
 AreAccounts form n front (e ∷ es) text = (first rest : List ℕ)
-    × (IsAccountIfTold (is_told n front e) form n front e first × AreAccounts form n (front ++ e ∷ []) es rest × (text ≡ first ++ rest))
+    × (IsAccountIfEventful (is_entry_eventful n front e) form n front e first × AreAccounts form n (front ++ e ∷ []) es rest × (text ≡ first ++ rest))
 
 -- the history has an entry at the place, if one was asked for
 abbrev pub HasPlace : Option ℕ → List Entry → Type 0
@@ -54,7 +54,7 @@ HasPlace None history = Unit {0}
 HasPlace (Some place) history = place < length history
 
 -- the text is what is written of a legal history: the account of the entry at the place that was asked for, or else those of all
--- entries that are told
+-- eventful entries
 abbrev pub IsToldOf : Form → ℕ → Option ℕ → List Entry → List ℕ → Type 0
 IsToldOf form n None history text = AreAccounts form n [] history text
 IsToldOf form n (Some place) history text = (e : Entry) × (slice_get history place ≡ Some e) × IsAccount form n (take place history) e text

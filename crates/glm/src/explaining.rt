@@ -7,7 +7,7 @@ ghost use Rattle.lock_rules.specs.Ended.{ended_waits};
 ghost use Rattle.lock_rules.specs.Legal.{IsLegal, state_of};
 ghost use Rattle.lock_rules.specs.Step.{step};
 ghost use Rattle.lock_trace.specs.Entries.{IsEntry};
-ghost use Rattle.glm.specs.Explaining.{AreAccounts, Explains, HasExplained, HasExplainedPart, HasPlace, IsAccount, IsAccountIfTold, IsTextExplained, account_in, is_told};
+ghost use Rattle.glm.specs.Explaining.{AreAccounts, Explains, HasExplained, HasExplainedPart, HasPlace, IsAccount, IsAccountIfEventful, IsTextExplained, account_in, is_entry_eventful};
 ghost use Rattle.glm.specs.Verdicts.{IsFirstWrong, IsVerdict, text_of_verdict};
 
 use crate::args::Form;
@@ -75,7 +75,7 @@ fn account(
 
 /// Appends the account of `entry` to `text` if the call is eventful. `before` ends just ahead of the entry, `after` with it.
 /// Fails if memory is refused.
-fn add_account_if_told(
+fn add_account_if_eventful(
     alloc: Global,
     before: &Book,
     entry: &Entry,
@@ -88,14 +88,14 @@ fn add_account_if_told(
     requires served { after.now.history ≡ before.now.history ++ entry.now ∷ [] }
     requires ended { after.now.ended ≡ ended_waits before.now.sessions entry.now.session (state_of before.now.history) (step (state_of before.now.history) entry.now.session entry.now.call).state }
     requires place { place ≡ length before.now.history }
-    ensures { OnOk result ((added : List ℕ) × (IsAccountIfTold (is_told before.now.sessions before.now.history entry.now) form before.now.sessions before.now.history entry.now added × (text.new.items ≡ text.old.items ++ added))) }
+    ensures { OnOk result ((added : List ℕ) × (IsAccountIfEventful (is_entry_eventful before.now.sessions before.now.history entry.now) form before.now.sessions before.now.history entry.now added × (text.new.items ≡ text.old.items ++ added))) }
 {
     let eventful = is_eventful(entry, after.ended());
     if !eventful {
         return Ok(());
     }
-    let told = account(alloc, before, entry, after, place, form)?;
-    text.extend_from_slice(&told)?;
+    let appended = account(alloc, before, entry, after, place, form)?;
+    text.extend_from_slice(&appended)?;
     Ok(())
 }
 
@@ -114,9 +114,9 @@ fn serve_alike(book: &mut Book, entry: &Entry) -> Result<bool, NoMemory>
 }
 
 /// The line of the verdict on a history whose first wrong entry is at the place `first`. Fails if memory is refused.
-fn illegal_told(alloc: Global, first: u64) -> Result<Report, NoMemory>
-    ensures verdict { IfOk result (λ told. told.verdict ≡ Verdict.Illegal first) }
-    ensures text { IfOk result (λ told. told.text.items ≡ text_of_verdict (Verdict.Illegal first)) }
+fn illegal_report(alloc: Global, first: u64) -> Result<Report, NoMemory>
+    ensures verdict { IfOk result (λ report. report.verdict ≡ Verdict.Illegal first) }
+    ensures text { IfOk result (λ report. report.text.items ≡ text_of_verdict (Verdict.Illegal first)) }
 {
     let verdict = Verdict::Illegal(first);
     let line = verdict_line(alloc, verdict)?;
@@ -140,7 +140,7 @@ fn fresh_book(alloc: Global, sessions: u16) -> Result<Book, NoMemory>
 
 /// Serves the entries on the books, which have served none, makes the account of the entry at `place` on the way, and goes on to
 /// the first reply that isn't the books'. Fails if memory is refused.
-fn told_at(
+fn report_on_call(
     alloc: Global,
     before: &mut Book,
     after: &mut Book,
@@ -153,21 +153,21 @@ fn told_at(
     requires behind { before.old.history ≡ [] }
     requires ahead { after.old.history ≡ [] }
     requires place { place < length entries.now }
-    ensures verdict { IfOk result (λ told. IsVerdict entries.now told.verdict) }
-    ensures text { IfOk result (λ told. IsTextExplained form before.old.sessions (Some place) entries.now told.verdict told.text.items) }
+    ensures verdict { IfOk result (λ report. IsVerdict entries.now report.verdict) }
+    ensures text { IfOk result (λ report. IsTextExplained form before.old.sessions (Some place) entries.now report.verdict report.text.items) }
 {
     let early = first_wrong(before, entries, 0, place)?;
     if let Some(first) = early {
-        return illegal_told(alloc, first);
+        return illegal_report(alloc, first);
     }
     let here = first_wrong(after, entries, 0, place + 1)?;
     if let Some(first) = here {
-        return illegal_told(alloc, first);
+        return illegal_report(alloc, first);
     }
     let text = account(alloc, before, &entries[place], after, place as u64, form)?;
     let late = first_wrong(after, entries, place + 1, entries.len())?;
     if let Some(first) = late {
-        return illegal_told(alloc, first);
+        return illegal_report(alloc, first);
     }
     Ok(Report {
         verdict: Verdict::Legal(entries.len() as u64),
@@ -175,10 +175,10 @@ fn told_at(
     })
 }
 
-/// Serves the entry at `place` on both books, which have served those before it, and adds its account to the text if it is told.
-/// Returns whether the recorded reply is the books'; if it isn't, the history is illegal there, and the books serve no more.
-/// Fails if memory is refused.
-fn tell_next(
+/// Serves the entry at `place` on both books, which have served those before it, and adds its account to the text if the call is
+/// eventful. Returns whether the recorded reply is the books'; if it isn't, the history is illegal there, and the books serve no
+/// more. Fails if memory is refused.
+fn add_next_account(
     alloc: Global,
     before: &mut Book,
     after: &mut Book,
@@ -207,14 +207,14 @@ fn tell_next(
     if !alike {
         return Ok(false);
     }
-    add_account_if_told(alloc, before, entry, after, place as u64, form, text)?;
+    add_account_if_eventful(alloc, before, entry, after, place as u64, form, text)?;
     serve_alike(before, entry)?;
     Ok(true)
 }
 
 /// Replays the entries on two fresh books, `before` one entry behind `after`, and appends the accounts of the eventful calls to
 /// `text`. Returns the place of the first wrong reply, where it stops. Fails if memory is refused.
-fn tell_all(
+fn add_all_accounts(
     alloc: Global,
     before: &mut Book,
     after: &mut Book,
@@ -232,7 +232,7 @@ fn tell_all(
     ensures accounts { IfOk result (λ found. IfNone found (AreAccounts form before.old.sessions [] entries.now text.new.items)) }
 {
     for place in 0..entries.len() {
-        let alike = tell_next(alloc, before, after, entries, place, form, text)?;
+        let alike = add_next_account(alloc, before, after, entries, place, form, text)?;
         if !alike {
             return Ok(Some(place as u64));
         }
@@ -240,8 +240,8 @@ fn tell_all(
     Ok(None)
 }
 
-/// The accounts of all entries that are told, made on the books, which have served none. Fails if memory is refused.
-fn all_told(
+/// The report of all eventful calls, made on the books, which have served none. Fails if memory is refused.
+fn report_on_all(
     alloc: Global,
     before: &mut Book,
     after: &mut Book,
@@ -252,13 +252,13 @@ fn all_told(
     requires sessions { after.old.sessions ≡ before.old.sessions }
     requires behind { before.old.history ≡ [] }
     requires ahead { after.old.history ≡ [] }
-    ensures verdict { IfOk result (λ told. IsVerdict entries.now told.verdict) }
-    ensures text { IfOk result (λ told. IsTextExplained form before.old.sessions None entries.now told.verdict told.text.items) }
+    ensures verdict { IfOk result (λ report. IsVerdict entries.now report.verdict) }
+    ensures text { IfOk result (λ report. IsTextExplained form before.old.sessions None entries.now report.verdict report.text.items) }
 {
     let mut text = Vec::new(alloc);
-    let wrong = tell_all(alloc, before, after, entries, form, &mut text)?;
+    let wrong = add_all_accounts(alloc, before, after, entries, form, &mut text)?;
     if let Some(first) = wrong {
-        return illegal_told(alloc, first);
+        return illegal_report(alloc, first);
     }
     Ok(Report {
         verdict: Verdict::Legal(entries.len() as u64),
@@ -266,9 +266,9 @@ fn all_told(
     })
 }
 
-/// The text that is written of a history that has the place, and the verdict on it, made on the book, which has served none, and on
-/// a second lock table that goes ahead of it. Fails if memory is refused.
-fn told_behind(
+/// The report of a history that has the place, made on the book, which has served none, and on a second lock table that goes
+/// ahead of it. Fails if memory is refused.
+fn report_on_book(
     alloc: Global,
     before: &mut Book,
     entries: &[Entry],
@@ -278,19 +278,19 @@ fn told_behind(
     requires within { All (IsEntry before.old.sessions) entries.now }
     requires behind { before.old.history ≡ [] }
     requires place { HasPlace place entries.now }
-    ensures verdict { IfOk result (λ told. IsVerdict entries.now told.verdict) }
-    ensures text { IfOk result (λ told. IsTextExplained form before.old.sessions place entries.now told.verdict told.text.items) }
+    ensures verdict { IfOk result (λ report. IsVerdict entries.now report.verdict) }
+    ensures text { IfOk result (λ report. IsTextExplained form before.old.sessions place entries.now report.verdict report.text.items) }
 {
     let sessions = before.sessions();
     let mut after = fresh_book(alloc, sessions)?;
     let Some(place) = place else {
-        return all_told(alloc, before, &mut after, entries, form);
+        return report_on_all(alloc, before, &mut after, entries, form);
     };
-    told_at(alloc, before, &mut after, entries, place as usize, form)
+    report_on_call(alloc, before, &mut after, entries, place as usize, form)
 }
 
-/// The text that is written of a history that has the place, and the verdict on it. Fails if memory is refused.
-fn told_of(
+/// The report of a history that has the place. Fails if memory is refused.
+fn report_of(
     alloc: Global,
     entries: &[Entry],
     sessions: u16,
@@ -301,11 +301,11 @@ fn told_of(
     requires few { sessions ≤ MAX_SESSIONS }
     requires within { All (IsEntry sessions) entries.now }
     requires place { HasPlace place entries.now }
-    ensures verdict { IfOk result (λ told. IsVerdict entries.now told.verdict) }
-    ensures text { IfOk result (λ told. IsTextExplained form sessions place entries.now told.verdict told.text.items) }
+    ensures verdict { IfOk result (λ report. IsVerdict entries.now report.verdict) }
+    ensures text { IfOk result (λ report. IsTextExplained form sessions place entries.now report.verdict report.text.items) }
 {
     let mut before = fresh_book(alloc, sessions)?;
-    told_behind(alloc, &mut before, entries, place, form)
+    report_on_book(alloc, &mut before, entries, place, form)
 }
 
 /// The place that is asked for, if the history has no entry there, and else `None`.
@@ -359,11 +359,11 @@ pub fn explain<R: Read + Drop, W: Write>(
             entries: entries.len() as u64,
         });
     }
-    let Ok(told) = told_of(alloc, &entries, sessions, place, form) else {
+    let Ok(report) = report_of(alloc, &entries, sessions, place, form) else {
         return Err(ShowFault::NoMemory);
     };
-    if write_text(output, &told.text).is_err() {
+    if write_text(output, &report.text).is_err() {
         return Err(ShowFault::Device);
     }
-    Ok(told.verdict)
+    Ok(report.verdict)
 }

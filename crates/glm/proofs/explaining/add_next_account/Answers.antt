@@ -5,7 +5,7 @@ use Rattle.lock_rules.specs.Legal.{state_of}
 use Rattle.lock_rules.specs.Step.{step}
 use Rattle.glm.proofs.ExplainedParts.{ended_alike, reply_alike, served_more, told_more}
 use Rattle.glm.proofs.IsVerdict.{first_wrong, right, within_at}
-use Rattle.glm.proofs.explaining.tell_next.Goals as goal
+use Rattle.glm.proofs.explaining.add_next_account.Goals as goal
 
 pub serve_alike-requires : goal.serve_alike-requires
 serve_alike-requires c =
@@ -27,8 +27,8 @@ returns-then-not-alike c =
       accounts = λ yes. absurd (false≢true yes);
     }
 
-pub add_account_if_told-requires : goal.add_account_if_told-requires
-add_account_if_told-requires c =
+pub add_account_if_eventful-requires : goal.add_account_if_eventful-requires
+add_account_if_eventful-requires c =
     let e = c.index-entries-place.result in
     let alike = c.requires.ahead ∙ sym c.requires.behind in
     record {
@@ -62,5 +62,5 @@ returns c =
           (c.in_ok-alike.ensures.served c.if-not-alike.false);
       legal = λ _. right es place e e.reply c.args.after.now.history c.requires.there is c.requires.ahead c.requires.legal (sym reply) refl;
       accounts = λ _. told_more c.args.form c.args.before.now.sessions c.args.before.now.sessions es place e c.args.before.now.history c.args.text.now.items
-          c.add_account_if_told.new.text.items c.requires.there is refl c.requires.behind c.requires.accounts c.in_ok-add_account_if_told.ensures;
+          c.add_account_if_eventful.new.text.items c.requires.there is refl c.requires.behind c.requires.accounts c.in_ok-add_account_if_eventful.ensures;
     }

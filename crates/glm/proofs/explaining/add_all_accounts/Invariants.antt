@@ -1,7 +1,7 @@
 use Rattle.std.proofs.Common.{◌≡◌, [], take}
 use Rattle.lock_rules.specs.Legal.{IsLegal}
 use Rattle.glm.specs.Explaining.{AreAccounts}
-use Rattle.glm.proofs.explaining.tell_all.Given as goal
+use Rattle.glm.proofs.explaining.add_all_accounts.Given as goal
 
 -- the entries so far are legal and are the history of both books, and the text has their accounts
 abbrev pub invariant-loop-place : goal.invariant-loop-place

@@ -4,7 +4,7 @@ use Rattle.lock_rules.specs.declared.calls.Entry.{Entry}
 use Rattle.lock_rules.specs.Legal.{IsLegal}
 use Rattle.lock_trace.specs.Entries.{IsEntry}
 use Rattle.glm.specs.Explaining.{AreAccounts}
-use Rattle.glm.proofs.explaining.tell_all.Goals as goal
+use Rattle.glm.proofs.explaining.add_all_accounts.Goals as goal
 
 pub loop-place-init : goal.loop-place-init
 loop-place-init c = record {
@@ -16,8 +16,8 @@ loop-place-init c = record {
   accounts = c.requires.empty;
 }
 
-pub tell_next-requires : goal.tell_next-requires
-tell_next-requires c =
+pub add_next_account-requires : goal.add_next_account-requires
+add_next_account-requires c =
     let so_far = c.loop-place.invariant in
     record {
       within = subst (λ (n : ℕ). All (IsEntry n) c.args.entries.now) (sym so_far.sessions) c.requires.within;
@@ -47,7 +47,7 @@ loop-place-preserved c =
       sessions = next.sessions alike ∙ so_far.sessions;
       others = next.others alike ∙ so_far.sessions;
       legal = next.legal alike;
-      accounts = subst (λ (n : ℕ). AreAccounts c.args.form n [] (take (c.loop-place.place + 1) c.args.entries.now) c.tell_next.new.text.items) so_far.sessions (next.accounts alike);
+      accounts = subst (λ (n : ℕ). AreAccounts c.args.form n [] (take (c.loop-place.place + 1) c.args.entries.now) c.add_next_account.new.text.items) so_far.sessions (next.accounts alike);
     }
 
 pub returns : goal.returns

@@ -7,7 +7,7 @@ use Rattle.lock_rules.specs.Legal.{IsLegal}
 use Rattle.lock_trace.specs.Entries.{IsEntry}
 use Rattle.glm.specs.Explaining.{IsAccount}
 use Rattle.glm.proofs.ExplainedParts.{served_more}
-use Rattle.glm.proofs.explaining.told_at.Goals as goal
+use Rattle.glm.proofs.explaining.report_on_call.Goals as goal
 
 -- what is known if nothing was found
 of_none : (found : Option ℕ) (P : Type 0) → found ≡ None → IfNone found P → P
