@@ -62,18 +62,18 @@ pub(crate) fn serve(
 }
 
 /// Writes the code of the mode that the session holds on the resource, or that of NL if it holds none.
-pub(crate) fn held(book: &Book, session: u32, place: &ResourceNumbers, mode: &mut u32) -> u32
+pub(crate) fn held(book: &Book, session: u32, path: &ResourceNumbers, mode: &mut u32) -> u32
     ensures ok { result ≡ OK → IsSession book.now session
-        × ((r : List ℕ) × IsPath place.now r × (mode.new ≡ code_of (mode_or_nothing (held_mode (state_of book.now.history).table session r)))) }
+        × ((r : List ℕ) × IsPath path.now r × (mode.new ≡ code_of (mode_or_nothing (held_mode (state_of book.now.history).table session r)))) }
     ensures failed { result ≢ OK → mode.new ≡ mode.old }
     ensures session { result ≡ NO_SUCH_SESSION → ¬ (IsSession book.now session) }
-    ensures level { result ≡ NO_SUCH_LEVEL → IsSession book.now session × ¬ (IsLevel place.now.level) }
+    ensures level { result ≡ NO_SUCH_LEVEL → IsSession book.now session × ¬ (IsLevel path.now.level) }
     ensures statuses { (result ≡ OK) ⊎ ((result ≡ NO_SUCH_SESSION) ⊎ (result ≡ NO_SUCH_LEVEL)) }
 {
     let Some(number) = session_of(book, session) else {
         return NO_SUCH_SESSION;
     };
-    let Some(resource) = read_resource(place) else {
+    let Some(resource) = read_resource(path) else {
         return NO_SUCH_LEVEL;
     };
     *mode = match book.held(number, resource) {
@@ -115,18 +115,18 @@ pub(crate) fn write_holders(found: &[(u16, Mode)], list: &mut [HolderNumbers])
 pub(crate) fn holders(
     alloc: Global,
     book: &Book,
-    place: &ResourceNumbers,
+    path: &ResourceNumbers,
     list: &mut [HolderNumbers],
     count: &mut usize,
 ) -> u32
-    ensures ok { result ≡ OK → (r : List ℕ) × IsPath place.now r × (let all = holders r (state_of book.now.history).table.held in
+    ensures ok { result ≡ OK → (r : List ℕ) × IsPath path.now r × (let all = holders r (state_of book.now.history).table.held in
         (list.new ≡ are_written numbers_of_holder all list.old) × (count.new ≡ length all)) }
     ensures failed { result ≢ OK → (list.new ≡ list.old) × (count.new ≡ count.old) }
-    ensures level { result ≡ NO_SUCH_LEVEL → ¬ (IsLevel place.now.level) }
-    ensures memory { result ≡ NO_MEMORY → IsLevel place.now.level }
+    ensures level { result ≡ NO_SUCH_LEVEL → ¬ (IsLevel path.now.level) }
+    ensures memory { result ≡ NO_MEMORY → IsLevel path.now.level }
     ensures statuses { (result ≡ OK) ⊎ ((result ≡ NO_MEMORY) ⊎ (result ≡ NO_SUCH_LEVEL)) }
 {
-    let Some(resource) = read_resource(place) else {
+    let Some(resource) = read_resource(path) else {
         return NO_SUCH_LEVEL;
     };
     let mut found = Vec::new(alloc);

@@ -75,11 +75,11 @@ pub(crate) const NOWHERE: ResourceNumbers = ResourceNumbers {
 };
 
 /// The resource that the numbers encode. Returns `None` if no resource has this level.
-pub(crate) fn read_resource(place: &ResourceNumbers) -> Option<Resource>
-    ensures some { IfSome result (λ r. IsPath place.now r) }
-    ensures none { IfNone result (¬ (IsLevel place.now.level)) }
+pub(crate) fn read_resource(path: &ResourceNumbers) -> Option<Resource>
+    ensures some { IfSome result (λ r. IsPath path.now r) }
+    ensures none { IfNone result (¬ (IsLevel path.now.level)) }
 {
-    Resource::from_prefix(&place.numbers, place.level as usize)
+    Resource::from_prefix(&path.numbers, path.level as usize)
 }
 
 /// The mode with this code. Returns `None` if no mode has it.

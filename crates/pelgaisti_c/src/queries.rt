@@ -29,21 +29,21 @@ fn session_of(share: &SessionShare, session: u32) -> Option<u16>
 pub(crate) fn held(
     share: &mut SessionShare,
     whose: u32,
-    place: &ResourceNumbers,
+    path: &ResourceNumbers,
     mode: &mut u32,
     seen: &mut u64,
 ) -> u32
-    ensures ok { result ≡ OK → IsHeldSeen share.old share.new whose place.now mode.new seen.new }
+    ensures ok { result ≡ OK → IsHeldSeen share.old share.new whose path.now mode.new seen.new }
     ensures failed { result ≢ OK → (share.new ≡ share.old) × (mode.new ≡ mode.old) × (seen.new ≡ seen.old) }
     ensures session { result ≡ NO_SUCH_SESSION → ¬ (IsOfOffice share.old whose) }
-    ensures level { result ≡ NO_SUCH_LEVEL → IsOfOffice share.old whose × ¬ (IsLevel place.now.level) }
+    ensures level { result ≡ NO_SUCH_LEVEL → IsOfOffice share.old whose × ¬ (IsLevel path.now.level) }
     ensures elsewhere { result ≡ ELSEWHERE → 2 ≤ share.old.sessions }
     ensures statuses { (result ≡ OK) ⊎ ((result ≡ NO_SUCH_SESSION) ⊎ ((result ≡ NO_SUCH_LEVEL) ⊎ (result ≡ ELSEWHERE))) }
 {
     let Some(number) = session_of(share, whose) else {
         return NO_SUCH_SESSION;
     };
-    let Some(resource) = read_resource(place) else {
+    let Some(resource) = read_resource(path) else {
         return NO_SUCH_LEVEL;
     };
     let Some(answer) = share.office.held(&mut share.session, number, resource) else {
@@ -90,20 +90,20 @@ pub(crate) fn waits_for(
 pub(crate) fn holders(
     alloc: Global,
     share: &mut SessionShare,
-    place: &ResourceNumbers,
+    path: &ResourceNumbers,
     list: &mut [HolderNumbers],
     count: &mut usize,
     seen: &mut u64,
 ) -> u32
-    ensures ok { result ≡ OK → AreHoldersSeen share.old share.new place.now list.old list.new count.new seen.new }
+    ensures ok { result ≡ OK → AreHoldersSeen share.old share.new path.now list.old list.new count.new seen.new }
     ensures failed { result ≢ OK → (list.new ≡ list.old) × (count.new ≡ count.old) × (seen.new ≡ seen.old) }
     ensures same { result ≢ OK → result ≢ NO_MEMORY → share.new ≡ share.old }
-    ensures level { result ≡ NO_SUCH_LEVEL → ¬ (IsLevel place.now.level) }
-    ensures memory { result ≡ NO_MEMORY → IsLevel place.now.level × HasSeen share.old share.new }
+    ensures level { result ≡ NO_SUCH_LEVEL → ¬ (IsLevel path.now.level) }
+    ensures memory { result ≡ NO_MEMORY → IsLevel path.now.level × HasSeen share.old share.new }
     ensures elsewhere { result ≡ ELSEWHERE → 2 ≤ share.old.sessions }
     ensures statuses { (result ≡ OK) ⊎ ((result ≡ NO_MEMORY) ⊎ ((result ≡ NO_SUCH_LEVEL) ⊎ (result ≡ ELSEWHERE))) }
 {
-    let Some(resource) = read_resource(place) else {
+    let Some(resource) = read_resource(path) else {
         return NO_SUCH_LEVEL;
     };
     let mut found = Vec::new(alloc);
