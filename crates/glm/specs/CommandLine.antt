@@ -171,7 +171,7 @@ AskCheck words sessions = Ask words (request.Check sessions)
 abbrev pub AskShow : List Text → ℕ → Option ℕ → Form → Type 0
 AskShow words sessions place form = Ask words (request.Show sessions place form)
 
--- the words ask to explain the call at this place of a history, every call that is told if it is None, with this number of
+-- the words ask to explain the call at this place of a history, every eventful call if it is None, with this number of
 -- sessions, in this form
 abbrev pub AskExplain : List Text → ℕ → Option ℕ → Form → Type 0
 AskExplain words sessions place form = Ask words (request.Explain sessions place form)

@@ -55,13 +55,13 @@ HasPlace (Some place) history = place < length history
 
 -- the text is what is written of a legal history: the account of the entry at the place that was asked for, or else those of all
 -- eventful entries
-abbrev pub IsToldOf : Form → ℕ → Option ℕ → List Entry → List ℕ → Type 0
-IsToldOf form n None history text = AreAccounts form n [] history text
-IsToldOf form n (Some place) history text = (e : Entry) × (slice_get history place ≡ Some e) × IsAccount form n (take place history) e text
+abbrev pub IsLegalExplained : Form → ℕ → Option ℕ → List Entry → List ℕ → Type 0
+IsLegalExplained form n None history text = AreAccounts form n [] history text
+IsLegalExplained form n (Some place) history text = (e : Entry) × (slice_get history place ≡ Some e) × IsAccount form n (take place history) e text
 
 -- the text is what is written of a history with this verdict: of one that isn't legal, the verdict
 abbrev pub IsTextExplained : Form → ℕ → Option ℕ → List Entry → Verdict → List ℕ → Type 0
-IsTextExplained form n asked history (verdict.Legal count) text = IsToldOf form n asked history text
+IsTextExplained form n asked history (verdict.Legal count) text = IsLegalExplained form n asked history text
 IsTextExplained form n asked history (verdict.Illegal first) text = text ≡ text_of_verdict (verdict.Illegal first)
 
 -- the text is what is written of some history of the sessions 1 to n that has the place and this verdict

@@ -60,8 +60,8 @@ pub(crate) enum CommandRequest {
     /// Show the state of the lock table at a place of a history; holds the number of sessions, the place, `None` for the end, and
     /// the form.
     Show(u16, Option<u32>, Form),
-    /// Explain what calls of a history did; holds the number of sessions, the place of the call, `None` for every call that is
-    /// told, and the form.
+    /// Explain what calls of a history did; holds the number of sessions, the place of the call, `None` for every eventful
+    /// one, and the form.
     Explain(u16, Option<u32>, Form),
 }
 

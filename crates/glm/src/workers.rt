@@ -284,13 +284,13 @@ fn make_call<S: Service>(
     }
 }
 
-/// Performs call number `place` of session `number`: enters the gate, makes the call and leaves the gate. Fails with
+/// Performs call number `index` of session `number`: enters the gate, makes the call and leaves the gate. Fails with
 /// `GateShut` if the gate stayed shut, or as `make_call` fails.
 fn call_through_gate<S: Service, G: Gate>(
     service: &S,
     session: &mut S::Session,
     number: u16,
-    place: u64,
+    index: u64,
     call: Call,
     turns: u64,
     gate: &G,
@@ -305,11 +305,11 @@ fn call_through_gate<S: Service, G: Gate>(
     ensures limit { result ≡ Err Stop.TurnLimit → (before : ℕ) → S.has_tried session.old before → S.has_tried session.new (before + turns) }
     ensures starved { result ≡ Err Stop.NoMemory → S.was_starved session.new }
 {
-    if !gate.enter(number, place) {
+    if !gate.enter(number, index) {
         return Err(Stop::GateShut);
     }
     make_call(service, session, call, turns)?;
-    gate.leave(number, place);
+    gate.leave(number, index);
     Ok(())
 }
 
@@ -331,11 +331,11 @@ pub(crate) fn work_through<S: Service, G: Gate>(
         → TriedAtMost (S.has_tried session.new) before (length (calls_of_rows number rows.now) * turns)) }
     ensures starved { result ≡ Err Stop.NoMemory → S.was_starved session.new }
 {
-    let mut place = 0;
+    let mut index = 0;
     for row in rows {
         if row.session == number {
-            call_through_gate(service, session, number, place, row.call, turns, gate)?;
-            place += 1;
+            call_through_gate(service, session, number, index, row.call, turns, gate)?;
+            index += 1;
         }
     }
     Ok(())

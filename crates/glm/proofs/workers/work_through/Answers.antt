@@ -65,7 +65,7 @@ loop-row-preserved g c =
         ours = rw w.session-is w.in_ok-call_through_gate.ensures.ours;
         performed = ap g.S.Service.calls w.session-is ∙ w.in_ok-call_through_gate.ensures.performed ∙ ap (with_call row.call) before.performed
             ∙ ap (collected_by number) (sym (one_more number at row c.args.rows.now c.loop-row-test.true c.row-item.is w.if-row-number.true));
-        few = omega (arith, w.place-is, before.few);
+        few = omega (arith, w.index-is, before.few);
         tried = λ start h.
             let (tries, few, so_far) = before.tried start h in
             rw w.session-is (more_tries (g.S.Service.has_tried _) start c.args.turns tries _ _ row.call
@@ -76,7 +76,7 @@ loop-row-preserved g c =
         ours = rw w.session-is before.ours;
         performed = ap g.S.Service.calls w.session-is ∙ before.performed
             ∙ ap (collected_by number) (sym (no_more number at row c.args.rows.now c.loop-row-test.true c.row-item.is w.if-row-number.false));
-        few = omega (arith, w.place-is, before.few);
+        few = omega (arith, w.index-is, before.few);
         tried = λ start h.
             rw (no_more number at row c.args.rows.now c.loop-row-test.true c.row-item.is w.if-row-number.false) (rw w.session-is (before.tried start h));
       }
