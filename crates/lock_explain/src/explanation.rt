@@ -55,7 +55,7 @@ pub struct Blocker {
     pub party: Party,
     /// The mode in which it holds the resource, if that conflicts with the target of the request.
     pub held: Option<Mode>,
-    /// The target of its own request, if that stands ahead in the queue.
+    /// The target of its own request, if that is ahead in the queue.
     pub ahead: Option<Mode>,
 }
 

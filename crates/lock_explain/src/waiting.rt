@@ -42,8 +42,8 @@ pub(crate) fn held_in_conflict(before: &Book, asked: Asked, other: u16) -> Optio
     Some(held)
 }
 
-/// The target of the waiting request that the line tells of, if it stands ahead of one for the resource that begins to wait: a
-/// fresh request waits behind all requests for the resource, a conversion behind the conversions alone.
+/// The target of the waiting request in `line`, if a new request for `resource` waits behind it: a fresh request waits behind all
+/// requests for the resource, a conversion behind the conversions alone.
 fn ahead_by(converts: bool, resource: Resource, line: Option<Claim>) -> Option<Mode>
     ensures { result ≡ ahead_by converts resource line }
 {
@@ -60,7 +60,7 @@ fn ahead_by(converts: bool, resource: Resource, line: Option<Claim>) -> Option<M
     Some(line.mode)
 }
 
-/// The target of the request of `other`, if that stands ahead of this request once it waits.
+/// The target of the request of `other`, if this request waits behind it.
 pub(crate) fn request_ahead(before: &Book, asked: Asked, other: u16) -> Option<Mode>
     requires asked { IsAskedIn before.now.sessions (state_of before.now.history) asked }
     ensures { result ≡ request_ahead (waiting_state (state_of before.now.history) (claim_of asked)).table (claim_of asked) other }

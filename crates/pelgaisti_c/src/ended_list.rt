@@ -29,7 +29,7 @@ impl Model for EndedList {
 }
 
 impl EndedList {
-    /// A list with room for so many sessions, which isn't made yet.
+    /// A list for `room` sessions, which isn't allocated yet.
     pub(crate) fn new(room: u16) -> EndedList
         ensures { result.room ≡ room }
     {
