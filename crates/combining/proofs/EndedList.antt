@@ -35,10 +35,10 @@ few-within n list once within =
 -- Exactly the sessions of the list are marked.
 pub record AreMarked (marks : List Bool) (list : List ℕ) : Type 0 where
   pub once : IsOnce list
-  pub listed : (u : ℕ) → Contains list u ↔ ((1 ≤ u) × (u ≤ length marks) × (get_or marks (u - 1) false ≡ true))
+  pub members : (u : ℕ) → Contains list u ↔ ((1 ≤ u) × (u ≤ length marks) × (get_or marks (u - 1) false ≡ true))
 
 pub few-marked : (marks : List Bool) (list : List ℕ) → AreMarked marks list → length list ≤ length marks
-few-marked marks list m = few-within (length marks) list m.once (λ u h. let k = (m.listed u).0 h in (k.0, k.1))
+few-marked marks list m = few-within (length marks) list m.once (λ u h. let k = (m.members u).0 h in (k.0, k.1))
 
 -- The front of a list with no session twice has none twice, and not its last one.
 once-front : (xs : List ℕ) (u : ℕ) → IsOnce (xs ++ u ∷ []) → IsOnce xs
@@ -53,14 +53,14 @@ not-last xs u once h =
 
 -- The list without its last session.
 pub marked-popped : (marks : List Bool) (xs : List ℕ) (u : ℕ) → AreMarked marks (xs ++ u ∷ []) → AreMarked (set marks (u - 1) false) xs
-marked-popped marks xs u m = record { once = once-front xs u m.once; listed = λ v. (there v, back v) }
+marked-popped marks xs u m = record { once = once-front xs u m.once; members = λ v. (there v, back v) }
   where
     last : (1 ≤ u) × (u ≤ length marks)
-    last = let k = (m.listed u).0 (Contains-push xs u) in (k.0, k.1)
+    last = let k = (m.members u).0 (Contains-push xs u) in (k.0, k.1)
 
     there : (v : ℕ) → Contains xs v → (1 ≤ v) × (v ≤ length (set marks (u - 1) false)) × (get_or (set marks (u - 1) false) (v - 1) false ≡ true)
     there v h =
-        let k = (m.listed v).0 (Contains-append_left xs (u ∷ []) v h) in
+        let k = (m.members v).0 (Contains-append_left xs (u ∷ []) v h) in
         let some = k.0 in
         let within = k.1 in
         let other : v ≢ u = λ e. not-last xs u m.once (subst (λ (w : ℕ). Contains xs w) e h) in
@@ -76,14 +76,14 @@ marked-popped marks xs u m = record { once = once-front xs u m.once; listed = λ
         let other : v ≢ u = λ e. true≢false h.2 (ap (λ (w : ℕ). get_or (set marks (u - 1) false) (w - 1) false) e ∙ get_or-set_same marks (u - 1) false false here) in
         let apart : v - 1 ≢ u - 1 = λ e. let l = last.0 in other (omega (arith, e, some, l)) in
         ⊎_elim (λ c. c) (λ e. absurd (other (sym e)))
-        (Contains-push_cases xs u v ((m.listed v).1 (some, omega (arith, within, long), sym (get_or-set_other marks (u - 1) (v - 1) false false apart) ∙ h.2)))
+        (Contains-push_cases xs u v ((m.members v).1 (some, omega (arith, within, long), sym (get_or-set_other marks (u - 1) (v - 1) false false apart) ∙ h.2)))
 
 -- The list with one session more at its end, which wasn't marked.
 pub marked-pushed : (marks : List Bool) (xs : List ℕ) (u : ℕ) → AreMarked marks xs → 1 ≤ u → u ≤ length marks → get_or marks (u - 1) false ≡ false → AreMarked (set marks (u - 1) true) (xs ++ u ∷ [])
-marked-pushed marks xs u m some within unmarked = record { once = once; listed = λ v. (there v, back v) }
+marked-pushed marks xs u m some within unmarked = record { once = once; members = λ v. (there v, back v) }
   where
     new : Contains xs u → ⊥
-    new h = true≢false ((m.listed u).0 h).2 unmarked
+    new h = true≢false ((m.members u).0 h).2 unmarked
 
     here : u - 1 < length marks
     here = omega (arith, some, within)
@@ -100,7 +100,7 @@ marked-pushed marks xs u m some within unmarked = record { once = once; listed =
 
     there : (v : ℕ) → Contains (xs ++ u ∷ []) v → (1 ≤ v) × (v ≤ length (set marks (u - 1) true)) × (get_or (set marks (u - 1) true) (v - 1) false ≡ true)
     there v h = ⊎_elim
-        (λ c. let k = (m.listed v).0 c in let l = k.0 in let r = k.1 in
+        (λ c. let k = (m.members v).0 c in let l = k.0 in let r = k.1 in
         let other : v ≢ u = λ e. new (subst (λ (w : ℕ). Contains xs w) e c) in
         let apart : v - 1 ≢ u - 1 = λ e. other (omega (arith, e, some, l)) in
         (l, omega (arith, r, length-set marks (u - 1) true), get_or-set_other marks (u - 1) (v - 1) true false apart ∙ k.2))
@@ -112,11 +112,11 @@ marked-pushed marks xs u m some within unmarked = record { once = once; listed =
     back v h = dite (ℕ_discrete v u)
         (λ e. subst (λ (w : ℕ). Contains (xs ++ u ∷ []) w) (sym e) (Contains-push xs u))
         (λ ne. let l = h.0 in let r = h.1 in let apart : v - 1 ≢ u - 1 = λ e. ne (omega (arith, e, some, l)) in
-        Contains-append_left xs (u ∷ []) v ((m.listed v).1 (l, omega (arith, r, length-set marks (u - 1) true), sym (get_or-set_other marks (u - 1) (v - 1) true false apart) ∙ h.2)))
+        Contains-append_left xs (u ∷ []) v ((m.members v).1 (l, omega (arith, r, length-set marks (u - 1) true), sym (get_or-set_other marks (u - 1) (v - 1) true false apart) ∙ h.2)))
 
 -- What the list with one session more has.
-pub push-listed : (xs : List ℕ) (u v : ℕ) → Contains (xs ++ u ∷ []) v ↔ (Contains xs v ⊎ (v ≡ u))
-push-listed xs u v = (
+pub push-members : (xs : List ℕ) (u v : ℕ) → Contains (xs ++ u ∷ []) v ↔ (Contains xs v ⊎ (v ≡ u))
+push-members xs u v = (
   λ h. ⊎_elim (λ c. inl c) (λ e. inr (sym e)) (Contains-push_cases xs u v h),
   λ h. ⊎_elim (λ c. Contains-append_left xs (u ∷ []) v c) (λ e. subst (λ (w : ℕ). Contains (xs ++ u ∷ []) w) (sym e) (Contains-push xs u)) h,
 )
@@ -126,7 +126,7 @@ pub added-next : (old mid new xs : List ℕ) (k d : ℕ) → k < length xs → (
     → ((u : ℕ) → Contains new u ↔ (Contains mid u ⊎ (u ≡ get_or xs k d))) → (u : ℕ) → Contains new u ↔ (Contains old u ⊎ Contains (take (k + 1) xs) u)
 added-next old mid new xs k d few first last u =
     let whole : take (k + 1) xs ≡ take k xs ++ get_or xs k d ∷ [] = ap (λ (n : ℕ). take n xs) (let e : k + 1 ≡ suc k = omega arith in e) ∙ take-suc xs k d few in
-    let p = push-listed (take k xs) (get_or xs k d) u in (
+    let p = push-members (take k xs) (get_or xs k d) u in (
       λ h. ⊎_elim (λ m. ⊎_elim (λ o. inl o) (λ t. inr (subst (λ (l : List ℕ). Contains l u) (sym whole) (p.1 (inl t)))) ((first u).0 m)) (λ e. inr (subst (λ (l : List ℕ). Contains l u) (sym whole) (p.1 (inr e)))) ((last u).0 h),
       λ h. (last u).1 (⊎_elim (λ o. inl ((first u).1 (inl o))) (λ t. ⊎_elim (λ f. inl ((first u).1 (inr f))) (λ e. inr e) (p.0 (subst (λ (l : List ℕ). Contains l u) whole t))) h),
     )

@@ -103,8 +103,8 @@ ended-says front es u = (
 -- the list
 
 -- The sessions that the book tells are those from 1 to n whose wait one of the entries has ended.
-listed : (n : ℕ) (front es : List Entry) (u : ℕ) → Contains (ended_behind n front es) u ↔ ((1 ≤ u) × (u ≤ n) × HasEndedIn front es u)
-listed n front es u =
+members : (n : ℕ) (front es : List Entry) (u : ℕ) → Contains (ended_behind n front es) u ↔ ((1 ≤ u) × (u ≤ n) × HasEndedIn front es u)
+members n front es u =
     let p = has_ended_in (state_of front) (map item_of es) in
     let m = member-range p n 1 u in
     let d = ended-says front es u in (
@@ -131,7 +131,7 @@ told-of n zero front [] told count is u = (λ h. absurd (let l = h.0 in omega (a
 told-of n zero front (e ∷ es) told count is u = absurd (omega (arith, count))
 told-of n (suc served) front es told count is u =
     let some : 0 < suc served = omega arith in
-    let l = subst (λ (xs : List ℕ). Contains xs u ↔ IsEndedBy n front es u) (sym (is some)) (listed n front es u) in
+    let l = subst (λ (xs : List ℕ). Contains xs u ↔ IsEndedBy n front es u) (sym (is some)) (members n front es u) in
     (λ h. l.0 h.1, λ h. (some, l.1 h))
 
 -- What has_ended_in says of entries behind others.
@@ -159,7 +159,7 @@ ended-either front some others u =
 
 -- A list with exactly the sessions whose wait the entries have ended, each once.
 pub ended-by : (n : ℕ) (front es : List Entry) (list : List ℕ) → ((u : ℕ) → Contains list u ↔ IsEndedBy n front es u) → IsOnce list → AreEndedBy n front es list
-ended-by n front es list same once = record { listed = same; once = once }
+ended-by n front es list same once = record { members = same; once = once }
 
 -- Whose wait one call has ended, which the book tells after it.
 pub call-ended : (n session : ℕ) (call : Call) (reply : Reply) (front after : List Entry) (told : List ℕ) → after ≡ front ++ entry session call reply ∷ []
@@ -192,7 +192,7 @@ pass-told n before mid after load served list m front same once = record {
 
 -- The sessions that the book tells after a call or more are of those from 1 to n.
 pub told-within : (n : ℕ) (front es : List Entry) (told : List ℕ) → told ≡ ended_behind n front es → (u : ℕ) → Contains told u → (1 ≤ u) × (u ≤ n)
-told-within n front es told is u h = let k = (listed n front es u).0 (subst (λ (l : List ℕ). Contains l u) is h) in (k.0, k.1)
+told-within n front es told is u h = let k = (members n front es u).0 (subst (λ (l : List ℕ). Contains l u) is h) in (k.0, k.1)
 
 -- And those that it tells since a front of the history.
 pub told-since : (n served : ℕ) (before after : List Entry) (told : List ℕ) → (0 < served → told ≡ ended_behind n before (drop (length before) after)) → (u : ℕ) → 0 < served → Contains told u
@@ -205,7 +205,7 @@ pub step-told : (n served : ℕ) (before after : List Entry) (told : List ℕ) (
     → ((u : ℕ) → Contains new.list u ↔ (Contains old.list u ⊎ ((0 < served) × Contains told u))) → (IsOnce old.list → IsOnce new.list) → HasAddedEnded n before after old new
 step-told n served before after told old new longer count is room same once = record {
   room = room;
-  listed = λ u. let t = told-of n served before (drop (length before) after) told gained is u in
+  members = λ u. let t = told-of n served before (drop (length before) after) told gained is u in
       (λ h. ⊎_elim (λ o. inl o) (λ e. inr (t.0 e)) ((same u).0 h), λ h. (same u).1 (⊎_elim (λ o. inl o) (λ e. inr (t.1 e)) h));
   once = once;
 }
@@ -237,14 +237,14 @@ since-either f g h u first later =
 pub steps-told : (n : ℕ) (f g h : List Entry) (old mid new : EndedView) → IsPrefix f g → IsPrefix g h → HasAddedEnded n f g old mid → HasAddedEnded n g h mid new → HasAddedEnded n f h old new
 steps-told n f g h old mid new first later one two = record {
   room = two.room ∙ one.room;
-  listed = λ u. let e = since-either f g h u first later in (
+  members = λ u. let e = since-either f g h u first later in (
     λ has. ⊎_elim
-        (λ m. ⊎_elim (λ o. inl o) (λ x. inr (x.0, x.1, e.1 (inl x.2))) ((one.listed u).0 m))
+        (λ m. ⊎_elim (λ o. inl o) (λ x. inr (x.0, x.1, e.1 (inl x.2))) ((one.members u).0 m))
         (λ y. inr (y.0, y.1, e.1 (inr y.2)))
-        ((two.listed u).0 has),
-    λ has. (two.listed u).1 (⊎_elim
-        (λ o. inl ((one.listed u).1 (inl o)))
-        (λ k. ⊎_elim (λ x. inl ((one.listed u).1 (inr (k.0, k.1, x)))) (λ y. inr (k.0, k.1, y)) (e.0 k.2))
+        ((two.members u).0 has),
+    λ has. (two.members u).1 (⊎_elim
+        (λ o. inl ((one.members u).1 (inl o)))
+        (λ k. ⊎_elim (λ x. inl ((one.members u).1 (inr (k.0, k.1, x)))) (λ y. inr (k.0, k.1, y)) (e.0 k.2))
         has),
   );
   once = λ o. two.once (one.once o);
@@ -254,7 +254,7 @@ steps-told n f g h old mid new first later one two = record {
 pub none-told : (n : ℕ) (f g : List Entry) (old new : EndedView) → g ≡ f → new ≡ old → HasAddedEnded n f g old new
 none-told n f g old new same is = record {
   room = ap (λ (v : EndedView). v.room) is;
-  listed = λ u. (
+  members = λ u. (
     λ h. inl (subst (λ (v : EndedView). Contains v.list u) is h),
     λ h. subst (λ (v : EndedView). Contains v.list u) (sym is) (⊎_elim (λ o. o) (λ e. absurd (none-ended f u (subst (λ (l : List Entry). HasEndedIn f l u) none e.2))) h),
   );
@@ -287,7 +287,7 @@ all-told n served before after old new told none longer count = record {
   history_is = sym longer.1;
   count = omega (arith, count, ap (λ (l : List Entry). length l) longer.1, length-append before longer.0);
   ended = ended-by n before longer.0 new.list
-      (λ u. subst (λ (l : List Entry). Contains new.list u ↔ IsEndedBy n before l u) gained (into-empty old.list new.list none told.listed u)) (told.once (once-empty old.list none));
+      (λ u. subst (λ (l : List Entry). Contains new.list u ↔ IsEndedBy n before l u) gained (into-empty old.list new.list none told.members u)) (told.once (once-empty old.list none));
 }
   where
     gained : drop (length before) after ≡ longer.0

@@ -96,12 +96,12 @@ module _ (told : (h : List Entry) → AreEndedToldByPoll (state_of h)) (others :
   -- The law.
   pub wakes-told : (n : ℕ) (front own : List Entry) (list : List ℕ) → AreEndedBy n front own list → AreWakesTold n front own list
   wakes-told n front own list ended = record {
-    none_lost = λ some others u parts first last waited none gone. (ended.listed u).1 (
+    none_lost = λ some others u parts first last waited none gone. (ended.members u).1 (
       first,
       last,
       subst (λ (l : List Entry). HasEndedIn front l u) (sym parts) (further front some others u
           (wait-ended (front ++ some) others u waited none
           (ap (λ (l : List Entry). request_of u (state_of l).table.requests) (append_assoc front some others ∙ ap (λ (l : List Entry). front ++ l) (sym parts)) ∙ gone))),
     );
-    none_idle = λ later u has none. polled front own later u ((ended.listed u).0 has).2 none;
+    none_idle = λ later u has none. polled front own later u ((ended.members u).0 has).2 none;
   }

@@ -29,7 +29,7 @@ pub record HasEndedIn (front entries : List Entry) (u : ℕ) : Type 0 where
 
 -- The list has exactly the sessions from 1 to n whose wait one of these entries has ended, each once.
 pub record AreEndedBy (n : ℕ) (front entries : List Entry) (list : List ℕ) : Type 0 where
-  pub listed : (u : ℕ) → Contains list u ↔ ((1 ≤ u) × (u ≤ n) × HasEndedIn front entries u)
+  pub members : (u : ℕ) → Contains list u ↔ ((1 ≤ u) × (u ≤ n) × HasEndedIn front entries u)
   pub once : IsOnce list
 
 -- The list has exactly the sessions whose wait a pass has ended, each once. The pass added the last `served` entries of

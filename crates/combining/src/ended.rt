@@ -73,7 +73,7 @@ impl Ended {
         requires some { 1 ≤ session }
         requires within { session ≤ self.old.room }
         ensures room { self.new.room ≡ self.old.room }
-        ensures listed { (u : ℕ) → Contains self.new.list u ↔ (Contains self.old.list u ⊎ (u ≡ session)) }
+        ensures members { (u : ℕ) → Contains self.new.list u ↔ (Contains self.old.list u ⊎ (u ≡ session)) }
     {
         let place = usize::from(session) - 1;
         if self.is_in[place] {
@@ -89,7 +89,7 @@ impl Ended {
     fn add_all(&mut self, sessions: &[u16])
         requires within { All (λ u. (1 ≤ u) × (u ≤ self.old.room)) sessions.now }
         ensures room { self.new.room ≡ self.old.room }
-        ensures listed { (u : ℕ) → Contains self.new.list u ↔ (Contains self.old.list u ⊎ Contains sessions.now u) }
+        ensures members { (u : ℕ) → Contains self.new.list u ↔ (Contains self.old.list u ⊎ Contains sessions.now u) }
         ensures once { IsOnce self.new.list }
     {
         for session in sessions {
@@ -103,7 +103,7 @@ impl Ended {
     pub(crate) fn add_ended(&mut self, book: &Book, served: u32)
         requires within { (u : ℕ) → 0 < served → Contains book.now.ended u → (1 ≤ u) × (u ≤ self.old.room) }
         ensures room { self.new.room ≡ self.old.room }
-        ensures listed { (u : ℕ) → Contains self.new.list u ↔ (Contains self.old.list u ⊎ ((0 < served) × Contains book.now.ended u)) }
+        ensures members { (u : ℕ) → Contains self.new.list u ↔ (Contains self.old.list u ⊎ ((0 < served) × Contains book.now.ended u)) }
         ensures once { IsOnce self.old.list → IsOnce self.new.list }
     {
         if served > 0 {

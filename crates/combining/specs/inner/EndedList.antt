@@ -12,7 +12,7 @@ ended_view_of a = record { room = length a.is_in.items; list = a.list.items }
 pub record IsEndedList (a : Inside) : Type 0 where
   pub room : length a.is_in.items ≤ vec_capacity a.list
   pub once : IsOnce a.list.items
-  pub listed : (u : ℕ) → Contains a.list.items u ↔ ((1 ≤ u) × (u ≤ length a.is_in.items) × (slice_index_or a.is_in.items (u - 1) false ≡ true))
+  pub members : (u : ℕ) → Contains a.list.items u ↔ ((1 ≤ u) × (u ≤ length a.is_in.items) × (slice_index_or a.is_in.items (u - 1) false ≡ true))
 
 -- Session u is one of those from 1 to n, and its wait was ended by an entry that the known history has gained.
 abbrev pub IsEndedSince : ℕ → List Entry → List Entry → ℕ → Type 0
@@ -22,5 +22,5 @@ IsEndedSince n before after u = (1 ≤ u) × (u ≤ n) × HasEndedIn before (dro
 -- wasn't in it.
 pub record HasAddedEnded (n : ℕ) (before after : List Entry) (old new : EndedView) : Type 0 where
   pub room : new.room ≡ old.room
-  pub listed : (u : ℕ) → Contains new.list u ↔ (Contains old.list u ⊎ IsEndedSince n before after u)
+  pub members : (u : ℕ) → Contains new.list u ↔ (Contains old.list u ⊎ IsEndedSince n before after u)
   pub once : IsOnce old.list → IsOnce new.list

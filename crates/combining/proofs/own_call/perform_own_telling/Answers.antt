@@ -25,4 +25,4 @@ returns-clause-ended c =
     let count : length u.front ≡ length t.front + 1 = omega (arith, ap (λ (l : List Entry). length l) whole, length-append t.front (entry t.number c.args.call c.in_ok-answer.answer.1 ∷ [])) in
     step-told c.args.board.now.sessions 1 t.front u.front c.perform_own.new.load.book.ended c.args.ended.now c.add_ended.new.self
     (entered-longer t u c.args.call c.perform_own.result c.perform_own.ensures.some c.perform_own.ensures.none) count (λ _. c.in_ok-answer.ensures.ended)
-    c.add_ended.ensures.room c.add_ended.ensures.listed c.add_ended.ensures.once
+    c.add_ended.ensures.room c.add_ended.ensures.members c.add_ended.ensures.once

@@ -15,4 +15,4 @@ pub returns-clause-ended : goal.returns-clause-ended
 returns-clause-ended c =
     let pass = c.serve_published-pass in
     step-told c.args.board.now.sessions pass.result.served c.args.session.now.front pass.new.session.front pass.new.load.book.ended c.args.ended.now c.add_ended.new.self
-    pass.ensures.longer pass.ensures.served pass.ensures.ended c.add_ended.ensures.room c.add_ended.ensures.listed c.add_ended.ensures.once
+    pass.ensures.longer pass.ensures.served pass.ensures.ended c.add_ended.ensures.room c.add_ended.ensures.members c.add_ended.ensures.once

@@ -2,7 +2,7 @@ use Rattle.std.proofs.Common.{rules, ◌≡◌, ◌↔◌, ◌⊎◌, ◌≤◌,
 use Rattle.std.specs.List.{Contains}
 use Rattle.std.proofs.lemmas.List.{length-set, get_or_default}
 use Rattle.combining.specs.Ended.{EndedView}
-use Rattle.combining.proofs.EndedList.{AreMarked, few-marked, marked-pushed, push-listed}
+use Rattle.combining.proofs.EndedList.{AreMarked, few-marked, marked-pushed, push-members}
 use Rattle.combining.proofs.ended.Ended.add.Goals as goal
 
 pub unreachable-requires : goal.unreachable-requires
@@ -16,7 +16,7 @@ unreachable-requires c =
     let off : get_or marks (u - 1) false ≡ false
     = get_or_default marks (u - 1) false c.index.result.now (omega (arith, within, c.requires.some))
     ∙ (ap (λ (w : ℕ). get_or marks (w - 1) c.index.result.now) (sym c.from-place.ensures) ∙ (sym c.index.ensures ∙ c.if-index.false)) in
-    let few = few-marked (set marks (u - 1) true) (xs ++ u ∷ []) (marked-pushed marks xs u (record { once = k.once; listed = k.listed }) c.requires.some within off) in
+    let few = few-marked (set marks (u - 1) true) (xs ++ u ∷ []) (marked-pushed marks xs u (record { once = k.once; members = k.members }) c.requires.some within off) in
     let len : vec_len c.self.inside.list ≡ length xs = search rules in
     let room : vec_len c.self.inside.list < vec_capacity c.self.inside.list
     = omega (arith, few, len, length-append xs (u ∷ []), length-set marks (u - 1) true, k.room) in
@@ -33,11 +33,11 @@ invariant_of-self c =
     let off : get_or marks (u - 1) false ≡ false
     = get_or_default marks (u - 1) false c.index.result.now (omega (arith, within, c.requires.some))
     ∙ (ap (λ (w : ℕ). get_or marks (w - 1) c.index.result.now) (sym c.from-place.ensures) ∙ (sym c.index.ensures ∙ c.if-index.false)) in
-    let m = marked-pushed marks xs u (record { once = k.once; listed = k.listed }) c.requires.some within off in
+    let m = marked-pushed marks xs u (record { once = k.once; members = k.members }) c.requires.some within off in
     let n = subst (λ (w : ℕ). AreMarked (set marks (w - 1) true) c.push.new.self.items) (sym c.from-place.ensures) (subst (λ (l : List ℕ). AreMarked (set marks (u - 1) true) l) (sym c.in-Ok.ensures.items) m) in
     let capacity : vec_capacity c.self.inside.list ≤ vec_capacity c.push.new.self = search rules in
-    record { room = omega (arith, k.room, length-set marks (c.from-place.result - 1) true, capacity); once = n.once; listed = n.listed }
+    record { room = omega (arith, k.room, length-set marks (c.from-place.result - 1) true, capacity); once = n.once; members = n.members }
 
-pub returns-clause-listed : goal.returns-clause-listed
-returns-clause-listed c u = subst (λ (l : List ℕ). Contains l u ↔ (Contains c.args.self.now.list u ⊎ (u ≡ c.args.session))) (sym c.in-Ok.ensures.items)
-    (subst (λ (l : List ℕ). Contains (c.self.inside.list.items ++ c.args.session ∷ []) u ↔ (Contains l u ⊎ (u ≡ c.args.session))) (ap (λ (v : EndedView). v.list) c.self.view_is) (push-listed c.self.inside.list.items c.args.session u))
+pub returns-clause-members : goal.returns-clause-members
+returns-clause-members c u = subst (λ (l : List ℕ). Contains l u ↔ (Contains c.args.self.now.list u ⊎ (u ≡ c.args.session))) (sym c.in-Ok.ensures.items)
+    (subst (λ (l : List ℕ). Contains (c.self.inside.list.items ++ c.args.session ∷ []) u ↔ (Contains l u ⊎ (u ≡ c.args.session))) (ap (λ (v : EndedView). v.list) c.self.view_is) (push-members c.self.inside.list.items c.args.session u))

@@ -9,8 +9,8 @@ loop-session-preserved c =
     let i = c.loop-session.invariant in
     record {
       room = c.add.ensures.room ∙ i.room;
-      listed = added-next c.args.self.now.list c.loop-session.self.list c.add.new.self.list c.args.sessions.now c.loop-session.session-index 0 c.loop-session-test.true i.listed c.add.ensures.listed;
+      members = added-next c.args.self.now.list c.loop-session.self.list c.add.new.self.list c.args.sessions.now c.loop-session.session-index 0 c.loop-session-test.true i.members c.add.ensures.members;
     }
 
-pub returns-clause-listed : goal.returns-clause-listed
-returns-clause-listed c u = subst (λ (l : List ℕ). Contains c.loop-session.self.list u ↔ (Contains c.args.self.now.list u ⊎ Contains l u)) (take_all c.loop-session.session-index c.args.sessions.now c.loop-session-test.false) (c.loop-session.invariant.listed u)
+pub returns-clause-members : goal.returns-clause-members
+returns-clause-members c u = subst (λ (l : List ℕ). Contains c.loop-session.self.list u ↔ (Contains c.args.self.now.list u ⊎ Contains l u)) (take_all c.loop-session.session-index c.args.sessions.now c.loop-session-test.false) (c.loop-session.invariant.members u)

@@ -6,5 +6,5 @@ use Rattle.combining.proofs.ended.Ended.add_all.Given as goal
 abbrev pub invariant-loop-session : goal.invariant-loop-session
 invariant-loop-session l = record {
   room : l.self.room ≡ l.initial.self.room;
-  listed : (u : ℕ) → Contains l.self.list u ↔ (Contains l.initial.self.list u ⊎ Contains (take l.session-index l.sessions) u);
+  members : (u : ℕ) → Contains l.self.list u ↔ (Contains l.initial.self.list u ⊎ Contains (take l.session-index l.sessions) u);
 }

@@ -9,7 +9,7 @@ pub overflow_sub-from : goal.overflow_sub-from
 overflow_sub-from c =
     let xs = c.pop.new.self.items in
     let u = c.in-Some.session in
-    let some = ((c.self.invariant.listed u).0 (subst (λ (l : List ℕ). Contains l u) (let e : xs ++ u ∷ [] ≡ c.self.inside.list.items = cc c.in-Some.ensures.items in e) (Contains-push xs u))).0 in
+    let some = ((c.self.invariant.members u).0 (subst (λ (l : List ℕ). Contains l u) (let e : xs ++ u ∷ [] ≡ c.self.inside.list.items = cc c.in-Some.ensures.items in e) (Contains-push xs u))).0 in
     omega (arith, some, c.from.ensures)
 
 pub invariant_of-self-2 : goal.invariant_of-self-2
@@ -18,7 +18,7 @@ invariant_of-self-2 c =
     let marks = c.self.inside.is_in.items in
     let xs = c.pop.new.self.items in
     let u = c.in-Some.session in
-    let m : AreMarked marks (xs ++ u ∷ []) = subst (λ (l : List ℕ). AreMarked marks l) c.in-Some.ensures.items (record { once = k.once; listed = k.listed }) in
+    let m : AreMarked marks (xs ++ u ∷ []) = subst (λ (l : List ℕ). AreMarked marks l) c.in-Some.ensures.items (record { once = k.once; members = k.members }) in
     let at : u ≡ c.from.result = cc c.from.ensures in
     let n = subst (λ (w : ℕ). AreMarked (set marks (w - 1) false) xs) at (marked-popped marks xs u m) in
-    record { room = omega (arith, k.room, length-set marks (c.from.result - 1) false, c.pop.ensures.capacity); once = n.once; listed = n.listed }
+    record { room = omega (arith, k.room, length-set marks (c.from.result - 1) false, c.pop.ensures.capacity); once = n.once; members = n.members }

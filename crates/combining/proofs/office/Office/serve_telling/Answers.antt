@@ -40,7 +40,7 @@ returns-in-Some-clause-told c served starved is =
     let list = c.add_ended.new.self.list in
     let none = ap (λ (v : EndedView). v.list) c.clear.ensures in
     let front = ap (λ (t : TicketView). t.front) c.end_pass.ensures.session in
-    let those = subst (λ (load : Load). (u : ℕ) → Contains list u ↔ (Contains c.clear.new.self.list u ⊎ ((0 < made.pass.served) × Contains load.book.ended u))) at c.add_ended.ensures.listed in
+    let those = subst (λ (load : Load). (u : ℕ) → Contains list u ↔ (Contains c.clear.new.self.list u ⊎ ((0 < made.pass.served) × Contains load.book.ended u))) at c.add_ended.ensures.members in
     subst (λ (k : ℕ). AreToldBy n k after.front list) same
     (pass-told n c.args.session.now c.make_pass.new.session after made.load.value made.pass.served list c.in-Some.ensures.made front
     (into-empty c.clear.new.self.list list none those) (c.add_ended.ensures.once (once-empty c.clear.new.self.list none)))
