@@ -12,7 +12,7 @@ use Rattle.lock_rules.proofs.Histories.{state_after-append}
 use Rattle.lock_desk.specs.declared.book.Item.{Item}
 use Rattle.lock_desk.specs.BookView.{BookView}
 use Rattle.lock_desk.specs.Batches.{entries_from, item_of, has_ended_in, ended_waits_in}
-use Rattle.lock_desk.specs.inner.Ended.{EndedView, is_listed, listed_in}
+use Rattle.lock_desk.specs.inner.Ended.{EndedView, is_ended, ended_in}
 use Rattle.lock_desk.specs.inner.Runs.{AreServed}
 use Rattle.lock_desk.proofs.EndedList.{same-tests, same-numbers, no-numbers}
 
@@ -87,11 +87,11 @@ ends-also n start items st i old new same h =
     (λ u l k. h u ∙ ap (λ (b : Bool). b || item_ends st i u) (same-tests old (has_ended_in start items) n same u l (omega (arith, k))))
 
 -- so of the list of a lock table
-pub listed-also : (n : ℕ) (start : State) (items : List Item) (st : State) (i : Item) (v w : EndedView) → length v.places ≡ n → length w.places ≡ n → listed_in v ≡ ended_waits_in n start items
-    → ((u : ℕ) → is_listed w u ≡ (is_listed v u || item_ends st i u)) → listed_in w ≡ ended_also n start items st i
-listed-also n start items st i v w long still same adds =
-    ap (λ (m : ℕ). filter (is_listed w) (range_with_len 1 m)) still
-    ∙ ends-also n start items st i (is_listed v) (is_listed w) (sym (ap (λ (m : ℕ). filter (is_listed v) (range_with_len 1 m)) long) ∙ same) adds
+pub waits_ended-also : (n : ℕ) (start : State) (items : List Item) (st : State) (i : Item) (v w : EndedView) → length v.places ≡ n → length w.places ≡ n → ended_in v ≡ ended_waits_in n start items
+    → ((u : ℕ) → is_ended w u ≡ (is_ended v u || item_ends st i u)) → ended_in w ≡ ended_also n start items st i
+waits_ended-also n start items st i v w long still same adds =
+    ap (λ (m : ℕ). filter (is_ended w) (range_with_len 1 m)) still
+    ∙ ends-also n start items st i (is_ended v) (is_ended w) (sym (ap (λ (m : ℕ). filter (is_ended v) (range_with_len 1 m)) long) ∙ same) adds
 
 -- no item is served yet
 pub served-none : (n : ℕ) (batch : List Item) (start : List Entry) → AreServed n 0 batch start [] start batch

@@ -13,8 +13,8 @@ use Rattle.lock_rules.specs.Legal.{state_of}
 use Rattle.lock_rules.proofs.Histories.{legal-push, state_of-push}
 use Rattle.lock_desk.specs.declared.lockers.Locker.{Locker}
 use Rattle.lock_desk.specs.inner.Lockers.{no_standing, standing_of, standings_of, standing_at}
-use Rattle.lock_desk.specs.inner.Changes.{with_ended, with_listed, IsWhole, HasListed}
-use Rattle.lock_desk.specs.inner.Ended.{EndedView, is_listed, listed_in}
+use Rattle.lock_desk.specs.inner.Changes.{with_ended, with_ended_count, IsWhole, HasNotedEnded}
+use Rattle.lock_desk.specs.inner.Ended.{EndedView, is_ended, ended_in}
 use Rattle.lock_desk.specs.declared.lock_table.LockTable.{LockTable}
 use Rattle.lock_desk.specs.inner.Ready.{IsReadyTable}
 use Rattle.lock_desk.specs.inner.Shows.{Shows}
@@ -23,7 +23,7 @@ use Rattle.lock_desk.specs.BookView.{BookView, IsEntryWithin}
 use Rattle.lock_desk.specs.inner.Invariant.{book_view_of, IsKept}
 use Rattle.lock_desk.specs.declared.book.Book.TheInside.{Inside}
 use Rattle.waits_for.specs.declared.TheConstants.{MAX_SESSIONS}
-use Rattle.lock_desk.proofs.EndedList.{same-numbers, none-listed}
+use Rattle.lock_desk.proofs.EndedList.{same-numbers, none-waits_ended}
 use Rattle.lock_desk.proofs.EndedWaits.{whole-relisted, ready-relisted, shows-relisted}
 use Rattle.lock_desk.proofs.Simulation.{waits-shown}
 
@@ -66,12 +66,12 @@ none-push ws w h e (suc s) = go ws (λ i. h (suc i)) s
 
 -- what is listed in addition has ended by the rules
 
-pub listed-ends : (s : ℕ) (d e : LockTable) (before after : rules.State) → IsWhole d → IsWhole e → Shows d before → Shows e after → HasListed s d e
-    → (u : ℕ) → is_listed e.ended u ≡ (is_listed d.ended u || has_ended s before after u)
-listed-ends s d e before after w x h k l u =
+pub waits_ended-ends : (s : ℕ) (d e : LockTable) (before after : rules.State) → IsWhole d → IsWhole e → Shows d before → Shows e after → HasNotedEnded s d e
+    → (u : ℕ) → is_ended e.ended u ≡ (is_ended d.ended u || has_ended s before after u)
+waits_ended-ends s d e before after w x h k l u =
     let o = waits-shown d before u w h in
     let n = waits-shown e after u x k in
-    l.listed u ∙ (λ i. is_listed d.ended u || (not (eqb u s) && (o i && not (n i))))
+    l.waits_ended u ∙ (λ i. is_ended d.ended u || (not (eqb u s) && (o i && not (n i))))
 
 -- the invariant of a book: its lock table with its history, and a locker and a mark for each session
 
@@ -111,13 +111,13 @@ kept-relisted d v es long k = record {
 }
 
 -- in a table whose list was cleared, those are listed whose wait the call has ended
-pub listed-alone : (n s : ℕ) (before after : rules.State) (v w : EndedView) → length w.places ≡ n → v.count ≡ 0 → ((u : ℕ) → is_listed w u ≡ (is_listed v u || has_ended s before after u)) → listed_in w ≡ ended_waits n s before after
-listed-alone n s before after v w long none adds =
-    same-numbers (is_listed w) (has_ended s before after) 1 (length w.places) (λ u l k. adds u ∙ ap (λ (b : Bool). b || has_ended s before after u) (none-listed v none u))
+pub waits_ended-alone : (n s : ℕ) (before after : rules.State) (v w : EndedView) → length w.places ≡ n → v.count ≡ 0 → ((u : ℕ) → is_ended w u ≡ (is_ended v u || has_ended s before after u)) → ended_in w ≡ ended_waits n s before after
+waits_ended-alone n s before after v w long none adds =
+    same-numbers (is_ended w) (has_ended s before after) 1 (length w.places) (λ u l k. adds u ∙ ap (λ (b : Bool). b || has_ended s before after u) (none-waits_ended v none u))
     ∙ ap (λ (m : ℕ). ended_waits m s before after) long
 
 -- the invariant, when as many sessions are listed as `n`
-pub relisted-kept : (a : Inside) (n : ℕ) (e : LockTable) → e ≡ with_listed n a.lock_table → IsKept a → IsKept (record { sessions = a.sessions; lock_table = e; history = a.history; marks = a.marks })
+pub relisted-kept : (a : Inside) (n : ℕ) (e : LockTable) → e ≡ with_ended_count n a.lock_table → IsKept a → IsKept (record { sessions = a.sessions; lock_table = e; history = a.history; marks = a.marks })
 relisted-kept a n e is k =
     subst (λ (d : LockTable). IsKept (record { sessions = a.sessions; lock_table = d; history = a.history; marks = a.marks })) (sym is)
     (of-kept _ k.some k.few (kept-relisted a.lock_table _ a.history.items refl (kept-of a k)) k.lockers k.marked)

@@ -8,7 +8,7 @@ use Rattle.std.proofs.lemmas.List.{get_or-set_same, get_or-set_other, length-set
 use Rattle.lock_rules.proofs.Members.{contains-member, member-contains}
 use Rattle.lock_rules.proofs.Ended.{member-range}
 use Rattle.lock_rules.proofs.Alters.{true≢false}
-use Rattle.lock_desk.specs.inner.Ended.{EndedView, is_listed, listed_in, ArePlaced}
+use Rattle.lock_desk.specs.inner.Ended.{EndedView, is_ended, ended_in, ArePlaced}
 
 -- tests of numbers
 pub eqb-apart : (a b : ℕ) → a ≢ b → eqb a b ≡ false
@@ -311,7 +311,7 @@ module _ (ss ps : List ℕ) (h : ArePlaced ss ps) (s c : ℕ) (some : 1 ≤ s) (
   within-range : (u : ℕ) → (leb 1 u && leb u (length ps)) ≡ true → (1 ≤ u) × (u ≤ length ps)
   within-range u e = let p = and_parts (leb 1 u) (leb u (length ps)) e in (leb-holds 1 u p.0, leb-holds u (length ps) p.1)
 
-  pub added : j ≡ c → ltb place c ≡ false → (u : ℕ) → is_listed (record { places = qs; count = c + 1 }) u ≡ (is_listed (record { places = ps; count = c }) u || eqb u s)
+  pub added : j ≡ c → ltb place c ≡ false → (u : ℕ) → is_ended (record { places = qs; count = c + 1 }) u ≡ (is_ended (record { places = ps; count = c }) u || eqb u s)
   added at behind u = ap (λ (b : Bool). b && ltb (get_or qs (u - 1) 0) (c + 1)) (still-beyond u) ∙ go (leb 1 u && leb u (length ps)) refl
     where
       go : (b : Bool) → (leb 1 u && leb u (length ps)) ≡ b → (b && ltb (get_or qs (u - 1) 0) (c + 1)) ≡ ((b && ltb (get_or ps (u - 1) 0) c) || eqb u s)
@@ -321,7 +321,7 @@ module _ (ss ps : List ℕ) (h : ArePlaced ss ps) (s c : ℕ) (some : 1 ≤ s) (
           core-added u s (get_or ps (u - 1) 0) (get_or qs (u - 1) 0) c place r.0 some
           (subst (λ (i : ℕ). get_or qs (u - 1) 0 ≡ cond (eqb (u - 1) (s - 1)) i (cond (eqb (get_or ps (u - 1) 0) i) place (get_or ps (u - 1) 0))) at (places (u - 1) (omega (arith, r.0, r.1)))) behind (one u r.0 r.1)
 
-  pub removed : j ≡ c - 1 → place < c → (u : ℕ) → is_listed (record { places = qs; count = c - 1 }) u ≡ (is_listed (record { places = ps; count = c }) u && not (eqb u s))
+  pub removed : j ≡ c - 1 → place < c → (u : ℕ) → is_ended (record { places = qs; count = c - 1 }) u ≡ (is_ended (record { places = ps; count = c }) u && not (eqb u s))
   removed at among u = ap (λ (b : Bool). b && ltb (get_or qs (u - 1) 0) (c - 1)) (still-beyond u) ∙ go (leb 1 u && leb u (length ps)) refl
     where
       go : (b : Bool) → (leb 1 u && leb u (length ps)) ≡ b → (b && ltb (get_or qs (u - 1) 0) (c - 1)) ≡ ((b && ltb (get_or ps (u - 1) 0) c) && not (eqb u s))
@@ -334,10 +334,10 @@ module _ (ss ps : List ℕ) (h : ArePlaced ss ps) (s c : ℕ) (some : 1 ≤ s) (
 -- the list as it is handed out
 
 -- it has exactly the sessions that are listed
-pub handed : (ss ps : List ℕ) (c : ℕ) → ArePlaced ss ps → c ≤ length ps → (u : ℕ) → Contains (take c ss) u ↔ (is_listed (record { places = ps; count = c }) u ≡ true)
+pub handed : (ss ps : List ℕ) (c : ℕ) → ArePlaced ss ps → c ≤ length ps → (u : ℕ) → Contains (take c ss) u ↔ (is_ended (record { places = ps; count = c }) u ≡ true)
 handed ss ps c h few u = (to, back_)
   where
-    to : Contains (take c ss) u → is_listed (record { places = ps; count = c }) u ≡ true
+    to : Contains (take c ss) u → is_ended (record { places = ps; count = c }) u ≡ true
     to k =
         let i = k.0 in
         let front : i < c = omega (arith, k.1, length-take-le c ss (omega (arith, few, h.long))) in
@@ -347,7 +347,7 @@ handed ss ps c h few u = (to, back_)
         and_from (leb 1 u && leb u (length ps)) (ltb (get_or ps (u - 1) 0) c) (in-range u (length ps) (omega (arith, h.some i l, at)) (omega (arith, h.within i l, at)))
         ((Decides-ltb (get_or ps (u - 1) 0) c).1 (omega (arith, back, front)))
 
-    back_ : is_listed (record { places = ps; count = c }) u ≡ true → Contains (take c ss) u
+    back_ : is_ended (record { places = ps; count = c }) u ≡ true → Contains (take c ss) u
     back_ e =
         let p = and_parts (leb 1 u && leb u (length ps)) (ltb (get_or ps (u - 1) 0) c) e in
         let r = and_parts (leb 1 u) (leb u (length ps)) p.0 in
@@ -367,8 +367,8 @@ handed-once ss ps c h few j k lt within e =
     absurd (omega (arith, place, lt))
 
 -- a session that is listed is in the range
-pub listed-within : (v : EndedView) (u : ℕ) → is_listed v u ≡ true → (1 ≤ u) × (u ≤ length v.places)
-listed-within v u e =
+pub waits_ended-within : (v : EndedView) (u : ℕ) → is_ended v u ≡ true → (1 ≤ u) × (u ≤ length v.places)
+waits_ended-within v u e =
     let p = and_parts (leb 1 u && leb u (length v.places)) (ltb (get_or v.places (u - 1) 0) v.count) e in
     let r = and_parts (leb 1 u) (leb u (length v.places)) p.0 in
     (leb-holds 1 u r.0, leb-holds u (length v.places) r.1)
@@ -408,10 +408,10 @@ no-numbers p a zero h = refl
 no-numbers p a (suc n) h = ap (λ (b : Bool). cond b (a ∷ filter p (range_with_len (a + 1) n)) (filter p (range_with_len (a + 1) n))) (h a) ∙ no-numbers p (a + 1) n h
 
 -- nothing is listed once the list is cleared
-pub none-listed : (v : EndedView) → v.count ≡ 0 → (u : ℕ) → is_listed v u ≡ false
-none-listed v e u =
+pub none-waits_ended : (v : EndedView) → v.count ≡ 0 → (u : ℕ) → is_ended v u ≡ false
+none-waits_ended v e u =
     ap (λ (c : ℕ). (leb 1 u && leb u (length v.places)) && ltb (get_or v.places (u - 1) 0) c) e
     ∙ (ap (λ (b : Bool). (leb 1 u && leb u (length v.places)) && b) (ltb-not (get_or v.places (u - 1) 0) 0 (omega arith)) ∙ and-false (leb 1 u && leb u (length v.places)))
 
-pub none-in : (v : EndedView) → v.count ≡ 0 → listed_in v ≡ []
-none-in v e = no-numbers (is_listed v) 1 (length v.places) (none-listed v e)
+pub none-in : (v : EndedView) → v.count ≡ 0 → ended_in v ≡ []
+none-in v e = no-numbers (is_ended v) 1 (length v.places) (none-waits_ended v e)

@@ -7,7 +7,7 @@ use Rattle.lock_desk.specs.declared.lockers.Locker.{Locker}
 use Rattle.lock_desk.specs.inner.Cells.{View, has_session, IsOnce}
 use Rattle.lock_desk.specs.inner.Requests.{wanted_in}
 use Rattle.lock_desk.specs.inner.Lockers.{Standing, standing_of, standings_of, standing_at, is_wanted, standing_after_grant, AreSameOrGranted, DoAgree}
-use Rattle.lock_desk.specs.inner.Ended.{EndedView, is_listed, DoList}
+use Rattle.lock_desk.specs.inner.Ended.{EndedView, is_ended, DoNoteEnded}
 use Rattle.lock_desk.proofs.EndedWaits.{list-granted}
 use Rattle.lock_desk.proofs.ResourceViews.{IsNext, next-waits}
 use Rattle.lock_desk.proofs.LockerStandings.{IsPositionOf, standing-here, standings-set, length-standings, waits-within, agree-next, same-next}
@@ -50,8 +50,8 @@ module _ (r : List ℕ) (v w : View) (c : SessionMode) (lockers : List Locker) (
       grant-same old h = subst (AreSameOrGranted r old) (sym grant-lockers) (same-next r old (standings_of lockers) c.session long grant-waits h)
 
       -- and its session is listed
-      pub grant-listed : (a b : EndedView) → length b.places ≡ length a.places → ((u : ℕ) → is_listed b u ≡ (is_listed a u || eqb u c.session)) → DoList 0 lockers (set lockers i new) a b
-      grant-listed a b sized adds = list-granted c.session lockers new a b (grant-within next) (wanted-some (standing_at c.session (standings_of lockers)).wanted grant-waits) (ap (λ (x : Standing). is_some x.wanted) e) sized adds
+      pub grant-waits_ended : (a b : EndedView) → length b.places ≡ length a.places → ((u : ℕ) → is_ended b u ≡ (is_ended a u || eqb u c.session)) → DoNoteEnded 0 lockers (set lockers i new) a b
+      grant-waits_ended a b sized adds = list-granted c.session lockers new a b (grant-within next) (wanted-some (standing_at c.session (standings_of lockers)).wanted grant-waits) (ap (λ (x : Standing). is_some x.wanted) e) sized adds
         where
           wanted-some : (o : Option (List ℕ)) → is_wanted r o ≡ true → is_some o ≡ true
           wanted-some None h = absurd (cc)

@@ -131,7 +131,7 @@ module _ (r : List ℕ) (v : View) (d e : LockTable) (w : IsWhole d) (x : IsWhol
       sessions = refl;
       numbers = ap (λ ns. vec_len ns) f.numbers ∙ (k.ready.numbers ∙ sym f.sessions);
     };
-    listed = sized ∙ (k.listed ∙ sym len);
+    waits_ended = sized ∙ (k.waits_ended ∙ sym len);
     filled = record {
       pairs = λ a b. f.pairs a b ∙ (ap (λ (o : Bool). (o && not (has_session (a + 1) (view_at r d).waiting)) || view_blocks (a + 1) (b + 1) v) (k.filled.pairs a b) ∙ sym (blocks-follow (a + 1) (b + 1)));
       numbers = λ a. ap (λ ns. slice_index_or ns.items a 0) f.numbers ∙ (k.filled.numbers a ∙ sym (ap number_in (transactions (a + 1))));
@@ -159,7 +159,7 @@ pub ready-same : (d e : LockTable) → IsSameSeen d e → vec_len e.lockers ≡ 
 ready-same d e same len waits k = record {
   long = ap (λ (x : Waits). x.rows.sessions) waits ∙ (k.long ∙ sym len);
   ready = subst (λ (x : Waits). IsSizedFor x.rows.sessions x) (sym waits) k.ready;
-  listed = ap (λ (v : EndedView). length v.places) same.ended ∙ (k.listed ∙ sym len);
+  waits_ended = ap (λ (v : EndedView). length v.places) same.ended ∙ (k.waits_ended ∙ sym len);
   filled = record {
     pairs = λ a b. ap (λ (x : Waits). pairs_of x.rows a b) waits ∙ (k.filled.pairs a b ∙ sym (blocks-same (a + 1) (b + 1)));
     numbers = λ a. ap (λ (x : Waits). slice_index_or x.numbers.items a 0) waits ∙ (k.filled.numbers a ∙ sym (ap (λ (ss : List Standing). number_in (standing_at (a + 1) ss).transaction) same.standings_same));
@@ -181,7 +181,7 @@ ready-transactions d e w x views len sized rows length numbers k =
     record {
       long = sessions ∙ (k.long ∙ sym len);
       ready = record { few = omega (arith, sessions, k.ready.few); sessions = refl; numbers = length ∙ (k.ready.numbers ∙ sym sessions) };
-      listed = sized ∙ (k.listed ∙ sym len);
+      waits_ended = sized ∙ (k.waits_ended ∙ sym len);
       filled = record {
         pairs = λ a b. ap (λ rs. pairs_of rs a b) rows ∙ (k.filled.pairs a b ∙ sym (blocks-unchanged (a + 1) (b + 1)));
         numbers = numbers;
@@ -230,10 +230,10 @@ ready-doomed d e s w x views len sized transactions waits k =
 
 -- the graph of an empty table is current
 pub ready-new : (d : LockTable) → d.waits.rows.sessions ≡ vec_len d.lockers → length d.ended.places ≡ vec_len d.lockers → IsSizedFor d.waits.rows.sessions d.waits → ((a b : ℕ) → pairs_of d.waits.rows a b ≡ false) → ((a : ℕ) → slice_index_or d.waits.numbers.items a 0 ≡ 0) → ((s : ℕ) → standing s d ≡ no_standing) → IsReadyTable d
-ready-new d long listed ready pairs numbers none = record {
+ready-new d long waits_ended ready pairs numbers none = record {
   long = long;
   ready = ready;
-  listed = listed;
+  waits_ended = waits_ended;
   filled = record {
     pairs = λ a b. pairs a b ∙ sym (ap (λ (x : Standing). blocks_at (a + 1) (b + 1) d.cells.entries x.wanted) (none (a + 1)));
     numbers = λ a. numbers a ∙ sym (ap (λ (x : Standing). number_in x.transaction) (none (a + 1)));

@@ -283,11 +283,11 @@ impl Book {
         }) }
         ensures err { OnErr result (self.new ≡ self.old) }
     {
-        let listed = self.lock_table.clear_ended();
+        let waits_ended = self.lock_table.clear_ended();
         match serve_recorded(&mut self.lock_table, &mut self.history, session, call) {
             Ok(reply) => Ok(reply),
             Err(refused) => {
-                self.lock_table.restore_ended(listed);
+                self.lock_table.restore_ended(waits_ended);
                 Err(refused)
             }
         }
@@ -319,7 +319,7 @@ impl Book {
     fn forget_ended(&mut self)
         ensures { self.new ≡ record self.old { ended = [] } }
     {
-        let _listed = self.lock_table.clear_ended();
+        let _waits_ended = self.lock_table.clear_ended();
     }
 
     /// Serves the items in order, run by run, and returns how many it served.

@@ -9,7 +9,7 @@ ghost use Rattle.lock_desk.specs.inner.Cells.{no_view, view_of, has_session, mod
 ghost use Rattle.lock_desk.specs.inner.Tables.{in_use, AreIdleFrom};
 ghost use Rattle.lock_desk.specs.inner.Listing.{in_order};
 ghost use Rattle.lock_desk.specs.inner.Lockers.{standings_of, AreSameOrGranted, DoAgree};
-ghost use Rattle.lock_desk.specs.inner.Ended.{DoList};
+ghost use Rattle.lock_desk.specs.inner.Ended.{DoNoteEnded};
 ghost use Rattle.lock_desk.specs.inner.Blocking.{IsOfSessions, AreWritten, IsWritten, DoFollow};
 
 use crate::cells::{Cell, GivenUp, RequestStatus, SessionMode, is_same};
@@ -386,7 +386,7 @@ impl CellTable {
             DoAgree resource freed (standings_of lockers.new.items) }
         ensures granted { AreSameOrGranted resource (standings_of lockers.old.items) (standings_of lockers.new.items) }
         ensures len { vec_len lockers.new ≡ vec_len lockers.old }
-        ensures listed { DoList 0 lockers.old.items lockers.new.items ended.old ended.new }
+        ensures waits_ended { DoNoteEnded 0 lockers.old.items lockers.new.items ended.old ended.new }
         ensures rows { let before = cell_view resource self.old.entries in
             DoFollow before (view_after_freeing claim session before) waits.old waits.new }
     {

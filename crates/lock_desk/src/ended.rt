@@ -1,23 +1,23 @@
 //! The list of the sessions whose wait has ended.
 
 ghost use Rattle.std.specs.Prelude.{◌≡◌, ◌≢◌, ℕ, ◌+◌, ◌-◌, ◌<◌, ◌≤◌, ◌↔◌, ◌||◌, ◌&&◌, ◌==◌, not, true, false, if◌then◌else◌, length, Contains, slice_index, slice_index_or, IfOk};
-ghost use Rattle.lock_desk.specs.inner.Ended.{is_listed};
+ghost use Rattle.lock_desk.specs.inner.Ended.{is_ended};
 
 use crate::positions::position_of;
 use std::alloc::{AllocError, Global};
 use std::marker::Model;
 
-/// A list of sessions, each at most once. Contracts see which sessions are listed, by `is_listed`, not their order.
+/// The sessions whose wait has ended, each at most once. Contracts see which they are, by `is_ended`, not their order.
 ///
-/// All sessions are in one vector, and those at its front are listed. So a session is added, found or removed by a few
-/// stores, and all are removed by one. Only `new` takes memory.
+/// All sessions are in one vector, and those whose wait has ended are at its front. So a session is added, found or
+/// removed by a few stores, and all are removed by one. Only `new` takes memory.
 #[derive(Drop)]
 pub struct EndedWaits {
-    /// All sessions, each once: first the listed ones.
+    /// All sessions, each once: first those whose wait has ended.
     sessions: Vec<u16>,
     /// The index of each session in `sessions`, by position.
     places: Vec<u16>,
-    /// How many sessions are listed.
+    /// For how many sessions a wait has ended.
     count: u16,
 }
 
@@ -50,19 +50,19 @@ impl EndedWaits {
         })
     }
 
-    /// The listed sessions.
+    /// The sessions whose wait has ended.
     pub(crate) fn list(&self) -> &[u16]
-        ensures listed { (u : ℕ) → Contains result.now u ↔ (is_listed self.now u ≡ true) }
+        ensures waits_ended { (u : ℕ) → Contains result.now u ↔ (is_ended self.now u ≡ true) }
         ensures once { (j k : ℕ) → j < k → k < length result.now → slice_index result.now j ≢ slice_index result.now k }
     {
         &self.sessions[..self.count as usize]
     }
 
-    /// Whether `session` is listed.
+    /// Whether `session` is among them.
     pub(crate) fn has(&self, session: u16) -> bool
         requires some { 1 ≤ session }
         requires within { session ≤ length self.now.places }
-        ensures { result ≡ is_listed self.now session }
+        ensures { result ≡ is_ended self.now session }
     {
         self.places[position_of(session)] < self.count
     }
@@ -78,7 +78,7 @@ impl EndedWaits {
         count
     }
 
-    /// Lists again the `count` sessions that were listed last, if none was added since.
+    /// Takes the last `count` sessions up again, if none was added since.
     pub(crate) fn restore(&mut self, count: u16)
         requires { count ≤ length self.old.places }
         ensures { self.new ≡ record self.old { count = count } }
@@ -106,12 +106,12 @@ impl EndedWaits {
         self.places[position] = place;
     }
 
-    /// Adds `session`, if it isn't listed.
+    /// Adds `session`, if it isn't among them.
     pub(crate) fn add(&mut self, session: u16)
         requires some { 1 ≤ session }
         requires within { session ≤ length self.old.places }
         ensures sized { length self.new.places ≡ length self.old.places }
-        ensures listed { (u : ℕ) → is_listed self.new u ≡ (is_listed self.old u || (u == session)) }
+        ensures waits_ended { (u : ℕ) → is_ended self.new u ≡ (is_ended self.old u || (u == session)) }
     {
         if self.has(session) {
             return;
@@ -121,12 +121,12 @@ impl EndedWaits {
         self.count += 1;
     }
 
-    /// Removes `session`, if it is listed.
+    /// Removes `session`, if it is among them.
     pub(crate) fn remove(&mut self, session: u16)
         requires some { 1 ≤ session }
         requires within { session ≤ length self.old.places }
         ensures sized { length self.new.places ≡ length self.old.places }
-        ensures listed { (u : ℕ) → is_listed self.new u ≡ (is_listed self.old u && not (u == session)) }
+        ensures waits_ended { (u : ℕ) → is_ended self.new u ≡ (is_ended self.old u && not (u == session)) }
     {
         if !self.has(session) {
             return;

@@ -8,8 +8,8 @@ ghost use Rattle.lock_desk.specs.inner.Cells.{pair_of, IsPlace};
 ghost use Rattle.lock_desk.specs.declared.cells.GivenUp.TheVariants as claim;
 ghost use Rattle.lock_desk.specs.inner.ChildCounts.{has_child};
 ghost use Rattle.lock_desk.specs.inner.Lockers.{standing_of};
-ghost use Rattle.lock_desk.specs.inner.Changes.{view_at, standing, with_listed, IsWhole, DoesKeep, mode_held, CanRelease, HasFreed, HasGivenBack, HasGivenBackAll, HasCancelled, HasBegun, HasEnded, HasListed};
-ghost use Rattle.lock_desk.specs.inner.Ended.{is_listed, waits_at};
+ghost use Rattle.lock_desk.specs.inner.Changes.{view_at, standing, with_ended_count, IsWhole, DoesKeep, mode_held, CanRelease, HasFreed, HasGivenBack, HasGivenBackAll, HasCancelled, HasBegun, HasEnded, HasNotedEnded};
+ghost use Rattle.lock_desk.specs.inner.Ended.{is_ended, waits_at};
 ghost use Rattle.lock_desk.specs.inner.Ready.{IsReadyTable};
 ghost use Rattle.lock_desk.specs.inner.Shows.{Shows};
 
@@ -79,7 +79,7 @@ impl LockTable {
 
     /// The sessions whose wait has ended since the list was cleared.
     pub(crate) fn ended(&self) -> &[u16]
-        ensures listed { (u : ℕ) → Contains result.now u ↔ (is_listed self.now.ended u ≡ true) }
+        ensures waits_ended { (u : ℕ) → Contains result.now u ↔ (is_ended self.now.ended u ≡ true) }
         ensures once { (j k : ℕ) → j < k → k < length result.now → slice_index result.now j ≢ slice_index result.now k }
     {
         self.ended.list()
@@ -89,15 +89,15 @@ impl LockTable {
     pub(crate) fn clear_ended(&mut self) -> u16
         ensures count { result ≡ self.old.ended.count }
         ensures few { result ≤ length self.new.ended.places }
-        ensures cleared { self.new ≡ with_listed 0 self.old }
+        ensures cleared { self.new ≡ with_ended_count 0 self.old }
     {
         self.ended.clear()
     }
 
-    /// Lists again the `count` sessions that were listed before `clear_ended`, if no wait has ended since.
+    /// Takes the `count` sessions up again that `clear_ended` removed, if no wait has ended since.
     pub(crate) fn restore_ended(&mut self, count: u16)
         requires { count ≤ length self.old.ended.places }
-        ensures { self.new ≡ with_listed count self.old }
+        ensures { self.new ≡ with_ended_count count self.old }
     {
         self.ended.restore(count);
     }
@@ -185,7 +185,7 @@ impl LockTable {
         requires place { IsPlace resource self.old.cells.entries place }
         requires can { CanRelease session resource self.old }
         ensures freed { HasFreed claim.Lock session resource self.old self.new }
-        ensures listed { HasListed session self.old self.new }
+        ensures waits_ended { HasNotedEnded session self.old self.new }
         ensures kept { DoesKeep self.old self.new }
     {
         let locker = &mut self.lockers[position_of(session)];
@@ -211,7 +211,7 @@ impl LockTable {
         requires idle { (standing session self.old).wanted ≡ None }
         requires holds { 0 < length (standing session self.old).held }
         ensures back { HasGivenBack session self.old self.new }
-        ensures listed { HasListed session self.old self.new }
+        ensures waits_ended { HasNotedEnded session self.old self.new }
         ensures kept { DoesKeep self.old self.new }
     {
         let locker = &mut self.lockers[position_of(session)];
@@ -240,7 +240,7 @@ impl LockTable {
         ensures locks { result ≡ length (standing session self.old).held }
         ensures none { length (standing session self.new).held ≡ 0 }
         ensures back { HasGivenBackAll session self.old self.new }
-        ensures listed { HasListed session self.old self.new }
+        ensures waits_ended { HasNotedEnded session self.old self.new }
         ensures kept { DoesKeep self.old self.new }
     {
         let locker = self.locker(session);
@@ -260,7 +260,7 @@ impl LockTable {
         requires room { self.old.count < 18446744073709551615 }
         ensures number { result ≡ self.old.count + 1 }
         ensures begun { HasBegun session self.old self.new }
-        ensures listed { HasListed session self.old self.new }
+        ensures waits_ended { HasNotedEnded session self.old self.new }
         ensures kept { DoesKeep self.old self.new }
     {
         self.count += 1;
@@ -279,7 +279,7 @@ impl LockTable {
         requires ready { IsReadyTable self.old }
         ensures waited { result ≡ waits_at session self.old.lockers.items }
         ensures cancelled { HasCancelled session self.old self.new }
-        ensures listed { HasListed session self.old self.new }
+        ensures waits_ended { HasNotedEnded session self.old self.new }
         ensures kept { DoesKeep self.old self.new }
     {
         let locker = &mut self.lockers[position_of(session)];
@@ -310,7 +310,7 @@ impl LockTable {
         ensures locks { result ≡ length (standing session self.old).held }
         ensures few { result ≤ MAX_LOCKS }
         ensures ended { HasEnded session self.old self.new }
-        ensures listed { HasListed session self.old self.new }
+        ensures waits_ended { HasNotedEnded session self.old self.new }
         ensures kept { DoesKeep self.old self.new }
     {
         let locks = self.give_back_all(session);
@@ -330,7 +330,7 @@ impl LockTable {
         ensures locks { result ≡ length (standing session self.old).held }
         ensures few { result ≤ MAX_LOCKS }
         ensures ended { HasEnded session self.old self.new }
-        ensures listed { HasListed session self.old self.new }
+        ensures waits_ended { HasNotedEnded session self.old self.new }
         ensures kept { DoesKeep self.old self.new }
     {
         self.cancel(session);

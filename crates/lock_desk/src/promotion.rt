@@ -4,7 +4,7 @@ ghost use Rattle.std.specs.Prelude.{◌≡◌, ℕ, ◌+◌, ◌≤◌, drop, le
 ghost use Rattle.lock_desk.specs.inner.Cells.{view_of, times, view_after_promotion, HasRoom, IsOnce};
 ghost use Rattle.lock_desk.specs.inner.Blocking.{IsOfSessions, AreWritten, HasGranted, DoFollow};
 ghost use Rattle.lock_desk.specs.inner.Lockers.{standings_of, AreSameOrGranted, DoAgree};
-ghost use Rattle.lock_desk.specs.inner.Ended.{DoList};
+ghost use Rattle.lock_desk.specs.inner.Ended.{DoNoteEnded};
 
 use crate::cells::Cell;
 use crate::ended::EndedWaits;
@@ -63,7 +63,7 @@ pub(crate) fn promote(
     ensures agree { DoAgree resource (view_of cell.new) (standings_of lockers.new.items) }
     ensures granted { AreSameOrGranted resource (standings_of lockers.old.items) (standings_of lockers.new.items) }
     ensures len { vec_len lockers.new ≡ vec_len lockers.old }
-    ensures listed { DoList 0 lockers.old.items lockers.new.items ended.old ended.new }
+    ensures waits_ended { DoNoteEnded 0 lockers.old.items lockers.new.items ended.old ended.new }
     ensures rows { DoFollow (view_of cell.old) (view_of cell.new) waits.old waits.new }
 {
     let mut granted = 0;

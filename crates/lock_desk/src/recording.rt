@@ -4,7 +4,7 @@ ghost use Rattle.std.specs.Prelude.{◌≡◌, ℕ, ◌≤◌, ◌||◌, [], ◌
 ghost use Rattle.lock_rules.specs.Step.{step};
 ghost use Rattle.lock_rules.specs.Ended.{has_ended};
 ghost use Rattle.lock_rules.specs.Legal.{state_of};
-ghost use Rattle.lock_desk.specs.inner.Ended.{is_listed};
+ghost use Rattle.lock_desk.specs.inner.Ended.{is_ended};
 ghost use Rattle.lock_desk.specs.inner.Runs.{AreKept};
 
 use crate::lock_table::LockTable;
@@ -33,10 +33,10 @@ pub(crate) fn serve_recorded(
     ensures entry { IfOk result (λ reply. history.new.items
         ≡ history.old.items ++ record { session = session; call = call; reply = reply } ∷ []) }
     ensures ended { let outcome = step (state_of history.old.items) session call in
-        IfOk result (λ _. (u : ℕ) → is_listed table.new.ended u
-        ≡ (is_listed table.old.ended u || has_ended session (state_of history.old.items) outcome.state u)) }
+        IfOk result (λ _. (u : ℕ) → is_ended table.new.ended u
+        ≡ (is_ended table.old.ended u || has_ended session (state_of history.old.items) outcome.state u)) }
     ensures err { OnErr result (history.new.items ≡ history.old.items) }
-    ensures unlisted { OnErr result (table.new.ended ≡ table.old.ended) }
+    ensures ended_kept { OnErr result (table.new.ended ≡ table.old.ended) }
 {
     history.reserve(1)?;
     let asked = call;

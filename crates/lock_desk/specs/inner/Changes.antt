@@ -18,7 +18,7 @@ use Rattle.lock_desk.specs.declared.cells.GivenUp.TheVariants as claim
 use Rattle.lock_desk.specs.inner.Cells.{View, has_session, mode_of, cell_view, has_path, can_grant, view_after_asking, view_after_freeing, AreKeptCells}
 use Rattle.lock_desk.specs.inner.ChildCounts.{has_child, IsUnder}
 use Rattle.lock_desk.specs.inner.Lockers.{Standing, standings_of, standing_at, DoAgree}
-use Rattle.lock_desk.specs.inner.Ended.{EndedView, DoList}
+use Rattle.lock_desk.specs.inner.Ended.{EndedView, DoNoteEnded}
 use Rattle.lock_desk.specs.inner.Ready.{IsReadyTable}
 
 -- the view of resource `r` in lock table `d`: its holders and its queue
@@ -39,8 +39,8 @@ abbrev pub with_ended : EndedView → LockTable → LockTable
 with_ended v d = record { count = d.count; lockers = d.lockers; cells = d.cells; waits = d.waits; ended = v }
 
 -- the lock table with `n` sessions listed, those at the front
-abbrev pub with_listed : ℕ → LockTable → LockTable
-with_listed n d = with_ended (record { places = d.ended.places; count = n }) d
+abbrev pub with_ended_count : ℕ → LockTable → LockTable
+with_ended_count n d = with_ended (record { places = d.ended.places; count = n }) d
 
 -- the invariant of the lock table between two operations: that of its cells, that of its lockers, and that both agree
 -- on each resource
@@ -136,8 +136,8 @@ pub record IsSameSeen (d e : LockTable) : Type 0 where
   pub ended : e.ended ≡ d.ended
 
 -- the sessions whose wait has ended are listed, without session `s`
-abbrev pub HasListed : ℕ → LockTable → LockTable → Type 0
-HasListed s d e = DoList s d.lockers.items e.lockers.items d.ended e.ended
+abbrev pub HasNotedEnded : ℕ → LockTable → LockTable → Type 0
+HasNotedEnded s d e = DoNoteEnded s d.lockers.items e.lockers.items d.ended e.ended
 
 -- session `s` may request resource `r`: it does not wait, holds `r` or fewer locks than the limit, and holds the parent
 -- of `r`, if there is one

@@ -12,12 +12,12 @@ pub record EndedView : Type 0 where
   pub count : ℕ
 
 -- session `u` is listed
-abbrev pub is_listed : EndedView → ℕ → Bool
-is_listed v u = (nat_le 1 u && nat_le u (length v.places)) && nat_lt (slice_index_or v.places (u - 1) 0) v.count
+abbrev pub is_ended : EndedView → ℕ → Bool
+is_ended v u = (nat_le 1 u && nat_le u (length v.places)) && nat_lt (slice_index_or v.places (u - 1) 0) v.count
 
 -- the listed sessions, by number
-abbrev pub listed_in : EndedView → List ℕ
-listed_in v = filter (is_listed v) (range_with_len 1 (length v.places))
+abbrev pub ended_in : EndedView → List ℕ
+ended_in v = filter (is_ended v) (range_with_len 1 (length v.places))
 
 -- what contracts see of the list
 abbrev pub ended_view_of : Inside → EndedView
@@ -44,7 +44,7 @@ waits_at u ws = is_some (standing_at u (standings_of ws)).wanted
 
 -- from the first lockers to the second, exactly the sessions other than `s` are listed in addition that waited and wait no more;
 -- none of them has begun to wait. Session 0 is no session, so that with it nobody is left out
-pub record DoList (s : ℕ) (old new : List Locker) (a b : EndedView) : Type 0 where
+pub record DoNoteEnded (s : ℕ) (old new : List Locker) (a b : EndedView) : Type 0 where
   pub sized : length b.places ≡ length a.places
-  pub listed : (u : ℕ) → is_listed b u ≡ (is_listed a u || (not (u == s) && (waits_at u old && not (waits_at u new))))
+  pub waits_ended : (u : ℕ) → is_ended b u ≡ (is_ended a u || (not (u == s) && (waits_at u old && not (waits_at u new))))
   pub waits : (u : ℕ) → (u == s) ≡ false → waits_at u new ≡ true → waits_at u old ≡ true

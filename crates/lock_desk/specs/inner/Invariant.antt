@@ -4,7 +4,7 @@ use Rattle.std.specs.List.{All}
 use Rattle.waits_for.specs.declared.TheConstants.{MAX_SESSIONS}
 use Rattle.lock_rules.specs.Legal.{state_of, IsLegal}
 use Rattle.lock_desk.specs.BookView.{BookView, IsEntryWithin}
-use Rattle.lock_desk.specs.inner.Ended.{listed_in}
+use Rattle.lock_desk.specs.inner.Ended.{ended_in}
 use Rattle.lock_desk.specs.inner.Changes.{IsWhole}
 use Rattle.lock_desk.specs.inner.Ready.{IsReadyTable}
 use Rattle.lock_desk.specs.inner.Shows.{Shows}
@@ -17,7 +17,7 @@ book_view_of a = record {
   history = a.history.items;
   cut = a.history.cut;
   bound = a.history.bound;
-  ended = listed_in a.lock_table.ended;
+  ended = ended_in a.lock_table.ended;
 }
 
 -- the history is legal, the lock table represents the state that the history leads to, and there is a locker and a mark

@@ -9,5 +9,5 @@ use Rattle.lock_desk.specs.inner.Blocking.{IsSizedFor, IsCurrent}
 pub record IsReadyTable (d : LockTable) : Type 0 where
   pub long : d.waits.rows.sessions ≡ vec_len d.lockers
   pub ready : IsSizedFor d.waits.rows.sessions d.waits
-  pub listed : length d.ended.places ≡ vec_len d.lockers
+  pub waits_ended : length d.ended.places ≡ vec_len d.lockers
   pub filled : IsCurrent d.cells.entries (standings_of d.lockers.items) d.waits

@@ -7,7 +7,7 @@ ghost use Rattle.lock_rules.specs.State.{State};
 ghost use Rattle.lock_rules.specs.Step.{step};
 ghost use Rattle.lock_rules.specs.Sound.{IsNumbered, IsSound};
 ghost use Rattle.lock_desk.specs.inner.Cells.{IsPlace};
-ghost use Rattle.lock_desk.specs.inner.Changes.{IsWhole, DoesKeep, IsSameSeen, HasListed};
+ghost use Rattle.lock_desk.specs.inner.Changes.{IsWhole, DoesKeep, IsSameSeen, HasNotedEnded};
 ghost use Rattle.lock_desk.specs.inner.Ready.{IsReadyTable};
 ghost use Rattle.lock_desk.specs.inner.Shows.{Shows, DoesAnswer};
 
@@ -65,7 +65,7 @@ impl LockTable {
         requires room { self.old.count < 18446744073709551615 }
         ensures step { (st : State) → IsSound st.table → IsNumbered st → Shows self.old st
             → DoesAnswer (step st session Begin) self.new result }
-        ensures listed { HasListed session self.old self.new }
+        ensures waits_ended { HasNotedEnded session self.old self.new }
         ensures count { self.new.count ≤ self.old.count + 1 }
         ensures kept { DoesKeep self.old self.new }
     {
@@ -90,7 +90,7 @@ impl LockTable {
         ensures step { (st : State) → IsSound st.table → IsNumbered st → Shows self.old st
             → IfOk result (DoesAnswer (step st session (Lock resource mode)) self.new) }
         ensures err { OnErr result (IsSameSeen self.old self.new) }
-        ensures listed { HasListed session self.old self.new }
+        ensures waits_ended { HasNotedEnded session self.old self.new }
         ensures count { self.new.count ≤ self.old.count + 1 }
         ensures kept { DoesKeep self.old self.new }
     {
@@ -120,7 +120,7 @@ impl LockTable {
         ensures step { (st : State) → IsSound st.table → IsNumbered st → Shows self.old st
             → IfOk result (DoesAnswer (step st session (Convert resource mode)) self.new) }
         ensures err { OnErr result (IsSameSeen self.old self.new) }
-        ensures listed { HasListed session self.old self.new }
+        ensures waits_ended { HasNotedEnded session self.old self.new }
         ensures count { self.new.count ≤ self.old.count + 1 }
         ensures kept { DoesKeep self.old self.new }
     {
@@ -155,7 +155,7 @@ impl LockTable {
         ensures step { (st : State) → IsSound st.table → IsNumbered st → Shows self.old st
             → IfOk result (DoesAnswer (step st session (Try resource mode)) self.new) }
         ensures err { OnErr result (IsSameSeen self.old self.new) }
-        ensures listed { HasListed session self.old self.new }
+        ensures waits_ended { HasNotedEnded session self.old self.new }
         ensures count { self.new.count ≤ self.old.count + 1 }
         ensures kept { DoesKeep self.old self.new }
     {
@@ -178,7 +178,7 @@ impl LockTable {
         requires ready { IsReadyTable self.old }
         ensures step { (st : State) → IsSound st.table → IsNumbered st → Shows self.old st
             → DoesAnswer (step st session Withdraw) self.new result }
-        ensures listed { HasListed session self.old self.new }
+        ensures waits_ended { HasNotedEnded session self.old self.new }
         ensures count { self.new.count ≤ self.old.count + 1 }
         ensures kept { DoesKeep self.old self.new }
     {
@@ -197,7 +197,7 @@ impl LockTable {
         requires ready { IsReadyTable self.old }
         ensures step { (st : State) → IsSound st.table → IsNumbered st → Shows self.old st
             → DoesAnswer (step st session Poll) self.new result }
-        ensures listed { HasListed session self.old self.new }
+        ensures waits_ended { HasNotedEnded session self.old self.new }
         ensures count { self.new.count ≤ self.old.count + 1 }
         ensures kept { DoesKeep self.old self.new }
     {
@@ -215,7 +215,7 @@ impl LockTable {
         requires ready { IsReadyTable self.old }
         ensures step { (st : State) → IsSound st.table → IsNumbered st → Shows self.old st
             → DoesAnswer (step st session (Release resource)) self.new result }
-        ensures listed { HasListed session self.old self.new }
+        ensures waits_ended { HasNotedEnded session self.old self.new }
         ensures count { self.new.count ≤ self.old.count + 1 }
         ensures kept { DoesKeep self.old self.new }
     {
@@ -239,7 +239,7 @@ impl LockTable {
         requires ready { IsReadyTable self.old }
         ensures step { (st : State) → IsSound st.table → IsNumbered st → Shows self.old st
             → DoesAnswer (step st session Commit) self.new result }
-        ensures listed { HasListed session self.old self.new }
+        ensures waits_ended { HasNotedEnded session self.old self.new }
         ensures count { self.new.count ≤ self.old.count + 1 }
         ensures kept { DoesKeep self.old self.new }
     {
@@ -257,7 +257,7 @@ impl LockTable {
         requires ready { IsReadyTable self.old }
         ensures step { (st : State) → IsSound st.table → IsNumbered st → Shows self.old st
             → DoesAnswer (step st session Abort) self.new result }
-        ensures listed { HasListed session self.old self.new }
+        ensures waits_ended { HasNotedEnded session self.old self.new }
         ensures count { self.new.count ≤ self.old.count + 1 }
         ensures kept { DoesKeep self.old self.new }
     {
@@ -277,8 +277,8 @@ impl LockTable {
         ensures step { (st : State) → IsSound st.table → IsNumbered st → Shows self.old st
             → IfOk result (DoesAnswer (step st session call) self.new) }
         ensures err { (st : State) → Shows self.old st → OnErr result (Shows self.new st) }
-        ensures unlisted { OnErr result (self.new.ended ≡ self.old.ended) }
-        ensures listed { HasListed session self.old self.new }
+        ensures ended_kept { OnErr result (self.new.ended ≡ self.old.ended) }
+        ensures waits_ended { HasNotedEnded session self.old self.new }
         ensures count { self.new.count ≤ self.old.count + 1 }
         ensures whole { IsWhole self.new }
         ensures ready { IsReadyTable self.new }

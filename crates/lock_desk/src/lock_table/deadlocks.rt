@@ -4,7 +4,7 @@ ghost use Rattle.std.specs.Prelude.{◌≡◌, ◌+◌, ◌≤◌, vec_len};
 ghost use Rattle.lock_rules.specs.State.{State};
 ghost use Rattle.lock_rules.specs.Waits.{after_victims};
 ghost use Rattle.lock_rules.specs.Sound.{IsNumbered, IsSound};
-ghost use Rattle.lock_desk.specs.inner.Changes.{IsWhole, DoesKeep, HasCancelled, HasDoomed, HasListed};
+ghost use Rattle.lock_desk.specs.inner.Changes.{IsWhole, DoesKeep, HasCancelled, HasDoomed, HasNotedEnded};
 ghost use Rattle.lock_desk.specs.inner.Ready.{IsReadyTable};
 ghost use Rattle.lock_desk.specs.inner.Shows.{Shows};
 
@@ -20,7 +20,7 @@ impl LockTable {
         requires whole { IsWhole self.old }
         requires ready { IsReadyTable self.old }
         ensures cancelled { HasCancelled session self.old self.new }
-        ensures listed { HasListed 0 self.old self.new }
+        ensures waits_ended { HasNotedEnded 0 self.old self.new }
         ensures kept { DoesKeep self.old self.new }
     {
         if self.cancel(session) {
@@ -36,7 +36,7 @@ impl LockTable {
         requires whole { IsWhole self.old }
         requires ready { IsReadyTable self.old }
         ensures doomed { HasDoomed session self.old self.new }
-        ensures listed { HasListed 0 self.old self.new }
+        ensures waits_ended { HasNotedEnded 0 self.old self.new }
         ensures kept { DoesKeep self.old self.new }
     {
         self.end_wait(session);
@@ -59,7 +59,7 @@ impl LockTable {
         ensures ready { IsReadyTable self.new }
         ensures count { self.new.count ≡ self.old.count }
         ensures len { vec_len self.new.lockers ≡ vec_len self.old.lockers }
-        ensures listed { HasListed 0 self.old self.new }
+        ensures waits_ended { HasNotedEnded 0 self.old self.new }
     {
         for _round in 0..self.lockers.len() + 1 {
             let Some(chosen) = victim(&mut self.waits, session) else {
@@ -69,7 +69,7 @@ impl LockTable {
         }
     }
 
-    /// Resolves the deadlocks of `session`, which calls: its own wait isn't listed, if it ends.
+    /// Resolves the deadlocks of `session`, which calls: its own wait isn't noted, if it ends.
     #[inline(never)]
     pub(super) fn resolve_for(&mut self, session: u16)
         requires some { 1 ≤ session }
@@ -78,15 +78,15 @@ impl LockTable {
         requires ready { IsReadyTable self.old }
         ensures settled { (st : State) → IsSound st.table → IsNumbered st → Shows self.old st
             → Shows self.new (after_victims (vec_len self.old.lockers + 1) session st) }
-        ensures listed { HasListed session self.old self.new }
+        ensures waits_ended { HasNotedEnded session self.old self.new }
         ensures whole { IsWhole self.new }
         ensures ready { IsReadyTable self.new }
         ensures count { self.new.count ≡ self.old.count }
         ensures len { vec_len self.new.lockers ≡ vec_len self.old.lockers }
     {
-        let was_listed = self.ended.has(session);
+        let was_ended = self.ended.has(session);
         self.resolve_deadlocks(session);
-        if !was_listed {
+        if !was_ended {
             self.ended.remove(session);
         }
     }

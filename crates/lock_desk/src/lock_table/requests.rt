@@ -5,7 +5,7 @@ ghost use Rattle.lock_rules.specs.State.{State, held_mode};
 ghost use Rattle.lock_rules.specs.Step.{target_of, is_held, ask};
 ghost use Rattle.lock_rules.specs.Sound.{IsNumbered, IsSound};
 ghost use Rattle.lock_desk.specs.inner.Cells.{is_granted, IsPlace};
-ghost use Rattle.lock_desk.specs.inner.Changes.{IsWhole, DoesKeep, mode_held, IsSameSeen, CanAsk, MayAsk, CanLock, CanConvert, HasAsked, HasListed};
+ghost use Rattle.lock_desk.specs.inner.Changes.{IsWhole, DoesKeep, mode_held, IsSameSeen, CanAsk, MayAsk, CanLock, CanConvert, HasAsked, HasNotedEnded};
 ghost use Rattle.lock_desk.specs.inner.Ready.{IsReadyTable};
 ghost use Rattle.lock_desk.specs.inner.Shows.{Shows, DoesAnswer};
 
@@ -38,7 +38,7 @@ impl LockTable {
         requires can { CanLock session resource self.old }
         ensures asked { IfOk result (λ status. HasAsked session resource mode (is_granted status) self.old self.new) }
         ensures err { OnErr result (IsSameSeen self.old self.new) }
-        ensures listed { HasListed session self.old self.new }
+        ensures waits_ended { HasNotedEnded session self.old self.new }
         ensures kept { DoesKeep self.old self.new }
     {
         let position = position_of(session);
@@ -77,7 +77,7 @@ impl LockTable {
         requires can { CanConvert session resource self.old }
         ensures asked { IfOk result (λ status. HasAsked session resource mode (is_granted status) self.old self.new) }
         ensures err { OnErr result (IsSameSeen self.old self.new) }
-        ensures listed { HasListed session self.old self.new }
+        ensures waits_ended { HasNotedEnded session self.old self.new }
         ensures kept { DoesKeep self.old self.new }
     {
         let status = self.cells.ask(
@@ -119,7 +119,7 @@ impl LockTable {
         ensures asked { is_held (mode_held self.old session resource) target ≡ false
             → IfOk result (λ status. HasAsked session resource target (is_granted status) self.old self.new) }
         ensures err { OnErr result (IsSameSeen self.old self.new) }
-        ensures listed { HasListed session self.old self.new }
+        ensures waits_ended { HasNotedEnded session self.old self.new }
         ensures kept { DoesKeep self.old self.new }
     {
         match held {
@@ -153,7 +153,7 @@ impl LockTable {
             → let held = held_mode st.table session resource in
             IfOk result (DoesAnswer (ask st session resource (target_of held mode)) self.new) }
         ensures err { OnErr result (IsSameSeen self.old self.new) }
-        ensures listed { HasListed session self.old self.new }
+        ensures waits_ended { HasNotedEnded session self.old self.new }
         ensures count { self.new.count ≡ self.old.count }
         ensures whole { IsWhole self.new }
         ensures ready { IsReadyTable self.new }

@@ -10,7 +10,7 @@ ghost use Rattle.lock_rules.specs.declared.calls.Entry.{Entry as EntryValue};
 ghost use Rattle.lock_rules.specs.Step.{first_failing};
 ghost use Rattle.lock_desk.specs.declared.book.Item.{Item as ItemValue};
 ghost use Rattle.lock_desk.specs.Batches.{IsItemWithin};
-ghost use Rattle.lock_desk.specs.inner.Ended.{listed_in};
+ghost use Rattle.lock_desk.specs.inner.Ended.{ended_in};
 ghost use Rattle.lock_desk.specs.inner.Changes.{mode_held, lacks_need, call_tests, IsWhole, DoesKeep, IsSameSeen};
 ghost use Rattle.lock_desk.specs.inner.Ready.{IsReadyTable};
 ghost use Rattle.lock_desk.specs.inner.Runs.{HasLockRoom, mode_asked, Each, CanJoin, IsRunTarget, IsRun, IsGranting, AreKept, AreServed};
@@ -285,8 +285,8 @@ fn grant_item(
     ensures cut { history.new.cut ≡ history.old.cut }
     ensures bound { history.new.bound ≡ history.old.bound }
     ensures room { history.new.room + 1 ≡ history.old.room }
-    ensures served { (n : ℕ) (batch : List ItemValue) (start : List EntryValue) → AreServed n index batch start (listed_in table.old.ended) history.old.items items.old
-        → AreServed n (index + 1) batch start (listed_in table.new.ended) history.new.items items.new }
+    ensures served { (n : ℕ) (batch : List ItemValue) (start : List EntryValue) → AreServed n index batch start (ended_in table.old.ended) history.old.items items.old
+        → AreServed n (index + 1) batch start (ended_in table.new.ended) history.new.items items.new }
 {
     let item = items[index];
     let Call::Lock(_, mode) = item.call else {
@@ -320,8 +320,8 @@ fn grant_items(
     ensures bound { history.new.bound ≡ history.old.bound }
     ensures kept { AreKept table.new history.new.items }
     ensures lockers { vec_len table.new.lockers ≡ vec_len table.old.lockers }
-    ensures served { (n : ℕ) (batch : List ItemValue) (start : List EntryValue) → AreServed n from batch start (listed_in table.old.ended) history.old.items items.old
-        → AreServed n run.now.upto batch start (listed_in table.new.ended) history.new.items items.new }
+    ensures served { (n : ℕ) (batch : List ItemValue) (start : List EntryValue) → AreServed n from batch start (ended_in table.old.ended) history.old.items items.old
+        → AreServed n run.now.upto batch start (ended_in table.new.ended) history.new.items items.new }
 {
     for index in from..run.upto {
         grant_item(table, history, items, index, run);
@@ -346,8 +346,8 @@ pub(crate) fn grant_run(
     ensures bound { history.new.bound ≡ history.old.bound }
     ensures kept { AreKept table.new history.new.items }
     ensures lockers { vec_len table.new.lockers ≡ vec_len table.old.lockers }
-    ensures served { (n : ℕ) (batch : List ItemValue) (start : List EntryValue) → AreServed n from batch start (listed_in table.old.ended) history.old.items items.old
-        → AreServed n (if result then run.now.upto else from) batch start (listed_in table.new.ended) history.new.items items.new }
+    ensures served { (n : ℕ) (batch : List ItemValue) (start : List EntryValue) → AreServed n from batch start (ended_in table.old.ended) history.old.items items.old
+        → AreServed n (if result then run.now.upto else from) batch start (ended_in table.new.ended) history.new.items items.new }
 {
     if run.masks & run.codes != 0 {
         return false;

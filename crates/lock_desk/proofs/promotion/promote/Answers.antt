@@ -4,7 +4,7 @@ use Rattle.lock_desk.specs.inner.Cells.{view_of, times, with_holder}
 use Rattle.lock_desk.specs.inner.Blocking.{AreOfSessions, AreWritten, DoFollow, with_holders}
 use Rattle.lock_desk.specs.inner.Lockers.{standings_of}
 use Rattle.lock_desk.proofs.ResourceViews.{both, next-passed, next-within, promoted-next, once-next}
-use Rattle.lock_desk.proofs.Promotions.{grant-some, grant-within, grant-waits_locker, grant-agree, grant-same, grant-listed}
+use Rattle.lock_desk.proofs.Promotions.{grant-some, grant-within, grant-waits_locker, grant-agree, grant-same, grant-waits_ended}
 use Rattle.lock_desk.proofs.EndedWaits.{list-on, list-none}
 use Rattle.lock_desk.proofs.SessionsInRange.{numbered-agree}
 use Rattle.lock_desk.proofs.NarrowingWaits.{with-next}
@@ -70,8 +70,8 @@ loop-next-preserved c =
       agree = rw same agree;
       changed = grant-same r v _ c.in-Some.next lockers n k.agree c.index_mut-locker.result.now next c.index_mut-locker.ensures.value c.grant.new.self r c.grant.ensures refl (standings_of c.args.lockers.now.items) k.changed;
       len = k.len;
-      listed = list-on 0 c.args.lockers.now.items lockers _ c.args.ended.now c.loop-next.ended c.add.new.self k.listed
-          (grant-listed r v _ c.in-Some.next lockers n k.agree c.index_mut-locker.result.now next c.index_mut-locker.ensures.value c.grant.new.self r c.grant.ensures refl c.loop-next.ended c.add.new.self c.add.ensures.sized c.add.ensures.listed);
+      waits_ended = list-on 0 c.args.lockers.now.items lockers _ c.args.ended.now c.loop-next.ended c.add.new.self k.waits_ended
+          (grant-waits_ended r v _ c.in-Some.next lockers n k.agree c.index_mut-locker.result.now next c.index_mut-locker.ensures.value c.grant.new.self r c.grant.ensures refl c.loop-next.ended c.add.new.self c.add.ensures.sized c.add.ensures.waits_ended);
     }
 
 pub add-requires-clause-some : goal.add-requires-clause-some
@@ -85,7 +85,7 @@ add-requires-clause-within c =
     let n = next-passed c.loop-next.cell.holders.items c.loop-next.cell.waiting.items c.loop-next.granted c.in-Some.next c.admit-shared.new.self.holders.items (sym c.in-Some.is ∙ c.next_grant.ensures) c.admit-shared.ensures.holders in
     let next : suc c.position_of.result ≡ c.in-Some.next.session = omega (arith, grant-some c.args.resource _ _ c.in-Some.next c.loop-next.lockers.items n k.agree k.once, c.position_of.ensures) in
     let within = (grant-within c.args.resource _ _ c.in-Some.next c.loop-next.lockers.items n k.agree next).within in
-    omega (arith, next, within, c.loop-next.lockers.ok.0, k.len, k.listed.sized, c.requires.sized)
+    omega (arith, next, within, c.loop-next.lockers.ok.0, k.len, k.waits_ended.sized, c.requires.sized)
 
 pub loop-next-init : goal.loop-next-init
 loop-next-init c = record {
@@ -99,7 +99,7 @@ loop-next-init c = record {
   agree = c.requires.agree;
   changed = λ s. inl refl;
   len = refl;
-  listed = list-none 0 c.args.lockers.now.items c.args.ended.now;
+  waits_ended = list-none 0 c.args.lockers.now.items c.args.ended.now;
 }
 
 pub dequeue_granted-requires-clause-within : goal.dequeue_granted-requires-clause-within

@@ -1,7 +1,7 @@
 use Rattle.std.proofs.Common.{◌≡◌, ◌+◌, ◌-◌, ◌≤◌, true, length, take, drop, vec_len, IfSome}
 use Rattle.lock_desk.specs.inner.Cells.{go_with, view_of, view_after_promotion, IsOnce}
 use Rattle.lock_desk.specs.inner.Lockers.{standings_of, AreSameOrGranted, DoAgree}
-use Rattle.lock_desk.specs.inner.Ended.{DoList}
+use Rattle.lock_desk.specs.inner.Ended.{DoNoteEnded}
 use Rattle.lock_desk.specs.inner.Blocking.{with_holders}
 use Rattle.lock_desk.proofs.ResourceViews.{both}
 use Rattle.lock_desk.proofs.promotion.promote.Given as goal
@@ -20,7 +20,7 @@ invariant-loop-next l =
       agree : DoAgree l.resource now (standings_of l.lockers.items);
       changed : AreSameOrGranted l.resource (standings_of l.initial.lockers.items) (standings_of l.lockers.items);
       len : vec_len l.lockers ≡ vec_len l.initial.lockers;
-      listed : DoList 0 l.initial.lockers.items l.lockers.items l.initial.ended l.ended;
+      waits_ended : DoNoteEnded 0 l.initial.lockers.items l.lockers.items l.initial.ended l.ended;
     }
 
 abbrev pub decreases-loop-next : goal.decreases-loop-next

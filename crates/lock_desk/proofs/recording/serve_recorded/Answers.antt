@@ -4,7 +4,7 @@ use Rattle.lock_rules.specs.Step.{step}
 use Rattle.lock_rules.specs.Legal.{state_of}
 use Rattle.lock_rules.proofs.Steps.{state-lawful}
 use Rattle.lock_rules.proofs.Owners.{state-numbered}
-use Rattle.lock_desk.proofs.BookInvariant.{kept-more, kept-same, listed-ends}
+use Rattle.lock_desk.proofs.BookInvariant.{kept-more, kept-same, waits_ended-ends}
 use Rattle.lock_desk.proofs.recording.serve_recorded.Goals as goal
 
 pub returns-in_err-reply-clause-kept : goal.returns-in_err-reply-clause-kept
@@ -35,4 +35,4 @@ returns-clause-ended c = λ u.
     let es = c.args.history.now.items in
     let e = c.in_ok-reply.ensures in
     let s = e.step (state_of es) (state-lawful es).sound (state-numbered es) k.shows in
-    listed-ends c.args.session c.args.table.now c.serve.new.self (state_of es) (step (state_of es) c.args.session c.args.call).state k.whole e.whole k.shows s.1 c.serve.ensures.listed u
+    waits_ended-ends c.args.session c.args.table.now c.serve.new.self (state_of es) (step (state_of es) c.args.session c.args.call).state k.whole e.whole k.shows s.1 c.serve.ensures.waits_ended u

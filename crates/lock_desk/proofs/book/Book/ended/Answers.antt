@@ -1,15 +1,15 @@
 use Rattle.std.proofs.Common.{ℕ, List, length, Contains, sym, ap, subst}
 use Rattle.lock_desk.specs.BookView.{BookView}
-use Rattle.lock_desk.specs.inner.Ended.{is_listed}
-use Rattle.lock_desk.proofs.EndedList.{among, listed-within}
+use Rattle.lock_desk.specs.inner.Ended.{is_ended}
+use Rattle.lock_desk.proofs.EndedList.{among, waits_ended-within}
 use Rattle.lock_desk.proofs.book.Book.ended.Goals as goal
 
 pub returns-clause-ended : goal.returns-clause-ended
 returns-clause-ended c = λ u.
     let v = c.self.inside.lock_table.ended in
-    let l = c.ended.ensures.listed u in
-    let m = among (is_listed v) (length v.places) u in
+    let l = c.ended.ensures.waits_ended u in
+    let m = among (is_ended v) (length v.places) u in
     let e = ap (λ (t : BookView). t.ended) c.self.view_is in (
-      λ h. let p = l.0 h in let r = listed-within v u p in subst (λ (xs : List ℕ). Contains xs u) e (m.1 (r.0, r.1, p)),
+      λ h. let p = l.0 h in let r = waits_ended-within v u p in subst (λ (xs : List ℕ). Contains xs u) e (m.1 (r.0, r.1, p)),
       λ h. l.1 ((m.0 (subst (λ (xs : List ℕ). Contains xs u) (sym e) h)).2),
     )

@@ -1,15 +1,15 @@
 use Rattle.std.proofs.Common.{refl, ap, ◌∙◌}
 use Rattle.lock_desk.specs.declared.lock_table.LockTable.{LockTable}
-use Rattle.lock_desk.specs.inner.Ended.{listed_in}
+use Rattle.lock_desk.specs.inner.Ended.{ended_in}
 use Rattle.lock_desk.proofs.BookInvariant.{relisted-kept}
 use Rattle.lock_desk.proofs.EndedList.{none-in}
 use Rattle.lock_desk.proofs.book.Book.forget_ended.Goals as goal
 
 pub invariant_of-self : goal.invariant_of-self
-invariant_of-self c = relisted-kept c.self.inside 0 c.clear_ended-listed.new.self c.clear_ended-listed.ensures.cleared c.self.invariant
+invariant_of-self c = relisted-kept c.self.inside 0 c.clear_ended-waits_ended.new.self c.clear_ended-waits_ended.ensures.cleared c.self.invariant
 
 pub returns : goal.returns
 returns c =
-    let none = ap (λ (d : LockTable). listed_in d.ended) c.clear_ended-listed.ensures.cleared ∙ none-in (record { places = c.self.inside.lock_table.ended.places; count = 0 }) refl in
+    let none = ap (λ (d : LockTable). ended_in d.ended) c.clear_ended-waits_ended.ensures.cleared ∙ none-in (record { places = c.self.inside.lock_table.ended.places; count = 0 }) refl in
     let is = c.self.view_is in
     λ i. record { sessions = (is i).sessions; history = (is i).history; cut = (is i).cut; bound = (is i).bound; ended = none i }

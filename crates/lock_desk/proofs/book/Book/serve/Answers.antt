@@ -5,29 +5,29 @@ use Rattle.lock_desk.specs.BookView.{BookView}
 use Rattle.lock_desk.specs.declared.lock_table.LockTable.{LockTable}
 use Rattle.lock_desk.specs.inner.Runs.{AreKept}
 use Rattle.lock_desk.specs.inner.Invariant.{IsKept}
-use Rattle.lock_desk.proofs.BookInvariant.{kept-of, of-kept, kept-relisted, listed-alone, entry-view}
+use Rattle.lock_desk.proofs.BookInvariant.{kept-of, of-kept, kept-relisted, waits_ended-alone, entry-view}
 use Rattle.lock_desk.proofs.book.Book.serve.Goals as goal
 
 pub serve_recorded-requires-clause-within : goal.serve_recorded-requires-clause-within
 serve_recorded-requires-clause-within c =
-    omega (arith, c.requires.within, ap (λ (t : BookView). t.sessions) c.self.view_is, c.self.invariant.lockers, ap (λ (d : LockTable). vec_len d.lockers) c.clear_ended-listed.ensures.cleared)
+    omega (arith, c.requires.within, ap (λ (t : BookView). t.sessions) c.self.view_is, c.self.invariant.lockers, ap (λ (d : LockTable). vec_len d.lockers) c.clear_ended-waits_ended.ensures.cleared)
 
 pub serve_recorded-requires-clause-kept : goal.serve_recorded-requires-clause-kept
 serve_recorded-requires-clause-kept c =
     let a = c.self.inside in
-    subst (λ (d : LockTable). AreKept d a.history.items) (sym c.clear_ended-listed.ensures.cleared) (kept-relisted a.lock_table _ a.history.items refl (kept-of a c.self.invariant))
+    subst (λ (d : LockTable). AreKept d a.history.items) (sym c.clear_ended-waits_ended.ensures.cleared) (kept-relisted a.lock_table _ a.history.items refl (kept-of a c.self.invariant))
 
 pub returns-in-Ok-clause-entry : goal.returns-in-Ok-clause-entry
 returns-in-Ok-clause-entry c =
     let a = c.self.inside in
     let k = c.self.invariant in
-    let f = c.clear_ended-listed.new.self in
+    let f = c.clear_ended-waits_ended.new.self in
     let e = c.serve_recorded.new.table in
     let done = c.in-Ok.ensures in
     let sized : length e.ended.places ≡ a.sessions
-    = done.kept.ready.listed ∙ (done.lockers ∙ (ap (λ (d : LockTable). vec_len d.lockers) c.clear_ended-listed.ensures.cleared ∙ k.lockers)) in
+    = done.kept.ready.waits_ended ∙ (done.lockers ∙ (ap (λ (d : LockTable). vec_len d.lockers) c.clear_ended-waits_ended.ensures.cleared ∙ k.lockers)) in
     let st = state_of a.history.items in
-    let ends = listed-alone a.sessions c.args.session st (step st c.args.session c.args.call).state f.ended e.ended sized (ap (λ (d : LockTable). d.ended.count) c.clear_ended-listed.ensures.cleared) done.ended in
+    let ends = waits_ended-alone a.sessions c.args.session st (step st c.args.session c.args.call).state f.ended e.ended sized (ap (λ (d : LockTable). d.ended.count) c.clear_ended-waits_ended.ensures.cleared) done.ended in
     entry-view a c.args.self.now c.self.view_is c.args.session c.args.call c.in-Ok.reply c.serve_recorded.new.history.items _ _ _ done.entry done.cut done.bound ends
 
 pub invariant_of-self-in-Err : goal.invariant_of-self-in-Err
@@ -36,4 +36,4 @@ invariant_of-self-in-Err c =
     let e = c.serve_recorded.new.table in
     let done = c.in-Err.ensures in
     subst (λ (d : LockTable). IsKept (record { sessions = c.self.inside.sessions; lock_table = d; history = c.serve_recorded.new.history; marks = c.self.inside.marks })) (sym c.restore_ended.ensures)
-    (of-kept _ k.some k.few (kept-relisted e _ c.serve_recorded.new.history.items refl done.kept) (done.lockers ∙ (ap (λ (d : LockTable). vec_len d.lockers) c.clear_ended-listed.ensures.cleared ∙ k.lockers)) k.marked)
+    (of-kept _ k.some k.few (kept-relisted e _ c.serve_recorded.new.history.items refl done.kept) (done.lockers ∙ (ap (λ (d : LockTable). vec_len d.lockers) c.clear_ended-waits_ended.ensures.cleared ∙ k.lockers)) k.marked)

@@ -1,6 +1,6 @@
 use Rattle.lock_desk.proofs.Agreement.{keeps-on}
 use Rattle.lock_desk.proofs.BeginAndEnd.{ended-after}
-use Rattle.lock_desk.proofs.EndedWaits.{listed-on}
+use Rattle.lock_desk.proofs.EndedWaits.{waits_ended-on}
 use Rattle.lock_desk.proofs.lock_table.LockTable.abort.Goals as goal
 
 pub returns-clause-ended : goal.returns-clause-ended
@@ -9,5 +9,5 @@ returns-clause-ended c = ended-after c.args.session c.args.self.now c.cancel.new
 pub returns-clause-kept : goal.returns-clause-kept
 returns-clause-kept c = keeps-on c.cancel.ensures.kept c.end.ensures.kept
 
-pub returns-clause-listed : goal.returns-clause-listed
-returns-clause-listed c = listed-on c.args.session c.args.self.now c.cancel.new.self c.end.new.self c.cancel.ensures.listed c.end.ensures.listed
+pub returns-clause-waits_ended : goal.returns-clause-waits_ended
+returns-clause-waits_ended c = waits_ended-on c.args.session c.args.self.now c.cancel.new.self c.end.new.self c.cancel.ensures.waits_ended c.end.ensures.waits_ended

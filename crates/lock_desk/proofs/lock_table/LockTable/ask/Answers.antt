@@ -6,7 +6,7 @@ use Rattle.lock_desk.specs.inner.Changes.{mode_held, HasAsked}
 use Rattle.lock_desk.proofs.AfterStep.{first_state}
 use Rattle.lock_desk.proofs.Simulation.{granted-answer, waits-shown_first, waits-sound, waits-numbered, waits-answer}
 use Rattle.lock_desk.proofs.FewRequests.{few-waits}
-use Rattle.lock_desk.proofs.EndedWaits.{listed-on}
+use Rattle.lock_desk.proofs.EndedWaits.{waits_ended-on}
 use Rattle.lock_desk.proofs.lock_table.LockTable.ask.Goals as goal
 
 pub returns-in-Granted-clause-ask : goal.returns-in-Granted-clause-ask
@@ -39,5 +39,5 @@ returns-in-Waiting-clause-ask c = λ st i j h.
           (omega (arith, few, long, c.request.ensures.kept.lockers)) c.resolve_for.ensures.whole (c.resolve_for.ensures.settled (first_state st s r m false) sound numbered first) c.standing_reply.result c.standing_reply.ensures
     ]
 
-pub returns-in-Waiting-clause-listed : goal.returns-in-Waiting-clause-listed
-returns-in-Waiting-clause-listed c = listed-on c.args.session c.args.self.now c.request.new.self c.resolve_for.new.self c.request.ensures.listed c.resolve_for.ensures.listed
+pub returns-in-Waiting-clause-waits_ended : goal.returns-in-Waiting-clause-waits_ended
+returns-in-Waiting-clause-waits_ended c = waits_ended-on c.args.session c.args.self.now c.request.new.self c.resolve_for.new.self c.request.ensures.waits_ended c.resolve_for.ensures.waits_ended

@@ -37,7 +37,7 @@ returns-clause-kept c =
           number.rows number.len number.numbers c.requires.ready;
     }
 
-pub returns-clause-listed : goal.returns-clause-listed
-returns-clause-listed c =
+pub returns-clause-waits_ended : goal.returns-clause-waits_ended
+returns-clause-waits_ended c =
     let d = c.args.self.now in
     list-own c.args.session d.lockers.items c.begin.new.self d.ended (within d c.args.session c.position_of.ensures c.requires.some c.requires.within).session

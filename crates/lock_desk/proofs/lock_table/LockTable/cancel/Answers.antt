@@ -26,7 +26,7 @@ returns-clause-kept c =
     cancel-keeps c.args.self.now c.args.session c.in-Some.resource c.index_mut-locker.result.now c.cancel.new.self c.requires.whole (within c.args.self.now c.args.session c.position_of.ensures c.requires.some c.requires.within) c.index_mut-locker.ensures.value
     (sym c.in-Some.ensures.resource) c.in-Some.ensures.transaction c.in-Some.ensures.held c.in-Some.ensures.none
     _ c.free_at.ensures.cells c.free_at.ensures.agree c.free_at.ensures.granted
-    (search rules) refl c.free_at.ensures.listed.sized c.free_at.ensures.rows c.requires.ready
+    (search rules) refl c.free_at.ensures.waits_ended.sized c.free_at.ensures.rows c.requires.ready
 
 pub free_at-requires-clause-within : goal.free_at-requires-clause-within
 free_at-requires-clause-within c = numbered-whole c.args.self.now c.args.self.now.waits.rows.sessions (omega (arith, c.requires.ready.long, c.args.self.now.lockers.ok.0)) c.requires.whole c.in-Some.resource
@@ -67,13 +67,13 @@ returns-in_default-clause-waited c =
     let here = within d c.args.session c.position_of.ensures c.requires.some c.requires.within in
     sym (ap (λ (x : Standing). is_some x.wanted) (standing-here d.lockers.items c.args.session c.index_mut-locker.result.now here c.index_mut-locker.ensures.value) ∙ ap is_some (sym c.in_default.ensures.resource))
 
-pub returns-clause-listed : goal.returns-clause-listed
-returns-clause-listed c =
+pub returns-clause-waits_ended : goal.returns-clause-waits_ended
+returns-clause-waits_ended c =
     let d = c.args.self.now in
-    list-freed c.args.session d.lockers.items c.cancel.new.self _ d.ended _ (within d c.args.session c.position_of.ensures c.requires.some c.requires.within) (ap wanted_in c.in-Some.ensures.none) c.free_at.ensures.listed
+    list-freed c.args.session d.lockers.items c.cancel.new.self _ d.ended _ (within d c.args.session c.position_of.ensures c.requires.some c.requires.within) (ap wanted_in c.in-Some.ensures.none) c.free_at.ensures.waits_ended
 
-pub returns-in_default-clause-listed : goal.returns-in_default-clause-listed
-returns-in_default-clause-listed c =
+pub returns-in_default-clause-waits_ended : goal.returns-in_default-clause-waits_ended
+returns-in_default-clause-waits_ended c =
     let d = c.args.self.now in
     list-own c.args.session d.lockers.items c.cancel.new.self d.ended (within d c.args.session c.position_of.ensures c.requires.some c.requires.within).session
 

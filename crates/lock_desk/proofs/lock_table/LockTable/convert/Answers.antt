@@ -61,11 +61,11 @@ returns-in-Granted-clause-kept c =
     c.in_ok-status.ensures.ok
     (search rules) refl refl c.in_ok-status.ensures.rows c.requires.ready
 
-pub returns-in_err-status-clause-listed : goal.returns-in_err-status-clause-listed
-returns-in_err-status-clause-listed c = list-none c.args.session c.args.self.now.lockers.items c.args.self.now.ended
+pub returns-in_err-status-clause-waits_ended : goal.returns-in_err-status-clause-waits_ended
+returns-in_err-status-clause-waits_ended c = list-none c.args.session c.args.self.now.lockers.items c.args.self.now.ended
 
-pub returns-in-Granted-clause-listed : goal.returns-in-Granted-clause-listed
-returns-in-Granted-clause-listed c = list-none c.args.session c.args.self.now.lockers.items c.args.self.now.ended
+pub returns-in-Granted-clause-waits_ended : goal.returns-in-Granted-clause-waits_ended
+returns-in-Granted-clause-waits_ended c = list-none c.args.session c.args.self.now.lockers.items c.args.self.now.ended
 
-pub returns-in-Waiting-clause-listed : goal.returns-in-Waiting-clause-listed
-returns-in-Waiting-clause-listed c = list-own c.args.session c.args.self.now.lockers.items c.wait_for.new.self c.args.self.now.ended (within c.args.self.now c.args.session c.position_of.ensures c.requires.some c.requires.within).session
+pub returns-in-Waiting-clause-waits_ended : goal.returns-in-Waiting-clause-waits_ended
+returns-in-Waiting-clause-waits_ended c = list-own c.args.session c.args.self.now.lockers.items c.wait_for.new.self c.args.self.now.ended (within c.args.self.now c.args.session c.position_of.ensures c.requires.some c.requires.within).session

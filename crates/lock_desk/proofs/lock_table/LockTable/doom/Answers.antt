@@ -42,10 +42,10 @@ returns-clause-kept c =
           (doomed-each f s locker (doom locker.transaction) lt at refl e (transaction-each f s (doom locker.transaction) locker new e kept.whole lt at (ap standing_of is) (ap (λ (x : Locker). x.held) is) (ap (λ (x : Locker). x.wanted) is) refl refl)) refl kept.ready;
     }
 
-pub returns-clause-listed : goal.returns-clause-listed
-returns-clause-listed c =
+pub returns-clause-waits_ended : goal.returns-clause-waits_ended
+returns-clause-waits_ended c =
     let d = c.args.self.now in
     let f = c.end_wait.new.self in
     let s = c.args.session in
     let here = within f s c.position_of.ensures c.requires.some (omega (arith, c.requires.within, c.end_wait.ensures.kept.lockers)) in
-    list-on 0 d.lockers.items f.lockers.items _ d.ended f.ended _ c.end_wait.ensures.listed (list-wanted 0 s f.lockers.items c.index_mut-locker.result.now c.doom.new.self f.ended here c.index_mut-locker.ensures.value (ap (λ (x : Locker). x.wanted) c.doom.ensures))
+    list-on 0 d.lockers.items f.lockers.items _ d.ended f.ended _ c.end_wait.ensures.waits_ended (list-wanted 0 s f.lockers.items c.index_mut-locker.result.now c.doom.new.self f.ended here c.index_mut-locker.ensures.value (ap (λ (x : Locker). x.wanted) c.doom.ensures))

@@ -46,9 +46,9 @@ returns-clause-kept c =
           number.rows number.len number.numbers kept.ready;
     }
 
-pub returns-clause-listed : goal.returns-clause-listed
-returns-clause-listed c =
+pub returns-clause-waits_ended : goal.returns-clause-waits_ended
+returns-clause-waits_ended c =
     let f = c.give_back_all-locks.new.self in
     let s = c.args.session in
     let here = within f s c.position_of.ensures c.requires.some (omega (arith, c.requires.within, c.give_back_all-locks.ensures.kept.lockers)) in
-    list-on s c.args.self.now.lockers.items f.lockers.items _ c.args.self.now.ended f.ended _ c.give_back_all-locks.ensures.listed (list-own s f.lockers.items c.end.new.self f.ended here.session)
+    list-on s c.args.self.now.lockers.items f.lockers.items _ c.args.self.now.ended f.ended _ c.give_back_all-locks.ensures.waits_ended (list-own s f.lockers.items c.end.new.self f.ended here.session)

@@ -2,7 +2,7 @@ use Rattle.std.proofs.Common.{refl, sym, ap, arith, length, length-append, [], â
 use Rattle.lock_desk.specs.inner.Lockers.{Standing}
 use Rattle.lock_desk.specs.inner.Changes.{standing}
 use Rattle.lock_desk.proofs.GivingAllBack.{back-none, back-more}
-use Rattle.lock_desk.proofs.EndedWaits.{listed-none, listed-on}
+use Rattle.lock_desk.proofs.EndedWaits.{waits_ended-none, waits_ended-on}
 use Rattle.lock_desk.proofs.Agreement.{keeps-on}
 use Rattle.lock_desk.proofs.lock_table.LockTable.give_back_all.Goals as goal
 
@@ -13,7 +13,7 @@ loop-lock-init c =
     record {
       back = back-none c.args.session c.args.self.now c.requires.whole c.requires.idle;
       kept = record { whole = c.requires.whole; lockers = refl; ready = c.requires.ready };
-      listed = listed-none c.args.session d;
+      waits_ended = waits_ended-none c.args.session d;
       left = omega (arith, c.locks-locks.ensures, long);
     }
 
@@ -25,6 +25,6 @@ loop-lock-preserved c =
     record {
       back = back-more c.args.session c.args.self.now c.loop-lock.self c.give_back.new.self k.kept.whole k.back g;
       kept = keeps-on k.kept c.give_back.ensures.kept;
-      listed = listed-on c.args.session c.args.self.now c.loop-lock.self c.give_back.new.self k.listed c.give_back.ensures.listed;
+      waits_ended = waits_ended-on c.args.session c.args.self.now c.loop-lock.self c.give_back.new.self k.waits_ended c.give_back.ensures.waits_ended;
       left = omega (arith, k.left, held, length-append (standing c.args.session c.give_back.new.self).held (g.resource âˆ· []));
     }

@@ -82,14 +82,14 @@ hold-requires-clause-under c = mid-under c.args.self.now c.args.session c.index_
 pub wait_for-requires-clause-under : goal.wait_for-requires-clause-under
 wait_for-requires-clause-under c = mid-under c.args.self.now c.args.session c.index_mut-locker.result.now c.make_room.new.self c.requires.whole (within c.args.self.now c.args.session c.position_of-position.ensures c.requires.some c.requires.within) c.index_mut-locker.ensures.value c.make_room.ensures.standing c.args.resource c.index_mut-locker-2.result.now c.index_mut-locker-2.ensures.value c.requires.can.under
 
-pub returns-in_err-make_room-clause-listed : goal.returns-in_err-make_room-clause-listed
-returns-in_err-make_room-clause-listed c = list-own c.args.session c.args.self.now.lockers.items c.make_room.new.self c.args.self.now.ended (within c.args.self.now c.args.session c.position_of-position.ensures c.requires.some c.requires.within).session
+pub returns-in_err-make_room-clause-waits_ended : goal.returns-in_err-make_room-clause-waits_ended
+returns-in_err-make_room-clause-waits_ended c = list-own c.args.session c.args.self.now.lockers.items c.make_room.new.self c.args.self.now.ended (within c.args.self.now c.args.session c.position_of-position.ensures c.requires.some c.requires.within).session
 
-pub returns-in_err-status-clause-listed : goal.returns-in_err-status-clause-listed
-returns-in_err-status-clause-listed c = list-own c.args.session c.args.self.now.lockers.items c.make_room.new.self c.args.self.now.ended (within c.args.self.now c.args.session c.position_of-position.ensures c.requires.some c.requires.within).session
+pub returns-in_err-status-clause-waits_ended : goal.returns-in_err-status-clause-waits_ended
+returns-in_err-status-clause-waits_ended c = list-own c.args.session c.args.self.now.lockers.items c.make_room.new.self c.args.self.now.ended (within c.args.self.now c.args.session c.position_of-position.ensures c.requires.some c.requires.within).session
 
-pub returns-in-Granted-clause-listed : goal.returns-in-Granted-clause-listed
-returns-in-Granted-clause-listed c = list-twice c.args.session c.args.self.now.lockers.items c.make_room.new.self c.hold.new.self c.args.self.now.ended (within c.args.self.now c.args.session c.position_of-position.ensures c.requires.some c.requires.within).session
+pub returns-in-Granted-clause-waits_ended : goal.returns-in-Granted-clause-waits_ended
+returns-in-Granted-clause-waits_ended c = list-twice c.args.session c.args.self.now.lockers.items c.make_room.new.self c.hold.new.self c.args.self.now.ended (within c.args.self.now c.args.session c.position_of-position.ensures c.requires.some c.requires.within).session
 
-pub returns-in-Waiting-clause-listed : goal.returns-in-Waiting-clause-listed
-returns-in-Waiting-clause-listed c = list-twice c.args.session c.args.self.now.lockers.items c.make_room.new.self c.wait_for.new.self c.args.self.now.ended (within c.args.self.now c.args.session c.position_of-position.ensures c.requires.some c.requires.within).session
+pub returns-in-Waiting-clause-waits_ended : goal.returns-in-Waiting-clause-waits_ended
+returns-in-Waiting-clause-waits_ended c = list-twice c.args.session c.args.self.now.lockers.items c.make_room.new.self c.wait_for.new.self c.args.self.now.ended (within c.args.self.now c.args.session c.position_of-position.ensures c.requires.some c.requires.within).session

@@ -1,7 +1,7 @@
 use Rattle.std.proofs.Common.{rules, refl, ◌+◌, vec_len, sym, ◌∙◌, arith, subst}
 use Rattle.lock_desk.specs.declared.waits.Waits.{Waits}
 use Rattle.lock_desk.specs.inner.Ready.{IsReadyTable}
-use Rattle.lock_desk.proofs.EndedWaits.{listed-on, listed-none}
+use Rattle.lock_desk.proofs.EndedWaits.{waits_ended-on, waits_ended-none}
 use Rattle.lock_desk.proofs.VictimRounds.{rewaited, none-found, found, next-round, last-round}
 use Rattle.lock_desk.proofs.lock_table.LockTable.resolve_deadlocks.Goals as goal
 
@@ -32,7 +32,7 @@ loop-round-preserved c =
       ready = c.doom.ensures.kept.ready;
       count = c.doom.ensures.doomed.count ∙ k.count;
       len = c.doom.ensures.kept.lockers ∙ k.len;
-      listed = listed-on 0 c.args.self.now d c.doom.new.self k.listed c.doom.ensures.listed;
+      waits_ended = waits_ended-on 0 c.args.self.now d c.doom.new.self k.waits_ended c.doom.ensures.waits_ended;
       rounds = λ st i j h.
           let r = k.rounds st i j h in
           let y = c.in-Some.ensures.some in
@@ -47,6 +47,6 @@ loop-round-init c = record {
   ready = c.requires.ready;
   count = refl;
   len = refl;
-  listed = listed-none 0 c.args.self.now;
+  waits_ended = waits_ended-none 0 c.args.self.now;
   rounds = λ st i j h. search rules;
 }

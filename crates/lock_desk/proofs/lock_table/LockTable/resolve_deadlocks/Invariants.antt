@@ -1,7 +1,7 @@
 use Rattle.std.proofs.Common.{◌≡◌, ◌+◌, vec_len}
 use Rattle.lock_rules.specs.State.{State}
 use Rattle.lock_rules.specs.Sound.{IsNumbered, IsSound}
-use Rattle.lock_desk.specs.inner.Changes.{IsWhole, HasListed}
+use Rattle.lock_desk.specs.inner.Changes.{IsWhole, HasNotedEnded}
 use Rattle.lock_desk.specs.inner.Ready.{IsReadyTable}
 use Rattle.lock_desk.specs.inner.Shows.{Shows}
 use Rattle.lock_desk.proofs.VictimRounds.{IsRound}
@@ -13,6 +13,6 @@ invariant-loop-round l = record {
   ready : IsReadyTable l.self;
   count : l.self.count ≡ l.initial.self.count;
   len : vec_len l.self.lockers ≡ vec_len l.initial.self.lockers;
-  listed : HasListed 0 l.initial.self l.self;
+  waits_ended : HasNotedEnded 0 l.initial.self l.self;
   rounds : (st : State) → IsSound st.table → IsNumbered st → Shows l.initial.self st → IsRound (vec_len l.initial.self.lockers + 1) l._round l.session st l.self;
 }

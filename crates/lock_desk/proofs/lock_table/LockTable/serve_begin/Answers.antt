@@ -4,7 +4,7 @@ use Rattle.lock_rules.specs.declared.calls.Reply.TheVariants.{Began}
 use Rattle.lock_rules.specs.declared.calls.Why.TheVariants.{AlreadyOpen}
 use Rattle.lock_desk.specs.inner.Lockers.{Standing}
 use Rattle.lock_desk.proofs.Simulation.{begun-shown, passed-step}
-use Rattle.lock_desk.proofs.EndedWaits.{listed-none}
+use Rattle.lock_desk.proofs.EndedWaits.{waits_ended-none}
 use Rattle.lock_desk.proofs.lock_table.LockTable.serve_begin.Goals as goal
 
 pub returns-clause-step : goal.returns-clause-step
@@ -13,5 +13,5 @@ returns-clause-step c = λ st i j h.
     let none = ap (λ (b : Bool). cond b (Some AlreadyOpen) None) (c.if-is_open.ensures ∙ ap (λ (x : Standing). is_some x.transaction) c.locker.ensures) in
     passed-step d c.begin.new.self st c.args.session Begin (Began c.begin.result) c.requires.whole i h none (ap Began (c.begin.ensures.number ∙ ap (λ n. n + 1) h.count), begun-shown d c.begin.new.self st c.args.session c.begin.ensures.begun h)
 
-pub returns-then-is_open-clause-listed : goal.returns-then-is_open-clause-listed
-returns-then-is_open-clause-listed c = listed-none c.args.session c.args.self.now
+pub returns-then-is_open-clause-waits_ended : goal.returns-then-is_open-clause-waits_ended
+returns-then-is_open-clause-waits_ended c = waits_ended-none c.args.session c.args.self.now

@@ -2,7 +2,7 @@ use Rattle.std.proofs.Common.{◌∙◌, ap}
 use Rattle.lock_rules.specs.declared.calls.Call.TheVariants.{Commit}
 use Rattle.lock_rules.specs.declared.calls.Reply.TheVariants.{Committed}
 use Rattle.lock_desk.proofs.Simulation.{ended-shown, locks-shown, refused-step, passed-step}
-use Rattle.lock_desk.proofs.EndedWaits.{listed-none}
+use Rattle.lock_desk.proofs.EndedWaits.{waits_ended-none}
 use Rattle.lock_desk.proofs.lock_table.LockTable.serve_commit.Goals as goal
 
 pub returns-in-Some-clause-step : goal.returns-in-Some-clause-step
@@ -14,5 +14,5 @@ returns-clause-step c = λ st i j h.
     let s = c.args.session in
     passed-step d c.end.new.self st s Commit (Committed c.end.result) c.requires.whole i h c.in_default.ensures (ap Committed (c.end.ensures.locks ∙ locks-shown d st s c.requires.whole i h), ended-shown d c.end.new.self st s i c.end.ensures.ended h)
 
-pub returns-in-Some-clause-listed : goal.returns-in-Some-clause-listed
-returns-in-Some-clause-listed c = listed-none c.args.session c.args.self.now
+pub returns-in-Some-clause-waits_ended : goal.returns-in-Some-clause-waits_ended
+returns-in-Some-clause-waits_ended c = waits_ended-none c.args.session c.args.self.now

@@ -4,7 +4,7 @@ use Rattle.lock_desk.specs.inner.Changes.{idle_tests, convert_tests}
 use Rattle.lock_desk.proofs.Results.{first-some, first-none}
 use Rattle.lock_desk.proofs.RunItems.{same-on}
 use Rattle.lock_desk.proofs.Simulation.{convert-may, refused-step, passed-steps, same-shown}
-use Rattle.lock_desk.proofs.EndedWaits.{listed-same, listed-on}
+use Rattle.lock_desk.proofs.EndedWaits.{waits_ended-same, waits_ended-on}
 use Rattle.lock_desk.proofs.lock_table.LockTable.serve_convert.Goals as goal
 
 pub returns-in-Some-clause-step : goal.returns-in-Some-clause-step
@@ -13,8 +13,8 @@ returns-in-Some-clause-step c = λ st i j h.
     let s = c.args.session in
     refused-step d st s (Convert c.args.resource c.args.mode) c.in-Some.why c.likely_converted-likely.ensures.kept.whole i (same-shown c.args.self.now d st c.likely_converted-likely.ensures.same h) (first-some (idle_tests d s) (convert_tests d s c.args.resource c.args.mode) c.in-Some.why c.in-Some.ensures)
 
-pub returns-in-Some-clause-listed : goal.returns-in-Some-clause-listed
-returns-in-Some-clause-listed c = listed-same c.args.session c.args.self.now c.likely_converted-likely.new.self c.likely_converted-likely.ensures.same
+pub returns-in-Some-clause-waits_ended : goal.returns-in-Some-clause-waits_ended
+returns-in-Some-clause-waits_ended c = waits_ended-same c.args.session c.args.self.now c.likely_converted-likely.new.self c.likely_converted-likely.ensures.same
 
 pub returns-in-Some-convert_refusal-clause-step : goal.returns-in-Some-convert_refusal-clause-step
 returns-in-Some-convert_refusal-clause-step c = λ st i j h.

@@ -2,7 +2,7 @@ use Rattle.std.proofs.Common.{cond, ◌∙◌}
 use Rattle.lock_rules.specs.declared.calls.Call.TheVariants.{Poll}
 use Rattle.lock_rules.specs.declared.calls.Reply.TheVariants.{Waiting, Deadlock, Clear}
 use Rattle.lock_desk.proofs.Simulation.{waits-shown, doom-shown, passed-step}
-use Rattle.lock_desk.proofs.EndedWaits.{listed-none}
+use Rattle.lock_desk.proofs.EndedWaits.{waits_ended-none}
 use Rattle.lock_desk.proofs.lock_table.LockTable.serve_poll.Goals as goal
 
 pub returns-clause-step : goal.returns-clause-step
@@ -12,8 +12,8 @@ returns-clause-step c = λ st i j h.
     let b = waits-shown d st c.args.session c.requires.whole h in
     passed-step d d st c.args.session Poll c.standing_reply.result c.requires.whole i h c.in_default.ensures (c.standing_reply.ensures ∙ (λ k. cond (a k) Deadlock (cond (b k) Waiting Clear)), h)
 
-pub returns-in-Some-clause-listed : goal.returns-in-Some-clause-listed
-returns-in-Some-clause-listed c = listed-none c.args.session c.args.self.now
+pub returns-in-Some-clause-waits_ended : goal.returns-in-Some-clause-waits_ended
+returns-in-Some-clause-waits_ended c = waits_ended-none c.args.session c.args.self.now
 
-pub returns-clause-listed : goal.returns-clause-listed
-returns-clause-listed c = listed-none c.args.session c.args.self.now
+pub returns-clause-waits_ended : goal.returns-clause-waits_ended
+returns-clause-waits_ended c = waits_ended-none c.args.session c.args.self.now

@@ -4,7 +4,7 @@ use Rattle.lock_rules.specs.declared.calls.Reply.TheVariants.{Released}
 use Rattle.lock_desk.specs.inner.Changes.{idle_tests, release_tests}
 use Rattle.lock_desk.proofs.Results.{first-some, first-none}
 use Rattle.lock_desk.proofs.Simulation.{release-can, released-shown, same-shown, refused-step, passed-step}
-use Rattle.lock_desk.proofs.EndedWaits.{listed-same, listed-on}
+use Rattle.lock_desk.proofs.EndedWaits.{waits_ended-same, waits_ended-on}
 use Rattle.lock_desk.proofs.lock_table.LockTable.serve_release.Goals as goal
 
 pub returns-in-Some-clause-step : goal.returns-in-Some-clause-step
@@ -36,11 +36,11 @@ returns-clause-step c = λ st i j h.
     let can = release-can d s c.args.resource (sym none) in
     passed-step d c.release.new.self st s (Release c.args.resource) Released w i shown none (refl, released-shown d c.release.new.self st s c.args.resource i w can c.release.ensures.freed shown)
 
-pub returns-in-Some-clause-listed : goal.returns-in-Some-clause-listed
-returns-in-Some-clause-listed c = listed-same c.args.session c.args.self.now c.index.new.self c.index.ensures.same
+pub returns-in-Some-clause-waits_ended : goal.returns-in-Some-clause-waits_ended
+returns-in-Some-clause-waits_ended c = waits_ended-same c.args.session c.args.self.now c.index.new.self c.index.ensures.same
 
-pub returns-in-Some-release_refusal-clause-listed : goal.returns-in-Some-release_refusal-clause-listed
-returns-in-Some-release_refusal-clause-listed c = listed-same c.args.session c.args.self.now c.index.new.self c.index.ensures.same
+pub returns-in-Some-release_refusal-clause-waits_ended : goal.returns-in-Some-release_refusal-clause-waits_ended
+returns-in-Some-release_refusal-clause-waits_ended c = waits_ended-same c.args.session c.args.self.now c.index.new.self c.index.ensures.same
 
-pub returns-clause-listed : goal.returns-clause-listed
-returns-clause-listed c = listed-on c.args.session c.args.self.now c.index.new.self c.release.new.self (listed-same c.args.session c.args.self.now c.index.new.self c.index.ensures.same) c.release.ensures.listed
+pub returns-clause-waits_ended : goal.returns-clause-waits_ended
+returns-clause-waits_ended c = waits_ended-on c.args.session c.args.self.now c.index.new.self c.release.new.self (waits_ended-same c.args.session c.args.self.now c.index.new.self c.index.ensures.same) c.release.ensures.waits_ended

@@ -6,8 +6,8 @@ use Rattle.lock_desk.specs.inner.Changes.{IsWhole, idle_tests, try_tests}
 use Rattle.lock_desk.specs.inner.Shows.{Shows}
 use Rattle.lock_desk.proofs.Results.{first-some, first-none}
 use Rattle.lock_desk.proofs.Simulation.{try-may, refused-step, passed-steps}
-use Rattle.lock_desk.proofs.EndedWaits.{listed-none}
-use Rattle.lock_desk.specs.inner.Changes.{HasListed}
+use Rattle.lock_desk.proofs.EndedWaits.{waits_ended-none}
+use Rattle.lock_desk.specs.inner.Changes.{HasNotedEnded}
 use Rattle.lock_desk.proofs.lock_table.LockTable.serve_try.Goals as goal
 
 pub returns-in-Some-clause-step : goal.returns-in-Some-clause-step
@@ -43,11 +43,11 @@ returns-clause-step c = λ st i j h.
     let none = first-none (idle_tests d s) (try_tests d s c.args.resource c.args.mode) idle in
     passed-steps d c.ask.new.self st s (Try c.args.resource c.args.mode) c.ask.result (subst IsWhole same c.requires.whole) i shown (c.in_default-try_refusal.ensures ∙ sym none) (c.ask.ensures.ask st i j shown)
 
-pub returns-in-Some-clause-listed : goal.returns-in-Some-clause-listed
-returns-in-Some-clause-listed c = listed-none c.args.session c.args.self.now
+pub returns-in-Some-clause-waits_ended : goal.returns-in-Some-clause-waits_ended
+returns-in-Some-clause-waits_ended c = waits_ended-none c.args.session c.args.self.now
 
-pub returns-in-Some-try_refusal-clause-listed : goal.returns-in-Some-try_refusal-clause-listed
-returns-in-Some-try_refusal-clause-listed c = subst (λ (x : LockTable). HasListed c.args.session c.args.self.now x) (sym c.find_or_insert_key-place.ensures.same) (listed-none c.args.session c.args.self.now)
+pub returns-in-Some-try_refusal-clause-waits_ended : goal.returns-in-Some-try_refusal-clause-waits_ended
+returns-in-Some-try_refusal-clause-waits_ended c = subst (λ (x : LockTable). HasNotedEnded c.args.session c.args.self.now x) (sym c.find_or_insert_key-place.ensures.same) (waits_ended-none c.args.session c.args.self.now)
 
-pub returns-clause-listed : goal.returns-clause-listed
-returns-clause-listed c = subst (λ (x : LockTable). HasListed c.args.session x c.ask.new.self) c.find_or_insert_key-place.ensures.same c.ask.ensures.listed
+pub returns-clause-waits_ended : goal.returns-clause-waits_ended
+returns-clause-waits_ended c = subst (λ (x : LockTable). HasNotedEnded c.args.session x c.ask.new.self) c.find_or_insert_key-place.ensures.same c.ask.ensures.waits_ended

@@ -8,7 +8,7 @@ use Rattle.lock_desk.specs.declared.book.Item.{Item}
 use Rattle.lock_desk.specs.Batches.{IsItemWithin}
 use Rattle.lock_desk.specs.inner.Cells.{HasRoomAt}
 use Rattle.lock_rules.specs.Legal.{state_of}
-use Rattle.lock_desk.specs.inner.Ended.{listed_in}
+use Rattle.lock_desk.specs.inner.Ended.{ended_in}
 use Rattle.lock_desk.specs.inner.Runs.{mode_asked, CanGrant, GoesBeside, AreKept, AreServed}
 use Rattle.lock_desk.proofs.Batches.{entry_of, with_reply, ends-none, served-next}
 use Rattle.lock_desk.proofs.RunItems.{each-written, pairs-written, join-can}
@@ -81,11 +81,11 @@ returns-clause-served c = λ n batch start s.
     let lt : k < length items = omega (arith, c.requires.index, g.within) in
     let answer = grant-answer d c.grant.new.self c.args.history.now.items item r c.in-Lock.mode c.requires.kept can.join call c.grant.ensures.asked in
     let d = c.args.table.now in
-    let ended = listed_in d.ended in
+    let ended = ended_in d.ended in
     let adds = s.waits ∙ ends-none n (state_of start) (take k batch) (state_of c.args.history.now.items) item (grant-ends-none d c.grant.new.self c.args.history.now.items item r c.in-Lock.mode c.requires.kept can.join call c.grant.ensures.asked c.grant.ensures.kept.whole c.grant.ensures.own) in
     let next = served-next n k batch start ended ended c.args.history.now.items items item reply s lt at answer.0 adds in
     let written = ap (λ (i : Item). set items k (with_reply i reply)) (at ∙ get_or_default items k item c.index-items-index-2.result lt) in
-    let same = ap listed_in c.grant.ensures.ended in
+    let same = ap ended_in c.grant.ensures.ended in
     subst (λ (ls : List ℕ). AreServed n (k + 1) batch start ls c.push_reserved.new.self.items (set items k (with_reply (get_or items k c.index-items-index-2.result) reply))) (sym same)
     (subst (λ (es : List Entry). AreServed n (k + 1) batch start ended es (set items k (with_reply (get_or items k c.index-items-index-2.result) reply))) (sym c.push_reserved.ensures.items)
     (subst (λ (is : List Item). AreServed n (k + 1) batch start ended (c.args.history.now.items ++ entry_of item reply ∷ []) is) written next))

@@ -3,7 +3,7 @@ use Rattle.std.specs.List.{All}
 use Rattle.lock_rules.specs.declared.calls.Entry.{Entry}
 use Rattle.lock_desk.specs.declared.book.Item.{Item}
 use Rattle.lock_desk.specs.Batches.{IsItemWithin}
-use Rattle.lock_desk.specs.inner.Ended.{listed_in}
+use Rattle.lock_desk.specs.inner.Ended.{ended_in}
 use Rattle.lock_desk.specs.inner.Runs.{IsGranting, AreKept, AreServed}
 use Rattle.lock_desk.proofs.lock_table.runs.grant_items.Given as goal
 
@@ -16,5 +16,5 @@ invariant-loop-index l = record {
   cut : l.history.cut ≡ l.initial.history.cut;
   bound : l.history.bound ≡ l.initial.history.bound;
   room : l.run.upto - l.index ≤ l.history.room;
-  served : (n : ℕ) (batch : List Item) (start : List Entry) → AreServed n l.from batch start (listed_in l.initial.table.ended) l.initial.history.items l.initial.items → AreServed n l.index batch start (listed_in l.table.ended) l.history.items l.items;
+  served : (n : ℕ) (batch : List Item) (start : List Entry) → AreServed n l.from batch start (ended_in l.initial.table.ended) l.initial.history.items l.initial.items → AreServed n l.index batch start (ended_in l.table.ended) l.history.items l.items;
 }
