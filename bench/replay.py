@@ -1,5 +1,5 @@
 #!/usr/bin/env python3
-"""Times glm replay on two kinds of trace, and tells its peak memory.
+"""Times glm replay on two kinds of trace.
 
 Usage: bench/replay.py [ROWS..]     (default: 100000 1000000)
 
@@ -11,9 +11,12 @@ Waits: of 256 sessions 252 hold databases of their own, few or many. Then, a thi
 session begins, waits for a database behind a writer and another session, and aborts. A line for each
 number of rows and of databases held: what the rows with waits cost beyond the rows before them.
 
+bench/measure.py times these traces too, and one of 64 sessions whose calls are drawn at random.
+
 The traces and the histories are files of a temporary folder.
 """
 import os
+import random
 import subprocess
 import sys
 import tempfile
@@ -56,23 +59,52 @@ def waits(session, count):
         yield from [f"{session},begin,,\n", f"{session},lock,1,X\n", f"{session},abort,,\n"]
 
 
-def replayed(rows, folder, *flags):
-    """Seconds and peak memory of a replay of these rows, with these flags."""
-    trace, history = folder / "trace.csv", folder / "history.csv"
+def drawn(count):
+    """Yields rows of 64 sessions, drawn at random, the same ones at each call: locks of 500 databases, many of which wait."""
+    draw = random.Random(1976)
+    is_open = set()
+    for _ in range(count):
+        session = draw.randint(1, 64)
+        lock = f"lock,{draw.randint(1, 500)},{draw.choice(['IS', 'IX', 'S', 'S', 'X'])}"
+        call = draw.choices([lock, "poll,,", "commit,,", "abort,,"], [8, 3, 1, 1])[0] if session in is_open else "begin,,"
+        is_open.add(session)
+        if call in ("commit,,", "abort,,"):
+            is_open.discard(session)
+        yield f"{session},{call}\n"
+
+
+def write(trace, rows):
+    """Writes the rows, and returns how many they are."""
+    count = 0
     with trace.open("w") as out:
-        out.writelines(rows)
-    with trace.open() as given, history.open("w") as out:
+        for row in rows:
+            out.write(row)
+            count += 1
+    return count
+
+
+def timed(words, given, made):
+    """The seconds of a run of the program by the clock and of processors."""
+    with given.open() as rows, made.open("w") as out:
         start = time.monotonic()
-        ran = subprocess.Popen([PROGRAM, "replay", *flags], stdin=given, stdout=out)
+        ran = subprocess.Popen([PROGRAM, *words], stdin=rows, stdout=out)
         _, status, used = os.wait4(ran.pid, 0)
         seconds = time.monotonic() - start
     if status:
-        sys.exit("the replay failed")
-    with history.open() as made, trace.open() as given:
-        answers, asked = sum(1 for _ in made), sum(1 for _ in given)
+        raise subprocess.CalledProcessError(status, ["glm", *words])
+    return seconds, used.ru_utime + used.ru_stime
+
+
+def replayed(rows, folder, *flags):
+    """Seconds of a replay of these rows, with these flags."""
+    trace, history = folder / "trace.csv", folder / "history.csv"
+    asked = write(trace, rows)
+    seconds, _ = timed(["replay", *flags], trace, history)
+    with history.open() as made:
+        answers = sum(1 for _ in made)
     if answers != asked:
         sys.exit(f"{asked} rows gave {answers} entries")
-    return seconds, used.ru_maxrss / 1024
+    return seconds
 
 
 def main():
@@ -82,13 +114,13 @@ def main():
         folder = Path(name)
         for count in counts:
             for flags in [], ["--stream"]:
-                seconds, peak = replayed(uncontended(count), folder, *flags)
+                seconds = replayed(uncontended(count), folder, *flags)
                 named = " ".join([f"{count} rows", *flags])
-                print(f"{named}: {seconds:.2f} s, {count / seconds:.0f} rows a second, peak {peak:.0f} MiB")
+                print(f"{named}: {seconds:.2f} s, {count / seconds:.0f} rows a second")
         for held in HELD:
-            before, _ = replayed(holders(held), folder)
+            before = replayed(holders(held), folder)
             for count in counts:
-                seconds, _ = replayed(list(holders(held)) + list(waits(3, count // 3)), folder)
+                seconds = replayed(list(holders(held)) + list(waits(3, count // 3)), folder)
                 each = (seconds - before) * 1e6 / (count // 3)
                 print(f"{count // 3} waits beside {held} databases: {seconds - before:.2f} s, {each:.1f} microseconds a wait")
 

@@ -23,6 +23,8 @@ CASES = [(kind, threads, threads) for kind in ("own", "shared", "conflict") for 
 CASES += [("own", 4, 64), ("shared", 4, 64), ("own", 8, 250), ("shared", 8, 250)]
 ROWS = 100_000
 TURNS = 9
+# how lock_bench calls the ways that are a mutex round a book, and the office by `combining::call`
+COMMANDS = {"book": "mutex", "call": "threads"}
 
 
 def own(session, turn):
@@ -49,19 +51,59 @@ def conflict(session, turn):
     yield "abort", "", ""
 
 
-def write_trace(path, kind, sessions):
+def write_trace(path, kind, sessions, least=ROWS):
+    """Writes whole transactions of all sessions in turn, until there are so many rows."""
+    make = {"own": own, "shared": shared, "conflict": conflict}[kind]
     rows = []
     turn = 0
-    while len(rows) < ROWS:
+    while len(rows) < least:
         for session in range(1, sessions + 1):
             rows.append(f"{session},begin,,\n")
-            rows += [f"{session},{op},{resource},{mode}\n" for op, resource, mode in kind(session, turn)]
+            rows += [f"{session},{op},{resource},{mode}\n" for op, resource, mode in make(session, turn)]
         turn += 1
     path.write_text("".join(rows))
 
 
+def write_traces(folder, least=ROWS):
+    """Writes the trace of each case, and returns their names."""
+    traces = {}
+    for kind, _, sessions in CASES:
+        if (kind, sessions) not in traces:
+            path = traces[kind, sessions] = folder / f"{kind}.{sessions}.csv"
+            write_trace(path, kind, sessions, least)
+    return traces
+
+
 def run(words):
     return subprocess.run(words, stdout=subprocess.PIPE, text=True, check=True).stdout
+
+
+def by_c(program, trace, threads, turns):
+    """What bench/sharing.c prints: for each way its numbers by their names."""
+    told = {}
+    for line in run([program, trace, str(threads), str(turns)]).splitlines():
+        told[line.split()[0]] = {name: float(number) for name, number in re.findall(r"(\w+)=([\d.]+)", line)}
+    return told
+
+
+def by_lock_bench(program, way, trace, threads, turns):
+    """The nanoseconds of a call by lock_bench, of the fastest turn."""
+    return float(run([program, COMMANDS[way], trace, str(threads), str(turns)]).split("=")[1])
+
+
+def measure(asked, traces):
+    """Makes the rounds. Returns for each case and way the times of the fastest turns, and those of answers."""
+    times, answers = {}, {}
+    for turn in range(asked.rounds):
+        for case in CASES if turn % 2 == 0 else CASES[::-1]:
+            kind, threads, sessions = case
+            for way, told in by_c(asked.program, traces[kind, sessions], threads, TURNS).items():
+                times.setdefault((case, way), []).append(told["least"])
+                answers.setdefault((case, way), []).append([told[name] for name in ("median", "99th", "9999th", "greatest")])
+            for way in COMMANDS if asked.lock_bench else ():
+                took = by_lock_bench(asked.lock_bench, way, traces[kind, sessions], threads, TURNS)
+                times.setdefault((case, way), []).append(took)
+    return times, answers
 
 
 def main():
@@ -70,26 +112,8 @@ def main():
     asked.add_argument("rounds", type=int, nargs="?", default=5)
     asked.add_argument("--lock-bench")
     asked = asked.parse_args()
-    times, answers = {}, {}
     with tempfile.TemporaryDirectory() as folder:
-        traces = {}
-        for kind, _, sessions in CASES:
-            path = Path(folder) / f"{kind}.{sessions}.csv"
-            if not path.exists():
-                write_trace(path, {"own": own, "shared": shared, "conflict": conflict}[kind], sessions)
-            traces[kind, sessions] = str(path)
-        for turn in range(asked.rounds):
-            for case in CASES if turn % 2 == 0 else CASES[::-1]:
-                kind, threads, sessions = case
-                for line in run([asked.program, traces[kind, sessions], str(threads), str(TURNS)]).splitlines():
-                    way = line.split()[0]
-                    told = {name: float(number) for name, number in re.findall(r"(\w+)=([\d.]+)", line)}
-                    times.setdefault((case, way), []).append(told["least"])
-                    answers.setdefault((case, way), []).append([told[name] for name in ("median", "99th", "9999th", "greatest")])
-                if asked.lock_bench:
-                    for way, command in (("call", "threads"), ("book", "mutex")):
-                        line = run([asked.lock_bench, command, traces[kind, sessions], str(threads), str(TURNS)])
-                        times.setdefault((case, way), []).append(float(line.split("=")[1]))
+        times, answers = measure(asked, write_traces(Path(folder)))
     for case in CASES:
         kind, threads, sessions = case
         for mutex, office in (("mutex", "office"), ("book", "call")):

@@ -61,7 +61,8 @@ def chain(n):
 
 
 def circle(n):
-    lead = begins(range(1, n + 1)) + [f"{s},lock,{s},X" for s in range(1, n + 1)] + [f"{s},lock,{s - 1},X" for s in range(2, n)] + [f"1,lock,{n},X"]
+    locks = [f"{s},lock,{s},X" for s in range(1, n + 1)]
+    lead = begins(range(1, n + 1)) + locks + [f"{s},lock,{s - 1},X" for s in range(2, n)] + [f"1,lock,{n},X"]
     rest = [f"{n},abort,,", f"1,release,{n},", f"{n},begin,,", f"{n},lock,{n},X", f"1,lock,{n},X"]
     return repeated(n, lead, f"{n},lock,{n - 1},X", rest)
 
@@ -120,14 +121,29 @@ def whole(_n):
 CASES = [queue, chain, circle, again, victims, line, fan, stairs, release, whole]
 
 
-def least_time(trace, sessions):
-    times = []
-    for _ in range(5):
-        with trace.open() as given:
-            start = time.monotonic()
-            subprocess.run([PROGRAM, "replay", "--sessions", str(sessions)], stdin=given, stdout=subprocess.DEVNULL, check=True)
-            times.append(time.monotonic() - start)
-    return min(times)
+def write_traces(case, sessions, rounds, folder):
+    """Writes the trace with the calls of a case and the one without. Returns both, and the number of the calls."""
+    rows, others, calls = case(sessions)
+    traces = folder / f"{case.__name__}.{sessions}.with.csv", folder / f"{case.__name__}.{sessions}.without.csv"
+    for trace, lines in zip(traces, (rows, others)):
+        trace.write_text("".join(row + "\n" for row in lines * rounds))
+    return *traces, rounds * calls
+
+
+def time_of(trace, sessions):
+    """The seconds of a replay."""
+    with trace.open() as given:
+        start = time.monotonic()
+        subprocess.run([PROGRAM, "replay", "--sessions", str(sessions)], stdin=given, stdout=subprocess.DEVNULL, check=True)
+        return time.monotonic() - start
+
+
+def time_of_a_call(traces, sessions, times=5):
+    """The microseconds of one call of a case, by the traces that `write_traces` has written, each replayed so many times in turn."""
+    with_calls, without, calls = traces
+    runs = [(time_of(with_calls, sessions), time_of(without, sessions)) for _ in range(times)]
+    most, least = map(min, zip(*runs))
+    return (most - least) * 1e6 / calls
 
 
 def main():
@@ -135,12 +151,8 @@ def main():
     sessions = int(sys.argv[2]) if len(sys.argv) > 2 else 256
     subprocess.run([TOP / "glm", "--help"], stdout=subprocess.DEVNULL, check=True)
     with tempfile.TemporaryDirectory() as name:
-        with_calls, without = Path(name) / "with.csv", Path(name) / "without.csv"
         for case in CASES:
-            rows, others, calls = case(sessions)
-            with_calls.write_text("".join(row + "\n" for row in rows * rounds))
-            without.write_text("".join(row + "\n" for row in others * rounds))
-            each = (least_time(with_calls, sessions) - least_time(without, sessions)) * 1e6 / (rounds * calls)
+            each = time_of_a_call(write_traces(case, sessions, rounds, Path(name)), sessions)
             print(f"{case.__name__}: {each:,.1f} microseconds")
 
 

@@ -1,0 +1,188 @@
+#!/usr/bin/env python3
+"""Measures anew what bench/README.md tells by the clock, and prints its tables, ready to be pasted.
+
+Usage: bench/measure.py [--over-gate] [--rounds N] [--quick] [--only SECTION]..
+
+A section makes its cases in rounds (5 by default): each case once in a round, and every second round backwards. A figure is the
+median of the rounds, with the least and the greatest in brackets. Before the tables of a section a line says on which machine, when
+and in how many rounds they were measured, and which share of all ticks of the processors was stolen by others than this system, or
+idle, by /proc/stat. Rounds in which more than 1 in 100 was stolen are robbed: their figures come in tables of their own.
+
+The sections, with the minutes that they take on 4 free processors:
+    replay        glm replay, run, explain, check and show, on the traces of bench/replay.py                 1
+    worst         the dearest calls, with 256 and with 1,024 sessions, by bench/worst.py                     3
+    memory        the peak memory of a whole process, by bench/memory.c                                      1/2
+    growth        a new book and a new office of 256 and of 1,024 sessions, by bench/memory.c                0
+    sharing       a book behind a mutex and an office, by bench/sharing.c on the traces of bench/sharing.py  1 1/2
+    lock_bench    the same traces by lock_bench mutex and lock_bench threads                                 1/2
+    waiting       three ways to wait for locks, by bench/waiting.c                                           1
+    embedding     the boundary to C beside lock_bench seq and, if its library is there, Berkeley DB          1/2
+    instructions  what checks/instructions.py counts; needs valgrind; once                                   1/2
+
+The sections come out one by one, and what they are at goes to standard error. --quick makes one round with few repetitions, to try
+this script: its figures are none. Needs a C compiler, `$CC` or cc. Builds the programs and the library first, if they aren't built;
+with --over-gate, takes those that a full run of the gate and checks/embedding have left. Status 1: a section was left out.
+"""
+import argparse
+import os
+import platform
+import re
+import statistics
+import subprocess
+import sys
+import tempfile
+import time
+from pathlib import Path
+
+sys.dont_write_bytecode = True
+from sections import GLM, LIBRARY, LOCK_BENCH, SECTIONS, TOP  # noqa: E402
+
+# what builds each of these, and where
+BUILDS = {
+    GLM: (["./glm", "--help"], TOP),
+    LOCK_BENCH: (["rt", "run", "--", "--help"], TOP / "crates/lock_bench"),
+    LIBRARY: (["./embed"], TOP),
+}
+# a round is robbed if more than one tick in so many was stolen
+ROBBED = 100
+
+
+def tell(words):
+    print(f"measure: {words}", file=sys.stderr, flush=True)
+
+
+class Ticks:
+    """The ticks of all processors since the system's start: all of them, those stolen by others, and the idle ones."""
+
+    def __init__(self):
+        user, nice, system, idle, wait, irq, softirq, stolen = map(int, Path("/proc/stat").read_text().split()[1:9])
+        self.all = user + nice + system + idle + wait + irq + softirq + stolen
+        self.stolen, self.idle = stolen, idle + wait
+
+    def since(self, earlier):
+        self.all, self.stolen, self.idle = self.all - earlier.all, self.stolen - earlier.stolen, self.idle - earlier.idle
+        return self
+
+    def is_robbed(self):
+        return self.stolen * ROBBED > self.all
+
+    def told(self):
+        return f"stolen {one_in(self.stolen, self.all)}, idle {one_in(self.idle, self.all, 1)}"
+
+
+def one_in(part, whole, digits=0):
+    return f"1 in {whole / part:,.{digits}f}" if part else "none"
+
+
+def processor():
+    found = re.search(r"^model name\s*: (.*)$", Path("/proc/cpuinfo").read_text(), re.MULTILINE)
+    return f"{os.cpu_count()} processors, {' '.join(found[1].split()) if found else platform.machine()}"
+
+
+def today():
+    return time.strftime("%d %B %Y").lstrip("0")
+
+
+class Figures:
+    """What each case has told, round by round: numbers by their names."""
+
+    def __init__(self):
+        self.found = {}
+
+    def add(self, key, told):
+        for name, number in told.items():
+            self.found.setdefault((key, name), []).append(number)
+
+    def text(self, key, name, digits=0, per=1):
+        """The median, and in brackets the least and the greatest, if they differ as they are printed."""
+        return self.pair(key, [name], digits, per)
+
+    def pair(self, key, names, digits=0, per=1):
+        """The same of several figures, with a stroke between them."""
+        columns = [self.found[key, name] for name in names if (key, name) in self.found]
+        if len(columns) < len(names):
+            return ""
+        middle, least, greatest = (
+            "/".join(f"{of(column) / per:,.{digits}f}" for column in columns) for of in (statistics.median, min, max)
+        )
+        return middle if least == greatest else f"{middle} ({least} to {greatest})"
+
+
+def make_rounds(section, count):
+    """Makes the rounds. Returns the figures of those that are clean and of those that are robbed, how many there are of each, and the
+    ticks of all."""
+    cases = section.cases()
+    found, numbers, start = {False: Figures(), True: Figures()}, {False: 0, True: 0}, Ticks()
+    for turn in range(count):
+        before = Ticks()
+        told = [(key, make()) for key, make in (cases if turn % 2 == 0 else cases[::-1])]
+        spent = Ticks().since(before)
+        robbed = spent.is_robbed()
+        numbers[robbed] += 1
+        for key, numbers_told in told:
+            found[robbed].add(key, numbers_told)
+        tell(f"{section.name}: round {turn + 1} of {count}, {spent.told()}{', ROBBED' if robbed else ''}")
+    return found, numbers, Ticks().since(start)
+
+
+def print_section(section, rounds):
+    print(f"\n## {section.heading}\n", flush=True)
+    day, start = today(), time.monotonic()
+    found, numbers, spent = make_rounds(section, rounds)
+    spread = "median of {} rounds, in brackets the least and the greatest" if rounds > 1 else "{} round"
+    print(f"{processor()}, {day}: {spread.format(rounds)}; {spent.told()}. {section.how}\n")
+    for robbed in (False, True):
+        if not numbers[robbed]:
+            continue
+        if robbed:
+            blank = "\n" if numbers[False] else ""
+            print(f"{blank}ROBBED: {numbers[True]} of {rounds} rounds, in which more than 1 tick in {ROBBED} was stolen.\n")
+        elif numbers[True]:
+            print(f"Clean: {numbers[False]} of {rounds} rounds.\n")
+        print("\n".join(section.tables(found[robbed])), flush=True)
+    tell(f"{section.name}: {time.monotonic() - start:.0f} seconds")
+
+
+def build(needs, is_over_gate):
+    for made in needs:
+        words, folder = BUILDS[made]
+        if not is_over_gate:
+            subprocess.run(words, cwd=folder, stdout=subprocess.DEVNULL, check=True)
+        elif not made.exists():
+            raise OSError(f"{made.relative_to(TOP)} isn't built")
+
+
+def asked_of_the_words():
+    asked = argparse.ArgumentParser(description=__doc__, formatter_class=argparse.RawDescriptionHelpFormatter)
+    asked.add_argument("--over-gate", action="store_true", help="takes what a full run of the gate has left")
+    asked.add_argument("--rounds", type=int, default=5)
+    asked.add_argument("--quick", action="store_true", help="one round with few repetitions, to try this script")
+    asked.add_argument("--only", action="append", choices=[kind.name for kind in SECTIONS], metavar="SECTION")
+    asked = asked.parse_args()
+    if asked.rounds < 1:
+        sys.exit("measure: at least one round")
+    return asked
+
+
+def main():
+    asked = asked_of_the_words()
+    failed = []
+    quick = "; QUICK: what follows are no figures" if asked.quick else ""
+    print(f"{today()}, {processor()}, {platform.system()} {platform.release()}{quick}", flush=True)
+    for kind in SECTIONS:
+        if asked.only and kind.name not in asked.only:
+            continue
+        with tempfile.TemporaryDirectory() as name:
+            try:
+                build(kind.needs, asked.over_gate)
+                rounds = 1 if asked.quick else min(asked.rounds, kind.most_rounds or asked.rounds)
+                print_section(kind(Path(name), asked.quick), rounds)
+            except (OSError, subprocess.SubprocessError) as error:
+                failed.append(kind.name)
+                print(f"\nLeft out: {kind.name} couldn't be measured.", flush=True)
+                tell(f"{kind.name}: {error}")
+    sys.exit(f"measure: left out: {', '.join(failed)}" if failed else 0)
+
+
+if __name__ == "__main__":
+    main()

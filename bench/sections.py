@@ -1,0 +1,353 @@
+"""The sections of bench/README.md that bench/measure.py measures: how each is measured, and its tables."""
+import os
+import re
+import shlex
+import shutil
+import subprocess
+from pathlib import Path
+
+import replay
+import sharing
+import worst
+
+TOP = Path(__file__).resolve().parent.parent
+GLM = TOP / "crates/glm_main/out/glm_main"
+LOCK_BENCH = TOP / "crates/lock_bench/out/lock_bench"
+LIBRARY = TOP / "out/libpelgaisti.a"
+# --quick makes so many times fewer repetitions and rows
+LESS = 100
+
+
+def output_of(words, stream="stdout", **more):
+    """What a command writes on standard output, or on standard error."""
+    return getattr(subprocess.run(words, check=True, text=True, timeout=600, **{stream: subprocess.PIPE}, **more), stream)
+
+
+def table(head, rows):
+    """The lines of a table in Markdown."""
+    return ["| " + " | ".join(map(str, row)) + " |" for row in (head, ["---"] * len(head), *rows)]
+
+
+class Section:
+    """A section of bench/README.md. Its `cases` are pairs of a key and a function that measures once, and returns numbers by their
+    names; `tables` returns the lines that show the figures."""
+
+    needs, how, most_rounds = (), "", None
+
+    def __init__(self, folder, is_quick):
+        self.folder, self.is_quick = folder, is_quick
+
+    def few(self, number):
+        """So many repetitions or rows, or fewer of them with --quick."""
+        return max(1, number // LESS) if self.is_quick else number
+
+    def built(self, name, *flags, library=True):
+        """The program that a source of bench/ makes, built against the library."""
+        program = self.folder / name
+        linked = [f"-I{TOP}/out", f"-L{TOP}/out", "-lpelgaisti", "-lpthread"] if library else []
+        compiler = shlex.split(os.environ.get("CC", "cc"))
+        # what goes wrong without the library of Berkeley DB is no message for a reader
+        errors = subprocess.DEVNULL if flags else None
+        command = [*compiler, "-O2", TOP / f"bench/{name}.c", *linked, *flags, "-o", program]
+        subprocess.run(command, check=True, stderr=errors)
+        return program
+
+
+def peak(program, words, given=subprocess.DEVNULL):
+    """The peak memory of a command in bytes, by bench/peak.c."""
+    told = output_of([program, *words], "stderr", stdin=given, stdout=subprocess.DEVNULL)
+    return 1024 * int(re.search(r"peak=(\d+)", told)[1])
+
+
+class Replay(Section):
+    name, heading, needs = "replay", "The program: `bench/replay.py`", (GLM,)
+    how = "Each time is the least of three runs."
+    TIMES = 3
+    FLAGS = {"": [], " with `--stream`": ["--stream"]}
+
+    def trace(self, name, rows):
+        path = self.folder / name
+        replay.write(path, rows)
+        return path
+
+    def least(self, words, given, rows):
+        runs = [replay.timed(words, given, self.folder / "made.csv") for _ in range(self.few(self.TIMES))]
+        return {"seconds": min(run[0] for run in runs), "each": min(run[1] for run in runs) / rows * 1e9}
+
+    def least_with_peak(self, words, given, rows):
+        told = self.least(words, given, rows)
+        with given.open() as lines:
+            return told | {"peak": peak(self.peaks, [GLM, *words], lines)}
+
+    def waits(self, before, behind, count):
+        seconds = self.least(["replay"], behind, 1)["seconds"] - self.least(["replay"], before, 1)["seconds"]
+        return {"seconds": seconds, "each": seconds / count * 1e6}
+
+    def cases(self):
+        self.peaks = self.built("peak", library=False)
+        cases = []
+        for count in (self.few(100_000), self.few(1_000_000)):
+            trace = self.trace(f"{count}.csv", replay.uncontended(count))
+            for name, flags in self.FLAGS.items():
+                words = ["replay", *flags]
+                cases.append((f"{count:,} rows, nothing waits{name}", lambda w=words, t=trace, n=count: self.least_with_peak(w, t, n)))
+        cases.append((f"`glm run` of the {count:,} rows, by 8 sessions", lambda: self.least(["run"], trace, count)))
+        drawn = self.few(300_000)
+        history, given = self.folder / "history.csv", self.trace("drawn.csv", replay.drawn(drawn))
+        replay.timed(["replay"], given, history)
+        for command in ("explain", "check", "show"):
+            key = f"`glm {command}` of a history of {drawn:,} rows of 64 sessions, drawn at random"
+            cases.append((key, lambda c=command: self.least([c], history, drawn)))
+        self.rows = [key for key, _ in cases]
+        self.waiting = []
+        for held in replay.HELD:
+            count = self.few(1_000_000) // 3
+            before = self.trace(f"{held}.before.csv", replay.holders(held))
+            behind = self.trace(f"{held}.csv", (row for rows in (replay.holders(held), replay.waits(3, count)) for row in rows))
+            self.waiting.append(f"{count:,} waits, each begun and aborted, beside {held:,} databases that are held")
+            cases.append((self.waiting[-1], lambda b=before, w=behind, n=count: self.waits(b, w, n)))
+        return cases
+
+    def tables(self, found):
+        rows = [[key, found.text(key, "seconds", 3), found.text(key, "each"), found.text(key, "peak", 0, 1 << 20)] for key in self.rows]
+        waits = [[key, found.text(key, "seconds", 3), found.text(key, "each", 2)] for key in self.waiting]
+        return [
+            *table(["trace", "seconds", "ns of a processor a row", "peak memory, MiB"], rows),
+            "",
+            *table(["beyond the rows before them", "seconds", "µs a wait"], waits),
+        ]
+
+
+class Worst(Section):
+    name, heading, needs = "worst", "The dearest calls: `bench/worst.py`", (GLM,)
+    how = "Microseconds of a call; in a round the least of five times."
+    CASES = {
+        worst.line: "a wait for all others, each of whom waits for the next on the way back; all become victims",
+        worst.fan: "a wait for one who waits for all others but one, who wait for the asker and become victims",
+        worst.stairs: "the same, if each of them waits for those of higher numbers, too",
+        worst.victims: "a wait that closes a cycle with each of all others but one, who all become victims",
+        worst.circle: "a wait that closes a cycle of all",
+        worst.again: "the same, if the asker waits for all others, too",
+        worst.queue: "a wait behind all others but one in one queue",
+        worst.chain: "a wait that leads on to all others but one, each of which waits for the next",
+        worst.release: "a release of one lock of 4096, in neither the order in which they came nor the reverse",
+        worst.whole: "a whole transaction of 4096 locks, from its begin to its commit",
+    }
+    TIMES = 5
+    # how often a trace has a case's rows, by the sessions
+    REPEATED = {256: 20, 1024: 10}
+
+    def cases(self):
+        cases = []
+        for sessions, repeated in self.REPEATED.items():
+            for case in self.CASES:
+                traces = worst.write_traces(case, sessions, self.few(repeated), self.folder)
+                cases.append(((case, sessions), lambda t=traces, n=sessions: {"each": worst.time_of_a_call(t, n, self.few(self.TIMES))}))
+        return cases
+
+    def tables(self, found):
+        head = ["call", *(f"{sessions:,} sessions" for sessions in self.REPEATED)]
+        return table(head, [[told, *(found.text((case, n), "each", 1) for n in self.REPEATED)] for case, told in self.CASES.items()])
+
+
+class Memory(Section):
+    name, heading, needs = "memory", "Memory: `bench/memory.c`", (LIBRARY,)
+    how = "The peak of the whole process, in which 64 sessions of one book begin, take three locks and commit."
+    # how many entries are kept, what that is, and over how many calls
+    CASES = [
+        ("0", "none: a bound of 0", 20_000_000),
+        ("1024", "a bound of 1,024", 20_000_000),
+        ("taken", "the history taken every 4,000 calls", 20_000_000),
+        ("all", "all", 10_000_000),
+    ]
+
+    def cases(self):
+        peaks, program = self.built("peak", library=False), self.built("memory")
+        asked = {kept: [program, "calls", kept, str(self.few(calls))] for kept, _, calls in self.CASES}
+        return [(kept, lambda w=words: {"peak": peak(peaks, w)}) for kept, words in asked.items()]
+
+    def tables(self, found):
+        rows = [[told, f"{self.few(calls):,}", found.text(kept, "peak", 1, 1e6)] for kept, told, calls in self.CASES]
+        return table(["entries kept", "calls", "memory at most, MB"], rows)
+
+
+class Growth(Section):
+    name, heading, needs = "growth", "What grows with the number of sessions: `bench/memory.c`", (LIBRARY,)
+    how = "In a round the median of 51 times; memory by the C library's heap."
+    SESSIONS = (256, 1024)
+    TIMES = 51
+
+    def cases(self):
+        program = self.built("memory")
+        return [(n, lambda n=n: self.told([program, "new", str(n), str(self.few(self.TIMES))])) for n in self.SESSIONS]
+
+    def told(self, words):
+        return {name: float(number) for name, number in re.findall(r"(\w+)=(\d+)", output_of(words))}
+
+    def tables(self, found):
+        rows = [
+            ("a new book, KB", "book_bytes", 0, 1000),
+            ("a new book, µs", "book_ns", 1, 1000),
+            ("a new office with its book, KB", "office_bytes", 0, 1000),
+            ("a new office with its book, µs", "office_ns", 1, 1000),
+            ("to hand in all sessions and close the office, µs", "close_ns", 1, 1000),
+        ]
+        shown = [[told, *(found.text(n, name, digits, per) for n in self.SESSIONS)] for told, name, digits, per in rows]
+        return table(["what, in C", *(f"{n:,} sessions" for n in self.SESSIONS)], shown)
+
+
+class Sharing(Section):
+    name, heading, needs = "sharing", "How threads share a lock table: `bench/sharing.c`", (LIBRARY,)
+    how = "Mutex/office. A call's time is that of the fastest of 9 turns; from a call to its answer, by 9 other turns."
+    TURNS = 9
+
+    def traces(self):
+        return sharing.write_traces(self.folder, self.few(sharing.ROWS))
+
+    def cases(self):
+        program, traces = self.built("sharing"), self.traces()
+        return [(case, lambda c=case: self.told(program, traces[c[0], c[2]], c[1])) for case in sharing.CASES]
+
+    def told(self, program, trace, threads):
+        found = sharing.by_c(program, trace, threads, self.few(self.TURNS))
+        return {f"{way} {name}": number for way, told in found.items() for name, number in told.items()}
+
+    def tables(self, found):
+        names = [("least", 0, 1), ("median", 0, 1), ("99th", 1, 1000), ("9999th", 0, 1000)]
+        rows = []
+        for case in sorted(sharing.CASES, key=lambda case: ["own", "shared", "conflict"].index(case[0])):
+            shown = [found.pair(case, [f"mutex {name}", f"office {name}"], digits, per) for name, digits, per in names]
+            rows.append([case[0], f"{case[1]}, {case[2]}", *shown])
+        return table(["trace", "threads, sessions", "a call, ns", "median answer, ns", "99th of 100, µs", "9,999th of 10,000, µs"], rows)
+
+
+class LockBench(Sharing):
+    name, heading, needs = "lock_bench", "Threads: `lock_bench`", (LOCK_BENCH,)
+    how = "Nanoseconds a call, mutex/office, of the fastest of 7 turns."
+    TURNS = 7
+
+    def cases(self):
+        traces = self.traces()
+        return [(case, lambda c=case: self.both(traces[c[0], c[2]], c[1])) for case in sharing.CASES]
+
+    def both(self, trace, threads):
+        return {way: sharing.by_lock_bench(LOCK_BENCH, way, trace, threads, self.few(self.TURNS)) for way in sharing.COMMANDS}
+
+    def tables(self, found):
+        kinds = ("own", "shared", "conflict")
+        numbers = sorted({case[1:] for case in sharing.CASES})
+        rows = [[f"{t}, {s}", *(found.pair((kind, t, s), list(sharing.COMMANDS)) for kind in kinds)] for t, s in numbers]
+        return table(["threads, sessions", *kinds], rows)
+
+
+class Waiting(Section):
+    name, heading, needs = "waiting", "How threads wait for locks: `bench/waiting.c`", (LIBRARY,)
+    how = "Processor time and calls are those of a transaction; the time to the grant is that of requests that wait."
+    # threads, records, microseconds held; and the transactions of a thread by each way, which take half a second to two
+    CASES = {
+        ("64", "16", "20"): {"sleep": 1000, "poll": 500, "yield": 1000},
+        ("8", "4", "20"): {"sleep": 4000, "poll": 1000, "yield": 4000},
+        ("8", "4", "0"): {"sleep": 20_000, "poll": 1000, "yield": 20_000},
+    }
+    # where the numbers are in the line that the program prints
+    NUMBERS = {"transactions": 2, "processors": 3, "calls": 4, "median": 7, "99th": 8}
+
+    def cases(self):
+        program = self.built("waiting")
+        asked = [(case, way, self.few(count)) for case, ways in self.CASES.items() for way, count in ways.items()]
+        return [((case, way), lambda c=case, w=way, n=count: self.told([program, w, *c[:2], str(n), c[2]])) for case, way, count in asked]
+
+    def told(self, words):
+        numbers = re.findall(r"[\d.]+", output_of(words))
+        return {name: float(numbers[at]) for name, at in self.NUMBERS.items()}
+
+    def tables(self, found):
+        digits = {"processors": 1, "calls": 1}
+        rows = []
+        for threads, records, held in self.CASES:
+            for way in ("sleep", "poll", "yield"):
+                key = (threads, records, held), way
+                named = f"{threads}, {records}, " + (f"{held} µs" if held != "0" else "not held")
+                rows.append([named, way, *(found.text(key, name, digits.get(name, 0)) for name in self.NUMBERS)])
+        head = ["threads, records, held", "way", "transactions a second", "µs of processors", "calls"]
+        return table([*head, "median µs to the grant", "99th of 100"], rows)
+
+
+def side_by_side(count):
+    """Rows of 8 sessions, whose transactions are open side by side, of the kind `sharing.shared`."""
+    made = turn = 0
+    while made < count:
+        sessions = [["begin,,", *(",".join(call) for call in sharing.shared(session, turn))] for session in range(1, 9)]
+        for calls in zip(*sessions):
+            yield from (f"{session},{call}\n" for session, call in enumerate(calls, 1))
+        made += sum(map(len, sessions))
+        turn += 1
+
+
+class Embedding(Section):
+    name, heading, needs = "embedding", "The boundary to C: `bench/embedding.c`", (LIBRARY, LOCK_BENCH)
+    how = "Nanoseconds a call, one thread, 8 sessions, 100,000 rows in which nothing waits; in a round the least of 50 times."
+    TIMES = 50
+    ROWS = 100_000
+    CASES = {
+        "databases": "12 databases of one's own a transaction, as `bench/replay.py` makes them",
+        "own": "a database, a file and a page of one's own by IX, and 10 records by X",
+        "shared": "the same with 4 records, the rest shared by all, whose transactions are open side by side",
+    }
+    COLUMNS = {"seq": "`Book::serve`", "book": "through C", "mutex": "with a mutex round each call", "berkeley": "Berkeley DB"}
+
+    def build(self):
+        """The program with Berkeley DB, if that is there, or without."""
+        try:
+            program = self.built("embedding", "-DBERKELEY_DB", "-ldb")
+        except subprocess.CalledProcessError:
+            self.has_berkeley = False
+            return self.built("embedding")
+        self.has_berkeley = True
+        return program
+
+    def cases(self):
+        program, rows = self.build(), self.few(self.ROWS)
+        traces = {case: self.folder / f"{case}.csv" for case in self.CASES}
+        replay.write(traces["databases"], replay.uncontended(rows))
+        sharing.write_trace(traces["own"], "own", 8, rows)
+        replay.write(traces["shared"], side_by_side(rows))
+        return [(case, lambda t=trace: self.told(program, t)) for case, trace in traces.items()]
+
+    def told(self, program, trace):
+        times = str(self.few(self.TIMES))
+        numbers = [output_of([LOCK_BENCH, "seq", trace, times]).split("=")[1]]
+        numbers += [line.split()[0] for line in output_of([program, trace, times]).splitlines()]
+        return dict(zip(self.COLUMNS, map(float, numbers)))
+
+    def tables(self, found):
+        shown = [name for name in self.COLUMNS if name != "berkeley" or self.has_berkeley]
+        rows = [[told, *(found.text(case, name, 1) for name in shown)] for case, told in self.CASES.items()]
+        note = [] if self.has_berkeley else ["", "Berkeley DB is left out, since a program that uses it isn't built here."]
+        return [*table(["rows", *(self.COLUMNS[name] for name in shown)], rows), *note]
+
+
+class Instructions(Section):
+    name, heading, needs = "instructions", "Instructions: `checks/instructions.py`", (GLM, LOCK_BENCH, LIBRARY)
+    how = "Counted once by callgrind, which sees no clock."
+    most_rounds = 1
+
+    def cases(self):
+        if shutil.which("valgrind") is None:
+            raise OSError("valgrind isn't on the path")
+        return [("lines", self.count)]
+
+    def count(self):
+        # its status is 1 if a count is beyond its bound, which the table shows
+        ran = subprocess.run([TOP / "checks/instructions.py", "--over-gate"], stdout=subprocess.PIPE, text=True, timeout=600)
+        self.lines = re.findall(r"^(.*): ([\d.]+) instructions, at most ([\d.]+)", ran.stdout, re.MULTILINE)
+        if not self.lines:
+            raise OSError("checks/instructions.py counted nothing")
+        return {}
+
+    def tables(self, _found):
+        return table(["calls", "instructions", "at most"], [[told, f"{int(a):,}", f"{int(b):,}"] for told, a, b in self.lines])
+
+
+SECTIONS = [Replay, Worst, Memory, Growth, Sharing, LockBench, Waiting, Embedding, Instructions]
+
