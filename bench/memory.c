@@ -2,6 +2,8 @@
        memory new SESSIONS TIMES    makes a new book of so many sessions, and a new office, so many times. Prints the bytes of the
                                     C library's heap that each takes, and the nanoseconds to make it, and to hand in all sessions
                                     and close the office: the middle ones of the times
+       memory held LOCKS            has 64 sessions of one book, which keeps no history, lock so many databases each. Prints the bytes
+                                    of the heap for a lock and its resource
        memory calls KEPT CALLS      has 64 sessions of one book begin, take three locks and commit, over so many calls, and prints
                                     nothing: bench/peak.c tells its peak memory. KEPT is the greatest number of entries that the
                                     book keeps of its history, or `all`, or `taken`: the history is taken every 4,000 calls
@@ -61,6 +63,23 @@ static void make_new(uint32_t count, int times) {
            (unsigned long long)took[0][times / 2], (unsigned long long)took[1][times / 2], (unsigned long long)took[2][times / 2]);
 }
 
+static void hold(uint32_t locks) {
+    pelgaisti_call begin = {PELGAISTI_BEGIN, 0, {0, {0}}}, lock = {PELGAISTI_LOCK, PELGAISTI_X, {1, {0}}};
+    pelgaisti_book book = PELGAISTI_EMPTY;
+    pelgaisti_reply reply;
+    if (pelgaisti_book_open(&book, SESSIONS) != PELGAISTI_OK || pelgaisti_book_keep_at_most(&book, 0) != PELGAISTI_OK) exit(4);
+    size_t bytes = heap();
+    for (uint32_t session = 1; session <= SESSIONS; session++) {
+        if (pelgaisti_book_serve(&book, session, &begin, &reply) != PELGAISTI_OK) exit(5);
+        for (uint32_t k = 0; k < locks; k++) {
+            lock.resource.numbers[0] = session * locks + k;
+            if (pelgaisti_book_serve(&book, session, &lock, &reply) != PELGAISTI_OK || reply.kind != PELGAISTI_GRANTED) exit(5);
+        }
+    }
+    printf("bytes=%.0f\n", (double)(heap() - bytes) / (double)SESSIONS / (double)locks);
+    if (pelgaisti_book_close(&book) != PELGAISTI_OK) exit(6);
+}
+
 static void take(pelgaisti_book *book) {
     static pelgaisti_entry piece[PIECE];
     uint64_t first;
@@ -96,6 +115,10 @@ static void make_calls(const char *kept, uint64_t calls) {
 }
 
 int main(int count, char **words) {
+    if (count == 3 && !strcmp(words[1], "held") && atoi(words[2]) >= 1 && atoi(words[2]) <= PELGAISTI_MAX_LOCKS) {
+        hold((uint32_t)atoi(words[2]));
+        return 0;
+    }
     if (count != 4) return 2;
     if (!strcmp(words[1], "calls")) {
         make_calls(words[2], strtoull(words[3], NULL, 10));

@@ -151,8 +151,8 @@ class Worst(Section):
 
 
 class Memory(Section):
-    name, heading, needs = "memory", "Memory: `bench/memory.c`", (LIBRARY,)
-    how = "The peak of the whole process, in which 64 sessions of one book begin, take three locks and commit."
+    name, heading, needs = "memory", "Memory of a process: `bench/memory.c`", (LIBRARY,)
+    how = "First the peak of the whole process, in which 64 sessions of one book begin, take three locks and commit."
     # how many entries are kept, what that is, and over how many calls
     CASES = [
         ("0", "none: a bound of 0", 20_000_000),
@@ -160,15 +160,19 @@ class Memory(Section):
         ("taken", "the history taken every 4,000 calls", 20_000_000),
         ("all", "all", 10_000_000),
     ]
+    LOCKS = (64, 4096)
 
     def cases(self):
         peaks, program = self.built("peak", library=False), self.built("memory")
         asked = {kept: [program, "calls", kept, str(self.few(calls))] for kept, _, calls in self.CASES}
-        return [(kept, lambda w=words: {"peak": peak(peaks, w)}) for kept, words in asked.items()]
+        held = [(locks, lambda n=locks: {"bytes": float(output_of([program, "held", str(n)]).split("=")[1])}) for locks in self.LOCKS]
+        return [(kept, lambda w=words: {"peak": peak(peaks, w)}) for kept, words in asked.items()] + held
 
     def tables(self, found):
         rows = [[told, f"{self.few(calls):,}", found.text(kept, "peak", 1, 1e6)] for kept, told, calls in self.CASES]
-        return table(["entries kept", "calls", "memory at most, MB"], rows)
+        held = [[f"{locks:,}", found.text(locks, "bytes")] for locks in self.LOCKS]
+        head = ["locks on databases of its own that each of 64 sessions holds", "bytes of the C library's heap, a lock with its resource"]
+        return [*table(["entries kept", "calls", "memory at most, MB"], rows), "", *table(head, held)]
 
 
 class Growth(Section):
