@@ -1,9 +1,7 @@
-//! The traces of `examples/` with their histories, and what is shown and told of one of them.
+//! The traces of `examples/` with their histories, and what is shown and told of one of them, for readers and writers that fail.
 
-use crate::harness::want_cases;
-use std::test::Fail;
-
-/// The example traces, with their histories.
+/// The example traces, with their histories: a title that ends with a colon, the trace, `>`, and the history. There is `|` with a
+/// line end between them.
 pub(crate) const EXAMPLES: &str =
     "`queue.csv`. A writer waits for a reader, and a later reader queues behind the writer. A waiting session can't request a
 lock:
@@ -279,14 +277,6 @@ conversion, and a lock that makes a victim where a try is refused:
 31,4,commit,,,committed,1
 32,5,commit,,,committed,1
 ";
-
-/// The examples replay to their histories, at once and in pieces, as does the empty trace.
-#[test]
-fn the_examples_replay_to_their_histories(rt: HostRuntime) -> Result<(), Fail> {
-    want_cases(&rt, &rt, "glm replay", 0, EXAMPLES)?;
-    want_cases(&rt, &rt, "glm replay --stream", 0, EXAMPLES)?;
-    want_cases(&rt, &rt, "glm replay --stream", 0, "Nothing:\n>\n")
-}
 
 /// The history of `examples/deadlock.csv`.
 pub(crate) const DEADLOCK: &str = "0,1,begin,,,began,1

@@ -1,44 +1,75 @@
-//! Runs the program in memory, and compares its status and what it writes. Tables of cases are texts, one loop over which
-//! runs them all.
+//! Runs the program in memory, with a writer that takes the bytes as a test wants it, and makes traces.
 
-use glm::{Gate, OpenGate, program};
-use std::alloc::AllocError;
-use std::io::{Read, Write};
-use std::process::Abort;
+use glm::{Gate, ToolFault, program};
+use std::fmt::Write as WriteText;
+use std::io::{ErrorKind, Read, Write};
 use std::sync::Wait;
-use std::test::Fail;
 use std::thread::Threads;
+use std::{fmt, io};
 
-/// What an execution of the program has to end with and to write.
-#[derive(Clone, Copy)]
-pub(crate) struct Wanted<'a> {
-    /// What a failed test is told by, beside the words.
-    pub title: &'a str,
-    /// The exit status.
-    pub status: u8,
-    /// The bytes on standard output.
-    pub output: &'a [u8],
-    /// The bytes on standard error.
-    pub errors: &'a [u8],
+/// The greatest number of tries for each answer in these tests.
+pub(crate) const TURNS: u64 = 1_000_000_000;
+
+/// A trace of one session.
+pub(crate) const TREE: &str = "1,begin,,\n1,lock,1,IX\n1,lock,1/2,IX\n1,lock,1/2/3,X\n1,commit,,\n";
+
+/// The only history of `TREE`.
+pub(crate) const TREE_HISTORY: &str =
+    "0,1,begin,,,began,1\n1,1,lock,1,IX,granted,IX\n2,1,lock,1/2,IX,granted,IX\n3,1,lock,1/2/3,X,granted,X\n4,1,commit,,,committed,3\n";
+
+/// A writer that takes at most `piece` bytes in each of `calls` calls, and then fails.
+#[derive(Drop)]
+pub(crate) struct LimitedWriter {
+    /// The bytes that were taken.
+    pub taken: Vec<u8>,
+    /// The number of line feeds that each call took.
+    pub lines: Vec<u64>,
+    /// The number of calls that are left.
+    pub calls: usize,
+    /// The number of bytes that a call takes at most.
+    pub piece: usize,
+    /// Whether the next call is interrupted. Then the call after it isn't, and so on.
+    pub halts: bool,
+    /// Whether the call after the next one is interrupted.
+    pub halts_then: bool,
 }
 
-/// Status 0 and this output.
-pub(crate) fn done(output: &[u8]) -> Wanted<'_> {
-    Wanted {
-        title: "",
-        status: 0,
-        output,
-        errors: b"".as_slice(),
+/// Returns a writer that takes at most `piece` bytes in each of `calls` calls.
+pub(crate) fn limited(rt: &impl AllocGlobal, calls: usize, piece: usize) -> LimitedWriter {
+    LimitedWriter {
+        taken: Vec::new(rt.alloc()),
+        lines: Vec::new(rt.alloc()),
+        calls,
+        piece,
+        halts: false,
+        halts_then: false,
     }
 }
 
-/// This status and these errors, with no output.
-pub(crate) fn failed(status: u8, errors: &[u8]) -> Wanted<'_> {
-    Wanted {
-        title: "",
-        status,
-        output: b"".as_slice(),
-        errors,
+impl Write for LimitedWriter {
+    /// Takes some bytes, is interrupted, or fails if no call is left.
+    fn write(&mut self, bytes: &[u8]) -> io::Result<usize> {
+        if self.calls == 0 {
+            return Err(io::Error::from(ErrorKind::BrokenPipe));
+        }
+        self.calls -= 1;
+        let halts = self.halts;
+        self.halts = self.halts_then;
+        self.halts_then = halts;
+        if halts {
+            return Err(io::Error::from(ErrorKind::Interrupted));
+        }
+        let count = bytes.len().min(self.piece);
+        let part = &bytes[..count];
+        let lines = part.iter().filter(|byte| **byte == b'\n').count();
+        self.lines.push(lines as u64)?;
+        self.taken.write_all(part)?;
+        Ok(count)
+    }
+
+    /// Does nothing.
+    fn flush(&mut self) -> io::Result<()> {
+        Ok(())
     }
 }
 
@@ -54,96 +85,57 @@ pub(crate) fn status_of<R: Read + Drop, W: Write, E: Write, G: Gate>(
     program(rt, rt.alloc(), words, input, output, errors, gate)
 }
 
-/// Returns the words of a line.
-pub(crate) fn words_of<'a>(
+/// Whether the program ends with this status, no output and this text on standard error.
+pub(crate) fn fails_with<R: Read + Drop, G: Gate>(
     rt: &(impl AllocGlobal + Threads + Wait),
-    line: &'a str,
-) -> Result<Vec<&'a str>, AllocError> {
-    line.split_whitespace().collect(rt.alloc())
-}
-
-/// Expects this status and these bytes.
-pub(crate) fn want_ran(
-    abort: &impl Abort,
-    line: &str,
-    status: u8,
-    output: &[u8],
-    errors: &[u8],
-    wanted: &Wanted<'_>,
-) {
-    let same = output == wanted.output && errors == wanted.errors;
-    assert!(abort;
-        same && status == wanted.status,
-        "{line}: {}: status {status}",
-        wanted.title
-    );
-}
-
-/// Runs the program on the words of a line, with a gate, and expects what is wanted.
-pub(crate) fn want_at<G: Gate>(
-    rt: &(impl AllocGlobal + Threads + Wait),
-    abort: &impl Abort,
-    line: &str,
-    input: &[u8],
-    wanted: &Wanted<'_>,
+    words: &[&str],
+    input: R,
     gate: &G,
-) -> Result<(), Fail> {
-    let words = words_of(rt, line)?;
+    wanted: u8,
+    text: &str,
+) -> bool {
     let mut output = Vec::new(rt.alloc());
     let mut errors = Vec::new(rt.alloc());
-    let status = status_of(rt, &words, input, &mut output, &mut errors, gate);
-    want_ran(abort, line, status, &output, &errors, wanted);
+    let status = status_of(rt, words, input, &mut output, &mut errors, gate);
+    status == wanted && output.is_empty() && errors.as_slice() == text.as_bytes()
+}
+
+/// Whether a command of the library has this result and wrote this text.
+pub(crate) fn has_result(
+    rows: Result<u64, ToolFault>,
+    output: &[u8],
+    wanted: Result<u64, ToolFault>,
+    text: &str,
+) -> bool {
+    rows == wanted && output == text.as_bytes()
+}
+
+/// Appends a begin, and then polls up to a number of rows, to a trace and its history.
+pub(crate) fn push_polls(trace: &mut String, history: &mut String, rows: u64) -> fmt::Result {
+    trace.write_str("1,begin,,\n")?;
+    history.write_str("0,1,begin,,,began,1\n")?;
+    for place in 1..rows {
+        trace.write_str("1,poll,,\n")?;
+        write!(history, "{place},1,poll,,,clear,\n")?;
+    }
     Ok(())
 }
 
-/// Runs the program on the words of a line, and expects what is wanted.
-pub(crate) fn want(
-    rt: &(impl AllocGlobal + Threads + Wait),
-    abort: &impl Abort,
-    line: &str,
-    input: &[u8],
-    wanted: &Wanted<'_>,
-) -> Result<(), Fail> {
-    want_at(rt, abort, line, input, wanted, &OpenGate)
-}
-
-/// The input of a case, and what is written for it. A case is a title that ends with a colon and a line end, the input, `>`
-/// with a line end, and what is written. `None` if the text isn't one.
-pub(crate) fn parts_of(case: &str) -> Option<(&str, &str)> {
-    let (_title, parts) = case.split_once(":\n")?;
-    parts.split_once(">\n")
-}
-
-/// Runs the program on the words of a line with the input of a case, and expects this status and what the case says, on
-/// standard output for the statuses 0 and 3, else on standard error.
-fn want_case(
-    rt: &(impl AllocGlobal + Threads + Wait),
-    abort: &impl Abort,
-    line: &str,
-    status: u8,
-    case: &str,
-) -> Result<(), Fail> {
-    let (input, text) = parts_of(case).ok_or("no case")?;
-    let mut wanted = failed(status, text.as_bytes());
-    if status == 0 || status == 3 {
-        wanted = done(text.as_bytes());
-        wanted.status = status;
-    }
-    wanted.title = case;
-    want(rt, abort, line, input.as_bytes(), &wanted)
-}
-
-/// Runs the program on the words of a line for each case of a text, and expects this status and what the case says. There is
-/// `|` with a line end between cases.
-pub(crate) fn want_cases(
-    rt: &(impl AllocGlobal + Threads + Wait),
-    abort: &impl Abort,
-    line: &str,
-    status: u8,
-    cases: &str,
-) -> Result<(), Fail> {
-    for case in cases.split("|\n") {
-        want_case(rt, abort, line, status, case)?;
+/// Appends `each` rows of `sessions` sessions, one row of every session in turn. The transactions of all sessions conflict on
+/// two databases.
+pub(crate) fn push_many_rows(trace: &mut String, sessions: u16, each: u64) -> fmt::Result {
+    for number in 0..each {
+        let row = match number % 5 {
+            0 => ",begin,,\n",
+            1 => ",lock,1,S\n",
+            2 => ",lock,2,IX\n",
+            3 => ",lock,1,X\n",
+            _ => ",abort,,\n",
+        };
+        for session in 1..=sessions {
+            write!(trace, "{session}")?;
+            trace.write_str(row)?;
+        }
     }
     Ok(())
 }

@@ -2,15 +2,13 @@
 
 use crate::call_gates::Counting;
 use crate::examples::{DEADLOCK, EXAMPLES};
-use crate::harness::{parts_of, status_of};
+use crate::harness::{fails_with, has_result};
 use glm::{OpenGate, ToolFault, check, replay, run};
 use lock_trace::{TraceFault, TraceKind};
 use lock_tree::PathFault;
 use std::io;
 use std::io::{ErrorKind, Read};
-use std::process::Abort;
 use std::sync::Wait;
-use std::test::Fail;
 use std::thread::Threads;
 
 /// A reader that gives a text, at most `piece` bytes a call, and then fails.
@@ -75,142 +73,72 @@ fn fault_of<R: Read + Drop>(
     check(rt.alloc(), input, 256).err()
 }
 
-/// Expects a fault of a row, and no output.
-fn want_fault(
-    abort: &impl Abort,
-    word: &str,
-    fault: Option<ToolFault>,
-    output: &[u8],
-    wanted: TraceFault,
-) {
-    let same = fault == Some(ToolFault::Trace(wanted));
-    assert!(abort; same && output.is_empty(), "{word}");
-}
-
-/// Expects this status and line, and no output.
-fn want_line(abort: &impl Abort, status: u8, output: &[u8], errors: &[u8], wanted: u8, line: &str) {
-    let same = errors == line.as_bytes() && output.is_empty();
-    assert!(abort; same && status == wanted, "{status} {line}");
-}
-
-/// Runs the program with a reader that gives these bytes and then fails. Expects this status and line, and no output.
-fn want_status_and_line(
+/// Calls a command of the library with readers that give these bytes, a byte or up to 16 bytes a call, and then fail. Whether it
+/// fails with this fault, and writes nothing.
+fn has_fault(
     rt: &(impl AllocGlobal + Threads + Wait),
-    abort: &impl Abort,
-    word: &str,
-    left: &[u8],
-    wanted: u8,
-    line: &str,
-) {
-    let mut output = Vec::new(rt.alloc());
-    let mut errors = Vec::new(rt.alloc());
-    let words = ["glm", word];
-    let input = Cut { left, piece: 16 };
-    let status = status_of(rt, &words, input, &mut output, &mut errors, &OpenGate);
-    want_line(abort, status, &output, &errors, wanted, line);
-}
-
-/// The fault of an input whose reader fails in a row: of row 2 if that one is faulty and was read to its end, else `Device`.
-fn fault_in(row: u64, is_faulty: bool) -> TraceFault {
-    if is_faulty && row > 2 {
-        return TraceFault {
-            row: 2,
-            kind: TraceKind::Path(PathFault::LeadingZero),
-        };
-    }
-    TraceFault {
-        row,
-        kind: TraceKind::Device,
-    }
-}
-
-/// Calls a command of the library with a reader that gives these bytes, at most `piece` a call, and then fails. Expects this
-/// fault, and no output.
-fn want_fault_of(
-    rt: &(impl AllocGlobal + Threads + Wait),
-    abort: &impl Abort,
-    word: &str,
-    left: &[u8],
-    piece: usize,
-    wanted: TraceFault,
-) {
-    let mut output = Vec::new(rt.alloc());
-    let fault = fault_of(rt, word, Cut { left, piece }, &mut output);
-    want_fault(abort, word, fault, &output, wanted);
-}
-
-/// Tries a command with readers that give these bytes, a byte or up to 16 bytes a call, and then fail in a row.
-fn want_failed_reader(
-    rt: &(impl AllocGlobal + Threads + Wait),
-    abort: &impl Abort,
     word: &str,
     left: &[u8],
     row: u64,
-    is_faulty: bool,
-) {
-    let wanted = fault_in(row, is_faulty);
-    want_fault_of(rt, abort, word, left, 1, wanted);
-    want_fault_of(rt, abort, word, left, 16, wanted);
+    kind: TraceKind,
+) -> bool {
+    let wanted = Some(ToolFault::Trace(TraceFault { row, kind }));
+    let mut output = Vec::new(rt.alloc());
+    let bytewise = fault_of(rt, word, Cut { left, piece: 1 }, &mut output);
+    let in_parts = fault_of(rt, word, Cut { left, piece: 16 }, &mut output);
+    bytewise == wanted && in_parts == wanted && output.is_empty()
 }
 
-/// Runs the program with a reader that gives these bytes and then fails in a row.
-fn want_failed_program(
+/// Tries a command with readers that fail at each of their calls, and the program itself at the ends of rows. Whether each fault
+/// is `Device` of the row that was being read, or that of row 2 if the latter is faulty and was read to its end.
+fn fails_everywhere(
     rt: &(impl AllocGlobal + Threads + Wait),
-    abort: &impl Abort,
-    word: &str,
-    left: &[u8],
-    row: u64,
-    is_faulty: bool,
-) {
-    if is_faulty && row > 2 {
-        let line = "glm: row 2: Path LeadingZero\n";
-        want_status_and_line(rt, abort, word, left, 1, line);
-    } else {
-        want_status_and_line(rt, abort, word, left, 5, "glm: device\n");
-    }
-}
-
-/// Tries a command with readers that fail at each of their calls. The program itself is run only at the ends of rows.
-fn want_failed_readers(
-    rt: &(impl AllocGlobal + Threads + Wait),
-    abort: &impl Abort,
     word: &str,
     text: &str,
     is_faulty: bool,
-) {
+) -> bool {
+    let words = ["glm", word];
     let bytes = text.as_bytes();
     let mut row = 1u64;
+    let mut right = true;
     for length in 0..=bytes.len() {
         let left = &bytes[..length];
-        if left.ends_with(b"\n".as_slice()) {
+        let is_end = left.ends_with(b"\n".as_slice());
+        if is_end {
             row = row.saturating_add(1);
-            want_failed_program(rt, abort, word, left, row, is_faulty);
         }
-        want_failed_reader(rt, abort, word, left, row, is_faulty);
+        let (place, kind, status, line) = if is_faulty && row > 2 {
+            let kind = TraceKind::Path(PathFault::LeadingZero);
+            (2, kind, 1, "glm: row 2: Path LeadingZero\n")
+        } else {
+            (row, TraceKind::Device, 5, "glm: device\n")
+        };
+        let input = Cut { left, piece: 16 };
+        let is_told = !is_end || fails_with(rt, &words, input, &OpenGate, status, line);
+        right = right && is_told && has_fault(rt, word, left, place, kind);
     }
+    right
 }
 
-/// Tries `replay` and `run` with readers of the input of each case of a text, and `check` with readers of what is written.
-fn want_failed_readers_of(
-    rt: &(impl AllocGlobal + Threads + Wait),
-    abort: &impl Abort,
-    cases: &str,
-    is_faulty: bool,
-) -> Result<(), Fail> {
+/// Tries `replay` and `run` with readers of the trace of each case of a text, and `check` with readers of the history.
+fn fail_everywhere(rt: &(impl AllocGlobal + Threads + Wait), cases: &str, is_faulty: bool) -> bool {
+    let mut right = true;
     for case in cases.split("|\n") {
-        let (trace, history) = parts_of(case).ok_or("no case")?;
-        want_failed_readers(rt, abort, "replay", trace, is_faulty);
-        want_failed_readers(rt, abort, "run", trace, is_faulty);
-        want_failed_readers(rt, abort, "check", history, is_faulty);
+        let (_title, parts) = case.split_once(":\n").unwrap_or(("", ""));
+        let (trace, history) = parts.split_once(">\n").unwrap_or(("", ""));
+        right = right && !trace.is_empty() && !history.is_empty();
+        for (word, text) in [("replay", trace), ("run", trace), ("check", history)] {
+            right = right && fails_everywhere(rt, word, text, is_faulty);
+        }
     }
-    Ok(())
+    right
 }
 
 /// A reader that fails is reported with the row that was being read, wherever it fails in an example trace or history, and
 /// nothing is written.
 #[test]
-fn a_failed_reader_is_reported_with_its_row(rt: HostRuntime) -> Result<(), Fail> {
-    want_failed_readers_of(&rt, &rt, EXAMPLES, false)
+fn a_failed_reader_is_reported_with_its_row(rt: HostRuntime) {
+    assert!(rt; fail_everywhere(&rt, EXAMPLES, false));
 }
 
 /// A trace and a history whose row 2 is faulty.
@@ -226,35 +154,39 @@ const FAULTY_CASE: &str = "A zero in front of a number:
 
 /// A reader that fails behind a faulty row changes nothing: the faulty row is reported.
 #[test]
-fn a_faulty_row_is_reported_before_a_failed_reader(rt: HostRuntime) -> Result<(), Fail> {
-    want_failed_readers_of(&rt, &rt, FAULTY_CASE, true)
+fn a_faulty_row_is_reported_before_a_failed_reader(rt: HostRuntime) {
+    assert!(rt; fail_everywhere(&rt, FAULTY_CASE, true));
 }
 
 /// Wherever the reader of a history fails that is to be shown or explained, nothing is written.
 #[test]
 fn a_failed_reader_shows_and_explains_nothing(rt: HostRuntime) {
     let history = DEADLOCK.as_bytes();
+    let mut right = true;
     for word in ["show", "explain"] {
+        let words = ["glm", word];
         for length in 0..=history.len() {
-            want_status_and_line(&rt, &rt, word, &history[..length], 5, "glm: device\n");
+            let left = &history[..length];
+            let input = Cut { left, piece: 16 };
+            right = right && fails_with(&rt, &words, input, &OpenGate, 5, "glm: device\n");
         }
     }
+    assert!(rt; right);
 }
 
 /// If the reader of a run fails, no call enters the gate.
 #[test]
 fn a_run_whose_reader_fails_starts_no_thread(rt: HostRuntime) {
-    let gate = Counting::new();
+    let gate = Counting::new(0, u64::MAX);
     let mut output = Vec::new(rt.alloc());
     let input = Cut {
         left: b"1,begin,,\n".as_slice(),
         piece: 1,
     };
-    let fault = run(&rt, rt.alloc(), input, &mut output, 1, 9, &gate).err();
-    let wanted = TraceFault {
+    let rows = run(&rt, rt.alloc(), input, &mut output, 1, 9, &gate);
+    let fault = ToolFault::Trace(TraceFault {
         row: 2,
         kind: TraceKind::Device,
-    };
-    want_fault(&rt, "run", fault, &output, wanted);
-    gate.want(&rt, [0, 0, 0]);
+    });
+    assert!(rt; has_result(rows, &output, Err(fault), "") && gate.has([0, 0, 0]));
 }
