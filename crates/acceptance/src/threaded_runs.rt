@@ -64,10 +64,12 @@ fn a_gate_shut_to_one_session_fails_the_run(rt: HostRuntime) {
 #[test]
 fn a_shut_gate_is_reported_before_the_turn_limit(rt: HostRuntime) {
     let trace = b"1,begin,,\n2,begin,,\n".as_slice();
+    let mut right = true;
     for session in [1, 2] {
         let gate = Counting::new(session, 0);
-        assert!(rt; has_run(&rt, trace, 0, &gate, Err(ToolFault::GateShut)));
+        right = right && has_run(&rt, trace, 0, &gate, Err(ToolFault::GateShut));
     }
+    assert!(rt; right);
 }
 
 /// Each call enters and leaves the gate once, with its number among the calls of its session.
@@ -75,11 +77,13 @@ fn a_shut_gate_is_reported_before_the_turn_limit(rt: HostRuntime) {
 fn the_gate_is_entered_and_left_once_for_each_call(rt: HostRuntime) {
     // session 1 has four calls in the second trace, session 2 three
     let trace = "2,begin,,\n1,begin,,\n2,poll,,\n1,poll,,\n1,poll,,\n2,commit,,\n1,commit,,\n";
+    let mut right = true;
     for (trace, rows, steps) in [(TREE, 5, [10, 0, 0]), (trace, 7, [8, 6, 0])] {
         let gate = Counting::new(0, u64::MAX);
         let is_run = has_run(&rt, trace.as_bytes(), TURNS, &gate, Ok(rows));
-        assert!(rt; is_run && gate.has(steps));
+        right = right && is_run && gate.has(steps);
     }
+    assert!(rt; right);
 }
 
 /// If a row is faulty, no call enters the gate.
