@@ -1,6 +1,6 @@
 #!/usr/bin/env python3
 """Refuses each allocation in turn: of replays, checks, states, explanations and runs by glm, and of tests of the lock table, of the
-office and of what is below them.
+office and of what is below them. (checks/scripts_of_calls does the same with scripts of calls of the lock table.)
 
 Usage: checks/refused_memory.py [--over-gate]
 
@@ -44,10 +44,7 @@ PIECE = 4096
 # the tests whose allocations are refused, by the crate: all whose names begin so
 TESTED = {
     "base_tests": ("reports::refused_", "traces::reports_the_row_in_which_memory_was_refused", "waits::refused_"),
-    "desk_tests": (
-        *("batches::", "books::", "chains::", "ended::", "kept::", "listing::", "queues::", "refusals::"),
-        *("refused_batches::", "tries::", "withdrawals::"),
-    ),
+    "desk_tests": ("refusals::",),
     "office_tests": (
         *("ages::", "boards::", "calling::a_whole_call_that_found_no_memory", "closing::"),
         *("direct::a_call_that_found_no_memory", "dropping::", "hearing::", "listing::", "looks::"),
@@ -55,8 +52,7 @@ TESTED = {
     ),
 }
 # except these: tests with threads, with two offices, and of the publication list, where a starved pass counts as a pass, which
-# don't make each refused call again; and tests with 1,024 sessions, which would take long, and of which the desk's are made with
-# 256 sessions too
+# don't make each refused call again; and tests with 1,024 sessions, which would take long
 LEFT_OUT = {
     "ages::a_record_leaves_the_list_by_its_age",
     "closing::all_1024_sessions_close_in_any_order",
@@ -64,8 +60,6 @@ LEFT_OUT = {
     "hearing::eight_threads_hear",
     "listing::sixty_four_sessions_poll_in_turn",
     "listing::unused_records_are_unlinked",
-    "queues::a_queue_of_1022_goes_on_after_an_abort_in_its_middle",
-    "queues::one_call_has_1022_victims",
 }
 # what tests print of a refusal: for each of these texts there has to be a round that prints it and nothing else
 TOLD = {
