@@ -99,7 +99,7 @@ static void want(int is_right, const char *what, uint64_t number) {
 }
 
 static void unreadable(const char *why, const char *text) {
-    fprintf(stderr, "%s: %s: %.60s\n", script, why, text);
+    fprintf(stderr, "%s: %s: %.*s\n", script, why, (int)strcspn(text, "\n"), text);
     exit(2);
 }
 
