@@ -190,7 +190,7 @@ typedef enum pelgaisti_posted {
 #define PELGAISTI_MAX_LOCKS 4096
 
 /* The version of the library, as glm --version and the files for pkg-config and CMake tell it. */
-#define PELGAISTI_VERSION "0.7.0"
+#define PELGAISTI_VERSION "0.8.0"
 
 /* The version of this header. It rises when a program that was compiled with the header before could not use the library. Version 3
    has the functions of the archive under the names pelgaisti_raw_.., so that a program of an older version doesn't link. Version 2

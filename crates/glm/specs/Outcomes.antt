@@ -142,7 +142,7 @@ pub record HasAnsweredExplain (words : List Text) (input old new : Option (List 
 
 -- the text of `--version`: the project's version, and the kit and the logic that it was proved with
 abbrev pub text_of_version : List ℕ
-text_of_version = codes "glm 0.7.0\nproved with rattle-kit-13f, logic dac8208d650f15bf\n"
+text_of_version = codes "glm 0.8.0\nproved with rattle-kit-13f, logic dac8208d650f15bf\n"
 
 -- what an outcome says of the words, the input's bytes and the output, which holds `old` before and `new` after
 abbrev pub HasDone : List Text → Option (List ℕ) → Option (List ℕ) → Option (List ℕ) → Outcome → Type 0
