@@ -1,9 +1,7 @@
 //! Tests of the public calls of the crates below the lock table, for what no contract says: examples worked out by hand, and
-//! each call once with success.
+//! each call once with success. Texts, their faults and reports are tested over the program, by `checks/program`.
 #![tactic(auto)]
 
-#[cfg(test)]
-mod histories;
 #[cfg(test)]
 mod lanes;
 #[cfg(test)]

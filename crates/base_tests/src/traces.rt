@@ -1,282 +1,50 @@
-//! The calls `read_trace` and `history_text`: texts with their rows or faults, worked out by hand.
+//! The calls of `lock_trace`, with success, where a reader fails, and where memory is refused. Texts and their faults are in
+//! `checks/program-rows`.
 
 use lock_modes::Mode;
 use lock_rules::{Call, Entry, Reply, Why};
-use lock_trace::{NoMemory, TraceFault, TraceKind, TraceRow, history_text, piece_text, read_trace};
+use lock_trace::{
+    TraceFault, TraceKind, TraceRow, history_text, piece_text, read_history, read_trace,
+};
 use lock_tree::{PathFault, Resource};
 use std::alloc::Global;
 use std::io;
-use std::process::Abort;
 use std::test::Fail;
 
-/// The greatest number of sessions.
-const ALL: u16 = 1024;
-
-/// Returns the database with this number.
-fn database(number: u32) -> Result<Resource, Fail> {
-    let resource = Resource::from_numbers(&[number]);
-    Ok(resource.ok_or(PathFault::TooLarge)?)
-}
-
-/// Returns the row of a begin.
-fn begin(session: u16) -> TraceRow {
-    let call = Call::Begin;
-    TraceRow { session, call }
-}
-
-/// Returns the row of a lock of a database.
-fn lock(session: u16, number: u32, mode: Mode) -> Result<TraceRow, Fail> {
-    let call = Call::Lock(database(number)?, mode);
-    Ok(TraceRow { session, call })
-}
-
-/// Returns the row of a commit.
-fn commit(session: u16) -> TraceRow {
-    let call = Call::Commit;
-    TraceRow { session, call }
-}
-
-/// Returns the record 7/2/40/1.
-fn record() -> Result<Resource, Fail> {
-    let resource = Resource::from_numbers(&[7, 2, 40, 1]);
-    Ok(resource.ok_or(PathFault::TooDeep)?)
-}
-
-/// LF, CRLF, blank lines, a missing last line end and quoted fields give the same rows.
+/// The text of each fault, and its number; that of a path has the path's fault in its text.
 #[test]
-fn reads_rows(rt: HostRuntime) -> Result<(), Fail> {
-    let three = [begin(1), lock(1, 7, Mode::S)?, commit(1)];
-    for text in [
-        "1,begin,,\n1,lock,7,S\n1,commit,,\n",
-        "1,begin,,\n1,lock,7,S\n1,commit,,",
-        "1,begin,,\r\n1,lock,7,S\r\n1,commit,,\r\n",
-        "\n1,begin,,\n\n\n1,lock,7,S\n\r\n1,commit,,\n\n",
-        "\"1\",\"begin\",\"\",\"\"\n\"1\",\"lock\",\"7\",\"S\"\n1,\"commit\",,\n",
-    ] {
-        let rows = read_trace(rt.alloc(), text.as_bytes(), 1)?;
-        assert_eq!(rt; rows.as_slice(), three.as_slice(), "at {text}");
-    }
-    for text in ["", "\n", "\r\n\n"] {
-        let rows = read_trace(rt.alloc(), text.as_bytes(), ALL)?;
-        assert!(rt; rows.is_empty(), "at {text}");
-    }
-    Ok(())
-}
-
-/// A row of each op is read as its call.
-#[test]
-fn reads_each_op(rt: HostRuntime) -> Result<(), Fail> {
-    for (text, call) in [
-        ("3,begin,,", Call::Begin),
-        ("3,lock,7/2/40/1,IS", Call::Lock(record()?, Mode::IS)),
-        ("3,convert,7/2/40/1,X", Call::Convert(record()?, Mode::X)),
-        ("3,poll,,", Call::Poll),
-        ("3,release,7/2/40/1,", Call::Release(record()?)),
-        ("3,commit,,", Call::Commit),
-        ("3,abort,,", Call::Abort),
-        ("3,try,7/2/40/1,SIX", Call::Try(record()?, Mode::SIX)),
-        ("3,withdraw,,", Call::Withdraw),
-    ] {
-        let rows = read_trace(rt.alloc(), text.as_bytes(), 3)?;
-        let want = TraceRow { session: 3, call };
-        assert_eq!(rt; rows.as_slice(), [want].as_slice(), "at {text}");
-    }
-    Ok(())
-}
-
-/// The ends of the ranges of sessions and resource numbers, and every mode except S.
-#[test]
-fn reads_the_least_and_greatest_numbers(rt: HostRuntime) -> Result<(), Fail> {
-    let text =
-        "1024,begin,,\n10,lock,0,NL\n9,lock,4294967295,IS\n1,lock,10,IX\n1,lock,1,SIX\n1,lock,1,U\n1,lock,1,X\n";
-    let rows = read_trace(rt.alloc(), text.as_bytes(), ALL)?;
-    let want = [
-        begin(1024),
-        lock(10, 0, Mode::NL)?,
-        lock(9, 4294967295, Mode::IS)?,
-        lock(1, 10, Mode::IX)?,
-        lock(1, 1, Mode::SIX)?,
-        lock(1, 1, Mode::U)?,
-        lock(1, 1, Mode::X)?,
-    ];
-    assert_eq!(rt; rows.as_slice(), want.as_slice());
-    Ok(())
-}
-
-/// Returns the row and the kind of the fault of a text, or `None` if it is a trace.
-fn fault_in(alloc: Global, text: &[u8]) -> Option<(u64, TraceKind)> {
-    let fault = read_trace(alloc, text, ALL).err()?;
-    Some((fault.row, fault.kind))
-}
-
-/// Expects the fault `kind` in this row.
-fn want_fault(rt: &impl Abort, alloc: Global, text: &str, row: u64, kind: TraceKind) {
-    let fault = fault_in(alloc, text.as_bytes());
-    assert_eq!(rt; fault, Some((row, kind)), "at {text}");
-}
-
-/// Shape is tested first, then the session, then the op, whatever else is wrong with the row.
-#[test]
-fn reports_faults_of_shape_session_and_op_first(rt: HostRuntime) {
-    for (text, kind) in [
-        ("1,begin,\n", TraceKind::Shape),
-        ("0,poll,x\n", TraceKind::Shape),
-        ("1,begin,,,\n", TraceKind::Shape),
-        (" \n", TraceKind::Shape),
-        ("\"1,begin,,\"\n", TraceKind::Shape),
-        (",begin,,\n", TraceKind::Session),
-        ("0,poll,x,y\n", TraceKind::Session),
-        ("00,begin,,\n", TraceKind::Session),
-        ("01,begin,,\n", TraceKind::Session),
-        ("+1,begin,,\n", TraceKind::Session),
-        ("-1,begin,,\n", TraceKind::Session),
-        (" 1,begin,,\n", TraceKind::Session),
-        ("1 ,begin,,\n", TraceKind::Session),
-        ("1x,begin,,\n", TraceKind::Session),
-        ("1025,begin,,\n", TraceKind::Session),
-        ("65537,begin,,\n", TraceKind::Session),
-        ("99999999999999999999,begin,,\n", TraceKind::Session),
-        ("18446744073709551617,begin,,\n", TraceKind::Session),
-        ("1,grant,x,y\n", TraceKind::Op),
-        ("1,rollback,,\n", TraceKind::Op),
-        ("1,Poll,,\n", TraceKind::Op),
-        ("1,,,\n", TraceKind::Op),
-        ("1,LOCK,1,S\n", TraceKind::Op),
-        ("1,Begin,,\n", TraceKind::Op),
-        ("1, begin,,\n", TraceKind::Op),
-        ("1,\"be\"\"gin\",,\n", TraceKind::Op),
-        ("1,Try,1,S\n", TraceKind::Op),
-        ("1,trylock,1,S\n", TraceKind::Op),
-        ("1,withdrawn,,\n", TraceKind::Op),
-    ] {
-        want_fault(&rt, rt.alloc(), text, 1, kind);
-    }
-}
-
-/// The resource is tested before the mode; ops without a resource or a mode refuse both as extra.
-#[test]
-fn reports_faults_of_path_mode_and_extra_then(rt: HostRuntime) {
-    for (text, kind) in [
-        ("1,lock,,y\n", TraceKind::Path(PathFault::Empty)),
+fn faults_have_their_texts_and_numbers(rt: HostRuntime) -> Result<(), Fail> {
+    for (kind, number, want) in [
+        (TraceKind::Shape, 1, "row 3: Shape"),
+        (TraceKind::Session, 2, "row 3: Session"),
+        (TraceKind::Op, 3, "row 3: Op"),
         (
-            "1,lock,1/2/3/4/5/6,y\n",
             TraceKind::Path(PathFault::TooDeep),
+            4,
+            "row 3: Path TooDeep",
         ),
-        ("1,lock,x,S\n", TraceKind::Path(PathFault::NotANumber)),
-        ("1,lock, 1,S\n", TraceKind::Path(PathFault::NotANumber)),
-        (
-            "1,lock,4294967296,S\n",
-            TraceKind::Path(PathFault::TooLarge),
-        ),
-        ("1,lock,01,S\n", TraceKind::Path(PathFault::LeadingZero)),
-        ("1,convert,,y\n", TraceKind::Path(PathFault::Empty)),
-        ("1,convert,1,\n", TraceKind::Mode),
-        ("1,lock,1,\n", TraceKind::Mode),
-        ("1,lock,1,s\n", TraceKind::Mode),
-        ("1,lock,1, S\n", TraceKind::Mode),
-        ("1,lock,1,SI\n", TraceKind::Mode),
-        ("1,begin,1,\n", TraceKind::Extra),
-        ("1,begin,,S\n", TraceKind::Extra),
-        ("1,poll,1,\n", TraceKind::Extra),
-        ("1,abort,,S\n", TraceKind::Extra),
-        ("1,commit, ,\n", TraceKind::Extra),
-        ("1,commit,1,S\n", TraceKind::Extra),
-        ("1,try,,y\n", TraceKind::Path(PathFault::Empty)),
-        ("1,try,1/02,S\n", TraceKind::Path(PathFault::LeadingZero)),
-        ("1,try,1,\n", TraceKind::Mode),
-        ("1,try,1,x\n", TraceKind::Mode),
-        ("1,withdraw,1,\n", TraceKind::Extra),
-        ("1,withdraw,,S\n", TraceKind::Extra),
-        ("1,withdraw,1,S\n", TraceKind::Extra),
+        (TraceKind::Mode, 5, "row 3: Mode"),
+        (TraceKind::Extra, 6, "row 3: Extra"),
+        (TraceKind::Device, 7, "row 3: Device"),
+        (TraceKind::NoMemory, 8, "row 3: NoMemory"),
+        (TraceKind::Place, 9, "row 3: Place"),
+        (TraceKind::Reply, 10, "row 3: Reply"),
+        (TraceKind::Value, 11, "row 3: Value"),
     ] {
-        want_fault(&rt, rt.alloc(), text, 1, kind);
-    }
-}
-
-/// A byte that isn't UTF-8 is the fault of the field that it is in.
-#[test]
-fn reports_invalid_utf8_in_its_field(rt: HostRuntime) {
-    let no_number = TraceKind::Path(PathFault::NotANumber);
-    for (text, kind) in [
-        (b"\xff,begin,,".as_slice(), TraceKind::Session),
-        (b"1,\xff,,".as_slice(), TraceKind::Op),
-        (b"1,lock,\xff,S".as_slice(), no_number),
-        (b"1,lock,1/2/3/4/5/6\xff,S".as_slice(), no_number),
-        (b"1,lock,1,\xff".as_slice(), TraceKind::Mode),
-        (b"1,begin,,\xff".as_slice(), TraceKind::Extra),
-    ] {
-        let fault = fault_in(rt.alloc(), text);
-        assert_eq!(rt; fault, Some((1, kind)), "at {text:?}");
-    }
-}
-
-/// Later faults aren't reported, and blank lines aren't counted.
-#[test]
-fn reports_the_first_faulty_row(rt: HostRuntime) {
-    for (text, row, kind) in [
-        ("1,begin,,\n1,begin\n0,begin,,\n", 2, TraceKind::Shape),
-        (
-            "\n1,begin,,\n\r\n1,commit,,\n\n1,lock,1,Y",
-            3,
-            TraceKind::Mode,
-        ),
-    ] {
-        want_fault(&rt, rt.alloc(), text, row, kind);
-    }
-    let result = read_trace(rt.alloc(), b"2,begin,,\n3,begin,,\n".as_slice(), 2);
-    let kind = TraceKind::Session;
-    assert_eq!(rt; result.err(), Some(TraceFault { row: 2, kind }));
-}
-
-/// The text of each fault.
-#[test]
-fn prints_faults(rt: HostRuntime) -> Result<(), Fail> {
-    for (kind, want) in [
-        (TraceKind::Shape, "row 3: Shape"),
-        (TraceKind::Session, "row 3: Session"),
-        (TraceKind::Op, "row 3: Op"),
-        (TraceKind::Path(PathFault::TooDeep), "row 3: Path TooDeep"),
-        (TraceKind::Mode, "row 3: Mode"),
-        (TraceKind::Extra, "row 3: Extra"),
-        (TraceKind::Device, "row 3: Device"),
-        (TraceKind::NoMemory, "row 3: NoMemory"),
-        (TraceKind::Place, "row 3: Place"),
-        (TraceKind::Reply, "row 3: Reply"),
-        (TraceKind::Value, "row 3: Value"),
-    ] {
+        assert_eq!(rt; kind.number(), number, "of {want}");
         let text = TraceFault { row: 3, kind }.to_string(rt.alloc())?;
         assert_eq!(rt; text.as_str(), want);
     }
     Ok(())
 }
 
-/// The number of each fault.
-#[test]
-fn faults_have_their_numbers(rt: HostRuntime) {
-    for (kind, number) in [
-        (TraceKind::Shape, 1),
-        (TraceKind::Session, 2),
-        (TraceKind::Op, 3),
-        (TraceKind::Path(PathFault::LeadingZero), 4),
-        (TraceKind::Mode, 5),
-        (TraceKind::Extra, 6),
-        (TraceKind::Device, 7),
-        (TraceKind::NoMemory, 8),
-        (TraceKind::Place, 9),
-        (TraceKind::Reply, 10),
-        (TraceKind::Value, 11),
-    ] {
-        assert_eq!(rt; kind.number(), number, "of {kind}");
-    }
-}
-
 /// A reader that gives one byte at a time, and fails or ends after the last one.
 #[derive(Drop)]
-pub(crate) struct ByteReader<'a> {
+struct ByteReader<'a> {
     /// The bytes that are still to be given.
-    pub(crate) left: &'a [u8],
+    left: &'a [u8],
     /// Whether the reader fails after the last byte, instead of ending.
-    pub(crate) fails_at_end: bool,
+    fails_at_end: bool,
 }
 
 impl io::Read for ByteReader<'_> {
@@ -300,30 +68,64 @@ impl io::Read for ByteReader<'_> {
 /// A reader that gives one byte at a time gives the same rows.
 #[test]
 fn reads_byte_by_byte(rt: HostRuntime) -> Result<(), Fail> {
+    let database = Resource::from_numbers(&[7]).ok_or("no resource")?;
     let left = b"1,begin,,\r\n\"1\",lock,7,S\n\n1,commit,,";
     let fails_at_end = false;
     let rows = read_trace(rt.alloc(), ByteReader { left, fails_at_end }, 1)?;
-    let want = [begin(1), lock(1, 7, Mode::S)?, commit(1)];
+    let lock = Call::Lock(database, Mode::S);
+    let want = [
+        TraceRow {
+            session: 1,
+            call: Call::Begin,
+        },
+        TraceRow {
+            session: 1,
+            call: lock,
+        },
+        TraceRow {
+            session: 1,
+            call: Call::Commit,
+        },
+    ];
     assert_eq!(rt; rows.as_slice(), want.as_slice());
     Ok(())
+}
+
+/// The fault of a reader of a trace that fails after these bytes, and of one of a history.
+fn faults_behind(alloc: Global, trace: &[u8], history: &[u8]) -> [Option<TraceFault>; 2] {
+    let fails_at_end = true;
+    let left = trace;
+    let first = read_trace(alloc, ByteReader { left, fails_at_end }, 1).err();
+    let left = history;
+    let second = read_history(alloc, ByteReader { left, fails_at_end }, 1).err();
+    [first, second]
 }
 
 /// A reader that fails after any number of bytes is the fault `Device` in its row; an earlier faulty row comes first.
 #[test]
 fn reports_a_failed_reader_with_its_row(rt: HostRuntime) {
-    let text = b"1,begin,,\n1,lock,7,S\n1,commit,,\n";
-    let fails_at_end = true;
+    let trace = b"1,begin,,\n1,lock,7,S\n1,commit,,\n";
+    let history = b"0,1,begin,,,began,1\n1,1,poll,,,clear,\n";
     let kind = TraceKind::Device;
-    for length in 0..=text.len() {
-        let left = &text[..length];
-        let row = 1 + left.iter().filter(|b| **b == b'\n').count() as u64;
-        let result = read_trace(rt.alloc(), ByteReader { left, fails_at_end }, 1);
-        assert_eq!(rt; result.err(), Some(TraceFault { row, kind }), "at {length}");
+    for length in 0..=32 {
+        // the rows end after 10, 21 and 32 bytes
+        let row = 1 + (length >= 10) as u64 + (length >= 21) as u64 + (length >= 32) as u64;
+        let [fault, _] = faults_behind(rt.alloc(), &trace[..length], b"");
+        assert_eq!(rt; fault, Some(TraceFault { row, kind }), "at {length}");
     }
-    let left = b"1,begin,,\n1,poll\n1,";
-    let result = read_trace(rt.alloc(), ByteReader { left, fails_at_end }, 1);
+    for length in 0..=38 {
+        // the entries end after 20 and 38 bytes
+        let row = 1 + (length >= 20) as u64 + (length >= 38) as u64;
+        let [_, fault] = faults_behind(rt.alloc(), b"", &history[..length]);
+        assert_eq!(rt; fault, Some(TraceFault { row, kind }), "at {length}");
+    }
+    let trace = b"1,begin,,\n1,poll\n1,";
+    let history = b"0,1,begin,,,began,1\n0,1,poll,,,clear,\n";
+    let [shape, place] = faults_behind(rt.alloc(), trace, history);
     let kind = TraceKind::Shape;
-    assert_eq!(rt; result.err(), Some(TraceFault { row: 2, kind }));
+    assert_eq!(rt; shape, Some(TraceFault { row: 2, kind }));
+    let kind = TraceKind::Place;
+    assert_eq!(rt; place, Some(TraceFault { row: 2, kind }));
 }
 
 /// Reads the text byte by byte. Returns the number of rows or the fault, and the number of bytes that were read.
@@ -333,10 +135,12 @@ fn counted(alloc: Global, text: &[u8]) -> (Result<usize, TraceFault>, u64) {
         left: text,
         fails_at_end,
     };
-    let result = read_trace(alloc, &mut input, 1);
-    let unread = input.left.len();
-    let read = text.len().saturating_sub(unread) as u64;
-    (result.map(|rows| rows.len()), read)
+    let result = match read_trace(alloc, &mut input, 1) {
+        Ok(rows) => Ok(rows.len()),
+        Err(fault) => Err(fault),
+    };
+    let read = text.len().saturating_sub(input.left.len()) as u64;
+    (result, read)
 }
 
 /// If memory is refused, the fault names the row that was being read. Prints the row, for the check that refuses each
@@ -344,22 +148,13 @@ fn counted(alloc: Global, text: &[u8]) -> (Result<usize, TraceFault>, u64) {
 #[test]
 fn reports_the_row_in_which_memory_was_refused(rt: HostRuntime) -> Result<(), Fail> {
     // each row has nine bytes, except the last row of the second text, which has more fields than a record has room for
-    let shape = TraceKind::Shape;
-    for (text, last, want) in [
-        (
-            b"1,poll,,\n1,poll,,\n1,poll,,\n1,poll,,\n1,poll,,\n".as_slice(),
-            5,
-            Ok(5),
-        ),
-        (
-            b"1,poll,,\n1,poll,,\n1,,,,,,,,,,,,,,,,\n".as_slice(),
-            3,
-            Err(TraceFault {
-                row: 3,
-                kind: shape,
-            }),
-        ),
-    ] {
+    let shape = TraceFault {
+        row: 3,
+        kind: TraceKind::Shape,
+    };
+    let five = b"1,poll,,\n1,poll,,\n1,poll,,\n1,poll,,\n1,poll,,\n".as_slice();
+    let three = b"1,poll,,\n1,poll,,\n1,,,,,,,,,,,,,,,,\n".as_slice();
+    for (text, last, want) in [(five, 5, Ok(5)), (three, 3, Err(shape))] {
         let (result, read) = counted(rt.alloc(), text);
         let row = read.div_ceil(9).clamp(1, last);
         let kind = TraceKind::NoMemory;
@@ -372,17 +167,8 @@ fn reports_the_row_in_which_memory_was_refused(rt: HostRuntime) -> Result<(), Fa
     Ok(())
 }
 
-/// Returns an entry of a history.
-fn entry(session: u16, call: Call, reply: Reply) -> Entry {
-    Entry {
-        session,
-        call,
-        reply,
-    }
-}
-
 /// A history as text, with every op and every reply.
-pub(crate) const HISTORY_TEXT: &[u8] = b"0,1,begin,,,began,1
+const HISTORY_TEXT: &[u8] = b"0,1,begin,,,began,1
 1,1024,begin,,,began,18446744073709551615
 2,1,lock,7,X,granted,X
 3,1024,lock,4294967295,SIX,waiting,
@@ -407,17 +193,32 @@ pub(crate) const HISTORY_TEXT: &[u8] = b"0,1,begin,,,began,1
 22,1,withdraw,,,refused,NotWaiting
 ";
 
-/// Returns the entries of `HISTORY_TEXT`.
-pub(crate) fn history() -> Result<[Entry; 23], Fail> {
-    Ok([
+/// Returns an entry of a history.
+fn entry(session: u16, call: Call, reply: Reply) -> Entry {
+    Entry {
+        session,
+        call,
+        reply,
+    }
+}
+
+/// Returns the entries of `HISTORY_TEXT`, which name databases 0, 7 and 8, the last database and the record 7/2/40/1.
+fn history(
+    none: Resource,
+    seven: Resource,
+    eight: Resource,
+    last: Resource,
+    record: Resource,
+) -> [Entry; 23] {
+    [
         entry(1, Call::Begin, Reply::Began(1)),
         entry(1024, Call::Begin, Reply::Began(18446744073709551615)),
-        entry(1, lock(1, 7, Mode::X)?.call, Reply::Granted(Mode::X)),
-        entry(1024, lock(1, 4294967295, Mode::SIX)?.call, Reply::Waiting),
+        entry(1, Call::Lock(seven, Mode::X), Reply::Granted(Mode::X)),
+        entry(1024, Call::Lock(last, Mode::SIX), Reply::Waiting),
         entry(1024, Call::Commit, Reply::Refused(Why::IsWaiting)),
         entry(
             1,
-            lock(1, 0, Mode::NL)?.call,
+            Call::Lock(none, Mode::NL),
             Reply::Refused(Why::NothingAsked),
         ),
         entry(1, Call::Commit, Reply::Committed(1)),
@@ -425,36 +226,45 @@ pub(crate) fn history() -> Result<[Entry; 23], Fail> {
         entry(1024, Call::Commit, Reply::Committed(4294967295)),
         entry(
             1,
-            Call::Convert(record()?, Mode::IX),
+            Call::Convert(record, Mode::IX),
             Reply::Granted(Mode::SIX),
         ),
-        entry(1, Call::Release(record()?), Reply::Released),
+        entry(1, Call::Release(record), Reply::Released),
         entry(1, Call::Poll, Reply::Clear),
         entry(1, Call::Abort, Reply::Aborted(0)),
         entry(1024, Call::Poll, Reply::Waiting),
         entry(1024, Call::Abort, Reply::Aborted(4294967295)),
-        entry(1, lock(1, 7, Mode::S)?.call, Reply::Deadlock),
+        entry(1, Call::Lock(seven, Mode::S), Reply::Deadlock),
         entry(1, Call::Commit, Reply::Refused(Why::IsDoomed)),
         entry(1, Call::Poll, Reply::Deadlock),
-        entry(1, lock(1, 8, Mode::U)?.call, Reply::Granted(Mode::U)),
-        entry(1, Call::Try(record()?, Mode::S), Reply::Granted(Mode::U)),
+        entry(1, Call::Lock(eight, Mode::U), Reply::Granted(Mode::U)),
+        entry(1, Call::Try(record, Mode::S), Reply::Granted(Mode::U)),
         entry(
             1024,
-            Call::Try(database(4294967295)?, Mode::X),
+            Call::Try(last, Mode::X),
             Reply::Refused(Why::WouldWait),
         ),
         entry(1024, Call::Withdraw, Reply::Withdrawn),
         entry(1, Call::Withdraw, Reply::Refused(Why::NotWaiting)),
-    ])
+    ]
 }
 
-/// The text of a history has every entry, and the empty history has no text.
+/// Every op and every reply is written and read; so is the empty history.
 #[test]
-fn writes_histories(rt: HostRuntime) -> Result<(), Fail> {
-    let text = history_text(rt.alloc(), &history()?)?;
+fn writes_and_reads_histories(rt: HostRuntime) -> Result<(), Fail> {
+    let entries = history(
+        Resource::parse("0")?,
+        Resource::parse("7")?,
+        Resource::parse("8")?,
+        Resource::parse("4294967295")?,
+        Resource::parse("7/2/40/1")?,
+    );
+    let text = history_text(rt.alloc(), &entries)?;
     assert_eq!(rt; text.as_slice(), HISTORY_TEXT);
-    let none = history_text(rt.alloc(), &[])?;
-    assert!(rt; none.is_empty());
+    let read = read_history(rt.alloc(), text.as_slice(), 1024)?;
+    assert_eq!(rt; read.as_slice(), entries.as_slice());
+    assert!(rt; history_text(rt.alloc(), &[])?.is_empty());
+    assert!(rt; read_history(rt.alloc(), b"".as_slice(), 1)?.is_empty());
     Ok(())
 }
 
@@ -472,7 +282,6 @@ fn writes_pieces(rt: HostRuntime) -> Result<(), Fail> {
     let want =
         b"18446744073709551614,1,poll,,,clear,\n18446744073709551615,2,abort,,,aborted,0\n".as_slice();
     assert_eq!(rt; last.as_slice(), want);
-    let none = piece_text(rt.alloc(), 7, &[])?;
-    assert!(rt; none.is_empty());
+    assert!(rt; piece_text(rt.alloc(), 7, &[])?.is_empty());
     Ok(())
 }

@@ -1,6 +1,6 @@
 //! The waits-for rows of `waits_for`: reachability, cycles, and the youngest session on a cycle. Also its marks.
 
-ghost use Rattle.std.specs.Prelude.{◌≡◌, ◌<◌, ◌≤◌, IfOk, length};
+ghost use Rattle.std.specs.Prelude.{◌≡◌, ◌<◌, ◌≤◌, length};
 
 use std::alloc::Global;
 use std::process::Abort;
@@ -18,144 +18,139 @@ fn rising_ages() -> [u64; 1024]
     ages
 }
 
-/// Returns the rows of 1,024 sessions with four edges: a cycle of three sessions, and an edge from its youngest session to a
-/// session that doesn't wait.
-fn four_edges(alloc: Global) -> Result<Rows, Fail>
-    ensures { IfOk result (λ rows. rows.sessions ≡ 1024) }
+/// A cycle of three sessions, and an edge from its youngest session to one that doesn't wait.
+fn want_cycle_of_three(rt: &impl Abort, rows: &mut Rows, ages: &[u64])
+    requires sessions { rows.old.sessions ≡ 1024 }
+    requires ages { length ages.now ≡ 1024 }
 {
-    let mut rows = Rows::new(alloc, 1024)?;
     rows.set(0, 64);
     rows.set(64, 1022);
     rows.set(1022, 0);
     rows.set(1022, 1023);
-    Ok(rows)
-}
-
-/// Expects the cycle, and one session that it reaches outside it.
-fn want_one_cycle(rt: &impl Abort, rows: &mut Rows)
-    requires { rows.old.sessions ≡ 1024 }
-    ensures { rows.new.sessions ≡ 1024 }
-{
-    assert_eq!(rt; rows.sessions(), 1024);
-    assert!(rt; rows.reaches(0, 0));
-    assert!(rt; rows.reaches(0, 1023));
-    assert!(rt; !rows.reaches(1023, 0));
-    assert!(rt; rows.on_circle(0));
-    assert!(rt; !rows.on_circle(1023));
-}
-
-/// Expects the youngest session on the cycle by these ages, position 0 if all ages are equal, and none off the cycle.
-fn want_youngest(rt: &impl Abort, rows: &mut Rows, ages: &[u64])
-    requires sessions { rows.old.sessions ≡ 1024 }
-    requires ages { length ages.now ≡ 1024 }
-    ensures { rows.new.sessions ≡ 1024 }
-{
+    assert!(rt; rows.reaches(0, 0) && rows.reaches(0, 1023) && !rows.reaches(1023, 0));
+    assert!(rt; rows.on_circle(0) && !rows.on_circle(1023));
     assert_eq!(rt; rows.youngest_on_circle(0, ages), Some(1022));
     assert_eq!(rt; rows.youngest_on_circle(0, &[7; 1024]), Some(0));
     assert_eq!(rt; rows.youngest_on_circle(1023, ages), None);
-}
-
-/// A cycle across the words of a row is found, and is gone when one row is cleared.
-#[test]
-fn a_cycle_of_three_among_1024_sessions(rt: HostRuntime) -> Result<(), Fail> {
-    let mut rows = four_edges(rt.alloc())?;
-    want_one_cycle(&rt, &mut rows);
-    let ages = rising_ages();
-    let ages = &ages[..rows.sessions() as usize];
-    want_youngest(&rt, &mut rows, ages);
-    rows.clear_row(64);
-    assert_eq!(rt; rows.youngest_on_circle(0, ages), None);
-    Ok(())
-}
-
-/// Expects session 1022 to reach only 1023, and the other two sessions of the cycle both of them.
-fn want_open_cycle(rt: &impl Abort, rows: &mut Rows)
-    requires { rows.old.sessions ≡ 1024 }
-    ensures { rows.new.sessions ≡ 1024 }
-{
-    assert!(rt; rows.reaches(0, 1022));
-    assert!(rt; rows.reaches(64, 1023));
-    assert!(rt; rows.reaches(1022, 1023));
-    assert!(rt; !rows.reaches(1022, 0));
-    assert!(rt; !rows.on_circle(0));
-}
-
-/// Of two edges of one session one is removed, and the other three edges are as they were. An edge that isn't there can be
-/// removed, which changes nothing.
-#[test]
-fn one_edge_of_a_session_is_removed(rt: HostRuntime) -> Result<(), Fail> {
-    let mut rows = four_edges(rt.alloc())?;
+    // of two edges of one session one is removed; one that isn't there can be removed, which changes nothing
     rows.unset(1022, 0);
-    want_open_cycle(&rt, &mut rows);
     rows.unset(1022, 0);
     rows.unset(0, 1022);
-    want_open_cycle(&rt, &mut rows);
+    assert!(rt; rows.reaches(0, 1022) && rows.reaches(64, 1023) && rows.reaches(1022, 1023));
+    assert!(rt; !rows.reaches(1022, 0) && !rows.on_circle(0));
     rows.unset(1022, 1023);
-    assert!(rt; !rows.reaches(1022, 1023));
-    assert!(rt; rows.reaches(0, 1022));
+    assert!(rt; !rows.reaches(1022, 1023) && rows.reaches(0, 1022));
     rows.set(1022, 0);
     assert!(rt; rows.on_circle(64));
+    rows.clear_row(64);
+    assert_eq!(rt; rows.youngest_on_circle(0, ages), None);
+}
+
+/// Cycles across the words of a row are found, and are gone when one edge or one row is cleared.
+#[test]
+fn a_cycle_of_three_among_1024_sessions(rt: HostRuntime) -> Result<(), Fail> {
+    let mut rows = Rows::new(rt.alloc(), 1024)?;
+    want_cycle_of_three(&rt, &mut rows, &rising_ages());
     Ok(())
 }
 
-/// Expects a chain of edges from position 0 to `last`, and no cycle.
-fn want_chain(rt: &impl Abort, rows: &mut Rows, last: usize)
-    requires { last < rows.old.sessions }
-    ensures { rows.new.sessions ≡ rows.old.sessions }
-{
-    assert!(rt; rows.reaches(0, last), "{last}");
-    assert!(rt; !rows.reaches(last, 0), "{last}");
-    assert!(rt; !rows.on_circle(0), "{last}");
-}
-
-/// Adds the edge that closes the chain to a cycle, and expects `last` to be the youngest on it.
-fn want_closed(rt: &impl Abort, rows: &mut Rows, ages: &[u64], last: usize)
-    requires last { last < rows.old.sessions }
-    requires ages { length ages.now ≡ rows.old.sessions }
-    ensures { rows.new.sessions ≡ rows.old.sessions }
-{
-    rows.set(last, 0);
-    assert!(rt; rows.reaches(last, 0), "{last}");
-    assert!(rt; rows.on_circle(last), "{last}");
-    assert_eq!(rt; rows.youngest_on_circle(0, ages), Some(last), "{last}");
-}
-
-/// Builds a chain of `members` sessions, closes it to a cycle, and opens the cycle again.
-fn closes_a_chain(rt: &impl Abort, alloc: Global, members: u16) -> Result<(), Fail>
-    requires two { 2 ≤ members }
-    requires few { members ≤ MAX_SESSIONS }
-{
-    let ages = rising_ages();
-    let ages = &ages[..members as usize];
-    let last = members as usize - 1;
-    let mut rows = Rows::new(alloc, members)?;
+/// Builds a chain of all sessions, as many as there are ages, closes it to a cycle, and opens the cycle again.
+fn want_chain_closed(rt: &impl Abort, rows: &mut Rows, ages: &[u64], last: usize) {
     for t in 0..last {
+        assert!(rt; t + 1 < usize::from(rows.sessions()));
         rows.set(t, t + 1);
     }
-    want_chain(rt, &mut rows, last);
-    want_closed(rt, &mut rows, ages, last);
+    assert!(rt; last < usize::from(rows.sessions()));
+    assert!(rt; ages.len() == usize::from(rows.sessions()));
+    assert!(rt; !rows.on_circle(0) && !rows.reaches(last, 0), "{last}");
+    assert_eq!(rt; rows.reaches(0, last), last > 0, "{last}");
+    rows.set(last, 0);
+    assert!(rt; rows.reaches(last, 0) && rows.on_circle(last), "{last}");
+    assert_eq!(rt; rows.youngest_on_circle(0, ages), Some(last), "{last}");
     rows.clear_row(last);
-    assert_eq!(rt; rows.youngest_on_circle(0, ages), None, "{members}");
+    assert_eq!(rt; rows.youngest_on_circle(0, ages), None, "{last}");
+}
+
+/// Cycles of all sessions, around the length of a word and at the greatest number of sessions; an edge from a session to itself
+/// is a cycle.
+#[test]
+fn cycles_of_1_to_1024_sessions(rt: HostRuntime) -> Result<(), Fail> {
+    let ages = rising_ages();
+    for members in [1u16, 2, 64, 65, 1024] {
+        assert!(rt; members >= 1 && members <= 1024);
+        let mut rows = Rows::new(rt.alloc(), members)?;
+        let members = usize::from(members);
+        want_chain_closed(&rt, &mut rows, &ages[..members], members - 1);
+    }
     Ok(())
 }
 
-/// Cycles of all sessions, around the length of a word and at the greatest number of sessions.
-#[test]
-fn cycles_of_2_to_1024_sessions(rt: HostRuntime) -> Result<(), Fail> {
-    closes_a_chain(&rt, rt.alloc(), 2)?;
-    closes_a_chain(&rt, rt.alloc(), 64)?;
-    closes_a_chain(&rt, rt.alloc(), 65)?;
-    closes_a_chain(&rt, rt.alloc(), MAX_SESSIONS)
+/// Returns which positions are reachable from `t` by one edge or more. Each round goes one edge further.
+fn reachable_from(edges: &[[bool; 8]; 8], t: usize) -> [bool; 8] {
+    let mut reached = [false; 8];
+    for _round in 0..8 {
+        for v in 0..8 {
+            if v == t || reached[v] {
+                for u in 0..8 {
+                    reached[u] |= edges[v][u];
+                }
+            }
+        }
+    }
+    reached
 }
 
-/// An edge from a session to itself is a cycle.
+/// Expects the rows of eight sessions to reach what is reachable by the edges. Returns the number of sessions on a cycle.
+fn want_reachable(rt: &impl Abort, rows: &mut Rows, edges: &[[bool; 8]; 8]) -> u64 {
+    let mut circles = 0u64;
+    for t in 0..8 {
+        let reached = reachable_from(edges, t);
+        for u in 0..8 {
+            assert!(rt; rows.sessions() == 8);
+            assert_eq!(rt; rows.reaches(t, u), reached[u], "{t} {u}");
+        }
+        circles = circles.wrapping_add(reached[t] as u64);
+    }
+    circles
+}
+
+/// Adds and removes 3,000 random edges of eight sessions, and expects enough cycles among them.
+fn want_reachable_at_random(rt: &impl Abort, rows: &mut Rows) {
+    let mut edges = [[false; 8]; 8];
+    let mut circles = 0u64;
+    let mut seed = 2026u64;
+    for _turn in 0..3000 {
+        seed = seed
+            .wrapping_mul(6364136223846793005)
+            .wrapping_add(1442695040888963407);
+        let t = (seed >> 33) as usize % 8;
+        let u = (seed >> 40) as usize % 8;
+        assert!(rt; t < 8 && u < 8 && rows.sessions() == 8);
+        // one of five removes all edges of a session, and one more of them one edge
+        match (seed >> 48) % 5 {
+            0 => {
+                rows.clear_row(t);
+                edges[t] = [false; 8];
+            }
+            1 => {
+                rows.unset(t, u);
+                edges[t][u] = false;
+            }
+            _ => {
+                rows.set(t, u);
+                edges[t][u] = true;
+            }
+        }
+        circles = circles.wrapping_add(want_reachable(rt, rows, &edges));
+    }
+    assert!(rt; circles > 100);
+}
+
+/// After each of 3,000 random edges the rows reach what a plain walk reaches.
 #[test]
-fn a_session_that_waits_for_itself_is_on_a_cycle(rt: HostRuntime) -> Result<(), Fail> {
-    let mut rows = Rows::new(rt.alloc(), 1)?;
-    assert!(rt; !rows.on_circle(0));
-    rows.set(0, 0);
-    assert!(rt; rows.on_circle(0));
-    assert_eq!(rt; rows.youngest_on_circle(0, &[0]), Some(0));
+fn reachability_matches_a_plain_walk(rt: HostRuntime) -> Result<(), Fail> {
+    let mut rows = Rows::new(rt.alloc(), 8)?;
+    want_reachable_at_random(&rt, &mut rows);
     Ok(())
 }
 
