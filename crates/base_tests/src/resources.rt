@@ -1,4 +1,4 @@
-//! Resources and numerals: each call with success, order and size. Texts of paths and their faults are in `checks/program-rows`.
+//! Resources and numerals: each call with success, order and size. Texts of paths and their faults are in `checks/program-tables`.
 
 use lock_tree::{LEVELS, NumeralFault, PathFault, Resource, parse_numeral};
 use std::cmp::Ordering;

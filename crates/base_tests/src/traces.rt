@@ -1,5 +1,5 @@
 //! The calls of `lock_trace`, with success, where a reader fails, and where memory is refused. Texts and their faults are in
-//! `checks/program-rows`.
+//! `checks/program-tables`.
 
 use lock_modes::Mode;
 use lock_rules::{Call, Entry, Reply, Why};
