@@ -873,6 +873,103 @@ static void dropped_sessions(void) {
     CHECK(pelgaisti_book_close(&book) == PELGAISTI_OK);
 }
 
+/* 64 sessions come and go on the publication list: each is served in every round, and the history has all their polls. */
+static void sixty_four_sessions_poll_in_turn(void) {
+    static pelgaisti_session sessions[64];
+    pelgaisti_book book = PELGAISTI_EMPTY;
+    pelgaisti_call poll = call_of(PELGAISTI_POLL, 0, 0, 0, 0);
+    uint64_t length = 99;
+
+    CHECK(pelgaisti_office_open(sessions, 64) == PELGAISTI_OK);
+    for (uint64_t place = 0; place < 12800; place++) {
+        pelgaisti_session *session = &sessions[place % 64];
+        pelgaisti_pass pass = {99, 99};
+        pelgaisti_answer answer = {99, {77, 88}};
+        int is_made = pelgaisti_session_publish(session, &poll, NULL) == PELGAISTI_OK &&
+                      pelgaisti_session_serve(session, &pass) == PELGAISTI_OK &&
+                      pelgaisti_session_collect(session, &answer) == PELGAISTI_OK;
+        if (!is_made || pass.served != 1 || pass.starved != 0 || answer.place != place ||
+            answer.reply.kind != PELGAISTI_REFUSED || answer.reply.value != PELGAISTI_NO_TRANSACTION) {
+            CHECK(!"each poll is served in a pass of its own, and refused");
+            break;
+        }
+    }
+    for (size_t k = 63; k > 0; k--) CHECK(pelgaisti_session_hand_in(&sessions[k], &sessions[k - 1]) == PELGAISTI_OK);
+    CHECK(pelgaisti_office_close(&sessions[0], &book) == PELGAISTI_OK);
+    CHECK(pelgaisti_book_length(&book, &length) == PELGAISTI_OK && length == 12800);
+    CHECK(pelgaisti_book_close(&book) == PELGAISTI_OK);
+}
+
+/* 1,024 sessions begin, and are handed in to one of them in a random order: the office closes, and its history has all of them. */
+static void all_1024_sessions_close_in_any_order(void) {
+    static pelgaisti_session sessions[PELGAISTI_MAX_SESSIONS];
+    static size_t order[PELGAISTI_MAX_SESSIONS];
+    pelgaisti_book book = PELGAISTI_EMPTY;
+    pelgaisti_call begin = call_of(PELGAISTI_BEGIN, 0, 0, 0, 0);
+    uint64_t length = 99;
+    uint32_t random = 1;
+
+    CHECK(pelgaisti_office_open(sessions, PELGAISTI_MAX_SESSIONS) == PELGAISTI_OK);
+    for (size_t k = 0; k < PELGAISTI_MAX_SESSIONS; k++) {
+        pelgaisti_answer answer = {99, {77, 88}};
+        size_t place;
+        random = (random * 25173 + 13849) % 65536;
+        place = random % (k + 1);
+        memmove(&order[place + 1], &order[place], (k - place) * sizeof order[0]);
+        order[place] = k;
+        CHECK(pelgaisti_session_perform(&sessions[k], &begin, 9, &answer) == PELGAISTI_OK);
+        CHECK(answer.place == k && answer.reply.kind == PELGAISTI_BEGAN && answer.reply.value == k + 1);
+    }
+    CHECK(order[0] != 0);
+    for (size_t k = 1; k < PELGAISTI_MAX_SESSIONS; k++)
+        CHECK(pelgaisti_session_hand_in(&sessions[order[k]], &sessions[order[0]]) == PELGAISTI_OK);
+    CHECK(pelgaisti_office_close(&sessions[order[0]], &book) == PELGAISTI_OK);
+    CHECK(pelgaisti_book_length(&book, &length) == PELGAISTI_OK && length == 1024);
+    CHECK(pelgaisti_book_close(&book) == PELGAISTI_OK);
+}
+
+/* Sessions of two offices make calls, each in its own office, beside a session of the other one with the same number. Each office
+   has a history of its own, and closes with its own sessions. */
+static void two_offices_have_their_own_sessions(void) {
+    static pelgaisti_session ours[2], theirs[2];
+    pelgaisti_session *first[2] = {&ours[0], &theirs[0]}, *second[2] = {&ours[1], &theirs[1]};
+    pelgaisti_call begin = call_of(PELGAISTI_BEGIN, 0, 0, 0, 0), poll = call_of(PELGAISTI_POLL, 0, 0, 0, 0);
+
+    CHECK(pelgaisti_office_open(ours, 2) == PELGAISTI_OK);
+    CHECK(pelgaisti_office_open(theirs, 2) == PELGAISTI_OK);
+    for (size_t k = 0; k < 2; k++) {
+        pelgaisti_pass pass = {99, 99};
+        pelgaisti_answer answer = {99, {77, 88}};
+        uint32_t told[2] = {77, 77};
+        size_t count = 99;
+        CHECK(pelgaisti_session_perform_at_once(first[k], &poll, &pass, &answer) == PELGAISTI_OK && pass.served == 0);
+        CHECK(answer.place == 0 && answer.reply.kind == PELGAISTI_REFUSED && answer.reply.value == PELGAISTI_NO_TRANSACTION);
+        CHECK(pelgaisti_session_publish(first[k], &poll, NULL) == PELGAISTI_OK);
+        /* a pass in the other office serves nothing */
+        CHECK(pelgaisti_session_serve(first[1 - k], &pass) == PELGAISTI_OK && pass.served == 0);
+        CHECK(pelgaisti_session_collect(first[k], &answer) == PELGAISTI_NOT_SERVED);
+        CHECK(pelgaisti_session_serve(second[k], &pass) == PELGAISTI_OK && pass.served == 1);
+        CHECK(pelgaisti_session_collect(first[k], &answer) == PELGAISTI_OK);
+        CHECK(answer.place == 1 && answer.reply.kind == PELGAISTI_REFUSED && answer.reply.value == PELGAISTI_NO_TRANSACTION);
+        CHECK(pelgaisti_session_perform_telling(first[k], &begin, &pass, &answer, told, 2, &count) == PELGAISTI_OK && count == 0);
+        CHECK(answer.place == 2 && answer.reply.kind == PELGAISTI_BEGAN && answer.reply.value == 1);
+        CHECK(pelgaisti_session_perform(second[k], &begin, 1, &answer) == PELGAISTI_OK);
+        CHECK(answer.place == 3 && answer.reply.kind == PELGAISTI_BEGAN && answer.reply.value == 2);
+        CHECK(pelgaisti_session_hear(second[k], first[k]) == PELGAISTI_OK);
+        CHECK(pelgaisti_session_hear(second[k], first[1 - k]) == PELGAISTI_OTHER_OFFICE);
+        CHECK(pelgaisti_session_retire(second[k]) == PELGAISTI_OK);
+        CHECK(pelgaisti_session_hand_in(second[k], first[1 - k]) == PELGAISTI_OTHER_OFFICE);
+        CHECK(pelgaisti_session_hand_in(second[k], first[k]) == PELGAISTI_OK);
+    }
+    for (size_t k = 0; k < 2; k++) {
+        pelgaisti_book book = PELGAISTI_EMPTY;
+        uint64_t length = 99;
+        CHECK(pelgaisti_office_close(first[k], &book) == PELGAISTI_OK);
+        CHECK(pelgaisti_book_length(&book, &length) == PELGAISTI_OK && length == 4);
+        CHECK(pelgaisti_book_close(&book) == PELGAISTI_OK);
+    }
+}
+
 /* Two sessions take the history in turn: each piece begins where the one before ends, also in the midst of what is kept. */
 static void pieces_follow(void) {
     pelgaisti_session two[2] = {PELGAISTI_EMPTY, PELGAISTI_EMPTY};
@@ -1702,6 +1799,9 @@ int main(int argc, char **argv) {
     sessions_refuse();
     copies_are_told();
     dropped_sessions();
+    sixty_four_sessions_poll_in_turn();
+    all_1024_sessions_close_in_any_order();
+    two_offices_have_their_own_sessions();
     pieces_follow();
     threads_share();
     pieces_are_the_history();

@@ -146,18 +146,33 @@ fn give_back(board: &Board, ticket: &mut Ticket, load: Box<Load>)
     board.release(ticket, load);
 }
 
-/// Session 1 posts a call, and session 2 seizes the board and answers it. Session 1 takes the answer, and can seize the board
-/// when session 2 has released it.
+/// Session 1 posts a call, and session 2 seizes the board and answers it. Session 1 takes the answer, and can seize the board when
+/// session 2 has released it.
+fn answer_the_first(
+    rt: &impl Abort,
+    board: &Board,
+    first: &mut Ticket,
+    second: &mut Ticket,
+) -> Result<(), NoMemory>
+    requires first { first.old ≡ new_ticket board.now.id 2 1 }
+    requires second { second.old ≡ new_ticket board.now.id 2 2 }
+    requires two { board.now.sessions ≡ 2 }
+{
+    posts(rt, board, first, Call::Begin);
+    let mut load = board.seize(second).expect(rt, "the load");
+    assert!(rt; board.seize(first).is_none());
+    serve_the_first(rt, board, second, &mut load)?;
+    takes_once(rt, board, first, 0, Reply::Began(1));
+    give_back(board, second, load);
+    assert!(rt; board.seize(first).is_some());
+    Ok(())
+}
+
+/// A combiner answers what another session has posted, and nobody else is the combiner meanwhile.
 #[test]
 fn a_combiner_answers_what_another_posted(rt: HostRuntime) -> Result<(), Fail> {
     let (board, tickets) = new_board(rt.alloc())?;
     let (mut first, mut second) = both(&rt, &board, tickets);
-    posts(&rt, &board, &mut first, Call::Begin);
-    let mut load = board.seize(&mut second).expect(&rt, "the load");
-    assert!(rt; board.seize(&mut first).is_none());
-    serve_the_first(&rt, &board, &mut second, &mut load)?;
-    takes_once(&rt, &board, &mut first, 0, Reply::Began(1));
-    give_back(&board, &mut second, load);
-    assert!(rt; board.seize(&mut first).is_some());
+    assert!(rt; answer_the_first(&rt, &board, &mut first, &mut second).is_ok());
     Ok(())
 }

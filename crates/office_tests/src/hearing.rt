@@ -3,7 +3,7 @@
 ghost use Rattle.std.specs.Prelude.{◌≡◌, true, All, IfOk};
 ghost use Rattle.combining.specs.Sessions.{IsSessionOf, IsIdle};
 
-use crate::threads::{Caller, call};
+use crate::threads::{Caller, Load, call};
 use combining::{Office, Session};
 use lock_desk::Call;
 use std::alloc::{AllocError, Global};
@@ -107,7 +107,10 @@ fn work(office: &Office, team: Team, calls: u64) -> Tally
         mut first,
         mut second,
     } = team;
-    let mut random = Caller::polls(u64::from(first.number()));
+    let mut random = Caller {
+        load: Load::Polls,
+        state: u64::from(first.number()),
+    };
     let mut tally = Tally {
         answers: 0,
         places: 0,
@@ -129,31 +132,8 @@ fn work(office: &Office, team: Team, calls: u64) -> Tally
     tally
 }
 
-/// Makes 500 calls in each team of an office of 16 sessions, with a thread for each team.
-fn tallies_of_threads<R: Threads + Abort + Sync>(
-    rt: &R,
-    alloc: Global,
-    office: &Office,
-    sessions: Vec<Session>,
-) -> Result<Vec<Tally>, Fail>
-    requires ours { All (λ session. IsSessionOf office.now session × IsIdle session) sessions.items }
-{
-    let teams = teams_of(alloc, office, sessions)?;
-    let all = thread::map_vec(rt, teams, &|team: Team| work(office, team, 500))?;
-    Ok(all)
-}
-
-/// Opens an office, and makes the calls of eight threads in it.
-fn tallies_of_an_office<R: Threads + Abort + Sync>(
-    rt: &R,
-    alloc: Global,
-) -> Result<Vec<Tally>, Fail> {
-    let (office, sessions) = Office::open(alloc, 16)?;
-    tallies_of_threads(rt, alloc, &office, sessions)
-}
-
 /// Adds up the counts. Expects each call after a `hear` to come behind the entries that the other session had seen.
-fn sum_of(rt: &impl Abort, all: Vec<Tally>) -> Tally {
+fn sum_of(rt: &impl Abort, all: &[Tally]) -> Tally {
     let mut sum = Tally {
         answers: 0,
         places: 0,
@@ -169,11 +149,26 @@ fn sum_of(rt: &impl Abort, all: Vec<Tally>) -> Tally {
     sum
 }
 
+/// Makes 500 calls in each team of an office of 16 sessions, with a thread for each team. Returns the sums of their counts.
+fn tally_of_threads<R: Threads + Abort + Sync>(
+    rt: &R,
+    alloc: Global,
+    office: &Office,
+    sessions: Vec<Session>,
+) -> Result<Tally, Fail>
+    requires ours { All (λ session. IsSessionOf office.now session × IsIdle session) sessions.items }
+{
+    let teams = teams_of(alloc, office, sessions)?;
+    let all = thread::map_vec(rt, teams, &|team: Team| work(office, team, 500))?;
+    Ok(sum_of(rt, all.as_slice()))
+}
+
 /// The places of 4000 answers add up to the sum of 0 to 3999, and each call after a `hear` comes behind the entries that the
 /// other session had seen.
 #[test]
 fn eight_threads_hear(rt: HostRuntime) -> Result<(), Fail> {
-    let sum = sum_of(&rt, tallies_of_an_office(&rt, rt.alloc())?);
+    let (office, sessions) = Office::open(rt.alloc(), 16)?;
+    let sum = tally_of_threads(&rt, rt.alloc(), &office, sessions)?;
     assert!(rt; sum.answers == 4000 && sum.places == 3999 * 2000 && sum.hears > 1000);
     Ok(())
 }

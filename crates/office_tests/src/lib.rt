@@ -1,45 +1,23 @@
-//! Tests of boards and offices, for what no contract says: examples worked out by hand, each call once with success, and
-//! threads.
+//! Tests of boards and offices, for what no contract says: each call once with success and with refused memory, and threads.
+//! What calls on one thread reply, in many cases, is tried over the library for C: `checks/office_cases`.
 #![tactic(auto)]
 
 #[cfg(test)]
-mod ages;
-#[cfg(test)]
 mod boards;
 #[cfg(test)]
-mod calling;
-#[cfg(test)]
-mod cases;
+mod calls;
 #[cfg(test)]
 mod closing;
 #[cfg(test)]
-mod direct;
-#[cfg(test)]
-mod direct_telling;
-#[cfg(test)]
-mod dropping;
-#[cfg(test)]
 mod hearing;
-#[cfg(test)]
-mod listing;
-#[cfg(test)]
-mod looks;
 #[cfg(test)]
 mod offices;
 pub mod own_office;
 #[cfg(test)]
 mod pieces;
 #[cfg(test)]
-mod refusals;
-#[cfg(test)]
-mod script;
-#[cfg(test)]
-mod steps;
-#[cfg(test)]
 mod telling;
 #[cfg(test)]
 mod threads;
-#[cfg(test)]
-mod withdrawals;
 #[cfg(test)]
 mod workers;

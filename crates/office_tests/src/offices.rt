@@ -1,15 +1,13 @@
-//! What no contract says of an office: which calls a pass serves and in which order. A call that is refused memory is made a
-//! second time, so that these tests also pass if any one of their allocations is refused.
+//! Offices that are opened, and a begin that finds no memory. A call that is refused memory is made a second time, so that these
+//! tests also pass if any one of their allocations is refused.
 
 ghost use Rattle.std.specs.Prelude.{◌≡◌, All, IfOk};
 ghost use Rattle.combining.specs.Sessions.{IsSessionOf, IsIdle};
 
-use crate::calling::begin_whole;
-use crate::cases::{closed, perform_cases};
-use crate::direct::begin_at_once;
-use crate::script::is_history;
-use combining::{Answer, Ended, Office, OpenFault, Posted, Session, Turn};
-use lock_desk::{Call, NoMemory, Reply};
+use combining::{
+    Answer, Called, Office, OpenFault, Performed, Posted, Session, Turn, call, resume,
+};
+use lock_desk::{Book, Call, Reply};
 use std::alloc::Global;
 use std::process::Abort;
 use std::test::Fail;
@@ -25,33 +23,15 @@ pub(crate) fn new_office(alloc: Global, sessions: u16) -> Result<(Office, Vec<Se
     }
 }
 
-/// Opens an office that keeps the newest `bound` entries. Tries a second time if memory is refused.
-pub(crate) fn new_bounded_office(
-    alloc: Global,
-    sessions: u16,
-    bound: u64,
-) -> Result<(Office, Vec<Session>), OpenFault>
-    ensures office { IfOk result (λ made. made.0.sessions ≡ sessions) }
-    ensures ready { IfOk result (λ made. All (λ session. IsSessionOf made.0 session × IsIdle session) made.1.items) }
+/// Closes the office, and returns its book.
+pub(crate) fn closed(rt: &impl Abort, office: Office, sessions: Vec<Session>) -> Book
+    requires ours { All (IsSessionOf office) sessions.items }
 {
-    match Office::open_keeping(alloc, sessions, bound) {
-        Err(OpenFault::NoMemory) => Office::open_keeping(alloc, sessions, bound),
-        other => other,
-    }
-}
-
-/// Creates a list with room for so many sessions. Tries a second time if memory is refused.
-pub(crate) fn new_list(alloc: Global, sessions: u16) -> Result<Ended, NoMemory>
-    ensures room { IfOk result (λ ended. ended.room ≡ sessions) }
-{
-    match Ended::new(alloc, sessions) {
-        Err(_) => Ended::new(alloc, sessions),
-        other => other,
-    }
+    office.close(sessions).ok().expect(rt, "the book")
 }
 
 /// Tests whether the sessions are numbered from 1, idle, and have seen no entry of the history.
-pub(crate) fn are_fresh(sessions: &[Session]) -> bool {
+fn are_fresh(sessions: &[Session]) -> bool {
     for (at, session) in sessions.iter().enumerate() {
         if usize::from(session.number()) != at + 1 || !session.is_idle() || session.seen() != 0 {
             return false;
@@ -73,80 +53,6 @@ fn an_office_is_opened_for_1_to_1024_sessions(rt: HostRuntime) -> Result<(), Fai
     Ok(())
 }
 
-/// The combiner serves what another session published. Commits, aborts and releases are served before all other calls of the
-/// pass, whatever the order of the list.
-#[test]
-fn a_pass_serves_calls_that_free_locks_first(rt: HostRuntime) -> Result<(), Fail> {
-    perform_cases(&rt, rt.alloc(), ORDER)
-}
-
-/// Cases of the order in which a pass serves calls.
-const ORDER: &str = "\
-2: the combiner serves what another session published, and both have then seen its entry
-1 publishes begin
-1 is pending
-2 serves 1
-1 collects 0 began 1
-1 is idle
-1 saw 1
-2 saw 1
-
-3: a pass serves a commit before an earlier lock, so that the lock is granted at once
-1 makes begin: 0 began 1
-2 makes begin: 1 began 2
-3 makes begin: 2 began 3
-1 makes lock 1 X: 3 granted X
-2 publishes lock 1 S
-1 publishes commit
-3 serves 2
-1 collects 4 committed 1
-2 collects 5 granted S
-
-4: a pass serves a commit first
-1 makes begin: 0 began 1
-2 makes begin: 1 began 2
-2 makes lock 1 X: 2 granted X
-1 publishes lock 1 S
-2 publishes commit
-3 publishes poll
-4 publishes commit
-3 serves 4
-# the publication list has records 4, 3, 2, 1
-4 collects 3 refused NoTransaction
-2 collects 4 committed 1
-3 collects 5 refused NoTransaction
-1 collects 6 granted S
-
-4: a pass serves an abort first
-1 makes begin: 0 began 1
-2 makes begin: 1 began 2
-2 makes lock 1 X: 2 granted X
-1 publishes lock 1 S
-2 publishes abort
-3 publishes poll
-4 publishes commit
-3 serves 4
-# the publication list has records 4, 3, 2, 1
-4 collects 3 refused NoTransaction
-2 collects 4 aborted 1
-3 collects 5 refused NoTransaction
-1 collects 6 granted S
-
-4: a pass serves a release first
-1 makes begin: 0 began 1
-2 makes begin: 1 began 2
-2 makes lock 1 X: 2 granted X
-1 publishes lock 1 S
-2 publishes release 1
-3 publishes poll
-4 publishes commit
-3 serves 4
-# the publication list has records 4, 3, 2, 1
-4 collects 3 refused NoTransaction
-2 collects 4 released
-3 collects 5 refused NoTransaction
-1 collects 6 granted S";
-
 /// The answer that transaction 1 began.
 pub(crate) fn begun() -> Answer {
     Answer {
@@ -156,7 +62,7 @@ pub(crate) fn begun() -> Answer {
 }
 
 /// The result of a pass that serves this number of calls and finds memory for all.
-fn pass(served: u32) -> Turn {
+pub(crate) fn pass(served: u32) -> Turn {
     Turn::Pass {
         served,
         starved: false,
@@ -165,7 +71,7 @@ fn pass(served: u32) -> Turn {
 
 /// How the only session of an office makes a begin.
 #[derive(Clone, Copy)]
-pub(crate) enum Way {
+enum Way {
     /// Publishes, serves and collects it.
     Published,
     /// Performs it at once.
@@ -174,39 +80,60 @@ pub(crate) enum Way {
     Whole,
 }
 
-/// Publishes a begin and makes a pass. Returns whether the pass was starved; there is no answer then, the call is pending, and the
-/// history is as it was.
-fn begin_is_starved(rt: &impl Abort, office: &Office, only: &mut Session) -> bool
-    requires ours { IsSessionOf office.now only.old × IsIdle only.old }
-    ensures ours { IsSessionOf office.now only.new }
-{
-    assert_eq!(rt; office.publish(only, Call::Begin), Posted::Listed);
-    let turn = office.serve(only);
-    let starved = Turn::Pass {
-        served: 0,
-        starved: true,
-    };
-    if turn == starved {
-        assert_eq!(rt; office.collect(only), None);
-        assert!(rt; !only.is_idle() && only.seen() == 0);
-        return true;
-    }
-    assert_eq!(rt; turn, pass(1));
-    false
-}
-
-/// Publishes a begin, has it served, and collects its answer. Nothing is left to serve then. Returns whether a pass was starved;
-/// the next pass has to serve the call then.
+/// Publishes a begin, has it served, and collects its answer. Nothing is left to serve then. Returns whether a pass was starved:
+/// there is no answer then, the call is pending, and the history is as it was. The next pass has to serve the call.
 fn begin_published(rt: &impl Abort, office: &Office, only: &mut Session) -> bool
     requires ours { IsSessionOf office.now only.old × IsIdle only.old }
     ensures ours { IsSessionOf office.now only.new }
 {
-    let starved = begin_is_starved(rt, office, only);
+    assert_eq!(rt; office.publish(only, Call::Begin), Posted::Listed);
+    let mut turn = office.serve(only);
+    let starved = turn != pass(1);
     if starved {
-        assert_eq!(rt; office.serve(only), pass(1));
+        assert_eq!(rt; office.collect(only), None);
+        assert!(rt; !only.is_idle() && only.seen() == 0);
+        turn = office.serve(only);
     }
+    assert_eq!(rt; turn, pass(1));
     assert_eq!(rt; office.collect(only), Some(begun()));
     assert_eq!(rt; office.serve(only), pass(0));
+    starved
+}
+
+/// Performs a begin, and once more if memory is refused for it. Nothing of it is in the history then. Returns whether memory was
+/// refused.
+fn begin_at_once(rt: &impl Abort, office: &Office, only: &mut Session) -> bool
+    requires ours { IsSessionOf office.now only.old × IsIdle only.old }
+    ensures ours { IsSessionOf office.now only.new }
+{
+    let mut performed = office.perform(only, Call::Begin);
+    let starved = performed == Performed::Starved;
+    if starved {
+        assert!(rt; only.is_idle() && only.seen() == 0);
+        performed = office.perform(only, Call::Begin);
+    }
+    let wanted = Performed::Answered {
+        answer: begun(),
+        served: 0,
+        starved: false,
+    };
+    assert_eq!(rt; performed, wanted);
+    starved
+}
+
+/// Makes a begin by `call`, and resumes it if memory is refused for it. It is published then, and nothing of it is in the history.
+/// Returns whether memory was refused.
+fn begin_whole(rt: &impl Abort, office: &Office, only: &mut Session) -> bool
+    requires ours { IsSessionOf office.now only.old × IsIdle only.old }
+    ensures ours { IsSessionOf office.now only.new }
+{
+    let mut called = call(office, only, Call::Begin, 1);
+    let starved = called == Called::Starved;
+    if starved {
+        assert!(rt; !only.is_idle() && !only.is_retired() && only.seen() == 0);
+        called = resume(office, only, 1);
+    }
+    assert_eq!(rt; called, Called::Answered(begun()));
     starved
 }
 
@@ -225,28 +152,36 @@ fn begin(rt: &impl Abort, office: &Office, sessions: &mut Vec<Session>, way: Way
     }
 }
 
+/// Tests whether the history of a book is that begin.
+fn has_one_begin(book: &Book) -> bool {
+    let history = book.history();
+    history.len() == 1
+        && history[0].session == 1
+        && history[0].call == Call::Begin
+        && history[0].reply == Reply::Began(1)
+}
+
 /// Makes a begin in this way in a fresh office, which has it as its whole history then. Returns whether memory was refused for it.
-pub(crate) fn begin_alone(rt: &impl Abort, alloc: Global, way: Way) -> Result<bool, Fail> {
+fn begin_alone(rt: &impl Abort, alloc: Global, way: Way) -> Result<bool, Fail> {
     let (office, mut sessions) = new_office(alloc, 1)?;
     let starved = begin(rt, &office, &mut sessions, way);
-    want_history(rt, office, sessions, "1 makes begin: 0 began 1");
+    assert!(rt; has_one_begin(&closed(rt, office, sessions)));
     Ok(starved)
 }
 
-/// Closes the office, and wants its history to have these lines.
-pub(crate) fn want_history(rt: &impl Abort, office: Office, sessions: Vec<Session>, lines: &str)
-    requires ours { All (IsSessionOf office) sessions.items }
-{
-    let book = closed(rt, office, sessions);
-    assert!(rt; is_history(rt, book.history(), lines), "{lines}");
-}
-
-/// A starved pass leaves the call pending and the history as it was, and the next pass serves the call. Prints a line if the
-/// pass was starved, for the check that refuses each allocation in turn.
+/// A call for which memory is refused leaves the history as it was. Published, it is served by the next pass. Performed at once,
+/// it leaves its session idle, and is performed by the next try. Made whole, it is published, and `resume` goes on with it. Prints
+/// which one was refused memory, for the check that refuses each allocation in turn.
 #[test]
-fn a_call_that_found_no_memory_is_served_by_the_next_pass(rt: HostRuntime) -> Result<(), Fail> {
-    if begin_alone(&rt, rt.alloc(), Way::Published)? {
-        println!(&rt; "starved")?;
+fn a_call_that_found_no_memory_is_made_by_the_next_try(rt: HostRuntime) -> Result<(), Fail> {
+    for (way, told) in [
+        (Way::Published, "starved pass"),
+        (Way::AtOnce, "starved at once"),
+        (Way::Whole, "starved whole call"),
+    ] {
+        if begin_alone(&rt, rt.alloc(), way)? {
+            println!(&rt; "{told}")?;
+        }
     }
     Ok(())
 }

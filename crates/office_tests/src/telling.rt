@@ -3,40 +3,14 @@
 ghost use Rattle.std.specs.Prelude.{◌≡◌, ◌≤◌, IfSome};
 ghost use Rattle.combining.specs.Sessions.{IsSessionOf, IsIdle};
 
-use crate::cases::perform_cases;
 use crate::threads::{Caller, Load};
-use crate::workers::{Worked, book_of_threads, no_notes};
+use crate::workers::{Notes, Worked};
 use combining::{Answer, Ended, Office, Turn};
 use lock_desk::{Book, Call, Entry, NoMemory};
 use std::alloc::{AllocError, Global};
 use std::process::Abort;
 use std::test::Fail;
 use std::thread;
-
-/// The commit of a writer, which ends the waits of two readers.
-const COMMIT: &str = "\
-3: a commit ends the waits of two readers: the pass of one tells both, and the next pass tells nobody
-1 makes begin: 0 began 1
-1 makes lock 1 X: 1 granted X
-2 makes begin: 2 began 2
-2 makes lock 1 S: 3 waiting
-3 makes begin: 4 began 3
-3 makes lock 1 S: 5 waiting
-1 publishes commit
-3 passes telling 2 3
-1 collects 6 committed 1
-1 passes telling
-# a poll tells each reader that it waits no more
-2 makes poll: 7 clear
-3 is idle
-3 makes poll: 8 clear";
-
-/// The commit of a writer ends the waits of two readers. The pass tells both, whoever makes it, and the next pass tells
-/// nobody. A poll tells each reader that it waits no more.
-#[test]
-fn a_commit_ends_the_waits_of_two_readers(rt: HostRuntime) -> Result<(), Fail> {
-    perform_cases(&rt, rt.alloc(), COMMIT)
-}
 
 /// The greatest number of tries for one answer.
 const TURNS: u64 = 1_000_000_000;
@@ -134,7 +108,10 @@ fn call_each_noted(office: &Office, worked: &mut Worked, ended: &mut Ended, call
     requires room { office.now.sessions ≤ ended.old.room }
     ensures ours { IsSessionOf office.now worked.new.session }
 {
-    let mut caller = Caller::transactions(u64::from(worked.session.number()));
+    let mut caller = Caller {
+        load: Load::Telling,
+        state: u64::from(worked.session.number()),
+    };
     for _call in 0..calls {
         let Some(asked) = caller.next() else {
             break;
@@ -210,24 +187,15 @@ fn want_passes(
     Ok(())
 }
 
-/// Expects the passes to tell those whose wait their calls end in a fresh book.
-fn want_passes_of_a_fresh_book(
+/// Expects the passes to tell those whose wait their calls end in a fresh book, and nothing to be told where the lock table was
+/// elsewhere.
+pub(crate) fn want_passes_of_a_fresh_book(
     rt: &impl Abort,
     alloc: Global,
     history: &[Entry],
-    passes: &[SeenPass],
+    notes: &Notes,
 ) -> Result<(), NoMemory> {
-    assert_eq!(rt; history.len(), 8000);
+    assert!(rt; history.len() == 8000 && notes.wrong == 0);
     let mut book = Book::new(alloc, SESSIONS)?;
-    want_passes(rt, &mut book, history, passes)
-}
-
-/// Eight threads make random calls. The passes of all tell, each for its part of the history, whose wait its calls end in one
-/// book, and nothing is told where the lock table was elsewhere.
-#[test]
-fn eight_threads_tell_what_one_book_tells(rt: HostRuntime) -> Result<(), Fail> {
-    let mut notes = no_notes(rt.alloc());
-    let book = book_of_threads(&rt, rt.alloc(), SESSIONS, Load::Telling, 1000, &mut notes)?;
-    assert_eq!(rt; notes.wrong, 0);
-    Ok(want_passes_of_a_fresh_book(&rt, rt.alloc(), book.history(), notes.passes.as_slice())?)
+    want_passes(rt, &mut book, history, notes.passes.as_slice())
 }

@@ -3,14 +3,13 @@
 ghost use Rattle.std.specs.Prelude.{IfSome};
 ghost use Rattle.combining.specs.Sessions.{IsSessionOf, IsIdle};
 
-use crate::workers::{Notes, Worked, book_of_threads, no_notes};
-use combining::{Answer, Called, Office, Performed, Session, resume};
+use crate::workers::{Task, Worked, work_and_judge};
+use combining::{Answer, Called, Office, Session, resume};
 use lock_desk::{Book, Call, Entry, Mode, NoMemory, Reply, Resource, Why};
 use std::alloc::Global;
 use std::process::Abort;
 use std::test::Fail;
 use std::thread;
-use std::thread::Threads;
 
 /// The greatest number of tries for one answer.
 const TURNS: u64 = 1_000_000_000;
@@ -22,8 +21,6 @@ pub(crate) enum Load {
     Polls,
     /// Random calls: begins, locks, tries, withdrawals, polls, commits and aborts.
     Transactions,
-    /// The same random calls, each performed at once if no other session has the lock table.
-    TransactionsAtOnce,
     /// The same random calls, some made by `combining::call`, and some published, served and collected.
     TransactionsMixed,
     /// The same random calls, published and served by passes that tell whose waits they end.
@@ -36,28 +33,12 @@ pub(crate) enum Load {
 #[derive(Drop)]
 pub(crate) struct Caller {
     /// The kind of calls.
-    load: Load,
+    pub(crate) load: Load,
     /// The state of the pseudorandom numbers.
-    state: u64,
+    pub(crate) state: u64,
 }
 
 impl Caller {
-    /// Returns a generator of polls.
-    pub(crate) fn polls(seed: u64) -> Caller {
-        Caller {
-            load: Load::Polls,
-            state: seed,
-        }
-    }
-
-    /// Returns a generator of random calls.
-    pub(crate) fn transactions(seed: u64) -> Caller {
-        Caller {
-            load: Load::Transactions,
-            state: seed,
-        }
-    }
-
     /// Returns the next pseudorandom number, below 2^31.
     pub(crate) fn number(&mut self) -> u64 {
         self.state = self
@@ -132,20 +113,6 @@ pub(crate) fn call(office: &Office, session: &mut Session, call: Call) -> Option
     None
 }
 
-/// Performs a call at once if no other session has the lock table, else publishes it and goes on as `call` does. Returns
-/// `None` if memory is refused for it, or after `TURNS` tries.
-fn call_at_once(office: &Office, session: &mut Session, asked: &Call) -> Option<Answer>
-    requires ours { IsSessionOf office.now session.old × IsIdle session.old }
-    ensures ours { IsSessionOf office.now session.new }
-    ensures idle { IfSome result (λ _. IsIdle session.new) }
-{
-    match office.perform(session, *asked) {
-        Performed::Answered { answer, .. } => Some(answer),
-        Performed::Starved => None,
-        Performed::Elsewhere => call(office, session, *asked),
-    }
-}
-
 /// Makes a call by `combining::call` with one turn, and goes on with it by `resume`. Returns `None` if memory is refused, or
 /// after `TURNS` turns.
 fn call_whole(office: &Office, session: &mut Session, asked: &Call) -> Option<Answer>
@@ -164,27 +131,14 @@ fn call_whole(office: &Office, session: &mut Session, asked: &Call) -> Option<An
     }
 }
 
-/// Makes a call as `call_whole` does if the session has seen an even number of entries, else as `call` does.
-fn call_mixed(office: &Office, session: &mut Session, asked: &Call) -> Option<Answer>
-    requires ours { IsSessionOf office.now session.old × IsIdle session.old }
-    ensures ours { IsSessionOf office.now session.new }
-    ensures idle { IfSome result (λ _. IsIdle session.new) }
-{
-    if session.seen() % 2 == 0 {
-        return call_whole(office, session, asked);
-    }
-    call(office, session, *asked)
-}
-
-/// Makes a call in the way of this load.
+/// Makes a call as `call` does. In a mixed load it does so as `call_whole` does if the session has seen an even number of entries.
 fn call_as(office: &Office, session: &mut Session, load: Load, asked: &Call) -> Option<Answer>
     requires ours { IsSessionOf office.now session.old × IsIdle session.old }
     ensures ours { IsSessionOf office.now session.new }
     ensures idle { IfSome result (λ _. IsIdle session.new) }
 {
     match load {
-        Load::TransactionsAtOnce => call_at_once(office, session, asked),
-        Load::TransactionsMixed => call_mixed(office, session, asked),
+        Load::TransactionsMixed if session.seen() % 2 == 0 => call_whole(office, session, asked),
         _ => call(office, session, *asked),
     }
 }
@@ -219,7 +173,7 @@ pub(crate) fn work_calling(office: &Office, worked: &mut Worked, load: Load, cal
 }
 
 /// Expects the history to have exactly these answers, each at its place.
-fn want_history(rt: &impl Abort, history: &[Entry], answers: &[Answered]) {
+pub(crate) fn want_history(rt: &impl Abort, history: &[Entry], answers: &[Answered]) {
     assert_eq!(rt; history.len(), answers.len());
     for (place, (entry, answered)) in history.iter().zip(answers.iter()).enumerate() {
         assert_eq!(rt; answered.place, place as u64);
@@ -229,54 +183,27 @@ fn want_history(rt: &impl Abort, history: &[Entry], answers: &[Answered]) {
     }
 }
 
-/// Makes `calls` calls in each of `threads` threads with one session each, and expects the history of the closed office to have
-/// exactly the answers that they collected. Returns the answers by place.
-fn history_of_threads<R: Threads + Abort + Sync>(
-    rt: &R,
-    alloc: Global,
-    threads: u16,
-    load: Load,
-    calls: u64,
-) -> Result<Notes, Fail> {
-    let mut notes = no_notes(alloc);
-    let book = book_of_threads(rt, alloc, threads, load, calls, &mut notes)?;
-    want_history(rt, book.history(), notes.answers.as_slice());
-    Ok(notes)
-}
-
-/// Returns how many of the answers are this session's.
-fn count_of(answers: &[Answered], number: u16) -> usize {
-    answers
-        .iter()
-        .filter(|answered| answered.session == number)
-        .count()
-}
-
-/// Expects this number of polls of each of the sessions, all of them refused.
-fn want_refused_polls(rt: &impl Abort, history: &[Answered], sessions: u16, polls: usize) {
-    assert_eq!(rt; history.len(), usize::from(sessions).wrapping_mul(polls));
+/// Expects this number of polls, all of them refused.
+pub(crate) fn want_refused_polls(rt: &impl Abort, history: &[Answered], polls: u64) {
+    assert_eq!(rt; history.len() as u64, polls);
     for answered in history {
         assert!(rt; answered.call == Call::Poll);
         assert_eq!(rt; answered.reply, Reply::Refused(Why::NoTransaction));
     }
-    for before in 0..sessions {
-        assert_eq!(rt; count_of(history, before.wrapping_add(1)), polls);
+}
+
+/// 8,000 polls of eight threads and 12,800 of 64 threads get as many places, each once, and are the whole history of the closed
+/// office. No thread makes more than its 1,000 or 200 polls.
+#[test]
+fn eight_and_sixty_four_threads_poll(rt: HostRuntime) -> Result<(), Fail> {
+    for (threads, calls) in [(8, 1000), (64, 200)] {
+        let task = Task {
+            threads,
+            load: Load::Polls,
+            calls,
+        };
+        work_and_judge(&rt, rt.alloc(), task)?;
     }
-}
-
-/// 8,000 polls of eight threads get 8,000 places, each once, and are the whole history of the closed office.
-#[test]
-fn eight_threads_poll(rt: HostRuntime) -> Result<(), Fail> {
-    let notes = history_of_threads(&rt, rt.alloc(), 8, Load::Polls, 1000)?;
-    want_refused_polls(&rt, &notes.answers, 8, 1000);
-    Ok(())
-}
-
-/// 12,800 polls of 64 threads get 12,800 places, each once, and are the whole history of the closed office.
-#[test]
-fn sixty_four_threads_poll(rt: HostRuntime) -> Result<(), Fail> {
-    let notes = history_of_threads(&rt, rt.alloc(), 64, Load::Polls, 200)?;
-    want_refused_polls(&rt, &notes.answers, 64, 200);
     Ok(())
 }
 
@@ -302,17 +229,24 @@ pub(crate) fn want_replies_of_a_fresh_book(
 }
 
 /// The answers of eight threads, in the order of their places, are those of one book that serves the calls in this order. So are
-/// those of threads that perform their calls at once where they can, and of threads that make some of their calls whole and publish
-/// the others.
+/// those of threads that make some of their calls whole, at once where they can, and publish the others. Eight threads make random
+/// calls by passes that tell, each for its part of the history, whose wait its calls end in one book, and nothing is told where the
+/// lock table was elsewhere. While eight sessions call, two take: their pieces, and what is left in the book, are the history, each
+/// entry once, with the replies of one book.
 #[test]
 fn eight_threads_get_the_replies_of_one_book(rt: HostRuntime) -> Result<(), Fail> {
-    for load in [
-        Load::Transactions,
-        Load::TransactionsAtOnce,
-        Load::TransactionsMixed,
+    for (threads, load) in [
+        (8, Load::Transactions),
+        (8, Load::TransactionsMixed),
+        (8, Load::Telling),
+        (10, Load::Taking),
     ] {
-        let notes = history_of_threads(&rt, rt.alloc(), 8, load, 1000)?;
-        want_replies_of_a_fresh_book(&rt, rt.alloc(), &notes.answers)?;
+        let task = Task {
+            threads,
+            load,
+            calls: 1000,
+        };
+        work_and_judge(&rt, rt.alloc(), task)?;
     }
     Ok(())
 }

@@ -1,12 +1,14 @@
-//! Threads that work in one office, each with a session of its own, and note what they see.
+//! Threads that work in one office, each with a session of its own, note what they see, and are judged by it.
 
 ghost use Rattle.std.specs.Prelude.{◌≤◌, All, IfOk};
 ghost use Rattle.combining.specs.Sessions.{IsSessionOf, IsIdle};
 
-use crate::cases::closed;
-use crate::pieces::take_all;
-use crate::telling::{SeenPass, work_telling};
-use crate::threads::{Answered, Load, work_calling};
+use crate::offices::closed;
+use crate::pieces::{take_all, want_pieces};
+use crate::telling::{SeenPass, want_passes_of_a_fresh_book, work_telling};
+use crate::threads::{
+    Answered, Load, want_history, want_refused_polls, want_replies_of_a_fresh_book, work_calling,
+};
 use combining::{Office, Session};
 use lock_desk::Book;
 use std::alloc::{AllocError, Global};
@@ -26,13 +28,13 @@ pub(crate) struct Worked {
 
 /// What the threads of a test do.
 #[derive(Clone, Copy)]
-struct Task {
+pub(crate) struct Task {
     /// How many threads there are, with one session each.
-    threads: u16,
+    pub(crate) threads: u16,
     /// Their work.
-    load: Load,
+    pub(crate) load: Load,
     /// How many calls each session makes.
-    calls: u64,
+    pub(crate) calls: u64,
 }
 
 /// The work of a thread.
@@ -49,6 +51,10 @@ fn work(alloc: Global, office: &Office, session: Session, task: Task) -> Worked
     match task.load {
         Load::Telling => work_telling(alloc, office, &mut worked, task.threads, task.calls),
         Load::Taking if is_taker => take_all(alloc, office, &mut worked),
+        Load::Taking => {
+            work_calling(office, &mut worked, task.load, task.calls);
+            worked.noted.answers.clear();
+        }
         _ => work_calling(office, &mut worked, task.load, task.calls),
     }
     worked
@@ -57,10 +63,8 @@ fn work(alloc: Global, office: &Office, session: Session, task: Task) -> Worked
 /// What sessions have noted. Of an office: by place, and the passes in their order.
 #[derive(Drop)]
 pub(crate) struct Notes {
-    /// All answers that they collected.
+    /// All answers that they collected, or, of sessions that take the history, all entries that these took.
     pub(crate) answers: Vec<Answered>,
-    /// All entries that they took.
-    pub(crate) taken: Vec<Answered>,
     /// All passes that they made, if they noted them.
     pub(crate) passes: Vec<SeenPass>,
     /// How many tries found the lock table elsewhere and told somebody.
@@ -70,7 +74,6 @@ pub(crate) struct Notes {
 /// Adds what a thread has noted.
 fn add(notes: &mut Notes, noted: &Notes) -> Result<(), AllocError> {
     notes.answers.extend_from_slice(noted.answers.as_slice())?;
-    notes.taken.extend_from_slice(noted.taken.as_slice())?;
     notes.passes.extend_from_slice(noted.passes.as_slice())?;
     notes.wrong = notes.wrong.wrapping_add(noted.wrong);
     Ok(())
@@ -95,15 +98,6 @@ fn gather(
     Ok(sessions)
 }
 
-/// Puts the notes in order.
-fn sort(notes: &mut Notes) {
-    notes
-        .answers
-        .sort_unstable_by_key(|answered| answered.place);
-    notes.taken.sort_unstable_by_key(|answered| answered.place);
-    notes.passes.sort_unstable_by_key(|pass| pass.upto);
-}
-
 /// Works in a thread for each session, gathers what they noted, and returns the sessions.
 fn work_in_threads<R: Threads + Abort + Sync>(
     rt: &R,
@@ -122,36 +116,68 @@ fn work_in_threads<R: Threads + Abort + Sync>(
         sessions,
         &|session: Session| work(alloc, office, session, task),
     )?;
-    let sessions = gather(alloc, office, all, notes)?;
-    sort(notes);
-    Ok(sessions)
+    Ok(gather(alloc, office, all, notes)?)
 }
 
-/// Works in `threads` threads with one session each, in a fresh office, and closes it. Returns its book.
-pub(crate) fn book_of_threads<R: Threads + Abort + Sync>(
+/// Works in a thread for each session of a fresh office, and closes it. Returns its book.
+fn book_of_threads<R: Threads + Abort + Sync>(
     rt: &R,
     alloc: Global,
-    threads: u16,
-    load: Load,
-    calls: u64,
+    task: Task,
     notes: &mut Notes,
 ) -> Result<Book, Fail> {
-    let task = Task {
-        threads,
-        load,
-        calls,
-    };
-    let (office, sessions) = Office::open(alloc, threads)?;
+    let (office, sessions) = Office::open(alloc, task.threads)?;
     let sessions = work_in_threads(rt, alloc, &office, sessions, task, notes)?;
     Ok(closed(rt, office, sessions))
 }
 
 /// Returns empty notes.
-pub(crate) fn no_notes(alloc: Global) -> Notes {
+fn no_notes(alloc: Global) -> Notes {
     Notes {
         answers: Vec::new(alloc),
-        taken: Vec::new(alloc),
         passes: Vec::new(alloc),
         wrong: 0,
     }
+}
+
+/// Puts the notes in order, and expects of them and of the book what has to come of this work.
+fn judge(
+    rt: &impl Abort,
+    alloc: Global,
+    task: Task,
+    notes: &mut Notes,
+    book: &Book,
+) -> Result<(), Fail> {
+    notes
+        .answers
+        .sort_unstable_by_key(|answered| answered.place);
+    notes.passes.sort_unstable_by_key(|pass| pass.upto);
+    match task.load {
+        Load::Taking => want_pieces(rt, alloc, &mut notes.answers, book),
+        Load::Telling => Ok(want_passes_of_a_fresh_book(rt, alloc, book.history(), notes)?),
+        Load::Polls => {
+            want_history(rt, book.history(), &notes.answers);
+            want_refused_polls(
+                rt,
+                &notes.answers,
+                task.calls.wrapping_mul(u64::from(task.threads)),
+            );
+            Ok(())
+        }
+        _ => {
+            want_history(rt, book.history(), &notes.answers);
+            Ok(want_replies_of_a_fresh_book(rt, alloc, &notes.answers)?)
+        }
+    }
+}
+
+/// Works in a thread for each session of a fresh office, closes it, and expects what has to come of this work.
+pub(crate) fn work_and_judge<R: Threads + Abort + Sync>(
+    rt: &R,
+    alloc: Global,
+    task: Task,
+) -> Result<(), Fail> {
+    let mut notes = no_notes(alloc);
+    let book = book_of_threads(rt, alloc, task, &mut notes)?;
+    judge(rt, alloc, task, &mut notes, &book)
 }

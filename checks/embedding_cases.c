@@ -1,0 +1,661 @@
+/* Performs cases: texts of what the sessions of an office do and reply, each in a fresh office. Then performs each case again and
+   again, and refuses one allocation after another: the call is made once more, and the case goes on as its text says.
+
+   Usage: embedding_cases [--wrong] FILE..
+
+   Prints each case that fails with the line that went otherwise, and last 'N passed, M failed'. With --wrong every case of the files
+   has to fail, and each that doesn't is printed. Link with -Wl,--wrap=malloc,--wrap=realloc.
+
+   The cases of a file stand apart by empty lines. The first line of a case has the number of sessions, of kept entries if they are
+   bounded, `ample` if memory is never refused, and the name: `3: two readers wait`, `2 keeping 1 ample: ..`. Each further line begins
+   with the number of a session:
+
+     1 publishes lock 1 X             publishes the call; its record is on the list afterwards
+     1 serves 2                       makes a pass that serves two calls
+     1 serves some                    makes a pass, and remembers whether it was starved and how many calls it served
+     1 collects 3 granted X           collects the answer with place 3
+     1 makes commit: 4 committed 1    publishes the call, serves it in a pass of its own, and collects this answer
+     1 performs poll: 5 clear, serving 1          performs the call at once, in a pass that serves one published call
+     1 tells commit: 4 committed 1, serving 0, telling 2 3     the same, and tells sessions 2 and 3
+     1 passes telling 2               makes a pass that tells session 2
+     1 calls poll: 5 clear            makes the call by pelgaisti_session_perform in one turn
+     1 resumes 5 clear                goes on with the published call for one turn, and gets this answer
+     1 stays                          goes on with the published call for no turn: it stays pending
+     1 polls 4..62                    polls at places 4 to 61, each time in a pass of its own
+     1 is pending, 1 is idle          finds no answer
+     1 saw 7                          has seen 7 entries of the history
+     1 hears 2                        hears session 2
+     1 takes 0, 2                     takes a piece of two entries from place 0 on
+     1 asks held 2 1: 6 X             asks what session 2 holds on resource 1, behind six calls
+     1 retires, 1 leaves              retires; is used no more
+
+   A line with # is a remark. After a line `when ..` all lines up to the next one are performed only then: `when starved`, if a pass
+   was starved so far; `when not starved`; `when served 2`, if the pass that `serves some` was starved and served two calls; `when all
+   served`, if it wasn't; `when anyhow`. Of a case with such lines each part has to be performed in some round in which memory was
+   refused, but those behind `when ever served 2`. The last line may say how the office ends: `end: missing 1`, if it isn't closed with
+   the one session that is left; `end: book 2, 0, 2`, if its book has served two calls and keeps two from place 0 on; `end: history`,
+   if the lines are its history. */
+#include "pelgaisti.h"
+#include <ctype.h>
+#include <stdio.h>
+#include <stdlib.h>
+#include <string.h>
+
+void *__real_malloc(size_t size);
+void *__real_realloc(void *at, size_t size);
+void *__wrap_malloc(size_t size);
+void *__wrap_realloc(void *at, size_t size);
+
+/* How many allocations there are before the one to refuse, or -1, and how many were refused. */
+static long left = -1, refusals;
+
+static int is_refused(void) {
+    if (left != 0) {
+        left -= left > 0;
+        return 0;
+    }
+    left = -1;
+    refusals++;
+    return 1;
+}
+
+void *__wrap_malloc(size_t size) { return is_refused() ? NULL : __real_malloc(size); }
+
+void *__wrap_realloc(void *at, size_t size) { return is_refused() ? NULL : __real_realloc(at, size); }
+
+#define COUNT(list) (sizeof(list) / sizeof((list)[0]))
+enum { MOST = 8, ROOM = 64, LONGEST = 256, LINES = 80, PARTS = 8 };
+
+typedef pelgaisti_session session;
+
+/* The office of a case. A session's number is its index and one. */
+static session sessions[MOST];
+static int has_left[MOST];
+static unsigned count;
+
+/* How many passes were starved so far, and how the pass of `serves some` ended. */
+static unsigned starved;
+static pelgaisti_pass some;
+
+/* A file that can't be read is no failed case. */
+static void stop(const char *why, const char *text) {
+    printf("%s: %s\n", why, text);
+    exit(2);
+}
+
+/* Ends the text in front of the first separator, and returns what is behind it: nothing if there is no separator. */
+static char *cut(char *text, const char *separator) {
+    char *at = strstr(text, separator);
+    if (!at) return text + strlen(text);
+    *at = 0;
+    return at + strlen(separator);
+}
+
+static uint64_t number_of(const char *word) {
+    char *end;
+    uint64_t number = strtoull(word, &end, 10);
+    if (!isdigit((unsigned char)*word) || *end) stop("not a number", word);
+    return number;
+}
+
+typedef struct named {
+    const char *name;
+    uint32_t number;
+} named;
+
+static uint32_t find(const named *list, size_t length, const char *word, const char *what) {
+    for (size_t k = 0; k < length; k++)
+        if (!strcmp(list[k].name, word)) return list[k].number;
+    stop(what, word);
+    return 0;
+}
+
+static uint32_t mode_of(const char *word) {
+    static const named modes[] = {{"IS", PELGAISTI_IS}, {"IX", PELGAISTI_IX}, {"S", PELGAISTI_S}, {"X", PELGAISTI_X}};
+    return find(modes, COUNT(modes), word, "not a mode");
+}
+
+/* A database, by its number. */
+static pelgaisti_resource resource_of(const char *word) {
+    pelgaisti_resource resource = {1, {0}};
+    resource.numbers[0] = (uint32_t)number_of(word);
+    return resource;
+}
+
+static pelgaisti_call call_of(char *text) {
+    static const named ops[] = {{"begin", PELGAISTI_BEGIN},   {"lock", PELGAISTI_LOCK},   {"try", PELGAISTI_TRY},
+                                {"release", PELGAISTI_RELEASE}, {"poll", PELGAISTI_POLL},   {"commit", PELGAISTI_COMMIT},
+                                {"abort", PELGAISTI_ABORT},   {"withdraw", PELGAISTI_WITHDRAW}};
+    pelgaisti_call call = {0, 0, {0, {0}}};
+    char *resource = cut(text, " "), *mode = cut(resource, " ");
+    call.op = find(ops, COUNT(ops), text, "not a call");
+    if (*resource) call.resource = resource_of(resource);
+    if (*mode) call.mode = mode_of(mode);
+    return call;
+}
+
+static pelgaisti_reply reply_of(char *text) {
+    static const named kinds[] = {{"began", PELGAISTI_BEGAN},       {"granted", PELGAISTI_GRANTED},   {"waiting", PELGAISTI_WAITING},
+                                  {"deadlock", PELGAISTI_DEADLOCK}, {"clear", PELGAISTI_CLEAR},       {"released", PELGAISTI_RELEASED},
+                                  {"committed", PELGAISTI_COMMITTED}, {"aborted", PELGAISTI_ABORTED}, {"refused", PELGAISTI_REFUSED},
+                                  {"withdrawn", PELGAISTI_WITHDRAWN}};
+    static const named refusals_of[] = {{"NoTransaction", PELGAISTI_NO_TRANSACTION}, {"WouldWait", PELGAISTI_WOULD_WAIT},
+                                        {"NotWaiting", PELGAISTI_NOT_WAITING}};
+    pelgaisti_reply reply = {0, 0};
+    char *value = cut(text, " ");
+    reply.kind = find(kinds, COUNT(kinds), text, "not a reply");
+    if (reply.kind == PELGAISTI_GRANTED)
+        reply.value = mode_of(value);
+    else if (reply.kind == PELGAISTI_REFUSED)
+        reply.value = find(refusals_of, COUNT(refusals_of), value, "not a refusal");
+    else if (*value)
+        reply.value = number_of(value);
+    return reply;
+}
+
+/* Whether the answer is that of the text, as `3 granted X`. */
+static int is_answer(pelgaisti_answer answer, char *text) {
+    char *reply = cut(text, " ");
+    pelgaisti_reply wanted = reply_of(reply);
+    return answer.place == number_of(text) && answer.reply.kind == wanted.kind && answer.reply.value == wanted.value;
+}
+
+/* Whether the list has the numbers of the text, in its order or in any. */
+static int is_list(const uint32_t *list, size_t length, char *text, int is_ordered) {
+    size_t words = 0;
+    for (char *rest; *text; text = rest, words++) {
+        uint32_t number;
+        size_t at = is_ordered ? words : 0;
+        rest = cut(text, " ");
+        number = (uint32_t)number_of(text);
+        while (!is_ordered && at < length && list[at] != number) at++;
+        if (at >= length || list[at] != number) return 0;
+    }
+    return words == length;
+}
+
+static int is_idle(session *own) {
+    pelgaisti_answer answer;
+    return pelgaisti_session_collect(own, &answer) == PELGAISTI_NOTHING_PENDING;
+}
+
+static int publish(session *own, char *text) {
+    pelgaisti_call call = call_of(text);
+    uint32_t posted = 0;
+    return is_idle(own) && pelgaisti_session_publish(own, &call, &posted) == PELGAISTI_OK && posted == PELGAISTI_LISTED;
+}
+
+/* Makes a pass, and a second one if memory is refused for a call, which has to serve that call. Returns the number of served calls, or
+   -1 if a pass can't be made or the second one is starved too. */
+static long serve(session *own) {
+    pelgaisti_pass first = {99, 99}, second = {99, 99};
+    if (pelgaisti_session_serve(own, &first) != PELGAISTI_OK) return -1;
+    if (!first.starved) return (long)first.served;
+    starved++;
+    if (pelgaisti_session_serve(own, &second) != PELGAISTI_OK || second.starved || second.served == 0) return -1;
+    return (long)first.served + (long)second.served;
+}
+
+static int serve_some(session *own) {
+    return pelgaisti_session_serve(own, &some) == PELGAISTI_OK;
+}
+
+static int collect(session *own, char *text) {
+    pelgaisti_answer answer;
+    return pelgaisti_session_collect(own, &answer) == PELGAISTI_OK && is_answer(answer, text) && is_idle(own);
+}
+
+static int make(session *own, char *text) {
+    char *answer = cut(text, ": ");
+    return publish(own, text) && serve(own) == 1 && collect(own, answer);
+}
+
+static int poll(session *own, char *text) {
+    char *end = cut(text, "..");
+    for (uint64_t place = number_of(text); place < number_of(end); place++) {
+        char line[LONGEST];
+        sprintf(line, "poll: %lu clear", (unsigned long)place);
+        if (!make(own, line)) return 0;
+    }
+    return 1;
+}
+
+static int perform(session *own, char *text) {
+    char *wanted = cut(text, ": "), *serving = cut(wanted, ", serving ");
+    pelgaisti_call call = call_of(text);
+    pelgaisti_pass pass = {99, 99};
+    pelgaisti_answer answer;
+    pelgaisti_status status;
+    if (!is_idle(own)) return 0;
+    status = pelgaisti_session_perform_at_once(own, &call, &pass, &answer);
+    if (status == PELGAISTI_NO_MEMORY) status = pelgaisti_session_perform_at_once(own, &call, &pass, &answer);
+    return status == PELGAISTI_OK && is_answer(answer, wanted) && pass.served == number_of(serving) && !pass.starved && is_idle(own);
+}
+
+static int tell(session *own, char *text) {
+    char *wanted = cut(text, ": "), *serving = cut(wanted, ", serving "), *telling = cut(serving, ", telling");
+    pelgaisti_call call = call_of(text);
+    pelgaisti_pass pass = {99, 99};
+    pelgaisti_answer answer;
+    uint32_t told[MOST];
+    size_t length = 99;
+    pelgaisti_status status;
+    if (!is_idle(own)) return 0;
+    status = pelgaisti_session_perform_telling(own, &call, &pass, &answer, told, MOST, &length);
+    if (status == PELGAISTI_NO_MEMORY) status = pelgaisti_session_perform_telling(own, &call, &pass, &answer, told, MOST, &length);
+    return status == PELGAISTI_OK && is_answer(answer, wanted) && pass.served == number_of(serving) && !pass.starved &&
+           is_list(told, length, telling + (*telling == ' '), 0);
+}
+
+static int pass_telling(session *own, char *text) {
+    char *telling = cut(text, "telling");
+    pelgaisti_pass pass = {99, 1};
+    uint32_t told[MOST];
+    size_t length = 99;
+    for (int tries = 0; tries < 2 && pass.starved; tries++) {
+        pelgaisti_status status = pelgaisti_session_serve_telling(own, &pass, told, MOST, &length);
+        if (status != PELGAISTI_OK && status != PELGAISTI_NO_MEMORY) return 0;
+        if (status == PELGAISTI_NO_MEMORY) pass.starved = 1;
+    }
+    return !pass.starved && is_list(told, length, telling + (*telling == ' '), 0);
+}
+
+/* Goes on with the published call for one turn; a second time if memory is refused for a call. */
+static int resume(session *own, char *text) {
+    pelgaisti_answer answer;
+    pelgaisti_status status = pelgaisti_session_perform(own, NULL, 1, &answer);
+    if (status == PELGAISTI_NO_MEMORY) status = pelgaisti_session_perform(own, NULL, 1, &answer);
+    return status == PELGAISTI_OK && is_answer(answer, text) && is_idle(own);
+}
+
+static int call_whole(session *own, char *text) {
+    char *wanted = cut(text, ": ");
+    pelgaisti_call call = call_of(text);
+    pelgaisti_answer answer;
+    pelgaisti_status status;
+    if (!is_idle(own)) return 0;
+    status = pelgaisti_session_perform(own, &call, 1, &answer);
+    if (status == PELGAISTI_NO_MEMORY) return resume(own, wanted);
+    return status == PELGAISTI_OK && is_answer(answer, wanted) && is_idle(own);
+}
+
+static uint64_t seen_by(session *own) {
+    uint64_t seen = UINT64_MAX;
+    return pelgaisti_session_seen(own, &seen) == PELGAISTI_OK ? seen : UINT64_MAX;
+}
+
+static int stay(session *own) {
+    pelgaisti_answer answer;
+    uint64_t seen = seen_by(own);
+    return pelgaisti_session_perform(own, NULL, 0, &answer) == PELGAISTI_NOT_SERVED && !is_idle(own) && seen_by(own) == seen;
+}
+
+static int finds_nothing(session *own, const char *state) {
+    pelgaisti_answer answer;
+    pelgaisti_status status = pelgaisti_session_collect(own, &answer);
+    if (!strcmp(state, "idle")) return status == PELGAISTI_NOTHING_PENDING;
+    if (!strcmp(state, "pending")) return status == PELGAISTI_NOT_SERVED;
+    stop("not a state", state);
+    return 0;
+}
+
+/* Retires an idle session, which publishes no call then. */
+static int retire(session *own) {
+    pelgaisti_call poll_call = {PELGAISTI_POLL, 0, {0, {0}}};
+    return is_idle(own) && pelgaisti_session_retire(own) == PELGAISTI_OK &&
+           pelgaisti_session_publish(own, &poll_call, NULL) == PELGAISTI_RETIRED;
+}
+
+static int take(session *own, char *text) {
+    char *many = cut(text, ", ");
+    pelgaisti_entry entries[ROOM];
+    uint64_t first = UINT64_MAX;
+    size_t length = 99;
+    pelgaisti_status status = pelgaisti_session_take_history(own, &first, entries, ROOM, &length);
+    if (status == PELGAISTI_NO_MEMORY) status = pelgaisti_session_take_history(own, &first, entries, ROOM, &length);
+    return status == PELGAISTI_OK && first == number_of(text) && length == number_of(many);
+}
+
+/* Whether a lock or a fresh request is that of the text, as `held 1 1 X`: the kind, the session, the resource and the mode. The
+   transaction has the session's number. */
+static int is_claim(const pelgaisti_claim *claim, char *text) {
+    static const named kinds[] = {{"held", PELGAISTI_HELD}, {"fresh", PELGAISTI_FRESH}};
+    char *whose = cut(text, " "), *resource = cut(whose, " "), *mode = cut(resource, " ");
+    uint64_t number = number_of(whose);
+    return claim->kind == find(kinds, COUNT(kinds), text, "not a claim") && claim->session == number && claim->transaction == number &&
+           claim->doomed == 0 && claim->mode == mode_of(mode) && claim->resource.level == 1 &&
+           claim->resource.numbers[0] == number_of(resource);
+}
+
+static int ask_list(session *own, const char *word, char *about, char *found, uint64_t *seen) {
+    pelgaisti_resource resource = {1, {0}};
+    pelgaisti_holder holders[MOST];
+    pelgaisti_claim claims[ROOM];
+    uint32_t blockers[MOST];
+    size_t length = 99, at = 0;
+    pelgaisti_status status = PELGAISTI_NO_MEMORY;
+    int is_of_holders = !strcmp(word, "holders"), is_of_blockers = !strcmp(word, "blockers");
+    if (!is_of_holders && !is_of_blockers && strcmp(word, "locks")) stop("not a question", word);
+    if (is_of_holders) resource = resource_of(about);
+    for (int tries = 0; tries < 2 && status == PELGAISTI_NO_MEMORY; tries++) {
+        if (is_of_holders)
+            status = pelgaisti_session_holders(own, &resource, holders, MOST, &length, seen);
+        else if (is_of_blockers)
+            status = pelgaisti_session_blockers(own, (uint32_t)number_of(about), blockers, MOST, &length, seen);
+        else
+            status = pelgaisti_session_locks(own, 0, claims, ROOM, &length, seen);
+    }
+    if (is_of_blockers && status == PELGAISTI_NO_SUCH_SESSION) return !strcmp(found, "no such session");
+    if (status != PELGAISTI_OK) return 0;
+    if (is_of_blockers) return is_list(blockers, length, found, 1);
+    for (char *rest; *found; found = rest, at++) {
+        rest = cut(found, ", ");
+        if (at >= length) return 0;
+        if (is_of_holders) {
+            char *mode = cut(found, " ");
+            if (holders[at].session != number_of(found) || holders[at].mode != mode_of(mode)) return 0;
+        } else if (!is_claim(&claims[at], found)) {
+            return 0;
+        }
+    }
+    return at == length;
+}
+
+/* Asks a question, as `held 2 1`, and wants this behind so many calls, as `6 X`. Of a session that the office doesn't have it wants
+   `no such session`. */
+static int ask(session *own, char *text) {
+    char *wanted = cut(text, ": "), *about = cut(text, " "), *found = wanted;
+    uint64_t seen = UINT64_MAX;
+    pelgaisti_status status;
+    int is_so, is_off = !strcmp(wanted, "no such session");
+    if (!is_off) found = cut(wanted, " ");
+    if (!strcmp(text, "held")) {
+        char *at = cut(about, " ");
+        pelgaisti_resource resource = resource_of(at);
+        uint32_t mode = 99;
+        status = pelgaisti_session_held(own, (uint32_t)number_of(about), &resource, &mode, &seen);
+        is_so = mode == (!strcmp(found, "nothing") ? (uint32_t)PELGAISTI_NL : is_off ? 99 : mode_of(found));
+    } else if (!strcmp(text, "waits")) {
+        char *other = cut(about, " ");
+        uint32_t edge = 99;
+        status = pelgaisti_session_waits_for(own, (uint32_t)number_of(about), (uint32_t)number_of(other), &edge, &seen);
+        is_so = edge == (!strcmp(found, "true") ? 1u : is_off ? 99u : 0u);
+    } else if (!strcmp(text, "transaction")) {
+        pelgaisti_transaction open = {99, 99};
+        status = pelgaisti_session_transaction(own, (uint32_t)number_of(about), &open, &seen);
+        is_so = is_off || (open.number == (!strcmp(found, "nothing") ? 0 : number_of(found)) && open.doomed == 0);
+    } else if (!strcmp(text, "request")) {
+        pelgaisti_claim claim;
+        memset(&claim, 0x55, sizeof claim);
+        status = pelgaisti_session_request(own, (uint32_t)number_of(about), &claim, &seen);
+        is_so = is_off || (!strcmp(found, "nothing") ? claim.kind == 0 : is_claim(&claim, found));
+    } else {
+        is_so = ask_list(own, text, about, found, &seen);
+        status = PELGAISTI_OK;
+        if (is_off) return is_so;
+    }
+    return is_so && (is_off ? status == PELGAISTI_NO_SUCH_SESSION : status == PELGAISTI_OK && seen == number_of(wanted));
+}
+
+static int hear(session *own, const char *text) {
+    uint64_t other = number_of(text);
+    if (other < 1 || other > count) stop("not a session", text);
+    return pelgaisti_session_hear(own, &sessions[other - 1]) == PELGAISTI_OK;
+}
+
+/* Performs a line, and returns whether all went as it says. */
+static int perform_line(const char *text) {
+    char line[LONGEST], *step, *rest;
+    session *own;
+    uint64_t number;
+    strcpy(line, text);
+    step = cut(line, " ");
+    rest = cut(step, " ");
+    number = number_of(line);
+    if (number < 1 || number > count || has_left[number - 1]) stop("not a session", text);
+    own = &sessions[number - 1];
+    if (!strcmp(step, "publishes")) return publish(own, rest);
+    if (!strcmp(step, "serves") && !strcmp(rest, "some")) return serve_some(own);
+    if (!strcmp(step, "serves")) return serve(own) == (long)number_of(rest);
+    if (!strcmp(step, "collects")) return collect(own, rest);
+    if (!strcmp(step, "makes")) return make(own, rest);
+    if (!strcmp(step, "performs")) return perform(own, rest);
+    if (!strcmp(step, "tells")) return tell(own, rest);
+    if (!strcmp(step, "passes")) return pass_telling(own, rest);
+    if (!strcmp(step, "calls")) return call_whole(own, rest);
+    if (!strcmp(step, "resumes")) return resume(own, rest);
+    if (!strcmp(step, "stays")) return stay(own);
+    if (!strcmp(step, "polls")) return poll(own, rest);
+    if (!strcmp(step, "is")) return finds_nothing(own, rest);
+    if (!strcmp(step, "saw")) return seen_by(own) == number_of(rest);
+    if (!strcmp(step, "hears")) return hear(own, rest);
+    if (!strcmp(step, "takes")) return take(own, rest);
+    if (!strcmp(step, "asks")) return ask(own, rest);
+    if (!strcmp(step, "retires")) return retire(own);
+    if (!strcmp(step, "leaves")) return has_left[number - 1] = 1;
+    stop("not a step", text);
+    return 0;
+}
+
+/* A case: its lines without remarks, and for each part, the line of its `when`, whether it was performed as memory was refused. */
+typedef struct text {
+    char line[LINES][LONGEST];
+    unsigned lines, sessions;
+    uint64_t bound;
+    int is_ample;
+    char name[LONGEST], end[LONGEST];
+    int is_reached[LINES];
+} text;
+
+static text one;
+
+/* Whether the lines behind this one are performed. */
+static int is_when(const char *line) {
+    const char *what = line + strlen("when ");
+    if (!strcmp(what, "anyhow")) return 1;
+    if (!strcmp(what, "starved")) return starved > 0;
+    if (!strcmp(what, "not starved")) return starved == 0;
+    if (!strcmp(what, "all served")) return !some.starved;
+    if (!strncmp(what, "ever ", 5)) what += 5;
+    if (!strncmp(what, "served ", 7)) return some.starved && some.served == number_of(what + 7);
+    stop("not a condition", line);
+    return 0;
+}
+
+/* Performs the lines. Returns the one that went otherwise, or NULL. */
+static const char *perform_lines(void) {
+    int is_on = 1;
+    for (unsigned k = 0; k < one.lines; k++) {
+        if (!strncmp(one.line[k], "when ", 5)) {
+            is_on = is_when(one.line[k]);
+            one.is_reached[k] |= is_on && refusals > 0;
+        } else if (is_on && !perform_line(one.line[k])) {
+            return one.line[k];
+        }
+    }
+    return NULL;
+}
+
+/* Hands all sessions that haven't left in to one of them, which it returns; NULL if one can't be handed in. */
+static session *hand_in(unsigned *present) {
+    session *last = NULL;
+    *present = 0;
+    for (unsigned k = 0; k < count; k++) {
+        if (has_left[k]) continue;
+        *present += 1;
+        if (last) {
+            pelgaisti_status status = pelgaisti_session_hand_in(last, &sessions[k]);
+            if (status == PELGAISTI_NO_MEMORY) status = pelgaisti_session_hand_in(last, &sessions[k]);
+            if (status != PELGAISTI_OK) return NULL;
+        }
+        last = &sessions[k];
+    }
+    return last;
+}
+
+static pelgaisti_status close_office(session *own, pelgaisti_book *book) {
+    pelgaisti_status status = pelgaisti_office_close(own, book);
+    return status == PELGAISTI_NO_MEMORY ? pelgaisti_office_close(own, book) : status;
+}
+
+/* Whether an entry at this place is the line's, as `1 makes lock 1 X: 3 granted X`. */
+static int is_entry(pelgaisti_entry entry, uint64_t place, const char *of) {
+    char line[LONGEST], *step, *rest, *answer;
+    pelgaisti_call call;
+    pelgaisti_answer found;
+    strcpy(line, of);
+    step = cut(line, " ");
+    rest = cut(step, " ");
+    answer = cut(rest, ": ");
+    call = call_of(rest);
+    found.place = place;
+    found.reply = entry.reply;
+    return entry.session == number_of(line) && entry.call.op == call.op && entry.call.mode == call.mode &&
+           entry.call.resource.level == call.resource.level && entry.call.resource.numbers[0] == call.resource.numbers[0] &&
+           is_answer(found, answer);
+}
+
+static int is_history(pelgaisti_book *book) {
+    pelgaisti_entry entries[ROOM];
+    size_t length = 99;
+    if (pelgaisti_book_history(book, 0, entries, ROOM, &length) != PELGAISTI_OK || length != one.lines) return 0;
+    for (unsigned k = 0; k < one.lines; k++)
+        if (!is_entry(entries[k], k, one.line[k])) return 0;
+    return 1;
+}
+
+/* Whether a book has served so many calls, keeps those from this place on, and has so many entries, as `2, 0, 2`. */
+static int is_book(pelgaisti_book *book, char *wanted) {
+    char *first = cut(wanted, ", "), *many = cut(first, ", ");
+    pelgaisti_entry entries[ROOM];
+    uint64_t served = 99, kept = 99;
+    size_t length = 99;
+    return pelgaisti_book_length(book, &served) == PELGAISTI_OK && served == number_of(wanted) &&
+           pelgaisti_book_first_kept(book, &kept) == PELGAISTI_OK && kept == number_of(first) &&
+           pelgaisti_book_history(book, kept, entries, ROOM, &length) == PELGAISTI_OK && length == number_of(many);
+}
+
+/* Ends a case as it says. One that says nothing closes its office if that can be closed. */
+static int end_case(void) {
+    pelgaisti_book book = PELGAISTI_EMPTY;
+    char end[LONGEST], *rest;
+    unsigned present;
+    session *last = hand_in(&present);
+    int is_so;
+    strcpy(end, one.end);
+    rest = cut(end, " ");
+    if (!last) return !*end;
+    if (!strcmp(end, "missing")) {
+        return present == number_of(rest) && close_office(last, &book) == PELGAISTI_MISSING &&
+               close_office(last, &book) == PELGAISTI_MISSING;
+    }
+    if (close_office(last, &book) != PELGAISTI_OK) return !*end;
+    if (!strcmp(end, "book"))
+        is_so = is_book(&book, rest);
+    else if (!strcmp(end, "history"))
+        is_so = is_history(&book);
+    else
+        is_so = !*end;
+    return is_so && pelgaisti_book_close(&book) == PELGAISTI_OK;
+}
+
+/* Performs the case once. Returns the line that went otherwise, or NULL. */
+static const char *perform_case(void) {
+    const char *wrong;
+    pelgaisti_status status;
+    memset(sessions, 0, sizeof sessions);
+    memset(has_left, 0, sizeof has_left);
+    count = one.sessions;
+    starved = 0;
+    status = pelgaisti_office_open_keeping(sessions, count, one.bound);
+    if (status == PELGAISTI_NO_MEMORY) status = pelgaisti_office_open_keeping(sessions, count, one.bound);
+    if (status != PELGAISTI_OK) return "the office was not opened";
+    wrong = perform_lines();
+    if (wrong) return wrong;
+    return end_case() ? NULL : *one.end ? one.end : "the office was not closed";
+}
+
+static unsigned passed, failed;
+
+/* Performs the case with ample memory, and then again and again until no allocation is refused any more. */
+static void try_case(const char *file, int wants_wrong) {
+    const char *wrong;
+    long round = 0;
+    left = -1;
+    refusals = 0;
+    wrong = perform_case();
+    passed += !wrong;
+    while (!wrong && !one.is_ample && !wants_wrong) {
+        left = round++;
+        refusals = 0;
+        wrong = perform_case();
+        left = -1;
+        if (!refusals) break;
+        passed += !wrong;
+        if (wrong) printf("allocation %ld: ", round);
+    }
+    for (unsigned k = 0; k < one.lines && !wrong && !one.is_ample && !wants_wrong; k++)
+        if (!strncmp(one.line[k], "when ", 5) && strncmp(one.line[k], "when ever ", 10) && !one.is_reached[k]) wrong = one.line[k];
+    if (wants_wrong) {
+        failed += !wrong;
+        if (!wrong) printf("%s: %s: went as it says\n", file, one.name);
+        passed += wrong != NULL;
+    } else if (wrong) {
+        failed++;
+        printf("%s: %s: %s\n", file, one.name, wrong);
+    }
+}
+
+/* Reads the first line of a case. */
+static void read_head(char *line) {
+    char *name = cut(line, ": "), *rest = cut(line, " ");
+    memset(&one, 0, sizeof one);
+    one.sessions = (unsigned)number_of(line);
+    one.bound = UINT64_MAX;
+    if (one.sessions > MOST) stop("too many sessions", name);
+    if (!strncmp(rest, "keeping ", 8)) {
+        char *bound = rest + 8;
+        rest = cut(bound, " ");
+        one.bound = number_of(bound);
+    }
+    one.is_ample = !strcmp(rest, "ample");
+    if ((*rest && !one.is_ample) || !*name) stop("not a first line", line);
+    strcpy(one.name, name);
+}
+
+static void try_file(const char *name, int wants_wrong) {
+    char line[LONGEST];
+    int is_in = 0, is_more = 1;
+    unsigned cases = 0;
+    FILE *file = fopen(name, "r");
+    if (!file) stop("can't be read", name);
+    while (is_more) {
+        is_more = fgets(line, sizeof line, file) != NULL;
+        if (is_more) line[strcspn(line, "\n")] = 0;
+        if (!is_more || !*line) {
+            if (is_in) try_case(name, wants_wrong);
+            cases += (unsigned)is_in;
+            is_in = 0;
+        } else if (*line == '#') {
+            continue;
+        } else if (!is_in) {
+            read_head(line);
+            is_in = 1;
+        } else if (!strncmp(line, "end: ", 5)) {
+            strcpy(one.end, line + 5);
+        } else if (*one.end || one.lines == LINES) {
+            stop("too many lines", line);
+        } else {
+            strcpy(one.line[one.lines++], line);
+        }
+    }
+    fclose(file);
+    if (!cases) stop("no cases", name);
+}
+
+int main(int argc, char **argv) {
+    int wants_wrong = argc > 1 && !strcmp(argv[1], "--wrong");
+    for (int k = 1 + wants_wrong; k < argc; k++) try_file(argv[k], wants_wrong);
+    printf("%u passed, %u failed\n", passed, failed);
+    return failed > 0 || passed == 0;
+}
