@@ -30,11 +30,11 @@
      1 retires, 1 leaves              retires; is used no more
 
    A line with # is a remark. After a line `when ..` all lines up to the next one are performed only then: `when starved`, if a pass
-   was starved so far; `when not starved`; `when served 2`, if the pass that `serves some` was starved and served two calls; `when all
-   served`, if it wasn't; `when anyhow`. Of a case with such lines each part has to be performed in some round in which memory was
-   refused, but those behind `when ever served 2`. The last line may say how the office ends: `end: missing 1`, if it isn't closed with
-   the one session that is left; `end: book 2, 0, 2`, if its book has served two calls and keeps two from place 0 on; `end: history`,
-   if the lines are its history. */
+   was starved so far; `when not starved`; `when starved since`, if one was since the last `when`; `when served 2`, if the pass that
+   `serves some` was starved and served two calls; `when all served`, if it wasn't starved. Each of these has to come true in some round
+   in which memory was refused, and in that pass, if it is about that pass; but not one with `ever`, as `when ever served 2`. The last
+   line may say how the office ends: `end: missing 1`, if it isn't closed with the one session that is left; `end: book 2, 0, 2`, if its
+   book has served two calls and keeps two from place 0 on; `end: history`, if the lines are its history. */
 #include "pelgaisti.h"
 #include <ctype.h>
 #include <stdio.h>
@@ -64,18 +64,20 @@ void *__wrap_malloc(size_t size) { return is_refused() ? NULL : __real_malloc(si
 void *__wrap_realloc(void *at, size_t size) { return is_refused() ? NULL : __real_realloc(at, size); }
 
 #define COUNT(list) (sizeof(list) / sizeof((list)[0]))
-enum { MOST = 8, ROOM = 64, LONGEST = 256, LINES = 80, PARTS = 8 };
+enum { MOST = 8, ROOM = 64, LONGEST = 256, LINES = 80, HANDLES = 1 << 16 };
 
 typedef pelgaisti_session session;
 
-/* The office of a case. A session's number is its index and one. */
-static session sessions[MOST];
+/* The office of a case. A session's number is its index and one. Each office has handles of its own, since some stay open. */
+static session handles[HANDLES], *sessions = handles;
 static int has_left[MOST];
 static unsigned count;
 
-/* How many passes were starved so far, and how the pass of `serves some` ended. */
-static unsigned starved;
+/* How many passes were starved so far and up to the last `when`, how the pass of `serves some` ended, and how often memory was refused
+   in it. */
+static unsigned starved, starved_then;
 static pelgaisti_pass some;
+static long refused_in_some;
 
 /* A file that can't be read is no failed case. */
 static void stop(const char *why, const char *text) {
@@ -197,7 +199,10 @@ static long serve(session *own) {
 }
 
 static int serve_some(session *own) {
-    return pelgaisti_session_serve(own, &some) == PELGAISTI_OK;
+    long before = refusals;
+    pelgaisti_status status = pelgaisti_session_serve(own, &some);
+    refused_in_some = refusals - before;
+    return status == PELGAISTI_OK;
 }
 
 static int collect(session *own, char *text) {
@@ -437,7 +442,7 @@ static int perform_line(const char *text) {
     return 0;
 }
 
-/* A case: its lines without remarks, and for each part, the line of its `when`, whether it was performed as memory was refused. */
+/* A case: its lines without remarks, and of each `when` whether it came true as memory was refused. */
 typedef struct text {
     char line[LINES][LONGEST];
     unsigned lines, sessions;
@@ -452,8 +457,8 @@ static text one;
 /* Whether the lines behind this one are performed. */
 static int is_when(const char *line) {
     const char *what = line + strlen("when ");
-    if (!strcmp(what, "anyhow")) return 1;
     if (!strcmp(what, "starved")) return starved > 0;
+    if (!strcmp(what, "starved since")) return starved > starved_then;
     if (!strcmp(what, "not starved")) return starved == 0;
     if (!strcmp(what, "all served")) return !some.starved;
     if (!strncmp(what, "ever ", 5)) what += 5;
@@ -468,7 +473,8 @@ static const char *perform_lines(void) {
     for (unsigned k = 0; k < one.lines; k++) {
         if (!strncmp(one.line[k], "when ", 5)) {
             is_on = is_when(one.line[k]);
-            one.is_reached[k] |= is_on && refusals > 0;
+            starved_then = starved;
+            one.is_reached[k] |= is_on && (strstr(one.line[k], "served") ? refused_in_some > 0 : refusals > 0);
         } else if (is_on && !perform_line(one.line[k])) {
             return one.line[k];
         }
@@ -563,10 +569,12 @@ static int end_case(void) {
 static const char *perform_case(void) {
     const char *wrong;
     pelgaisti_status status;
-    memset(sessions, 0, sizeof sessions);
+    sessions += count;
+    if (sessions + MOST > handles + HANDLES) stop("too many rounds", one.name);
     memset(has_left, 0, sizeof has_left);
     count = one.sessions;
-    starved = 0;
+    starved = starved_then = 0;
+    refused_in_some = 0;
     status = pelgaisti_office_open_keeping(sessions, count, one.bound);
     if (status == PELGAISTI_NO_MEMORY) status = pelgaisti_office_open_keeping(sessions, count, one.bound);
     if (status != PELGAISTI_OK) return "the office was not opened";

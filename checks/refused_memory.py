@@ -45,31 +45,12 @@ PIECE = 4096
 TESTED = {
     "base_tests": ("reports::refused_", "traces::reports_the_row_in_which_memory_was_refused", "waits::refused_"),
     "desk_tests": ("refusals::",),
-    "office_tests": (
-        *("ages::", "boards::", "calling::a_whole_call_that_found_no_memory", "closing::"),
-        *("direct::a_call_that_found_no_memory", "dropping::", "hearing::", "listing::", "looks::"),
-        *("offices::", "refusals::", "telling::a_commit", "withdrawals::a_session"),
-    ),
-}
-# except these: tests with threads, with two offices, and of the publication list, where a starved pass counts as a pass, which
-# don't make each refused call again; and tests with 1,024 sessions, which would take long
-LEFT_OUT = {
-    "ages::a_record_leaves_the_list_by_its_age",
-    "closing::all_1024_sessions_close_in_any_order",
-    "closing::two_offices_have_their_own_sessions",
-    "hearing::eight_threads_hear",
-    "listing::sixty_four_sessions_poll_in_turn",
-    "listing::unused_records_are_unlinked",
+    "office_tests": ("boards::", "calls::", "closing::", "offices::"),
 }
 # what tests print of a refusal: for each of these texts there has to be a round that prints it and nothing else
 TOLD = {
-    "calling::a_whole_call_that_found_no_memory_is_resumed": {"starved"},
-    "direct::a_call_that_found_no_memory_is_performed_by_the_next_try": {"starved"},
-    "offices::a_call_that_found_no_memory_is_served_by_the_next_pass": {"starved"},
-    "refusals::a_clean_up_keeps_the_record_of_a_call_that_found_no_memory": {"starved", "starved before"},
-    "refusals::a_pass_that_found_no_memory_is_starved_or_serves_one_by_one": {"starved", "served all"},
+    "offices::a_call_that_found_no_memory_is_made_by_the_next_try": {"starved pass", "starved at once", "starved whole call"},
     "refusals::a_refused_book_is_made_at_the_second_try": {"refused"},
-    "refusals::an_office_is_opened_once_memory_is_back": {"refused"},
     "reports::refused_texts_are_written_at_the_second_try": {"refused"},
     "traces::reports_the_row_in_which_memory_was_refused": {"refused in row 1", "refused in row 3", "refused in row 5"},
     "waits::refused_rows_are_made_at_the_second_try": {"refused"},
@@ -273,7 +254,7 @@ def trials_of_tests():
         program = TOP / "crates" / crate / "out" / f"{crate}_tests"
         listed = subprocess.run([program, "--list"], capture_output=True, text=True, check=True).stdout
         for test in (line.split(": ")[0] for line in listed.splitlines() if line.endswith(": test")):
-            if test.startswith(tested) and test not in LEFT_OUT:
+            if test.startswith(tested):
                 yield Trial(test, [program, test], lambda ended: ended[0] == 0)
 
 

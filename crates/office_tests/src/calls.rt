@@ -379,6 +379,7 @@ fn play_and_drop(
 {
     assert!(rt; sessions.len() == 2);
     let mut first = sessions.remove(0);
+    assert!(rt; !sessions.is_empty());
     play(rt, alloc, office, &mut first, &mut sessions[0], scene);
     drop(first);
     if let Scene::Leave = scene {
