@@ -7,7 +7,8 @@ ghost use Rattle.combining.specs.Sessions.{IsSessionOf, IsIdle};
 use crate::closing::refused;
 use crate::offices::{begun, pass};
 use combining::{
-    Answer, Called, CloseFault, Ended, Office, OpenFault, Performed, Posted, Seen, Session, resume,
+    Answer, Called, CloseFault, Ended, Office, OpenFault, Performed, Posted, Session, Snapshot,
+    resume,
 };
 use lock_desk::{Call, Claim, ClaimKind, Mode, NoMemory, Reply, Resource, Transaction, Why};
 use std::alloc::Global;
@@ -90,19 +91,19 @@ fn ask(rt: &impl Abort, office: &Office, asker: &mut Session, database: Resource
 {
     let request = waiting(database);
     let length = 4;
-    let mode = Seen {
+    let mode = Snapshot {
         length,
         found: Some(Mode::X),
     };
-    let edge = Seen {
+    let edge = Snapshot {
         length,
         found: true,
     };
-    let open = Seen {
+    let open = Snapshot {
         length,
         found: Some(request.transaction),
     };
-    let queued = Seen {
+    let queued = Snapshot {
         length,
         found: Some(request),
     };
