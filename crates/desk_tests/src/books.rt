@@ -46,7 +46,7 @@ fn want_sessions(rt: &impl Abort, book: &Book, database: Resource) {
     assert_eq!(rt; book.request(65535), None);
 }
 
-/// Expects the lock and the request in the lists, in place of what they have.
+/// Expects the lock and the request in the lists; that of holders has them in place of what it had.
 fn want_lists(rt: &impl Abort, alloc: Global, book: &Book, database: Resource) {
     let mut holders = Vec::new(alloc);
     assert!(rt; holders.push((9, Mode::S)).is_ok());
@@ -66,11 +66,11 @@ fn want_lists(rt: &impl Abort, alloc: Global, book: &Book, database: Resource) {
         mode: Mode::S,
         kind: ClaimKind::Fresh,
     };
+    let again = request;
     assert_eq!(rt; book.request(2), Some(request));
     let mut claims = Vec::new(alloc);
-    assert!(rt; claims.push(request).is_ok());
     assert!(rt; book.locks(alloc, &mut claims).is_ok());
-    assert_eq!(rt; claims.as_slice(), [lock, request].as_slice());
+    assert_eq!(rt; claims.as_slice(), [lock, again].as_slice());
 }
 
 /// Ends the wait, and takes the history, of which some entries were let go before.
@@ -78,7 +78,8 @@ fn want_history(rt: &impl Abort, alloc: Global, book: &mut Book)
     requires two { 2 ≤ book.old.sessions }
 {
     assert_eq!(rt; book.serve(1, Call::Commit).ok(), Some(Reply::Committed(1)));
-    assert_eq!(rt; book.ended(), [2].as_slice());
+    assert_eq!(rt; book.ended().len(), 1);
+    assert_eq!(rt; book.ended().first().copied(), Some(2));
     assert_eq!(rt; book.let_go(1), 1);
     assert_eq!(rt; book.first_kept(), 1);
     assert_eq!(rt; book.bound(), NO_BOUND);
@@ -91,9 +92,11 @@ fn want_history(rt: &impl Abort, alloc: Global, book: &mut Book)
         call: Call::Commit,
         reply: Reply::Committed(1),
     };
-    assert_eq!(rt; book.history(), [last].as_slice());
+    let want = [last];
+    assert_eq!(rt; book.history().len(), 1);
     let piece = book.take_history(alloc);
-    assert_eq!(rt; piece.as_slice(), [last].as_slice());
+    assert_eq!(rt; piece.as_slice(), want.as_slice());
+    assert!(rt; book.history().is_empty());
     assert_eq!(rt; book.first_kept(), 5);
 }
 

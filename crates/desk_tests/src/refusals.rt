@@ -34,10 +34,11 @@ fn a_refused_book_is_made_at_the_second_try(rt: HostRuntime) -> Result<(), Fail>
 fn want_reply(rt: &impl Abort, book: &mut Book, call: Call, reply: Reply) {
     assert!(rt; book.sessions() >= 1);
     let before = book.history().len();
+    let again = call;
     let mut told = book.serve(1, call).ok();
     if told.is_none() {
         assert_eq!(rt; book.history().len(), before);
-        told = book.serve(1, call).ok();
+        told = book.serve(1, again).ok();
     }
     assert_eq!(rt; told, Some(reply));
 }
