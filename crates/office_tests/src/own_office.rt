@@ -22,15 +22,15 @@ pub fn serve_in_its_own_office(
     let _turn = other.serve(foreign);
 }
 
-/// Closes two offices, each with its own sessions. Returns for each whether it was closed.
-pub fn close_both(
+/// Closes `one` with its own sessions, and returns whether it was closed. `theirs` are those of `other`.
+pub fn close_with_its_own(
     one: Office,
-    other: Office,
+    other: &Office,
     ours: Vec<Session>,
     theirs: Vec<Session>,
-) -> (bool, bool)
+) -> bool
     requires ours { All (IsSessionOf one) ours.items }
-    requires theirs { All (IsSessionOf other) theirs.items }
+    requires theirs { All (IsSessionOf other.now) theirs.items }
 {
-    (one.close(ours).is_ok(), other.close(theirs).is_ok())
+    one.close(ours).is_ok()
 }

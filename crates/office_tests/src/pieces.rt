@@ -2,13 +2,12 @@
 
 ghost use Rattle.combining.specs.Sessions.{IsSessionOf, IsIdle};
 
-use crate::threads::{Answered, want_replies_of_a_fresh_book};
+use crate::threads::{Answered, want_replies_of};
 use crate::workers::Worked;
 use combining::Office;
-use lock_desk::{Book, Entry};
+use lock_desk::{Book, Entry, NoMemory};
 use std::alloc::{AllocError, Global};
 use std::process::Abort;
-use std::test::Fail;
 use std::thread;
 
 /// Appends entries, the first of which has this place.
@@ -63,15 +62,15 @@ fn want_places(rt: &impl Abort, history: &[Answered]) {
     }
 }
 
-/// Expects what the sessions took, and what nobody took behind it, to be a history, each entry once, with the replies of one book.
+/// Expects what the sessions took, and what nobody took behind it, to be a history, each entry once, with the replies of a fresh book.
 pub(crate) fn want_pieces(
     rt: &impl Abort,
-    alloc: Global,
     taken: &mut Vec<Answered>,
     book: &Book,
-) -> Result<(), Fail> {
+    fresh: &mut Book,
+) -> Result<(), NoMemory> {
     assert_eq!(rt; book.first_kept(), taken.len() as u64);
     note_entries(taken, book.first_kept(), book.history())?;
     want_places(rt, taken.as_slice());
-    Ok(want_replies_of_a_fresh_book(rt, alloc, taken.as_slice())?)
+    want_replies_of(rt, fresh, taken.as_slice())
 }

@@ -15,11 +15,8 @@ use std::thread;
 /// The greatest number of tries for one answer.
 const TURNS: u64 = 1_000_000_000;
 
-/// The number of sessions of the office in the test with threads.
-const SESSIONS: u16 = 8;
-
-/// For each session number from 0 to 8, whether the session was told.
-type Told = [bool; 9];
+/// For each session, by the bit of its number, whether it was told.
+type Told = u16;
 
 /// A pass that served calls, as the session that made it saw it.
 #[derive(Clone, Copy)]
@@ -31,15 +28,13 @@ pub(crate) struct SeenPass {
     /// The sessions that it told.
     told: Told,
     /// How many sessions it told.
-    count: usize,
+    count: u32,
 }
 
 /// Marks these sessions as told.
 fn mark(told: &mut Told, sessions: &[u16]) {
     for number in sessions {
-        if let Some(is_told) = told.get_mut(usize::from(*number)) {
-            *is_told = true;
-        }
+        *told |= 1u16.wrapping_shl(u32::from(*number));
     }
 }
 
@@ -47,13 +42,13 @@ fn mark(told: &mut Told, sessions: &[u16]) {
 fn note_pass(worked: &mut Worked, served: u32, sessions: &[u16]) -> Result<(), AllocError>
     ensures { worked.new.session ≡ worked.old.session }
 {
-    let mut told = [false; 9];
+    let mut told = 0;
     mark(&mut told, sessions);
     worked.noted.passes.push(SeenPass {
         upto: worked.session.seen(),
         served,
         told,
-        count: sessions.len(),
+        count: sessions.len() as u32,
     })?;
     Ok(())
 }
@@ -163,39 +158,28 @@ fn want_pass(
     history: &[Entry],
     pass: &SeenPass,
 ) -> Result<(), NoMemory> {
-    let mut told = [false; 9];
+    let mut told = 0;
     for _call in 0..pass.served {
         serve_next(rt, book, history, &mut told)?;
     }
     assert_eq!(rt; book.served(), pass.upto);
     assert!(rt; told == pass.told);
-    assert_eq!(rt; told.iter().filter(|is_told| **is_told).count(), pass.count);
+    assert_eq!(rt; told.count_ones(), pass.count);
     Ok(())
 }
 
-/// Expects each pass to begin where the one before ends, and the last one to end with the history.
-fn want_passes(
+/// Expects each pass to begin where the one before ends, and to tell those whose wait its calls end in the book, and the last one to
+/// end with the history. Nothing is told where the lock table was elsewhere.
+pub(crate) fn want_passes(
     rt: &impl Abort,
     book: &mut Book,
-    history: &[Entry],
-    passes: &[SeenPass],
-) -> Result<(), NoMemory> {
-    for pass in passes {
-        want_pass(rt, book, history, pass)?;
-    }
-    assert_eq!(rt; book.served(), history.len() as u64);
-    Ok(())
-}
-
-/// Expects the passes to tell those whose wait their calls end in a fresh book, and nothing to be told where the lock table was
-/// elsewhere.
-pub(crate) fn want_passes_of_a_fresh_book(
-    rt: &impl Abort,
-    alloc: Global,
     history: &[Entry],
     notes: &Notes,
 ) -> Result<(), NoMemory> {
     assert!(rt; history.len() == 8000 && notes.wrong == 0);
-    let mut book = Book::new(alloc, SESSIONS)?;
-    want_passes(rt, &mut book, history, notes.passes.as_slice())
+    for pass in notes.passes.as_slice() {
+        want_pass(rt, book, history, pass)?;
+    }
+    assert_eq!(rt; book.served(), history.len() as u64);
+    Ok(())
 }

@@ -6,7 +6,6 @@ ghost use Rattle.combining.specs.Sessions.{IsSessionOf, IsIdle};
 use crate::workers::{Task, Worked, work_and_judge};
 use combining::{Answer, Called, Office, Session, resume};
 use lock_desk::{Book, Call, Entry, Mode, NoMemory, Reply, Resource, Why};
-use std::alloc::Global;
 use std::process::Abort;
 use std::test::Fail;
 use std::thread;
@@ -207,25 +206,19 @@ fn eight_and_sixty_four_threads_poll(rt: HostRuntime) -> Result<(), Fail> {
     Ok(())
 }
 
-/// Serves the calls by place in the book, and expects the replies that the threads got.
-fn want_replies_of(rt: &impl Abort, book: &mut Book, history: &[Answered]) -> Result<(), NoMemory> {
+/// Serves the 8,000 calls by place in the book, and expects the replies that the threads got.
+pub(crate) fn want_replies_of(
+    rt: &impl Abort,
+    book: &mut Book,
+    history: &[Answered],
+) -> Result<(), NoMemory> {
+    assert_eq!(rt; history.len(), 8000);
     for answered in history {
         assert!(rt; answered.session >= 1 && answered.session <= book.sessions());
         let reply = book.serve(answered.session, answered.call)?;
         assert_eq!(rt; reply, answered.reply);
     }
     Ok(())
-}
-
-/// Serves the calls by place in a fresh book of ten sessions, and expects the replies that the threads got.
-pub(crate) fn want_replies_of_a_fresh_book(
-    rt: &impl Abort,
-    alloc: Global,
-    history: &[Answered],
-) -> Result<(), NoMemory> {
-    assert_eq!(rt; history.len(), 8000);
-    let mut book = Book::new(alloc, 10)?;
-    want_replies_of(rt, &mut book, history)
 }
 
 /// The answers of eight threads, in the order of their places, are those of one book that serves the calls in this order. So are

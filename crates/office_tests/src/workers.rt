@@ -5,12 +5,12 @@ ghost use Rattle.combining.specs.Sessions.{IsSessionOf, IsIdle};
 
 use crate::offices::closed;
 use crate::pieces::{take_all, want_pieces};
-use crate::telling::{SeenPass, want_passes_of_a_fresh_book, work_telling};
+use crate::telling::{SeenPass, want_passes, work_telling};
 use crate::threads::{
-    Answered, Load, want_history, want_refused_polls, want_replies_of_a_fresh_book, work_calling,
+    Answered, Load, want_history, want_refused_polls, want_replies_of, work_calling,
 };
 use combining::{Office, Session};
-use lock_desk::Book;
+use lock_desk::{Book, NoMemory};
 use std::alloc::{AllocError, Global};
 use std::process::Abort;
 use std::test::Fail;
@@ -140,33 +140,31 @@ fn no_notes(alloc: Global) -> Notes {
     }
 }
 
-/// Puts the notes in order, and expects of them and of the book what has to come of this work.
+/// Puts the notes in order, and expects of them and of the book what has to come of this work. A fresh book gives the replies.
 fn judge(
     rt: &impl Abort,
     alloc: Global,
     task: Task,
     notes: &mut Notes,
     book: &Book,
-) -> Result<(), Fail> {
+) -> Result<(), NoMemory> {
     notes
         .answers
         .sort_unstable_by_key(|answered| answered.place);
     notes.passes.sort_unstable_by_key(|pass| pass.upto);
+    let mut fresh = Book::new(alloc, 10)?;
     match task.load {
-        Load::Taking => want_pieces(rt, alloc, &mut notes.answers, book),
-        Load::Telling => Ok(want_passes_of_a_fresh_book(rt, alloc, book.history(), notes)?),
+        Load::Taking => want_pieces(rt, &mut notes.answers, book, &mut fresh),
+        Load::Telling => want_passes(rt, &mut fresh, book.history(), notes),
         Load::Polls => {
             want_history(rt, book.history(), &notes.answers);
-            want_refused_polls(
-                rt,
-                &notes.answers,
-                task.calls.wrapping_mul(u64::from(task.threads)),
-            );
+            let polls = task.calls.wrapping_mul(u64::from(task.threads));
+            want_refused_polls(rt, &notes.answers, polls);
             Ok(())
         }
         _ => {
             want_history(rt, book.history(), &notes.answers);
-            Ok(want_replies_of_a_fresh_book(rt, alloc, &notes.answers)?)
+            want_replies_of(rt, &mut fresh, &notes.answers)
         }
     }
 }
@@ -179,5 +177,5 @@ pub(crate) fn work_and_judge<R: Threads + Abort + Sync>(
 ) -> Result<(), Fail> {
     let mut notes = no_notes(alloc);
     let book = book_of_threads(rt, alloc, task, &mut notes)?;
-    judge(rt, alloc, task, &mut notes, &book)
+    Ok(judge(rt, alloc, task, &mut notes, &book)?)
 }
