@@ -292,7 +292,7 @@ static uint64_t seen_by(session *own) {
 static int stay(session *own) {
     pelgaisti_answer answer;
     uint64_t seen = seen_by(own);
-    return pelgaisti_session_perform(own, NULL, 0, &answer) == PELGAISTI_NOT_SERVED && !is_idle(own) && seen_by(own) == seen;
+    return pelgaisti_session_perform(own, NULL, 0, &answer) == PELGAISTI_NOT_SERVED && seen_by(own) == seen;
 }
 
 static int finds_nothing(session *own, const char *state) {
