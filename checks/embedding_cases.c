@@ -291,8 +291,10 @@ static uint64_t seen_by(session *own) {
 
 static int stay(session *own) {
     pelgaisti_answer answer;
+    pelgaisti_call poll = {PELGAISTI_POLL, 0, {0, {0}}};
     uint64_t seen = seen_by(own);
-    return pelgaisti_session_perform(own, NULL, 0, &answer) == PELGAISTI_NOT_SERVED && seen_by(own) == seen;
+    if (pelgaisti_session_perform(own, NULL, 0, &answer) != PELGAISTI_NOT_SERVED || seen_by(own) != seen) return 0;
+    return pelgaisti_session_publish(own, &poll, NULL) == PELGAISTI_PENDING;
 }
 
 static int finds_nothing(session *own, const char *state) {
