@@ -1007,12 +1007,13 @@ static inline pelgaisti_status pelgaisti_perform_waking_(pelgaisti_session *sess
     return status;
 }
 
-/* Performs the call at once where the lock table is free. Where it isn't, tries again, with pauses that grow, in all at most `turns`
-   times and at most 32 times. If the lock table was never free, publishes the call, then serves and collects in turn until the
-   answer is there, at most `turns` times. With 0 turns it only publishes the call. With NULL for `call` it goes on with
-   the call that is pending; with 0 turns, too, it looks at nothing and returns NOT_SERVED. The answer may be WAITING: this call waits for an answer, not for a lock. Whoever waits for a lock
-   sleeps until a pass wakes it, which pelgaisti_session_serve_telling explains. With NULL for `waker` the passes of this call
-   wake nobody: where threads sleep, none uses it so.
+/* Performs the call at once where the lock table is free. Where it isn't, tries again, with pauses that grow, in all at most
+   `turns` times and at most 32 times. If the lock table was never free, publishes the call, then serves and collects in turn
+   until the answer is there, at most `turns` times. With 0 turns it only publishes the call. With NULL for `call` it goes on
+   with the call that is pending; with 0 turns, too, it looks at nothing and returns NOT_SERVED. The answer may be WAITING: this
+   call waits for an answer, not for a lock. Whoever waits for a lock sleeps until a pass wakes it, which
+   pelgaisti_session_serve_telling explains. With NULL for `waker` the passes of this call wake nobody: where threads sleep, none
+   uses it so.
    NOT_SERVED: after so many turns there is no answer. NO_MEMORY: memory was refused for the call, in a pass of this session or for
    the list of whom it is to wake, and the call wasn't served. With both, and with NO_ROOM, the call is pending, and NULL for `call`
    goes on with it.
