@@ -30,11 +30,11 @@
      1 retires, 1 leaves              retires; is used no more
 
    A line with # is a remark. After a line `when ..` all lines up to the next one are performed only then: `when starved`, if a pass
-   was starved so far; `when not starved`; `when starved since`, if one was since the last `when`; `when served 2`, if the pass that
-   `serves some` was starved and served two calls; `when all served`, if it wasn't starved. Each of these has to come true in some round
-   in which memory was refused, and in that pass, if it is about that pass; but not one with `ever`, as `when ever served 2`. The last
-   line may say how the office ends: `end: missing 1`, if it isn't closed with the one session that is left; `end: book 2, 0, 2`, if its
-   book has served two calls and keeps two from place 0 on; `end: history`, if the lines are its history. */
+   was starved so far; `when not starved`; `when starved since`, if one was since the last `when`; `when all served`, if the pass that
+   `serves some` wasn't starved; `when not all served`; `when served 2`, if it was starved and served two calls. Each of these has to
+   come true in some round in which memory was refused, and in that pass, if it is about that pass; but not one with `ever`, as `when
+   ever served 2`. The last line may say how the office ends: `end: missing 1`, if it isn't closed with the one session that is left;
+   `end: book 2, 0, 2`, if its book has served two calls and keeps two from place 0 on; `end: history`, if the lines are its history. */
 #include "pelgaisti.h"
 #include <ctype.h>
 #include <stdio.h>
@@ -290,11 +290,11 @@ static uint64_t seen_by(session *own) {
 }
 
 static int stay(session *own) {
+    pelgaisti_call another = {PELGAISTI_POLL, 0, {0, {0}}};
     pelgaisti_answer answer;
-    pelgaisti_call poll = {PELGAISTI_POLL, 0, {0, {0}}};
     uint64_t seen = seen_by(own);
-    if (pelgaisti_session_perform(own, NULL, 0, &answer) != PELGAISTI_NOT_SERVED || seen_by(own) != seen) return 0;
-    return pelgaisti_session_publish(own, &poll, NULL) == PELGAISTI_PENDING;
+    return pelgaisti_session_perform(own, NULL, 0, &answer) == PELGAISTI_NOT_SERVED && seen_by(own) == seen &&
+           pelgaisti_session_publish(own, &another, NULL) == PELGAISTI_PENDING;
 }
 
 static int finds_nothing(session *own, const char *state) {
@@ -463,6 +463,7 @@ static int is_when(const char *line) {
     if (!strcmp(what, "starved since")) return starved > starved_then;
     if (!strcmp(what, "not starved")) return starved == 0;
     if (!strcmp(what, "all served")) return !some.starved;
+    if (!strcmp(what, "not all served")) return some.starved;
     if (!strncmp(what, "ever ", 5)) what += 5;
     if (!strncmp(what, "served ", 7)) return some.starved && some.served == number_of(what + 7);
     stop("not a condition", line);

@@ -28,7 +28,7 @@ pub(crate) struct SeenPass {
     /// The sessions that it told.
     told: Told,
     /// How many sessions it told.
-    count: u32,
+    count: usize,
 }
 
 /// Marks these sessions as told.
@@ -48,7 +48,7 @@ fn note_pass(worked: &mut Worked, served: u32, sessions: &[u16]) -> Result<(), A
         upto: worked.session.seen(),
         served,
         told,
-        count: sessions.len() as u32,
+        count: sessions.len(),
     })?;
     Ok(())
 }
@@ -164,7 +164,7 @@ fn want_pass(
     }
     assert_eq!(rt; book.served(), pass.upto);
     assert!(rt; told == pass.told);
-    assert_eq!(rt; told.count_ones(), pass.count);
+    assert_eq!(rt; told.count_ones() as usize, pass.count);
     Ok(())
 }
 
