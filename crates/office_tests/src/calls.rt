@@ -46,7 +46,7 @@ fn want(
     if performed == Performed::Starved {
         performed = office.perform(session, *call);
     }
-    assert_eq!(rt; performed, alone(place, reply));
+    assert!(rt; performed == alone(place, reply));
 }
 
 /// Sessions 1 and 2 begin. Session 1 locks the database in X, and session 2 waits for S there.
@@ -212,18 +212,18 @@ fn tell_each(
 {
     let database = database(rt);
     wait_behind(rt, office, first, second, database);
-    assert_eq!(rt; office.publish(first, Call::Commit), Posted::Listed);
+    assert!(rt; office.publish(first, Call::Commit) == Posted::Listed);
     let mut turn = office.serve_telling(second, ended);
     if turn != pass(1) {
         turn = office.serve_telling(second, ended);
     }
-    assert_eq!(rt; turn, pass(1));
+    assert!(rt; turn == pass(1));
     want_told(rt, ended, 2);
     let committed = Answer {
         place: 4,
         reply: Reply::Committed(1),
     };
-    assert_eq!(rt; office.collect(first), Some(committed));
+    assert!(rt; office.collect(first) == Some(committed));
     want(rt, office, first, &Call::Begin, 5, Reply::Began(3));
     want(
         rt,
@@ -238,7 +238,7 @@ fn tell_each(
     if performed == Performed::Starved {
         performed = office.perform_telling(second, Call::Commit, ended);
     }
-    assert_eq!(rt; performed, alone(7, Reply::Committed(1)));
+    assert!(rt; performed == alone(7, Reply::Committed(1)));
     want_told(rt, ended, 1);
 }
 
@@ -270,16 +270,16 @@ fn resume_in_turns(rt: &impl Abort, office: &Office, only: &mut Session)
     ensures ours { IsSessionOf office.now only.new }
 {
     assert!(rt; only.is_idle());
-    assert_eq!(rt; office.publish(only, Call::Begin), Posted::Listed);
+    assert!(rt; office.publish(only, Call::Begin) == Posted::Listed);
     assert!(rt; !only.is_idle() && !only.is_retired());
-    assert_eq!(rt; resume(office, only, 0), Called::NotYet);
+    assert!(rt; resume(office, only, 0) == Called::NotYet);
     assert!(rt; !only.is_idle() && !only.is_retired());
     let mut called = resume(office, only, 1);
     if called == Called::Starved {
         assert!(rt; !only.is_idle() && !only.is_retired());
         called = resume(office, only, 1);
     }
-    assert_eq!(rt; called, Called::Answered(begun()));
+    assert!(rt; called == Called::Answered(begun()));
 }
 
 /// Of an office that keeps one entry, a session takes the newest one behind two begins.
@@ -309,7 +309,7 @@ fn leave_a_call(rt: &impl Abort, office: &Office, first: &mut Session, second: &
     ensures second { IsSessionOf office.now second.new }
 {
     wait_behind(rt, office, first, second, database(rt));
-    assert_eq!(rt; office.publish(first, Call::Poll), Posted::Listed);
+    assert!(rt; office.publish(first, Call::Poll) == Posted::Listed);
 }
 
 /// A pass of session 2 serves the call that session 1 has left, and the lock of session 1 stays.
@@ -321,7 +321,7 @@ fn go_on(rt: &impl Abort, office: &Office, second: &mut Session)
     if turn != pass(1) {
         turn = office.serve(second);
     }
-    assert_eq!(rt; turn, pass(1));
+    assert!(rt; turn == pass(1));
     let read = Call::Try(database(rt), Mode::S);
     want(rt, office, second, &Call::Withdraw, 5, Reply::Withdrawn);
     want(rt, office, second, &read, 6, Reply::Refused(Why::WouldWait));

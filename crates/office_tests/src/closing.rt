@@ -22,7 +22,7 @@ pub(crate) fn refused(
     ensures sessions { result.1.items ≡ sessions.items }
 {
     let (fault, office, sessions) = office.close(sessions).err().expect(rt, "a fault");
-    assert_eq!(rt; fault, wanted);
+    assert!(rt; fault == wanted);
     (office, sessions)
 }
 
@@ -34,7 +34,7 @@ fn leave_pending(rt: &impl Abort, office: &Office, sessions: &mut Vec<Session>)
     assert!(rt; !sessions.is_empty());
     let first = &mut sessions[0];
     assert!(rt; first.is_idle());
-    assert_eq!(rt; office.publish(first, Call::Begin), Posted::Listed);
+    assert!(rt; office.publish(first, Call::Begin) == Posted::Listed);
 }
 
 /// Serves the pending begin, retires session 1, and puts it behind session 2.
@@ -57,8 +57,8 @@ fn settle_one(rt: &impl Abort, office: &Office, session: &mut Session)
     if turn != pass(1) {
         turn = office.serve(session);
     }
-    assert_eq!(rt; turn, pass(1));
-    assert_eq!(rt; office.collect(session), Some(begun()));
+    assert!(rt; turn == pass(1));
+    assert!(rt; office.collect(session) == Some(begun()));
     assert!(rt; session.is_idle() && !session.is_retired());
     office.retire(session);
     assert!(rt; !session.is_idle() && session.is_retired());
@@ -81,8 +81,8 @@ fn close_at_last(rt: &impl Abort, alloc: Global) -> Result<usize, OpenFault> {
 fn an_office_closes_only_with_all_sessions_and_no_pending_call(
     rt: HostRuntime,
 ) -> Result<(), Fail> {
-    assert_eq!(rt; CloseFault::Missing as u8, 1);
-    assert_eq!(rt; CloseFault::Unsettled as u8, 2);
-    assert_eq!(rt; close_at_last(&rt, rt.alloc())?, 1);
+    assert!(rt; CloseFault::Missing as u8 == 1);
+    assert!(rt; CloseFault::Unsettled as u8 == 2);
+    assert!(rt; close_at_last(&rt, rt.alloc())? == 1);
     Ok(())
 }

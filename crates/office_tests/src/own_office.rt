@@ -4,7 +4,8 @@
 ghost use Rattle.std.specs.Prelude.{All};
 ghost use Rattle.combining.specs.Sessions.{IsSessionOf};
 
-use combining::{Office, Session};
+use combining::{CloseFault, Office, Session};
+use lock_desk::Book;
 
 /// Makes a pass of `first`, which is a session of `office`, and one of `foreign`, which is a session of `other`.
 pub fn serve_in_its_own_office(
@@ -22,15 +23,15 @@ pub fn serve_in_its_own_office(
     let _turn = other.serve(foreign);
 }
 
-/// Closes `one` with its own sessions, and returns whether it was closed. `theirs` are those of `other`.
+/// Closes `one` with its own sessions. `theirs` are those of `other`.
 pub fn close_with_its_own(
     one: Office,
     other: &Office,
     ours: Vec<Session>,
     theirs: Vec<Session>,
-) -> bool
+) -> Result<Book, (CloseFault, Office, Vec<Session>)>
     requires ours { All (IsSessionOf one) ours.items }
     requires theirs { All (IsSessionOf other.now) theirs.items }
 {
-    one.close(ours).is_ok()
+    one.close(ours)
 }

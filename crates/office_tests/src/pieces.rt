@@ -58,7 +58,7 @@ pub(crate) fn take_all(alloc: Global, office: &Office, worked: &mut Worked)
 /// Expects each entry to be at its place.
 fn want_places(rt: &impl Abort, history: &[Answered]) {
     for (place, answered) in history.iter().enumerate() {
-        assert_eq!(rt; answered.place, place as u64);
+        assert!(rt; answered.place == place as u64);
     }
 }
 
@@ -69,7 +69,7 @@ pub(crate) fn want_pieces(
     book: &Book,
     fresh: &mut Book,
 ) -> Result<(), NoMemory> {
-    assert_eq!(rt; book.first_kept(), taken.len() as u64);
+    assert!(rt; book.first_kept() == taken.len() as u64);
     note_entries(taken, book.first_kept(), book.history())?;
     want_places(rt, taken.as_slice());
     want_replies_of(rt, fresh, taken.as_slice())

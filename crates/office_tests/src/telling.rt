@@ -146,7 +146,7 @@ fn serve_next(
         .expect(rt, "an entry of the pass");
     assert!(rt; entry.session >= 1 && entry.session <= book.sessions());
     let reply = book.serve(entry.session, entry.call)?;
-    assert_eq!(rt; reply, entry.reply);
+    assert!(rt; reply == entry.reply);
     mark(told, book.ended());
     Ok(())
 }
@@ -162,9 +162,9 @@ fn want_pass(
     for _call in 0..pass.served {
         serve_next(rt, book, history, &mut told)?;
     }
-    assert_eq!(rt; book.served(), pass.upto);
+    assert!(rt; book.served() == pass.upto);
     assert!(rt; told == pass.told);
-    assert_eq!(rt; told.count_ones() as usize, pass.count);
+    assert!(rt; told.count_ones() as usize == pass.count);
     Ok(())
 }
 
@@ -180,6 +180,6 @@ pub(crate) fn want_passes(
     for pass in notes.passes.as_slice() {
         want_pass(rt, book, history, pass)?;
     }
-    assert_eq!(rt; book.served(), history.len() as u64);
+    assert!(rt; book.served() == history.len() as u64);
     Ok(())
 }

@@ -172,22 +172,29 @@ pub(crate) fn work_calling(office: &Office, worked: &mut Worked, load: Load, cal
 }
 
 /// Expects the history to have exactly these answers, each at its place.
-pub(crate) fn want_history(rt: &impl Abort, history: &[Entry], answers: &[Answered]) {
-    assert_eq!(rt; history.len(), answers.len());
+fn want_history(rt: &impl Abort, history: &[Entry], answers: &[Answered]) {
+    assert!(rt; history.len() == answers.len());
     for (place, (entry, answered)) in history.iter().zip(answers.iter()).enumerate() {
-        assert_eq!(rt; answered.place, place as u64);
-        assert_eq!(rt; entry.session, answered.session);
-        assert!(rt; entry.call == answered.call);
-        assert_eq!(rt; entry.reply, answered.reply);
+        let is_so = answered.place == place as u64
+            && entry.session == answered.session
+            && entry.call == answered.call
+            && entry.reply == answered.reply;
+        assert!(rt; is_so, "{place}");
     }
 }
 
-/// Expects this number of polls, all of them refused.
-pub(crate) fn want_refused_polls(rt: &impl Abort, history: &[Answered], polls: u64) {
-    assert_eq!(rt; history.len() as u64, polls);
-    for answered in history {
-        assert!(rt; answered.call == Call::Poll);
-        assert_eq!(rt; answered.reply, Reply::Refused(Why::NoTransaction));
+/// Expects the history to have exactly these answers, which are this number of polls, all of them refused.
+pub(crate) fn want_refused_polls(
+    rt: &impl Abort,
+    history: &[Entry],
+    answers: &[Answered],
+    polls: u64,
+) {
+    want_history(rt, history, answers);
+    assert!(rt; answers.len() as u64 == polls);
+    let refused = Reply::Refused(Why::NoTransaction);
+    for answered in answers {
+        assert!(rt; answered.call == Call::Poll && answered.reply == refused);
     }
 }
 
@@ -210,15 +217,26 @@ fn eight_and_sixty_four_threads_poll(rt: HostRuntime) -> Result<(), Fail> {
 pub(crate) fn want_replies_of(
     rt: &impl Abort,
     book: &mut Book,
-    history: &[Answered],
+    answers: &[Answered],
 ) -> Result<(), NoMemory> {
-    assert_eq!(rt; history.len(), 8000);
-    for answered in history {
+    assert!(rt; answers.len() == 8000);
+    for answered in answers {
         assert!(rt; answered.session >= 1 && answered.session <= book.sessions());
         let reply = book.serve(answered.session, answered.call)?;
-        assert_eq!(rt; reply, answered.reply);
+        assert!(rt; reply == answered.reply);
     }
     Ok(())
+}
+
+/// Expects the history to have exactly these answers, which are the replies of the book.
+pub(crate) fn want_replies(
+    rt: &impl Abort,
+    book: &mut Book,
+    history: &[Entry],
+    answers: &[Answered],
+) -> Result<(), NoMemory> {
+    want_history(rt, history, answers);
+    want_replies_of(rt, book, answers)
 }
 
 /// The answers of eight threads, in the order of their places, are those of one book that serves the calls in this order. So are

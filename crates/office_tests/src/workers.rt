@@ -6,11 +6,9 @@ ghost use Rattle.combining.specs.Sessions.{IsSessionOf, IsIdle};
 use crate::offices::closed;
 use crate::pieces::{take_all, want_pieces};
 use crate::telling::{SeenPass, want_passes, work_telling};
-use crate::threads::{
-    Answered, Load, want_history, want_refused_polls, want_replies_of, work_calling,
-};
+use crate::threads::{Answered, Load, want_refused_polls, want_replies, work_calling};
 use combining::{Office, Session};
-use lock_desk::{Book, NoMemory};
+use lock_desk::Book;
 use std::alloc::{AllocError, Global};
 use std::process::Abort;
 use std::test::Fail;
@@ -140,33 +138,46 @@ fn no_notes(alloc: Global) -> Notes {
     }
 }
 
-/// Puts the notes in order, and expects of them and of the book what has to come of this work. A fresh book gives the replies.
+/// Puts the notes in order.
+fn sort(notes: &mut Notes) {
+    notes
+        .answers
+        .sort_unstable_by_key(|answered| answered.place);
+    notes.passes.sort_unstable_by_key(|pass| pass.upto);
+}
+
+/// Expects of the notes and of the book what has to come of this work. A fresh book gives the replies.
 fn judge(
+    rt: &impl Abort,
+    task: Task,
+    notes: &mut Notes,
+    book: &Book,
+    fresh: &mut Book,
+) -> Result<(), Fail> {
+    let history = book.history();
+    match task.load {
+        Load::Taking => Ok(want_pieces(rt, &mut notes.answers, book, fresh)?),
+        Load::Telling => Ok(want_passes(rt, fresh, history, notes)?),
+        Load::Polls => {
+            let polls = task.calls.wrapping_mul(u64::from(task.threads));
+            want_refused_polls(rt, history, &notes.answers, polls);
+            Ok(())
+        }
+        _ => Ok(want_replies(rt, fresh, history, &notes.answers)?),
+    }
+}
+
+/// Puts the notes in order, and judges them by a fresh book.
+fn judge_by_a_fresh_book(
     rt: &impl Abort,
     alloc: Global,
     task: Task,
     notes: &mut Notes,
     book: &Book,
-) -> Result<(), NoMemory> {
-    notes
-        .answers
-        .sort_unstable_by_key(|answered| answered.place);
-    notes.passes.sort_unstable_by_key(|pass| pass.upto);
+) -> Result<(), Fail> {
+    sort(notes);
     let mut fresh = Book::new(alloc, 10)?;
-    match task.load {
-        Load::Taking => want_pieces(rt, &mut notes.answers, book, &mut fresh),
-        Load::Telling => want_passes(rt, &mut fresh, book.history(), notes),
-        Load::Polls => {
-            want_history(rt, book.history(), &notes.answers);
-            let polls = task.calls.wrapping_mul(u64::from(task.threads));
-            want_refused_polls(rt, &notes.answers, polls);
-            Ok(())
-        }
-        _ => {
-            want_history(rt, book.history(), &notes.answers);
-            want_replies_of(rt, &mut fresh, &notes.answers)
-        }
-    }
+    judge(rt, task, notes, book, &mut fresh)
 }
 
 /// Works in a thread for each session of a fresh office, closes it, and expects what has to come of this work.
@@ -177,5 +188,5 @@ pub(crate) fn work_and_judge<R: Threads + Abort + Sync>(
 ) -> Result<(), Fail> {
     let mut notes = no_notes(alloc);
     let book = book_of_threads(rt, alloc, task, &mut notes)?;
-    Ok(judge(rt, alloc, task, &mut notes, &book)?)
+    judge_by_a_fresh_book(rt, alloc, task, &mut notes, &book)
 }
