@@ -3,10 +3,19 @@
 ghost use Rattle.std.specs.Prelude.{◌≡◌, ◌<◌, ◌≤◌, length};
 
 use mode_lanes::{and_into, any_common, any_meets, first_meets, mark_meets, or_into, union};
-use std::process::Abort;
 
 /// The greatest length that is tried.
 const LONGEST: usize = 1025;
+
+/// The union of a column, whether a byte of it meets the mask, and the first that does. Marks those that do.
+fn told(column: &[u8], mask: u8, marks: &mut [u8]) -> (u8, bool, Option<usize>)
+    requires { length marks.old ≡ length column.now }
+    ensures { length marks.new ≡ length marks.old }
+{
+    mark_meets(column, mask, marks);
+    let is_met = any_meets(column, mask);
+    (union(column), is_met, first_meets(column, mask))
+}
 
 /// A byte past the last whole chunk is counted in the union, found, and marked; another mask meets no byte. Empty columns have
 /// no bits.
@@ -14,21 +23,15 @@ const LONGEST: usize = 1025;
 fn columns_by_hand(rt: HostRuntime) {
     let mut column = [1; 33];
     column[32] = 3;
-    let mut marks = [7; 33];
-    mark_meets(&column, 2, &mut marks);
     let mut wanted = [0; 33];
     wanted[32] = 1;
-    assert!(rt; marks == wanted);
-    assert_eq!(rt; union(&column), 3);
-    assert!(rt; any_meets(&column, 2) && !any_meets(&column, 4));
-    assert_eq!(rt; first_meets(&column, 2), Some(32));
-    assert_eq!(rt; first_meets(&column, 4), None);
-    mark_meets(&column, 4, &mut marks);
-    assert!(rt; marks == [0; 33]);
-    assert_eq!(rt; union(&[]), 0);
-    assert!(rt; !any_meets(&[], 2));
-    assert_eq!(rt; first_meets(&[], 2), None);
-    mark_meets(&[], 2, &mut []);
+    let mut marks = [7; 33];
+    let mut right = told(&column, 2, &mut marks) == (3, true, Some(32));
+    right &= marks == wanted;
+    right &= told(&column, 4, &mut marks) == (3, false, None);
+    right &= marks == [0; 33];
+    right &= told(&[], 2, &mut []) == (0, false, None);
+    assert!(rt; right);
 }
 
 /// Or, and, and the test for a common bit on rows of five words. Empty rows have no bits.
@@ -36,91 +39,77 @@ fn columns_by_hand(rt: HostRuntime) {
 fn rows_by_hand(rt: HostRuntime) {
     let mut row = [1, 0, 0, 0, 4];
     let other = [3, 0, 0, 0, 8];
-    assert!(rt; any_common(&row, &other));
-    assert!(rt; !any_common(&[0, 1, 2, 4, 8], &[0, 2, 4, 8, 16]));
-    assert!(rt; or_into(&mut row, &other));
-    assert!(rt; row == [3, 0, 0, 0, 12]);
-    assert!(rt; !or_into(&mut row, &other));
+    let mut right = any_common(&row, &other);
+    right &= !any_common(&[0, 1, 2, 4, 8], &[0, 2, 4, 8, 16]);
+    right &= or_into(&mut row, &other);
+    right &= row == [3, 0, 0, 0, 12];
+    right &= !or_into(&mut row, &other);
     and_into(&mut row, &other);
-    assert!(rt; row == other);
-    assert!(rt; !or_into(&mut [], &[]));
-    assert!(rt; !any_common(&[], &[]));
+    right &= row == other;
+    right &= !or_into(&mut [], &[]);
+    right &= !any_common(&[], &[]);
     and_into(&mut [], &[]);
+    assert!(rt; right);
 }
 
-/// Compares the calls for a column and a mask with a plain loop. `at` is for the message only.
-fn check_column(rt: &impl Abort, column: &[u8], mask: u8, at: usize)
+/// Whether the calls for a column and a mask agree with a plain loop.
+fn is_column_as_by_loop(column: &[u8], mask: u8) -> bool
     requires { length column.now ≤ LONGEST }
 {
-    let length = column.len();
     let mut marks = [7; LONGEST];
-    let marks = &mut marks[..length];
-    mark_meets(column, mask, marks);
+    let marks = &mut marks[..column.len()];
+    let answers = told(column, mask, marks);
     let mut all = 0;
     let mut first = None;
-    let mut are_marks = true;
-    for (index, (&byte, &mark)) in column.iter().zip(marks.iter()).enumerate() {
-        let meets = byte & mask != 0;
-        all |= byte;
-        are_marks &= mark == meets as u8;
+    let mut right = true;
+    for k in 0..column.len() {
+        let meets = column[k] & mask != 0;
+        all |= column[k];
+        right &= marks[k] == meets as u8;
         if meets && first.is_none() {
-            first = Some(index);
+            first = Some(k);
         }
     }
-    assert!(rt; are_marks, "{length} {at} {mask}");
-    assert_eq!(rt; union(column), all, "{length} {at} {mask}");
-    assert_eq!(rt;
-        any_meets(column, mask),
-        first.is_some(),
-        "{length} {at} {mask}"
-    );
-    assert_eq!(rt; first_meets(column, mask), first, "{length} {at} {mask}");
+    right & (answers == (all, first.is_some(), first))
 }
 
-/// Checks `or_into`, `and_into` and `any_common`: a row of twos becomes `other`, which has a 3 in one word and twos elsewhere, and
-/// then the and of `other` and ones. `at` is for the message only.
-fn check_row(rt: &impl Abort, row: &mut [u64], other: &[u64], ones: &[u64], at: usize)
+/// Whether `or_into`, `and_into` and `any_common` are right: a row of twos becomes `other`, which has a 3 in one word and twos
+/// elsewhere, and then the and of `other` and ones.
+fn is_row_as_by_loop(row: &mut [u64], other: &[u64], ones: &[u64]) -> bool
     requires other { length row.old ≡ length other.now }
     requires ones { length row.old ≡ length ones.now }
 {
-    let length = other.len();
-    assert!(rt; !any_common(row, ones), "{length}");
-    assert!(rt; any_common(other, ones), "{length} {at}");
-    assert!(rt; or_into(row, other), "{length} {at}");
-    assert!(rt; &*row == other, "{length} {at}");
-    assert!(rt; !or_into(row, other), "{length} {at}");
+    let mut right = !any_common(row, ones);
+    right &= any_common(other, ones);
+    right &= or_into(row, other);
+    right &= &*row == other;
+    right &= !or_into(row, other);
     and_into(row, ones);
-    let mut are_lowest_bits = true;
-    for (&word, &before) in row.iter().zip(other.iter()) {
-        are_lowest_bits &= word == before & 1;
+    for k in 0..other.len() {
+        right &= row[k] == other[k] & 1;
     }
-    assert!(rt; are_lowest_bits, "{length} {at}");
+    right
 }
 
-/// Checks columns of ones and rows of twos of this length, with another item at index `at`: 6 and 13, the code of U, in a
-/// column, and 3 in a row.
-fn check_item(rt: &impl Abort, length: usize, at: usize)
+/// Whether columns of ones and rows of twos of this length are right, with another item at index `at`: 6 and 13, the code of U,
+/// in a column, and 3 in a row.
+fn is_item_as_by_loop(length: usize, at: usize) -> bool
     requires at { at < length }
     requires length { length ≤ LONGEST }
 {
+    let mut right = true;
     let mut column = [1; LONGEST];
     for byte in [6, 13] {
         column[at] = byte;
         for mask in [1, 2, 8, 10] {
-            check_column(rt, &column[..length], mask, at);
+            right &= is_column_as_by_loop(&column[..length], mask);
         }
     }
     let mut other = [2; LONGEST];
     other[at] = 3;
     let mut row = [2; LONGEST];
     let ones = [1; LONGEST];
-    check_row(
-        rt,
-        &mut row[..length],
-        &other[..length],
-        &ones[..length],
-        at,
-    );
+    right & is_row_as_by_loop(&mut row[..length], &other[..length], &ones[..length])
 }
 
 /// All short lengths, with and without whole chunks, and lengths around 1,024, the greatest number of sessions.
@@ -129,7 +118,7 @@ fn lengths_to_1025_match_plain_loops(rt: HostRuntime) {
     for length in 0..LONGEST + 1 {
         if length < 71 || length > 1022 {
             for at in 0..length {
-                check_item(&rt, length, at);
+                assert!(rt; is_item_as_by_loop(length, at), "{length} {at}");
             }
         }
     }

@@ -34,14 +34,8 @@ fn lock(resource: Resource) -> Claim {
     }
 }
 
-/// A lock table as a text, as rows and as a graph.
-#[test]
-fn a_lock_table_in_three_forms(rt: HostRuntime) -> Result<(), Fail> {
-    let claims = [lock(Resource::from_numbers(&[1]).ok_or("no resource")?)];
-    let text = state_text(rt.alloc(), 2, &[OPEN], &claims, &[WAIT])?;
-    assert_eq!(rt;
-        text.as_str(),
-        "state in front of place 2
+/// The lock table as a text.
+const TEXT: &str = "state in front of place 2
 
 transactions
 session 12, transaction 1
@@ -53,18 +47,32 @@ resources
 
 waits
 session 12 waits for session 1
-"
-    );
-    let rows = state_rows(rt.alloc(), &[OPEN], &claims, &[WAIT])?;
-    assert_eq!(rt;
-        rows.as_str(),
-        "transaction,12,1,,,,\nheld,12,1,,1,IS,\nwaits,12,,,,,1\n"
-    );
-    let dot = waits_dot(rt.alloc(), &[OPEN], &[WAIT])?;
-    assert_eq!(rt;
-        dot.as_str(),
-        "digraph waits {\n  12 [label=\"session 12\\ntransaction 1\"];\n  12 -> 1;\n}\n"
-    );
+";
+
+/// The lock table as rows.
+const ROWS: &str = "transaction,12,1,,,,\nheld,12,1,,1,IS,\nwaits,12,,,,,1\n";
+
+/// The waits as a graph.
+const GRAPH: &str =
+    "digraph waits {\n  12 [label=\"session 12\\ntransaction 1\"];\n  12 -> 1;\n}\n";
+
+/// Whether what was written is this text.
+fn is_written(written: Result<String, NoMemory>, wanted: &str) -> bool {
+    match written {
+        Ok(text) => text.as_str() == wanted,
+        Err(_) => false,
+    }
+}
+
+/// A lock table as a text, as rows and as a graph.
+#[test]
+fn a_lock_table_in_three_forms(rt: HostRuntime) -> Result<(), Fail> {
+    let claims = [lock(Resource::parse("1")?)];
+    let text = state_text(rt.alloc(), 2, &[OPEN], &claims, &[WAIT]);
+    let mut right = is_written(text, TEXT);
+    right &= is_written(state_rows(rt.alloc(), &[OPEN], &claims, &[WAIT]), ROWS);
+    right &= is_written(waits_dot(rt.alloc(), &[OPEN], &[WAIT]), GRAPH);
+    assert!(rt; right);
     Ok(())
 }
 
@@ -80,7 +88,7 @@ fn written_text(alloc: Global, claims: &[Claim]) -> Result<(String, bool), NoMem
 /// place. Prints a line if one was refused, for the check that refuses each allocation in turn. Nothing else allocates here.
 #[test]
 fn refused_texts_are_written_at_the_second_try(rt: HostRuntime) -> Result<(), Fail> {
-    let mut claims = [lock(Resource::from_numbers(&[1]).ok_or("no resource")?); 40];
+    let mut claims = [lock(Resource::parse("1")?); 40];
     claims[39].session = 1;
     let (text, was_refused) = written_text(rt.alloc(), &claims)?;
     assert!(rt; text.as_str().starts_with("state in front of place 21\n"));

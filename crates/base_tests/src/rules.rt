@@ -5,103 +5,94 @@ use lock_rules::{
     Call, Entry, MAX_LOCKS, MAX_SESSIONS, OPS, Op, REFUSALS, REPLY_KINDS, Reply, ReplyKind, Why,
     laws, update_laws,
 };
-use std::process::Abort;
 
-/// Expects this number of an operation, and the operation for this number.
-fn want_op(rt: &impl Abort, op: Op, number: u32) {
-    assert_eq!(rt; op.number(), number, "{op:?}");
-    assert_eq!(rt; Op::from_number(number), Some(op), "{number}");
-}
+/// The operation of each number from 0 to 10.
+const OP_OF_NUMBER: [Option<Op>; 11] = [
+    None,
+    Some(Op::Begin),
+    Some(Op::Lock),
+    Some(Op::Convert),
+    Some(Op::Poll),
+    Some(Op::Release),
+    Some(Op::Commit),
+    Some(Op::Abort),
+    Some(Op::Try),
+    Some(Op::Withdraw),
+    None,
+];
 
 /// The numbers of the operations, which the library for C passes on; no other number is of an operation.
 #[test]
 fn operations_have_their_numbers(rt: HostRuntime) {
-    let rows = [
-        (Op::Begin, 1),
-        (Op::Lock, 2),
-        (Op::Convert, 3),
-        (Op::Poll, 4),
-        (Op::Release, 5),
-        (Op::Commit, 6),
-        (Op::Abort, 7),
-        (Op::Try, 8),
-        (Op::Withdraw, 9),
-    ];
-    assert_eq!(rt; OPS.len(), rows.len());
-    for (listed, (op, number)) in OPS.into_iter().zip(rows) {
-        assert_eq!(rt; listed, op);
-        want_op(&rt, op, number);
+    for number in 0..11u32 {
+        assert!(rt;
+            Op::from_number(number) == OP_OF_NUMBER[number as usize],
+            "{number}"
+        );
     }
-    assert_eq!(rt; Op::from_number(0), None);
-    assert_eq!(rt; Op::from_number(10), None);
-    assert_eq!(rt; Call::Abort.op(), Op::Abort);
-    assert_eq!(rt; Call::Withdraw.op(), Op::Withdraw);
-}
-
-/// Expects this number of a kind of replies.
-fn want_kind(rt: &impl Abort, kind: ReplyKind, number: u32) {
-    assert_eq!(rt; kind.number(), number, "{kind:?}");
+    for k in 0..9 {
+        assert!(rt; OPS[k].number() == k as u32 + 1, "{k}");
+        assert!(rt; OP_OF_NUMBER[k + 1] == Some(OPS[k]), "{k}");
+    }
+    let has_abort = Call::Abort.op() == Op::Abort;
+    assert!(rt; has_abort && Call::Withdraw.op() == Op::Withdraw && OPS.len() == 9);
 }
 
 /// The numbers of the kinds of replies, which the library for C passes on.
 #[test]
 fn kinds_of_replies_have_their_numbers(rt: HostRuntime) {
-    assert_eq!(rt; REPLY_KINDS.len(), 10);
-    for (kind, number) in REPLY_KINDS.into_iter().zip(1..11) {
-        want_kind(&rt, kind, number);
+    assert!(rt; REPLY_KINDS.len() == 10);
+    for k in 0..10 {
+        assert!(rt; REPLY_KINDS[k].number() == k as u32 + 1, "{k}");
     }
-    assert_eq!(rt; Reply::Refused(Why::ChildHeld).kind(), ReplyKind::Refused);
-    assert_eq!(rt; Reply::Withdrawn.kind(), ReplyKind::Withdrawn);
-    want_kind(&rt, ReplyKind::Withdrawn, 10);
+    let refused = Reply::Refused(Why::ChildHeld).kind() == ReplyKind::Refused;
+    let withdrawn = Reply::Withdrawn.kind() == ReplyKind::Withdrawn;
+    let number = ReplyKind::Withdrawn.number();
+    assert!(rt; refused && withdrawn && number == 10);
 }
 
-/// Expects this name and this number of a refusal, and the refusal for this name.
-fn want_refusal(rt: &impl Abort, why: Why, name: &str, number: u32) {
-    assert_eq!(rt; why.name(), name);
-    assert_eq!(rt; why.number(), number, "{name}");
-    assert_eq!(rt; Why::parse(name), Some(why), "{name}");
+/// The name and the number of each refusal, in the order of `REFUSALS`.
+const NAMES: [(&str, u32); 11] = [
+    ("AlreadyOpen", 1),
+    ("NoTransaction", 2),
+    ("IsWaiting", 3),
+    ("IsDoomed", 4),
+    ("NothingAsked", 5),
+    ("NotHeld", 6),
+    ("ParentNotHeld", 7),
+    ("ChildHeld", 8),
+    ("TooManyLocks", 9),
+    ("WouldWait", 11),
+    ("NotWaiting", 12),
+];
+
+/// Whether a refusal has this name and this number, and is read from the name.
+fn has_name(why: Why, (name, number): (&str, u32)) -> bool {
+    let mut right = why.name() == name;
+    right &= why.number() == number;
+    right & (Why::parse(name) == Some(why))
 }
 
 /// The name and the number of each refusal, which the interfaces pass on.
 #[test]
 fn refusals_have_their_names_and_numbers(rt: HostRuntime) {
-    let rows = [
-        ("AlreadyOpen", 1),
-        ("NoTransaction", 2),
-        ("IsWaiting", 3),
-        ("IsDoomed", 4),
-        ("NothingAsked", 5),
-        ("NotHeld", 6),
-        ("ParentNotHeld", 7),
-        ("ChildHeld", 8),
-        ("TooManyLocks", 9),
-        ("WouldWait", 11),
-        ("NotWaiting", 12),
-    ];
-    assert_eq!(rt; rows.len(), REFUSALS.len());
-    for (why, (name, number)) in REFUSALS.into_iter().zip(rows) {
-        want_refusal(&rt, why, name, number);
+    assert!(rt; NAMES.len() == REFUSALS.len());
+    for k in 0..11 {
+        assert!(rt; has_name(REFUSALS[k], NAMES[k]), "row {k}");
     }
 }
 
-/// 1,024 sessions, and 4,096 locks of a transaction.
+/// 1,024 sessions, and 4,096 locks of a transaction. Entries are copied and compared by value.
 #[test]
-fn limits_are_as_documented(rt: HostRuntime) {
-    assert_eq!(rt; MAX_SESSIONS, 1024);
-    assert_eq!(rt; MAX_LOCKS, 4096);
-}
-
-/// Entries are copied and compared by value.
-#[test]
-fn entries_are_plain_values(rt: HostRuntime) {
+fn limits_are_as_documented_and_entries_plain_values(rt: HostRuntime) {
     let entry = Entry {
         session: 1,
         call: Call::Begin,
         reply: Reply::Began(1),
     };
     let copy = entry;
-    assert_eq!(rt; entry, copy);
-    assert!(rt; entry.reply != Reply::Granted(Mode::S));
+    let is_plain = entry == copy && entry.reply != Reply::Granted(Mode::S);
+    assert!(rt; is_plain && MAX_SESSIONS == 1024 && MAX_LOCKS == 4096);
 }
 
 /// Every law can be called; the calls do nothing at run time.

@@ -1,6 +1,8 @@
 //! The calls of `lock_trace`, with success, where a reader fails, and where memory is refused. Texts and their faults are in
 //! `checks/program-tables`.
 
+ghost use Rattle.std.specs.Prelude.{◌+◌, ◌≤◌, ◌^◌, length};
+
 use lock_modes::Mode;
 use lock_rules::{Call, Entry, Reply, Why};
 use lock_trace::{
@@ -31,9 +33,9 @@ fn faults_have_their_texts_and_numbers(rt: HostRuntime) -> Result<(), Fail> {
         (TraceKind::Reply, 10, "row 3: Reply"),
         (TraceKind::Value, 11, "row 3: Value"),
     ] {
-        assert_eq!(rt; kind.number(), number, "of {want}");
         let text = TraceFault { row: 3, kind }.to_string(rt.alloc())?;
-        assert_eq!(rt; text.as_str(), want);
+        let right = text.as_str() == want;
+        assert!(rt; right & (kind.number() == number), "{want}");
     }
     Ok(())
 }
@@ -68,7 +70,7 @@ impl io::Read for ByteReader<'_> {
 /// A reader that gives one byte at a time gives the same rows.
 #[test]
 fn reads_byte_by_byte(rt: HostRuntime) -> Result<(), Fail> {
-    let database = Resource::from_numbers(&[7]).ok_or("no resource")?;
+    let database = Resource::parse("7")?;
     let left = b"1,begin,,\r\n\"1\",lock,7,S\n\n1,commit,,";
     let fails_at_end = false;
     let rows = read_trace(rt.alloc(), ByteReader { left, fails_at_end }, 1)?;
@@ -87,45 +89,56 @@ fn reads_byte_by_byte(rt: HostRuntime) -> Result<(), Fail> {
             call: Call::Commit,
         },
     ];
-    assert_eq!(rt; rows.as_slice(), want.as_slice());
+    assert!(rt; rows.as_slice() == want.as_slice());
     Ok(())
 }
 
-/// The fault of a reader of a trace that fails after these bytes, and of one of a history.
-fn faults_behind(alloc: Global, trace: &[u8], history: &[u8]) -> [Option<TraceFault>; 2] {
+/// What a reader reads.
+#[derive(Clone, Copy)]
+enum Form {
+    /// The rows of a trace.
+    Trace,
+    /// The entries of a history.
+    History,
+}
+
+/// Whether a reader that fails after these bytes gives this fault.
+fn fails_with(alloc: Global, form: Form, left: &[u8], row: u64, kind: TraceKind) -> bool {
     let fails_at_end = true;
-    let left = trace;
-    let first = read_trace(alloc, ByteReader { left, fails_at_end }, 1).err();
-    let left = history;
-    let second = read_history(alloc, ByteReader { left, fails_at_end }, 1).err();
-    [first, second]
+    let input = ByteReader { left, fails_at_end };
+    let fault = match form {
+        Form::Trace => read_trace(alloc, input, 1).err(),
+        Form::History => read_history(alloc, input, 1).err(),
+    };
+    fault == Some(TraceFault { row, kind })
+}
+
+/// Whether a reader that fails after any number of bytes of the text gives the fault `Device` of its row. The rows end at `ends`; an
+/// end past the text is of no row.
+fn fails_everywhere(alloc: Global, form: Form, text: &[u8], ends: [usize; 3]) -> bool {
+    let mut right = true;
+    for length in 0..=text.len() {
+        let [first, second, third] = ends;
+        let row = 1
+            + (length >= first) as u64
+            + (length >= second) as u64
+            + (length >= third) as u64;
+        right &= fails_with(alloc, form, &text[..length], row, TraceKind::Device);
+    }
+    right
 }
 
 /// A reader that fails after any number of bytes is the fault `Device` in its row; an earlier faulty row comes first.
 #[test]
 fn reports_a_failed_reader_with_its_row(rt: HostRuntime) {
     let trace = b"1,begin,,\n1,lock,7,S\n1,commit,,\n";
+    assert!(rt; fails_everywhere(rt.alloc(), Form::Trace, trace, [10, 21, 32]));
     let history = b"0,1,begin,,,began,1\n1,1,poll,,,clear,\n";
-    let kind = TraceKind::Device;
-    for length in 0..=32 {
-        // the rows end after 10, 21 and 32 bytes
-        let row = 1 + (length >= 10) as u64 + (length >= 21) as u64 + (length >= 32) as u64;
-        let [fault, _] = faults_behind(rt.alloc(), &trace[..length], b"");
-        assert_eq!(rt; fault, Some(TraceFault { row, kind }), "at {length}");
-    }
-    for length in 0..=38 {
-        // the entries end after 20 and 38 bytes
-        let row = 1 + (length >= 20) as u64 + (length >= 38) as u64;
-        let [_, fault] = faults_behind(rt.alloc(), b"", &history[..length]);
-        assert_eq!(rt; fault, Some(TraceFault { row, kind }), "at {length}");
-    }
+    assert!(rt; fails_everywhere(rt.alloc(), Form::History, history, [20, 38, 39]));
     let trace = b"1,begin,,\n1,poll\n1,";
+    assert!(rt; fails_with(rt.alloc(), Form::Trace, trace, 2, TraceKind::Shape));
     let history = b"0,1,begin,,,began,1\n0,1,poll,,,clear,\n";
-    let [shape, place] = faults_behind(rt.alloc(), trace, history);
-    let kind = TraceKind::Shape;
-    assert_eq!(rt; shape, Some(TraceFault { row: 2, kind }));
-    let kind = TraceKind::Place;
-    assert_eq!(rt; place, Some(TraceFault { row: 2, kind }));
+    assert!(rt; fails_with(rt.alloc(), Form::History, history, 2, TraceKind::Place));
 }
 
 /// Reads the text byte by byte. Returns the number of rows or the fault, and the number of bytes that were read.
@@ -161,7 +174,7 @@ fn reports_the_row_in_which_memory_was_refused(rt: HostRuntime) -> Result<(), Fa
         if result == Err(TraceFault { row, kind }) {
             println!(&rt; "refused in row {row}")?;
         } else {
-            assert_eq!(rt; result, want, "at {text:?}");
+            assert!(rt; result == want, "{text:?}");
         }
     }
     Ok(())
@@ -249,6 +262,16 @@ fn history(
     ]
 }
 
+/// Whether these entries are written as this text, and read from it.
+fn writes_and_reads(alloc: Global, entries: &[Entry], text: &[u8]) -> Result<bool, TraceFault> {
+    let read = read_history(alloc, text, 1024)?;
+    let is_read = read.as_slice() == entries;
+    match history_text(alloc, entries) {
+        Ok(written) => Ok(is_read & (written.as_slice() == text)),
+        Err(_) => Ok(false),
+    }
+}
+
 /// Every op and every reply is written and read; so is the empty history.
 #[test]
 fn writes_and_reads_histories(rt: HostRuntime) -> Result<(), Fail> {
@@ -259,29 +282,31 @@ fn writes_and_reads_histories(rt: HostRuntime) -> Result<(), Fail> {
         Resource::parse("4294967295")?,
         Resource::parse("7/2/40/1")?,
     );
-    let text = history_text(rt.alloc(), &entries)?;
-    assert_eq!(rt; text.as_slice(), HISTORY_TEXT);
-    let read = read_history(rt.alloc(), text.as_slice(), 1024)?;
-    assert_eq!(rt; read.as_slice(), entries.as_slice());
-    assert!(rt; history_text(rt.alloc(), &[])?.is_empty());
-    assert!(rt; read_history(rt.alloc(), b"".as_slice(), 1)?.is_empty());
+    let right = writes_and_reads(rt.alloc(), &entries, HISTORY_TEXT)?;
+    assert!(rt; right & writes_and_reads(rt.alloc(), &[], b"")?);
     Ok(())
+}
+
+/// Whether a piece of these entries from this place on is this text.
+fn writes_piece(alloc: Global, first: u64, entries: &[Entry], text: &[u8]) -> bool
+    requires { first + length entries.now ≤ 2 ^ 64 }
+{
+    match piece_text(alloc, first, entries) {
+        Ok(written) => written.as_slice() == text,
+        Err(_) => false,
+    }
 }
 
 /// The entries of a piece stand at the places from its first one on, up to the greatest place.
 #[test]
-fn writes_pieces(rt: HostRuntime) -> Result<(), Fail> {
+fn writes_pieces(rt: HostRuntime) {
     let entries = [
         entry(1, Call::Poll, Reply::Clear),
         entry(2, Call::Abort, Reply::Aborted(0)),
     ];
-    let piece = piece_text(rt.alloc(), 99, &entries)?;
-    let want = b"99,1,poll,,,clear,\n100,2,abort,,,aborted,0\n".as_slice();
-    assert_eq!(rt; piece.as_slice(), want);
-    let last = piece_text(rt.alloc(), u64::MAX - 1, &entries)?;
-    let want =
-        b"18446744073709551614,1,poll,,,clear,\n18446744073709551615,2,abort,,,aborted,0\n".as_slice();
-    assert_eq!(rt; last.as_slice(), want);
-    assert!(rt; piece_text(rt.alloc(), 7, &[])?.is_empty());
-    Ok(())
+    let text = b"99,1,poll,,,clear,\n100,2,abort,,,aborted,0\n";
+    let mut right = writes_piece(rt.alloc(), 99, &entries, text);
+    let text = b"18446744073709551614,1,poll,,,clear,\n18446744073709551615,2,abort,,,aborted,0\n";
+    right &= writes_piece(rt.alloc(), u64::MAX - 1, &entries, text);
+    assert!(rt; right & writes_piece(rt.alloc(), 7, &[], b""));
 }
