@@ -1,0 +1,3 @@
+pub mod Members
+pub mod SessionCalls
+pub mod Batches

@@ -1,0 +1,5 @@
+pub mod Histories
+pub mod Meaning
+pub mod Batches
+pub mod Replies
+pub mod EndedWaits
