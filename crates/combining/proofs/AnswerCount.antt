@@ -4,9 +4,8 @@ use Rattle.std.specs.Prelude.{All, Any, sum_by}
 use Rattle.std.proofs.lemmas.List.Sums.{sum_by-cons}
 use mathlib.Core.Logic.{dite}
 use native.Mathlib.Decide.{ℕ_discrete}
-use Rattle.lock_rules.specs.declared.calls.Entry.{Entry}
-use Rattle.lock_rules.specs.Legal.{Answered, calls_from, calls_of}
-use Rattle.lock_desk.specs.BookView.{IsEntryWithin}
+use Rattle.lock_rules.specs.Entries.{Entry, Answered}
+use Rattle.sequential.specs.Histories.{calls_from, calls_of, IsEntryWithin}
 use Rattle.publication.specs.Views.{TicketView}
 use Rattle.publication.specs.Boards.{IsEachOnce, AccountsFor}
 use Rattle.combining.specs.Closed.{answers_of}

@@ -4,9 +4,9 @@ use mathlib.Core.Logic.{dite}
 use native.Mathlib.Decide.{ℕ_discrete}
 use Rattle.lock_rules.specs.declared.calls.Call.{Call}
 use Rattle.lock_rules.specs.declared.calls.Reply.{Reply}
-use Rattle.lock_rules.specs.declared.calls.Entry.{Entry}
-use Rattle.lock_rules.specs.Legal.{Answered, calls_of}
-use Rattle.lock_rules.proofs.SessionCalls.{last_call, calls_of-push}
+use Rattle.lock_rules.specs.Entries.{Entry, Answered}
+use Rattle.sequential.specs.Histories.{calls_of}
+use Rattle.sequential.proofs.SessionCalls.{last_call, calls_of-push}
 use Rattle.publication.specs.Views.{TicketView, entry}
 use Rattle.publication.specs.Boards.{opened_at, asked_at, heard_from, published_by}
 use Rattle.combining.specs.inner.Passes.{HasCalls, KeepsCalls, IsVisited, IsSameSession}

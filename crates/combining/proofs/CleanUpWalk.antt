@@ -1,8 +1,8 @@
 -- The walk of a clean-up comes nearer to the end of the list with each record.
 use Rattle.std.proofs.Common.{◌≡◌, ◌⊎◌, inl, inr, ⊎_elim, ℕ, zero, suc, ◌+◌, ◌<◌, ◌==◌, Bool, true, false, cond, Some, None, List, [], ◌∷◌, ◌++◌, length, take, drop, set, refl, sym, ap, ◌∙◌, subst, arith, eq-eqb, ne_eqb}
 use Rattle.std.specs.Prelude.{All}
-use Rattle.lock_desk.specs.declared.book.Item.{Item}
-use Rattle.lock_desk.specs.Batches.{IsItemWithin}
+use Rattle.lock_desk.specs.Batches.{Item}
+use Rattle.sequential.specs.Batches.{IsItemWithin}
 use Rattle.publication.specs.Views.{BoardView}
 use Rattle.publication.specs.Boards.{IsNumber}
 use Rattle.publication.specs.List.{IsOn, AreApart, first_of, behind, without}

@@ -15,7 +15,7 @@ use mathlib.Core.Logic.{dite}
 use native.Mathlib.Decide.{ℕ_discrete}
 use Rattle.lock_rules.proofs.Alters.{true≢false}
 use Rattle.lock_rules.proofs.Ended.{member-range}
-use Rattle.lock_rules.proofs.Members.{member-contains}
+use Rattle.sequential.proofs.Members.{member-contains}
 use Rattle.combining.specs.Ended.{IsOnce}
 
 -- Sessions from 1 to n, each once, are at most n.

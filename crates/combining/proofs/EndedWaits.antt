@@ -3,7 +3,7 @@ use Rattle.std.proofs.Common.{◌≡◌, ℕ, ◌+◌, ◌<◌, ◌≤◌, ◌�
 use Rattle.std.specs.List.{range_with_len}
 use Rattle.std.proofs.Math.Seq.{drop-append_seam}
 use Rattle.std.proofs.Math.Bool.{or_assoc, or-false}
-use Rattle.lock_rules.specs.declared.calls.Entry.{Entry}
+use Rattle.lock_rules.specs.Entries.{Entry}
 use Rattle.lock_rules.specs.State.{State, empty}
 use Rattle.lock_rules.specs.Step.{step}
 use Rattle.lock_rules.specs.Ended.{has_ended, ended_waits, HasEnded}
@@ -12,10 +12,11 @@ use Rattle.lock_rules.specs.declared.calls.Reply.{Reply}
 use Rattle.lock_rules.specs.Legal.{state_after, state_of}
 use Rattle.lock_rules.proofs.Histories.{state_after-append}
 use Rattle.lock_rules.proofs.Ended.{ended-decides, member-range}
-use Rattle.lock_rules.proofs.Members.{contains-member, member-contains}
-use Rattle.lock_desk.specs.declared.book.Item.{Item}
+use Rattle.sequential.proofs.Members.{contains-member, member-contains}
+use Rattle.lock_desk.specs.Batches.{Item, entries_from, has_ended_in, ended_waits_in}
 use Rattle.lock_desk.specs.BookView.{BookView}
-use Rattle.lock_desk.specs.Batches.{entries_from, item_of, has_ended_in, ended_waits_in}
+use Rattle.sequential.specs.Batches.{item_of}
+use Rattle.lock_desk.proofs.EndedInBatches.{same-ended, or-parts, or-left, or-right, ended-says, members}
 use Rattle.publication.specs.Views.{TicketView, entry}
 use Rattle.publication.specs.declared.slot.Load.{Load}
 use mathlib.Core.List.{IsPrefix}
@@ -23,13 +24,6 @@ use Rattle.combining.specs.Ended.{EndedView, HasEndedIn, AreEndedBy, AreToldBy, 
 use Rattle.combining.specs.inner.EndedList.{HasAddedEnded}
 use Rattle.combining.specs.inner.Passes.{IsBookInHand, HasMadePass, ended_behind}
 use Rattle.combining.proofs.PerformedCalls.{in-hand}
-
--- from the row to the entries
-
--- The entries of calls have ended the same waits as the calls.
-same-ended : (st : State) (is : List Item) (u : ℕ) → has_ended_in st is u ≡ has_ended_in st (map item_of (entries_from st is)) u
-same-ended st [] u = refl
-same-ended st (i ∷ is) u = ap (λ (b : Bool). has_ended i.session st (step st i.session i.call).state u || b) (same-ended (step st i.session i.call).state is u)
 
 -- After a batch whose calls are answered, the book tells whose wait the entries have ended that the known history gained.
 pub row-ended : (n : ℕ) (before after : BookView) (t u : TicketView) (items : List Item) → IsBookInHand n before t [] → IsBookInHand n after u []
@@ -47,70 +41,7 @@ row-ended n before after t u items hb ha is =
     told ∙ (entered ∙ (ap (λ (m : ℕ). ended_waits_in m st (map item_of es)) hb.sessions_are
     ∙ (ap (λ (h : List Entry). ended_waits_in n (state_of h) (map item_of es)) start ∙ ap (λ (l : List Entry). ended_behind n t.front l) (sym gained))))
 
--- what has_ended_in says
-
--- From this state on, one of these entries has ended the wait of session u.
-abbrev EndedFrom : State → List Entry → ℕ → Type 0
-EndedFrom st es u = (earlier later : List Entry) × (e : Entry) × (es ≡ earlier ++ e ∷ later) × (HasEnded e.session (state_after st earlier) (step (state_after st earlier) e.session e.call).state u)
-
-or-parts : (a b : Bool) → (a || b) ≡ true → (a ≡ true) ⊎ (b ≡ true)
-or-parts true b h = inl refl
-or-parts false b h = inr h
-
-or-left : (a b : Bool) → a ≡ true → (a || b) ≡ true
-or-left true b h = refl
-or-left false b h = absurd (cc h)
-
-or-right : (a b : Bool) → b ≡ true → (a || b) ≡ true
-or-right true b h = refl
-or-right false b h = h
-
-ended-from : (st : State) (es : List Entry) (u : ℕ) → has_ended_in st (map item_of es) u ≡ true → EndedFrom st es u
-ended-from st [] u h = absurd (cc h)
-ended-from st (e ∷ es) u h =
-    let next : State = (step st e.session e.call).state in
-    ⊎_elim (λ now. ([], es, e, refl, (ended-decides e.session st next u).0 now))
-    (λ later. let r = ended-from next es u later in (e ∷ r.0, r.1, r.2, ap (λ (l : List Entry). e ∷ l) r.3, r.4))
-    (or-parts (has_ended e.session st next u) (has_ended_in next (map item_of es) u) h)
-
-from-ended : (st : State) (earlier later : List Entry) (e : Entry) (u : ℕ) → HasEnded e.session (state_after st earlier) (step (state_after st earlier) e.session e.call).state u
-    → has_ended_in st (map item_of (earlier ++ e ∷ later)) u ≡ true
-from-ended st [] later e u h =
-    let next : State = (step st e.session e.call).state in
-    or-left (has_ended e.session st next u) (has_ended_in next (map item_of later) u) ((ended-decides e.session st next u).1 h)
-from-ended st (x ∷ xs) later e u h =
-    let next : State = (step st x.session x.call).state in
-    or-right (has_ended x.session st next u) (has_ended_in next (map item_of (xs ++ e ∷ later)) u) (from-ended next xs later e u h)
-
--- One of these entries has ended the wait of session u exactly if has_ended_in says so.
-pub ended-says : (front es : List Entry) (u : ℕ) → (has_ended_in (state_of front) (map item_of es) u ≡ true) ↔ HasEndedIn front es u
-ended-says front es u = (
-  λ h. let r = ended-from (state_of front) es u h in
-      record {
-        earlier = r.0;
-        entry = r.2;
-        later = r.1;
-        entries_are = r.3;
-        ended = subst (λ (st : State). HasEnded r.2.session st (step st r.2.session r.2.call).state u) (sym (behind front r.0)) r.4;
-      },
-  λ k. subst (λ (l : List Entry). has_ended_in (state_of front) (map item_of l) u ≡ true) (sym k.entries_are)
-      (from-ended (state_of front) k.earlier k.later k.entry u (subst (λ (st : State). HasEnded k.entry.session st (step st k.entry.session k.entry.call).state u) (behind front k.earlier) k.ended)),
-)
-  where
-    behind : (f earlier : List Entry) → state_of (f ++ earlier) ≡ state_after (state_of f) earlier
-    behind f earlier = state_after-append f earlier empty
-
 -- the list
-
--- The sessions that the book tells are those from 1 to n whose wait one of the entries has ended.
-members : (n : ℕ) (front es : List Entry) (u : ℕ) → Contains (ended_behind n front es) u ↔ ((1 ≤ u) × (u ≤ n) × HasEndedIn front es u)
-members n front es u =
-    let p = has_ended_in (state_of front) (map item_of es) in
-    let m = member-range p n 1 u in
-    let d = ended-says front es u in (
-      λ h. let k = m.0 (contains-member u (ended_behind n front es) h) in let l = k.1 in (k.0, omega (arith, l), d.0 k.2),
-      λ h. let l = h.1 in member-contains u (ended_behind n front es) (m.1 (h.0, omega (arith, l), d.1 h.2)),
-    )
 
 -- Session u is one of those from 1 to n, and one of these entries has ended its wait.
 abbrev IsEndedBy : ℕ → List Entry → List Entry → ℕ → Type 0

@@ -4,7 +4,7 @@ use Rattle.std.proofs.Math.Arith.{le_of_le-suc-ne}
 use mathlib.Core.Logic.{dite}
 use native.Mathlib.Decide.{ℕ_discrete}
 use Rattle.lock_rules.specs.declared.calls.Call.{Call}
-use Rattle.lock_desk.specs.declared.book.Item.{Item}
+use Rattle.lock_desk.specs.Batches.{Item}
 use Rattle.combining.specs.inner.Passes.{AreOpened}
 use Rattle.combining.proofs.OpenedRow.{Calls}
 

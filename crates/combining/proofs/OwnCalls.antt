@@ -3,8 +3,7 @@ use Rattle.std.proofs.Common.{◌≡◌, ℕ, ◌+◌, Bool, true, false, Option
 use mathlib.Core.List.{IsPrefix}
 use Rattle.lock_rules.specs.declared.calls.Call.{Call}
 use Rattle.lock_rules.specs.declared.calls.Reply.{Reply}
-use Rattle.lock_rules.specs.declared.calls.Entry.{Entry}
-use Rattle.lock_rules.specs.Legal.{Answered}
+use Rattle.lock_rules.specs.Entries.{Entry, Answered}
 use Rattle.publication.specs.Views.{TicketView, entry, answer}
 use Rattle.publication.proofs.Lists.{prefix_self}
 use Rattle.combining.specs.inner.OwnCalls.{IsOwnEntered, IsPassWithOwn}

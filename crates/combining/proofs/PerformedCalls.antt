@@ -4,14 +4,14 @@ use mathlib.Core.List.{IsPrefix}
 use Rattle.std.proofs.lemmas.List.{append-nil, get_or-take, length-take-le}
 use Rattle.std.proofs.Math.Seq.{drop-cons, take-append_seam, drop-append_seam}
 use Rattle.lock_rules.specs.declared.calls.Reply.{Reply}
-use Rattle.lock_rules.specs.declared.calls.Entry.{Entry}
+use Rattle.lock_rules.specs.Entries.{Entry}
 use Rattle.lock_rules.specs.State.{State}
 use Rattle.lock_rules.specs.Step.{step}
 use Rattle.lock_rules.specs.Legal.{IsLegal}
 use Rattle.lock_rules.proofs.Histories.{legal-front}
-use Rattle.lock_desk.specs.declared.book.Item.{Item}
+use Rattle.lock_desk.specs.Batches.{Item, entries_from}
 use Rattle.lock_desk.specs.BookView.{BookView}
-use Rattle.lock_desk.specs.Batches.{entries_from, item_of}
+use Rattle.sequential.specs.Batches.{item_of}
 use Rattle.publication.specs.Views.{TicketView, entry}
 use Rattle.publication.specs.Boards.{asked_at}
 use Rattle.publication.specs.Kinds.{called}

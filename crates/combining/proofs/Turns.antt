@@ -5,8 +5,8 @@ use mathlib.Core.Option as opt
 use lib.ListN.{get_elem?}
 use Rattle.lock_rules.specs.declared.calls.Call.{Call}
 use Rattle.lock_rules.specs.declared.calls.Reply.{Reply}
-use Rattle.lock_rules.specs.declared.calls.Entry.{Entry}
-use Rattle.lock_rules.specs.Legal.{Answered, calls_of}
+use Rattle.lock_rules.specs.Entries.{Entry, Answered}
+use Rattle.sequential.specs.Histories.{calls_of}
 use Rattle.publication.specs.Views.{TicketView, Pending, entry, answer, asks}
 use Rattle.publication.specs.Boards.{publishing, enlisted, tried}
 use Rattle.publication.proofs.Lists.{prefix_self, prefix_trans}

@@ -3,7 +3,7 @@ use Rattle.std.proofs.Common.{◌≡◌, ◌≢◌, ℕ, suc, ◌⊎◌, inl, in
 use Rattle.std.proofs.lemmas.Bool.{cases_Bool}
 use Rattle.lock_rules.specs.declared.calls.Call.TheVariants.{Poll}
 use Rattle.lock_rules.specs.declared.calls.Reply.TheVariants.{Clear, Deadlock}
-use Rattle.lock_rules.specs.declared.calls.Entry.{Entry}
+use Rattle.lock_rules.specs.Entries.{Entry}
 use Rattle.lock_rules.specs.State.{Claim, State, empty, request_of}
 use Rattle.lock_rules.specs.Step.{step}
 use Rattle.lock_rules.specs.Ended.{has_ended, HasEnded, AreEndedToldByPoll, AreOthersToldAsBefore}

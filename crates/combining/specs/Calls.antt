@@ -5,7 +5,9 @@ use mathlib.Core.List.{IsPrefix}
 use lib.ListN.{get_elem?}
 use Rattle.lock_rules.specs.declared.calls.Call.{Call}
 use Rattle.lock_rules.specs.declared.calls.Reply.{Reply}
-use Rattle.lock_rules.specs.Legal.{Answered, IsLegal, calls_of}
+use Rattle.lock_rules.specs.Legal.{IsLegal}
+use Rattle.lock_rules.specs.Entries.{Answered}
+use Rattle.sequential.specs.Histories.{calls_of}
 use Rattle.publication.specs.Views.{TicketView, Pending, entry, answer, asks}
 
 -- What else may have changed of a session that made a call: it may know more of the history, what it has heard of itself, whether

@@ -1,10 +1,11 @@
 -- What an office leaves when it is closed, and what holds of its history.
 use Rattle.std.specs.Prelude.{◌≡◌, ℕ, ◌↔◌, List, ◌++◌, length, sum_by, All, Any, Contains}
-use Rattle.lock_rules.specs.declared.calls.Entry.{Entry}
-use Rattle.lock_rules.specs.Legal.{Answered, IsLegal, state_of}
-use Rattle.lock_rules.specs.Laws.{AreRepliesOfSteps, IsEntryOf, ArePlacesRising, AreHoldersCompatible, IsAccessCompatible, HasNoCircle, DoesGrantStand, DoesDoomStand, DoesRequestStand}
+use Rattle.lock_rules.specs.Entries.{Entry, Answered}
+use Rattle.lock_rules.specs.Legal.{IsLegal, state_of}
+use Rattle.lock_rules.specs.Laws.{AreRepliesOfSteps, AreHoldersCompatible, IsAccessCompatible, HasNoCircle, DoesGrantStand, DoesDoomStand, DoesRequestStand}
+use Rattle.sequential.specs.Histories.{IsEntryOf, ArePlacesRising, IsEntryWithin}
 use Rattle.lock_rules.specs.Lawful.{IsLawfulState}
-use Rattle.lock_desk.specs.BookView.{BookView, IsEntryWithin}
+use Rattle.lock_desk.specs.BookView.{BookView}
 use Rattle.publication.specs.Views.{BoardView, TicketView}
 use Rattle.publication.specs.Boards.{IsEachOnce, AccountsFor, TookPieces}
 use Rattle.combining.specs.Sessions.{HasNothingPending}

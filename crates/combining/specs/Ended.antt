@@ -2,12 +2,13 @@
 use Rattle.std.specs.Prelude.{◌≡◌, ◌≢◌, ◌⊎◌, ℕ, ◌<◌, ◌≤◌, ◌↔◌, None, List, ◌∷◌, ◌++◌, length, slice_index, All, Contains}
 use Rattle.lock_rules.specs.declared.calls.Call.TheVariants.{Poll}
 use Rattle.lock_rules.specs.declared.calls.Reply.TheVariants.{Clear, Deadlock}
-use Rattle.lock_rules.specs.declared.calls.Entry.{Entry}
+use Rattle.sequential.specs.EndedWaits.{HasEndedIn as HasEndedInBy}
+use Rattle.lock_rules.specs.Entries.{Entry}
 use Rattle.lock_rules.specs.State.{request_of}
 use Rattle.lock_rules.specs.Step.{step}
-use Rattle.lock_rules.specs.Ended.{HasEnded}
 use Rattle.lock_rules.specs.Laws.{HasRequest}
 use Rattle.lock_rules.specs.Legal.{state_of}
+use Rattle.lock_desk.specs.Batches.{ends_wait}
 
 -- What contracts see of a list of sessions: for how many sessions it has room, and which are in it.
 pub record EndedView : Type 0 where
@@ -20,12 +21,8 @@ IsOnce list = (j k : ℕ) → j < k → k < length list → slice_index list j �
 
 -- One of these entries, which follow this front of the history, has ended the wait of session u: the entry is another
 -- session's, and session u had a waiting request before the entry's call and has none after it.
-pub record HasEndedIn (front entries : List Entry) (u : ℕ) : Type 0 where
-  pub earlier : List Entry
-  pub entry : Entry
-  pub later : List Entry
-  pub entries_are : entries ≡ earlier ++ entry ∷ later
-  pub ended : (let before = state_of (front ++ earlier) in HasEnded entry.session before (step before entry.session entry.call).state u)
+abbrev pub HasEndedIn : List Entry → List Entry → ℕ → Type 0
+HasEndedIn = HasEndedInBy ends_wait
 
 -- The list has exactly the sessions from 1 to n whose wait one of these entries has ended, each once.
 pub record AreEndedBy (n : ℕ) (front entries : List Entry) (list : List ℕ) : Type 0 where

@@ -6,8 +6,9 @@ use lib.ListN.{get_elem?}
 use Rattle.lock_rules.specs.declared.calls.Call.{Call}
 use Rattle.lock_rules.specs.declared.calls.Call.TheVariants.{Release, Commit, Abort, Withdraw}
 use Rattle.lock_rules.specs.declared.calls.Reply.{Reply}
-use Rattle.lock_rules.specs.declared.calls.Entry.{Entry}
-use Rattle.lock_rules.specs.Legal.{IsLegal, calls_of}
+use Rattle.lock_rules.specs.Entries.{Entry}
+use Rattle.lock_rules.specs.Legal.{IsLegal}
+use Rattle.sequential.specs.Histories.{calls_of}
 use Rattle.publication.specs.declared.piece.Piece.{Piece}
 use Rattle.publication.specs.Pieces.{entries_in}
 use Rattle.publication.specs.Views.{BoardView, TicketView, entry, answer, asks}

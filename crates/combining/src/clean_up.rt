@@ -2,7 +2,7 @@
 //! publication list.
 
 ghost use Rattle.std.specs.Prelude.{◌≡◌, ◌≢◌, ◌≤◌, ◌<◌, ◌+◌, ◌%◌, ◌⊎◌, ◌↔◌, true, false, Some, IsTrue, length, vec_len, All};
-ghost use Rattle.lock_desk.specs.Batches.{IsItemWithin};
+ghost use Rattle.sequential.specs.Batches.{IsItemWithin};
 ghost use Rattle.publication.specs.Boards.{IsOf, IsNumber};
 ghost use Rattle.publication.specs.List.{IsOn, first_of, behind};
 ghost use Rattle.publication.specs.Kinds.{IsRoute};

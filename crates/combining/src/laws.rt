@@ -2,7 +2,7 @@
 
 ghost use Rattle.std.specs.Prelude.{◌≢◌, ◌⊎◌, ℕ, List};
 ghost use Rattle.lock_modes.specs.declared.Mode.{Mode};
-ghost use Rattle.lock_rules.specs.declared.calls.Entry.{Entry};
+ghost use Rattle.lock_rules.specs.Entries.{Entry};
 ghost use Rattle.lock_rules.specs.Legal.{IsLegal};
 ghost use Rattle.lock_rules.specs.Laws.{GoTogether};
 ghost use Rattle.lock_desk.specs.BookView.{BookView};

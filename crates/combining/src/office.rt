@@ -3,7 +3,8 @@
 ghost use Rattle.std.specs.Prelude.{◌≡◌, ◌≢◌, ◌⊎◌, ◌+◌, ◌<◌, ◌≤◌, ◌↔◌, [], true, false, IsTrue, Some, None, Ok, Err, IfOk, IfErr, IfSome, IfNone, length, max, slice_index, vec_len};
 ghost use Rattle.std.specs.List.{All};
 ghost use mathlib.Core.List.{IsPrefix};
-ghost use Rattle.lock_rules.specs.Legal.{IsLegal, calls_of};
+ghost use Rattle.lock_rules.specs.Legal.{IsLegal};
+ghost use Rattle.sequential.specs.Histories.{calls_of};
 ghost use Rattle.publication.specs.Kinds.{longer, maxes};
 ghost use Rattle.publication.specs.Boards.{HasCallsOf, heard_from, known_by, published_by, publishing, enlisted, tried, IsUnlisted, new_tickets, IsEachOnce};
 ghost use Rattle.combining.specs.Sessions.{IsSessionOf, IsIdle, HasNothingPending, IsPendingServed, HasTriedToList, IsPassed, IsCollected, HasTakenPiece};

@@ -2,7 +2,8 @@
 
 ghost use Rattle.std.specs.Prelude.{◌≡◌, ◌≢◌, ◌+◌, ◌<◌, ◌≤◌, ◌↔◌, true, false, IsTrue, None, IfSome, IfNone, length, drop};
 ghost use mathlib.Core.List.{IsPrefix};
-ghost use Rattle.lock_rules.specs.Legal.{IsLegal, calls_of};
+ghost use Rattle.lock_rules.specs.Legal.{IsLegal};
+ghost use Rattle.sequential.specs.Histories.{calls_of};
 ghost use Rattle.publication.specs.Boards.{IsOf, IsNumber, OpensNone, heard_from};
 ghost use Rattle.publication.specs.Rule.{IsHome};
 ghost use Rattle.combining.specs.Sessions.{IsIdle, makes_room};

@@ -3,8 +3,9 @@
 
 ghost use Rattle.std.specs.Prelude.{◌≡◌, ◌≢◌, ◌+◌, ◌-◌, ◌^◌, ◌<◌, ◌≤◌, ◌↔◌, ◌∷◌, ◌++◌, min, [], true, false, IsTrue, Some, None, IfSome, IfNone, length, take, drop, vec_len, vec_capacity, All};
 ghost use mathlib.Core.List.{IsPrefix};
-ghost use Rattle.lock_rules.specs.Legal.{IsLegal, calls_of};
-ghost use Rattle.lock_desk.specs.Batches.{IsItemWithin};
+ghost use Rattle.lock_rules.specs.Legal.{IsLegal};
+ghost use Rattle.sequential.specs.Histories.{calls_of};
+ghost use Rattle.sequential.specs.Batches.{IsItemWithin};
 ghost use Rattle.publication.specs.Boards.{IsOf, IsNumber, OpensNone, heard_from, published_by};
 ghost use Rattle.publication.specs.Rule.{IsHome};
 ghost use Rattle.publication.specs.List.{IsOn};

@@ -2,7 +2,7 @@
 
 ghost use Rattle.std.specs.Prelude.{◌≡◌, ◌≤◌, true};
 ghost use Rattle.std.specs.List.{All};
-ghost use Rattle.lock_desk.specs.Batches.{IsItemWithin};
+ghost use Rattle.sequential.specs.Batches.{IsItemWithin};
 
 use lock_desk::{Book, Call, Item, Reply};
 use std::process::Abort;

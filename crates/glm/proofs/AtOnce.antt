@@ -2,7 +2,7 @@
 use Rattle.std.proofs.Common.{ap, refl, ◌≡◌, ◌∙◌, ◌<◌, ◌++◌, ◌∷◌, [], ℕ, Bool, true, false, List}
 use Rattle.std.proofs.lemmas.List.{map-append}
 use Rattle.lock_rules.specs.declared.calls.Call.{Call}
-use Rattle.lock_rules.specs.Legal.{Answered}
+use Rattle.lock_rules.specs.Entries.{Answered}
 use Rattle.publication.specs.Views.{TicketView, answer}
 use Rattle.combining.specs.Sessions.{IsPerformed, IsRefused}
 use Rattle.combining.specs.declared.office.Answer.{Answer}

@@ -2,7 +2,7 @@
 use Rattle.std.proofs.Common.{◌≡◌, ℕ, List, Option, Some, Ok, Err, inl, inr}
 use Rattle.std.proofs.KnownBytes.{Keeps-refl}
 use Rattle.std.specs.List.{All}
-use Rattle.lock_rules.specs.declared.calls.Entry.{Entry}
+use Rattle.lock_rules.specs.Entries.{Entry}
 use Rattle.lock_trace.specs.Entries.{IsEntry}
 use Rattle.lock_trace.specs.ReadHistories.{history_of}
 use Rattle.lock_trace.specs.declared.trace_row.TraceRow.{TraceRow}

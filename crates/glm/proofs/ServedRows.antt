@@ -2,10 +2,11 @@
 use Rattle.std.proofs.Common.{◌≡◌, ◌∙◌, ℕ, List, [], ◌∷◌, ◌++◌, Option, length, take, drop, map, refl, sym, ap, subst, take-append-drop, zero-add}
 use Rattle.std.proofs.lemmas.List.{map-append}
 use Rattle.lock_rules.specs.declared.calls.Call.{Call}
-use Rattle.lock_rules.specs.declared.calls.Entry.{Entry}
+use Rattle.lock_rules.specs.Entries.{Entry}
 use Rattle.lock_rules.specs.State.{State, empty}
 use Rattle.lock_rules.specs.Step.{step}
-use Rattle.lock_rules.specs.Legal.{asked_in, state_after, state_of, IsLegal, IsLegalFrom}
+use Rattle.lock_rules.specs.Legal.{state_after, state_of, IsLegal, IsLegalFrom}
+use Rattle.sequential.specs.Batches.{asked_in}
 use Rattle.lock_rules.proofs.Histories.{one-history}
 use Rattle.lock_trace.specs.declared.trace_row.TraceRow.{TraceRow}
 use Rattle.lock_trace.specs.Histories.{row_of_entry, text_of_history, text_of_piece}

@@ -1,6 +1,6 @@
 -- How the writing and the threads of a run in pieces ended.
 use Rattle.std.proofs.Common.{◌≡◌, ◌∙◌, ℕ, List, Option, None, Result, Ok, Err, IfOk, IfErr, subst, sym}
-use Rattle.lock_rules.specs.declared.calls.Entry.{Entry}
+use Rattle.lock_rules.specs.Entries.{Entry}
 use Rattle.glm.specs.declared.tool_fault.ToolFault.{ToolFault}
 use Rattle.glm.specs.declared.workers.Stop.{Stop}
 use Rattle.glm.specs.declared.workers.Stop.TheVariants as stop

@@ -2,7 +2,7 @@
 use Rattle.std.specs.Prelude.{◌==◌, ℕ, List, map}
 use Rattle.std.specs.List.{filter}
 use Rattle.lock_rules.specs.declared.calls.Call.{Call}
-use Rattle.lock_rules.specs.Legal.{Answered}
+use Rattle.lock_rules.specs.Entries.{Answered}
 use Rattle.lock_trace.specs.declared.trace_row.TraceRow.{TraceRow}
 
 -- the calls of session `i` in the rows of a trace, in order

@@ -1,8 +1,9 @@
 -- The result of a run on threads, and what the run writes.
 use Rattle.std.specs.Prelude.{◌≡◌, ◌⊎◌, ℕ, List, length, Option, Result, Ok, Err}
 use Rattle.std.specs.Io.KnownBytes.{Keeps, Appends}
-use Rattle.lock_rules.specs.declared.calls.Entry.{Entry}
-use Rattle.lock_rules.specs.Legal.{IsLegal, calls_of}
+use Rattle.lock_rules.specs.Entries.{Entry}
+use Rattle.lock_rules.specs.Legal.{IsLegal}
+use Rattle.sequential.specs.Histories.{calls_of}
 use Rattle.lock_trace.specs.declared.trace_row.TraceRow.{TraceRow}
 use Rattle.lock_trace.specs.Traces.{trace_of, Tells}
 use Rattle.lock_trace.specs.Histories.{text_of_history}

@@ -1,6 +1,6 @@
 -- The verdict of a check of a history.
 use Rattle.std.specs.Prelude.{◌≡◌, ℕ, ◌+◌, ◌<◌, List, [], ◌∷◌, ◌++◌, length, take, Result, Ok, Err, codes, decimal}
-use Rattle.lock_rules.specs.declared.calls.Entry.{Entry}
+use Rattle.lock_rules.specs.Entries.{Entry}
 use Rattle.lock_rules.specs.Legal.{IsLegal}
 use Rattle.lock_trace.specs.ReadHistories.{history_of, TellsOfHistory}
 use Rattle.glm.specs.declared.checking.Verdict.{Verdict}

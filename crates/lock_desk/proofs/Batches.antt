@@ -3,15 +3,15 @@ use Rattle.std.proofs.Common.{◌≡◌, ℕ, zero, suc, ◌+◌, ◌<◌, Bool,
 use Rattle.std.specs.List.{range_with_len}
 use Rattle.std.proofs.Math.Bool.{or-false, or_assoc}
 use Rattle.lock_rules.specs.declared.calls.Reply.{Reply}
-use Rattle.lock_rules.specs.declared.calls.Entry.{Entry}
+use Rattle.lock_rules.specs.Entries.{Entry}
 use Rattle.lock_rules.specs.State.{State, empty}
 use Rattle.lock_rules.specs.Step.{step}
 use Rattle.lock_rules.specs.Ended.{has_ended}
 use Rattle.lock_rules.specs.Legal.{state_of, state_after}
 use Rattle.lock_rules.proofs.Histories.{state_after-append}
-use Rattle.lock_desk.specs.declared.book.Item.{Item}
+use Rattle.lock_desk.specs.Batches.{Item, entries_from, has_ended_in, ended_waits_in}
 use Rattle.lock_desk.specs.BookView.{BookView}
-use Rattle.lock_desk.specs.Batches.{entries_from, item_of, has_ended_in, ended_waits_in}
+use Rattle.sequential.specs.Batches.{item_of}
 use Rattle.lock_desk.specs.inner.Ended.{EndedView, is_ended, ended_in}
 use Rattle.lock_desk.specs.inner.Runs.{AreServed}
 use Rattle.lock_desk.proofs.EndedList.{same-tests, same-numbers, no-numbers}

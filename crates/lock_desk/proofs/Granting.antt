@@ -10,7 +10,7 @@ use Rattle.lock_modes.specs.Compatibility.{are_compatible}
 use Rattle.lock_rules.specs.State as rules
 use Rattle.lock_rules.specs.declared.calls.Call.{Call}
 use Rattle.lock_rules.specs.declared.calls.Call.TheVariants.{Lock}
-use Rattle.lock_rules.specs.declared.calls.Entry.{Entry}
+use Rattle.lock_rules.specs.Entries.{Entry}
 use Rattle.lock_rules.specs.declared.calls.Reply.TheVariants.{Granted}
 use Rattle.lock_rules.specs.declared.calls.Why.{Why}
 use Rattle.lock_rules.specs.Step.{target_of, is_held, first_failing, outcome_of, step}
@@ -21,10 +21,10 @@ use Rattle.lock_rules.proofs.Sound.{eqb-swap}
 use Rattle.lock_rules.proofs.Lists.{same_path_tells, same_path-refl}
 use Rattle.lock_rules.proofs.Steps.{state-lawful}
 use Rattle.lock_rules.proofs.Histories.{legal-push, state_of-push}
-use Rattle.lock_desk.specs.declared.book.Item.{Item}
+use Rattle.lock_desk.specs.Batches.{Item}
 use Rattle.lock_desk.specs.declared.cells.SessionMode.{SessionMode}
 use Rattle.lock_desk.specs.declared.lock_table.LockTable.{LockTable}
-use Rattle.lock_desk.specs.BookView.{IsEntryWithin}
+use Rattle.sequential.specs.Histories.{IsEntryWithin}
 use Rattle.lock_desk.specs.inner.Cells.{View, is_nobody, has_session, mode_of, with_holder, fits_among, queue_with, can_grant, view_with_holder, view_after_asking}
 use Rattle.lock_desk.specs.inner.Lockers.{Standing, standing_at, standing_after_grant}
 use Rattle.lock_desk.specs.inner.Changes.{view_at, standing, standings, mode_held, call_tests, IsWhole, DoesKeep, HasAsked}

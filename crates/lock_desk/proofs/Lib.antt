@@ -90,3 +90,7 @@ pub mod RunItems
 pub mod Granting
 -- a batch, one item further
 pub mod Batches
+-- the book as a sequential object
+pub mod BookHistories
+-- whose wait a batch has ended, said of its entries
+pub mod EndedInBatches

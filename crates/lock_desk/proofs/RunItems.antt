@@ -15,7 +15,7 @@ use Rattle.lock_rules.specs.declared.calls.Call.TheVariants.{Lock}
 use Rattle.lock_rules.specs.declared.calls.Why.TheVariants.{NoTransaction, IsWaiting, IsDoomed, NothingAsked, ParentNotHeld, TooManyLocks}
 use Rattle.lock_rules.specs.declared.calls.TheConstants.{MAX_LOCKS}
 use Rattle.lock_rules.specs.Step.{is_nothing, target_of, first_failing}
-use Rattle.lock_desk.specs.declared.book.Item.{Item}
+use Rattle.lock_desk.specs.Batches.{Item}
 use Rattle.lock_desk.specs.declared.lock_table.LockTable.{LockTable}
 use Rattle.lock_desk.specs.declared.lock_table.runs.Run.{Run}
 use Rattle.lock_desk.specs.inner.Cells.{View, is_nobody, mode_of, codes_among, codes_unless_waited, IsPlace, HasRoomAt}

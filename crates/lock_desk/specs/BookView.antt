@@ -1,7 +1,7 @@
 -- What contracts see of a book.
-use Rattle.std.specs.Prelude.{ℕ, ◌≤◌, List, length}
+use Rattle.std.specs.Prelude.{ℕ, List, length}
 use Rattle.trimmed_list.specs.Kept.{first_kept, kept}
-use Rattle.lock_rules.specs.declared.calls.Entry.{Entry}
+use Rattle.lock_rules.specs.Entries.{Entry}
 
 -- a book: its number of sessions; the calls that it has served with their replies, oldest first; the place up to which
 -- entries were let go; how many are kept at most; and the sessions whose wait the last call or batch has ended, by number
@@ -19,8 +19,3 @@ first_kept_by b = first_kept b.cut b.bound (length b.history)
 -- the entries of the history that are kept
 abbrev pub kept_by : BookView → List Entry
 kept_by b = kept b.cut b.bound b.history
-
--- the entry is of one of the sessions 1 to `sessions`
-pub record IsEntryWithin (sessions : ℕ) (e : Entry) : Type 0 where
-  pub some : 1 ≤ e.session
-  pub within : e.session ≤ sessions

@@ -1,5 +1,6 @@
 -- what public contracts cite
 pub mod BookView
 pub mod Batches
+pub mod BookLaws
 -- what only private contracts cite
 pub mod inner

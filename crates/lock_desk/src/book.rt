@@ -6,15 +6,16 @@ ghost use Rattle.lock_rules.specs.State.{held_mode, holders};
 ghost use Rattle.lock_rules.specs.Step.{step};
 ghost use Rattle.lock_rules.specs.Ended.{ended_waits};
 ghost use Rattle.lock_rules.specs.Waits.{waits_for};
-ghost use Rattle.lock_rules.specs.declared.calls.Entry.{Entry as EntryValue};
+ghost use Rattle.lock_rules.specs.Entries.{Entry as EntryValue};
 ghost use Rattle.lock_rules.specs.Legal.{state_of, IsLegal};
 ghost use Rattle.lock_rules.specs.Listing.{listing_of, waiting_line};
 ghost use Rattle.lock_rules.specs.Laws.{DoesGrantStand, DoesDoomStand, DoesRequestStand};
 ghost use Rattle.lock_rules.specs.Lawful.{IsLawfulState};
-ghost use Rattle.lock_desk.specs.Batches.{IsItemWithin, entries_from, item_of, ended_waits_in};
-ghost use Rattle.lock_desk.specs.BookView.{IsEntryWithin, first_kept_by, kept_by};
+ghost use Rattle.lock_desk.specs.Batches.{entries_from, ended_waits_in, Item as ItemValue};
+ghost use Rattle.sequential.specs.Batches.{IsItemWithin, item_of};
+ghost use Rattle.lock_desk.specs.BookView.{first_kept_by, kept_by};
+ghost use Rattle.sequential.specs.Histories.{IsEntryWithin};
 ghost use Rattle.lock_desk.specs.inner.Runs.{AreServed};
-ghost use Rattle.lock_desk.specs.declared.book.Item.{Item as ItemValue};
 
 use crate::lock_table::LockTable;
 use crate::lock_table::runs::{grant_run, resource_shared};
@@ -46,15 +47,7 @@ pub struct Book {
 }
 
 /// One call of a batch, with its reply once it is served.
-#[derive(Clone, Copy, Debug, PartialEq, Eq, Hash)]
-pub struct Item {
-    /// The session that calls, from 1 to the number of sessions.
-    pub session: u16,
-    /// The call to serve.
-    pub call: Call,
-    /// Where `serve_batch` writes the reply. What is there before is not read.
-    pub reply: Option<Reply>,
-}
+pub type Item = sequential::Item<Call, Reply>;
 
 /// How far a batch has been served.
 #[derive(Clone, Copy)]

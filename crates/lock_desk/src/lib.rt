@@ -18,7 +18,7 @@
 //!    several locks on one resource together, by the operations of `grants.rt`. `listing.rt` lists all locks and
 //!    requests.
 //! 3. The book: the lock table with its history (`book.rt`). It is all that callers see. `recording.rt` serves one call
-//!    and adds it to the history.
+//!    and adds it to the history. `object.rt` makes the book a sequential object, which threads can share.
 //!
 //! Proved: each reply is that of the sequential lock manager of `lock_rules` in the state that the history leads to,
 //! and a call for which memory is refused changes nothing that callers see. Only tested: that memory follows the
@@ -35,6 +35,7 @@ mod holders;
 mod lock_table;
 mod lockers;
 mod locks;
+mod object;
 mod positions;
 mod promotion;
 mod recording;

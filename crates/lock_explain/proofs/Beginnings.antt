@@ -6,7 +6,7 @@ use Rattle.std.proofs.lemmas.Bool.Decides.{Decides-eqb}
 use Rattle.lock_modes.specs.declared.Mode.{Mode}
 use Rattle.lock_rules.specs.declared.calls.Call.{Call}
 use Rattle.lock_rules.specs.declared.calls.Call.TheVariants.{Begin, Lock, Convert, Poll, Release, Commit, Abort, Try, Withdraw}
-use Rattle.lock_rules.specs.declared.calls.Entry.{Entry}
+use Rattle.lock_rules.specs.Entries.{Entry}
 use Rattle.lock_rules.specs.declared.calls.Reply.TheVariants.{Refused, Waiting}
 use Rattle.lock_rules.specs.declared.calls.Why.{Why}
 use Rattle.lock_rules.specs.declared.calls.Transaction.{Transaction}
@@ -25,7 +25,7 @@ use Rattle.lock_rules.proofs.Taken.{none, passes}
 use Rattle.lock_rules.proofs.Requests.{lock-asks, convert-asks, try-asks}
 use Rattle.lock_rules.proofs.Refusals.{refused-keeps, one-target}
 use Rattle.lock_rules.proofs.Doomed.{keep-theirs}
-use Rattle.lock_desk.specs.BookView.{IsEntryWithin}
+use Rattle.sequential.specs.Histories.{IsEntryWithin}
 use Rattle.lock_explain.specs.Endings.{is_new_victim}
 use Rattle.lock_explain.specs.Waiting.{BeginsToWait, request_made}
 use Rattle.lock_explain.proofs.OpenWithin.{waiting-within}

@@ -1,11 +1,11 @@
 -- The request with which a served call began to wait.
 use Rattle.std.proofs.Common.{◌≡◌, ◌≢◌, ℕ, ◌⊎◌, inl, inr, List, [], ◌∷◌, Option, Some, None, is_some, option_map, IfSome, refl, sym, ◌∙◌}
-use Rattle.lock_rules.specs.declared.calls.Entry.{Entry}
+use Rattle.lock_rules.specs.Entries.{Entry}
 use Rattle.lock_rules.specs.declared.calls.Reply.TheVariants.{Waiting}
 use Rattle.lock_rules.specs.State.{Claim, State, held_mode}
 use Rattle.lock_rules.specs.Step.{step}
 use Rattle.lock_rules.specs.Legal.{state_of}
-use Rattle.lock_rules.proofs.Members.{Member, contains-member, member-contains}
+use Rattle.sequential.proofs.Members.{Member, contains-member, member-contains}
 use Rattle.lock_explain.specs.declared.asked.Asked.{Asked}
 use Rattle.lock_explain.specs.declared.explanation.Party.{Party}
 use Rattle.lock_explain.specs.Endings.{AreNewVictims}

@@ -9,7 +9,7 @@ use Rattle.std.proofs.lemmas.List.{nil_from_length}
 use Rattle.std.proofs.lemmas.List.Elements.{All-from_recursion, All-contains}
 use Rattle.std.proofs.lemmas.Map.Keys.{sorted_head, sorted_tail}
 use Rattle.lock_rules.specs.declared.calls.Call.{Call}
-use Rattle.lock_rules.specs.declared.calls.Entry.{Entry}
+use Rattle.lock_rules.specs.Entries.{Entry}
 use Rattle.lock_rules.specs.State.{Claim, State, number_of, with_table}
 use Rattle.waits_for.specs.Walks.{Reaches}
 use Rattle.lock_rules.specs.Waits.{waits_for}
@@ -18,11 +18,11 @@ use Rattle.lock_rules.specs.Step.{step}
 use Rattle.lock_rules.specs.Legal.{state_of}
 use Rattle.lock_rules.specs.Laws.{AreVictims}
 use Rattle.lock_rules.specs.Effects.{IsAmong, IsWaitSettled, DoVictimsKeepLocks}
-use Rattle.lock_rules.proofs.Members.{Member, contains-member, member-contains}
+use Rattle.sequential.proofs.Members.{Member, contains-member, member-contains}
 use Rattle.lock_rules.proofs.Steps.{state-lawful}
 use Rattle.lock_rules.proofs.Owners.{state-numbered, waiting-numbered}
 use Rattle.lock_rules.proofs.Doomed.{keep-theirs, among-or-not}
-use Rattle.lock_desk.specs.BookView.{IsEntryWithin}
+use Rattle.sequential.specs.Histories.{IsEntryWithin}
 use Rattle.lock_explain.specs.declared.explanation.Party.{Party}
 use Rattle.lock_explain.specs.Endings.{AreNewVictims, youngest_first}
 use Rattle.lock_explain.specs.Waiting.{BeginsToWait, party_of, waiting_state}

@@ -16,7 +16,7 @@ use Rattle.std.proofs.lemmas.Map.Keys.{IsDistinct-IsPermutation, apart_from_dist
 use Rattle.lock_rules.specs.declared.calls.Transaction.{Transaction}
 use Rattle.lock_rules.specs.State.{State, is_open, is_doomed, doomed_in, number_of}
 use Rattle.lock_rules.specs.Laws.{AreNumbersDistinct}
-use Rattle.lock_rules.proofs.Members.{Member, contains-member, member-contains}
+use Rattle.sequential.proofs.Members.{Member, contains-member, member-contains}
 use Rattle.lock_explain.specs.declared.explanation.Party.{Party}
 use Rattle.lock_explain.specs.Waiting.{party_of}
 use Rattle.lock_explain.specs.Endings.{is_new_victim, youngest_first, AreNewVictims}

@@ -4,7 +4,7 @@ use Rattle.lock_modes.specs.declared.Mode.{Mode}
 use Rattle.lock_tree.specs.Paths.{has_parent}
 use Rattle.lock_rules.specs.declared.calls.Call.{Call}
 use Rattle.lock_rules.specs.declared.calls.Call.TheVariants.{Lock, Convert, Try}
-use Rattle.lock_rules.specs.declared.calls.Entry.{Entry}
+use Rattle.lock_rules.specs.Entries.{Entry}
 use Rattle.lock_rules.specs.declared.calls.Reply.TheVariants.{Refused}
 use Rattle.lock_rules.specs.declared.calls.Why.{Why}
 use Rattle.lock_rules.specs.declared.calls.Why.TheVariants.{ParentNotHeld}

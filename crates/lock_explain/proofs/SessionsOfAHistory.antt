@@ -7,7 +7,7 @@ use Rattle.lock_modes.specs.declared.Mode.{Mode}
 use Rattle.lock_rules.specs.declared.calls.Call.{Call}
 use Rattle.lock_rules.specs.declared.calls.Call.TheVariants.{Begin, Lock, Convert, Poll, Release, Commit, Abort, Try, Withdraw}
 use Rattle.lock_rules.specs.declared.calls.Why.{Why}
-use Rattle.lock_rules.specs.declared.calls.Entry.{Entry}
+use Rattle.lock_rules.specs.Entries.{Entry}
 use Rattle.lock_rules.specs.declared.calls.Transaction.{Transaction}
 use Rattle.lock_rules.specs.State.{Claim, Table, State, empty, held_mode, request_of, is_open, with_table}
 use Rattle.lock_rules.specs.Queue.{queue, after_grant, with_request, is_granted_at_once}
@@ -16,7 +16,7 @@ use Rattle.lock_rules.specs.Step.{target_of, tests, first_failing, is_held, afte
 use Rattle.lock_rules.specs.Legal.{state_after, state_of}
 use Rattle.lock_rules.specs.Sound.{AllOpen}
 use Rattle.lock_rules.proofs.Owners.{state-numbered, begins-open}
-use Rattle.lock_desk.specs.BookView.{IsEntryWithin}
+use Rattle.sequential.specs.Histories.{IsEntryWithin}
 use Rattle.lock_explain.proofs.WaitingGraph.{stands-some}
 
 -- the session is one of 1 to n

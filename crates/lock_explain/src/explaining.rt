@@ -6,7 +6,7 @@ ghost use Rattle.lock_rules.specs.State.{Claim as ClaimValue, is_doomed, is_wait
 ghost use Rattle.lock_rules.specs.Effects.{IsNotRefused};
 ghost use Rattle.lock_rules.specs.Legal.{state_of};
 ghost use Rattle.lock_rules.specs.Step.{step};
-ghost use Rattle.lock_desk.specs.BookView.{IsEntryWithin};
+ghost use Rattle.sequential.specs.Histories.{IsEntryWithin};
 ghost use Rattle.lock_explain.specs.Cycles.{cycle_of, edges_of};
 ghost use Rattle.lock_explain.specs.Endings.{AreNewVictims};
 ghost use Rattle.lock_explain.specs.Explanations.{IsExplanation, IsWaitOfCall, is_eventful};

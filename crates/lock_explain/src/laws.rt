@@ -3,14 +3,14 @@
 
 ghost use Rattle.std.specs.Prelude.{◌≡◌, ◌≢◌, ◌≤◌, ◌↔◌, ℕ, true, List, [], map, All};
 ghost use Rattle.lock_rules.specs.declared.calls.Call.{Call as CallValue};
-ghost use Rattle.lock_rules.specs.declared.calls.Entry.{Entry as EntryValue};
+ghost use Rattle.lock_rules.specs.Entries.{Entry as EntryValue};
 ghost use Rattle.lock_rules.specs.State.{Claim as ClaimValue, State};
 ghost use Rattle.lock_rules.specs.Waits.{waits_for};
 ghost use Rattle.lock_rules.specs.Legal.{state_of};
 ghost use Rattle.lock_rules.specs.Laws.{AreVictims};
 ghost use Rattle.lock_rules.specs.Step.{step};
 ghost use Rattle.waits_for.specs.Walks.{AreOnCircle};
-ghost use Rattle.lock_desk.specs.BookView.{IsEntryWithin};
+ghost use Rattle.sequential.specs.Histories.{IsEntryWithin};
 ghost use Rattle.lock_explain.specs.Cycles.{is_on_cycle};
 ghost use Rattle.lock_explain.specs.Endings.{AreNewVictims};
 ghost use Rattle.lock_explain.specs.Waiting.{BeginsToWait, waiting_state};

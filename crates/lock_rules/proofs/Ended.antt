@@ -12,7 +12,7 @@ use Rattle.lock_rules.specs.declared.calls.Call.TheVariants.{Begin, Lock, Conver
 use Rattle.lock_rules.specs.declared.calls.Reply.TheVariants.{Deadlock, Clear}
 use Rattle.lock_rules.specs.declared.calls.Transaction.{Transaction}
 use Rattle.lock_rules.specs.declared.calls.Why.{Why}
-use Rattle.lock_rules.specs.declared.calls.Entry.{Entry}
+use Rattle.lock_rules.specs.Entries.{Entry}
 use Rattle.lock_rules.specs.State.{Claim, State, held_mode, request_of, is_waiting, with_begun, with_table}
 use Rattle.lock_rules.specs.Queue.{after_grant, with_request, is_granted_at_once}
 use Rattle.lock_rules.specs.Waits.{doom, resource_of_request, after_cancel}
@@ -22,7 +22,7 @@ use Rattle.lock_rules.specs.Effects.{IsPromotionOf, IsDoomOf}
 use Rattle.lock_rules.specs.Ended.{has_ended, ended_waits, HasEnded, AreEndedListed, DoesNothingEndNone, AreEndedToldByPoll, AreOthersToldAsBefore}
 use Rattle.lock_rules.specs.Sound.{IsNumbered}
 use Rattle.lock_rules.proofs.Lists.{other}
-use Rattle.lock_rules.proofs.Members.{Member, contains-member, member-contains}
+use Rattle.sequential.proofs.Members.{Member, contains-member, member-contains}
 use Rattle.lock_rules.proofs.Alters.{request-alters, true≢false}
 use Rattle.lock_rules.proofs.Cuts.{IsQuiescent}
 use Rattle.lock_rules.proofs.Begins.{new, back, once-push}

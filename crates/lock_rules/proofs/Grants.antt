@@ -10,7 +10,7 @@ use Rattle.lock_modes.proofs.Order.{order-from, at_or_below-refl, at_or_below-tr
 use Rattle.lock_rules.specs.declared.calls.Call.{Call}
 use Rattle.lock_rules.specs.declared.calls.Call.TheVariants.{Begin, Lock, Convert, Poll, Release, Commit, Abort, Try, Withdraw}
 use Rattle.lock_rules.specs.declared.calls.Why.{Why}
-use Rattle.lock_rules.specs.declared.calls.Entry.{Entry}
+use Rattle.lock_rules.specs.Entries.{Entry}
 use Rattle.lock_rules.specs.State.{Table, State, held_mode, mode_or_nothing, request_of}
 use Rattle.lock_rules.specs.Step.{is_nothing, tests, first_failing, act, outcome_of, step}
 use Rattle.lock_rules.specs.Legal.{state_after, state_of}

@@ -1,10 +1,11 @@
 -- Histories, one entry at a time.
 use Rattle.std.proofs.Common.{◌≡◌, ℕ, List, [], ◌∷◌, ◌++◌, refl, sym, ◌∙◌, ap, subst}
 use Rattle.lock_rules.specs.declared.calls.Call.{Call}
-use Rattle.lock_rules.specs.declared.calls.Entry.{Entry}
+use Rattle.lock_rules.specs.Entries.{Entry}
 use Rattle.lock_rules.specs.State.{State, empty}
 use Rattle.lock_rules.specs.Step.{step}
-use Rattle.lock_rules.specs.Legal.{state_after, state_of, IsLegalFrom, IsLegal, asked_in}
+use Rattle.lock_rules.specs.Legal.{state_after, state_of, IsLegalFrom, IsLegal}
+use Rattle.sequential.specs.Batches.{asked_in}
 use Rattle.lock_rules.specs.Laws.{AreRepliesOfSteps}
 
 -- the state after a concatenation is the state after its second list, starting from the state after its first

@@ -1,6 +1,6 @@
 -- Every state that a history leads to is lawful.
 use Rattle.std.proofs.Common.{List}
-use Rattle.lock_rules.specs.declared.calls.Entry.{Entry}
+use Rattle.lock_rules.specs.Entries.{Entry}
 use Rattle.lock_rules.specs.Legal.{state_of}
 use Rattle.lock_rules.specs.Lawful.{IsLawfulState}
 use Rattle.lock_rules.proofs.Sound.{stands-under}

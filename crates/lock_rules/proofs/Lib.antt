@@ -1,5 +1,4 @@
 pub mod Lists
-pub mod Members
 pub mod Marks
 pub mod Walks
 pub mod Alters
@@ -16,7 +15,6 @@ pub mod Idle
 pub mod Histories
 pub mod Grants
 pub mod Fronts
-pub mod SessionCalls
 pub mod Taken
 pub mod Doomed
 pub mod Children

@@ -11,7 +11,7 @@ use Rattle.std.proofs.lemmas.List.Elements.{filter-append}
 use Rattle.std.proofs.lemmas.List.Folds.{list_any-append}
 use Rattle.lock_modes.specs.declared.Mode.{Mode}
 use Rattle.lock_tree.specs.Paths.{path_cmp, same_path}
-use Rattle.lock_rules.specs.declared.calls.Entry.{Entry}
+use Rattle.lock_rules.specs.Entries.{Entry}
 use Rattle.lock_rules.specs.declared.calls.Transaction.{Transaction}
 use Rattle.lock_rules.specs.declared.listing.Claim.{Claim as ListedClaim}
 use Rattle.lock_rules.specs.declared.listing.ClaimKind.{ClaimKind}
@@ -23,7 +23,7 @@ use Rattle.lock_rules.specs.Laws.{AreHoldersListed, AreOwnersOpen}
 use Rattle.lock_rules.specs.Sound.{IsOnce}
 use Rattle.lock_rules.specs.Listing.{comes_before, resources_of, transaction_of, listed_as, listed_on, listing_of, kind_of_request, listed_request, waiting_line, listed_resources, HasClaimOn, lock_line, DoesListingShow}
 use Rattle.lock_rules.proofs.Lists.{same_path-refl, same_path-true, same_path_tells, eqb-refl, In, In-filter, In-request}
-use Rattle.lock_rules.proofs.Members.{Member, contains-member, member-contains}
+use Rattle.sequential.proofs.Members.{Member, contains-member, member-contains}
 use Rattle.lock_rules.proofs.ResourceOrder.{contrary, rise, precedes, is_among, less-tells, before-all, not-behind, has-with, rise-with}
 use Rattle.lock_rules.proofs.Steps.{state-lawful}
 use Rattle.lock_rules.proofs.Lawful.{lawful}

@@ -8,7 +8,7 @@ use Rattle.lock_tree.specs.Paths.{same_path}
 use Rattle.lock_rules.specs.declared.calls.Call.{Call}
 use Rattle.lock_rules.specs.declared.calls.Call.TheVariants.{Begin, Lock, Convert, Poll, Release, Commit, Abort, Try, Withdraw}
 use Rattle.lock_rules.specs.declared.calls.Why.{Why}
-use Rattle.lock_rules.specs.declared.calls.Entry.{Entry}
+use Rattle.lock_rules.specs.Entries.{Entry}
 use Rattle.lock_rules.specs.declared.calls.TheConstants.{MAX_LOCKS}
 use Rattle.lock_rules.specs.State.{Claim, Table, State, no_locks, empty, mode_in, held_mode, request_of, holders, claims_of, with_table}
 use Rattle.lock_rules.specs.Queue.{queue, fits, with_lock, after_grant, granted_while_fitting, after_promotion, after_promotions, with_request, is_granted_at_once}

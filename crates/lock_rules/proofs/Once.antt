@@ -9,7 +9,7 @@ use Rattle.lock_tree.specs.Paths.{same_path}
 use Rattle.lock_rules.specs.State.{Claim, State, mode_in, holders, claims_of}
 use Rattle.lock_rules.specs.Laws.{AreSessionsRising, AreHoldersListed, AreLocksOnce, IsOneRequestEach}
 use Rattle.lock_rules.specs.Sound.{IsOnce, IsOrdered, after, ascend, times}
-use Rattle.lock_rules.proofs.Members.{Member, contains-member, member-contains}
+use Rattle.sequential.proofs.Members.{Member, contains-member, member-contains}
 use Rattle.lock_rules.proofs.Lists.{seek, seek-after, mode_in-seek, times-append, none-times, eqb-refl, same_path-refl, same_path-true, same_path_tells}
 
 -- the holders of a resource

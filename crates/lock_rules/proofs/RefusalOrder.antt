@@ -11,7 +11,7 @@ use Rattle.lock_rules.specs.State.{State, held_mode}
 use Rattle.lock_rules.specs.Laws.{AreLocksBounded}
 use Rattle.lock_rules.specs.Kinds.{number_of_why}
 use Rattle.lock_rules.specs.Refusals.{Fails, refusals_of, AreNumbersRising, DoTestsGiveRefusals, IsFirstToFail, IsLowestToFail, AreRefusalsLowest, AreConversionsUnbounded}
-use Rattle.lock_rules.proofs.Members.{Member, contains-member, member-contains}
+use Rattle.sequential.proofs.Members.{Member, contains-member, member-contains}
 use Rattle.lock_rules.proofs.Refusals.{refusals-meant}
 
 -- the numbers of the refusals that a call can get rise

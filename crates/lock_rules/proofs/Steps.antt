@@ -8,7 +8,7 @@ use Rattle.lock_rules.specs.declared.calls.Call.{Call}
 use Rattle.lock_rules.specs.declared.calls.Call.TheVariants.{Begin, Lock, Convert, Poll, Release, Commit, Abort, Try, Withdraw}
 use Rattle.lock_rules.specs.declared.calls.Why.{Why}
 use Rattle.lock_rules.specs.declared.calls.Why.TheVariants.{WouldWait}
-use Rattle.lock_rules.specs.declared.calls.Entry.{Entry}
+use Rattle.lock_rules.specs.Entries.{Entry}
 use Rattle.lock_modes.specs.Order.{at_or_below}
 use Rattle.lock_rules.specs.State.{Claim, Table, State, no_locks, empty, held_mode, mode_or_nothing, request_of, is_waiting, with_table}
 use Rattle.lock_rules.specs.Queue.{fits, after_grant, is_granted_at_once, with_request}

@@ -2,7 +2,7 @@
 use Rattle.std.proofs.Common.{List, inl, inr, refl}
 use Rattle.lock_modes.specs.declared.Mode.TheVariants.{U}
 use Rattle.lock_modes.proofs.Compatibility.{compatible-tests}
-use Rattle.lock_rules.specs.declared.calls.Entry.{Entry}
+use Rattle.lock_rules.specs.Entries.{Entry}
 use Rattle.lock_rules.specs.Legal.{IsLegal, state_of}
 use Rattle.lock_rules.specs.Updates.{IsUpdateAlone, update_beside_readers, update_with_intention, update_under_parent, updates_one_after_another}
 use Rattle.lock_rules.proofs.Histories.{legal-served}

@@ -6,7 +6,7 @@ use Rattle.lock_rules.specs.declared.calls.Call.TheVariants.{Begin, Lock, Conver
 use Rattle.lock_rules.specs.declared.calls.Reply.{Reply}
 use Rattle.lock_rules.specs.declared.calls.Reply.TheVariants.{Began, Granted, Waiting, Deadlock, Clear, Released, Committed, Aborted, Refused, Withdrawn}
 use Rattle.lock_rules.specs.declared.calls.Why.TheVariants.{AlreadyOpen, NoTransaction, IsWaiting, IsDoomed, NothingAsked, NotHeld, ParentNotHeld, ChildHeld, WouldWait, NotWaiting}
-use Rattle.lock_rules.specs.declared.calls.Entry.{Entry}
+use Rattle.lock_rules.specs.Entries.{Entry}
 
 -- a call of a session with its reply
 abbrev pub entry : ℕ → Call → Reply → Entry

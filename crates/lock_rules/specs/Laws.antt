@@ -9,7 +9,7 @@ use Rattle.lock_rules.specs.declared.calls.Call.{Call}
 use Rattle.lock_rules.specs.declared.calls.Call.TheVariants.{Release, Commit, Abort, Withdraw}
 use Rattle.lock_rules.specs.declared.calls.Reply.TheVariants.{Refused}
 use Rattle.lock_rules.specs.declared.calls.Why.{Why}
-use Rattle.lock_rules.specs.declared.calls.Entry.{Entry}
+use Rattle.lock_rules.specs.Entries.{Entry, Answered}
 use Rattle.lock_rules.specs.declared.calls.Transaction.{Transaction}
 use Rattle.lock_rules.specs.declared.calls.TheConstants.{MAX_LOCKS}
 use Rattle.waits_for.specs.Walks.{Reaches, AreOnCircle}
@@ -17,23 +17,13 @@ use Rattle.lock_rules.specs.State.{Claim, Table, State, claims_but, held_mode, r
 use Rattle.lock_rules.specs.Queue.{queue, fits, after_grant, after_promotion, with_request}
 use Rattle.lock_rules.specs.Waits.{waits_for, after_victim}
 use Rattle.lock_rules.specs.Step.{tests, first_failing, step}
-use Rattle.lock_rules.specs.Legal.{state_of, Answered}
+use Rattle.lock_rules.specs.Legal.{state_of}
 
 -- histories
 
 -- each entry's reply is the one that `step` gives in the state after the entries before it
 abbrev pub AreRepliesOfSteps : List Entry → Type 0
 AreRepliesOfSteps es = (front rest : List Entry) (e : Entry) → es ≡ front ++ e ∷ rest → e.reply ≡ (step (state_of front) e.session e.call).reply
-
--- the history's entry at the call's place is this call of the session, with this reply
-abbrev pub IsEntryOf : ℕ → List Entry → Answered → Type 0
-IsEntryOf s es a = slice_get es a.place ≡ Some (record { session = s; call = a.call; reply = a.reply })
-
--- the places of these calls rise
-abbrev pub ArePlacesRising : List Answered → Type 0
-ArePlacesRising [] = Unit {0}
-ArePlacesRising (a ∷ []) = Unit {0}
-ArePlacesRising (a ∷ b ∷ rest) = (a.place < b.place) × ArePlacesRising (b ∷ rest)
 
 -- refusals
 

@@ -2,7 +2,7 @@
 use Rattle.std.specs.Prelude.{◌≡◌, ℕ, ◌+◌, if◌then◌else◌, ◌==◌, List, [], ◌∷◌, map}
 use Rattle.lock_rules.specs.declared.calls.Call.{Call}
 use Rattle.lock_rules.specs.declared.calls.Reply.{Reply}
-use Rattle.lock_rules.specs.declared.calls.Entry.{Entry}
+use Rattle.lock_rules.specs.Entries.{Entry}
 use Rattle.lock_rules.specs.State.{State, empty}
 use Rattle.lock_rules.specs.Step.{step}
 
@@ -23,23 +23,3 @@ IsLegalFrom st (e ∷ es) = (e.reply ≡ (step st e.session e.call).reply) × Is
 -- the history is legal: starting from the empty state, each reply is the one that the sequential lock manager gives
 abbrev pub IsLegal : List Entry → Type 0
 IsLegal es = IsLegalFrom empty es
-
--- the calls of the entries, each with its session, without the replies
-abbrev pub asked_in : List Entry → List (ℕ × Call)
-asked_in es = map (λ e. (e.session, e.call)) es
-
--- a call of one session: its place in the history, counted from 0, and its reply
-pub record Answered : Type 0 where
-  pub place : ℕ
-  pub call : Call
-  pub reply : Reply
-
--- the session's calls among these entries, if the first entry has this place
-abbrev pub calls_from : ℕ → ℕ → List Entry → List Answered
-calls_from s place [] = []
-calls_from s place (e ∷ es) =
-    if e.session == s then record { place = place; call = e.call; reply = e.reply } ∷ calls_from s (place + 1) es else calls_from s (place + 1) es
-
--- the session's calls in a history, in order
-abbrev pub calls_of : ℕ → List Entry → List Answered
-calls_of s es = calls_from s 0 es

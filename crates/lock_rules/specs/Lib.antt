@@ -2,6 +2,7 @@ pub mod State
 pub mod Queue
 pub mod Waits
 pub mod Step
+pub mod Entries
 pub mod Legal
 pub mod Laws
 pub mod Sound

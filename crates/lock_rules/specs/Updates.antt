@@ -4,7 +4,7 @@ use Rattle.lock_modes.specs.declared.Mode.TheVariants.{IS, IX, S, U, X}
 use Rattle.lock_rules.specs.declared.calls.Call.TheVariants.{Begin, Lock, Convert, Poll, Commit}
 use Rattle.lock_rules.specs.declared.calls.Reply.TheVariants.{Began, Granted, Waiting, Clear, Committed, Refused}
 use Rattle.lock_rules.specs.declared.calls.Why.TheVariants.{ParentNotHeld}
-use Rattle.lock_rules.specs.declared.calls.Entry.{Entry}
+use Rattle.lock_rules.specs.Entries.{Entry}
 use Rattle.lock_rules.specs.State.{State, held_mode}
 use Rattle.lock_rules.specs.Examples.{entry, database}
 

@@ -103,12 +103,4 @@ pub enum Reply {
 }
 
 /// One call of one session, with its reply. A list of entries, oldest first, is a history.
-#[derive(Clone, Copy, Debug, PartialEq, Eq, Hash)]
-pub struct Entry {
-    /// The session that called, numbered from 1.
-    pub session: u16,
-    /// What it called.
-    pub call: Call,
-    /// The reply to it.
-    pub reply: Reply,
-}
+pub type Entry = sequential::Entry<Call, Reply>;

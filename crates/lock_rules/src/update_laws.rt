@@ -3,7 +3,7 @@
 
 ghost use Rattle.std.specs.Prelude.{List};
 ghost use Rattle.lock_modes.specs.declared.Mode.TheVariants.{S, U, X};
-ghost use Rattle.lock_rules.specs.declared.calls.Entry.{Entry as EntryValue};
+ghost use Rattle.lock_rules.specs.Entries.{Entry as EntryValue};
 ghost use Rattle.lock_rules.specs.declared.calls.Reply.TheVariants.{Granted, Waiting, Deadlock, Clear, Refused};
 ghost use Rattle.lock_rules.specs.declared.calls.Why.TheVariants.{ParentNotHeld};
 ghost use Rattle.lock_rules.specs.Legal.{IsLegal, state_of};

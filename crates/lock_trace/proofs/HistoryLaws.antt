@@ -5,7 +5,7 @@ use Rattle.std.specs.List.{All, AllByRecursion}
 use Rattle.std.proofs.lemmas.List.Elements.{All-from_recursion, recursion_from_All}
 use Rattle.lock_rules.specs.declared.calls.Reply.{Reply}
 use Rattle.lock_rules.specs.declared.calls.Reply.TheVariants as reply
-use Rattle.lock_rules.specs.declared.calls.Entry.{Entry}
+use Rattle.lock_rules.specs.Entries.{Entry}
 use Rattle.lock_trace.specs.declared.faults.TraceFault.{TraceFault}
 use Rattle.lock_trace.specs.Entries.{IsReply, IsEntry, entry_of}
 use Rattle.lock_trace.specs.Tests.{tests_of_entry}

@@ -3,7 +3,7 @@ use Rattle.std.proofs.Common.{◌≡◌, ℕ, zero, suc, ◌+◌, ◌<◌, ◌�
 use Rattle.std.specs.Prelude.{decimal}
 use Rattle.std.proofs.lemmas.List.{append-nil}
 use Rattle.lock_tree.specs.Text.{text_of}
-use Rattle.lock_rules.specs.declared.calls.Entry.{Entry}
+use Rattle.lock_rules.specs.Entries.{Entry}
 use Rattle.lock_trace.specs.Histories.{after_commas, line_of, lines_of, fields_of_entry, text_of_piece}
 use Rattle.lock_trace.specs.Files.{fields_from}
 

@@ -3,7 +3,7 @@ use Rattle.std.specs.Prelude.{ℕ, ◌<◌, ◌^◌, List, [], ◌∷◌, ◌++�
 use Rattle.lock_modes.specs.Codes.{name_of}
 use Rattle.lock_rules.specs.declared.calls.Reply.{Reply}
 use Rattle.lock_rules.specs.declared.calls.Reply.TheVariants as reply
-use Rattle.lock_rules.specs.declared.calls.Entry.{Entry}
+use Rattle.lock_rules.specs.Entries.{Entry}
 use Rattle.lock_rules.specs.Names.{name_of_why}
 use Rattle.lock_rules.specs.Kinds.{kind_of_reply}
 use Rattle.lock_trace.specs.declared.trace_row.TraceRow.{TraceRow}

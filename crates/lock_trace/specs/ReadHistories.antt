@@ -1,7 +1,7 @@
 -- What a whole history is read as: its entries, or its first faulty row.
 use Rattle.std.specs.Prelude.{ℕ, List, Result}
 use Rattle.std.specs.Global.{Vec}
-use Rattle.lock_rules.specs.declared.calls.Entry.{Entry}
+use Rattle.lock_rules.specs.Entries.{Entry}
 use Rattle.lock_trace.specs.declared.faults.TraceFault.{TraceFault}
 use Rattle.lock_trace.specs.Entries.{IsEntry, entry_of}
 use Rattle.lock_trace.specs.Tests.{tests_of_entry}

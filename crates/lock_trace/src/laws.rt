@@ -8,7 +8,7 @@ ghost use Rattle.lock_modes.specs.declared.Mode.{Mode};
 ghost use Rattle.lock_modes.specs.Codes.{name_of};
 ghost use Rattle.lock_tree.specs.Paths.{IsResource};
 ghost use Rattle.lock_tree.specs.Text.{text_of};
-ghost use Rattle.lock_rules.specs.declared.calls.Entry.{Entry};
+ghost use Rattle.lock_rules.specs.Entries.{Entry};
 ghost use Rattle.lock_rules.specs.declared.calls.Reply.{Reply};
 ghost use Rattle.lock_rules.specs.declared.kinds.Op.{Op as OpValue};
 ghost use Rattle.lock_trace.specs.declared.trace_row.TraceRow.{TraceRow as RowValue};

@@ -1,10 +1,10 @@
 -- Lists of items that numbers encode.
 use Rattle.std.proofs.Common.{◌≡◌, ℕ, zero, suc, ◌<◌, List, [], ◌∷◌, ◌++◌, length, take, drop, map, get_or, refl, ap, arith}
-use Rattle.lock_rules.specs.declared.calls.Entry.{Entry}
+use Rattle.lock_rules.specs.Entries.{Entry}
 use Rattle.lock_rules.specs.State.{State}
 use Rattle.lock_rules.specs.Step.{step}
-use Rattle.lock_desk.specs.declared.book.Item.{Item}
-use Rattle.lock_desk.specs.Batches.{IsItemWithin, entries_from, item_of}
+use Rattle.lock_desk.specs.Batches.{Item, entries_from}
+use Rattle.sequential.specs.Batches.{IsItemWithin, item_of}
 use Rattle.lock_desk.specs.BookView.{BookView}
 use Rattle.pelgaisti_c.specs.declared.numbers.EntryNumbers.{EntryNumbers}
 use Rattle.pelgaisti_c.specs.Numbers.{numbers_of_entry}

@@ -1,8 +1,7 @@
 -- The outcome of a batch of calls of a book, as its export states it.
 use Rattle.std.specs.Prelude.{◌≡◌, ◌≢◌, ℕ, ◌≤◌, ◌⊎◌, List, [], ◌∷◌, ◌++◌, length, take, ⊤}
 use Rattle.lock_rules.specs.Legal.{state_of}
-use Rattle.lock_desk.specs.declared.book.Item.{Item}
-use Rattle.lock_desk.specs.Batches.{entries_from, ended_waits_in}
+use Rattle.lock_desk.specs.Batches.{Item, entries_from, ended_waits_in}
 use Rattle.lock_desk.specs.BookView.{BookView}
 use Rattle.pelgaisti_c.specs.declared.numbers.EntryNumbers.{EntryNumbers}
 use Rattle.pelgaisti_c.specs.declared.status.TheConstants.{NO_SUCH_SESSION, NO_SUCH_OP, NO_SUCH_MODE}

@@ -1,7 +1,7 @@
 //! A batch of calls of a book in numbers, on the book that a handle holds.
 
 ghost use Rattle.std.specs.Prelude.{◌≡◌, ◌≢◌, ◌≤◌, ◌⊎◌, List, [], ◌∷◌, ◌++◌, IfOk, IfErr, length};
-ghost use Rattle.lock_desk.specs.declared.book.Item.{Item as ItemValue};
+ghost use Rattle.lock_desk.specs.Batches.{Item as ItemValue};
 ghost use Rattle.pelgaisti_c.specs.Batches.{IsItem, AreItems, IsItemFault, IsFirstFault, IsBatchServed};
 ghost use Rattle.pelgaisti_c.specs.Calls.{written};
 ghost use Rattle.pelgaisti_c.specs.inner.Items.{numbers_of_item, numbers_of_some_reply};

@@ -10,7 +10,7 @@ ghost use Rattle.lock_desk.specs.BookView.{BookView, first_kept_by, kept_by};
 ghost use Rattle.pelgaisti_c.specs.Numbers.{IsCall, IsCallFault, IsLevel, IsPath, numbers_of_entry, numbers_of_holder};
 ghost use Rattle.pelgaisti_c.specs.Calls.{IsSession, IsServed, AreListedOnce, are_written};
 ghost use Rattle.pelgaisti_c.specs.Batches.{AreItems, IsBatchServed, IsFirstFault};
-ghost use Rattle.lock_desk.specs.declared.book.Item.{Item};
+ghost use Rattle.lock_desk.specs.Batches.{Item};
 
 use crate::book_handle::BookHandle;
 use crate::numbers::{CallNumbers, EntryNumbers, HolderNumbers, ReplyNumbers, ResourceNumbers};

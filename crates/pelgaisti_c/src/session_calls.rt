@@ -3,7 +3,7 @@
 ghost use Rattle.std.specs.Prelude.{◌≡◌, ◌≢◌, ◌<◌, ◌≤◌, ◌⊎◌, ◌↔◌, ◌==◌, true, None, IfOk, IfErr, length};
 ghost use Rattle.combining.specs.Sessions.{IsIdle, IsPassed, IsPendingServed};
 ghost use Rattle.combining.specs.declared.office.Answer.{Answer};
-ghost use Rattle.lock_rules.specs.Legal.{calls_of};
+ghost use Rattle.sequential.specs.Histories.{calls_of};
 ghost use Rattle.publication.specs.Boards.{HasCallsOf, heard_from};
 ghost use Rattle.lock_rules.specs.declared.calls.Call.{Call as CallValue};
 ghost use Rattle.pelgaisti_c.specs.Calls.{are_written};

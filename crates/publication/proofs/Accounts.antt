@@ -3,8 +3,8 @@ use Rattle.std.proofs.Common.{◌≡◌, ◌≢◌, inl, inr, ◌⊎◌, ℕ, �
 use mathlib.Core.Option as opt
 use mathlib.Core.List.{IsPrefix}
 use lib.ListN.{get_elem?}
-use Rattle.lock_rules.specs.declared.calls.Entry.{Entry}
-use Rattle.lock_rules.specs.Legal.{Answered, calls_from, calls_of}
+use Rattle.lock_rules.specs.Entries.{Entry, Answered}
+use Rattle.sequential.specs.Histories.{calls_from, calls_of}
 use Rattle.publication.specs.Views.{Pending, Own, IsAccountedIn, answer}
 use Rattle.publication.specs.Rule.{BoardState, word, home, own_at, RecordState, IsOrderly}
 use Rattle.publication.specs.Rule.RecordState.{vacant, posted, busy, served, retired}

@@ -9,8 +9,9 @@ use lib.ListN.{get_elem?}
 use Rattle.std.specs.Global.{Box}
 use Rattle.std.specs.Prelude.{All}
 use Rattle.atomic_table.specs.Table.{Seen, Final}
-use Rattle.lock_rules.specs.declared.calls.Entry.{Entry}
-use Rattle.lock_rules.specs.Legal.{IsLegal, calls_of}
+use Rattle.lock_rules.specs.Entries.{Entry}
+use Rattle.lock_rules.specs.Legal.{IsLegal}
+use Rattle.sequential.specs.Histories.{calls_of}
 use Rattle.publication.specs.Pieces.{pieces_of}
 use Rattle.publication.specs.declared.piece.Piece.{Piece}
 use Rattle.publication.specs.Views.{Handed}

@@ -10,8 +10,9 @@ use lib.ListN.{get_elem?}
 use Rattle.atomic_table.specs.Table.{keeps, step, Allows}
 use Rattle.lock_rules.specs.declared.calls.Call.{Call}
 use Rattle.lock_rules.specs.declared.calls.Reply.{Reply}
-use Rattle.lock_rules.specs.declared.calls.Entry.{Entry}
-use Rattle.lock_rules.specs.Legal.{Answered, IsLegal, calls_of}
+use Rattle.lock_rules.specs.Entries.{Entry, Answered}
+use Rattle.lock_rules.specs.Legal.{IsLegal}
+use Rattle.sequential.specs.Histories.{calls_of}
 use Rattle.publication.specs.Words.{word_of, BUSY}
 use Rattle.publication.specs.Views.{Own, Combiner, Others, entry, answer}
 use Rattle.publication.specs.Rule.{blank, BoardState, word, home, seat, fresh, own_at, announced, IsVacant, RecordState, HasBook, IsOpened, IsSession, IsMaker, AreTrue, HasPieces, IsOrderly}

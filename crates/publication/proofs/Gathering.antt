@@ -7,7 +7,7 @@ use Rattle.std.proofs.lemmas.Bool.{not-true}
 use Rattle.std.proofs.lemmas.Bool.Decides.{nat_tests}
 use mathlib.Core.Option as opt
 use lib.ListN.{get_elem?}
-use Rattle.lock_rules.specs.declared.calls.Entry.{Entry}
+use Rattle.lock_rules.specs.Entries.{Entry}
 use Rattle.publication.specs.Views.{Pending, TicketView}
 use Rattle.lock_desk.specs.BookView.{BookView}
 use Rattle.publication.specs.Boards.{IsEachOnce, IsSettled, AccountsFor, TookPieces}

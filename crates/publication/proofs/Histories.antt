@@ -3,10 +3,11 @@ use Rattle.std.proofs.Common.{◌≡◌, ◌≢◌, ℕ, zero, suc, ◌+◌, ◌
 use mathlib.Core.List.{IsPrefix}
 use Rattle.lock_rules.specs.declared.calls.Call.{Call}
 use Rattle.lock_rules.specs.declared.calls.Reply.{Reply}
-use Rattle.lock_rules.specs.declared.calls.Entry.{Entry}
-use Rattle.lock_rules.specs.Legal.{Answered, IsLegal, calls_from, calls_of}
+use Rattle.lock_rules.specs.Entries.{Entry, Answered}
+use Rattle.lock_rules.specs.Legal.{IsLegal}
+use Rattle.sequential.specs.Histories.{calls_from, calls_of}
 use Rattle.lock_rules.proofs.Histories.{legal-front}
-use Rattle.lock_rules.proofs.SessionCalls.{calls_of-push}
+use Rattle.sequential.proofs.SessionCalls.{calls_of-push}
 use Rattle.publication.specs.Views.{entry, answer}
 
 -- A front of a legal history is legal.

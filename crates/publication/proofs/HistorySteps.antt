@@ -10,7 +10,7 @@ use Rattle.lock_rules.specs.declared.calls.Call.{Call}
 use Rattle.lock_rules.specs.declared.calls.Call.TheVariants.{Poll}
 use Rattle.lock_rules.specs.declared.calls.Reply.{Reply}
 use Rattle.lock_rules.specs.declared.calls.Reply.TheVariants.{Clear}
-use Rattle.lock_rules.specs.declared.calls.Entry.{Entry}
+use Rattle.lock_rules.specs.Entries.{Entry}
 use Rattle.publication.specs.Words.{word_of, session_of_word, FREE, POSTED, SERVED, CLOSED, EMPTY}
 use Rattle.publication.specs.Views.{Own, entry, answer, asks}
 use Rattle.publication.specs.Rule.{blank, BoardState, word, home, seat, IsOrderly}

@@ -9,7 +9,7 @@ use Rattle.lock_rules.specs.declared.calls.Reply.{Reply}
 use Rattle.lock_rules.specs.declared.calls.Reply.TheVariants.{Granted, Waiting, Clear, Refused}
 use Rattle.lock_rules.specs.declared.calls.Why.{Why}
 use Rattle.lock_rules.specs.declared.calls.Why.TheVariants.{NotWaiting}
-use Rattle.lock_rules.specs.Legal.{Answered}
+use Rattle.lock_rules.specs.Entries.{Answered}
 use Rattle.publication.specs.Views.{Pending, answer, asks}
 use Rattle.publication.specs.HoldsAsTold.{AsksFor, KeepsLock, KeptLock, ToldOfGrant, TookNothingBack, HoldsAsTold}
 

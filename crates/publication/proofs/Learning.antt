@@ -6,7 +6,7 @@ use mathlib.Core.Option as opt
 use mathlib.Core.List.{IsPrefix}
 use lib.ListN.{get_elem?}
 use Rattle.atomic_table.specs.Table.{keeps, step, Allows}
-use Rattle.lock_rules.specs.declared.calls.Entry.{Entry}
+use Rattle.lock_rules.specs.Entries.{Entry}
 use Rattle.publication.specs.Views.{IsAccountedIn}
 use Rattle.publication.specs.Rule.{blank, BoardState, word, seat, own_at, announced, AreTrue, IsOrderly}
 use Rattle.publication.specs.List.{IsLinked, IsRuled}

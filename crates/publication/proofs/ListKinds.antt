@@ -7,8 +7,8 @@ use prog.Atomic.{either}
 use lib.ListN.{get_elem?}
 use Rattle.atomic_table.specs.Table.{keeps, step, Allows}
 use Rattle.atomic_table.proofs.Lists.{exchanged, set_again}
-use Rattle.lock_rules.specs.declared.calls.Entry.{Entry}
-use Rattle.lock_rules.specs.Legal.{calls_of}
+use Rattle.lock_rules.specs.Entries.{Entry}
+use Rattle.sequential.specs.Histories.{calls_of}
 use Rattle.publication.specs.Words.{word_of, link_of, session_of_word, END}
 use Rattle.publication.specs.Views.{Own, Listing}
 use Rattle.publication.specs.Rule.{blank, BoardState, word, home, seat, own_at, announced, RecordState, HasBook, IsOrderly}

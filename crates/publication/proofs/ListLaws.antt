@@ -5,7 +5,7 @@ use mathlib.Core.Option as opt
 use mathlib.Core.Logic.{dite}
 use native.Mathlib.Decide.{ℕ_discrete}
 use Rattle.std.specs.Global.{Box}
-use Rattle.lock_rules.specs.declared.calls.Entry.{Entry}
+use Rattle.lock_rules.specs.Entries.{Entry}
 use Rattle.publication.specs.Words.{link_of, END, FREE, CLOSED}
 use Rattle.publication.specs.Views.{Own}
 use Rattle.publication.specs.Rule.{blank, BoardState, word, home, seat, own_at, RecordState, IsRetired, IsSession}

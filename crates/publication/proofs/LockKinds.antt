@@ -10,7 +10,7 @@ use lib.ListN.{get_elem?}
 use Rattle.std.specs.Global.{Box}
 use Rattle.atomic_table.specs.Table.{keeps, takes, gives, step, Allows}
 use Rattle.atomic_table.proofs.Lists.{exchanged}
-use Rattle.lock_rules.specs.declared.calls.Entry.{Entry}
+use Rattle.lock_rules.specs.Entries.{Entry}
 use Rattle.lock_rules.specs.Legal.{IsLegal}
 use Rattle.publication.specs.Words.{word_of, FREE}
 use Rattle.publication.specs.List.{belongs, IsWalking, IsLinked, IsRuled}

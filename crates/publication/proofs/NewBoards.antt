@@ -9,7 +9,7 @@ use Rattle.std.proofs.lemmas.Bool.{leb-true}
 use Rattle.std.specs.Global.{Box}
 use Rattle.atomic_table.specs.Table.{opening, Splits}
 use Rattle.lock_rules.specs.declared.calls.Call.{Call}
-use Rattle.lock_rules.specs.declared.calls.Entry.{Entry}
+use Rattle.lock_rules.specs.Entries.{Entry}
 use Rattle.publication.specs.Words.{word_of, END, OUT}
 use Rattle.publication.specs.List.{link, belongs, IsLinked, IsRuled}
 use Rattle.publication.specs.Views.{Own}

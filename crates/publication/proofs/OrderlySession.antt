@@ -6,7 +6,7 @@ use mathlib.Core.List.{IsPrefix}
 use native.Mathlib.Decide.{ℕ_discrete}
 use lib.ListN.{get_elem?}
 use Rattle.lock_rules.specs.declared.calls.Call.{Call}
-use Rattle.lock_rules.specs.declared.calls.Entry.{Entry}
+use Rattle.lock_rules.specs.Entries.{Entry}
 use Rattle.publication.specs.Words.{word_of, BUSY}
 use Rattle.publication.specs.Views.{Own, Combiner, Listing, Others}
 use Rattle.publication.specs.Rule.{blank, BoardState, word, home, seat, fresh, own_at, announced, RecordState, HasBook, IsOpened, IsSession, IsMaker, AreTrue, HasPieces, IsOrderly}

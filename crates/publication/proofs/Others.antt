@@ -1,7 +1,7 @@
 -- What a seat knows of other seats stays true.
 use Rattle.std.proofs.Common.{◌≡◌, ℕ, ◌<◌, ◌≤◌, List, length, ap, ◌∙◌, arith}
 use mathlib.Core.List.{IsPrefix}
-use Rattle.lock_rules.specs.declared.calls.Entry.{Entry}
+use Rattle.lock_rules.specs.Entries.{Entry}
 use Rattle.publication.specs.Views.{Own, Handed, Others}
 use Rattle.publication.specs.Rule.{BoardState, seat, own_at, IsHanded, AreTrue}
 use Rattle.publication.proofs.Lists.{prefix_trans}

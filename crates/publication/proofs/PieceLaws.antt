@@ -1,7 +1,7 @@
 -- What the pieces of the history that sessions took make together.
 use Rattle.std.proofs.Common.{◌≡◌, ℕ, zero, suc, ◌+◌, ◌-◌, ◌<◌, ◌≤◌, List, [], ◌∷◌, ◌++◌, length, get_or, take, drop, refl, sym, ap, ◌∙◌, subst, arith}
 use mathlib.Core.List.{IsPrefix}
-use Rattle.lock_rules.specs.declared.calls.Entry.{Entry}
+use Rattle.lock_rules.specs.Entries.{Entry}
 use Rattle.publication.specs.Pieces.{AreInOrder, AreInARow, entries_in, put_together}
 use Rattle.publication.specs.declared.piece.Piece.{Piece}
 

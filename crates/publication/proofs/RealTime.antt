@@ -8,10 +8,10 @@ use lib.ListN.{get_elem?}
 use Rattle.atomic_table.specs.Table.{stepped}
 use Rattle.lock_rules.specs.declared.calls.Call.{Call}
 use Rattle.lock_rules.specs.declared.calls.Reply.{Reply}
-use Rattle.lock_rules.specs.declared.calls.Entry.{Entry}
-use Rattle.lock_rules.specs.Legal.{Answered, calls_from, calls_of}
-use Rattle.lock_rules.proofs.Members.{Member, contains-member, member-contains}
-use Rattle.lock_rules.proofs.SessionCalls.{contains-entry}
+use Rattle.lock_rules.specs.Entries.{Entry, Answered}
+use Rattle.sequential.specs.Histories.{calls_from, calls_of}
+use Rattle.sequential.proofs.Members.{Member, contains-member, member-contains}
+use Rattle.sequential.proofs.SessionCalls.{contains-entry}
 use Rattle.publication.specs.Words.{FREE}
 use Rattle.publication.specs.Views.{Pending, IsAccountedIn, entry, answer}
 use Rattle.publication.specs.Rule.{blank, BoardState, word, home, seat, own_at, IsOrderly}

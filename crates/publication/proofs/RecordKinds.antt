@@ -9,8 +9,9 @@ use Rattle.atomic_table.specs.Table.{keeps, takes, gives, step, Allows, rest}
 use Rattle.atomic_table.proofs.Lists.{exchanged, set_here, set_else, at_last}
 use Rattle.lock_rules.specs.declared.calls.Call.{Call}
 use Rattle.lock_rules.specs.declared.calls.Reply.{Reply}
-use Rattle.lock_rules.specs.declared.calls.Entry.{Entry}
-use Rattle.lock_rules.specs.Legal.{Answered, IsLegal, calls_of}
+use Rattle.lock_rules.specs.Entries.{Entry, Answered}
+use Rattle.lock_rules.specs.Legal.{IsLegal}
+use Rattle.sequential.specs.Histories.{calls_of}
 use Rattle.publication.specs.Words.{word_of, session_of_word, POSTED, BUSY, SERVED}
 use Rattle.publication.specs.List.{belongs, IsLinked, IsRuled}
 use Rattle.publication.specs.Views.{Own, Combiner, IsAccountedIn, entry, answer, asks}

@@ -4,8 +4,8 @@ use Rattle.std.proofs.Common.{◌≡◌, ◌≢◌, ◌⊎◌, ⊎_elim, ℕ, �
 use mathlib.Core.Option as opt
 use Rattle.lock_rules.specs.declared.calls.Call.{Call}
 use Rattle.lock_rules.specs.declared.calls.Reply.{Reply}
-use Rattle.lock_rules.specs.declared.calls.Entry.{Entry}
-use Rattle.lock_rules.specs.Legal.{Answered, calls_of}
+use Rattle.lock_rules.specs.Entries.{Entry, Answered}
+use Rattle.sequential.specs.Histories.{calls_of}
 use Rattle.publication.specs.Words.{OUT, POSTED, BUSY, SERVED, EMPTY}
 use Rattle.publication.specs.Views.{Pending, Own, entry, answer, asks}
 use Rattle.publication.specs.List.{belongs}

@@ -6,7 +6,7 @@ use mathlib.Core.List.{IsPrefix}
 use native.Mathlib.Decide.{ℕ_discrete}
 use lib.ListN.{get_elem?}
 use Rattle.atomic_table.specs.Table.{step}
-use Rattle.lock_rules.specs.Legal.{Answered}
+use Rattle.lock_rules.specs.Entries.{Answered}
 use Rattle.publication.specs.Words.{FREE, POSTED, SERVED, CLOSED, EMPTY}
 use Rattle.publication.specs.Views.{Pending, Handed, answer}
 use Rattle.publication.specs.Rule.{blank, BoardState, seat}

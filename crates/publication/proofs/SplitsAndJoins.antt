@@ -4,7 +4,7 @@ use mathlib.Core.Option as opt
 use mathlib.Core.List.{IsPrefix}
 use lib.ListN.{get_elem?}
 use Rattle.atomic_table.specs.Table.{Splits, Joins}
-use Rattle.lock_rules.specs.declared.calls.Entry.{Entry}
+use Rattle.lock_rules.specs.Entries.{Entry}
 use Rattle.publication.specs.Pieces.{pieces_of}
 use Rattle.publication.specs.Views.{Own, Handed, Others}
 use Rattle.publication.specs.Rule.{blank, BoardState, word, home, seat, own_at, announced, RecordState, IsSession, IsMaker, IsHanded, AreTrue, HasPieces, IsOrderly}

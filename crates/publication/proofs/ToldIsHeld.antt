@@ -14,11 +14,12 @@ use Rattle.lock_rules.specs.declared.calls.Reply.{Reply}
 use Rattle.lock_rules.specs.declared.calls.Reply.TheVariants.{Granted, Waiting, Clear, Refused, Withdrawn}
 use Rattle.lock_rules.specs.declared.calls.Why.{Why}
 use Rattle.lock_rules.specs.declared.calls.Why.TheVariants.{NoTransaction, IsDoomed, NotWaiting}
-use Rattle.lock_rules.specs.declared.calls.Entry.{Entry}
+use Rattle.lock_rules.specs.Entries.{Entry, Answered}
 use Rattle.lock_rules.specs.State.{Claim, State, held_mode, request_of, is_open, is_waiting, is_doomed, with_table}
 use Rattle.lock_rules.specs.Queue.{with_request}
 use Rattle.lock_rules.specs.Step.{Outcome, tests, first_failing, outcome_of, step}
-use Rattle.lock_rules.specs.Legal.{Answered, IsLegal, state_of, calls_from, calls_of}
+use Rattle.lock_rules.specs.Legal.{IsLegal, state_of}
+use Rattle.sequential.specs.Histories.{calls_from, calls_of}
 use Rattle.lock_rules.specs.Laws.{DoesRefusalKeep, DoesKeepLock, HoldsAtLeast, HasDoomedTransaction, IsNoAbort}
 use Rattle.lock_rules.specs.Effects.{request, IsTarget, IsAnswerTo, IsReplyAfterWait, DoVictimsKeepTheirLocks}
 use Rattle.lock_rules.proofs.Histories.{legal-steps, legal-front, state_of-push}

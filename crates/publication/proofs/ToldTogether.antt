@@ -12,10 +12,11 @@ use Rattle.lock_modes.proofs.Every.{every-at, implied}
 use Rattle.lock_modes.proofs.Order.{order-from, order-tests, at_or_below-trans}
 use Rattle.lock_modes.proofs.Compatibility.{compatible-tests}
 use Rattle.lock_modes.proofs.Lower.{compatible-below}
-use Rattle.lock_rules.specs.declared.calls.Entry.{Entry}
+use Rattle.lock_rules.specs.Entries.{Entry, Answered}
 use Rattle.lock_rules.specs.State.{State}
 use Rattle.lock_rules.specs.Step.{is_nothing}
-use Rattle.lock_rules.specs.Legal.{Answered, IsLegal, state_of, calls_of}
+use Rattle.lock_rules.specs.Legal.{IsLegal, state_of}
+use Rattle.sequential.specs.Histories.{calls_of}
 use Rattle.lock_rules.specs.Laws.{DoesRefusalKeep, HoldsAtLeast, GoTogether, Reads, Writes}
 use Rattle.lock_rules.proofs.Lawful.{lawful}
 use Rattle.lock_rules.proofs.Steps.{state-lawful}

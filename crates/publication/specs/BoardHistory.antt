@@ -3,8 +3,7 @@ use Rattle.std.specs.Prelude.{◌≡◌, ℕ, ◌+◌, ◌==◌, cond, Option, S
 use mathlib.Core.Option as opt
 use Rattle.std.specs.Global.{Box}
 use Rattle.atomic_table.specs.Table.{opening}
-use Rattle.lock_rules.specs.declared.calls.Entry.{Entry}
-use Rattle.lock_rules.specs.Legal.{Answered}
+use Rattle.lock_rules.specs.Entries.{Entry, Answered}
 use Rattle.publication.specs.Words.{word_of, FREE, END}
 use Rattle.publication.specs.Views.{Pending, IsAccountedIn, answer}
 use Rattle.publication.specs.Rule.{maker, BoardState, word, home, seat}

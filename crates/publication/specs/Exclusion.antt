@@ -4,7 +4,7 @@ use mathlib.Core.Option as opt
 use lib.ListN.{get_elem?}
 use Rattle.lock_modes.specs.declared.Mode.{Mode}
 use Rattle.lock_modes.specs.declared.Mode.TheVariants.{X}
-use Rattle.lock_rules.specs.Legal.{Answered}
+use Rattle.lock_rules.specs.Entries.{Answered}
 use Rattle.lock_rules.specs.Laws.{GoTogether}
 use Rattle.publication.specs.Views.{Pending, Handed}
 use Rattle.publication.specs.Rule.{BoardState, seat}

@@ -8,7 +8,7 @@ use Rattle.lock_rules.specs.declared.calls.Call.TheVariants.{Lock, Convert, Try,
 use Rattle.lock_rules.specs.declared.calls.Reply.TheVariants.{Granted, Waiting, Clear, Refused, Withdrawn}
 use Rattle.lock_rules.specs.declared.calls.Why.{Why}
 use Rattle.lock_rules.specs.declared.calls.Why.TheVariants.{NotWaiting}
-use Rattle.lock_rules.specs.Legal.{Answered}
+use Rattle.lock_rules.specs.Entries.{Answered}
 use Rattle.lock_rules.specs.Laws.{IsAtOrOver}
 use Rattle.publication.specs.Views.{Pending}
 

@@ -42,8 +42,9 @@ use Rattle.lock_rules.specs.declared.calls.Call.{Call}
 use Rattle.lock_rules.specs.declared.calls.Call.TheVariants.{Poll}
 use Rattle.lock_rules.specs.declared.calls.Reply.{Reply}
 use Rattle.lock_rules.specs.declared.calls.Reply.TheVariants.{Clear}
-use Rattle.lock_rules.specs.declared.calls.Entry.{Entry}
-use Rattle.lock_rules.specs.Legal.{Answered, IsLegal, calls_of}
+use Rattle.lock_rules.specs.Entries.{Entry, Answered}
+use Rattle.lock_rules.specs.Legal.{IsLegal}
+use Rattle.sequential.specs.Histories.{calls_of}
 use Rattle.publication.specs.Words.{session_of_word, END, FREE, POSTED, SERVED, CLOSED, EMPTY}
 use Rattle.publication.specs.Pieces.{pieces_of, added}
 use Rattle.publication.specs.Views.{Pending, Own, Combiner, Listing, Handed, Others, Taken, IsAccountedIn, entry, answer, asks}

@@ -1,6 +1,6 @@
 -- The pieces of the history that sessions take while the board is open.
 use Rattle.std.specs.Prelude.{◌≡◌, ℕ, ◌+◌, ◌≤◌, ◌==◌, List, [], ◌∷◌, ◌++◌, filter, length, take, drop, All}
-use Rattle.lock_rules.specs.declared.calls.Entry.{Entry}
+use Rattle.lock_rules.specs.Entries.{Entry}
 use Rattle.publication.specs.declared.piece.Piece.{Piece}
 
 -- The pieces that session i took, in order.

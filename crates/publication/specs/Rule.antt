@@ -10,8 +10,9 @@ use Rattle.std.specs.Global.{Box}
 use Rattle.trimmed_list.specs.declared.trimmed_list.TheConstants.{NO_BOUND}
 use Rattle.lock_rules.specs.declared.calls.Call.{Call}
 use Rattle.lock_rules.specs.declared.calls.Reply.{Reply}
-use Rattle.lock_rules.specs.declared.calls.Entry.{Entry}
-use Rattle.lock_rules.specs.Legal.{IsLegal, calls_of}
+use Rattle.lock_rules.specs.Entries.{Entry}
+use Rattle.lock_rules.specs.Legal.{IsLegal}
+use Rattle.sequential.specs.Histories.{calls_of}
 use Rattle.publication.specs.Words.{word_of, FREE, OUT, POSTED, BUSY, SERVED, CLOSED, EMPTY}
 use Rattle.publication.specs.Pieces.{pieces_of, AreInOrder, AreInARow}
 use Rattle.publication.specs.Views.{Own, Combiner, Listing, Handed, Others, Taken, entry, answer, asks}

@@ -6,7 +6,7 @@ use Rattle.std.specs.Global.{Box}
 use Rattle.atomic_table.specs.Table.{Act, Valid, carried_after, stepped, step}
 use Rattle.lock_rules.specs.declared.calls.Call.{Call}
 use Rattle.lock_rules.specs.declared.calls.Reply.{Reply}
-use Rattle.lock_rules.specs.Legal.{Answered}
+use Rattle.lock_rules.specs.Entries.{Answered}
 use Rattle.publication.specs.Words.{word_of}
 use Rattle.publication.specs.Views.{Pending}
 use Rattle.publication.specs.Rule.{blank, maker, new_session, BoardState}

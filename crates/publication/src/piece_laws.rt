@@ -3,7 +3,7 @@
 
 ghost use Rattle.std.specs.Prelude.{◌≡◌, ℕ, ◌+◌, ◌<◌, ◌≤◌, List, ◌++◌, length, slice_index_or, take, drop};
 ghost use mathlib.Core.List.{IsPrefix};
-ghost use Rattle.lock_rules.specs.declared.calls.Entry.{Entry};
+ghost use Rattle.lock_rules.specs.Entries.{Entry};
 ghost use Rattle.publication.specs.Pieces.{AreInOrder, AreInARow, entries_in, put_together};
 ghost use Rattle.publication.specs.declared.piece.Piece.{Piece};
 

@@ -17,9 +17,9 @@ pub trait Telling: Serving {
     // The sessions whose wait the last call or batch has ended.
     ghost ended: { Self → List ℕ };
 
-    /// The sessions whose wait the last call or batch has ended.
+    /// The sessions whose wait the last call or batch has ended, in no particular order.
     fn ended(&self) -> &[u16]
-        ensures { result.now ≡ ended self.now };
+        ensures { (u : ℕ) → Contains result.now u ↔ Contains (ended self.now) u };
 
     /// Serves a batch as `serve_batch` does. `ended` then tells exactly the sessions whose wait its calls have ended.
     fn serve_telling(&mut self, items: &mut [Item<Self::Call, Self::Reply>]) -> usize

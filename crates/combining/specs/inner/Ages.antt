@@ -1,7 +1,7 @@
 -- The ages of publication records, and what a clean-up may take off the publication list.
 use Rattle.std.specs.Prelude.{◌≡◌, ◌⊎◌, ℕ, ◌+◌, ◌-◌, ◌<◌, List, [], ◌∷◌, map, drop, slice_index, slice_set}
-use Rattle.lock_rules.specs.declared.calls.Entry.{Entry}
-use Rattle.lock_desk.specs.declared.book.Item.{Item}
+use Rattle.lock_rules.specs.Entries.{Entry}
+use Rattle.lock_desk.specs.Batches.{Item}
 use Rattle.publication.specs.List.{IsOn, first_of}
 use Rattle.combining.specs.declared.clean_up.TheConstants.{PASSES_KEPT}
 

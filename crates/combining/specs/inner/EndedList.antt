@@ -1,6 +1,6 @@
 -- The list in which a pass tells whose wait it has ended.
 use Rattle.std.specs.Prelude.{◌≡◌, ◌⊎◌, ℕ, ◌-◌, ◌≤◌, ◌↔◌, true, false, List, length, drop, vec_capacity, slice_index_or, Contains}
-use Rattle.lock_rules.specs.declared.calls.Entry.{Entry}
+use Rattle.lock_rules.specs.Entries.{Entry}
 use Rattle.combining.specs.Ended.{EndedView, HasEndedIn, IsOnce}
 use Rattle.combining.specs.declared.ended.Ended.TheInside.{Inside}
 

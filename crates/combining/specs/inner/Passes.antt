@@ -1,11 +1,12 @@
 -- The state of a combiner in the middle of its pass.
 use Rattle.std.specs.Prelude.{◌≡◌, ◌≢◌, ◌⊎◌, ℕ, ◌+◌, ◌<◌, ◌≤◌, cond, is_some, true, false, Option, Some, None, List, [], ◌∷◌, ◌++◌, length, map, slice_set, slice_index_or}
 use Rattle.lock_rules.specs.declared.calls.Call.{Call}
-use Rattle.lock_rules.specs.declared.calls.Entry.{Entry}
-use Rattle.lock_rules.specs.Legal.{IsLegal, calls_of, state_of}
-use Rattle.lock_desk.specs.declared.book.Item.{Item}
+use Rattle.lock_rules.specs.Entries.{Entry}
+use Rattle.lock_rules.specs.Legal.{IsLegal, state_of}
+use Rattle.sequential.specs.Histories.{calls_of}
+use Rattle.lock_desk.specs.Batches.{Item, ended_waits_in}
 use Rattle.lock_desk.specs.BookView.{BookView}
-use Rattle.lock_desk.specs.Batches.{IsItemWithin, item_of, ended_waits_in}
+use Rattle.sequential.specs.Batches.{IsItemWithin, item_of}
 use Rattle.publication.specs.Views.{TicketView}
 use Rattle.publication.specs.Boards.{opened_at, heard_from, published_by}
 use Rattle.publication.specs.List.{IsOn, behind}

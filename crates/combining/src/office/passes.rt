@@ -1,7 +1,7 @@
 //! What every way to serve has in common: the pass of a session, up to where it gives the lock table back, and its end.
 
 ghost use Rattle.std.specs.Prelude.{◌≡◌, ◌≢◌, ◌+◌, ◌<◌, ◌≤◌, ◌↔◌, [], true, false, IsTrue, None, IfSome, IfNone, length};
-ghost use Rattle.lock_rules.specs.Legal.{calls_of};
+ghost use Rattle.sequential.specs.Histories.{calls_of};
 ghost use Rattle.publication.specs.Rule.{IsHome};
 ghost use Rattle.publication.specs.Boards.{IsOf, OpensNone, HasCallsOf, heard_from};
 ghost use Rattle.combining.specs.Sessions.{IsSessionOf, IsPendingServed, HasTriedToList};

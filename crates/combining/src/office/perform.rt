@@ -1,7 +1,7 @@
 //! A call that its own session performs, without publishing it.
 
 ghost use Rattle.std.specs.Prelude.{◌≡◌, ◌+◌, ◌<◌, ◌≤◌, ◌↔◌, [], ℕ, false, IsTrue, length};
-ghost use Rattle.lock_rules.specs.Legal.{calls_of};
+ghost use Rattle.sequential.specs.Histories.{calls_of};
 ghost use Rattle.publication.specs.Boards.{HasCallsOf, heard_from};
 ghost use Rattle.combining.specs.Sessions.{IsSessionOf, IsIdle, IsPerformed, IsRefused};
 ghost use Rattle.combining.specs.Ended.{AreToldBy};

@@ -3,7 +3,8 @@ use Rattle.std.specs.Prelude.{◌≡◌, ◌≤◌, length, vec_len}
 use Rattle.std.specs.List.{All}
 use Rattle.waits_for.specs.declared.TheConstants.{MAX_SESSIONS}
 use Rattle.lock_rules.specs.Legal.{state_of, IsLegal}
-use Rattle.lock_desk.specs.BookView.{BookView, IsEntryWithin}
+use Rattle.lock_desk.specs.BookView.{BookView}
+use Rattle.sequential.specs.Histories.{IsEntryWithin}
 use Rattle.lock_desk.specs.inner.Ended.{ended_in}
 use Rattle.lock_desk.specs.inner.Changes.{IsWhole}
 use Rattle.lock_desk.specs.inner.Ready.{IsReadyTable}

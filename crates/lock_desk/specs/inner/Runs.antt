@@ -8,17 +8,17 @@ use Rattle.lock_modes.specs.Codes.{code_of, mask_of}
 use Rattle.lock_tree.specs.Paths.{parent_of, has_parent}
 use Rattle.lock_rules.specs.declared.calls.Call.{Call}
 use Rattle.lock_rules.specs.declared.calls.Call.TheVariants.{Begin, Lock, Convert, Poll, Release, Commit, Abort, Try, Withdraw}
-use Rattle.lock_rules.specs.declared.calls.Entry.{Entry}
+use Rattle.lock_rules.specs.Entries.{Entry}
 use Rattle.lock_rules.specs.Step.{first_failing}
 use Rattle.lock_rules.specs.Legal.{state_of, IsLegal}
-use Rattle.lock_desk.specs.declared.book.Item.{Item}
+use Rattle.lock_desk.specs.Batches.{Item, entries_from, ended_waits_in}
 use Rattle.lock_desk.specs.declared.cells.SessionMode.{SessionMode}
 use Rattle.lock_desk.specs.declared.lockers.Locker.{Locker}
 use Rattle.lock_desk.specs.declared.lock_table.LockTable.{LockTable}
 use Rattle.lock_desk.specs.declared.lock_table.runs.Run.{Run}
 use Rattle.lock_desk.specs.declared.lock_table.runs.RunTarget.{RunTarget}
-use Rattle.lock_desk.specs.BookView.{IsEntryWithin}
-use Rattle.lock_desk.specs.Batches.{entries_from, item_of, ended_waits_in}
+use Rattle.sequential.specs.Histories.{IsEntryWithin}
+use Rattle.sequential.specs.Batches.{item_of}
 use Rattle.lock_desk.specs.inner.Cells.{is_nobody, codes_among, codes_unless_waited, fits_among, IsPlace, HasRoomAt}
 use Rattle.lock_desk.specs.inner.Changes.{view_at, mode_held, call_tests, IsWhole}
 use Rattle.lock_desk.specs.inner.Ready.{IsReadyTable}

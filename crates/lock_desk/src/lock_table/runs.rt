@@ -6,10 +6,10 @@
 ghost use Rattle.std.specs.Prelude.{◌≡◌, ℕ, ◌+◌, ◌-◌, ◌<◌, ◌≤◌, true, false, None, Some, List, ◌==◌, if◌then◌else◌, length, IfSome, OnOk, vec_len, vec_capacity, bit_and};
 ghost use Rattle.std.specs.List.{All};
 ghost use Rattle.lock_rules.specs.declared.calls.Call.TheVariants.{Lock};
-ghost use Rattle.lock_rules.specs.declared.calls.Entry.{Entry as EntryValue};
+ghost use Rattle.lock_rules.specs.Entries.{Entry as EntryValue};
 ghost use Rattle.lock_rules.specs.Step.{first_failing};
-ghost use Rattle.lock_desk.specs.declared.book.Item.{Item as ItemValue};
-ghost use Rattle.lock_desk.specs.Batches.{IsItemWithin};
+ghost use Rattle.lock_desk.specs.Batches.{Item as ItemValue};
+ghost use Rattle.sequential.specs.Batches.{IsItemWithin};
 ghost use Rattle.lock_desk.specs.inner.Ended.{ended_in};
 ghost use Rattle.lock_desk.specs.inner.Changes.{mode_held, lacks_need, call_tests, IsWhole, DoesKeep, IsSameSeen};
 ghost use Rattle.lock_desk.specs.inner.Ready.{IsReadyTable};

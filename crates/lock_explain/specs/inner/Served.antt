@@ -1,10 +1,10 @@
 -- A call that was served after a history.
 use Rattle.std.specs.Prelude.{◌≡◌, ℕ, List, All}
-use Rattle.lock_rules.specs.declared.calls.Entry.{Entry}
+use Rattle.lock_rules.specs.Entries.{Entry}
 use Rattle.lock_rules.specs.State.{State}
 use Rattle.lock_rules.specs.Legal.{state_of}
 use Rattle.lock_rules.specs.Step.{step}
-use Rattle.lock_desk.specs.BookView.{IsEntryWithin}
+use Rattle.sequential.specs.Histories.{IsEntryWithin}
 
 -- after the history, whose entries are of sessions 1 to n, the entry of one of them was served and led to this state
 pub record IsServed (n : ℕ) (history : List Entry) (e : Entry) (after : State) : Type 0 where

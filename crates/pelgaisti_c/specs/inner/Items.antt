@@ -1,7 +1,7 @@
 -- The items of a batch as numbers.
 use Rattle.std.specs.Prelude.{Option, Some, None}
 use Rattle.lock_rules.specs.declared.calls.Reply.{Reply}
-use Rattle.lock_desk.specs.declared.book.Item.{Item}
+use Rattle.lock_desk.specs.Batches.{Item}
 use Rattle.pelgaisti_c.specs.declared.numbers.EntryNumbers.{EntryNumbers}
 use Rattle.pelgaisti_c.specs.declared.numbers.ReplyNumbers.{ReplyNumbers}
 use Rattle.pelgaisti_c.specs.Numbers.{numbers_of_call, numbers_of_reply}

@@ -4,8 +4,8 @@ use Rattle.std.specs.Prelude.{◌≡◌, ℕ, ◌<◌, ◌≤◌, ◌&&◌, Bool
 use mathlib.Core.Option as opt
 use mathlib.Core.List.{IsPrefix}
 use lib.ListN.{get_elem?}
-use Rattle.lock_rules.specs.declared.calls.Entry.{Entry}
-use Rattle.lock_rules.specs.Legal.{calls_of}
+use Rattle.lock_rules.specs.Entries.{Entry}
+use Rattle.sequential.specs.Histories.{calls_of}
 use Rattle.trimmed_list.specs.declared.trimmed_list.TheConstants.{NO_BOUND}
 use Rattle.lock_desk.specs.BookView.{BookView}
 use Rattle.publication.specs.declared.piece.Piece.{Piece}

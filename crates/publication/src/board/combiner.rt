@@ -3,7 +3,8 @@
 
 ghost use Rattle.std.specs.Prelude.{◌≡◌, ◌≢◌, ◌+◌, ◌^◌, ◌<◌, ◌≤◌, ◌∷◌, ◌++◌, [], true, false, Some, None, IfSome, IfNone, length, slice_set};
 ghost use mathlib.Core.List.{IsPrefix};
-ghost use Rattle.lock_rules.specs.Legal.{IsLegal, calls_of};
+ghost use Rattle.lock_rules.specs.Legal.{IsLegal};
+ghost use Rattle.sequential.specs.Histories.{calls_of};
 ghost use Rattle.publication.specs.Views.{entry, answer};
 ghost use Rattle.publication.specs.Pieces.{pieces_of, HasAdded, added};
 ghost use Rattle.publication.specs.Rule.{IsHome};

@@ -1,7 +1,7 @@
 use Rattle.std.proofs.Common.{◌↔◌, get_or, subst, List}
 use Rattle.std.specs.Prelude.{Contains}
-use Rattle.lock_rules.specs.Legal.{Answered}
-use Rattle.lock_rules.specs.Laws.{IsEntryOf, ArePlacesRising}
+use Rattle.lock_rules.specs.Entries.{Answered}
+use Rattle.sequential.specs.Histories.{IsEntryOf, ArePlacesRising}
 use Rattle.combining.proofs.laws.closed_offices_have_one_history.Goals as goal
 
 pub returns : goal.returns

@@ -1,5 +1,5 @@
 use Rattle.std.proofs.Common.{◌≡◌, ◌+◌, List, length, ap, arith, length-append, ◌∷◌, []}
-use Rattle.lock_rules.specs.declared.calls.Entry.{Entry}
+use Rattle.lock_rules.specs.Entries.{Entry}
 use Rattle.publication.specs.Views.{TicketView, entry}
 use Rattle.combining.proofs.EndedWaits.{told-since, step-told}
 use Rattle.combining.proofs.OwnCalls.{entered-longer}

@@ -1,6 +1,6 @@
 use Rattle.std.proofs.Common.{rules, ◌≤◌, List, length, take, refl, subst, arith}
 use Rattle.std.proofs.Math.ListN.{drop_of_length-le}
-use Rattle.lock_desk.specs.declared.book.Item.{Item}
+use Rattle.lock_desk.specs.Batches.{Item}
 use Rattle.publication.proofs.Lists.{prefix_trans}
 use Rattle.combining.specs.inner.Passes.{IsBookInHand}
 use Rattle.combining.proofs.CallsToServe.{answered, keeps-trans}

@@ -1,6 +1,6 @@
 use Rattle.std.proofs.Common.{rules, ◌≡◌, ◌<◌, ◌++◌, length, vec_len, vec_capacity, ◌∷◌, get_or, ℕ, List, Some, None, set, take, drop, sym, ap, ◌∙◌, subst, arith}
-use Rattle.lock_desk.specs.declared.book.Item.{Item}
-use Rattle.lock_desk.specs.Batches.{IsItemWithin}
+use Rattle.lock_desk.specs.Batches.{Item}
+use Rattle.sequential.specs.Batches.{IsItemWithin}
 use Rattle.publication.specs.Views.{TicketView}
 use Rattle.publication.specs.Boards.{opened_at}
 use Rattle.combining.specs.inner.Passes.{AreOpened}

@@ -1,8 +1,8 @@
 use Rattle.std.proofs.Common.{rules, ◌≡◌, ◌∙◌, ℕ, List, take, vec_len, length, sym, ap, subst}
 use Rattle.std.specs.Prelude.{All}
-use Rattle.lock_rules.specs.declared.calls.Entry.{Entry}
-use Rattle.lock_desk.specs.declared.book.Item.{Item}
-use Rattle.lock_desk.specs.Batches.{IsItemWithin}
+use Rattle.lock_rules.specs.Entries.{Entry}
+use Rattle.lock_desk.specs.Batches.{Item}
+use Rattle.sequential.specs.Batches.{IsItemWithin}
 use Rattle.combining.specs.inner.Ages.{sessions_of, sessions_since, noted}
 use Rattle.publication.specs.Views.{TicketView}
 use Rattle.combining.proofs.SameSession.{after_row}

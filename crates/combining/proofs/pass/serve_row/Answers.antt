@@ -1,8 +1,8 @@
 use Rattle.std.proofs.Common.{rules, ◌≡◌, ◌++◌, ℕ, List, take, drop, length, refl, sym, subst}
 use Rattle.std.specs.Prelude.{All}
 use Rattle.lock_rules.specs.Legal.{state_of}
-use Rattle.lock_desk.specs.declared.book.Item.{Item}
-use Rattle.lock_desk.specs.Batches.{IsItemWithin}
+use Rattle.lock_desk.specs.Batches.{Item}
+use Rattle.sequential.specs.Batches.{IsItemWithin}
 use Rattle.combining.proofs.CleanUpWalk.{row-within}
 use Rattle.combining.proofs.EndedWaits.{row-ended}
 use Rattle.combining.proofs.PerformedCalls.{opened-performed}

@@ -2,7 +2,7 @@ use Rattle.std.proofs.Common.{arith, subst}
 use Rattle.std.proofs.lemmas.List.{take_all}
 use Rattle.std.specs.List.{All}
 use Rattle.std.proofs.lemmas.List.Elements.{All-more}
-use Rattle.lock_desk.specs.Batches.{IsItemWithin}
+use Rattle.sequential.specs.Batches.{IsItemWithin}
 use Rattle.desk_tests.proofs.batches.is_within.Goals as goal
 
 pub loop-item-preserved : goal.loop-item-preserved

@@ -1,6 +1,6 @@
 use Rattle.std.proofs.Common.{take}
 use Rattle.std.specs.List.{All}
-use Rattle.lock_desk.specs.Batches.{IsItemWithin}
+use Rattle.sequential.specs.Batches.{IsItemWithin}
 use Rattle.desk_tests.proofs.batches.is_within.Given as goal
 
 -- the items so far are of sessions 1 to `sessions`

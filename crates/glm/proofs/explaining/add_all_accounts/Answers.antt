@@ -1,6 +1,6 @@
 use Rattle.std.proofs.Common.{◌∙◌, ◌+◌, ◌≤◌, ℕ, List, [], length, take, take_all, refl, sym, subst, arith}
 use Rattle.std.specs.List.{All}
-use Rattle.lock_rules.specs.declared.calls.Entry.{Entry}
+use Rattle.lock_rules.specs.Entries.{Entry}
 use Rattle.lock_rules.specs.Legal.{IsLegal}
 use Rattle.lock_trace.specs.Entries.{IsEntry}
 use Rattle.glm.specs.Explaining.{AreAccounts}

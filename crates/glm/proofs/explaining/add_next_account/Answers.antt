@@ -1,6 +1,6 @@
 use Rattle.std.proofs.Common.{◌∙◌, ◌++◌, ◌∷◌, [], List, length, length-take, refl, sym, ap, arith}
 use Rattle.std.proofs.lemmas.Bool.{false≢true}
-use Rattle.lock_rules.specs.declared.calls.Entry.{Entry}
+use Rattle.lock_rules.specs.Entries.{Entry}
 use Rattle.lock_rules.specs.Legal.{state_of}
 use Rattle.lock_rules.specs.Step.{step}
 use Rattle.glm.proofs.ExplainedParts.{ended_alike, reply_alike, served_more, told_more}

@@ -1,5 +1,5 @@
 use Rattle.std.proofs.Common.{ℕ, List, rules, sym, subst}
-use Rattle.lock_rules.specs.declared.calls.Entry.{Entry}
+use Rattle.lock_rules.specs.Entries.{Entry}
 use Rattle.glm.specs.Explaining.{IsTextExplained}
 use Rattle.glm.proofs.explaining.explain.Goals as goal
 

@@ -2,7 +2,7 @@ use Rattle.std.proofs.Common.{◌≡◌, ◌∙◌, ◌+◌, ◌++◌, ◌∷◌
 use Rattle.std.proofs.lemmas.Option.{slice_get_read}
 use Rattle.std.specs.List.{All}
 use Rattle.std.specs.Option.{IfNone}
-use Rattle.lock_rules.specs.declared.calls.Entry.{Entry}
+use Rattle.lock_rules.specs.Entries.{Entry}
 use Rattle.lock_rules.specs.Legal.{IsLegal}
 use Rattle.lock_trace.specs.Entries.{IsEntry}
 use Rattle.glm.specs.Explaining.{IsAccount}

@@ -1,5 +1,5 @@
 use Rattle.std.proofs.Common.{◌++◌, ◌∷◌, [], List, ◌∙◌, ap}
-use Rattle.lock_rules.specs.declared.calls.Entry.{Entry}
+use Rattle.lock_rules.specs.Entries.{Entry}
 use Rattle.lock_rules.specs.Step.{step}
 use Rattle.lock_rules.specs.Legal.{state_of}
 use Rattle.lock_rules.proofs.Steps.{state-lawful}

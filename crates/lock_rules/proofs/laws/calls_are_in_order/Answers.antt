@@ -1,4 +1,4 @@
-use Rattle.lock_rules.proofs.SessionCalls.{contains-entry, entry-contains, rising, calls_of-push}
+use Rattle.sequential.proofs.SessionCalls.{contains-entry, entry-contains, rising, calls_of-push}
 use Rattle.lock_rules.proofs.laws.calls_are_in_order.Goals as goal
 
 pub returns-clause-entries : goal.returns-clause-entries

@@ -1,5 +1,5 @@
 use Rattle.std.proofs.Common.{◌∙◌, ◌++◌, List, ℕ, ap}
-use Rattle.lock_rules.specs.declared.calls.Entry.{Entry}
+use Rattle.lock_rules.specs.Entries.{Entry}
 use Rattle.lock_trace.specs.Histories.{text_of_piece}
 use Rattle.lock_trace.proofs.Lines.{next_entry, take_every}
 use Rattle.lock_trace.proofs.writing.piece_text.Goals as goal

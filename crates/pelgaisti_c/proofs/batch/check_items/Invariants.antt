@@ -1,5 +1,5 @@
 use Rattle.std.proofs.Common.{List, take}
-use Rattle.lock_desk.specs.declared.book.Item.{Item as ItemValue}
+use Rattle.lock_desk.specs.Batches.{Item as ItemValue}
 use Rattle.pelgaisti_c.specs.Batches.{AreItems}
 use Rattle.pelgaisti_c.proofs.batch.check_items.Given as goal
 

@@ -1,5 +1,5 @@
 use Rattle.std.proofs.Common.{◌≡◌, ◌+◌, suc, List, take, sym, subst, arith}
-use Rattle.lock_desk.specs.declared.book.Item.{Item as ItemValue}
+use Rattle.lock_desk.specs.Batches.{Item as ItemValue}
 use Rattle.pelgaisti_c.specs.Batches.{AreItems}
 use Rattle.pelgaisti_c.proofs.Batches.{next_item, first_fault}
 use Rattle.pelgaisti_c.proofs.batch.read_items.Goals as goal

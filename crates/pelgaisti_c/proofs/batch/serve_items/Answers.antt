@@ -1,9 +1,9 @@
 use Rattle.std.proofs.Common.{◌≡◌, ◌≤◌, ◌++◌, ◌∙◌, List, length, take, drop, map, ap, subst, arith}
 use Rattle.std.proofs.lemmas.List.{length-take-le}
 use Rattle.lock_rules.specs.Legal.{state_of}
-use Rattle.lock_rules.specs.declared.calls.Entry.{Entry}
-use Rattle.lock_desk.specs.declared.book.Item.{Item}
-use Rattle.lock_desk.specs.Batches.{entries_from, item_of}
+use Rattle.lock_rules.specs.Entries.{Entry}
+use Rattle.lock_desk.specs.Batches.{Item, entries_from}
+use Rattle.sequential.specs.Batches.{item_of}
 use Rattle.pelgaisti_c.specs.Calls.{written}
 use Rattle.pelgaisti_c.specs.inner.Items.{numbers_of_item}
 use Rattle.pelgaisti_c.specs.Numbers.{numbers_of_entry}

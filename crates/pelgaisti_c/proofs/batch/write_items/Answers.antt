@@ -1,5 +1,5 @@
 use Rattle.std.proofs.Common.{rules, ◌≡◌, suc, ◌+◌, get_or, set, ap, ◌∙◌, arith}
-use Rattle.lock_desk.specs.declared.book.Item.{Item}
+use Rattle.lock_desk.specs.Batches.{Item}
 use Rattle.pelgaisti_c.specs.Calls.{written}
 use Rattle.pelgaisti_c.specs.inner.Items.{numbers_of_item}
 use Rattle.pelgaisti_c.proofs.Writing.{next_written}

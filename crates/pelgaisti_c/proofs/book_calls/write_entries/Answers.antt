@@ -1,5 +1,5 @@
 use Rattle.std.proofs.Common.{rules, ◌≡◌, suc, ◌+◌, get_or, set, ap, ◌∙◌, arith}
-use Rattle.lock_rules.specs.declared.calls.Entry.{Entry}
+use Rattle.lock_rules.specs.Entries.{Entry}
 use Rattle.pelgaisti_c.specs.Numbers.{numbers_of_entry}
 use Rattle.pelgaisti_c.specs.Calls.{written}
 use Rattle.pelgaisti_c.proofs.Writing.{next_written}

@@ -3,9 +3,9 @@ use Rattle.std.proofs.lemmas.List.Elements.{All-nil, All-cons}
 use Rattle.lock_modes.specs.declared.Mode.{Mode}
 use Rattle.lock_modes.specs.declared.Mode.TheVariants.{S, X}
 use Rattle.lock_modes.proofs.Order.{order-from, order-tests, at_or_below-trans}
-use Rattle.lock_rules.specs.declared.calls.Entry.{Entry}
+use Rattle.lock_rules.specs.Entries.{Entry, Answered}
 use Rattle.lock_rules.specs.State.{State}
-use Rattle.lock_rules.specs.Legal.{Answered, IsLegal, state_of}
+use Rattle.lock_rules.specs.Legal.{IsLegal, state_of}
 use Rattle.lock_rules.specs.Laws.{DoesRefusalKeep, HoldsAtLeast, Reads, Writes}
 use Rattle.lock_rules.proofs.Lawful.{lawful}
 use Rattle.publication.specs.Views.{Pending, IsAccountedIn, answer, asks}

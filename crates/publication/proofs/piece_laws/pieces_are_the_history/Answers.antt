@@ -1,5 +1,5 @@
 use Rattle.std.proofs.Common.{◌∙◌, ◌++◌, List, ap, drop, refl, take-append-drop}
-use Rattle.lock_rules.specs.declared.calls.Entry.{Entry}
+use Rattle.lock_rules.specs.Entries.{Entry}
 use Rattle.publication.proofs.PieceLaws.{together, piece_stays, apart_from}
 use Rattle.publication.proofs.piece_laws.pieces_are_the_history.Goals as goal
 

@@ -1,6 +1,6 @@
 use Rattle.std.proofs.Common.{rules, List, subst}
 use Rattle.std.specs.Prelude.{All}
-use Rattle.lock_desk.specs.BookView.{IsEntryWithin}
+use Rattle.sequential.specs.Histories.{IsEntryWithin}
 use Rattle.publication.specs.Views.{BoardView, TicketView}
 use Rattle.publication.specs.Boards.{IsEachOnce, IsSettled, AccountsFor}
 use Rattle.combining.specs.Closed.{IsClosed}

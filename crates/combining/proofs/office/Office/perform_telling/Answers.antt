@@ -1,6 +1,6 @@
 use Rattle.std.proofs.Common.{◌≡◌, ◌+◌, ℕ, Option, IfSome, List, length, length-append, sym, ap, subst, arith}
 use mathlib.Core.List.{IsPrefix}
-use Rattle.lock_rules.specs.declared.calls.Entry.{Entry}
+use Rattle.lock_rules.specs.Entries.{Entry}
 use Rattle.lock_rules.specs.declared.calls.Reply.{Reply}
 use Rattle.publication.specs.Views.{BoardView, TicketView}
 use Rattle.combining.specs.Ended.{EndedView, AreToldBy}

@@ -1,7 +1,7 @@
 use Rattle.std.proofs.Common.{sym, subst, arith, ◌≤◌, length, List}
 use Rattle.std.specs.List.{All}
-use Rattle.lock_desk.specs.BookView.{IsEntryWithin}
-use Rattle.lock_rules.specs.declared.calls.Entry.{Entry}
+use Rattle.sequential.specs.Histories.{IsEntryWithin}
+use Rattle.lock_rules.specs.Entries.{Entry}
 use Rattle.lock_rules.specs.Legal.{IsLegal, state_of}
 use Rattle.lock_desk.specs.inner.Shows.{Shows}
 use Rattle.lock_desk.proofs.EndedList.{none-in}

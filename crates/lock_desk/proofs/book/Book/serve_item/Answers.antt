@@ -1,10 +1,10 @@
 use Rattle.std.proofs.Common.{rules, ◌≡◌, ◌+◌, ◌++◌, ◌∷◌, [], List, length, get_or, set, take, sym, ap, ◌∙◌, subst}
 use Rattle.std.proofs.lemmas.List.{get_or_default}
-use Rattle.lock_rules.specs.declared.calls.Entry.{Entry}
+use Rattle.lock_rules.specs.Entries.{Entry}
 use Rattle.lock_rules.specs.Step.{step}
 use Rattle.lock_rules.specs.Legal.{state_of}
 use Rattle.lock_desk.specs.BookView.{BookView}
-use Rattle.lock_desk.specs.declared.book.Item.{Item}
+use Rattle.lock_desk.specs.Batches.{Item}
 use Rattle.lock_desk.specs.inner.Ended.{ended_in}
 use Rattle.lock_desk.specs.inner.Runs.{AreServed}
 use Rattle.lock_desk.proofs.Batches.{entry_of, with_reply, ended_also, waits_ended-also, served-next}

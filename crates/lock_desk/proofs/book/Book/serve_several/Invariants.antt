@@ -1,6 +1,6 @@
 use Rattle.std.proofs.Common.{◌≡◌, ◌-◌, length}
 use Rattle.std.specs.List.{All}
-use Rattle.lock_desk.specs.Batches.{IsItemWithin}
+use Rattle.sequential.specs.Batches.{IsItemWithin}
 use Rattle.lock_desk.specs.inner.Runs.{AreServed}
 use Rattle.lock_desk.proofs.book.Book.serve_several.Given as goal
 

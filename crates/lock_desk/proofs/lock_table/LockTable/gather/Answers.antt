@@ -1,7 +1,7 @@
 use Rattle.std.proofs.Common.{rules, ◌≡◌, ◌+◌, ◌-◌, ◌||◌, ℕ, false, eqb, get_or, ap, sym, arith, subst, bit_or, ◌∙◌}
 use Rattle.waits_for.specs.Marks.{is_marked}
 use Rattle.lock_modes.specs.Codes.{code_of, mask_of}
-use Rattle.lock_desk.specs.declared.book.Item.{Item}
+use Rattle.lock_desk.specs.Batches.{Item}
 use Rattle.lock_desk.specs.inner.Runs.{mode_asked, Each, IsRun}
 use Rattle.lock_desk.proofs.RunItems.{without-mark, each-apart, each-marked, run-none, run-more}
 use Rattle.lock_desk.proofs.lock_table.LockTable.gather.Goals as goal

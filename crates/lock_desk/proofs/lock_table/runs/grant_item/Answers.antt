@@ -1,11 +1,11 @@
 use Rattle.std.proofs.Common.{rules, ◌≡◌, ℕ, take, ◌+◌, ◌-◌, ◌<◌, ◌∷◌, ◌++◌, [], List, get_or, set, sym, ap, ◌∙◌, arith, subst, refl, length, vec_len}
 use Rattle.std.proofs.lemmas.List.{get_or_default, length-set}
 use Rattle.std.proofs.lemmas.List.Elements.{All-get_or}
-use Rattle.lock_rules.specs.declared.calls.Entry.{Entry}
+use Rattle.lock_rules.specs.Entries.{Entry}
 use Rattle.lock_rules.specs.declared.calls.Call.TheVariants.{Lock}
 use Rattle.lock_rules.specs.declared.calls.Reply.TheVariants.{Granted}
-use Rattle.lock_desk.specs.declared.book.Item.{Item}
-use Rattle.lock_desk.specs.Batches.{IsItemWithin}
+use Rattle.lock_desk.specs.Batches.{Item}
+use Rattle.sequential.specs.Batches.{IsItemWithin}
 use Rattle.lock_desk.specs.inner.Cells.{HasRoomAt}
 use Rattle.lock_rules.specs.Legal.{state_of}
 use Rattle.lock_desk.specs.inner.Ended.{ended_in}

@@ -1,8 +1,8 @@
 use Rattle.std.proofs.Common.{◌≡◌, ℕ, ◌-◌, ◌≤◌, vec_len, List}
 use Rattle.std.specs.List.{All}
-use Rattle.lock_rules.specs.declared.calls.Entry.{Entry}
-use Rattle.lock_desk.specs.declared.book.Item.{Item}
-use Rattle.lock_desk.specs.Batches.{IsItemWithin}
+use Rattle.lock_rules.specs.Entries.{Entry}
+use Rattle.lock_desk.specs.Batches.{Item}
+use Rattle.sequential.specs.Batches.{IsItemWithin}
 use Rattle.lock_desk.specs.inner.Ended.{ended_in}
 use Rattle.lock_desk.specs.inner.Runs.{IsGranting, AreKept, AreServed}
 use Rattle.lock_desk.proofs.lock_table.runs.grant_items.Given as goal

@@ -2,8 +2,8 @@ use Rattle.std.proofs.Common.{rules, ◌≡◌, ◌<◌, false, eqb, get_or, len
 use Rattle.std.proofs.lemmas.List.{get_or_default}
 use Rattle.std.proofs.lemmas.List.Elements.{All-get_or}
 use Rattle.lock_rules.proofs.Sound.{eqb-swap}
-use Rattle.lock_desk.specs.declared.book.Item.{Item}
-use Rattle.lock_desk.specs.Batches.{IsItemWithin}
+use Rattle.lock_desk.specs.Batches.{Item}
+use Rattle.sequential.specs.Batches.{IsItemWithin}
 use Rattle.lock_desk.specs.inner.Runs.{HasLockRoom}
 use Rattle.lock_desk.proofs.Agreement.{keeps-on}
 use Rattle.lock_desk.proofs.RunItems.{each-more, same-on}

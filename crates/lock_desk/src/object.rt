@@ -1,0 +1,120 @@
+//! The book as a sequential object: what threads need of it to share it.
+
+ghost use Rattle.std.specs.Prelude.{◌≡◌};
+
+use crate::book::{Book, Item};
+use lock_rules::{Call, Entry, Reply};
+use sequential::{Sequential, Serving, Telling, Trimming};
+use std::alloc::{AllocError as NoMemory, Global};
+
+impl Sequential for Book {
+    type Call = Call;
+
+    type Reply = Reply;
+
+    ghost use Rattle.lock_rules.specs.declared.calls.Call.TheVariants.{Poll};
+    ghost use Rattle.lock_rules.specs.declared.calls.Reply.TheVariants.{Clear};
+    ghost use Rattle.lock_rules.specs.Legal.{IsLegal};
+    ghost use Rattle.lock_rules.proofs.Histories.{legal-front};
+    ghost use Rattle.lock_desk.specs.BookLaws.{replies_are_total, replies_are_determined};
+
+    ghost sessions = { λ book. book.sessions };
+
+    ghost history = { λ book. book.history };
+
+    ghost cut = { λ book. book.cut };
+
+    ghost bound = { λ book. book.bound };
+
+    ghost is_legal = { IsLegal };
+
+    ghost agree = { λ reply other. reply ≡ other };
+
+    ghost any_call = { Poll };
+
+    ghost any_reply = { Clear };
+
+    fn sessions(&self) -> u16 {
+        self.sessions()
+    }
+
+    fn served(&self) -> u64 {
+        // the history is legal, each entry is of a session of the book, and none is let go of an empty one
+        let _history = self.history();
+        let _first = self.first_kept();
+        self.served()
+    }
+
+    ghost empty = { tt };
+
+    ghost fronts = { legal-front };
+
+    ghost total = { replies_are_total };
+
+    ghost determined = { replies_are_determined };
+}
+
+impl Serving for Book {
+    ghost use Rattle.lock_desk.specs.Batches.{makes_room};
+
+    ghost goes_first = { makes_room };
+
+    /// Whether the call makes room for requests of others: it releases locks, or takes a request out of a queue.
+    fn goes_first(call: &Call) -> bool {
+        matches!(
+            call,
+            Call::Release(_) | Call::Commit | Call::Abort | Call::Withdraw
+        )
+    }
+
+    #[inline(always)]
+    fn serve(&mut self, session: u16, call: Call) -> Result<Reply, NoMemory> {
+        self.serve(session, call)
+    }
+
+    fn serve_batch(&mut self, items: &mut [Item]) -> usize {
+        self.serve_batch(items)
+    }
+}
+
+impl Trimming for Book {
+    type Line = Entry;
+
+    ghost use Rattle.std.proofs.Common.{refl};
+
+    ghost lines = { λ history. history };
+
+    fn kept_from(&self) -> u64 {
+        self.first_kept()
+    }
+
+    fn kept(&self) -> &[Entry] {
+        self.history()
+    }
+
+    fn let_go(&mut self, count: u64) -> u64 {
+        self.let_go(count)
+    }
+
+    fn take_kept(&mut self, alloc: Global) -> Vec<Entry> {
+        self.take_history(alloc)
+    }
+
+    ghost grows = { λ front rest. (rest, refl) };
+}
+
+impl Telling for Book {
+    ghost use Rattle.lock_desk.specs.Batches.{ends_wait};
+
+    ghost ends = { ends_wait };
+
+    ghost ended = { λ book. book.ended };
+
+    fn ended(&self) -> &[u16] {
+        self.ended()
+    }
+
+    fn serve_telling(&mut self, items: &mut [Item]) -> usize {
+        self.serve_batch(items)
+    }
+}
