@@ -1,6 +1,6 @@
 #!/usr/bin/env python3
 """Refuses each allocation in turn: of replays, checks, states, explanations and runs by glm, and of tests of the lock table, of the
-office and of what is below them. (checks/scripts_of_calls does the same with scripts of calls of the lock table.)
+office, of sequential objects and of what is below them. (checks/scripts_of_calls does the same with scripts of calls of the lock table.)
 
 Usage: checks/refused_memory.py [--over-gate]
 
@@ -45,12 +45,15 @@ PIECE = 4096
 TESTED = {
     "base_tests": ("reports::refused_", "traces::reports_the_row_in_which_memory_was_refused", "waits::refused_"),
     "desk_tests": ("refusals::",),
+    "object_tests": ("refusals::",),
     "office_tests": ("boards::", "calls::", "closing::", "offices::"),
 }
 # what tests print of a refusal: for each of these texts there has to be a round that prints it and nothing else
 TOLD = {
     "offices::a_call_that_found_no_memory_is_made_by_the_next_try": {"starved pass", "starved at once", "starved whole call"},
+    "refusals::a_refused_batch_goes_on_at_the_second_try": {"ended early"},
     "refusals::a_refused_book_is_made_at_the_second_try": {"refused"},
+    "refusals::a_refused_call_of_an_object_is_made_at_the_second_try": {"refused call"},
     "reports::refused_texts_are_written_at_the_second_try": {"refused"},
     "traces::reports_the_row_in_which_memory_was_refused": {"refused in row 1", "refused in row 3", "refused in row 5"},
     "waits::refused_rows_are_made_at_the_second_try": {"refused"},

@@ -6,7 +6,7 @@ use mathlib.Core.Logic.{dite}
 use native.Mathlib.Decide.{ℕ_discrete}
 use Rattle.lock_rules.specs.Entries.{Entry, Answered}
 use Rattle.sequential.specs.Histories.{calls_from, calls_of, IsEntryWithin}
-use Rattle.publication.specs.Views.{TicketView}
+use Rattle.lock_board.specs.LockBoards.{TicketView}
 use Rattle.publication.specs.Boards.{IsEachOnce, AccountsFor}
 use Rattle.combining.specs.Closed.{answers_of}
 

@@ -7,8 +7,9 @@ use Rattle.lock_rules.specs.declared.calls.Reply.{Reply}
 use Rattle.lock_rules.specs.Entries.{Entry, Answered}
 use Rattle.sequential.specs.Histories.{calls_of}
 use Rattle.sequential.proofs.SessionCalls.{last_call, calls_of-push}
-use Rattle.publication.specs.Views.{TicketView, entry}
-use Rattle.publication.specs.Boards.{opened_at, asked_at, heard_from, published_by}
+use Rattle.publication.specs.Views.{entry}
+use Rattle.lock_board.specs.LockBoards.{TicketView, asked_at}
+use Rattle.publication.specs.Boards.{opened_at, heard_from, published_by}
 use Rattle.combining.specs.inner.Passes.{HasCalls, KeepsCalls, IsVisited, IsSameSession}
 
 -- One more entry adds 1 or 0 to a session's number of calls.

@@ -1,6 +1,7 @@
 -- Whose wait the calls of a pass have ended.
 use Rattle.std.proofs.Common.{◌≡◌, ℕ, ◌+◌, ◌<◌, ◌≤◌, ◌↔◌, ◌⊎◌, inl, inr, ⊎_elim, Bool, true, false, ◌||◌, List, [], ◌∷◌, ◌++◌, length, map, drop, filter, Contains, refl, sym, ap, ◌∙◌, subst, arith, zero, suc, append-nil, append_assoc, length-append, length-drop}
 use Rattle.std.specs.List.{range_with_len}
+use Rattle.std.proofs.lemmas.Bool.{or_cases, or_left, or_right}
 use Rattle.std.proofs.Math.Seq.{drop-append_seam}
 use Rattle.std.proofs.Math.Bool.{or_assoc, or-false}
 use Rattle.lock_rules.specs.Entries.{Entry}
@@ -16,9 +17,9 @@ use Rattle.sequential.proofs.Members.{contains-member, member-contains}
 use Rattle.lock_desk.specs.Batches.{Item, entries_from, has_ended_in, ended_waits_in}
 use Rattle.lock_desk.specs.BookView.{BookView}
 use Rattle.sequential.specs.Batches.{item_of}
-use Rattle.lock_desk.proofs.EndedInBatches.{same-ended, or-parts, or-left, or-right, ended-says, members}
-use Rattle.publication.specs.Views.{TicketView, entry}
-use Rattle.publication.specs.declared.slot.Load.{Load}
+use Rattle.lock_desk.proofs.EndedInBatches.{same-ended, ended-says, members}
+use Rattle.publication.specs.Views.{entry}
+use Rattle.lock_board.specs.LockBoards.{TicketView, Load}
 use mathlib.Core.List.{IsPrefix}
 use Rattle.combining.specs.Ended.{EndedView, HasEndedIn, AreEndedBy, AreToldBy, IsOnce}
 use Rattle.combining.specs.inner.EndedList.{HasAddedEnded}
@@ -84,8 +85,8 @@ ended-either front some others u =
     let all = ended-says front (some ++ others) u in
     let first = ended-says front some u in
     let last = ended-says (front ++ some) others u in (
-      λ h. ⊎_elim (λ x. inl (first.0 x)) (λ y. inr (last.0 (same ∙ y))) (or-parts a b (sym whole ∙ all.1 h)),
-      λ h. all.0 (whole ∙ ⊎_elim (λ x. or-left a b (first.1 x)) (λ y. or-right a b (sym same ∙ last.1 y)) h),
+      λ h. ⊎_elim (λ x. inl (first.0 x)) (λ y. inr (last.0 (same ∙ y))) (or_cases a b (sym whole ∙ all.1 h)),
+      λ h. all.0 (whole ∙ ⊎_elim (λ x. or_left a b (first.1 x)) (λ y. or_right a b (sym same ∙ last.1 y)) h),
     )
 
 -- A list with exactly the sessions whose wait the entries have ended, each once.

@@ -3,8 +3,8 @@ use Rattle.std.proofs.Common.{◌≡◌, ℕ, zero, suc, ◌+◌, Option, None, 
 use Rattle.std.specs.List.{All}
 use Rattle.std.proofs.lemmas.List.Elements.{All-push}
 use Rattle.lock_rules.specs.declared.calls.Call.{Call}
-use Rattle.publication.specs.Views.{BoardView, TicketView}
-use Rattle.publication.specs.Boards.{new_ticket, new_tickets}
+use Rattle.publication.specs.Views.{BoardView}
+use Rattle.lock_board.specs.LockBoards.{TicketView, new_ticket, new_tickets}
 use Rattle.combining.specs.Sessions.{IsSessionOf, IsIdle}
 
 -- A list of `None` has `None` at every index, and beyond its end.
@@ -19,4 +19,4 @@ new_sessions_idle office sessions zero = λ k d h. absurd (omega arith)
 new_sessions_idle office sessions (suc k) =
     All-push (λ (session : TicketView). IsSessionOf office session × IsIdle session) (new_tickets office.id sessions k) (new_ticket office.id sessions (suc k))
     (new_sessions_idle office sessions k)
-    (record { ours = refl; no_book = refl; none = none_opened (sessions + 1); no_walk = refl; live = λ pending. refl }, (refl, refl))
+    (record { ours = refl; no_object = refl; none = none_opened (sessions + 1); no_walk = refl; live = λ pending. refl }, (refl, refl))

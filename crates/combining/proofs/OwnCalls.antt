@@ -4,7 +4,8 @@ use mathlib.Core.List.{IsPrefix}
 use Rattle.lock_rules.specs.declared.calls.Call.{Call}
 use Rattle.lock_rules.specs.declared.calls.Reply.{Reply}
 use Rattle.lock_rules.specs.Entries.{Entry, Answered}
-use Rattle.publication.specs.Views.{TicketView, entry, answer}
+use Rattle.publication.specs.Views.{entry, answer}
+use Rattle.lock_board.specs.LockBoards.{TicketView}
 use Rattle.publication.proofs.Lists.{prefix_self}
 use Rattle.combining.specs.inner.OwnCalls.{IsOwnEntered, IsPassWithOwn}
 

@@ -12,8 +12,8 @@ use Rattle.lock_rules.proofs.Histories.{legal-front}
 use Rattle.lock_desk.specs.Batches.{Item, entries_from}
 use Rattle.lock_desk.specs.BookView.{BookView}
 use Rattle.sequential.specs.Batches.{item_of}
-use Rattle.publication.specs.Views.{TicketView, entry}
-use Rattle.publication.specs.Boards.{asked_at}
+use Rattle.publication.specs.Views.{entry}
+use Rattle.lock_board.specs.LockBoards.{book_object, TicketView, asked_at}
 use Rattle.publication.specs.Kinds.{called}
 use Rattle.combining.specs.inner.Passes.{AreOpened, KeepsCalls, IsBookInHand}
 use Rattle.combining.specs.inner.Ages.{sessions_of, sessions_since, noted}
@@ -101,7 +101,7 @@ answered-at n book t u row served k i reply most few here told legal h all is =
     let long = length-take-le served row most in
     let in_row : i ≡ get_or row k i = here ∙ get_or-take served row k i (omega (arith, few, long)) in
     let opened : AreOpened n t.opened (i ∷ drop (k + 1) row) = subst (λ (l : List Item). AreOpened n t.opened l) (drop-next row k i (omega (arith, few, long, most)) in_row) all in
-    let asked : asked_at t i.session ≡ i.call = ap called opened.1 in
+    let asked : asked_at t i.session ≡ i.call = ap (called book_object) opened.1 in
     let told_entry = entry i.session (asked_at t i.session) reply in
     let known : u.front ≡ t.front ++ told_entry ∷ [] = ap (λ (x : TicketView). x.front) is in
     let e : entry i.session i.call next.reply ≡ told_entry = cc (sym asked, (let s : Some next.reply ≡ Some reply = sym next.told ∙ told in s)) in

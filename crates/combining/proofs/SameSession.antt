@@ -1,7 +1,7 @@
 -- What doesn't change in a session from one step of its pass to the next.
 use Rattle.std.proofs.Common.{◌≡◌, ℕ, List, length, sym, ap, ◌∙◌}
 use Rattle.lock_rules.specs.Entries.{Entry}
-use Rattle.publication.specs.Views.{TicketView}
+use Rattle.lock_board.specs.LockBoards.{TicketView}
 use Rattle.publication.specs.Boards.{OpensNone}
 use Rattle.combining.specs.inner.Passes.{IsSameSession, IsAfterRow}
 use Rattle.combining.proofs.OpenedRow.{Calls, none-opened}

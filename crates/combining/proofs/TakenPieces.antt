@@ -4,11 +4,10 @@ use Rattle.std.proofs.lemmas.List.{take_all, length-drop, length-take}
 use Rattle.std.proofs.Math.Seq.{drop-append_seam}
 use Rattle.lock_rules.specs.Entries.{Entry}
 use Rattle.publication.specs.Pieces.{added}
-use Rattle.publication.specs.Views.{TicketView}
+use Rattle.lock_board.specs.LockBoards.{TicketView, Load}
 use Rattle.publication.specs.Boards.{tried, enlisted}
 use Rattle.publication.specs.declared.piece.Piece.{Piece}
 use Rattle.lock_rules.specs.Legal.{IsLegal}
-use Rattle.publication.specs.declared.slot.Load.{Load}
 use Rattle.combining.specs.Sessions.{HasTriedToList, IsPassed}
 use Rattle.combining.specs.inner.Passes.{HasMadePass}
 use Rattle.combining.specs.Queries.{HasLooked}
@@ -16,46 +15,46 @@ use Rattle.combining.specs.inner.Queries.{HasBegunToLook}
 use mathlib.Core.List.{IsPrefix}
 
 -- A session that isn't the combiner is none afterwards, has begun no walk, and knows nothing of others' pieces.
-same_rest : (t : TicketView) (f : List Entry) (n : ℕ) (q : List Piece) → t.has_book ≡ false → t.route ≡ [] → t.taken ≡ []
-    → record t { front = f; put_backs = n; pieces = q; has_book = false; route = []; taken = [] } ≡ record t { front = f; put_backs = n; pieces = q }
+same_rest : (t : TicketView) (f : List Entry) (n : ℕ) (q : List Piece) → t.has_object ≡ false → t.route ≡ [] → t.taken ≡ []
+    → record t { front = f; put_backs = n; pieces = q; has_object = false; route = []; taken = [] } ≡ record t { front = f; put_backs = n; pieces = q }
 same_rest t f n q lacked no_walk untaken =
-    ap (λ (b : Bool). record t { front = f; put_backs = n; pieces = q; has_book = b; route = []; taken = [] }) (sym lacked)
+    ap (λ (b : Bool). record t { front = f; put_backs = n; pieces = q; has_object = b; route = []; taken = [] }) (sym lacked)
     ∙ (ap (λ (r : List ℕ). record t { front = f; put_backs = n; pieces = q; route = r; taken = [] }) (sym no_walk)
     ∙ ap (λ (ps : List Piece). record t { front = f; put_backs = n; pieces = q; taken = ps }) (sym untaken))
 
 -- The session noted one piece meanwhile: it knows the history, and the piece is its own.
-pub noted_one : (t u w : TicketView) (h : List Entry) (all after : List Piece) (p : Piece) → u ≡ record t { front = h; has_book = true; taken = all }
-    → w ≡ record u { has_book = false; route = []; pieces = u.pieces ++ added u.taken after; taken = [] } → t.has_book ≡ false → t.route ≡ [] → t.taken ≡ []
+pub noted_one : (t u w : TicketView) (h : List Entry) (all after : List Piece) (p : Piece) → u ≡ record t { front = h; has_object = true; taken = all }
+    → w ≡ record u { has_object = false; route = []; pieces = u.pieces ++ added u.taken after; taken = [] } → t.has_object ≡ false → t.route ≡ [] → t.taken ≡ []
     → after ≡ all ++ p ∷ [] → w ≡ record t { front = w.front; pieces = t.pieces ++ p ∷ [] }
 noted_one t u w h all after p seized released lacked no_walk untaken noted =
-    let whole : w ≡ record t { front = h; has_book = false; route = []; pieces = t.pieces ++ added all after; taken = [] }
-    = released ∙ ap (λ (x : TicketView). record x { has_book = false; route = []; pieces = x.pieces ++ added x.taken after; taken = [] }) seized in
+    let whole : w ≡ record t { front = h; has_object = false; route = []; pieces = t.pieces ++ added all after; taken = [] }
+    = released ∙ ap (λ (x : TicketView). record x { has_object = false; route = []; pieces = x.pieces ++ added x.taken after; taken = [] }) seized in
     let one : added all after ≡ p ∷ [] = ap (added all) noted ∙ drop-append_seam all (p ∷ []) in
     let front : w.front ≡ h = ap (λ (x : TicketView). x.front) whole in
-    whole ∙ (ap (λ (ps : List Piece). record t { front = h; has_book = false; route = []; pieces = t.pieces ++ ps; taken = [] }) one
+    whole ∙ (ap (λ (ps : List Piece). record t { front = h; has_object = false; route = []; pieces = t.pieces ++ ps; taken = [] }) one
     ∙ (same_rest t h t.put_backs (t.pieces ++ p ∷ []) lacked no_walk untaken ∙ ap (λ (f : List Entry). record t { front = f; pieces = t.pieces ++ p ∷ [] }) (sym front)))
 
 -- The session took the lock table and made a pass, and noted no piece.
-pub made : (t u v : TicketView) (h : List Entry) (all after : List Piece) → u ≡ record t { front = h; has_book = true; taken = all }
+pub made : (t u v : TicketView) (h : List Entry) (all after : List Piece) → u ≡ record t { front = h; has_object = true; taken = all }
     → v ≡ record u { front = v.front; route = v.route; put_backs = v.put_backs } → after ≡ all
-    → v ≡ record t { front = v.front; has_book = true; route = v.route; put_backs = v.put_backs; taken = after }
+    → v ≡ record t { front = v.front; has_object = true; route = v.route; put_backs = v.put_backs; taken = after }
 made t u v h all after seized served same =
     served ∙ (ap (λ (x : TicketView). record x { front = v.front; route = v.route; put_backs = v.put_backs }) seized
-    ∙ ap (λ (ps : List Piece). record t { front = v.front; has_book = true; route = v.route; put_backs = v.put_backs; taken = ps }) (sym same))
+    ∙ ap (λ (ps : List Piece). record t { front = v.front; has_object = true; route = v.route; put_backs = v.put_backs; taken = ps }) (sym same))
 
 -- Giving the lock table back notes no piece if none was taken meanwhile.
-pub gave_back : (v w : TicketView) (after : List Piece) → w ≡ record v { has_book = false; route = []; pieces = v.pieces ++ added v.taken after; taken = [] } → v.taken ≡ after
-    → w ≡ record v { has_book = false; route = []; taken = [] }
+pub gave_back : (v w : TicketView) (after : List Piece) → w ≡ record v { has_object = false; route = []; pieces = v.pieces ++ added v.taken after; taken = [] } → v.taken ≡ after
+    → w ≡ record v { has_object = false; route = []; taken = [] }
 gave_back v w after released same =
     let none : added v.taken after ≡ [] = ap (added v.taken) (sym same ∙ sym (append-nil v.taken)) ∙ drop-append_seam v.taken [] in
     let kept : v.pieces ++ added v.taken after ≡ v.pieces = ap (λ (ps : List Piece). v.pieces ++ ps) none ∙ append-nil v.pieces in
-    released ∙ ap (λ (q : List Piece). record v { has_book = false; route = []; pieces = q; taken = [] }) kept
+    released ∙ ap (λ (q : List Piece). record v { has_object = false; route = []; pieces = q; taken = [] }) kept
 
 -- The session read the lock table meanwhile, and noted no piece.
-pub looked : (before mid after : TicketView) → HasBegunToLook before mid → after ≡ record mid { has_book = false; route = []; taken = [] } → HasLooked before after
+pub looked : (before mid after : TicketView) → HasBegunToLook before mid → after ≡ record mid { has_object = false; route = []; taken = [] } → HasLooked before after
 looked before mid after b released =
-    let whole : after ≡ record before { front = mid.front; has_book = false; route = []; taken = [] }
-    = released ∙ ap (λ (x : TicketView). record x { has_book = false; route = []; taken = [] }) b.session in
+    let whole : after ≡ record before { front = mid.front; has_object = false; route = []; taken = [] }
+    = released ∙ ap (λ (x : TicketView). record x { has_object = false; route = []; taken = [] }) b.session in
     let front : after.front ≡ mid.front = ap (λ (x : TicketView). x.front) whole in
     record {
       session = whole ∙ (same_rest before mid.front before.put_backs before.pieces b.lacked b.no_walk b.untaken ∙ ap (λ (f : List Entry). record before { front = f }) (sym front));
@@ -64,16 +63,16 @@ looked before mid after b released =
     }
 
 -- The session made a pass meanwhile, and noted no piece.
-passed : (t v w : TicketView) (all : List Piece) → v ≡ record t { front = v.front; has_book = true; route = v.route; put_backs = v.put_backs; taken = all }
-    → w ≡ record v { has_book = false; route = []; taken = [] } → t.has_book ≡ false → t.route ≡ [] → t.taken ≡ [] → w ≡ record t { front = w.front; put_backs = w.put_backs }
+passed : (t v w : TicketView) (all : List Piece) → v ≡ record t { front = v.front; has_object = true; route = v.route; put_backs = v.put_backs; taken = all }
+    → w ≡ record v { has_object = false; route = []; taken = [] } → t.has_object ≡ false → t.route ≡ [] → t.taken ≡ [] → w ≡ record t { front = w.front; put_backs = w.put_backs }
 passed t v w all late released lacked no_walk untaken =
-    let whole : w ≡ record t { front = v.front; put_backs = v.put_backs; has_book = false; route = []; taken = [] }
-    = released ∙ ap (λ (x : TicketView). record x { has_book = false; route = []; taken = [] }) late in
+    let whole : w ≡ record t { front = v.front; put_backs = v.put_backs; has_object = false; route = []; taken = [] }
+    = released ∙ ap (λ (x : TicketView). record x { has_object = false; route = []; taken = [] }) late in
     let both : (v.front, v.put_backs) ≡ (w.front, w.put_backs) = sym (ap (λ (x : TicketView). (x.front, x.put_backs)) whole) in
     whole ∙ (same_rest t v.front v.put_backs t.pieces lacked no_walk untaken ∙ ap (λ (k : List Entry × ℕ). record t { front = k.0; put_backs = k.1 }) both)
 
 -- A pass that was made and ended.
-pub pass-ended : (n : ℕ) (before mid after : TicketView) (load : Load) (served : ℕ) → HasMadePass n before mid load served → after ≡ record mid { has_book = false; route = []; taken = [] }
+pub pass-ended : (n : ℕ) (before mid after : TicketView) (load : Load) (served : ℕ) → HasMadePass n before mid load served → after ≡ record mid { has_object = false; route = []; taken = [] }
     → IsPassed before after served
 pass-ended n before mid after load served m released =
     let front : after.front ≡ mid.front = ap (λ (x : TicketView). x.front) released in
@@ -94,10 +93,10 @@ tried-front t u h = ⊎_elim (λ unlisted. ⊎_elim (λ (e : u ≡ tried t). ap 
     (λ other. ap (λ (x : TicketView). x.front) other.1) h
 
 -- Nor of what the session is.
-pub tried-rest : (t u : TicketView) → HasTriedToList t u → (u.has_book ≡ t.has_book) × (u.route ≡ t.route)
-tried-rest t u h = ⊎_elim (λ unlisted. ⊎_elim (λ (e : u ≡ tried t). (ap (λ (x : TicketView). x.has_book) e, ap (λ (x : TicketView). x.route) e))
-    (λ (e : u ≡ tried (enlisted t)). (ap (λ (x : TicketView). x.has_book) e, ap (λ (x : TicketView). x.route) e)) unlisted.1)
-    (λ other. (ap (λ (x : TicketView). x.has_book) other.1, ap (λ (x : TicketView). x.route) other.1)) h
+pub tried-rest : (t u : TicketView) → HasTriedToList t u → (u.has_object ≡ t.has_object) × (u.route ≡ t.route)
+tried-rest t u h = ⊎_elim (λ unlisted. ⊎_elim (λ (e : u ≡ tried t). (ap (λ (x : TicketView). x.has_object) e, ap (λ (x : TicketView). x.route) e))
+    (λ (e : u ≡ tried (enlisted t)). (ap (λ (x : TicketView). x.has_object) e, ap (λ (x : TicketView). x.route) e)) unlisted.1)
+    (λ other. (ap (λ (x : TicketView). x.has_object) other.1, ap (λ (x : TicketView). x.route) other.1)) h
 
 -- which entries
 

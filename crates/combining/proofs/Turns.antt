@@ -7,7 +7,8 @@ use Rattle.lock_rules.specs.declared.calls.Call.{Call}
 use Rattle.lock_rules.specs.declared.calls.Reply.{Reply}
 use Rattle.lock_rules.specs.Entries.{Entry, Answered}
 use Rattle.sequential.specs.Histories.{calls_of}
-use Rattle.publication.specs.Views.{TicketView, Pending, entry, answer, asks}
+use Rattle.publication.specs.Views.{entry, answer, asks}
+use Rattle.lock_board.specs.LockBoards.{TicketView, Pending}
 use Rattle.publication.specs.Boards.{publishing, enlisted, tried}
 use Rattle.publication.proofs.Lists.{prefix_self, prefix_trans}
 use Rattle.combining.specs.Sessions.{HasTriedToList, IsPassed, IsCollected, IsPerformed, IsRefused}

@@ -8,7 +8,8 @@ use Rattle.lock_rules.specs.declared.calls.Reply.{Reply}
 use Rattle.lock_rules.specs.Legal.{IsLegal}
 use Rattle.lock_rules.specs.Entries.{Answered}
 use Rattle.sequential.specs.Histories.{calls_of}
-use Rattle.publication.specs.Views.{TicketView, Pending, entry, answer, asks}
+use Rattle.publication.specs.Views.{entry, answer, asks}
+use Rattle.lock_board.specs.LockBoards.{TicketView, Pending}
 
 -- What else may have changed of a session that made a call: it may know more of the history, what it has heard of itself, whether
 -- its last call was listed, how often it tried to have one listed, and how many calls it put back.

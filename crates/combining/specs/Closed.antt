@@ -6,8 +6,9 @@ use Rattle.lock_rules.specs.Laws.{AreRepliesOfSteps, AreHoldersCompatible, IsAcc
 use Rattle.sequential.specs.Histories.{IsEntryOf, ArePlacesRising, IsEntryWithin}
 use Rattle.lock_rules.specs.Lawful.{IsLawfulState}
 use Rattle.lock_desk.specs.BookView.{BookView}
-use Rattle.publication.specs.Views.{BoardView, TicketView}
-use Rattle.publication.specs.Boards.{IsEachOnce, AccountsFor, TookPieces}
+use Rattle.publication.specs.Views.{BoardView}
+use Rattle.lock_board.specs.LockBoards.{TicketView, TookPieces}
+use Rattle.publication.specs.Boards.{IsEachOnce, AccountsFor}
 use Rattle.combining.specs.Sessions.{HasNothingPending}
 
 -- How many answers these sessions collected, all together.

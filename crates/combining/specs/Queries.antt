@@ -5,7 +5,7 @@ use mathlib.Core.List.{IsPrefix}
 use Rattle.lock_rules.specs.State.{Table}
 use Rattle.lock_rules.specs.Waits.{waits_for}
 use Rattle.lock_rules.specs.Legal.{IsLegal}
-use Rattle.publication.specs.Views.{TicketView}
+use Rattle.lock_board.specs.LockBoards.{TicketView}
 
 -- The session looked into the lock table. It knows the whole history up to there, and is otherwise unchanged.
 pub record HasLooked (before after : TicketView) : Type 0 where

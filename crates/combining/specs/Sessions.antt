@@ -4,20 +4,21 @@ use mathlib.Core.Option as opt
 use mathlib.Core.List.{IsPrefix}
 use lib.ListN.{get_elem?}
 use Rattle.lock_rules.specs.declared.calls.Call.{Call}
-use Rattle.lock_rules.specs.declared.calls.Call.TheVariants.{Release, Commit, Abort, Withdraw}
 use Rattle.lock_rules.specs.declared.calls.Reply.{Reply}
 use Rattle.lock_rules.specs.Entries.{Entry}
 use Rattle.lock_rules.specs.Legal.{IsLegal}
+use Rattle.lock_desk.specs.Batches.{makes_room}
 use Rattle.sequential.specs.Histories.{calls_of}
 use Rattle.publication.specs.declared.piece.Piece.{Piece}
 use Rattle.publication.specs.Pieces.{entries_in}
-use Rattle.publication.specs.Views.{BoardView, TicketView, entry, answer, asks}
+use Rattle.publication.specs.Views.{BoardView, entry, answer, asks}
+use Rattle.lock_board.specs.LockBoards.{TicketView}
 use Rattle.publication.specs.Boards.{IsOf, OpensNone, IsUnlisted, enlisted, tried}
 
 -- The session is of this office and isn't the combiner: it has no record opened, and no walk begun.
 pub record IsSessionOf (office : BoardView) (session : TicketView) : Type 0 where
   pub ours : IsOf office session
-  pub no_book : session.has_book ≡ false
+  pub no_object : session.has_object ≡ false
   pub none : OpensNone session
   pub no_walk : session.route ≡ []
   -- a session with a call pending hasn't retired
@@ -90,15 +91,6 @@ pub record IsCollected (before after : TicketView) (place : ℕ) (reply : Reply)
   pub late : floor ≤ place
   -- the session's calls in the known history are those that it collected
   pub calls : calls_of before.number after.front ≡ after.collected
-
--- Whether the call makes room for requests of others: a release, a commit or an abort, which give locks back, or a
--- withdrawal, which takes a request out of a queue.
-abbrev pub makes_room : Call → Bool
-makes_room (Release resource) = true
-makes_room Commit = true
-makes_room Abort = true
-makes_room Withdraw = true
-makes_room _ = false
 
 -- The session performed a call of its own, which it didn't publish, in a pass. It then knows the entries added before this
 -- pass, followed by those that this pass added: the call's own, and ahead of it or behind it those of `served` calls that

@@ -6,8 +6,8 @@ ghost use Rattle.combining.specs.Sessions.{IsSessionOf, IsIdle, IsPendingServed,
 ghost use Rattle.combining.specs.Calls.{IsCalled, IsCalling, IsAnswered, IsWaitingOn, HasStarved};
 
 use crate::office::{Answer, Office, Performed, Turn};
+use lock_board::Ticket as Session;
 use lock_desk::Call;
-use publication::Ticket as Session;
 use std::{hint, thread};
 
 /// The outcome of `call` and `resume`.

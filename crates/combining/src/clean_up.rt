@@ -8,8 +8,8 @@ ghost use Rattle.publication.specs.List.{IsOn, first_of, behind};
 ghost use Rattle.publication.specs.Kinds.{IsRoute};
 ghost use Rattle.combining.specs.inner.Ages.{sessions_of, noted, IsUnused, IsCleaned};
 
+use lock_board::{Board, Ticket};
 use lock_desk::Item;
-use publication::{Board, Ticket};
 
 /// The clean-up runs every `PASSES_KEPT` passes, and takes off the records that were last served more than
 /// `PASSES_KEPT` passes ago.
@@ -43,7 +43,7 @@ fn unlink_if_unused(
     whose: u16,
     unused: bool,
 ) -> u16
-    requires ours { IsOf board.now session.old × (session.old.has_book ≡ true) }
+    requires ours { IsOf board.now session.old × (session.old.has_object ≡ true) }
     requires before { IsNumber board.now before × IsOn before session.old.route }
     requires whose { IsNumber board.now whose × (first_of (behind before session.old.route) ≡ Some whose) }
     requires route { IsRoute (board.now.sessions + 1) session.old.route }
@@ -63,7 +63,7 @@ fn unlink_if_unused(
 /// Walks on from the first record of the publication list, and takes off each unused record behind it.
 #[inline(never)]
 fn unlink_unused(board: &Board, session: &mut Ticket, first: u16, ages: &[u64], passes: u64)
-    requires ours { IsOf board.now session.old × (session.old.has_book ≡ true) }
+    requires ours { IsOf board.now session.old × (session.old.has_object ≡ true) }
     requires ages { length ages.now ≡ board.now.sessions }
     requires route { IsRoute (board.now.sessions + 1) session.old.route }
     requires first { first_of session.old.route ≡ Some first }
@@ -83,7 +83,7 @@ fn unlink_unused(board: &Board, session: &mut Ticket, first: u16, ages: &[u64], 
 /// Every `PASSES_KEPT` passes, walks the publication list once and takes off each unused record except the first,
 /// which can't be taken off.
 pub(crate) fn clean_up(board: &Board, session: &mut Ticket, ages: &[u64], passes: u64)
-    requires ours { IsOf board.now session.old × (session.old.has_book ≡ true) }
+    requires ours { IsOf board.now session.old × (session.old.has_object ≡ true) }
     requires ages { length ages.now ≡ board.now.sessions }
     ensures session { session.new ≡ record session.old { route = session.new.route } }
     ensures not_due { passes % PASSES_KEPT ≢ 0 → session.new ≡ session.old }

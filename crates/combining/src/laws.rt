@@ -6,14 +6,15 @@ ghost use Rattle.lock_rules.specs.Entries.{Entry};
 ghost use Rattle.lock_rules.specs.Legal.{IsLegal};
 ghost use Rattle.lock_rules.specs.Laws.{GoTogether};
 ghost use Rattle.lock_desk.specs.BookView.{BookView};
-ghost use Rattle.publication.specs.Views.{BoardView, TicketView};
+ghost use Rattle.publication.specs.Views.{BoardView};
+ghost use Rattle.lock_board.specs.LockBoards.{TicketView};
 ghost use Rattle.publication.specs.Boards.{HasCallsOf};
-ghost use Rattle.publication.specs.HoldsAsTold.{HoldsAsTold, ReadsAsTold, WritesAsTold};
+ghost use Rattle.lock_board.specs.HoldsAsTold.{HoldsAsTold, ReadsAsTold, WritesAsTold};
 ghost use Rattle.combining.specs.Closed.{IsClosed, IsOneHistory};
 ghost use Rattle.combining.specs.Ended.{AreEndedBy, AreWakesTold};
 
+use lock_board::laws::one_history_tells_what_goes_together;
 use lock_rules::laws;
-use publication::laws::one_history_tells_what_goes_together;
 
 /// Whatever calls the threads made, and however their atomic steps interleaved, the history of a closed office is
 /// sequential: every reply in it is the one that the sequential lock manager gives at its place. No two transactions

@@ -25,5 +25,6 @@ mod pass;
 
 pub use calling::{Called, call, resume};
 pub use ended::Ended;
+pub use lock_board::{Knowledge, Ticket as Session};
 pub use office::{Answer, HistoryPiece, Office, OpenFault, Performed, Snapshot, Turn};
-pub use publication::{CloseFault, Knowledge, Posted, Ticket as Session};
+pub use publication::{CloseFault, Posted};

@@ -5,16 +5,18 @@ ghost use mathlib.Core.List.{IsPrefix};
 ghost use Rattle.lock_rules.specs.Legal.{IsLegal};
 ghost use Rattle.sequential.specs.Histories.{calls_of};
 ghost use Rattle.publication.specs.Boards.{IsOf, IsNumber, OpensNone, heard_from};
-ghost use Rattle.publication.specs.Rule.{IsHome};
-ghost use Rattle.combining.specs.Sessions.{IsIdle, makes_room};
+ghost use Rattle.lock_board.specs.LockBoards.{IsHome};
+ghost use Rattle.combining.specs.Sessions.{IsIdle};
+ghost use Rattle.lock_desk.specs.Batches.{makes_room};
 ghost use Rattle.combining.specs.inner.Passes.{ended_behind};
 ghost use Rattle.combining.specs.inner.OwnCalls.{IsOwnEntered, IsPassWithOwn};
 ghost use Rattle.combining.specs.inner.EndedList.{HasAddedEnded};
 
 use crate::ended::Ended;
-use crate::pass::{Pass, makes_room, serve_published};
-use lock_desk::{Call, Reply};
-use publication::{Board, Load, Ticket};
+use crate::pass::{Pass, serve_published};
+use lock_board::{Board, Load, Ticket};
+use lock_desk::{Book, Call, Reply};
+use sequential::Serving;
 
 /// Performs a call of the combiner's own session, which has not published it, and enters it into the history. Returns its
 /// place in the history and the reply; `None`, with nothing changed, if memory is refused.
@@ -25,7 +27,7 @@ fn perform_own(
     load: &mut Load,
     call: Call,
 ) -> Option<(u64, Reply)>
-    requires ours { IsOf board.now session.old × (session.old.has_book ≡ true) }
+    requires ours { IsOf board.now session.old × (session.old.has_object ≡ true) }
     requires number { IsNumber board.now session.old.number }
     requires idle { IsIdle session.old }
     requires home { IsHome session.old.front (board.now.sessions + 1) load.old × IsLegal session.old.front }
@@ -54,7 +56,7 @@ fn serve_own_first(
     load: &mut Load,
     call: Call,
 ) -> (Pass, Option<(u64, Reply)>)
-    requires ours { IsOf board.now session.old × (session.old.has_book ≡ true) × OpensNone session.old }
+    requires ours { IsOf board.now session.old × (session.old.has_object ≡ true) × OpensNone session.old }
     requires number { IsNumber board.now session.old.number }
     requires idle { IsIdle session.old }
     requires home { IsHome session.old.front (board.now.sessions + 1) load.old × IsLegal session.old.front }
@@ -78,7 +80,7 @@ fn serve_own_last(
     load: &mut Load,
     call: Call,
 ) -> (Pass, Option<(u64, Reply)>)
-    requires ours { IsOf board.now session.old × (session.old.has_book ≡ true) × OpensNone session.old }
+    requires ours { IsOf board.now session.old × (session.old.has_object ≡ true) × OpensNone session.old }
     requires number { IsNumber board.now session.old.number }
     requires idle { IsIdle session.old }
     requires home { IsHome session.old.front (board.now.sessions + 1) load.old × IsLegal session.old.front }
@@ -104,7 +106,7 @@ pub(crate) fn serve_with_own(
     load: &mut Load,
     call: Call,
 ) -> (Pass, Option<(u64, Reply)>)
-    requires ours { IsOf board.now session.old × (session.old.has_book ≡ true) × OpensNone session.old }
+    requires ours { IsOf board.now session.old × (session.old.has_object ≡ true) × OpensNone session.old }
     requires number { IsNumber board.now session.old.number }
     requires idle { IsIdle session.old }
     requires home { IsHome session.old.front (board.now.sessions + 1) load.old × IsLegal session.old.front }
@@ -116,7 +118,7 @@ pub(crate) fn serve_with_own(
     ensures home { IsHome session.new.front (board.now.sessions + 1) load.new × IsLegal session.new.front }
     ensures taken { load.new.pieces.items ≡ load.old.pieces.items }
 {
-    if makes_room(&call) {
+    if Book::goes_first(&call) {
         serve_own_first(board, session, load, call)
     } else {
         serve_own_last(board, session, load, call)
@@ -131,7 +133,7 @@ fn perform_own_telling(
     call: Call,
     ended: &mut Ended,
 ) -> Option<(u64, Reply)>
-    requires ours { IsOf board.now session.old × (session.old.has_book ≡ true) }
+    requires ours { IsOf board.now session.old × (session.old.has_object ≡ true) }
     requires number { IsNumber board.now session.old.number }
     requires idle { IsIdle session.old }
     requires home { IsHome session.old.front (board.now.sessions + 1) load.old × IsLegal session.old.front }
@@ -155,7 +157,7 @@ fn serve_published_telling(
     load: &mut Load,
     ended: &mut Ended,
 ) -> Pass
-    requires ours { IsOf board.now session.old × (session.old.has_book ≡ true) × OpensNone session.old }
+    requires ours { IsOf board.now session.old × (session.old.has_object ≡ true) × OpensNone session.old }
     requires number { IsNumber board.now session.old.number }
     requires none { session.old.pending ≡ None }
     requires home { IsHome session.old.front (board.now.sessions + 1) load.old × IsLegal session.old.front }
@@ -182,7 +184,7 @@ fn serve_own_first_telling(
     call: Call,
     ended: &mut Ended,
 ) -> (Pass, Option<(u64, Reply)>)
-    requires ours { IsOf board.now session.old × (session.old.has_book ≡ true) × OpensNone session.old }
+    requires ours { IsOf board.now session.old × (session.old.has_object ≡ true) × OpensNone session.old }
     requires number { IsNumber board.now session.old.number }
     requires idle { IsIdle session.old }
     requires home { IsHome session.old.front (board.now.sessions + 1) load.old × IsLegal session.old.front }
@@ -208,7 +210,7 @@ fn serve_own_last_telling(
     call: Call,
     ended: &mut Ended,
 ) -> (Pass, Option<(u64, Reply)>)
-    requires ours { IsOf board.now session.old × (session.old.has_book ≡ true) × OpensNone session.old }
+    requires ours { IsOf board.now session.old × (session.old.has_object ≡ true) × OpensNone session.old }
     requires number { IsNumber board.now session.old.number }
     requires idle { IsIdle session.old }
     requires home { IsHome session.old.front (board.now.sessions + 1) load.old × IsLegal session.old.front }
@@ -235,7 +237,7 @@ pub(crate) fn serve_with_own_telling(
     call: Call,
     ended: &mut Ended,
 ) -> (Pass, Option<(u64, Reply)>)
-    requires ours { IsOf board.now session.old × (session.old.has_book ≡ true) × OpensNone session.old }
+    requires ours { IsOf board.now session.old × (session.old.has_object ≡ true) × OpensNone session.old }
     requires number { IsNumber board.now session.old.number }
     requires idle { IsIdle session.old }
     requires home { IsHome session.old.front (board.now.sessions + 1) load.old × IsLegal session.old.front }
@@ -249,7 +251,7 @@ pub(crate) fn serve_with_own_telling(
     ensures taken { load.new.pieces.items ≡ load.old.pieces.items }
     ensures ended { HasAddedEnded board.now.sessions session.old.front session.new.front ended.old ended.new }
 {
-    if makes_room(&call) {
+    if Book::goes_first(&call) {
         serve_own_first_telling(board, session, load, call, ended)
     } else {
         serve_own_last_telling(board, session, load, call, ended)

@@ -7,16 +7,17 @@ ghost use Rattle.lock_rules.specs.Legal.{IsLegal};
 ghost use Rattle.sequential.specs.Histories.{calls_of};
 ghost use Rattle.sequential.specs.Batches.{IsItemWithin};
 ghost use Rattle.publication.specs.Boards.{IsOf, IsNumber, OpensNone, heard_from, published_by};
-ghost use Rattle.publication.specs.Rule.{IsHome};
+ghost use Rattle.lock_board.specs.LockBoards.{IsHome};
 ghost use Rattle.publication.specs.List.{IsOn};
 ghost use Rattle.publication.specs.Kinds.{IsRoute};
 ghost use Rattle.combining.specs.inner.Passes.{AreOpened, HasCalls, KeepsCalls, IsVisited, HasVisitedOpened, IsNext, HasMet, IsSameSession, IsAfterRow, IsBookInHand, HasTakenNothing, ended_behind};
-ghost use Rattle.combining.specs.Sessions.{makes_room};
+ghost use Rattle.lock_desk.specs.Batches.{makes_room};
 ghost use Rattle.combining.specs.inner.Ages.{sessions_of, sessions_since, noted};
 
 use crate::clean_up::{clean_up, note_served};
+use lock_board::{Board, Load, Ticket};
 use lock_desk::{Book, Call, Item};
-use publication::{Board, Load, Ticket};
+use sequential::Serving;
 
 /// The outcome of a pass.
 #[derive(Drop)]
@@ -34,17 +35,6 @@ pub(crate) struct MadePass {
     pub pass: Pass,
     /// The lock table, and what passes work with.
     pub load: Box<Load>,
-}
-
-/// Whether the call makes room for requests of others: it releases locks, or takes a request out of a queue. Such calls are
-/// served before the others.
-pub(crate) fn makes_room(call: &Call) -> bool
-    ensures { result ≡ makes_room call.now }
-{
-    matches!(
-        call,
-        Call::Release(_) | Call::Commit | Call::Abort | Call::Withdraw
-    )
 }
 
 /// Inserts an item for the call of session `whose` into the row, which has room for it, behind the first `place` items.
@@ -84,7 +74,7 @@ fn open_posted(
     released_first: &mut usize,
     whose: u16,
 )
-    requires ours { IsOf board.now session.old × (session.old.has_book ≡ true) }
+    requires ours { IsOf board.now session.old × (session.old.has_object ≡ true) }
     requires whose { IsNumber board.now whose }
     requires row { AreOpened board.now.sessions session.old.opened row.old.items }
     requires room { (board.now.sessions ≤ vec_capacity row.old) × (released_first.old ≤ vec_len row.old) }
@@ -99,7 +89,7 @@ fn open_posted(
     let Some(call) = board.open(session, whose) else {
         return;
     };
-    let gives = makes_room(&call);
+    let gives = Book::goes_first(&call);
     let place = if gives { *released_first } else { row.len() };
     insert_item(row, place, whose, call);
     if gives {
@@ -116,7 +106,7 @@ fn open_record(
     released_first: &mut usize,
     whose: u16,
 )
-    requires ours { IsOf board.now session.old × (session.old.has_book ≡ true) }
+    requires ours { IsOf board.now session.old × (session.old.has_object ≡ true) }
     requires whose { IsNumber board.now whose }
     requires row { AreOpened board.now.sessions session.old.opened row.old.items }
     requires room { (board.now.sessions ≤ vec_capacity row.old) × (released_first.old ≤ vec_len row.old) }
@@ -142,7 +132,7 @@ fn open_walked(
     released_first: &mut usize,
     next: Option<u16>,
 )
-    requires ours { IsOf board.now session.old × (session.old.has_book ≡ true) }
+    requires ours { IsOf board.now session.old × (session.old.has_object ≡ true) }
     requires route { IsRoute (board.now.sessions + 1) session.old.route }
     requires next { IsNext next session.old.route × HasMet next session.old }
     requires row { AreOpened board.now.sessions session.old.opened row.old.items }
@@ -165,7 +155,7 @@ fn open_walked(
 /// Walks the publication list from the head word to the end mark, and opens each record in which a call is posted.
 #[inline(always)]
 fn open_listed(board: &Board, session: &mut Ticket, row: &mut Vec<Item>, released_first: &mut usize)
-    requires ours { IsOf board.now session.old × (session.old.has_book ≡ true) }
+    requires ours { IsOf board.now session.old × (session.old.has_object ≡ true) }
     requires none { OpensNone session.old }
     requires row { AreOpened board.now.sessions session.old.opened row.old.items }
     requires room { (board.now.sessions ≤ vec_capacity row.old) × (released_first.old ≤ vec_len row.old) }
@@ -186,7 +176,7 @@ fn open_listed(board: &Board, session: &mut Ticket, row: &mut Vec<Item>, release
 /// each in which a call is posted.
 #[inline(always)]
 fn open_records(board: &Board, session: &mut Ticket, row: &mut Vec<Item>)
-    requires ours { IsOf board.now session.old × (session.old.has_book ≡ true) }
+    requires ours { IsOf board.now session.old × (session.old.has_object ≡ true) }
     requires number { IsNumber board.now session.old.number }
     requires none { OpensNone session.old }
     requires listed { session.old.pending ≢ None → session.old.listed ≡ true → heard_from session.old session.old.number ≡ published_by session.old }
@@ -209,7 +199,7 @@ fn open_records(board: &Board, session: &mut Ticket, row: &mut Vec<Item>)
 
 /// Answers the first `served` calls of the row, in order, each with the reply in its item.
 fn answer_row(board: &Board, session: &mut Ticket, book: &Book, row: &[Item], served: usize)
-    requires ours { IsOf board.now session.old × (session.old.has_book ≡ true) }
+    requires ours { IsOf board.now session.old × (session.old.has_object ≡ true) }
     requires served { served ≤ length row.now }
     requires book { IsBookInHand board.now.sessions book.now session.old (take served row.now) }
     requires row { AreOpened board.now.sessions session.old.opened row.now }
@@ -236,7 +226,7 @@ fn answer_row(board: &Board, session: &mut Ticket, book: &Book, row: &[Item], se
 /// Performs the calls of the row as one batch, until memory is refused for one, and then answers those that were
 /// performed, in order. Returns how many there were. In between, the book is ahead of the history.
 fn serve_row(board: &Board, session: &mut Ticket, book: &mut Book, row: &mut Vec<Item>) -> usize
-    requires ours { IsOf board.now session.old × (session.old.has_book ≡ true) }
+    requires ours { IsOf board.now session.old × (session.old.has_object ≡ true) }
     requires book { IsBookInHand board.now.sessions book.old session.old [] }
     requires row { AreOpened board.now.sessions session.old.opened row.old.items }
     ensures session { IsSameSession session.old session.new }
@@ -259,7 +249,7 @@ fn serve_row(board: &Board, session: &mut Ticket, book: &mut Book, row: &mut Vec
 
 /// Puts the calls of these items, which were not performed, back into their records.
 fn put_back_row(board: &Board, session: &mut Ticket, row: &[Item])
-    requires ours { IsOf board.now session.old × (session.old.has_book ≡ true) }
+    requires ours { IsOf board.now session.old × (session.old.has_object ≡ true) }
     requires row { AreOpened board.now.sessions session.old.opened row.now }
     ensures session { session.new ≡ record session.old { opened = session.new.opened; put_backs = session.old.put_backs + length row.now } }
     ensures wide { length session.new.opened ≡ length session.old.opened }
@@ -274,7 +264,7 @@ fn put_back_row(board: &Board, session: &mut Ticket, row: &[Item])
 /// age of each session that it served.
 #[inline(never)]
 fn serve_opened(board: &Board, session: &mut Ticket, load: &mut Load) -> Pass
-    requires ours { IsOf board.now session.old × (session.old.has_book ≡ true) }
+    requires ours { IsOf board.now session.old × (session.old.has_object ≡ true) }
     requires book { IsBookInHand board.now.sessions load.old.book session.old [] }
     requires row { AreOpened board.now.sessions session.old.opened load.old.row.items }
     requires few { vec_len load.old.row < 65536 }
@@ -308,7 +298,7 @@ fn serve_opened(board: &Board, session: &mut Ticket, load: &mut Load) -> Pass
 /// Like `serve_opened`, but does nothing if the row is empty; `Book::ended` then still describes an earlier pass.
 #[inline(always)]
 fn serve_any(board: &Board, session: &mut Ticket, load: &mut Load) -> Pass
-    requires ours { IsOf board.now session.old × (session.old.has_book ≡ true) }
+    requires ours { IsOf board.now session.old × (session.old.has_object ≡ true) }
     requires legal { IsLegal session.old.front }
     requires book { IsBookInHand board.now.sessions load.old.book session.old [] }
     requires row { AreOpened board.now.sessions session.old.opened load.old.row.items }
@@ -342,7 +332,7 @@ fn serve_any(board: &Board, session: &mut Ticket, load: &mut Load) -> Pass
 /// Runs a whole pass for a combiner that has the load, and leaves the load fit to be given back.
 #[inline(always)]
 pub(crate) fn serve_published(board: &Board, session: &mut Ticket, load: &mut Load) -> Pass
-    requires ours { IsOf board.now session.old × (session.old.has_book ≡ true) × OpensNone session.old }
+    requires ours { IsOf board.now session.old × (session.old.has_object ≡ true) × OpensNone session.old }
     requires number { IsNumber board.now session.old.number }
     requires listed { session.old.pending ≢ None → session.old.listed ≡ true → heard_from session.old session.old.number ≡ published_by session.old }
     requires home { IsHome session.old.front (board.now.sessions + 1) load.old × IsLegal session.old.front }

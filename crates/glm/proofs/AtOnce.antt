@@ -3,7 +3,8 @@ use Rattle.std.proofs.Common.{ap, refl, ◌≡◌, ◌∙◌, ◌<◌, ◌++◌,
 use Rattle.std.proofs.lemmas.List.{map-append}
 use Rattle.lock_rules.specs.declared.calls.Call.{Call}
 use Rattle.lock_rules.specs.Entries.{Answered}
-use Rattle.publication.specs.Views.{TicketView, answer}
+use Rattle.publication.specs.Views.{answer}
+use Rattle.lock_board.specs.LockBoards.{TicketView}
 use Rattle.combining.specs.Sessions.{IsPerformed, IsRefused}
 use Rattle.combining.specs.declared.office.Answer.{Answer}
 use Rattle.combining.specs.declared.office.perform.Performed.{Performed}

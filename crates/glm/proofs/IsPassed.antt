@@ -1,6 +1,6 @@
 -- A turn of a session leaves the session's own calls unchanged.
 use Rattle.std.proofs.Common.{ap, refl, ◌≡◌, ◌∙◌, ◌<◌, inl, inr, ℕ, Bool, false, length}
-use Rattle.publication.specs.Views.{TicketView}
+use Rattle.lock_board.specs.LockBoards.{TicketView}
 use Rattle.publication.specs.Boards.{enlisted, tried}
 use Rattle.combining.specs.Sessions.{HasTriedToList, IsPassed}
 use Rattle.combining.specs.declared.office.Turn.{Turn}

@@ -1,6 +1,7 @@
 -- From the calls of a session to the sessions that performed their rows.
 use Rattle.std.proofs.Common.{ap, sym, refl, ◌≡◌, ◌∙◌, ℕ, List, [], None, Some, Option, option_map, false}
-use Rattle.publication.specs.Views.{BoardView, TicketView, Pending}
+use Rattle.publication.specs.Views.{BoardView}
+use Rattle.lock_board.specs.LockBoards.{TicketView, Pending}
 use Rattle.combining.specs.Sessions.{IsSessionOf}
 use Rattle.lock_trace.specs.declared.trace_row.TraceRow.{TraceRow}
 use Rattle.glm.specs.Calls.{calls_answered, calls_of_rows}

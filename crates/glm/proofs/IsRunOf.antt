@@ -8,10 +8,11 @@ use Rattle.std.proofs.lemmas.List.Elements.{All-head, All-tail, All-nil, All-pus
 use Rattle.lock_rules.specs.Entries.{Entry, Answered}
 use Rattle.sequential.specs.Histories.{calls_from, calls_of, IsEntryWithin}
 use Rattle.lock_desk.specs.BookView.{BookView}
-use Rattle.publication.specs.Views.{BoardView, TicketView}
+use Rattle.publication.specs.Views.{BoardView}
+use Rattle.lock_board.specs.LockBoards.{TicketView, new_ticket, new_tickets}
 use Rattle.publication.specs.declared.closing.CloseFault.{CloseFault}
 use Rattle.publication.specs.declared.closing.CloseFault.TheVariants as close
-use Rattle.publication.specs.Boards.{IsEachOnce, AccountsFor, new_ticket, new_tickets}
+use Rattle.publication.specs.Boards.{IsEachOnce, AccountsFor}
 use Rattle.combining.specs.Sessions.{IsSessionOf, IsIdle, HasNothingPending}
 use Rattle.combining.specs.Closed.{IsClosed, answers_of}
 use Rattle.lock_trace.specs.declared.trace_row.TraceRow.{TraceRow}

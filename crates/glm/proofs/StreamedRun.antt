@@ -7,10 +7,11 @@ use Rattle.std.proofs.Math.Seq.{take-append_seam, drop-append_seam}
 use Rattle.std.proofs.lemmas.List.{length_push, map-append}
 use Rattle.std.proofs.lemmas.List.Elements.{All-pop, All-push, All-weaker}
 use Rattle.lock_desk.specs.BookView.{BookView}
-use Rattle.publication.specs.Views.{BoardView, TicketView}
+use Rattle.publication.specs.Views.{BoardView}
+use Rattle.lock_board.specs.LockBoards.{TicketView, new_ticket, new_tickets}
 use Rattle.publication.specs.declared.closing.CloseFault.{CloseFault}
 use Rattle.publication.specs.declared.closing.CloseFault.TheVariants as close
-use Rattle.publication.specs.Boards.{AccountsFor, IsEachOnce, new_ticket, new_tickets}
+use Rattle.publication.specs.Boards.{AccountsFor, IsEachOnce}
 use Rattle.combining.specs.Sessions.{HasNothingPending, IsSessionOf, IsIdle}
 use Rattle.combining.specs.Closed.{IsClosed}
 use Rattle.lock_trace.specs.declared.trace_row.TraceRow.{TraceRow}

@@ -8,7 +8,7 @@ use Rattle.std.proofs.KnownBytes.{Appends-kept, Appends-nil, Appends-trans}
 use Rattle.lock_rules.specs.Entries.{Entry}
 use Rattle.lock_rules.specs.Legal.{IsLegal}
 use Rattle.lock_rules.proofs.Histories.{legal-front}
-use Rattle.publication.specs.Views.{TicketView}
+use Rattle.lock_board.specs.LockBoards.{TicketView}
 use Rattle.publication.proofs.Histories.{length-begins}
 use Rattle.combining.specs.Sessions.{HasTakenPiece}
 use Rattle.lock_trace.specs.Histories.{text_of_history, text_of_piece}

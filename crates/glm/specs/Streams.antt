@@ -4,8 +4,9 @@ use Rattle.std.specs.Io.KnownBytes.{Appends, Keeps}
 use Rattle.lock_rules.specs.Entries.{Entry}
 use Rattle.lock_rules.specs.Legal.{IsLegal}
 use Rattle.lock_desk.specs.BookView.{BookView}
-use Rattle.publication.specs.Views.{BoardView, TicketView}
-use Rattle.publication.specs.Boards.{IsEachOnce, new_ticket, new_tickets}
+use Rattle.publication.specs.Views.{BoardView}
+use Rattle.lock_board.specs.LockBoards.{TicketView, new_ticket, new_tickets}
+use Rattle.publication.specs.Boards.{IsEachOnce}
 use Rattle.publication.specs.declared.closing.CloseFault.{CloseFault}
 use Rattle.publication.specs.declared.closing.CloseFault.TheVariants as close
 use Rattle.combining.specs.Sessions.{HasNothingPending}

@@ -1,7 +1,8 @@
 -- The work of the threads of a run.
 use Rattle.std.specs.Prelude.{◌≡◌, ℕ, ◌+◌, ◌≤◌, nat_le, if◌then◌else◌, Bool, true, false, List, [], map, option_map, Option, Some, None}
 use Rattle.lock_rules.specs.declared.calls.Call.{Call}
-use Rattle.publication.specs.Views.{BoardView, TicketView}
+use Rattle.publication.specs.Views.{BoardView}
+use Rattle.lock_board.specs.LockBoards.{TicketView}
 use Rattle.combining.specs.Sessions.{IsSessionOf, IsIdle}
 use Rattle.combining.specs.declared.office.perform.Performed.{Performed}
 use Rattle.combining.specs.declared.office.perform.Performed.TheVariants as performed

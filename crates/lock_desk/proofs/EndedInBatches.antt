@@ -1,6 +1,7 @@
 -- Whose wait the calls of a batch have ended, said of its entries.
 use Rattle.std.proofs.Common.{◌≡◌, ℕ, ◌+◌, ◌<◌, ◌≤◌, ◌↔◌, ◌⊎◌, inl, inr, ⊎_elim, Bool, true, false, ◌||◌, List, [], ◌∷◌, ◌++◌, length, map, take, drop, filter, Contains, refl, sym, ap, ◌∙◌, subst, arith, append_assoc}
 use Rattle.std.specs.List.{range_with_len}
+use Rattle.std.proofs.lemmas.Bool.{or_cases, or_left, or_right}
 use Rattle.std.proofs.Math.Seq.{drop-append_seam}
 use Rattle.sequential.specs.Batches.{item_of}
 use Rattle.sequential.specs.EndedWaits.{HasEndedIn}
@@ -23,34 +24,22 @@ same-ended st (i ∷ is) u = ap (λ (b : Bool). has_ended i.session st (step st 
 abbrev EndedFrom : State → List Entry → ℕ → Type 0
 EndedFrom st es u = (earlier later : List Entry) × (e : Entry) × (es ≡ earlier ++ e ∷ later) × (HasEnded e.session (state_after st earlier) (step (state_after st earlier) e.session e.call).state u)
 
-pub or-parts : (a b : Bool) → (a || b) ≡ true → (a ≡ true) ⊎ (b ≡ true)
-or-parts true b h = inl refl
-or-parts false b h = inr h
-
-pub or-left : (a b : Bool) → a ≡ true → (a || b) ≡ true
-or-left true b h = refl
-or-left false b h = absurd (cc h)
-
-pub or-right : (a b : Bool) → b ≡ true → (a || b) ≡ true
-or-right true b h = refl
-or-right false b h = h
-
 ended-from : (st : State) (es : List Entry) (u : ℕ) → has_ended_in st (map item_of es) u ≡ true → EndedFrom st es u
 ended-from st [] u h = absurd (cc h)
 ended-from st (e ∷ es) u h =
     let next : State = (step st e.session e.call).state in
     ⊎_elim (λ now. ([], es, e, refl, (ended-decides e.session st next u).0 now))
     (λ later. let r = ended-from next es u later in (e ∷ r.0, r.1, r.2, ap (λ (l : List Entry). e ∷ l) r.3, r.4))
-    (or-parts (has_ended e.session st next u) (has_ended_in next (map item_of es) u) h)
+    (or_cases (has_ended e.session st next u) (has_ended_in next (map item_of es) u) h)
 
 from-ended : (st : State) (earlier later : List Entry) (e : Entry) (u : ℕ) → HasEnded e.session (state_after st earlier) (step (state_after st earlier) e.session e.call).state u
     → has_ended_in st (map item_of (earlier ++ e ∷ later)) u ≡ true
 from-ended st [] later e u h =
     let next : State = (step st e.session e.call).state in
-    or-left (has_ended e.session st next u) (has_ended_in next (map item_of later) u) ((ended-decides e.session st next u).1 h)
+    or_left (has_ended e.session st next u) (has_ended_in next (map item_of later) u) ((ended-decides e.session st next u).1 h)
 from-ended st (x ∷ xs) later e u h =
     let next : State = (step st x.session x.call).state in
-    or-right (has_ended x.session st next u) (has_ended_in next (map item_of (xs ++ e ∷ later)) u) (from-ended next xs later e u h)
+    or_right (has_ended x.session st next u) (has_ended_in next (map item_of (xs ++ e ∷ later)) u) (from-ended next xs later e u h)
 
 -- One of these entries has ended the wait of session u exactly if has_ended_in says so.
 pub ended-says : (front es : List Entry) (u : ℕ) → (has_ended_in (state_of front) (map item_of es) u ≡ true) ↔ HasEndedIn ends_wait front es u

@@ -2,12 +2,13 @@
 //! one of its allocations is refused.
 
 ghost use Rattle.std.specs.Prelude.{◌≡◌, ◌+◌, true, false, Some, None, IfOk, replicate, slice_set};
-ghost use Rattle.publication.specs.Rule.{IsHome};
-ghost use Rattle.publication.specs.Boards.{IsOf, IsNumber, OpensNone, opened_at, new_ticket, new_tickets};
+ghost use Rattle.lock_board.specs.LockBoards.{IsHome, new_ticket, new_tickets};
+ghost use Rattle.publication.specs.Boards.{IsOf, IsNumber, OpensNone, opened_at};
 
+use lock_board::{Board, Load, Ticket};
 use lock_desk::{Book, Call, NoMemory, Reply};
 use lock_rules::laws;
-use publication::{Board, Load, Posted, Ticket};
+use publication::Posted;
 use std::alloc::Global;
 use std::process::Abort;
 use std::test::Fail;
@@ -52,7 +53,7 @@ fn serve(
     call: Call,
 ) -> Result<Reply, NoMemory>
     requires ours { IsOf board.now ticket.old }
-    requires has { ticket.old.has_book ≡ true }
+    requires has { ticket.old.has_object ≡ true }
     requires whose { IsNumber board.now whose }
     requires opened { opened_at ticket.old whose ≡ Some call }
     requires home { IsHome ticket.old.front (board.now.sessions + 1) load.old }
@@ -74,7 +75,7 @@ fn serve(
 /// Expects the combiner to find no call in this record.
 fn finds_nothing(rt: &impl Abort, board: &Board, ticket: &mut Ticket, whose: u16)
     requires ours { IsOf board.now ticket.old }
-    requires has { ticket.old.has_book ≡ true }
+    requires has { ticket.old.has_object ≡ true }
     requires whose { IsNumber board.now whose }
     ensures { ticket.new ≡ ticket.old }
 {
@@ -101,12 +102,12 @@ fn serve_the_first(
     load: &mut Load,
 ) -> Result<(), NoMemory>
     requires ours { IsOf board.now second.old }
-    requires has { second.old.has_book ≡ true }
+    requires has { second.old.has_object ≡ true }
     requires two { board.now.sessions ≡ 2 }
     requires opened { second.old.opened ≡ replicate 3 None }
     requires home { IsHome second.old.front (board.now.sessions + 1) load.old }
     ensures ours { IfOk result (λ _. IsOf board.now second.new) }
-    ensures has { IfOk result (λ _. second.new.has_book ≡ true) }
+    ensures has { IfOk result (λ _. second.new.has_object ≡ true) }
     ensures opened { IfOk result (λ _. second.new.opened ≡ replicate 3 None) }
     ensures home { IfOk result (λ _. IsHome second.new.front (board.now.sessions + 1) load.new) }
     ensures taken { IfOk result (λ _. (second.new.taken ≡ second.old.taken) × (load.new.pieces.items ≡ load.old.pieces.items)) }
@@ -123,7 +124,7 @@ fn serve_the_first(
 /// Gives the load back, of which the combiner took no piece of the history.
 fn give_back(board: &Board, ticket: &mut Ticket, load: Box<Load>)
     requires ours { IsOf board.now ticket.old }
-    requires has { ticket.old.has_book ≡ true }
+    requires has { ticket.old.has_object ≡ true }
     requires none { OpensNone ticket.old }
     requires home { IsHome ticket.old.front (board.now.sessions + 1) load.value }
     requires taken { ticket.old.taken ≡ load.value.pieces.items }

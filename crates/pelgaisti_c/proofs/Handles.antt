@@ -3,8 +3,7 @@ use Rattle.std.proofs.Common.{◌≡◌, ℕ, zero, suc, ◌+◌, ◌<◌, List,
 use Rattle.std.proofs.lemmas.List.{length-append}
 use Rattle.std.specs.Prelude.{Bool, true, false, ◌||◌, ◌==◌}
 use Rattle.atomic_table.specs.Seated.{TableId}
-use Rattle.publication.specs.Boards.{new_ticket, new_tickets}
-use Rattle.publication.specs.Views.{TicketView}
+use Rattle.lock_board.specs.LockBoards.{new_ticket, new_tickets, TicketView}
 use Rattle.publication.proofs.Gathering.{has_number}
 
 -- the list of k new sessions has length k

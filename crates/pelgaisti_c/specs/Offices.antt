@@ -1,8 +1,8 @@
 -- The shares of an office, as handles hold them.
 use Rattle.std.specs.Prelude.{◌≡◌, ℕ, [], ◌∷◌, ◌++◌, List, Some, All, map}
 use Rattle.std.specs.Global.{Box}
-use Rattle.publication.specs.Views.{BoardView, TicketView}
-use Rattle.publication.specs.Boards.{new_tickets}
+use Rattle.publication.specs.Views.{BoardView}
+use Rattle.lock_board.specs.LockBoards.{TicketView, new_tickets}
 use Rattle.pelgaisti_c.specs.declared.session_share.SessionShare.{SessionShare}
 use Rattle.pelgaisti_c.specs.declared.session_handle.SessionHandle.{SessionHandle}
 

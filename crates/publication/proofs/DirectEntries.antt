@@ -8,225 +8,224 @@ use mathlib.Core.List.{IsPrefix}
 use native.Mathlib.Decide.{ℕ_discrete}
 use lib.ListN.{get_elem?}
 use Rattle.atomic_table.specs.Table.{keeps, step, Allows}
-use Rattle.lock_rules.specs.declared.calls.Call.{Call}
-use Rattle.lock_rules.specs.declared.calls.Reply.{Reply}
-use Rattle.lock_rules.specs.Entries.{Entry, Answered}
-use Rattle.lock_rules.specs.Legal.{IsLegal}
-use Rattle.sequential.specs.Histories.{calls_of}
+use Rattle.sequential.specs.declared.entry.Entry.{Entry}
+use Rattle.sequential.specs.Histories.{Answered, calls_of}
 use Rattle.publication.specs.Words.{word_of, BUSY}
 use Rattle.publication.specs.Views.{Own, Combiner, Others, entry, answer}
-use Rattle.publication.specs.Rule.{blank, BoardState, word, home, seat, fresh, own_at, announced, IsVacant, RecordState, HasBook, IsOpened, IsSession, IsMaker, AreTrue, HasPieces, IsOrderly}
+use Rattle.publication.specs.Rule.{blank, BoardState, word, home, seat, fresh, own_at, announced, IsVacant, RecordState, HasObject, IsOpened, IsSession, IsMaker, AreTrue, HasPieces, IsOrderly}
 use Rattle.publication.specs.Rule.RecordState.{vacant}
 use Rattle.publication.specs.List.{IsLinked, IsRuled}
 use Rattle.publication.specs.Kinds.{entering, enters}
 use Rattle.publication.specs.declared.view.View.{View}
 use Rattle.publication.specs.declared.slot.SlotValue.{SlotValue}
 use Rattle.publication.proofs.Lists.{at_there, each_set, prefix_self, prefix_trans}
-use Rattle.publication.proofs.SeatViews.{session_of, heard_few, others_of, book_of, pieces_of_seat}
+use Rattle.publication.proofs.SeatViews.{session_of, heard_few, others_of, object_of, pieces_of_seat}
 use Rattle.publication.proofs.Others.{still-true}
 use Rattle.publication.proofs.Pieces.{pieces_kept}
 use Rattle.publication.proofs.Histories.{calls-mine}
 use Rattle.publication.proofs.RecordStates.{is_vacant, idle_announced, grown}
 use Rattle.publication.proofs.UnchangedList.{aside, same_walk}
 use Rattle.publication.proofs.SessionKinds.{Goes, seated}
+use Rattle.sequential.specs.declared.object.Sequential.{Ghosts}
 
--- The combiner, with view v and no call pending, enters this call with this reply.
-module _ (v : View) (some_number : 0 < v.number) (s : BoardState) (o : IsOrderly s) (l : IsLinked s) (me : get_elem? s.views v.number ≡ opt.some v) (small : v.number < o.slots)
-    (has : v.combiner.has_book ≡ true) (none : v.own.pending ≡ None) (live : v.own.retired ≡ false) (call : Call) (reply : Reply)
-    (legal : IsLegal (v.front ++ entry v.number call reply ∷ [])) (short : length v.front + 1 < 2 ^ 64) where
-  -- The session's number.
-  abbrev i : ℕ
-  i = v.number
+module _ {O C R : Type 0} {obj : Ghosts O C R} where
+  -- The combiner, with view v and no call pending, enters this call with this reply.
+  module _ (v : View C R) (some_number : 0 < v.number) (s : BoardState O C R) (o : IsOrderly obj s) (l : IsLinked s) (me : get_elem? s.views v.number ≡ opt.some v) (small : v.number < o.slots)
+      (has : v.combiner.has_object ≡ true) (none : v.own.pending ≡ None) (live : v.own.retired ≡ false) (call : C) (reply : R)
+      (legal : obj.is_legal (v.front ++ entry v.number call reply ∷ [])) (short : length v.front + 1 < 2 ^ 64) where
+    -- The session's number.
+    abbrev i : ℕ
+    i = v.number
 
-  -- The session's view after the step.
-  abbrev u : View
-  u = entering v call reply
+    -- The session's view after the step.
+    abbrev u : View C R
+    u = entering v call reply
 
-  -- The history after the step.
-  abbrev h : List Entry
-  h = v.front ++ entry v.number call reply ∷ []
+    -- The history after the step.
+    abbrev h : List (Entry C R)
+    h = v.front ++ entry v.number call reply ∷ []
 
-  -- What the session knows of its own calls after the step.
-  abbrev w : Own
-  w = (entering v call reply).own
+    -- What the session knows of its own calls after the step.
+    abbrev w : Own C R
+    w = (entering v call reply).own
 
-  -- The board after the step.
-  abbrev after : BoardState
-  after = record { words = s.words; homes = s.homes; views = set s.views v.number (entering v call reply) }
+    -- The board after the step.
+    abbrev after : BoardState O C R
+    after = record { words = s.words; homes = s.homes; views = set s.views v.number (entering v call reply) }
 
-  -- The sessions' own calls after the step.
-  abbrev owns_after : List Own
-  owns_after = set o.owns v.number (entering v call reply).own
+    -- The sessions' own calls after the step.
+    abbrev owns_after : List (Own C R)
+    owns_after = set o.owns v.number (entering v call reply).own
 
-  is_me : seat s i ≡ v
-  is_me = (at_there s.views i v blank me).0
+    is_me : seat s i ≡ v
+    is_me = (at_there s.views i v blank me).0
 
-  sits : i < length s.views
-  sits = (at_there s.views i v blank me).1
+    sits : i < length s.views
+    sits = (at_there s.views i v blank me).1
 
-  lives : v.number ≢ 0
-  lives e = omega arith
+    lives : v.number ≢ 0
+    lives e = omega arith
 
-  book : HasBook o.history (word s 0) i v
-  book = book_of s o i v me has
+    book : HasObject o.history (word s 0) i v
+    book = object_of s o i v me has
 
-  session : IsSession o.slots o.owns i v
-  session = session_of s o i v me lives
+    session : IsSession o.slots o.owns i v
+    session = session_of s o i v me lives
 
-  h_is : h ≡ o.history ++ entry i call reply ∷ []
-  h_is = ap (λ (f : List Entry). f ++ entry i call reply ∷ []) book.whole
+    h_is : h ≡ o.history ++ entry i call reply ∷ []
+    h_is = ap (λ (f : List (Entry C R)). f ++ entry i call reply ∷ []) book.whole
 
-  grows : IsPrefix o.history h
-  grows = (entry i call reply ∷ [], sym h_is)
+    grows : IsPrefix o.history h
+    grows = (entry i call reply ∷ [], sym h_is)
 
-  seat_other : (j : ℕ) → j ≢ i → seat after j ≡ seat s j
-  seat_other j ne = get_or-set_other s.views i j u blank ne
+    seat_other : (j : ℕ) → j ≢ i → seat after j ≡ seat s j
+    seat_other j ne = get_or-set_other s.views i j u blank ne
 
-  seat_here : seat after i ≡ u
-  seat_here = get_or-set_same s.views i u blank sits
+    seat_here : seat after i ≡ u
+    seat_here = get_or-set_same s.views i u blank sits
 
-  seats_kept : length (set s.views i u) ≡ length s.views
-  seats_kept = length-set s.views i u
+    seats_kept : length (set s.views i u) ≡ length s.views
+    seats_kept = length-set s.views i u
 
-  own_other : (j : ℕ) → j ≢ i → own_at owns_after j ≡ own_at o.owns j
-  own_other j ne = get_or-set_other o.owns i j w fresh ne
+    own_other : (j : ℕ) → j ≢ i → own_at owns_after j ≡ own_at o.owns j
+    own_other j ne = get_or-set_other o.owns i j w fresh ne
 
-  own_here : own_at owns_after i ≡ w
-  own_here = get_or-set_same o.owns i w fresh (omega (arith, o.owns_are))
+    own_here : own_at owns_after i ≡ w
+    own_here = get_or-set_same o.owns i w fresh (omega (arith, o.owns_are))
 
-  combiner_kept : (k : ℕ) → (seat after k).combiner ≡ (seat s k).combiner
-  combiner_kept k = dite (ℕ_discrete k i)
-      (λ e. ap (λ (j : ℕ). (seat after j).combiner) e
-      ∙ (ap (λ (x : View). x.combiner) seat_here ∙ (ap (λ (x : View). x.combiner) (sym is_me) ∙ ap (λ (j : ℕ). (seat s j).combiner) (sym e))))
-      (λ ne. ap (λ (x : View). x.combiner) (seat_other k ne))
+    combiner_kept : (k : ℕ) → (seat after k).combiner ≡ (seat s k).combiner
+    combiner_kept k = dite (ℕ_discrete k i)
+        (λ e. ap (λ (j : ℕ). (seat after j).combiner) e
+        ∙ (ap (λ (x : View C R). x.combiner) seat_here ∙ (ap (λ (x : View C R). x.combiner) (sym is_me) ∙ ap (λ (j : ℕ). (seat s j).combiner) (sym e))))
+        (λ ne. ap (λ (x : View C R). x.combiner) (seat_other k ne))
 
-  -- The session's record stays vacant: the answers that it collected grow with the history.
+    -- The session's record stays vacant: the answers that it collected grow with the history.
 
-  was_vacant : IsVacant o.history i (word s i) (home s i) v.own
-  was_vacant = is_vacant (subst (λ (y : Own). RecordState o.history i (word s i) (home s i) y) (sym session.own_is) (o.stands i some_number small)) none live
+    was_vacant : IsVacant o.history i (word s i) (home s i) v.own
+    was_vacant = is_vacant (subst (λ (y : Own C R). RecordState o.history i (word s i) (home s i) y) (sym session.own_is) (o.stands i some_number small)) none live
 
-  calls_now : calls_of i h ≡ w.collected
-  calls_now = calls-mine i v.front call reply ∙ ap (λ (cs : List Answered). cs ++ answer (length v.front) call reply ∷ []) (ap (calls_of i) book.whole ∙ was_vacant.calls)
+    calls_now : calls_of i h ≡ w.collected
+    calls_now = calls-mine i v.front call reply ∙ ap (λ (cs : List (Answered C R)). cs ++ answer (length v.front) call reply ∷ []) (ap (calls_of i) book.whole ∙ was_vacant.calls)
 
-  stands_here : RecordState h i (word s i) (home s i) w
-  stands_here = let t = was_vacant in vacant record { is = t.is; none = none; out = t.out; empty_slot = t.empty_slot; publishes = live; calls = calls_now }
+    stands_here : RecordState h i (word s i) (home s i) w
+    stands_here = let t = was_vacant in vacant record { is = t.is; none = none; out = t.out; empty_slot = t.empty_slot; publishes = live; calls = calls_now }
 
-  stands_after : (j : ℕ) → 0 < j → j < o.slots → RecordState h j (word s j) (home s j) (own_at owns_after j)
-  stands_after j some_record few = dite (ℕ_discrete j i)
-      (λ e. subst (λ (m : ℕ). RecordState h m (word s m) (home s m) (own_at owns_after m)) (sym e) (rw own_here stands_here))
-      (λ ne. rw (own_other j ne) (subst (λ (f : List Entry). RecordState f j (word s j) (home s j) (own_at o.owns j)) (sym h_is) (grown o.history j i call reply ne (o.stands j some_record few))))
+    stands_after : (j : ℕ) → 0 < j → j < o.slots → RecordState h j (word s j) (home s j) (own_at owns_after j)
+    stands_after j some_record few = dite (ℕ_discrete j i)
+        (λ e. subst (λ (m : ℕ). RecordState h m (word s m) (home s m) (own_at owns_after m)) (sym e) (rw own_here stands_here))
+        (λ ne. rw (own_other j ne) (subst (λ (f : List (Entry C R)). RecordState f j (word s j) (home s j) (own_at o.owns j)) (sym h_is) (grown o.history j i call reply ne (o.stands j some_record few))))
 
-  -- It announces one call more.
+    -- It announces one call more.
 
-  announces_more : announced v.own ≤ announced w
-  announces_more = omega (arith, idle_announced v.own none, idle_announced w none, length-append v.own.collected (answer (length v.front) call reply ∷ []))
+    announces_more : announced v.own ≤ announced w
+    announces_more = omega (arith, idle_announced v.own none, idle_announced w none, length-append v.own.collected (answer (length v.front) call reply ∷ []))
 
-  announced_more : (j : ℕ) → announced (own_at o.owns j) ≤ announced (own_at owns_after j)
-  announced_more j = dite (ℕ_discrete j i)
-      (λ e. let a : announced (own_at o.owns j) ≡ announced v.own = ap (λ (m : ℕ). announced (own_at o.owns m)) e ∙ ap announced (sym session.own_is) in
-      let b : announced (own_at owns_after j) ≡ announced w = ap (λ (m : ℕ). announced (own_at owns_after m)) e ∙ ap announced own_here in
-      omega (arith, announces_more))
-      (λ ne. let a : announced (own_at owns_after j) ≡ announced (own_at o.owns j) = ap announced (own_other j ne) in omega arith)
+    announced_more : (j : ℕ) → announced (own_at o.owns j) ≤ announced (own_at owns_after j)
+    announced_more j = dite (ℕ_discrete j i)
+        (λ e. let a : announced (own_at o.owns j) ≡ announced v.own = ap (λ (m : ℕ). announced (own_at o.owns m)) e ∙ ap announced (sym session.own_is) in
+        let b : announced (own_at owns_after j) ≡ announced w = ap (λ (m : ℕ). announced (own_at owns_after m)) e ∙ ap announced own_here in
+        omega (arith, announces_more))
+        (λ ne. let a : announced (own_at owns_after j) ≡ announced (own_at o.owns j) = ap announced (own_other j ne) in omega arith)
 
-  heard_after : (m j : ℕ) → get_or (seat after m).heard j 0 ≤ announced (own_at owns_after j)
-  heard_after m j = each_set s.views i u blank (λ m x. get_or x.heard j 0 ≤ announced (own_at owns_after j)) sits (omega (arith, heard_few s o i v me j, announced_more j))
-      (λ m ne. omega (arith, o.heard m j, announced_more j)) m
+    heard_after : (m j : ℕ) → get_or (seat after m).heard j 0 ≤ announced (own_at owns_after j)
+    heard_after m j = each_set s.views i u blank (λ m x. get_or x.heard j 0 ≤ announced (own_at owns_after j)) sits (omega (arith, heard_few s o i v me j, announced_more j))
+        (λ m ne. omega (arith, o.heard m j, announced_more j)) m
 
-  -- The other seats.
+    -- The other seats.
 
-  makes_after : IsMaker o.slots (length (set s.views i u)) (seat after 0)
-  makes_after = subst (λ (m : ℕ). IsMaker o.slots m (seat after 0)) (sym seats_kept)
-      (subst (λ (x : View). IsMaker o.slots (length s.views) x) (sym (seat_other 0 (λ e. omega arith))) o.makes)
+    makes_after : IsMaker o.slots (length (set s.views i u)) (seat after 0)
+    makes_after = subst (λ (m : ℕ). IsMaker o.slots m (seat after 0)) (sym seats_kept)
+        (subst (λ (x : View C R). IsMaker o.slots (length s.views) x) (sym (seat_other 0 (λ e. omega arith))) o.makes)
 
-  sessions_after : (j : ℕ) → (seat after j).number ≢ 0 → IsSession o.slots owns_after j (seat after j)
-  sessions_after = each_set s.views i u blank (λ j x. x.number ≢ 0 → IsSession o.slots owns_after j x) sits
-      (λ some. let t = session in record { own_is = sym own_here; is = t.is; small = t.small; wide = t.wide })
-      (λ j ne some. let t = o.sessions j some in record { own_is = t.own_is ∙ sym (own_other j ne); is = t.is; small = t.small; wide = t.wide })
+    sessions_after : (j : ℕ) → (seat after j).number ≢ 0 → IsSession o.slots owns_after j (seat after j)
+    sessions_after = each_set s.views i u blank (λ j x. x.number ≢ 0 → IsSession o.slots owns_after j x) sits
+        (λ some. let t = session in record { own_is = sym own_here; is = t.is; small = t.small; wide = t.wide })
+        (λ j ne some. let t = o.sessions j some in record { own_is = t.own_is ∙ sym (own_other j ne); is = t.is; small = t.small; wide = t.wide })
 
-  still : (x : Others) → AreTrue o.history s o.slots o.owns x → AreTrue h after o.slots owns_after x
-  still x = still-true o.history h s after o.slots o.owns owns_after x grows (omega (arith, seats_kept))
-      (λ j some few gone. let ne : j ≢ i = λ e. lives (ap (λ (y : View). y.number) (sym is_me) ∙ (ap (λ (m : ℕ). (seat s m).number) (sym e) ∙ gone)) in
-      (ap (λ (y : View). y.number) (seat_other j ne) ∙ gone, own_other j ne))
+    still : (x : Others C R) → AreTrue o.history s o.slots o.owns x → AreTrue h after o.slots owns_after x
+    still x = still-true o.history h s after o.slots o.owns owns_after x grows (omega (arith, seats_kept))
+        (λ j some few gone. let ne : j ≢ i = λ e. lives (ap (λ (y : View C R). y.number) (sym is_me) ∙ (ap (λ (m : ℕ). (seat s m).number) (sym e) ∙ gone)) in
+        (ap (λ (y : View C R). y.number) (seat_other j ne) ∙ gone, own_other j ne))
 
-  others_after : (m : ℕ) → AreTrue h after o.slots owns_after (seat after m).others
-  others_after = each_set s.views i u blank (λ m x. AreTrue h after o.slots owns_after x.others) sits
-      (still v.others (others_of s o i v me)) (λ m ne. still (seat s m).others (o.others m))
+    others_after : (m : ℕ) → AreTrue h after o.slots owns_after (seat after m).others
+    others_after = each_set s.views i u blank (λ m x. AreTrue h after o.slots owns_after x.others) sits
+        (still v.others (others_of s o i v me)) (λ m ne. still (seat s m).others (o.others m))
 
-  -- No other session has the book.
-  books_after : (j : ℕ) → (seat after j).combiner.has_book ≡ true → HasBook h (word s 0) j (seat after j)
-  books_after = each_set s.views i u blank (λ j x. x.combiner.has_book ≡ true → HasBook h (word s 0) j x) sits
-      (λ _. let t = book in record { lock_is = t.lock_is; session = some_number; named = t.named; whole = refl })
-      (λ j ne has_too. absurd (ne (sym (o.books j has_too).lock_is ∙ book.lock_is)))
+    -- No other session has the object.
+    combiners_after : (j : ℕ) → (seat after j).combiner.has_object ≡ true → HasObject h (word s 0) j (seat after j)
+    combiners_after = each_set s.views i u blank (λ j x. x.combiner.has_object ≡ true → HasObject h (word s 0) j x) sits
+        (λ _. let t = book in record { lock_is = t.lock_is; session = some_number; named = t.named; whole = refl })
+        (λ j ne has_too. absurd (ne (sym (o.combiners j has_too).lock_is ∙ book.lock_is)))
 
-  pending_kept : (j : ℕ) → (own_at owns_after j).pending ≡ (own_at o.owns j).pending
-  pending_kept j = dite (ℕ_discrete j i)
-      (λ e. ap (λ (m : ℕ). (own_at owns_after m).pending) e ∙ (ap (λ (x : Own). x.pending) own_here ∙ (ap (λ (x : Own). x.pending) session.own_is ∙ ap (λ (m : ℕ). (own_at o.owns m).pending) (sym e))))
-      (λ ne. ap (λ (x : Own). x.pending) (own_other j ne))
+    pending_kept : (j : ℕ) → (own_at owns_after j).pending ≡ (own_at o.owns j).pending
+    pending_kept j = dite (ℕ_discrete j i)
+        (λ e. ap (λ (m : ℕ). (own_at owns_after m).pending) e ∙ (ap (λ (x : Own C R). x.pending) own_here ∙ (ap (λ (x : Own C R). x.pending) session.own_is ∙ ap (λ (m : ℕ). (own_at o.owns m).pending) (sym e))))
+        (λ ne. ap (λ (x : Own C R). x.pending) (own_other j ne))
 
-  opens_after : (m j : ℕ) (c : Call) → get_elem? (seat after m).combiner.opened j ≡ opt.some (Some c) → IsOpened after owns_after (seat after m).combiner j c
-  opens_after m j c there =
-      let t : IsOpened s o.owns (seat s m).combiner j c = o.opens m j c (sym (ap (λ (d : Combiner). get_elem? d.opened j) (combiner_kept m)) ∙ there) in
-      rw (combiner_kept m) (record {
-        book = t.book;
-        record_of = t.record_of;
-        is_busy = t.is_busy;
-        call_of = (t.call_of.0, pending_kept j ∙ t.call_of.1);
-        empty_slot = t.empty_slot;
-      })
+    opens_after : (m j : ℕ) (c : C) → get_elem? (seat after m).combiner.opened j ≡ opt.some (Some c) → IsOpened after owns_after (seat after m).combiner j c
+    opens_after m j c there =
+        let t : IsOpened s o.owns (seat s m).combiner j c = o.opens m j c (sym (ap (λ (d : Combiner C). get_elem? d.opened j) (combiner_kept m)) ∙ there) in
+        rw (combiner_kept m) (record {
+          book = t.book;
+          record_of = t.record_of;
+          is_busy = t.is_busy;
+          call_of = (t.call_of.0, pending_kept j ∙ t.call_of.1);
+          empty_slot = t.empty_slot;
+        })
 
-  opened_after : (j : ℕ) → 0 < j → word s j ≡ BUSY → (c : Call) × (get_elem? (seat after (word s 0)).combiner.opened j ≡ opt.some (Some c))
-  opened_after j some_record busy = let t = o.opened j some_record busy in
-      (t.0, ap (λ (d : Combiner). get_elem? d.opened j) (combiner_kept (word s 0)) ∙ t.1)
+    opened_after : (j : ℕ) → 0 < j → word s j ≡ BUSY → (c : C) × (get_elem? (seat after (word s 0)).combiner.opened j ≡ opt.some (Some c))
+    opened_after j some_record busy = let t = o.opened j some_record busy in
+        (t.0, ap (λ (d : Combiner C). get_elem? d.opened j) (combiner_kept (word s 0)) ∙ t.1)
 
-  -- The step keeps the rule of the records.
-  entered : IsOrderly after
-  entered = record {
-    history = h;
-    slots = o.slots;
-    owns = owns_after;
-    legal = legal;
-    short = omega (arith, short, length-append v.front (entry v.number call reply ∷ []));
-    owns_are = length-set o.owns i w ∙ o.owns_are;
-    words_are = o.words_are;
-    homes_are = o.homes_are;
-    makes = makes_after;
-    unmade = λ j past. own_other j (λ e. omega (arith, sits, seats_kept)) ∙ o.unmade j (omega (arith, seats_kept));
-    sessions = sessions_after;
-    waits = each_set s.views i u blank (λ j x. (own_at owns_after j).pending ≢ None → x.own ≡ own_at owns_after j) sits
-        (λ some. sym own_here) (λ j ne some. o.waits j (λ z. some (ap (λ (x : Own). x.pending) (own_other j ne) ∙ z)) ∙ sym (own_other j ne));
-    fronts = each_set s.views i u blank (λ j x. IsPrefix x.front h) sits (prefix_self h) (λ j ne. prefix_trans (seat s j).front o.history h (o.fronts j) grows);
-    heard = heard_after;
-    others = others_after;
-    stands = stands_after;
-    books = books_after;
-    free = λ z. absurd (omega (arith, book.lock_is));
-    taken = λ some_lock. let t = o.taken some_lock in (ap (λ (d : Combiner). d.has_book) (combiner_kept (word s 0)) ∙ t.0, t.1, t.2);
-    opens = opens_after;
-    opened = opened_after;
-    pieces = pieces_kept o.slots s after o.pieces (omega (arith, seats_kept)) (λ z. (z, refl))
-        (each_set s.views i u blank (λ j x. HasPieces o.pieces.all x) sits (let t = pieces_of_seat s o i v me in record { own = t.own; handed = t.handed; known = t.known }) (λ j ne. o.pieces.seats j));
-  }
+    -- The step keeps the rule of the records.
+    entered : IsOrderly obj after
+    entered = record {
+      history = h;
+      slots = o.slots;
+      owns = owns_after;
+      legal = legal;
+      short = omega (arith, short, length-append v.front (entry v.number call reply ∷ []));
+      owns_are = length-set o.owns i w ∙ o.owns_are;
+      words_are = o.words_are;
+      homes_are = o.homes_are;
+      makes = makes_after;
+      unmade = λ j past. own_other j (λ e. omega (arith, sits, seats_kept)) ∙ o.unmade j (omega (arith, seats_kept));
+      sessions = sessions_after;
+      waits = each_set s.views i u blank (λ j x. (own_at owns_after j).pending ≢ None → x.own ≡ own_at owns_after j) sits
+          (λ some. sym own_here) (λ j ne some. o.waits j (λ z. some (ap (λ (x : Own C R). x.pending) (own_other j ne) ∙ z)) ∙ sym (own_other j ne));
+      fronts = each_set s.views i u blank (λ j x. IsPrefix x.front h) sits (prefix_self h) (λ j ne. prefix_trans (seat s j).front o.history h (o.fronts j) grows);
+      heard = heard_after;
+      others = others_after;
+      stands = stands_after;
+      combiners = combiners_after;
+      free = λ z. absurd (omega (arith, book.lock_is));
+      taken = λ some_lock. let t = o.taken some_lock in (ap (λ (d : Combiner C). d.has_object) (combiner_kept (word s 0)) ∙ t.0, t.1, t.2);
+      opens = opens_after;
+      opened = opened_after;
+      pieces = pieces_kept o.slots s after o.pieces (omega (arith, seats_kept)) (λ z. (z, refl))
+          (each_set s.views i u blank (λ j x. HasPieces o.pieces.all x) sits (let t = pieces_of_seat s o i v me in record { own = t.own; handed = t.handed; known = t.known }) (λ j ne. o.pieces.seats j));
+    }
 
-  -- The publication list doesn't change.
-  still_listed : IsLinked after
-  still_listed = aside s l i v u s.words s.homes me (λ j. refl) refl l.whole (λ j b some ne. refl) (record {
-    claims = λ b some e. e;
-    heads_seen = λ n e. (e, λ some. refl);
-    walkers = λ _. same_walk s l i v u s.words s.homes me has refl refl refl;
-  })
+    -- The publication list doesn't change.
+    still_listed : IsLinked after
+    still_listed = aside s l i v u s.words s.homes me (λ j. refl) refl l.whole (λ j b some ne. refl) (record {
+      claims = λ b some e. e;
+      heads_seen = λ n e. (e, λ some. refl);
+      walkers = λ _. same_walk s l i v u s.words s.homes me has refl refl refl;
+    })
 
-  enter_goes : (more : List (ℕ × SlotValue)) → Goes s 0 i (v, more) (enters call reply (step o.slots 0 0 0 opt.none) (v, more)) (word s 0)
-  enter_goes more = (
-    entering v call reply,
-    keeps,
-    tt,
-    subst (λ (ws : List ℕ). IsRuled record { words = ws; homes = s.homes; views = set s.views v.number (entering v call reply) }) (sym (set-get_or s.words (word_of 0) 0)) (record { records = entered; list = still_listed }),
-    (refl, calls_now),
-  )
+    enter_goes : (more : List (ℕ × SlotValue O C R)) → Goes obj s 0 i (v, more) (enters call reply (step o.slots 0 0 0 opt.none) (v, more)) (word s 0)
+    enter_goes more = (
+      entering v call reply,
+      keeps,
+      tt,
+      subst (λ (ws : List ℕ). IsRuled obj record { words = ws; homes = s.homes; views = set s.views v.number (entering v call reply) }) (sym (set-get_or s.words (word_of 0) 0)) (record { records = entered; list = still_listed }),
+      (refl, calls_now),
+    )
 
-module _ (slots id : ℕ) (v : View) (more : List (ℕ × SlotValue)) (some_number : 0 < v.number) (has : v.combiner.has_book ≡ true) (none : v.own.pending ≡ None) (live : v.own.retired ≡ false)
-    (call : Call) (reply : Reply) (legal : IsLegal (v.front ++ entry v.number call reply ∷ [])) (short : length v.front + 1 < 2 ^ 64) where
-  -- Enter keeps the rule, for a combiner with no call pending and an entry that makes a longer legal history.
-  pub enter_kept : Allows IsRuled slots id (v, more) 0 (λ n. n) (enters call reply (step slots 0 0 0 opt.none) (v, more))
-  enter_kept = seated slots id v.number 0 v more (λ n. n) (enters call reply (step slots 0 0 0 opt.none) (v, more)) refl some_number
-      (λ s o l me small wide e. subst (λ (n : ℕ). Goes s 0 v.number (v, more) (enters call reply (step n 0 0 0 opt.none) (v, more)) (word s 0)) e (enter_goes v some_number s o l me small has none live call reply legal short more))
+  module _ (slots id : ℕ) (v : View C R) (more : List (ℕ × SlotValue O C R)) (some_number : 0 < v.number) (has : v.combiner.has_object ≡ true) (none : v.own.pending ≡ None) (live : v.own.retired ≡ false)
+      (call : C) (reply : R) (legal : obj.is_legal (v.front ++ entry v.number call reply ∷ [])) (short : length v.front + 1 < 2 ^ 64) where
+    -- Enter keeps the rule, for a combiner with no call pending and an entry that makes a longer legal history.
+    pub enter_kept : Allows (IsRuled obj) slots id (v, more) 0 (λ n. n) (enters call reply (step slots 0 0 0 opt.none) (v, more))
+    enter_kept = seated slots id v.number 0 v more (λ n. n) (enters call reply (step slots 0 0 0 opt.none) (v, more)) refl some_number
+        (λ s o l me small wide e. subst (λ (n : ℕ). Goes obj s 0 v.number (v, more) (enters call reply (step n 0 0 0 opt.none) (v, more)) (word s 0)) e (enter_goes v some_number s o l me small has none live call reply legal short more))

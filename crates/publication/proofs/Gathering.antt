@@ -7,11 +7,11 @@ use Rattle.std.proofs.lemmas.Bool.{not-true}
 use Rattle.std.proofs.lemmas.Bool.Decides.{nat_tests}
 use mathlib.Core.Option as opt
 use lib.ListN.{get_elem?}
-use Rattle.lock_rules.specs.Entries.{Entry}
+use Rattle.sequential.specs.declared.entry.Entry.{Entry}
 use Rattle.publication.specs.Views.{Pending, TicketView}
-use Rattle.lock_desk.specs.BookView.{BookView}
 use Rattle.publication.specs.Boards.{IsEachOnce, IsSettled, AccountsFor, TookPieces}
 use Rattle.publication.specs.inner.Closing.{is_settled, handed_by, WereHanded, AreEnded, TookHanded}
+use Rattle.sequential.specs.declared.object.Sequential.{Ghosts}
 
 -- lists
 
@@ -61,79 +61,83 @@ same_number a b e = grind (arith, nat_tests)
 equal_numbers : (a b : ℕ) → a ≡ b → a == b ≡ true
 equal_numbers a b e = grind (arith, nat_tests)
 
--- A ticket with this number is in the list.
-abbrev pub has_number : ℕ → List TicketView → Bool
-has_number number ts = list_any (λ t. t.number == number) ts
+module _ {C R : Type 0} where
+  -- A ticket with this number is in the list.
+  abbrev pub has_number : ℕ → List (TicketView C R) → Bool
+  has_number number ts = list_any (λ t. t.number == number) ts
 
-number_found : (n : ℕ) (ts : List TicketView) → has_number n ts ≡ true → Any (λ t. t.number ≡ n) ts
-number_found n [] e = absurd (cc e)
-number_found n (t ∷ ts) e = (elim (t.number == n) as (λ b. t.number == n ≡ b → b || has_number n ts ≡ true → Any (λ u. u.number ≡ n) (t ∷ ts)) [
-  | true ↦ λ is _. (0, t, omega arith, refl, same_number t.number n is)
-  | false ↦ λ _ more. let r = number_found n ts more in (suc r.0, r.1, omega (arith, r.2), r.3, r.4)
-]) refl e
+  number_found : (n : ℕ) (ts : List (TicketView C R)) → has_number n ts ≡ true → Any (λ t. t.number ≡ n) ts
+  number_found n [] e = absurd (cc e)
+  number_found n (t ∷ ts) e = (elim (t.number == n) as (λ b. t.number == n ≡ b → b || has_number n ts ≡ true → Any (λ u. u.number ≡ n) (t ∷ ts)) [
+    | true ↦ λ is _. (0, t, omega arith, refl, same_number t.number n is)
+    | false ↦ λ _ more. let r = number_found n ts more in (suc r.0, r.1, omega (arith, r.2), r.3, r.4)
+  ]) refl e
 
-number_there : (n : ℕ) (ts : List TicketView) (k : ℕ) (d : TicketView) → k < length ts → (get_or ts k d).number ≡ n → has_number n ts ≡ true
-number_there n [] k d few is = absurd (omega arith)
-number_there n (t ∷ ts) zero d few is = ap (λ (b : Bool). b || has_number n ts) (equal_numbers t.number n is)
-number_there n (t ∷ ts) (suc k) d few is = ap (λ (b : Bool). (t.number == n) || b) (number_there n ts k d (omega arith) is) ∙ or_true (t.number == n)
-  where
-    or_true : (b : Bool) → b || true ≡ true
-    or_true true = refl
-    or_true false = refl
+  number_there : (n : ℕ) (ts : List (TicketView C R)) (k : ℕ) (d : TicketView C R) → k < length ts → (get_or ts k d).number ≡ n → has_number n ts ≡ true
+  number_there n [] k d few is = absurd (omega arith)
+  number_there n (t ∷ ts) zero d few is = ap (λ (b : Bool). b || has_number n ts) (equal_numbers t.number n is)
+  number_there n (t ∷ ts) (suc k) d few is = ap (λ (b : Bool). (t.number == n) || b) (number_there n ts k d (omega arith) is) ∙ or_true (t.number == n)
+    where
+      or_true : (b : Bool) → b || true ≡ true
+      or_true true = refl
+      or_true false = refl
 
--- A roll to which all tickets were called has each number up to n exactly if each session's ticket is there once, where the
--- tickets are as many as the sessions.
-pub each_once_tells : (n most : ℕ) (ts : List TicketView) (called : ℕ → Bool) (answer : Bool) → length ts ≡ n → n ≤ most → ((k : ℕ) → k ≤ most → called k ≡ has_number k ts)
-    → (IsTrue answer ↔ ((k : ℕ) → 0 < k → k ≤ n → called k ≡ true)) → IsTrue answer ↔ IsEachOnce n ts
-each_once_tells n most ts called answer many few same tells = (
-  (λ yes. record { as_many = many; each = λ k some le. number_found k ts (sym (same k (omega (arith, le, few))) ∙ tells.0 yes k some le) }),
-  (λ all. tells.1 (λ k some le. let r = all.each k some le in same k (omega (arith, le, few)) ∙ number_there k ts r.0 r.1 r.2 (ap (λ (t : TicketView). t.number) r.3 ∙ r.4))),
-)
+  -- A roll to which all tickets were called has each number up to n exactly if each session's ticket is there once, where the
+  -- tickets are as many as the sessions.
+  pub each_once_tells : (n most : ℕ) (ts : List (TicketView C R)) (called : ℕ → Bool) (answer : Bool) → length ts ≡ n → n ≤ most → ((k : ℕ) → k ≤ most → called k ≡ has_number k ts)
+      → (IsTrue answer ↔ ((k : ℕ) → 0 < k → k ≤ n → called k ≡ true)) → IsTrue answer ↔ IsEachOnce n ts
+  each_once_tells n most ts called answer many few same tells = (
+    (λ yes. record { as_many = many; each = λ k some le. number_found k ts (sym (same k (omega (arith, le, few))) ∙ tells.0 yes k some le) }),
+    (λ all. tells.1 (λ k some le. let r = all.each k some le in same k (omega (arith, le, few)) ∙ number_there k ts r.0 r.1 r.2 (ap (λ (t : TicketView C R). t.number) r.3 ∙ r.4))),
+  )
 
--- all tickets are settled
+module _ {C : Type 0} where
+  -- all tickets are settled
 
-nothing_waits : (p : Option Pending) → not (is_some p) ≡ true → p ≡ None
-nothing_waits None e = refl
-nothing_waits (Some p) e = absurd (cc e)
+  nothing_waits : (p : Option (Pending C)) → not (is_some p) ≡ true → p ≡ None
+  nothing_waits None e = refl
+  nothing_waits (Some p) e = absurd (cc e)
 
-settled_is : (t : TicketView) → is_settled t ≡ true → IsSettled t
-settled_is t e = let r = both (not (is_some t.pending)) (not t.has_book) e in record { none = nothing_waits t.pending r.0; no_book = not-true t.has_book r.1 }
+module _ {C R : Type 0} where
+  settled_is : (t : TicketView C R) → is_settled t ≡ true → IsSettled t
+  settled_is t e = let r = both (not (is_some t.pending)) (not t.has_object) e in record { none = nothing_waits t.pending r.0; no_object = not-true t.has_object r.1 }
 
-is_settled_so : (t : TicketView) → IsSettled t → is_settled t ≡ true
-is_settled_so t s = ap (λ (p : Option Pending). not (is_some p) && not t.has_book) s.none ∙ ap not s.no_book
+  is_settled_so : (t : TicketView C R) → IsSettled t → is_settled t ≡ true
+  is_settled_so t s = ap (λ (p : Option (Pending C)). not (is_some p) && not t.has_object) s.none ∙ ap not s.no_object
 
--- If the test is true, all tickets are settled.
-pub all_settled : (ts : List TicketView) → list_all is_settled ts ≡ true → All IsSettled ts
-all_settled [] e k d few = absurd (omega arith)
-all_settled (t ∷ ts) e zero d few = settled_is t (both (is_settled t) (list_all is_settled ts) e).0
-all_settled (t ∷ ts) e (suc k) d few = all_settled ts (both (is_settled t) (list_all is_settled ts) e).1 k d (omega arith)
+  -- If the test is true, all tickets are settled.
+  pub all_settled : (ts : List (TicketView C R)) → list_all is_settled ts ≡ true → All IsSettled ts
+  all_settled [] e k d few = absurd (omega arith)
+  all_settled (t ∷ ts) e zero d few = settled_is t (both (is_settled t) (list_all is_settled ts) e).0
+  all_settled (t ∷ ts) e (suc k) d few = all_settled ts (both (is_settled t) (list_all is_settled ts) e).1 k d (omega arith)
 
-settled_all : (ts : List TicketView) → All IsSettled ts → list_all is_settled ts ≡ true
-settled_all [] all = refl
-settled_all (t ∷ ts) all = ap (λ (b : Bool). b && list_all is_settled ts) (is_settled_so t (all 0 t (omega arith))) ∙ settled_all ts (λ k d few. all (suc k) d (omega arith))
+  settled_all : (ts : List (TicketView C R)) → All IsSettled ts → list_all is_settled ts ≡ true
+  settled_all [] all = refl
+  settled_all (t ∷ ts) all = ap (λ (b : Bool). b && list_all is_settled ts) (is_settled_so t (all 0 t (omega arith))) ∙ settled_all ts (λ k d few. all (suc k) d (omega arith))
 
--- The test is true exactly if all tickets are settled.
-pub settled_tells : (ts : List TicketView) (answer : Bool) → answer ≡ list_all is_settled ts → IsTrue answer ↔ All IsSettled ts
-settled_tells ts answer is = ((λ yes. all_settled ts (sym is ∙ yes)), λ all. is ∙ settled_all ts all)
+  -- The test is true exactly if all tickets are settled.
+  pub settled_tells : (ts : List (TicketView C R)) (answer : Bool) → answer ≡ list_all is_settled ts → IsTrue answer ↔ All IsSettled ts
+  settled_tells ts answer is = ((λ yes. all_settled ts (sym is ∙ yes)), λ all. is ∙ settled_all ts all)
 
--- what the closing seat kept of the tickets
+  -- what the closing seat kept of the tickets
 
--- With each session's ticket there once, each session was handed in.
-pub were_handed : (n : ℕ) (ts : List TicketView) → IsEachOnce n ts → WereHanded (n + 1) (map handed_by ts)
-were_handed n ts all i some few = let r = all.each i some (omega arith) in
-    (r.0, handed_by (get_or ts r.0 r.1), map_at handed_by ts r.0 (get_or ts r.0 r.1) (stands_at ts r.0 r.1 r.2), ap (λ (t : TicketView). t.number) r.3 ∙ r.4)
+  -- With each session's ticket there once, each session was handed in.
+  pub were_handed : (n : ℕ) (ts : List (TicketView C R)) → IsEachOnce n ts → WereHanded (n + 1) (map handed_by ts)
+  were_handed n ts all i some few = let r = all.each i some (omega arith) in
+      (r.0, handed_by (get_or ts r.0 r.1), map_at handed_by ts r.0 (get_or ts r.0 r.1) (stands_at ts r.0 r.1 r.2), ap (λ (t : TicketView C R). t.number) r.3 ∙ r.4)
 
--- If the history agrees with what was kept of the tickets, it agrees with the tickets.
-pub all_accounted : (h : List Entry) (ts : List TicketView) → AreEnded h (map handed_by ts) → All (AccountsFor h) ts
-all_accounted h ts all k d few =
-    let e = all k (handed_by (get_or ts k d)) (map_at handed_by ts k (get_or ts k d) (stands_at ts k d few)) in record { front = e.begins; calls = e.calls }
+  -- If the history agrees with what was kept of the tickets, it agrees with the tickets.
+  pub all_accounted : (h : List (Entry C R)) (ts : List (TicketView C R)) → AreEnded h (map handed_by ts) → All (AccountsFor h) ts
+  all_accounted h ts all k d few =
+      let e = all k (handed_by (get_or ts k d)) (map_at handed_by ts k (get_or ts k d) (stands_at ts k d few)) in record { front = e.begins; calls = e.calls }
 
--- If what was kept of the tickets has the pieces that were taken, so have the tickets.
-pub all_took : (book : BookView) (ts : List TicketView) → TookHanded book (map handed_by ts) → TookPieces book ts
-all_took book ts t = record {
-  all = t.all;
-  within = t.within;
-  each = λ k d few. t.each k (handed_by (get_or ts k d)) (map_at handed_by ts k (get_or ts k d) (stands_at ts k d few));
-  in_order = t.in_order;
-  in_a_row = t.in_a_row;
-}
+module _ {O C R : Type 0} {obj : Ghosts O C R} where
+  -- If what was kept of the tickets has the pieces that were taken, so have the tickets.
+  pub all_took : (book : O) (ts : List (TicketView C R)) → TookHanded obj book (map handed_by ts) → TookPieces obj book ts
+  all_took book ts t = record {
+    all = t.all;
+    within = t.within;
+    each = λ k d few. t.each k (handed_by (get_or ts k d)) (map_at handed_by ts k (get_or ts k d) (stands_at ts k d few));
+    in_order = t.in_order;
+    in_a_row = t.in_a_row;
+  }

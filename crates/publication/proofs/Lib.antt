@@ -23,9 +23,9 @@ pub mod SplitsAndJoins
 pub mod Learning
 pub mod Closed
 pub mod Gathering
-pub mod ToldIsHeld
-pub mod ToldTogether
-pub mod HoldsAsTold
+pub mod Collected
+pub mod BetweenCalls
+pub mod Cleared
 pub mod CarriedSlots
 pub mod BoardHistory
 pub mod HistorySteps

@@ -5,203 +5,204 @@ use mathlib.Core.Logic.{dite}
 use mathlib.Core.List.{IsPrefix}
 use native.Mathlib.Decide.{ℕ_discrete}
 use lib.ListN.{get_elem?}
-use Rattle.lock_rules.specs.declared.calls.Call.{Call}
-use Rattle.lock_rules.specs.Entries.{Entry}
+use Rattle.sequential.specs.declared.entry.Entry.{Entry}
 use Rattle.publication.specs.Words.{word_of, BUSY}
 use Rattle.publication.specs.Views.{Own, Combiner, Listing, Others}
-use Rattle.publication.specs.Rule.{blank, BoardState, word, home, seat, fresh, own_at, announced, RecordState, HasBook, IsOpened, IsSession, IsMaker, AreTrue, HasPieces, IsOrderly}
+use Rattle.publication.specs.Rule.{blank, BoardState, word, home, seat, fresh, own_at, announced, RecordState, HasObject, IsOpened, IsSession, IsMaker, AreTrue, HasPieces, IsOrderly}
 use Rattle.publication.specs.Kinds.{as_session}
 use Rattle.publication.specs.declared.view.View.{View}
 use Rattle.publication.specs.declared.slot.SlotValue.{SlotValue}
 use Rattle.publication.proofs.Lists.{at_there, each_set, prefix_self}
-use Rattle.publication.proofs.SeatViews.{session_of, heard_few, others_of, book_of, pieces_of_seat}
+use Rattle.publication.proofs.SeatViews.{session_of, heard_few, others_of, object_of, pieces_of_seat}
 use Rattle.publication.proofs.Others.{still-true}
 use Rattle.publication.proofs.Pieces.{pieces_kept}
+use Rattle.sequential.specs.declared.object.Sequential.{Ghosts}
 
--- Session i, whose seat has view v, changes its state word, its slot, its front, its own calls, its heard counts and
--- its listing.
-module _ (s : BoardState) (o : IsOrderly s) (i : ℕ) (v : View) (n : ℕ) (at : opt.Option SlotValue) (front : List Entry) (w : Own) (heard : List ℕ) (l : Listing)
-    (me : get_elem? s.views i ≡ opt.some v) (mine : 0 < i) (small : i < o.slots) (lives : v.number ≢ 0) where
-  -- The session's view after the step.
-  abbrev u : View
-  u = as_session v front w heard l
+module _ {O C R : Type 0} {obj : Ghosts O C R} where
+  -- Session i, whose seat has view v, changes its state word, its slot, its front, its own calls, its heard counts and
+  -- its listing.
+  module _ (s : BoardState O C R) (o : IsOrderly obj s) (i : ℕ) (v : View C R) (n : ℕ) (at : opt.Option (SlotValue O C R)) (front : List (Entry C R)) (w : Own C R) (heard : List ℕ) (l : Listing)
+      (me : get_elem? s.views i ≡ opt.some v) (mine : 0 < i) (small : i < o.slots) (lives : v.number ≢ 0) where
+    -- The session's view after the step.
+    abbrev u : View C R
+    u = as_session v front w heard l
 
-  -- The board after the step.
-  abbrev after : BoardState
-  after = record { words = set s.words (word_of i) n; homes = set s.homes i at; views = set s.views i u }
+    -- The board after the step.
+    abbrev after : BoardState O C R
+    after = record { words = set s.words (word_of i) n; homes = set s.homes i at; views = set s.views i u }
 
-  -- The sessions' own calls after the step.
-  abbrev owns_after : List Own
-  owns_after = set o.owns i w
+    -- The sessions' own calls after the step.
+    abbrev owns_after : List (Own C R)
+    owns_after = set o.owns i w
 
-  -- What such a step has to show: the session announces no fewer calls, hears only of its own, and its record is in
-  -- the state that its word names, BUSY only if it was BUSY before with the same call.
-  pub record IsOwnStep : Type 0 where
-    pub more : announced v.own ≤ announced w
-    pub hears : (j : ℕ) → j ≢ i → get_or heard j 0 ≡ get_or v.heard j 0
-    pub hears_own : get_or heard i 0 ≤ announced w
-    pub was_busy : word s i ≡ BUSY → (n ≡ BUSY) × (at ≡ home s i) × (w.pending ≡ v.own.pending)
-    pub is_busy : n ≡ BUSY → word s i ≡ BUSY
-    pub begins : IsPrefix front o.history
-    pub whole : v.combiner.has_book ≡ true → front ≡ o.history
-    pub stands : RecordState o.history i n at w
+    -- What such a step has to show: the session announces no fewer calls, hears only of its own, and its record is in
+    -- the state that its word names, BUSY only if it was BUSY before with the same call.
+    pub record IsOwnStep : Type 0 where
+      pub more : announced v.own ≤ announced w
+      pub hears : (j : ℕ) → j ≢ i → get_or heard j 0 ≡ get_or v.heard j 0
+      pub hears_own : get_or heard i 0 ≤ announced w
+      pub was_busy : word s i ≡ BUSY → (n ≡ BUSY) × (at ≡ home s i) × (w.pending ≡ v.own.pending)
+      pub is_busy : n ≡ BUSY → word s i ≡ BUSY
+      pub begins : IsPrefix front o.history
+      pub whole : v.combiner.has_object ≡ true → front ≡ o.history
+      pub stands : RecordState o.history i n at w
 
-  is_me : seat s i ≡ v
-  is_me = (at_there s.views i v blank me).0
+    is_me : seat s i ≡ v
+    is_me = (at_there s.views i v blank me).0
 
-  sits : i < length s.views
-  sits = (at_there s.views i v blank me).1
+    sits : i < length s.views
+    sits = (at_there s.views i v blank me).1
 
-  not_lock : 0 ≢ i
-  not_lock e = omega arith
+    not_lock : 0 ≢ i
+    not_lock e = omega arith
 
-  word_other : (j : ℕ) → j ≢ i → word after j ≡ word s j
-  word_other j ne = get_or-set_other s.words (word_of i) (word_of j) n 0 (λ e. ne (omega (arith, e)))
+    word_other : (j : ℕ) → j ≢ i → word after j ≡ word s j
+    word_other j ne = get_or-set_other s.words (word_of i) (word_of j) n 0 (λ e. ne (omega (arith, e)))
 
-  word_here : word after i ≡ n
-  word_here = get_or-set_same s.words (word_of i) n 0 (omega (arith, o.words_are))
+    word_here : word after i ≡ n
+    word_here = get_or-set_same s.words (word_of i) n 0 (omega (arith, o.words_are))
 
-  home_other : (j : ℕ) → j ≢ i → home after j ≡ home s j
-  home_other j ne = get_or-set_other s.homes i j at opt.none ne
+    home_other : (j : ℕ) → j ≢ i → home after j ≡ home s j
+    home_other j ne = get_or-set_other s.homes i j at opt.none ne
 
-  home_here : home after i ≡ at
-  home_here = get_or-set_same s.homes i at opt.none (omega (arith, o.homes_are))
+    home_here : home after i ≡ at
+    home_here = get_or-set_same s.homes i at opt.none (omega (arith, o.homes_are))
 
-  seat_other : (j : ℕ) → j ≢ i → seat after j ≡ seat s j
-  seat_other j ne = get_or-set_other s.views i j u blank ne
+    seat_other : (j : ℕ) → j ≢ i → seat after j ≡ seat s j
+    seat_other j ne = get_or-set_other s.views i j u blank ne
 
-  seat_here : seat after i ≡ u
-  seat_here = get_or-set_same s.views i u blank sits
+    seat_here : seat after i ≡ u
+    seat_here = get_or-set_same s.views i u blank sits
 
-  seats_kept : length (set s.views i u) ≡ length s.views
-  seats_kept = length-set s.views i u
+    seats_kept : length (set s.views i u) ≡ length s.views
+    seats_kept = length-set s.views i u
 
-  own_other : (j : ℕ) → j ≢ i → own_at owns_after j ≡ own_at o.owns j
-  own_other j ne = get_or-set_other o.owns i j w fresh ne
+    own_other : (j : ℕ) → j ≢ i → own_at owns_after j ≡ own_at o.owns j
+    own_other j ne = get_or-set_other o.owns i j w fresh ne
 
-  own_here : own_at owns_after i ≡ w
-  own_here = get_or-set_same o.owns i w fresh (omega (arith, o.owns_are))
+    own_here : own_at owns_after i ≡ w
+    own_here = get_or-set_same o.owns i w fresh (omega (arith, o.owns_are))
 
-  combiner_kept : (k : ℕ) → (seat after k).combiner ≡ (seat s k).combiner
-  combiner_kept k = dite (ℕ_discrete k i)
-      (λ e. ap (λ (j : ℕ). (seat after j).combiner) e
-      ∙ (ap (λ (x : View). x.combiner) seat_here ∙ (ap (λ (x : View). x.combiner) (sym is_me) ∙ ap (λ (j : ℕ). (seat s j).combiner) (sym e))))
-      (λ ne. ap (λ (x : View). x.combiner) (seat_other k ne))
+    combiner_kept : (k : ℕ) → (seat after k).combiner ≡ (seat s k).combiner
+    combiner_kept k = dite (ℕ_discrete k i)
+        (λ e. ap (λ (j : ℕ). (seat after j).combiner) e
+        ∙ (ap (λ (x : View C R). x.combiner) seat_here ∙ (ap (λ (x : View C R). x.combiner) (sym is_me) ∙ ap (λ (j : ℕ). (seat s j).combiner) (sym e))))
+        (λ ne. ap (λ (x : View C R). x.combiner) (seat_other k ne))
 
-  session_before : IsSession o.slots o.owns i v
-  session_before = session_of s o i v me lives
+    session_before : IsSession o.slots o.owns i v
+    session_before = session_of s o i v me lives
 
-  module _ (k : IsOwnStep) where
-    published_here : (j : ℕ) → j ≡ i → announced (own_at owns_after j) ≡ announced w
-    published_here j e = ap (λ (m : ℕ). announced (own_at owns_after m)) e ∙ ap announced own_here
+    module _ (k : IsOwnStep) where
+      published_here : (j : ℕ) → j ≡ i → announced (own_at owns_after j) ≡ announced w
+      published_here j e = ap (λ (m : ℕ). announced (own_at owns_after m)) e ∙ ap announced own_here
 
-    published_more : (j : ℕ) → announced (own_at o.owns j) ≤ announced (own_at owns_after j)
-    published_more j = dite (ℕ_discrete j i)
-        (λ e. let a : announced (own_at o.owns j) ≡ announced v.own = ap (λ (m : ℕ). announced (own_at o.owns m)) e ∙ ap announced (sym session_before.own_is) in
-        omega (arith, published_here j e, k.more))
-        (λ ne. let a : announced (own_at owns_after j) ≡ announced (own_at o.owns j) = ap announced (own_other j ne) in omega arith)
+      published_more : (j : ℕ) → announced (own_at o.owns j) ≤ announced (own_at owns_after j)
+      published_more j = dite (ℕ_discrete j i)
+          (λ e. let a : announced (own_at o.owns j) ≡ announced v.own = ap (λ (m : ℕ). announced (own_at o.owns m)) e ∙ ap announced (sym session_before.own_is) in
+          omega (arith, published_here j e, k.more))
+          (λ ne. let a : announced (own_at owns_after j) ≡ announced (own_at o.owns j) = ap announced (own_other j ne) in omega arith)
 
-    makes_after : IsMaker o.slots (length (set s.views i u)) (seat after 0)
-    makes_after = subst (λ (m : ℕ). IsMaker o.slots m (seat after 0)) (sym seats_kept)
-        (subst (λ (x : View). IsMaker o.slots (length s.views) x) (sym (seat_other 0 not_lock)) o.makes)
+      makes_after : IsMaker o.slots (length (set s.views i u)) (seat after 0)
+      makes_after = subst (λ (m : ℕ). IsMaker o.slots m (seat after 0)) (sym seats_kept)
+          (subst (λ (x : View C R). IsMaker o.slots (length s.views) x) (sym (seat_other 0 not_lock)) o.makes)
 
-    unmade_after : (j : ℕ) → length (set s.views i u) ≤ j → own_at owns_after j ≡ fresh
-    unmade_after j past = own_other j (λ e. omega (arith, sits, seats_kept)) ∙ o.unmade j (omega (arith, seats_kept))
+      unmade_after : (j : ℕ) → length (set s.views i u) ≤ j → own_at owns_after j ≡ fresh
+      unmade_after j past = own_other j (λ e. omega (arith, sits, seats_kept)) ∙ o.unmade j (omega (arith, seats_kept))
 
-    sessions_after : (j : ℕ) → (seat after j).number ≢ 0 → IsSession o.slots owns_after j (seat after j)
-    sessions_after = each_set s.views i u blank (λ j x. x.number ≢ 0 → IsSession o.slots owns_after j x) sits
-        (λ some_number. let t = session_before in record { own_is = sym own_here; is = t.is; small = t.small; wide = t.wide })
-        (λ j ne some_number. let t = o.sessions j some_number in record { own_is = t.own_is ∙ sym (own_other j ne); is = t.is; small = t.small; wide = t.wide })
+      sessions_after : (j : ℕ) → (seat after j).number ≢ 0 → IsSession o.slots owns_after j (seat after j)
+      sessions_after = each_set s.views i u blank (λ j x. x.number ≢ 0 → IsSession o.slots owns_after j x) sits
+          (λ some_number. let t = session_before in record { own_is = sym own_here; is = t.is; small = t.small; wide = t.wide })
+          (λ j ne some_number. let t = o.sessions j some_number in record { own_is = t.own_is ∙ sym (own_other j ne); is = t.is; small = t.small; wide = t.wide })
 
-    heard_here : (j : ℕ) → get_or heard j 0 ≤ announced (own_at owns_after j)
-    heard_here j = dite (ℕ_discrete j i)
-        (λ e. let a : get_or heard j 0 ≡ get_or heard i 0 = ap (λ (m : ℕ). get_or heard m 0) e in omega (arith, k.hears_own, published_here j e))
-        (λ ne. omega (arith, k.hears j ne, heard_few s o i v me j, published_more j))
+      heard_here : (j : ℕ) → get_or heard j 0 ≤ announced (own_at owns_after j)
+      heard_here j = dite (ℕ_discrete j i)
+          (λ e. let a : get_or heard j 0 ≡ get_or heard i 0 = ap (λ (m : ℕ). get_or heard m 0) e in omega (arith, k.hears_own, published_here j e))
+          (λ ne. omega (arith, k.hears j ne, heard_few s o i v me j, published_more j))
 
-    heard_after : (m j : ℕ) → get_or (seat after m).heard j 0 ≤ announced (own_at owns_after j)
-    heard_after m j = each_set s.views i u blank (λ m x. get_or x.heard j 0 ≤ announced (own_at owns_after j)) sits (heard_here j)
-        (λ m ne. omega (arith, o.heard m j, published_more j)) m
+      heard_after : (m j : ℕ) → get_or (seat after m).heard j 0 ≤ announced (own_at owns_after j)
+      heard_after m j = each_set s.views i u blank (λ m x. get_or x.heard j 0 ≤ announced (own_at owns_after j)) sits (heard_here j)
+          (λ m ne. omega (arith, o.heard m j, published_more j)) m
 
-    still : (x : Others) → AreTrue o.history s o.slots o.owns x → AreTrue o.history after o.slots owns_after x
-    still x = still-true o.history o.history s after o.slots o.owns owns_after x (prefix_self o.history) (omega (arith, seats_kept))
-        (λ j some few gone. let ne : j ≢ i = λ e. lives (ap (λ (y : View). y.number) (sym is_me) ∙ (ap (λ (m : ℕ). (seat s m).number) (sym e) ∙ gone)) in
-        (ap (λ (y : View). y.number) (seat_other j ne) ∙ gone, own_other j ne))
+      still : (x : Others C R) → AreTrue o.history s o.slots o.owns x → AreTrue o.history after o.slots owns_after x
+      still x = still-true o.history o.history s after o.slots o.owns owns_after x (prefix_self o.history) (omega (arith, seats_kept))
+          (λ j some few gone. let ne : j ≢ i = λ e. lives (ap (λ (y : View C R). y.number) (sym is_me) ∙ (ap (λ (m : ℕ). (seat s m).number) (sym e) ∙ gone)) in
+          (ap (λ (y : View C R). y.number) (seat_other j ne) ∙ gone, own_other j ne))
 
-    others_after : (m : ℕ) → AreTrue o.history after o.slots owns_after (seat after m).others
-    others_after = each_set s.views i u blank (λ m x. AreTrue o.history after o.slots owns_after x.others) sits
-        (still v.others (others_of s o i v me)) (λ m ne. still (seat s m).others (o.others m))
+      others_after : (m : ℕ) → AreTrue o.history after o.slots owns_after (seat after m).others
+      others_after = each_set s.views i u blank (λ m x. AreTrue o.history after o.slots owns_after x.others) sits
+          (still v.others (others_of s o i v me)) (λ m ne. still (seat s m).others (o.others m))
 
-    stands_after : (j : ℕ) → 0 < j → j < o.slots → RecordState o.history j (word after j) (home after j) (own_at owns_after j)
-    stands_after j some_record few = dite (ℕ_discrete j i)
-        (λ e. subst (λ (m : ℕ). RecordState o.history m (word after m) (home after m) (own_at owns_after m)) (sym e) (rw (word_here, home_here, own_here) k.stands))
-        (λ ne. rw (word_other j ne, home_other j ne, own_other j ne) (o.stands j some_record few))
+      stands_after : (j : ℕ) → 0 < j → j < o.slots → RecordState o.history j (word after j) (home after j) (own_at owns_after j)
+      stands_after j some_record few = dite (ℕ_discrete j i)
+          (λ e. subst (λ (m : ℕ). RecordState o.history m (word after m) (home after m) (own_at owns_after m)) (sym e) (rw (word_here, home_here, own_here) k.stands))
+          (λ ne. rw (word_other j ne, home_other j ne, own_other j ne) (o.stands j some_record few))
 
-    books_after : (j : ℕ) → (seat after j).combiner.has_book ≡ true → HasBook o.history (word after 0) j (seat after j)
-    books_after = each_set s.views i u blank (λ j x. x.combiner.has_book ≡ true → HasBook o.history (word after 0) j x) sits
-        (λ has. let t = book_of s o i v me has in record { lock_is = word_other 0 not_lock ∙ t.lock_is; session = mine; named = t.named; whole = k.whole has })
-        (λ j ne has. let t = o.books j has in record { lock_is = word_other 0 not_lock ∙ t.lock_is; session = t.session; named = t.named; whole = t.whole })
+      combiners_after : (j : ℕ) → (seat after j).combiner.has_object ≡ true → HasObject o.history (word after 0) j (seat after j)
+      combiners_after = each_set s.views i u blank (λ j x. x.combiner.has_object ≡ true → HasObject o.history (word after 0) j x) sits
+          (λ has. let t = object_of s o i v me has in record { lock_is = word_other 0 not_lock ∙ t.lock_is; session = mine; named = t.named; whole = k.whole has })
+          (λ j ne has. let t = o.combiners j has in record { lock_is = word_other 0 not_lock ∙ t.lock_is; session = t.session; named = t.named; whole = t.whole })
 
-    taken_after : word after 0 ≢ 0 → ((seat after (word after 0)).combiner.has_book ≡ true) × (word after 0 < o.slots) × (home after 0 ≡ opt.none)
-    taken_after = rw (word_other 0 not_lock) (λ some_lock. let t = o.taken some_lock in
-        (ap (λ (c : Combiner). c.has_book) (combiner_kept (word s 0)) ∙ t.0, t.1, home_other 0 not_lock ∙ t.2))
+      taken_after : word after 0 ≢ 0 → ((seat after (word after 0)).combiner.has_object ≡ true) × (word after 0 < o.slots) × (home after 0 ≡ opt.none)
+      taken_after = rw (word_other 0 not_lock) (λ some_lock. let t = o.taken some_lock in
+          (ap (λ (c : Combiner C). c.has_object) (combiner_kept (word s 0)) ∙ t.0, t.1, home_other 0 not_lock ∙ t.2))
 
-    -- If its own record is opened, it stays opened with the same call.
-    open_here : (c : Combiner) (j : ℕ) (call : Call) → j ≡ i → IsOpened s o.owns c j call → IsOpened after owns_after c j call
-    open_here c j call e t =
-        let b = k.was_busy (sym (ap (word s) e) ∙ t.is_busy) in
-        let same : w.pending ≡ (own_at o.owns i).pending = b.2 ∙ ap (λ (x : Own). x.pending) session_before.own_is in
-        record {
-          book = t.book;
-          record_of = t.record_of;
-          is_busy = ap (word after) e ∙ (word_here ∙ b.0);
-          call_of = (t.call_of.0, ap (λ (m : ℕ). (own_at owns_after m).pending) e ∙ (ap (λ (x : Own). x.pending) own_here ∙ (same ∙ (ap (λ (m : ℕ). (own_at o.owns m).pending) (sym e) ∙ t.call_of.1))));
-          empty_slot = λ away. ap (home after) e ∙ (home_here ∙ (b.1 ∙ (ap (home s) (sym e) ∙ t.empty_slot away)));
-        }
+      -- If its own record is opened, it stays opened with the same call.
+      open_here : (c : Combiner C) (j : ℕ) (call : C) → j ≡ i → IsOpened s o.owns c j call → IsOpened after owns_after c j call
+      open_here c j call e t =
+          let b = k.was_busy (sym (ap (word s) e) ∙ t.is_busy) in
+          let same : w.pending ≡ (own_at o.owns i).pending = b.2 ∙ ap (λ (x : Own C R). x.pending) session_before.own_is in
+          record {
+            book = t.book;
+            record_of = t.record_of;
+            is_busy = ap (word after) e ∙ (word_here ∙ b.0);
+            call_of = (t.call_of.0, ap (λ (m : ℕ). (own_at owns_after m).pending) e ∙ (ap (λ (x : Own C R). x.pending) own_here ∙ (same ∙ (ap (λ (m : ℕ). (own_at o.owns m).pending) (sym e) ∙ t.call_of.1))));
+            empty_slot = λ away. ap (home after) e ∙ (home_here ∙ (b.1 ∙ (ap (home s) (sym e) ∙ t.empty_slot away)));
+          }
 
-    opens_after : (m j : ℕ) (call : Call) → get_elem? (seat after m).combiner.opened j ≡ opt.some (Some call) → IsOpened after owns_after (seat after m).combiner j call
-    opens_after m j call is =
-        let t : IsOpened s o.owns (seat s m).combiner j call = o.opens m j call (sym (ap (λ (c : Combiner). get_elem? c.opened j) (combiner_kept m)) ∙ is) in
-        rw (combiner_kept m) (dite (ℕ_discrete j i) (λ e. open_here (seat s m).combiner j call e t) (λ ne. record {
-          book = t.book;
-          record_of = t.record_of;
-          is_busy = word_other j ne ∙ t.is_busy;
-          call_of = (t.call_of.0, ap (λ (x : Own). x.pending) (own_other j ne) ∙ t.call_of.1);
-          empty_slot = λ away. home_other j ne ∙ t.empty_slot away;
-        }))
+      opens_after : (m j : ℕ) (call : C) → get_elem? (seat after m).combiner.opened j ≡ opt.some (Some call) → IsOpened after owns_after (seat after m).combiner j call
+      opens_after m j call is =
+          let t : IsOpened s o.owns (seat s m).combiner j call = o.opens m j call (sym (ap (λ (c : Combiner C). get_elem? c.opened j) (combiner_kept m)) ∙ is) in
+          rw (combiner_kept m) (dite (ℕ_discrete j i) (λ e. open_here (seat s m).combiner j call e t) (λ ne. record {
+            book = t.book;
+            record_of = t.record_of;
+            is_busy = word_other j ne ∙ t.is_busy;
+            call_of = (t.call_of.0, ap (λ (x : Own C R). x.pending) (own_other j ne) ∙ t.call_of.1);
+            empty_slot = λ away. home_other j ne ∙ t.empty_slot away;
+          }))
 
-    -- As in `OrderlyCombiner`, but `after` is the board after a session's step.
-    opened_after : (j : ℕ) → 0 < j → word after j ≡ BUSY → (call : Call) × (get_elem? (seat after (word after 0)).combiner.opened j ≡ opt.some (Some call))
-    opened_after j some_record is =
-        let was : word s j ≡ BUSY = dite (ℕ_discrete j i)
-        (λ e. ap (word s) e ∙ k.is_busy (sym word_here ∙ (sym (ap (word after) e) ∙ is))) (λ ne. sym (word_other j ne) ∙ is) in
-        let t = o.opened j some_record was in
-        (t.0, ap (λ (m : ℕ). get_elem? (seat after m).combiner.opened j) (word_other 0 not_lock) ∙ (ap (λ (c : Combiner). get_elem? c.opened j) (combiner_kept (word s 0)) ∙ t.1))
+      -- As in `OrderlyCombiner`, but `after` is the board after a session's step.
+      opened_after : (j : ℕ) → 0 < j → word after j ≡ BUSY → (call : C) × (get_elem? (seat after (word after 0)).combiner.opened j ≡ opt.some (Some call))
+      opened_after j some_record is =
+          let was : word s j ≡ BUSY = dite (ℕ_discrete j i)
+          (λ e. ap (word s) e ∙ k.is_busy (sym word_here ∙ (sym (ap (word after) e) ∙ is))) (λ ne. sym (word_other j ne) ∙ is) in
+          let t = o.opened j some_record was in
+          (t.0, ap (λ (m : ℕ). get_elem? (seat after m).combiner.opened j) (word_other 0 not_lock) ∙ (ap (λ (c : Combiner C). get_elem? c.opened j) (combiner_kept (word s 0)) ∙ t.1))
 
-    -- The step keeps the rule of the records.
-    pub moved : IsOrderly after
-    moved = record {
-      history = o.history;
-      slots = o.slots;
-      owns = owns_after;
-      legal = o.legal;
-      short = o.short;
-      owns_are = length-set o.owns i w ∙ o.owns_are;
-      words_are = length-set s.words (word_of i) n ∙ o.words_are;
-      homes_are = length-set s.homes i at ∙ o.homes_are;
-      makes = makes_after;
-      unmade = unmade_after;
-      sessions = sessions_after;
-      waits = each_set s.views i u blank (λ j x. (own_at owns_after j).pending ≢ None → x.own ≡ own_at owns_after j) sits
-          (λ some. sym own_here) (λ j ne some. o.waits j (λ none. some (ap (λ (x : Own). x.pending) (own_other j ne) ∙ none)) ∙ sym (own_other j ne));
-      fronts = each_set s.views i u blank (λ j x. IsPrefix x.front o.history) sits k.begins (λ j ne. o.fronts j);
-      heard = heard_after;
-      others = others_after;
-      stands = stands_after;
-      books = books_after;
-      free = λ none. let t = o.free (sym (word_other 0 not_lock) ∙ none) in (t.0, home_other 0 not_lock ∙ t.1, t.2);
-      taken = taken_after;
-      opens = opens_after;
-      opened = opened_after;
-      pieces = pieces_kept o.slots s after o.pieces (omega (arith, length-set s.views i u)) (λ none. (sym (word_other 0 not_lock) ∙ none, home_other 0 not_lock))
-          (each_set s.views i u blank (λ j x. HasPieces o.pieces.all x) sits (let t = pieces_of_seat s o i v me in record { own = t.own; handed = t.handed; known = t.known }) (λ j ne. o.pieces.seats j));
-    }
+      -- The step keeps the rule of the records.
+      pub moved : IsOrderly obj after
+      moved = record {
+        history = o.history;
+        slots = o.slots;
+        owns = owns_after;
+        legal = o.legal;
+        short = o.short;
+        owns_are = length-set o.owns i w ∙ o.owns_are;
+        words_are = length-set s.words (word_of i) n ∙ o.words_are;
+        homes_are = length-set s.homes i at ∙ o.homes_are;
+        makes = makes_after;
+        unmade = unmade_after;
+        sessions = sessions_after;
+        waits = each_set s.views i u blank (λ j x. (own_at owns_after j).pending ≢ None → x.own ≡ own_at owns_after j) sits
+            (λ some. sym own_here) (λ j ne some. o.waits j (λ none. some (ap (λ (x : Own C R). x.pending) (own_other j ne) ∙ none)) ∙ sym (own_other j ne));
+        fronts = each_set s.views i u blank (λ j x. IsPrefix x.front o.history) sits k.begins (λ j ne. o.fronts j);
+        heard = heard_after;
+        others = others_after;
+        stands = stands_after;
+        combiners = combiners_after;
+        free = λ none. let t = o.free (sym (word_other 0 not_lock) ∙ none) in (t.0, home_other 0 not_lock ∙ t.1, t.2);
+        taken = taken_after;
+        opens = opens_after;
+        opened = opened_after;
+        pieces = pieces_kept o.slots s after o.pieces (omega (arith, length-set s.views i u)) (λ none. (sym (word_other 0 not_lock) ∙ none, home_other 0 not_lock))
+            (each_set s.views i u blank (λ j x. HasPieces o.pieces.all x) sits (let t = pieces_of_seat s o i v me in record { own = t.own; handed = t.handed; known = t.known }) (λ j ne. o.pieces.seats j));
+      }

@@ -68,22 +68,24 @@ module _ (k : ℕ) (before after : List Piece) (t : HasAdded k before after) whe
 pub nothing_added : (k : ℕ) (before : List Piece) → HasAdded k before before
 nothing_added k before = record { more = []; after_is = sym (append-nil before); own = λ i d few. absurd (omega arith) }
 
--- seats
+module _ {C R : Type 0} where
+  -- seats
 
--- A seat that names no session, is no combiner's and knows of no session that was handed in knows nothing false.
-pub knows_none : (all : List Piece) (v : View) → v.number ≡ 0 → v.others.handed ≡ [] → v.combiner.has_book ≡ false → HasPieces all v
-knows_none all v no_number none no_book = record {
-  own = λ some. absurd (some no_number);
-  handed = λ p x at. absurd (opt.some-ne-none x (sym at ∙ ap (λ (l : List Handed). get_elem? l p) none));
-  known = λ has. absurd (cc (has, no_book));
-}
+  -- A seat that names no session, is no combiner's and knows of no session that was handed in knows nothing false.
+  pub knows_none : (all : List Piece) (v : View C R) → v.number ≡ 0 → v.others.handed ≡ [] → v.combiner.has_object ≡ false → HasPieces all v
+  knows_none all v no_number none no_object = record {
+    own = λ some. absurd (some no_number);
+    handed = λ p x at. absurd (opt.some-ne-none x (sym at ∙ ap (λ (l : List (Handed C R)). get_elem? l p) none));
+    known = λ has. absurd (cc (has, no_object));
+  }
 
--- The rule of the pieces after a step that changes no lock word and no slot of the lock.
-pub pieces_kept : (slots : ℕ) (s t : BoardState) (o : ArePieces slots s) → length s.views ≤ length t.views → (word t 0 ≡ FREE → (word s 0 ≡ FREE) × (home t 0 ≡ home s 0))
-    → ((k : ℕ) → HasPieces o.all (seat t k)) → ArePieces slots t
-pieces_kept slots s t o more same seats = record {
-  all = o.all;
-  within = more_seats slots (length s.views) (length t.views) o.all more o.within;
-  seats = seats;
-  home = λ e. let r = same e in ap pieces_in r.1 ∙ o.home r.0;
-}
+module _ {O C R : Type 0} where
+  -- The rule of the pieces after a step that changes no lock word and no slot of the lock.
+  pub pieces_kept : (slots : ℕ) (s t : BoardState O C R) (o : ArePieces slots s) → length s.views ≤ length t.views → (word t 0 ≡ FREE → (word s 0 ≡ FREE) × (home t 0 ≡ home s 0))
+      → ((k : ℕ) → HasPieces o.all (seat t k)) → ArePieces slots t
+  pieces_kept slots s t o more same seats = record {
+    all = o.all;
+    within = more_seats slots (length s.views) (length t.views) o.all more o.within;
+    seats = seats;
+    home = λ e. let r = same e in ap pieces_in r.1 ∙ o.home r.0;
+  }

@@ -4,6 +4,7 @@ use Rattle.std.specs.Prelude.{◌≡◌, ◌≢◌, ℕ, ◌<◌, ◌⊎◌, ◌
 use Rattle.publication.specs.Words.{link_of, END, FREE, OUT, CLOSED, EMPTY}
 use Rattle.publication.specs.Views.{Listing}
 use Rattle.publication.specs.Rule.{BoardState, word, seat, IsOrderly}
+use Rattle.sequential.specs.declared.object.Sequential.{Ghosts}
 
 -- Record q is on the list.
 abbrev pub IsOn : ℕ → List ℕ → Type 0
@@ -46,9 +47,10 @@ abbrev pub Chain : (ℕ → ℕ) → ℕ → List ℕ → Type 0
 Chain link k [] = k ≡ END
 Chain link k (x ∷ xs) = (k ≡ x) × Chain link (link x) xs
 
--- The link word of record i; with i = 0, the head word.
-abbrev pub link : BoardState → ℕ → ℕ
-link s i = slice_index s.words (link_of i)
+module _ {O C R : Type 0} where
+  -- The link word of record i; with i = 0, the head word.
+  abbrev pub link : BoardState O C R → ℕ → ℕ
+  link s i = slice_index s.words (link_of i)
 
 -- The record `off` that the combiner has unlinked isn't on the list, and its link names the record that follows
 -- `before`.
@@ -73,35 +75,37 @@ pub record IsWalking (list : List ℕ) (off before : ℕ) (w : Listing) : Type 0
 abbrev pub belongs : ℕ → Bool → Option Bool
 belongs w listed = cond (w == EMPTY) (Some true) (cond (w == OUT) (Some false) (cond (w == CLOSED) None (Some listed)))
 
--- Whether record j has to be on the list.
-abbrev pub is_listed : BoardState → ℕ → Option Bool
-is_listed s j = belongs (word s j) (seat s j).own.listed
+module _ {O C R : Type 0} where
+  -- Whether record j has to be on the list.
+  abbrev pub is_listed : BoardState O C R → ℕ → Option Bool
+  is_listed s j = belongs (word s j) (seat s j).own.listed
 
--- What holds of the publication list between any two atomic steps.
-pub record IsLinked (s : BoardState) : Type 0 where
-  -- the records on the list, first to last
-  pub list : List ℕ
-  pub chain : Chain (link s) (link s 0) list
-  pub apart : AreApart list
-  -- each of them is a session's record
-  pub within : (q : ℕ) → IsOn q list → (0 < q) × (q < length s.homes)
-  -- the record that the combiner has unlinked, and neither marked OUT nor linked again, or 0; and the record that was
-  -- in front of it
-  pub off : ℕ
-  pub before : ℕ
-  pub unlinked : off ≢ 0 → IsUnlinked (link s) (length s.homes) list off before
-  -- while the lock word is FREE, no record is in between
-  pub whole : word s 0 ≡ FREE → off ≡ 0
-  -- each record that has to be on the list is on it, or is `off`
-  pub ons : (j : ℕ) → 0 < j → is_listed s j ≡ Some true → IsOn j list ⊎ (j ≡ off)
-  -- no record that must not be on the list is on it, or is `off`
-  pub offs : (j : ℕ) → 0 < j → is_listed s j ≡ Some false → (IsOn j list → ⊥) × (j ≢ off)
-  -- a session that has yet to exchange the head word isn't on the list, and its link has the value that it wrote
-  pub heads_seen : (j n : ℕ) → (seat s j).listing.head_seen ≡ Some n → (0 < j) × (is_listed s j ≡ Some false) × (link s j ≡ n)
-  -- the combiner knows which record is unlinked, and what its walk meets
-  pub walkers : (k : ℕ) → (seat s k).combiner.has_book ≡ true → IsWalking list off before (seat s k).listing
+  -- What holds of the publication list between any two atomic steps.
+  pub record IsLinked (s : BoardState O C R) : Type 0 where
+    -- the records on the list, first to last
+    pub list : List ℕ
+    pub chain : Chain (link s) (link s 0) list
+    pub apart : AreApart list
+    -- each of them is a session's record
+    pub within : (q : ℕ) → IsOn q list → (0 < q) × (q < length s.homes)
+    -- the record that the combiner has unlinked, and neither marked OUT nor linked again, or 0; and the record that was
+    -- in front of it
+    pub off : ℕ
+    pub before : ℕ
+    pub unlinked : off ≢ 0 → IsUnlinked (link s) (length s.homes) list off before
+    -- while the lock word is FREE, no record is in between
+    pub whole : word s 0 ≡ FREE → off ≡ 0
+    -- each record that has to be on the list is on it, or is `off`
+    pub ons : (j : ℕ) → 0 < j → is_listed s j ≡ Some true → IsOn j list ⊎ (j ≡ off)
+    -- no record that must not be on the list is on it, or is `off`
+    pub offs : (j : ℕ) → 0 < j → is_listed s j ≡ Some false → (IsOn j list → ⊥) × (j ≢ off)
+    -- a session that has yet to exchange the head word isn't on the list, and its link has the value that it wrote
+    pub heads_seen : (j n : ℕ) → (seat s j).listing.head_seen ≡ Some n → (0 < j) × (is_listed s j ≡ Some false) × (link s j ≡ n)
+    -- the combiner knows which record is unlinked, and what its walk meets
+    pub walkers : (k : ℕ) → (seat s k).combiner.has_object ≡ true → IsWalking list off before (seat s k).listing
 
--- The whole rule of the board, which every atomic step keeps.
-pub record IsRuled (s : BoardState) : Type 0 where
-  pub records : IsOrderly s
-  pub list : IsLinked s
+module _ {O C R : Type 0} (obj : Ghosts O C R) where
+  -- The whole rule of the board, which every atomic step keeps.
+  pub record IsRuled (s : BoardState O C R) : Type 0 where
+    pub records : IsOrderly obj s
+    pub list : IsLinked s

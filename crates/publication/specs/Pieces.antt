@@ -1,6 +1,6 @@
 -- The pieces of the history that sessions take while the board is open.
 use Rattle.std.specs.Prelude.{◌≡◌, ℕ, ◌+◌, ◌≤◌, ◌==◌, List, [], ◌∷◌, ◌++◌, filter, length, take, drop, All}
-use Rattle.lock_rules.specs.Entries.{Entry}
+use Rattle.sequential.specs.declared.entry.Entry.{Entry}
 use Rattle.publication.specs.declared.piece.Piece.{Piece}
 
 -- The pieces that session i took, in order.
@@ -19,14 +19,15 @@ abbrev pub AreInARow : ℕ → List Piece → ℕ → Type 0
 AreInARow from [] upto = from ≡ upto
 AreInARow from (p ∷ ps) upto = (p.first ≡ from) × AreInARow (p.first + p.count) ps upto
 
--- The entries of the history in the piece.
-abbrev pub entries_in : List Entry → Piece → List Entry
-entries_in history p = take p.count (drop p.first history)
+module _ {C R : Type 0} where
+  -- The entries of the history in the piece.
+  abbrev pub entries_in : List (Entry C R) → Piece → List (Entry C R)
+  entries_in history p = take p.count (drop p.first history)
 
--- The entries of the history in the pieces, one piece after another.
-abbrev pub put_together : List Entry → List Piece → List Entry
-put_together history [] = []
-put_together history (p ∷ ps) = entries_in history p ++ put_together history ps
+  -- The entries of the history in the pieces, one piece after another.
+  abbrev pub put_together : List (Entry C R) → List Piece → List (Entry C R)
+  put_together history [] = []
+  put_together history (p ∷ ps) = entries_in history p ++ put_together history ps
 
 -- After some pieces were taken, session `number` took more, and nobody else did.
 pub record HasAdded (number : ℕ) (before after : List Piece) : Type 0 where

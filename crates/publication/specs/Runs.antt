@@ -4,178 +4,188 @@ use mathlib.Core.Option as opt
 use lib.ListN.{get_elem?}
 use Rattle.std.specs.Global.{Box}
 use Rattle.atomic_table.specs.Table.{Act, Valid, carried_after, stepped, step}
-use Rattle.lock_rules.specs.declared.calls.Call.{Call}
-use Rattle.lock_rules.specs.declared.calls.Reply.{Reply}
-use Rattle.lock_rules.specs.Entries.{Answered}
+use Rattle.sequential.specs.Histories.{Answered}
 use Rattle.publication.specs.Words.{word_of}
 use Rattle.publication.specs.Views.{Pending}
 use Rattle.publication.specs.Rule.{blank, maker, new_session, BoardState}
 use Rattle.publication.specs.List.{IsRuled}
 use Rattle.publication.specs.Kinds.{Seated, Kind, starts, posts, looks_at_head, links, enlists, looks_for_reply, takes_reply, looks_at_lock, seizes, releases, walks, walks_on, unlinks, marks_out, relinks, looks_at_record, opened_in, opens, lays, picks, answers, puts_back, enters, copy_of, front_copy_of, joined, learns, compares, retires, leaves, gathered}
-use Rattle.publication.specs.Exclusion.{HasCollected}
+use Rattle.publication.specs.Collected.{HasCollected}
 use Rattle.publication.specs.declared.view.View.{View}
 use Rattle.publication.specs.declared.slot.Load.{Load}
 use Rattle.publication.specs.declared.slot.SlotValue.{SlotValue}
-use Rattle.publication.specs.declared.slot.SlotValue.TheVariants.{LockTable}
+use Rattle.publication.specs.declared.slot.SlotValue.TheVariants.{ObjectLoad}
+use Rattle.sequential.specs.declared.object.Sequential.{Ghosts}
 
 -- The kinds of step on a word, by name. A direct entry names the call and the reply that it enters.
-pub data StepName : Type 0 where
-  start : StepName
-  post : StepName
-  look_at_head : StepName
-  link : StepName
-  enlist : StepName
-  look_for_reply : StepName
-  take_reply : StepName
-  look_at_lock : StepName
-  seize : StepName
-  release : StepName
-  walk : StepName
-  walk_on : StepName
-  unlink : StepName
-  mark_out : StepName
-  relink : StepName
-  look_at_record : StepName
-  open_record : StepName
-  lay : StepName
-  pick : StepName
-  answer_record : StepName
-  put_back : StepName
-  enter : Call → Reply → StepName
-  learn : StepName
-  compare : StepName
-  retire : StepName
-  leave : StepName
+pub data StepName (C R : Type 0) : Type 0 where
+  start : StepName C R
+  post : StepName C R
+  look_at_head : StepName C R
+  link : StepName C R
+  enlist : StepName C R
+  look_for_reply : StepName C R
+  take_reply : StepName C R
+  look_at_lock : StepName C R
+  seize : StepName C R
+  release : StepName C R
+  walk : StepName C R
+  walk_on : StepName C R
+  unlink : StepName C R
+  mark_out : StepName C R
+  relink : StepName C R
+  look_at_record : StepName C R
+  open_record : StepName C R
+  lay : StepName C R
+  pick : StepName C R
+  answer_record : StepName C R
+  put_back : StepName C R
+  enter : C → R → StepName C R
+  learn : StepName C R
+  compare : StepName C R
+  retire : StepName C R
+  leave : StepName C R
 
--- The definition of each kind.
-abbrev pub kind_of : StepName → Kind
-kind_of start = starts
-kind_of post = posts
-kind_of look_at_head = looks_at_head
-kind_of link = links
-kind_of enlist = enlists
-kind_of look_for_reply = looks_for_reply
-kind_of take_reply = takes_reply
-kind_of look_at_lock = looks_at_lock
-kind_of seize = seizes
-kind_of release = releases
-kind_of walk = walks
-kind_of walk_on = walks_on
-kind_of unlink = unlinks
-kind_of mark_out = marks_out
-kind_of relink = relinks
-kind_of look_at_record = looks_at_record
-kind_of open_record = opens
-kind_of lay = lays
-kind_of pick = picks
-kind_of answer_record = answers
-kind_of put_back = puts_back
-kind_of (enter call reply) = enters call reply
-kind_of learn = learns
-kind_of compare = compares
-kind_of retire = retires
-kind_of leave = leaves
+module _ {O C R : Type 0} (obj : Ghosts O C R) where
+  -- The definition of each kind.
+  abbrev pub kind_of : StepName C R → Kind O C R
+  kind_of start = starts
+  kind_of post = posts obj
+  kind_of look_at_head = looks_at_head
+  kind_of link = links
+  kind_of enlist = enlists
+  kind_of look_for_reply = looks_for_reply
+  kind_of take_reply = takes_reply obj
+  kind_of look_at_lock = looks_at_lock
+  kind_of seize = seizes obj
+  kind_of release = releases
+  kind_of walk = walks
+  kind_of walk_on = walks_on
+  kind_of unlink = unlinks
+  kind_of mark_out = marks_out
+  kind_of relink = relinks
+  kind_of look_at_record = looks_at_record
+  kind_of open_record = opens
+  kind_of lay = lays
+  kind_of pick = picks
+  kind_of answer_record = answers obj
+  kind_of put_back = puts_back
+  kind_of (enter call reply) = enters call reply
+  kind_of learn = learns obj
+  kind_of compare = compares
+  kind_of retire = retires
+  kind_of leave = leaves
 
--- The seat is the combiner's.
-abbrev pub IsCombiner : Seated → Type 0
-IsCombiner m = m.0.combiner.has_book ≡ true
+module _ {O C R : Type 0} where
+  -- The seat is the combiner's.
+  abbrev pub IsCombiner : Seated O C R → Type 0
+  IsCombiner m = m.0.combiner.has_object ≡ true
 
--- The slot that the seat lays down holds a book with the history that the session knows.
-pub record LaysDownBook (m : Seated) : Type 0 where
-  pub load : Box Load
-  pub more : List (ℕ × SlotValue)
-  pub carried : m.1 ≡ (0, LockTable load) ∷ more
-  pub whole : load.value.book.history ≡ m.0.front
+module _ {O C R : Type 0} (obj : Ghosts O C R) where
+  -- The slot that the seat lays down holds a book with the history that the session knows.
+  pub record LaysDownLoad (m : Seated O C R) : Type 0 where
+    pub load : Box (Load O C R)
+    pub more : List (ℕ × SlotValue O C R)
+    pub carried : m.1 ≡ (0, ObjectLoad load) ∷ more
+    pub whole : (obj.history load.value.book) ≡ m.0.front
 
--- What the board's calls see to before a step of a kind: the combiner's steps are made by the combiner, it answers a
--- record that it opened, a session takes the reply out of its own record, and the lock word is the one that is seized. A
--- call is entered directly at a look at the lock word, by a combiner that may publish and has no call pending.
-abbrev pub StepRequires : StepName → ℕ → Seated → Type 0
-StepRequires take_reply at m = at ≡ word_of m.0.number
-StepRequires seize at m = at ≡ word_of 0
-StepRequires release at m = IsCombiner m × LaysDownBook m
-StepRequires open_record at m = IsCombiner m
-StepRequires lay at m = IsCombiner m
-StepRequires pick at m = IsCombiner m
-StepRequires answer_record at m = IsCombiner m × ((call : Call) × (opened_in m.0 m.0.combiner.hand ≡ Some call))
-StepRequires put_back at m = IsCombiner m
-StepRequires (enter call reply) at m = (at ≡ word_of 0) × IsCombiner m × (m.0.own.pending ≡ None) × (m.0.own.retired ≡ false)
-StepRequires _ at m = Unit {0}
+module _ {O C R : Type 0} (obj : Ghosts O C R) where
+  -- What the board's calls see to before a step of a kind: the combiner's steps are made by the combiner, it answers a
+  -- record that it opened, a session takes the reply out of its own record, and the lock word is the one that is seized. A
+  -- call is entered directly at a look at the lock word, by a combiner that may publish and has no call pending.
+  abbrev pub StepRequires : StepName C R → ℕ → Seated O C R → Type 0
+  StepRequires take_reply at m = at ≡ word_of m.0.number
+  StepRequires seize at m = at ≡ word_of 0
+  StepRequires release at m = IsCombiner m × LaysDownLoad obj m
+  StepRequires open_record at m = IsCombiner m
+  StepRequires lay at m = IsCombiner m
+  StepRequires pick at m = IsCombiner m
+  StepRequires answer_record at m = IsCombiner m × ((call : C) × (opened_in m.0 m.0.combiner.hand ≡ Some call))
+  StepRequires put_back at m = IsCombiner m
+  StepRequires (enter call reply) at m = (at ≡ word_of 0) × IsCombiner m × (m.0.own.pending ≡ None) × (m.0.own.retired ≡ false)
+  StepRequires _ at m = Unit {0}
 
--- The seat carries slot k.
-abbrev pub Carries : ℕ → List (ℕ × SlotValue) → Type 0
-Carries k [] = ⊥
-Carries k (x ∷ xs) = (x.0 ≡ k) ⊎ Carries k xs
+module _ {O C R : Type 0} where
+  -- The seat carries slot k.
+  abbrev pub Carries : ℕ → List (ℕ × SlotValue O C R) → Type 0
+  Carries k [] = ⊥
+  Carries k (x ∷ xs) = (x.0 ≡ k) ⊎ Carries k xs
 
--- Each slot that a seat carries is one of the table's, not at home, and carried once.
-abbrev pub CarriesOnlyItsOwn : List (opt.Option SlotValue) → List (ℕ × SlotValue) → Type 0
-CarriesOnlyItsOwn homes [] = Unit {0}
-CarriesOnlyItsOwn homes (x ∷ xs) = (x.0 < length homes) × (slice_index_or homes x.0 opt.none ≡ opt.none) × (Carries x.0 xs → ⊥) × CarriesOnlyItsOwn homes xs
+  -- Each slot that a seat carries is one of the table's, not at home, and carried once.
+  abbrev pub CarriesOnlyItsOwn : List (opt.Option (SlotValue O C R)) → List (ℕ × SlotValue O C R) → Type 0
+  CarriesOnlyItsOwn homes [] = Unit {0}
+  CarriesOnlyItsOwn homes (x ∷ xs) = (x.0 < length homes) × (slice_index_or homes x.0 opt.none ≡ opt.none) × (Carries x.0 xs → ⊥) × CarriesOnlyItsOwn homes xs
 
--- A step of this kind, made by one seat on one word, leads from state s to state t.
-pub record IsStep (name : StepName) (s t : BoardState) : Type 0 where
-  -- the seat's id, the word's index, the step's operands, and the value that the word has afterwards
-  pub id : ℕ
-  pub at : ℕ
-  pub first : ℕ
-  pub second : ℕ
-  pub put : ℕ
-  -- the seat's view and carried slots before and after, and the slots that move
-  pub before : Seated
-  pub after : Seated
-  pub act : Act SlotValue
-  pub seated : get_elem? s.views id ≡ opt.some before.0
-  pub out : CarriesOnlyItsOwn s.homes before.1
-  pub asked : StepRequires name at before
-  pub valid : Valid s.homes before.1 act
-  pub carried : after.1 ≡ carried_after before.1 act
-  -- what the kind says of the seat before and after, and the state after
-  pub told : kind_of name (step (length s.homes) at first second opt.none) before (slice_index s.words at) after
-  pub is : t ≡ stepped s at put id before.1 after.0 act
+module _ {O C R : Type 0} (obj : Ghosts O C R) where
+  -- A step of this kind, made by one seat on one word, leads from state s to state t.
+  pub record IsStep (name : StepName C R) (s t : BoardState O C R) : Type 0 where
+    -- the seat's id, the word's index, the step's operands, and the value that the word has afterwards
+    pub id : ℕ
+    pub at : ℕ
+    pub first : ℕ
+    pub second : ℕ
+    pub put : ℕ
+    -- the seat's view and carried slots before and after, and the slots that move
+    pub before : Seated O C R
+    pub after : Seated O C R
+    pub act : Act (SlotValue O C R)
+    pub seated : get_elem? s.views id ≡ opt.some before.0
+    pub out : CarriesOnlyItsOwn s.homes before.1
+    pub asked : StepRequires obj name at before
+    pub valid : Valid s.homes before.1 act
+    pub carried : after.1 ≡ carried_after before.1 act
+    -- what the kind says of the seat before and after, and the state after
+    pub told : kind_of obj name (step (length s.homes) at first second opt.none) before (slice_index s.words at) after
+    pub is : t ≡ stepped s at put id before.1 after.0 act
 
--- A seat is split: seat 0 makes a session, or a copy is made of what a seat knows, or of the front that it knows.
-pub record IsSeatSplit (s t : BoardState) : Type 0 where
-  pub id : ℕ
-  pub view : View
-  pub left : View
-  pub right : View
-  pub seated : get_elem? s.views id ≡ opt.some view
-  pub cut : ((view ≡ maker view.slots view.made) × (left ≡ maker view.slots (view.made + 1)) × (right ≡ new_session view.slots (view.made + 1)))
-      ⊎ ((left ≡ view) × ((right ≡ copy_of view) ⊎ (right ≡ front_copy_of view)))
-  pub is : t ≡ record { words = s.words; homes = s.homes; views = slice_set s.views id left ++ right ∷ [] }
+module _ {O C R : Type 0} where
+  -- A seat is split: seat 0 makes a session, or a copy is made of what a seat knows, or of the front that it knows.
+  pub record IsSeatSplit (s t : BoardState O C R) : Type 0 where
+    pub id : ℕ
+    pub view : View C R
+    pub left : View C R
+    pub right : View C R
+    pub seated : get_elem? s.views id ≡ opt.some view
+    pub cut : ((view ≡ maker view.slots view.made) × (left ≡ maker view.slots (view.made + 1)) × (right ≡ new_session view.slots (view.made + 1)))
+        ⊎ ((left ≡ view) × ((right ≡ copy_of view) ⊎ (right ≡ front_copy_of view)))
+    pub is : t ≡ record { words = s.words; homes = s.homes; views = slice_set s.views id left ++ right ∷ [] }
 
--- A seat is joined into another and ends: a copy of what a seat knows; or, into the closing seat, which is no session's,
--- the seat of a session to which none was handed in.
-pub record IsSeatJoin (s t : BoardState) : Type 0 where
-  pub id : ℕ
-  pub view : View
-  pub other : ℕ
-  pub theirs : View
-  pub both : View
-  pub seated : get_elem? s.views id ≡ opt.some view
-  pub apart : ¬ (other ≡ id)
-  pub beside : get_elem? s.views other ≡ opt.some theirs
-  pub join : ((both ≡ joined view theirs) × (theirs ≡ copy_of theirs)) ⊎ ((both ≡ gathered view theirs) × (view.number ≡ 0) × (theirs.others.handed ≡ []))
-  pub is : t ≡ record { words = s.words; homes = s.homes; views = slice_set (slice_set s.views id both) other blank }
+  -- A seat is joined into another and ends: a copy of what a seat knows; or, into the closing seat, which is no session's,
+  -- the seat of a session to which none was handed in.
+  pub record IsSeatJoin (s t : BoardState O C R) : Type 0 where
+    pub id : ℕ
+    pub view : View C R
+    pub other : ℕ
+    pub theirs : View C R
+    pub both : View C R
+    pub seated : get_elem? s.views id ≡ opt.some view
+    pub apart : ¬ (other ≡ id)
+    pub beside : get_elem? s.views other ≡ opt.some theirs
+    pub join : ((both ≡ joined view theirs) × (theirs ≡ copy_of theirs)) ⊎ ((both ≡ gathered view theirs) × (view.number ≡ 0) × (theirs.others.handed ≡ []))
+    pub is : t ≡ record { words = s.words; homes = s.homes; views = slice_set (slice_set s.views id both) other blank }
 
--- One move of the board: a step on a word, or a split or join of seats.
-abbrev pub IsMove : BoardState → BoardState → Type 0
-IsMove s t = ((name : StepName) × IsStep name s t) ⊎ (IsSeatSplit s t ⊎ IsSeatJoin s t)
+module _ {O C R : Type 0} (obj : Ghosts O C R) where
+  -- One move of the board: a step on a word, or a split or join of seats.
+  abbrev pub IsMove : BoardState O C R → BoardState O C R → Type 0
+  IsMove s t = ((name : StepName C R) × IsStep obj name s t) ⊎ (IsSeatSplit s t ⊎ IsSeatJoin s t)
 
--- A run of moves from one state to another; the rule holds after each move.
-pub data IsRun : BoardState → BoardState → Type 0 where
-  stop : {s : BoardState} → IsRun s s
-  move : {s t u : BoardState} → IsMove s t → IsRuled t → IsRun t u → IsRun s u
+module _ {O C R : Type 0} (obj : Ghosts O C R) where
+  -- A run of moves from one state to another; the rule holds after each move.
+  pub data IsRun : BoardState O C R → BoardState O C R → Type 0 where
+    stop : {s : BoardState O C R} → IsRun s s
+    move : {s t u : BoardState O C R} → IsMove obj s t → IsRuled obj t → IsRun t u → IsRun s u
 
--- How many calls a session with these answers and this pending call has made: those that it published, and those that it
--- entered directly.
-abbrev pub calls_made : List Answered → Option Pending → ℕ
-calls_made answers pending = length answers + cond (is_some pending) 1 0
+module _ {C R : Type 0} where
+  -- How many calls a session with these answers and this pending call has made: those that it published, and those that it
+  -- entered directly.
+  abbrev pub calls_made : List (Answered C R) → Option (Pending C) → ℕ
+  calls_made answers pending = length answers + cond (is_some pending) 1 0
 
--- An answer that any session had collected in state s has a lower place than each answer that a session collected by
--- state t to a call that it published, or entered directly, after state s.
-abbrev pub RespectsRealTime : BoardState → BoardState → Type 0
-RespectsRealTime s t = (i j : ℕ) (theirs mine later : List Answered) (their_pending my_pending later_pending : Option Pending)
-    → HasCollected s i theirs their_pending → HasCollected s j mine my_pending → HasCollected t j later later_pending
-    → (x y : Answered) (before after : List Answered) → Contains theirs x → later ≡ before ++ y ∷ after
-    → calls_made mine my_pending ≤ length before → x.place < y.place
+module _ {O C R : Type 0} (obj : Ghosts O C R) where
+  -- An answer that any session had collected in state s has a lower place than each answer that a session collected by
+  -- state t to a call that it published, or entered directly, after state s.
+  abbrev pub RespectsRealTime : BoardState O C R → BoardState O C R → Type 0
+  RespectsRealTime s t = (i j : ℕ) (theirs mine later : List (Answered C R)) (their_pending my_pending later_pending : Option (Pending C))
+      → HasCollected s i theirs their_pending → HasCollected s j mine my_pending → HasCollected t j later later_pending
+      → (x y : Answered C R) (before after : List (Answered C R)) → Contains theirs x → later ≡ before ++ y ∷ after
+      → calls_made mine my_pending ≤ length before → x.place < y.place

@@ -15,7 +15,7 @@ link_of number = number * 8 + 1
 abbrev pub session_of_word : ℕ → ℕ
 session_of_word at = at / 8
 
--- Lock word: no session has the lock table. Any other value is the number of the session that has it.
+-- Lock word: no session has the object. Any other value is the number of the session that has it.
 abbrev pub FREE : ℕ
 FREE = 0
 

@@ -3,7 +3,6 @@
 ghost use Rattle.std.specs.Prelude.{◌≡◌, ◌≢◌, ◌⊎◌, ◌+◌, ◌-◌, ◌<◌, ◌≤◌, ◌∷◌, ◌++◌, [], true, false, Some, None, IfOk, IfErr, IfSome, IfNone, length, map, max, cond, All, IsTrue, ◌↔◌};
 ghost use mathlib.Core.List.{IsPrefix};
 ghost use Rattle.atomic_table.specs.Table.{turned};
-ghost use Rattle.lock_rules.specs.Legal.{IsLegal};
 ghost use Rattle.sequential.specs.Histories.{calls_of};
 ghost use Rattle.publication.specs.inner.Tickets.{IsBoard};
 ghost use Rattle.publication.specs.Views.{entry, answer, asks};
@@ -26,8 +25,8 @@ use crate::words::{END, HEAD, WORDS_APART};
 use atomic_table::{Refused, Table};
 use ghost_list::GhostList;
 pub use knowledge::Knowledge;
-use lock_desk::{Book, Call, NoMemory, Reply};
-use std::alloc::{AllocError, Global};
+use sequential::Sequential;
+use std::alloc::{AllocError as NoMemory, Global};
 use std::marker::Model;
 
 /// Whether a posted call is listed.
@@ -40,16 +39,16 @@ pub enum Posted {
     Unlisted,
 }
 
-/// The lock word, one publication record for each session, and the lock table, which the combiner takes.
+/// The lock word, one publication record for each session, and the object, which the combiner takes.
 #[derive(Drop)]
-pub struct Board {
+pub struct Board<O: Sequential> {
     /// The atomic words, the slots and the rule that they keep.
-    table: Table<SlotValue, View, u16, BoardRule, Global>,
+    table: Table<SlotValue<O>, View<O::Call, O::Reply>, u16, BoardRule<O>, Global>,
     /// The number of sessions.
     sessions: u16,
 }
 
-impl Model for Board {
+impl<O: Sequential> Model for Board<O> {
     ghost use Rattle.publication.specs.Views.{BoardView};
 
     ghost Value = { BoardView };
@@ -63,15 +62,15 @@ impl Model for Board {
 
 /// A session's handle: with it the session posts calls, takes replies and acts as the combiner.
 #[derive(Drop)]
-pub struct Ticket {
+pub struct Ticket<O: Sequential> {
     /// Its handle on the table's words and slots.
-    seat: Seat,
+    seat: Seat<O>,
     /// The session's number, from 1 on.
     number: u16,
     /// How many entries of the history it knows.
     seen: u64,
     /// Whether it is the combiner.
-    has_book: bool,
+    has_object: bool,
     /// Whether it has a call pending.
     is_pending: bool,
     /// Whether the call that it published last is listed.
@@ -80,10 +79,10 @@ pub struct Ticket {
     is_retired: bool,
 }
 
-impl Model for Ticket {
+impl<O: Sequential> Model for Ticket<O> {
     ghost use Rattle.publication.specs.Views.{TicketView};
 
-    ghost Value = { TicketView };
+    ghost Value = { TicketView O.Call O.Reply };
 
     ghost use Rattle.publication.specs.inner.Inside.{ticket_view_of, IsTicketState};
 
@@ -92,7 +91,7 @@ impl Model for Ticket {
     ghost invariant = { IsTicketState };
 }
 
-impl Ticket {
+impl<O: Sequential> Ticket<O> {
     /// The session's number, from 1 on.
     pub fn number(&self) -> u16
         ensures { result ≡ self.now.number }
@@ -125,7 +124,7 @@ impl Ticket {
     pub(crate) fn is_settled(&self) -> bool
         ensures { result ≡ is_settled self.now }
     {
-        !self.is_pending && !self.has_book
+        !self.is_pending && !self.has_object
     }
 
     /// How many entries of the history the session knows, from the first on. The number never falls.
@@ -138,7 +137,7 @@ impl Ticket {
 
 /// Moves the slot taken last behind the others if `turns`. The combiner needs it to reach its record's slot, since it
 /// also carries the lock's slot.
-fn turn_if(seat: &mut Seat, turns: bool)
+fn turn_if<O: Sequential>(seat: &mut Seat<O>, turns: bool)
     ensures { (seat.new.table_id ≡ seat.old.table_id) × (seat.new.me ≡ (seat.old.me.0, cond turns (turned seat.old.me.1) seat.old.me.1)) }
 {
     if turns {
@@ -148,7 +147,13 @@ fn turn_if(seat: &mut Seat, turns: bool)
 
 /// Makes session `number` out of its new seat, once all sessions are made: the seat learns so from the first seat,
 /// and takes its record's slot.
-fn enrol(shared: &Shared, first: &mut Seat, seat: Seat, sessions: u16, number: u16) -> Ticket
+fn enrol<O: Sequential>(
+    shared: &Shared<O>,
+    first: &mut Seat<O>,
+    seat: Seat<O>,
+    sessions: u16,
+    number: u16,
+) -> Ticket<O>
     requires ours { (first.old.table_id ≡ shared.now.table_id) × (seat.table_id ≡ shared.now.table_id) }
     requires board { IsBoard shared.now.table_id }
     requires slots { shared.now.table_id.slots ≡ sessions + 1 }
@@ -166,7 +171,7 @@ fn enrol(shared: &Shared, first: &mut Seat, seat: Seat, sessions: u16, number: u
         seat,
         number,
         seen: 0,
-        has_book: false,
+        has_object: false,
         is_pending: false,
         is_listed: false,
         is_retired: false,
@@ -175,12 +180,12 @@ fn enrol(shared: &Shared, first: &mut Seat, seat: Seat, sessions: u16, number: u
 
 /// Makes all sessions, in order. All seats are split first: a seat takes the next free number when it is split,
 /// `enrol` splits copies too, and session i needs number i.
-fn enrol_all(
+fn enrol_all<O: Sequential>(
     alloc: Global,
-    shared: &Shared,
-    first: &mut Seat,
+    shared: &Shared<O>,
+    first: &mut Seat<O>,
     sessions: u16,
-) -> Result<Vec<Ticket>, NoMemory>
+) -> Result<Vec<Ticket<O>>, NoMemory>
     requires ours { first.old.table_id ≡ shared.now.table_id }
     requires board { IsBoard shared.now.table_id }
     requires slots { shared.now.table_id.slots ≡ sessions + 1 }
@@ -198,17 +203,17 @@ fn enrol_all(
     Ok(tickets)
 }
 
-impl Board {
-    /// A board for the sessions of the book, and a ticket for each session, by number. Fails with `NoMemory` if
+impl<O: Sequential> Board<O> {
+    /// A board for the sessions of the object, and a ticket for each session, by number. Fails with `NoMemory` if
     /// memory is refused.
-    pub fn new(alloc: Global, book: Book) -> Result<(Board, Vec<Ticket>), NoMemory>
-        requires empty { book.history ≡ [] }
-        ensures sessions { IfOk result (λ made. made.0.sessions ≡ book.sessions) }
-        ensures tickets { IfOk result (λ made. made.1.items ≡ new_tickets made.0.id book.sessions book.sessions) }
+    pub fn new(alloc: Global, book: O) -> Result<(Board<O>, Vec<Ticket<O>>), NoMemory>
+        requires empty { (O.history book) ≡ [] }
+        ensures sessions { IfOk result (λ made. made.0.sessions ≡ (O.sessions book)) }
+        ensures tickets { IfOk result (λ made. made.1.items ≡ new_tickets made.0.id (O.sessions book) (O.sessions book)) }
     {
         let sessions = book.sessions();
         // shows that an empty history has no cut above 0
-        let _first = book.first_kept();
+        let _served = book.served();
         let row = Vec::with_capacity(alloc, usize::from(sessions))?;
         let ages = vec![in alloc; 0u64; usize::from(sessions)]?;
         let load = Load {
@@ -224,7 +229,7 @@ impl Board {
         let slots = initial_slots(alloc, load, sessions)?;
         let (table, mut first) = match Table::new(alloc, words.as_slice(), slots, &sessions) {
             Ok(made) => made,
-            Err(Refused { slots: _ }) => return Err(AllocError),
+            Err(Refused { slots: _ }) => return Err(NoMemory),
         };
         let tickets = enrol_all(alloc, &table.shared, &mut first, sessions)?;
         Ok((Board { table, sessions }, tickets))
@@ -239,13 +244,13 @@ impl Board {
 
     /// Publishes the call in the ticket's record. The call is listed at once if the record is on the publication
     /// list.
-    fn publish_call(&self, ticket: &mut Ticket, call: Call)
+    fn publish_call(&self, ticket: &mut Ticket<O>, call: O::Call)
         requires ours { IsOf self.now ticket.old }
         requires idle { (ticket.old.pending ≡ None) × (ticket.old.retired ≡ false) }
         ensures listed { ticket.new.listed ≡ true → ticket.new ≡ enlisted (publishing ticket.old call) }
         ensures unlisted { ticket.new.listed ≡ false → ticket.new ≡ publishing ticket.old call }
     {
-        turn_if(&mut ticket.seat, ticket.has_book);
+        turn_if(&mut ticket.seat, ticket.has_object);
         ticket.is_listed = steps::publish_in_record(
             &self.table.shared,
             &mut ticket.seat,
@@ -256,7 +261,7 @@ impl Board {
     }
 
     /// Tries once to have the pending call, which isn't listed, listed: one exchange of the head word.
-    fn exchange_head(&self, ticket: &mut Ticket)
+    fn exchange_head(&self, ticket: &mut Ticket<O>)
         requires ours { IsOf self.now ticket.old }
         requires unlisted { IsUnlisted ticket.old }
         ensures rises { (j : _) → heard_from ticket.old j ≤ heard_from ticket.new j }
@@ -273,7 +278,7 @@ impl Board {
 
     /// Publishes a call of the ticket's session; the call is pending from then on. If the record wasn't on the
     /// publication list, it tries once to exchange the head word, and returns `Unlisted` if the exchange was lost.
-    pub fn post(&self, ticket: &mut Ticket, call: Call) -> Posted
+    pub fn post(&self, ticket: &mut Ticket<O>, call: O::Call) -> Posted
         requires ours { IsOf self.now ticket.old }
         requires idle { (ticket.old.pending ≡ None) × (ticket.old.retired ≡ false) }
         ensures listed { result ≡ Posted.Listed → (ticket.new ≡ enlisted (publishing ticket.old call)) ⊎ (ticket.new ≡ tried (enlisted (publishing ticket.old call))) }
@@ -286,7 +291,7 @@ impl Board {
 
     /// Tries once more to have the pending call listed: one exchange of the head word, which counts as a try. Returns
     /// `Listed` at once if the call is listed already, and `Unlisted` if the exchange was lost.
-    pub fn enlist(&self, ticket: &mut Ticket) -> Posted
+    pub fn enlist(&self, ticket: &mut Ticket<O>) -> Posted
         requires ours { IsOf self.now ticket.old }
         requires pending { ticket.old.pending ≢ None }
         ensures rises { (j : _) → heard_from ticket.old j ≤ heard_from ticket.new j }
@@ -309,7 +314,7 @@ impl Board {
     /// Takes the reply to the pending call, with the place of its entry in the history, from 0 on. Each reply is
     /// taken once. `None`, with nothing changed, means that the session isn't pending, or that its call isn't in what
     /// the session knows of the history.
-    pub fn take(&self, ticket: &mut Ticket) -> Option<(u64, Reply)>
+    pub fn take(&self, ticket: &mut Ticket<O>) -> Option<(u64, O::Reply)>
         requires ours { IsOf self.now ticket.old }
         ensures some { IfSome result (λ r. (call : _) × (floor : _) × (ticket.old.pending ≡ Some (asks call floor))
             × (ticket.new ≡ record ticket.old {
@@ -317,7 +322,7 @@ impl Board {
               pending = None;
               collected = ticket.old.collected ++ answer r.0 call r.1 ∷ [];
             })
-            × Took ticket.old.number ticket.old.front ticket.old.collected call floor r.0 r.1 ticket.new.front) }
+            × Took O.Sequential ticket.old.number ticket.old.front ticket.old.collected call floor r.0 r.1 ticket.new.front) }
         ensures none { IfNone result (ticket.new ≡ ticket.old) }
         ensures unanswered { IfNone result (ticket.old.pending ≢ None → length (calls_of ticket.old.number ticket.old.front) ≤ length ticket.old.collected) }
     {
@@ -327,14 +332,14 @@ impl Board {
             usize::from(ticket.number),
             ticket.is_listed,
         )?;
-        turn_if(&mut ticket.seat, ticket.has_book);
+        turn_if(&mut ticket.seat, ticket.has_object);
         ticket.is_pending = false;
         ticket.seen = u64::max(ticket.seen, place + 1);
         Some((place, reply))
     }
 
     /// Retires the session: it publishes no more calls.
-    pub fn retire(&self, ticket: &mut Ticket)
+    pub fn retire(&self, ticket: &mut Ticket<O>)
         requires ours { IsOf self.now ticket.old }
         requires idle { (ticket.old.pending ≡ None) × (ticket.old.retired ≡ false) }
         ensures ticket { ticket.new ≡ record ticket.old { retired = true } }
@@ -348,7 +353,7 @@ impl Board {
     }
 
     /// Splits off a seat that knows what the ticket's seat knows.
-    fn split_copy(&self, ticket: &mut Ticket) -> Seat
+    fn split_copy(&self, ticket: &mut Ticket<O>) -> Seat<O>
         requires ours { IsOf self.now ticket.old }
         ensures ticket { ticket.new ≡ ticket.old }
         ensures seat { (result.table_id ≡ self.now.id) × (result.me.0.others.handed ≡ []) }
@@ -357,7 +362,7 @@ impl Board {
     }
 
     /// Joins the seat of one ticket into the closing seat.
-    fn join_ticket(&self, closing: &mut Seat, ticket: Ticket)
+    fn join_ticket(&self, closing: &mut Seat<O>, ticket: Ticket<O>)
         requires ours { (closing.old.table_id ≡ self.now.id) × IsOf self.now ticket }
         requires settled { IsSettled ticket }
         ensures ours { closing.new.table_id ≡ closing.old.table_id }
@@ -367,7 +372,7 @@ impl Board {
             seat,
             number,
             seen: _,
-            has_book: _,
+            has_object: _,
             is_pending: _,
             is_listed: _,
             is_retired: _,
@@ -376,7 +381,7 @@ impl Board {
     }
 
     /// Joins the seats of these tickets into the closing seat, in order.
-    fn join_tickets(&self, closing: &mut Seat, tickets: Vec<Ticket>)
+    fn join_tickets(&self, closing: &mut Seat<O>, tickets: Vec<Ticket<O>>)
         requires ours { (closing.old.table_id ≡ self.now.id) × All (IsOf self.now) tickets.items }
         requires settled { All IsSettled tickets.items }
         ensures ours { closing.new.table_id ≡ closing.old.table_id }
@@ -388,13 +393,13 @@ impl Board {
     }
 
     /// Ends the board and returns its book, after each session's seat was joined into the closing seat.
-    fn finish(self, closing: Seat) -> Book
+    fn finish(self, closing: Seat<O>) -> O
         requires ours { closing.table_id ≡ self.id }
         requires all { WereHanded (self.sessions + 1) closing.me.0.others.handed }
-        ensures sessions { result.sessions ≡ self.sessions }
-        ensures legal { IsLegal result.history }
-        ensures ends { AreEnded result.history closing.me.0.others.handed }
-        ensures pieces { TookHanded result closing.me.0.others.handed }
+        ensures sessions { (O.sessions result) ≡ self.sessions }
+        ensures legal { O.is_legal (O.history result) }
+        ensures ends { AreEnded (O.history result) closing.me.0.others.handed }
+        ensures pieces { TookHanded O.Sequential result closing.me.0.others.handed }
     {
         let Board { table, sessions: _ } = self;
         close_table(table, closing)
@@ -405,14 +410,17 @@ impl Board {
     ///
     /// Otherwise it returns the board and the tickets, in their order, with `Missing` if a ticket is missing or there
     /// twice, else `Unsettled`. It takes no memory.
-    pub fn gather(self, tickets: Vec<Ticket>) -> Result<Book, (CloseFault, Board, Vec<Ticket>)>
+    pub fn gather(
+        self,
+        tickets: Vec<Ticket<O>>,
+    ) -> Result<O, (CloseFault, Board<O>, Vec<Ticket<O>>)>
         requires ours { All (IsOf self) tickets.items }
         ensures all { IfOk result (λ _. IsEachOnce self.sessions tickets.items) }
         ensures settled { IfOk result (λ _. All IsSettled tickets.items) }
-        ensures sessions { IfOk result (λ book. book.sessions ≡ self.sessions) }
-        ensures legal { IfOk result (λ book. IsLegal book.history) }
-        ensures accounts { IfOk result (λ book. All (AccountsFor book.history) tickets.items) }
-        ensures pieces { IfOk result (λ book. TookPieces book tickets.items) }
+        ensures sessions { IfOk result (λ book. (O.sessions book) ≡ self.sessions) }
+        ensures legal { IfOk result (λ book. O.is_legal (O.history book)) }
+        ensures accounts { IfOk result (λ book. All (AccountsFor (O.history book)) tickets.items) }
+        ensures pieces { IfOk result (λ book. TookPieces O.Sequential book tickets.items) }
         ensures back { IfErr result (λ refused. (refused.1 ≡ self) × (refused.2.items ≡ tickets.items)) }
         ensures missing { IfErr result (λ refused. refused.0 ≡ CloseFault.Missing → ¬ (IsEachOnce self.sessions tickets.items)) }
         ensures unsettled { IfErr result (λ refused. refused.0 ≡ CloseFault.Unsettled → IsEachOnce self.sessions tickets.items × ¬ (All IsSettled tickets.items)) }

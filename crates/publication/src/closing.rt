@@ -1,8 +1,7 @@
-//! Which tickets close a board, and how the lock table comes out of it.
+//! Which tickets close a board, and how the object comes out of it.
 ghost use Rattle.std.specs.Prelude.{◌≡◌, ◌+◌, ◌<◌, ◌≤◌, ◌↔◌, IsTrue};
 ghost use Rattle.std.specs.List.{list_all};
-ghost use Rattle.lock_rules.specs.declared.calls.TheConstants.{MAX_SESSIONS};
-ghost use Rattle.lock_rules.specs.Legal.{IsLegal};
+ghost use Rattle.sequential.specs.declared.entry.TheConstants.{MAX_SESSIONS};
 ghost use Rattle.publication.specs.Boards.{IsEachOnce};
 ghost use Rattle.publication.specs.inner.Closing.{is_settled, WereHanded, AreEnded, TookHanded};
 
@@ -13,7 +12,7 @@ use crate::slot::{Load, SlotValue};
 use crate::steps::Seat;
 use crate::view::View;
 use atomic_table::Table;
-use lock_desk::Book;
+use sequential::Sequential;
 use std::alloc::Global;
 use thiserror::Error;
 
@@ -30,7 +29,7 @@ pub enum CloseFault {
 
 /// Whether the slice holds one ticket for each of the sessions. It looks at each ticket and at each number once, and takes
 /// no memory.
-pub(crate) fn is_each_once(tickets: &[Ticket], sessions: u16) -> bool
+pub(crate) fn is_each_once<O: Sequential>(tickets: &[Ticket<O>], sessions: u16) -> bool
     requires few { sessions ≤ MAX_SESSIONS }
     ensures { IsTrue result ↔ IsEachOnce sessions tickets.now }
 {
@@ -45,24 +44,24 @@ pub(crate) fn is_each_once(tickets: &[Ticket], sessions: u16) -> bool
 }
 
 /// Whether no ticket has a call pending or is the combiner's.
-pub(crate) fn are_settled(tickets: &[Ticket]) -> bool
+pub(crate) fn are_settled<O: Sequential>(tickets: &[Ticket<O>]) -> bool
     ensures { result ≡ list_all is_settled tickets.now }
 {
     tickets.iter().all(|ticket| ticket.is_settled())
 }
 
 /// Ends the table and returns its book. Needs a closing seat into which all sessions' seats were joined.
-pub(crate) fn close_table(
-    table: Table<SlotValue, View, u16, BoardRule, Global>,
-    closing: Seat,
-) -> Book
+pub(crate) fn close_table<O: Sequential>(
+    table: Table<SlotValue<O>, View<O::Call, O::Reply>, u16, BoardRule<O>, Global>,
+    closing: Seat<O>,
+) -> O
     requires ours { closing.table_id ≡ table.shared.table_id }
     requires some { 0 < table.shared.table_id.slots }
     requires all { WereHanded table.shared.table_id.slots closing.me.0.others.handed }
-    ensures sessions { result.sessions + 1 ≡ table.shared.table_id.slots }
-    ensures legal { IsLegal result.history }
-    ensures ends { AreEnded result.history closing.me.0.others.handed }
-    ensures pieces { TookHanded result closing.me.0.others.handed }
+    ensures sessions { (O.sessions result) + 1 ≡ table.shared.table_id.slots }
+    ensures legal { O.is_legal (O.history result) }
+    ensures ends { AreEnded (O.history result) closing.me.0.others.handed }
+    ensures pieces { TookHanded O.Sequential result closing.me.0.others.handed }
 {
     let mut closed = table.close_with(closing);
     let held = closed.take(0);
@@ -72,7 +71,7 @@ pub(crate) fn close_table(
         i += 1;
     }
     closed.free();
-    let SlotValue::LockTable(load) = held else {
+    let SlotValue::ObjectLoad(load) = held else {
         unreachable!()
     };
     let Load {

@@ -4,18 +4,21 @@
 use crate::slot::SlotValue;
 use crate::view::View;
 use atomic_table::{Join, Play, Split, TableRule};
+use sequential::Sequential;
 use std::marker::{Brand, PhantomData};
 
 /// The rule that every step keeps, and what the first seat knows.
-#[derive(Clone, Copy)]
-pub struct BoardRule;
+pub struct BoardRule<O: Sequential> {
+    /// Uses the type parameter.
+    marker: PhantomData<O>,
+}
 
-impl TableRule<SlotValue, View, u16> for BoardRule {
+impl<O: Sequential> TableRule<SlotValue<O>, View<O::Call, O::Reply>, u16> for BoardRule<O> {
     ghost use Rattle.std.specs.Prelude.{◌+◌};
     ghost use Rattle.publication.specs.Rule.{maker};
     ghost use Rattle.publication.specs.List.{IsRuled};
 
-    ghost holds = { λ _. IsRuled };
+    ghost holds = { λ _. IsRuled O.Sequential };
 
     ghost first = { λ sessions. maker (sessions + 1) 0 };
 }
@@ -23,7 +26,7 @@ impl TableRule<SlotValue, View, u16> for BoardRule {
 /// The first seat makes one session: the new seat is split off it.
 pub struct Enrol;
 
-impl Split<View> for Enrol {
+impl<C, R> Split<View<C, R>> for Enrol {
     ghost use Rattle.std.specs.Prelude.{◌+◌};
     ghost use Rattle.publication.specs.Rule.{new_session, maker};
 
@@ -35,7 +38,7 @@ impl Split<View> for Enrol {
 /// A new session takes its record's slot.
 pub struct Start;
 
-impl Play<SlotValue, View> for Start {
+impl<O: Sequential> Play<SlotValue<O>, View<O::Call, O::Reply>> for Start {
     ghost use Rattle.publication.specs.Kinds.{starts};
 
     ghost then = { starts };
@@ -44,16 +47,16 @@ impl Play<SlotValue, View> for Start {
 /// A session publishes the call in its slot.
 pub struct Post;
 
-impl Play<SlotValue, View> for Post {
+impl<O: Sequential> Play<SlotValue<O>, View<O::Call, O::Reply>> for Post {
     ghost use Rattle.publication.specs.Kinds.{posts};
 
-    ghost then = { posts };
+    ghost then = { posts O.Sequential };
 }
 
 /// A session reads the head word.
 pub struct LookAtHead;
 
-impl Play<SlotValue, View> for LookAtHead {
+impl<O: Sequential> Play<SlotValue<O>, View<O::Call, O::Reply>> for LookAtHead {
     ghost use Rattle.publication.specs.Kinds.{looks_at_head};
 
     ghost then = { looks_at_head };
@@ -62,7 +65,7 @@ impl Play<SlotValue, View> for LookAtHead {
 /// A session links its record to the head as seen.
 pub struct Link;
 
-impl Play<SlotValue, View> for Link {
+impl<O: Sequential> Play<SlotValue<O>, View<O::Call, O::Reply>> for Link {
     ghost use Rattle.publication.specs.Kinds.{links};
 
     ghost then = { links };
@@ -71,7 +74,7 @@ impl Play<SlotValue, View> for Link {
 /// A session exchanges the head word, so that its record is the list's first.
 pub struct Enlist;
 
-impl Play<SlotValue, View> for Enlist {
+impl<O: Sequential> Play<SlotValue<O>, View<O::Call, O::Reply>> for Enlist {
     ghost use Rattle.publication.specs.Kinds.{enlists};
 
     ghost then = { enlists };
@@ -80,7 +83,7 @@ impl Play<SlotValue, View> for Enlist {
 /// The combiner reads the head word; its walk begins.
 pub struct Walk;
 
-impl Play<SlotValue, View> for Walk {
+impl<O: Sequential> Play<SlotValue<O>, View<O::Call, O::Reply>> for Walk {
     ghost use Rattle.publication.specs.Kinds.{walks};
 
     ghost then = { walks };
@@ -89,7 +92,7 @@ impl Play<SlotValue, View> for Walk {
 /// The combiner reads the link of a record on its walk.
 pub struct WalkOn;
 
-impl Play<SlotValue, View> for WalkOn {
+impl<O: Sequential> Play<SlotValue<O>, View<O::Call, O::Reply>> for WalkOn {
     ghost use Rattle.publication.specs.Kinds.{walks_on};
 
     ghost then = { walks_on };
@@ -98,7 +101,7 @@ impl Play<SlotValue, View> for WalkOn {
 /// The combiner links a record past the one behind it.
 pub struct Unlink;
 
-impl Play<SlotValue, View> for Unlink {
+impl<O: Sequential> Play<SlotValue<O>, View<O::Call, O::Reply>> for Unlink {
     ghost use Rattle.publication.specs.Kinds.{unlinks};
 
     ghost then = { unlinks };
@@ -107,7 +110,7 @@ impl Play<SlotValue, View> for Unlink {
 /// The combiner marks the unlinked record OUT.
 pub struct MarkOut;
 
-impl Play<SlotValue, View> for MarkOut {
+impl<O: Sequential> Play<SlotValue<O>, View<O::Call, O::Reply>> for MarkOut {
     ghost use Rattle.publication.specs.Kinds.{marks_out};
 
     ghost then = { marks_out };
@@ -116,7 +119,7 @@ impl Play<SlotValue, View> for MarkOut {
 /// The combiner links the unlinked record again.
 pub struct Relink;
 
-impl Play<SlotValue, View> for Relink {
+impl<O: Sequential> Play<SlotValue<O>, View<O::Call, O::Reply>> for Relink {
     ghost use Rattle.publication.specs.Kinds.{relinks};
 
     ghost then = { relinks };
@@ -125,7 +128,7 @@ impl Play<SlotValue, View> for Relink {
 /// A session reads its record's state word.
 pub struct LookForReply;
 
-impl Play<SlotValue, View> for LookForReply {
+impl<O: Sequential> Play<SlotValue<O>, View<O::Call, O::Reply>> for LookForReply {
     ghost use Rattle.publication.specs.Kinds.{looks_for_reply};
 
     ghost then = { looks_for_reply };
@@ -134,16 +137,16 @@ impl Play<SlotValue, View> for LookForReply {
 /// A session takes the reply out of its record.
 pub struct Take;
 
-impl Play<SlotValue, View> for Take {
+impl<O: Sequential> Play<SlotValue<O>, View<O::Call, O::Reply>> for Take {
     ghost use Rattle.publication.specs.Kinds.{takes_reply};
 
-    ghost then = { takes_reply };
+    ghost then = { takes_reply O.Sequential };
 }
 
 /// A session reads the lock word.
 pub struct LookAtLock;
 
-impl Play<SlotValue, View> for LookAtLock {
+impl<O: Sequential> Play<SlotValue<O>, View<O::Call, O::Reply>> for LookAtLock {
     ghost use Rattle.publication.specs.Kinds.{looks_at_lock};
 
     ghost then = { looks_at_lock };
@@ -152,16 +155,16 @@ impl Play<SlotValue, View> for LookAtLock {
 /// A session tries to become the combiner.
 pub struct Seize;
 
-impl Play<SlotValue, View> for Seize {
+impl<O: Sequential> Play<SlotValue<O>, View<O::Call, O::Reply>> for Seize {
     ghost use Rattle.publication.specs.Kinds.{seizes};
 
-    ghost then = { seizes };
+    ghost then = { seizes O.Sequential };
 }
 
 /// The combiner frees the lock word.
 pub struct Release;
 
-impl Play<SlotValue, View> for Release {
+impl<O: Sequential> Play<SlotValue<O>, View<O::Call, O::Reply>> for Release {
     ghost use Rattle.publication.specs.Kinds.{releases};
 
     ghost then = { releases };
@@ -170,7 +173,7 @@ impl Play<SlotValue, View> for Release {
 /// The combiner reads a record's state word.
 pub struct LookAtRecord;
 
-impl Play<SlotValue, View> for LookAtRecord {
+impl<O: Sequential> Play<SlotValue<O>, View<O::Call, O::Reply>> for LookAtRecord {
     ghost use Rattle.publication.specs.Kinds.{looks_at_record};
 
     ghost then = { looks_at_record };
@@ -179,7 +182,7 @@ impl Play<SlotValue, View> for LookAtRecord {
 /// The combiner opens a record in which a call is posted.
 pub struct Open;
 
-impl Play<SlotValue, View> for Open {
+impl<O: Sequential> Play<SlotValue<O>, View<O::Call, O::Reply>> for Open {
     ghost use Rattle.publication.specs.Kinds.{opens};
 
     ghost then = { opens };
@@ -188,7 +191,7 @@ impl Play<SlotValue, View> for Open {
 /// The combiner lays the slot of an opened record down.
 pub struct Lay;
 
-impl Play<SlotValue, View> for Lay {
+impl<O: Sequential> Play<SlotValue<O>, View<O::Call, O::Reply>> for Lay {
     ghost use Rattle.publication.specs.Kinds.{lays};
 
     ghost then = { lays };
@@ -197,7 +200,7 @@ impl Play<SlotValue, View> for Lay {
 /// The combiner takes the slot of an opened record again.
 pub struct Pick;
 
-impl Play<SlotValue, View> for Pick {
+impl<O: Sequential> Play<SlotValue<O>, View<O::Call, O::Reply>> for Pick {
     ghost use Rattle.publication.specs.Kinds.{picks};
 
     ghost then = { picks };
@@ -206,16 +209,16 @@ impl Play<SlotValue, View> for Pick {
 /// The combiner answers an opened call.
 pub struct Answer;
 
-impl Play<SlotValue, View> for Answer {
+impl<O: Sequential> Play<SlotValue<O>, View<O::Call, O::Reply>> for Answer {
     ghost use Rattle.publication.specs.Kinds.{answers};
 
-    ghost then = { answers };
+    ghost then = { answers O.Sequential };
 }
 
 /// The combiner posts an opened call again.
 pub struct PutBack;
 
-impl Play<SlotValue, View> for PutBack {
+impl<O: Sequential> Play<SlotValue<O>, View<O::Call, O::Reply>> for PutBack {
     ghost use Rattle.publication.specs.Kinds.{puts_back};
 
     ghost then = { puts_back };
@@ -223,41 +226,40 @@ impl Play<SlotValue, View> for PutBack {
 
 /// The call and the reply that a direct entry enters into the history. Both are ghost values, so the step is one load of
 /// the lock word.
-pub trait DirectEntry {
-    ghost use Rattle.lock_rules.specs.declared.calls.Call.{Call};
-    ghost use Rattle.lock_rules.specs.declared.calls.Reply.{Reply};
+pub trait DirectEntry<C, R> {
+    ghost use Rattle.std.specs.Prelude.{Option};
 
-    ghost call: { Call };
+    ghost call: { Option C };
 
-    ghost reply: { Reply };
+    ghost reply: { Option R };
 }
 
 /// Stands for any direct entry: whoever makes the step names the call and the reply.
-impl DirectEntry for Brand {
-    ghost use Rattle.lock_rules.specs.declared.calls.Call.TheVariants.{Poll};
-    ghost use Rattle.lock_rules.specs.declared.calls.Reply.TheVariants.{Clear};
+impl<C, R> DirectEntry<C, R> for Brand {
+    ghost use Rattle.std.specs.Prelude.{None};
 
-    ghost call = { Poll };
+    ghost call = { None };
 
-    ghost reply = { Clear };
+    ghost reply = { None };
 }
 
 /// The combiner enters a call of its own into the history, without its record. No value of this type is made.
-pub struct Enter<E: DirectEntry> {
+pub struct Enter<E> {
     /// Uses the type parameter.
     marker: PhantomData<E>,
 }
 
-impl<E: DirectEntry> Play<SlotValue, View> for Enter<E> {
-    ghost use Rattle.publication.specs.Kinds.{enters};
+impl<O: Sequential, E: DirectEntry<O::Call, O::Reply>> Play<SlotValue<O>, View<O::Call, O::Reply>>
+    for Enter<E> {
+    ghost use Rattle.publication.specs.Kinds.{enters_named};
 
-    ghost then = { enters E.call E.reply };
+    ghost then = { enters_named E.call E.reply };
 }
 
 /// A copy of what a seat knows is split off it.
 pub struct SplitCopy;
 
-impl Split<View> for SplitCopy {
+impl<C, R> Split<View<C, R>> for SplitCopy {
     ghost use Rattle.publication.specs.Kinds.{copy_of};
 
     ghost left = { λ v. v };
@@ -268,7 +270,7 @@ impl Split<View> for SplitCopy {
 /// A copy of the front that a seat knows is split off it.
 pub struct SplitFront;
 
-impl Split<View> for SplitFront {
+impl<C, R> Split<View<C, R>> for SplitFront {
     ghost use Rattle.publication.specs.Kinds.{front_copy_of};
 
     ghost left = { λ v. v };
@@ -279,7 +281,7 @@ impl Split<View> for SplitFront {
 /// A seat takes in such a copy.
 pub struct JoinCopy;
 
-impl Join<View> for JoinCopy {
+impl<C, R> Join<View<C, R>> for JoinCopy {
     ghost use Rattle.publication.specs.Rule.{blank};
     ghost use Rattle.publication.specs.Kinds.{joined};
 
@@ -291,16 +293,16 @@ impl Join<View> for JoinCopy {
 /// A seat learns which of two fronts of the history is the longer.
 pub struct Learn;
 
-impl Play<SlotValue, View> for Learn {
+impl<O: Sequential> Play<SlotValue<O>, View<O::Call, O::Reply>> for Learn {
     ghost use Rattle.publication.specs.Kinds.{learns};
 
-    ghost then = { learns };
+    ghost then = { learns O.Sequential };
 }
 
 /// A session compares the front that it knows with the one of a copy that it took in.
 pub struct Compare;
 
-impl Play<SlotValue, View> for Compare {
+impl<O: Sequential> Play<SlotValue<O>, View<O::Call, O::Reply>> for Compare {
     ghost use Rattle.publication.specs.Kinds.{compares};
 
     ghost then = { compares };
@@ -309,7 +311,7 @@ impl Play<SlotValue, View> for Compare {
 /// A session publishes no more calls.
 pub struct Retire;
 
-impl Play<SlotValue, View> for Retire {
+impl<O: Sequential> Play<SlotValue<O>, View<O::Call, O::Reply>> for Retire {
     ghost use Rattle.publication.specs.Kinds.{retires};
 
     ghost then = { retires };
@@ -318,7 +320,7 @@ impl Play<SlotValue, View> for Retire {
 /// A session that is handed in lays its record's slot down.
 pub struct Leave;
 
-impl Play<SlotValue, View> for Leave {
+impl<O: Sequential> Play<SlotValue<O>, View<O::Call, O::Reply>> for Leave {
     ghost use Rattle.publication.specs.Kinds.{leaves};
 
     ghost then = { leaves };
@@ -327,7 +329,7 @@ impl Play<SlotValue, View> for Leave {
 /// The closing seat takes in the seat of a session that left.
 pub struct Gather;
 
-impl Join<View> for Gather {
+impl<C, R> Join<View<C, R>> for Gather {
     ghost use Rattle.publication.specs.Rule.{blank};
     ghost use Rattle.publication.specs.Kinds.{gathered};
 

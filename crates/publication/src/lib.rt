@@ -1,9 +1,10 @@
-//! The board: a lock word for the lock table, and one publication record a session, through which sessions hand calls
-//! to the combiner and get the replies back. This is flat combining (Hendler, Incze, Shavit and Tzafrir 2010).
+//! The board: a lock word for a sequential object, and one publication record a session, through which sessions hand calls
+//! to the combiner and get the replies back. This is flat combining (Hendler, Incze, Shavit and Tzafrir 2010), for any
+//! object of `sequential`.
 //!
 //! A record is a state word, a link word and a slot. A session publishes a call in its slot. The session that wins the
-//! lock word is the combiner: it has the lock table, walks the publication list, opens the records in which calls are
-//! posted, and answers them. How a call is served is `lock_desk`'s concern, not this crate's.
+//! lock word is the combiner: it has the object, walks the publication list, opens the records in which calls are
+//! posted, and answers them. How a call is served is the object's concern, not this crate's.
 //!
 //! `board.rt` has what a session calls, `board/combiner.rt` what the combiner does, `board/knowledge.rt` what a session
 //! knows as a value. Below them, `steps.rt` makes the atomic steps, `kinds.rt` names their kinds, `slot.rt`, `view.rt`

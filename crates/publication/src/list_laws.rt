@@ -13,70 +13,72 @@ ghost use Rattle.publication.specs.BoardHistory.{new_board};
 ghost use Rattle.publication.specs.Runs.{StepName, IsStep, IsSeatSplit, IsSeatJoin, IsRun};
 ghost use Rattle.publication.specs.declared.slot.Load.{Load};
 
+use sequential::Sequential;
+
 /// Between any two atomic steps the state determines the publication list: there is one, and if the end mark is no
 /// record's number, only one. Two chains of links from one word on are the same list if the end mark is on neither; that
 /// no record is on them twice isn't needed. A board for fewer sessions than the end mark opens with room for it, and no
 /// run changes the number of slots.
-pub fn a_state_has_one_publication_list()
-    ensures some { (s : BoardState) → IsRuled s → (list : List ℕ) × IsPublicationList s list }
-    ensures one { (s : BoardState) (xs ys : List ℕ) → HasRoomForEnd s → IsPublicationList s xs → IsPublicationList s ys → xs ≡ ys }
+pub fn a_state_has_one_publication_list<O: Sequential>()
+    ensures some { (s : BoardState O O.Call O.Reply) → IsRuled O.Sequential s → (list : List ℕ) × IsPublicationList s list }
+    ensures one { (s : BoardState O O.Call O.Reply) (xs ys : List ℕ) → HasRoomForEnd s → IsPublicationList s xs → IsPublicationList s ys → xs ≡ ys }
     ensures chains { (links : ℕ → ℕ) (first : ℕ) (xs ys : List ℕ) →
         (IsOn END xs → ⊥) → (IsOn END ys → ⊥) → Chain links first xs → Chain links first ys → xs ≡ ys }
-    ensures opens { (n : ℕ) (load : Box Load) → n + 1 ≤ END → HasRoomForEnd (new_board n load) }
-    ensures stays { (s t : BoardState) → IsRuled s → IsRun s t → length t.homes ≡ length s.homes }
+    ensures opens { (n : ℕ) (load : Box (Load O O.Call O.Reply)) → n + 1 ≤ END → HasRoomForEnd (new_board n load) }
+    ensures stays { (s t : BoardState O O.Call O.Reply) → IsRuled O.Sequential s → IsRun O.Sequential s t → length t.homes ≡ length s.homes }
 {}
 
 /// A pending call that is listed is found: its record is on the publication list, or it is the one record that the
 /// combiner has unlinked and not yet linked again. While the lock word is FREE it is on the list. The record of a pending
 /// call that isn't listed is not on the list.
-pub fn listed_calls_are_on_the_list()
-    ensures listed { (s : BoardState) (list : List ℕ) (j : ℕ) →
-        IsRuled s → HasRoomForEnd s → IsPublicationList s list → HasPending s j true → IsOn j list ⊎ IsUnlinkedNow s j }
-    ensures unlocked { (s : BoardState) (list : List ℕ) (j : ℕ) →
-        IsRuled s → HasRoomForEnd s → IsPublicationList s list → word s 0 ≡ FREE → HasPending s j true → IsOn j list }
-    ensures unlisted { (s : BoardState) (list : List ℕ) (j : ℕ) →
-        IsRuled s → HasRoomForEnd s → IsPublicationList s list → HasPending s j false → IsOn j list → ⊥ }
+pub fn listed_calls_are_on_the_list<O: Sequential>()
+    ensures listed { (s : BoardState O O.Call O.Reply) (list : List ℕ) (j : ℕ) →
+        IsRuled O.Sequential s → HasRoomForEnd s → IsPublicationList s list → HasPending s j true → IsOn j list ⊎ IsUnlinkedNow s j }
+    ensures unlocked { (s : BoardState O O.Call O.Reply) (list : List ℕ) (j : ℕ) →
+        IsRuled O.Sequential s → HasRoomForEnd s → IsPublicationList s list → word s 0 ≡ FREE → HasPending s j true → IsOn j list }
+    ensures unlisted { (s : BoardState O O.Call O.Reply) (list : List ℕ) (j : ℕ) →
+        IsRuled O.Sequential s → HasRoomForEnd s → IsPublicationList s list → HasPending s j false → IsOn j list → ⊥ }
 {}
 
 /// The first record is never taken off the list. To take off or link again the record behind another leaves the first one
 /// where it is. While a record is unlinked, the record that was in front of it is on the list, and the link of the
 /// unlinked one names what follows there. A step that writes the head word only as `enlist` does leaves the first record
 /// the first, or puts its session's record in front of the whole list; a split or join of seats changes nothing.
-pub fn the_first_record_is_never_taken_off()
+pub fn the_first_record_is_never_taken_off<O: Sequential>()
     ensures without { (before : ℕ) (list : List ℕ) → first_of (without before list) ≡ first_of list }
     ensures with_behind { (before other : ℕ) (list : List ℕ) → first_of (with_behind before other list) ≡ first_of list }
-    ensures unlinked { (s : BoardState) (list : List ℕ) (k : ℕ) →
-        IsRuled s → HasRoomForEnd s → IsPublicationList s list → (seat s k).combiner.has_book ≡ true → (seat s k).listing.off ≢ 0 →
+    ensures unlinked { (s : BoardState O O.Call O.Reply) (list : List ℕ) (k : ℕ) →
+        IsRuled O.Sequential s → HasRoomForEnd s → IsPublicationList s list → (seat s k).combiner.has_object ≡ true → (seat s k).listing.off ≢ 0 →
         IsUnlinked (link s) (length s.homes) list (seat s k).listing.off (seat s k).listing.before }
-    ensures steps { (name : StepName) (s t : BoardState) (list later : List ℕ) →
-        IsRuled s → IsRuled t → HasRoomForEnd s → IsPublicationList s list → IsPublicationList t later →
-        (c : IsStep name s t) → WritesHeadAsEnlist s c.at c.put c.before.0 →
+    ensures steps { (name : StepName O.Call O.Reply) (s t : BoardState O O.Call O.Reply) (list later : List ℕ) →
+        IsRuled O.Sequential s → IsRuled O.Sequential t → HasRoomForEnd s → IsPublicationList s list → IsPublicationList t later →
+        (c : IsStep O.Sequential name s t) → WritesHeadAsEnlist s c.at c.put c.before.0 →
         (first_of later ≡ first_of list) ⊎ (later ≡ c.before.0.number ∷ list) }
-    ensures seats { (s t : BoardState) (list : List ℕ) → IsSeatSplit s t ⊎ IsSeatJoin s t → IsPublicationList s list → IsPublicationList t list }
+    ensures seats { (s t : BoardState O O.Call O.Reply) (list : List ℕ) → IsSeatSplit s t ⊎ IsSeatJoin s t → IsPublicationList s list → IsPublicationList t list }
 {}
 
 /// A walk that asks, at each step, for the record behind the one it met last meets the records of its route in order,
 /// each once, and then none. The link of a record on the list names the record behind it. The combiner's route is the
 /// list without the records in front that were linked since its walk began; if the head word names the route's first
 /// record, there are none, and the route is the whole list.
-pub fn walks_meet_each_record_once()
+pub fn walks_meet_each_record_once<O: Sequential>()
     ensures behind { (front rest : List ℕ) (q : ℕ) → AreApart (front ++ q ∷ rest) → behind q (front ++ q ∷ rest) ≡ rest }
     ensures met { (route : List ℕ) (steps : ℕ) → AreApart route → length route ≤ steps → met_from (first_of route) steps route ≡ route }
-    ensures links { (s : BoardState) (front rest : List ℕ) (q : ℕ) → IsPublicationList s (front ++ q ∷ rest) → link s q ≡ head_of rest }
-    ensures route { (s : BoardState) (list : List ℕ) (k : ℕ) →
-        IsRuled s → HasRoomForEnd s → IsPublicationList s list → (seat s k).combiner.has_book ≡ true →
+    ensures links { (s : BoardState O O.Call O.Reply) (front rest : List ℕ) (q : ℕ) → IsPublicationList s (front ++ q ∷ rest) → link s q ≡ head_of rest }
+    ensures route { (s : BoardState O O.Call O.Reply) (list : List ℕ) (k : ℕ) →
+        IsRuled O.Sequential s → HasRoomForEnd s → IsPublicationList s list → (seat s k).combiner.has_object ≡ true →
         (new : List ℕ) × (list ≡ new ++ (seat s k).listing.route) }
-    ensures whole { (s : BoardState) (k : ℕ) →
-        IsRuled s → HasRoomForEnd s → (seat s k).combiner.has_book ≡ true → link s 0 ≡ head_of (seat s k).listing.route →
+    ensures whole { (s : BoardState O O.Call O.Reply) (k : ℕ) →
+        IsRuled O.Sequential s → HasRoomForEnd s → (seat s k).combiner.has_object ≡ true → link s 0 ≡ head_of (seat s k).listing.route →
         IsPublicationList s (seat s k).listing.route }
 {}
 
 /// The record of a session that has its seat is CLOSED exactly if the session has retired. No call is pending there.
-pub fn retired_records_are_closed()
-    ensures closed { (s : BoardState) (j : ℕ) →
-        IsRuled s → 0 < j → (seat s j).number ≡ j → (seat s j).own.retired ≡ true → word s j ≡ CLOSED }
-    ensures retired { (s : BoardState) (j : ℕ) →
-        IsRuled s → 0 < j → (seat s j).number ≡ j → word s j ≡ CLOSED → (seat s j).own.retired ≡ true }
-    ensures idle { (s : BoardState) (j : ℕ) →
-        IsRuled s → 0 < j → (seat s j).number ≡ j → word s j ≡ CLOSED → (seat s j).own.pending ≡ None }
+pub fn retired_records_are_closed<O: Sequential>()
+    ensures closed { (s : BoardState O O.Call O.Reply) (j : ℕ) →
+        IsRuled O.Sequential s → 0 < j → (seat s j).number ≡ j → (seat s j).own.retired ≡ true → word s j ≡ CLOSED }
+    ensures retired { (s : BoardState O O.Call O.Reply) (j : ℕ) →
+        IsRuled O.Sequential s → 0 < j → (seat s j).number ≡ j → word s j ≡ CLOSED → (seat s j).own.retired ≡ true }
+    ensures idle { (s : BoardState O O.Call O.Reply) (j : ℕ) →
+        IsRuled O.Sequential s → 0 < j → (seat s j).number ≡ j → word s j ≡ CLOSED → (seat s j).own.pending ≡ None }
 {}

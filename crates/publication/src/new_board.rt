@@ -6,19 +6,19 @@ ghost use Rattle.publication.specs.inner.Tickets.{IsBoard, AreNewSeats};
 use crate::kinds::Enrol;
 use crate::slot::{Load, SlotValue};
 use crate::steps::{Seat, Shared};
-use lock_desk::NoMemory;
-use std::alloc::Global;
+use sequential::Sequential;
+use std::alloc::{AllocError as NoMemory, Global};
 
 /// The slots of a new board: the load in the lock's slot, and an empty slot for each session.
-pub(crate) fn initial_slots(
+pub(crate) fn initial_slots<O: Sequential>(
     alloc: Global,
-    load: Box<Load>,
+    load: Box<Load<O>>,
     sessions: u16,
-) -> Result<Vec<SlotValue>, NoMemory>
-    ensures { IfOk result (λ v. v.items ≡ SlotValue.LockTable load ∷ replicate sessions SlotValue.Empty) }
+) -> Result<Vec<SlotValue<O>>, NoMemory>
+    ensures { IfOk result (λ v. v.items ≡ SlotValue.ObjectLoad load ∷ replicate sessions SlotValue.Empty) }
 {
     let mut slots = Vec::new(alloc);
-    slots.push(SlotValue::LockTable(load))?;
+    slots.push(SlotValue::ObjectLoad(load))?;
     for _session in 0..sessions {
         slots.push(SlotValue::Empty)?;
     }
@@ -26,12 +26,12 @@ pub(crate) fn initial_slots(
 }
 
 /// Splits a seat for each session off the first seat, in order: seat i is session i's.
-pub(crate) fn split_all(
+pub(crate) fn split_all<O: Sequential>(
     alloc: Global,
-    shared: &Shared,
-    first: &mut Seat,
+    shared: &Shared<O>,
+    first: &mut Seat<O>,
     sessions: u16,
-) -> Result<Vec<Seat>, NoMemory>
+) -> Result<Vec<Seat<O>>, NoMemory>
     requires ours { first.old.table_id ≡ shared.now.table_id }
     requires board { IsBoard shared.now.table_id }
     requires slots { shared.now.table_id.slots ≡ sessions + 1 }

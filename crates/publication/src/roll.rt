@@ -1,10 +1,10 @@
 //! The test that each session is there once.
 
 ghost use Rattle.std.specs.Prelude.{◌≡◌, ℕ, ◌<◌, ◌≤◌, ◌||◌, ◌==◌, true, false, replicate, IsTrue, ◌↔◌, length};
-ghost use Rattle.lock_rules.specs.declared.calls.TheConstants.{MAX_SESSIONS};
+ghost use Rattle.sequential.specs.declared.entry.TheConstants.{MAX_SESSIONS};
 ghost use Rattle.publication.specs.Rolls.{is_called};
 
-use lock_rules::MAX_SESSIONS;
+use sequential::MAX_SESSIONS;
 
 /// Which session numbers were called, a mark for each number up to `MAX_SESSIONS`. It takes no memory but its own 1,025
 /// bytes, so that whoever closes an office needs none.

@@ -3,7 +3,6 @@
 ghost use Rattle.std.specs.Prelude.{◌≡◌, ◌≢◌, ◌+◌, ◌^◌, ◌<◌, ◌∷◌, ◌++◌, [], true, false, Some, None, IfSome, IfNone, length, is_some};
 ghost use mathlib.Core.List.{IsPrefix};
 ghost use Rattle.atomic_table.specs.Table.{rest};
-ghost use Rattle.lock_rules.specs.Legal.{IsLegal};
 ghost use Rattle.sequential.specs.Histories.{calls_of};
 ghost use Rattle.publication.specs.Views.{IsAccountedIn, entry};
 ghost use Rattle.publication.specs.Pieces.{HasAdded};
@@ -20,18 +19,28 @@ use crate::kinds::{
 use crate::slot::{Load, SlotValue};
 use crate::view::View;
 use crate::words::{BUSY, CLOSED, EMPTY, END, FREE, HEAD, OUT, POSTED, SERVED, WORDS_APART};
-use lock_desk::{Call, Reply};
+use sequential::Sequential;
 
 /// The seat of a session, or of the first or the closing one: a handle with a ghost view, and the slots that it has
 /// taken.
-pub type Seat = atomic_table::Seat<SlotValue, View>;
+pub type Seat<O: Sequential> = atomic_table::Seat<SlotValue<O>, View<O::Call, O::Reply>>;
 
 /// The part of the table that all seats share.
-pub type Shared = atomic_table::Shared<SlotValue, View, u16, BoardRule>;
+pub type Shared<O: Sequential> = atomic_table::Shared<
+    SlotValue<O>,
+    View<O::Call, O::Reply>,
+    u16,
+    BoardRule<O>,
+>;
 
 /// Publishes a session's call in its own record, with one swap of the state word. Returns whether the record was on
 /// the publication list, so that the call is listed at once.
-pub(crate) fn publish_in_record(shared: &Shared, seat: &mut Seat, at: usize, call: Call) -> bool
+pub(crate) fn publish_in_record<O: Sequential>(
+    shared: &Shared<O>,
+    seat: &mut Seat<O>,
+    at: usize,
+    call: O::Call,
+) -> bool
     requires ours { seat.old.table_id ≡ shared.now.table_id }
     requires board { IsBoard shared.now.table_id }
     requires at { IsAt shared.now.table_id at }
@@ -46,7 +55,7 @@ pub(crate) fn publish_in_record(shared: &Shared, seat: &mut Seat, at: usize, cal
 }
 
 /// Reads the head word, for a session whose record isn't on the publication list.
-fn look_at_head(shared: &Shared, seat: &mut Seat, at: usize) -> u64
+fn look_at_head<O: Sequential>(shared: &Shared<O>, seat: &mut Seat<O>, at: usize) -> u64
     requires ours { seat.old.table_id ≡ shared.now.table_id }
     requires board { IsBoard shared.now.table_id }
     requires at { IsAt shared.now.table_id at }
@@ -61,7 +70,11 @@ fn look_at_head(shared: &Shared, seat: &mut Seat, at: usize) -> u64
 
 /// Tries once to put the session's record at the head of the publication list: links it to the head as seen, and
 /// exchanges the head word. Returns whether the exchange was won. Needs a pending call that isn't listed.
-pub(crate) fn enlist_record(shared: &Shared, seat: &mut Seat, at: usize) -> bool
+pub(crate) fn enlist_record<O: Sequential>(
+    shared: &Shared<O>,
+    seat: &mut Seat<O>,
+    at: usize,
+) -> bool
     requires ours { seat.old.table_id ≡ shared.now.table_id }
     requires board { IsBoard shared.now.table_id }
     requires at { IsAt shared.now.table_id at }
@@ -90,7 +103,7 @@ fn record_named(found: u64) -> Option<u16>
 
 /// Begins the combiner's walk: reads the head word, after which the whole list is known. Returns the list's first
 /// record.
-pub(crate) fn walk_from_head(shared: &Shared, seat: &mut Seat) -> Option<u16>
+pub(crate) fn walk_from_head<O: Sequential>(shared: &Shared<O>, seat: &mut Seat<O>) -> Option<u16>
     requires ours { seat.old.table_id ≡ shared.now.table_id }
     requires board { IsBoard shared.now.table_id }
     requires mine { IsCombiner seat.old.me.0 }
@@ -106,7 +119,11 @@ pub(crate) fn walk_from_head(shared: &Shared, seat: &mut Seat) -> Option<u16>
 }
 
 /// Reads the link of a record that the combiner's walk has met. Returns the next record.
-pub(crate) fn walk_on(shared: &Shared, seat: &mut Seat, at: usize) -> Option<u16>
+pub(crate) fn walk_on<O: Sequential>(
+    shared: &Shared<O>,
+    seat: &mut Seat<O>,
+    at: usize,
+) -> Option<u16>
     requires ours { seat.old.table_id ≡ shared.now.table_id }
     requires board { IsBoard shared.now.table_id }
     requires mine { IsCombiner seat.old.me.0 }
@@ -122,7 +139,7 @@ pub(crate) fn walk_on(shared: &Shared, seat: &mut Seat, at: usize) -> Option<u16
 }
 
 /// Whether the session's own record is SERVED. It is a plain load, so waiting for a reply writes nothing.
-fn is_served(shared: &Shared, seat: &mut Seat, at: usize) -> bool
+fn is_served<O: Sequential>(shared: &Shared<O>, seat: &mut Seat<O>, at: usize) -> bool
     requires ours { seat.old.table_id ≡ shared.now.table_id }
     requires board { IsBoard shared.now.table_id }
     requires at { IsAt shared.now.table_id at }
@@ -135,7 +152,7 @@ fn is_served(shared: &Shared, seat: &mut Seat, at: usize) -> bool
 }
 
 /// Links the record `before` past `whose`, the record behind it, whose link is read first.
-fn bypass_record(shared: &Shared, seat: &mut Seat, before: usize, whose: usize)
+fn bypass_record<O: Sequential>(shared: &Shared<O>, seat: &mut Seat<O>, before: usize, whose: usize)
     requires ours { seat.old.table_id ≡ shared.now.table_id }
     requires board { IsBoard shared.now.table_id }
     requires mine { IsCombiner seat.old.me.0 × (seat.old.me.0.listing.off ≡ 0) }
@@ -151,7 +168,7 @@ fn bypass_record(shared: &Shared, seat: &mut Seat, before: usize, whose: usize)
 
 /// Tries to mark the unlinked record OUT. Returns whether it is off the list for good: it was EMPTY, or it is CLOSED
 /// and stays so.
-fn mark_out(shared: &Shared, seat: &mut Seat, whose: usize) -> bool
+fn mark_out<O: Sequential>(shared: &Shared<O>, seat: &mut Seat<O>, whose: usize) -> bool
     requires ours { seat.old.table_id ≡ shared.now.table_id }
     requires board { IsBoard shared.now.table_id }
     requires mine { IsCombiner seat.old.me.0 × (seat.old.me.0.listing.off ≡ whose) }
@@ -165,7 +182,7 @@ fn mark_out(shared: &Shared, seat: &mut Seat, whose: usize) -> bool
 }
 
 /// Links the unlinked record again, where it was.
-fn relink_record(shared: &Shared, seat: &mut Seat, before: usize, whose: usize)
+fn relink_record<O: Sequential>(shared: &Shared<O>, seat: &mut Seat<O>, before: usize, whose: usize)
     requires ours { seat.old.table_id ≡ shared.now.table_id }
     requires board { IsBoard shared.now.table_id }
     requires mine { IsCombiner seat.old.me.0 }
@@ -183,7 +200,12 @@ fn relink_record(shared: &Shared, seat: &mut Seat, before: usize, whose: usize)
 ///
 /// No post is lost. If the session posts before the exchange, the exchange fails and the record is linked again. If
 /// it posts afterwards, it finds the record OUT and enlists it.
-pub(crate) fn unlink_record(shared: &Shared, seat: &mut Seat, before: usize, whose: usize) -> bool
+pub(crate) fn unlink_record<O: Sequential>(
+    shared: &Shared<O>,
+    seat: &mut Seat<O>,
+    before: usize,
+    whose: usize,
+) -> bool
     requires ours { seat.old.table_id ≡ shared.now.table_id }
     requires board { IsBoard shared.now.table_id }
     requires mine { IsCombiner seat.old.me.0 × (seat.old.me.0.listing.off ≡ 0) }
@@ -203,19 +225,19 @@ pub(crate) fn unlink_record(shared: &Shared, seat: &mut Seat, before: usize, who
 
 /// Takes the reply out of the session's own record; `None` if the record isn't SERVED. The record is then EMPTY if
 /// the call was listed, else OUT.
-pub(crate) fn collect_reply(
-    shared: &Shared,
-    seat: &mut Seat,
+pub(crate) fn collect_reply<O: Sequential>(
+    shared: &Shared<O>,
+    seat: &mut Seat<O>,
     at: usize,
     is_listed: bool,
-) -> Option<(u64, Reply)>
+) -> Option<(u64, O::Reply)>
     requires ours { seat.old.table_id ≡ shared.now.table_id }
     requires board { IsBoard shared.now.table_id }
     requires at { IsAt shared.now.table_id at }
     requires mine { seat.old.me.0.number ≡ at }
     requires listed { seat.old.me.0.own.listed ≡ is_listed }
     ensures ours { seat.new.table_id ≡ seat.old.table_id }
-    ensures some { IfSome result (λ r. HasTaken seat.old.me seat.new.me SlotValue.Empty r.0 r.1) }
+    ensures some { IfSome result (λ r. HasTaken O.Sequential seat.old.me seat.new.me SlotValue.Empty r.0 r.1) }
     ensures none { IfNone result ((seat.new.me ≡ seat.old.me) × IsUnanswered seat.old.me.0) }
 {
     if !is_served(shared, seat, at) {
@@ -233,7 +255,7 @@ pub(crate) fn collect_reply(
 }
 
 /// Whether the lock word is FREE. It is a plain load.
-fn is_free(shared: &Shared, seat: &mut Seat) -> bool
+fn is_free<O: Sequential>(shared: &Shared<O>, seat: &mut Seat<O>) -> bool
     requires ours { seat.old.table_id ≡ shared.now.table_id }
     requires board { IsBoard shared.now.table_id }
     requires mine { seat.old.me.0.number ≢ 0 }
@@ -245,13 +267,17 @@ fn is_free(shared: &Shared, seat: &mut Seat) -> bool
 }
 
 /// Tries once to become the combiner, and takes the load. Writes the lock word only after a load found it FREE.
-pub(crate) fn seize_load(shared: &Shared, seat: &mut Seat, number: u64) -> Option<Box<Load>>
+pub(crate) fn seize_load<O: Sequential>(
+    shared: &Shared<O>,
+    seat: &mut Seat<O>,
+    number: u64,
+) -> Option<Box<Load<O>>>
     requires ours { seat.old.table_id ≡ shared.now.table_id }
     requires board { IsBoard shared.now.table_id }
     requires mine { (seat.old.me.0.number ≡ number) × (0 < number) }
     ensures ours { seat.new.table_id ≡ seat.old.table_id }
-    ensures some { IfSome result (λ load. (seat.new.me ≡ (seizing seat.old.me.0 load.value.book.history load.value.pieces.items, (0, SlotValue.Empty) ∷ seat.old.me.1))
-        × Seized seat.old.me.0 shared.now.table_id.slots load.value) }
+    ensures some { IfSome result (λ load. (seat.new.me ≡ (seizing seat.old.me.0 (O.history load.value.book) load.value.pieces.items, (0, SlotValue.Empty) ∷ seat.old.me.1))
+        × Seized O.Sequential seat.old.me.0 shared.now.table_id.slots load.value) }
     ensures none { IfNone result ((seat.new.me ≡ seat.old.me) × HasOthers shared.now.table_id.slots seat.old.me.0) }
 {
     if !is_free(shared, seat) {
@@ -261,32 +287,36 @@ pub(crate) fn seize_load(shared: &Shared, seat: &mut Seat, number: u64) -> Optio
     if found != FREE {
         return None;
     }
-    let SlotValue::LockTable(load) = shared.exchange(seat, 0, SlotValue::Empty) else {
+    let SlotValue::ObjectLoad(load) = shared.exchange(seat, 0, SlotValue::Empty) else {
         unreachable!()
     };
     Some(load)
 }
 
 /// Gives the load back and frees the lock word. Needs a combiner with no record opened.
-pub(crate) fn release_load(shared: &Shared, seat: &mut Seat, load: Box<Load>)
+pub(crate) fn release_load<O: Sequential>(
+    shared: &Shared<O>,
+    seat: &mut Seat<O>,
+    load: Box<Load<O>>,
+)
     requires ours { seat.old.table_id ≡ shared.now.table_id }
     requires board { IsBoard shared.now.table_id }
-    requires mine { (seat.old.me.0.number ≢ 0) × (seat.old.me.0.combiner.has_book ≡ true) }
+    requires mine { (seat.old.me.0.number ≢ 0) × (seat.old.me.0.combiner.has_object ≡ true) }
     requires none { (j : _) → opened_in seat.old.me.0 j ≡ None }
-    requires home { IsHome seat.old.me.0.front shared.now.table_id.slots load.value }
+    requires home { IsHome O.Sequential seat.old.me.0.front shared.now.table_id.slots load.value }
     requires took { HasAdded seat.old.me.0.number seat.old.me.0.pieces.all load.value.pieces.items }
     requires whole { seat.old.me.0.listing.off ≡ 0 }
     requires carried { seat.old.me.1 ≡ (0, SlotValue.Empty) ∷ rest seat.old.me.1 }
     ensures ours { seat.new.table_id ≡ seat.old.table_id }
     ensures step { seat.new.me ≡ (releasing seat.old.me.0 load.value.pieces.items, rest seat.old.me.1) }
 {
-    drop(shared.exchange(seat, 0, SlotValue::LockTable(load)));
+    drop(shared.exchange(seat, 0, SlotValue::ObjectLoad(load)));
     shared.store::<Release>(seat, 0, FREE);
 }
 
 /// Whether a call is posted in the record. It is a plain load, so a pass over idle records writes none of them.
 #[tactic(auto, using(crate::proofs::RecordKinds::session_of_its_word))]
-pub(crate) fn is_posted(shared: &Shared, seat: &mut Seat, at: usize) -> bool
+pub(crate) fn is_posted<O: Sequential>(shared: &Shared<O>, seat: &mut Seat<O>, at: usize) -> bool
     requires ours { seat.old.table_id ≡ shared.now.table_id }
     requires board { IsBoard shared.now.table_id }
     requires at { IsAt shared.now.table_id at }
@@ -301,7 +331,11 @@ pub(crate) fn is_posted(shared: &Shared, seat: &mut Seat, at: usize) -> bool
 /// Opens a record: takes the call that is posted there; `None` if there is none. The slot goes home at once, since a
 /// seat reaches only the slot that it took last.
 #[tactic(auto, using(crate::proofs::RecordKinds::session_of_its_word))]
-pub(crate) fn open_record(shared: &Shared, seat: &mut Seat, at: usize) -> Option<Call>
+pub(crate) fn open_record<O: Sequential>(
+    shared: &Shared<O>,
+    seat: &mut Seat<O>,
+    at: usize,
+) -> Option<O::Call>
     requires ours { seat.old.table_id ≡ shared.now.table_id }
     requires board { IsBoard shared.now.table_id }
     requires at { IsAt shared.now.table_id at }
@@ -325,16 +359,22 @@ pub(crate) fn open_record(shared: &Shared, seat: &mut Seat, at: usize) -> Option
 }
 
 /// Answers a call that the combiner opened: the reply goes into the record, and the call's entry joins the history.
-pub(crate) fn answer_record(shared: &Shared, seat: &mut Seat, at: usize, place: u64, reply: Reply)
+pub(crate) fn answer_record<O: Sequential>(
+    shared: &Shared<O>,
+    seat: &mut Seat<O>,
+    at: usize,
+    place: u64,
+    reply: O::Reply,
+)
     requires ours { seat.old.table_id ≡ shared.now.table_id }
     requires board { IsBoard shared.now.table_id }
     requires at { IsAt shared.now.table_id at }
     requires mine { IsCombiner seat.old.me.0 }
     requires place { (place ≡ length seat.old.me.0.front) × (place + 1 < 2 ^ 64) }
-    requires opened { opened_in seat.old.me.0 at ≡ Some (call_at seat.old.me.0 at) }
-    requires legal { IsLegal (seat.old.me.0.front ++ entry at (call_at seat.old.me.0 at) reply ∷ []) }
+    requires opened { opened_in seat.old.me.0 at ≡ Some (call_at O.Sequential seat.old.me.0 at) }
+    requires legal { O.is_legal (seat.old.me.0.front ++ entry at (call_at O.Sequential seat.old.me.0 at) reply ∷ []) }
     ensures ours { seat.new.table_id ≡ seat.old.table_id }
-    ensures step { seat.new.me ≡ (answering seat.old.me.0 at (call_at seat.old.me.0 at) reply, seat.old.me.1) }
+    ensures step { seat.new.me ≡ (answering seat.old.me.0 at (call_at O.Sequential seat.old.me.0 at) reply, seat.old.me.1) }
     ensures accounted { IsAccountedIn seat.new.me.0.front seat.new.me.0.number seat.new.me.0.own.collected seat.new.me.0.own.pending }
 {
     shared.load::<Pick>(seat, at * WORDS_APART);
@@ -343,7 +383,12 @@ pub(crate) fn answer_record(shared: &Shared, seat: &mut Seat, at: usize, place: 
 }
 
 /// Posts a call again that the combiner opened and hasn't performed.
-pub(crate) fn put_back_record(shared: &Shared, seat: &mut Seat, at: usize, call: Call)
+pub(crate) fn put_back_record<O: Sequential>(
+    shared: &Shared<O>,
+    seat: &mut Seat<O>,
+    at: usize,
+    call: O::Call,
+)
     requires ours { seat.old.table_id ≡ shared.now.table_id }
     requires board { IsBoard shared.now.table_id }
     requires at { IsAt shared.now.table_id at }
@@ -358,20 +403,20 @@ pub(crate) fn put_back_record(shared: &Shared, seat: &mut Seat, at: usize, call:
 }
 
 /// Enters a call of the combiner's own into the history, at a look at the lock word. No word is written. Needs a combiner
-/// with no call pending, and the reply that the sequential lock manager gives.
-pub(crate) fn enter_call<E: DirectEntry>(
-    shared: &Shared,
-    seat: &mut Seat,
-    _call: Call,
-    _reply: Reply,
+/// with no call pending, and the reply that the object gives.
+pub(crate) fn enter_call<O: Sequential, E: DirectEntry<O::Call, O::Reply>>(
+    shared: &Shared<O>,
+    seat: &mut Seat<O>,
+    _call: O::Call,
+    _reply: O::Reply,
 )
-    requires named { (_call ≡ E.call) × (_reply ≡ E.reply) }
+    requires named { (E.call ≡ Some _call) × (E.reply ≡ Some _reply) }
     requires ours { seat.old.table_id ≡ shared.now.table_id }
     requires board { IsBoard shared.now.table_id }
     requires mine { IsCombiner seat.old.me.0 }
     requires idle { (is_some seat.old.me.0.own.pending ≡ false) × (seat.old.me.0.own.retired ≡ false) }
     requires short { length seat.old.me.0.front + 1 < 2 ^ 64 }
-    requires legal { IsLegal (seat.old.me.0.front ++ entry seat.old.me.0.number _call _reply ∷ []) }
+    requires legal { O.is_legal (seat.old.me.0.front ++ entry seat.old.me.0.number _call _reply ∷ []) }
     ensures ours { seat.new.table_id ≡ seat.old.table_id }
     ensures step { seat.new.me ≡ (entering seat.old.me.0 _call _reply, seat.old.me.1) }
     ensures calls { calls_of seat.old.me.0.number seat.new.me.0.front ≡ seat.new.me.0.own.collected }
@@ -380,7 +425,7 @@ pub(crate) fn enter_call<E: DirectEntry>(
 }
 
 /// Splits off a new seat that knows what this one knows of the history and of published calls.
-pub(crate) fn split_copy(shared: &Shared, seat: &mut Seat) -> Seat
+pub(crate) fn split_copy<O: Sequential>(shared: &Shared<O>, seat: &mut Seat<O>) -> Seat<O>
     requires ours { seat.old.table_id ≡ shared.now.table_id }
     requires board { IsBoard shared.now.table_id }
     requires made { seat.old.me.0.others.all_made ≡ true }
@@ -393,21 +438,21 @@ pub(crate) fn split_copy(shared: &Shared, seat: &mut Seat) -> Seat
 
 /// Lets a session learn what a copy of another seat knows. The copy is joined into the session's seat; a load afterwards
 /// shows that both fronts begin the history, so the longer one is a front of it.
-pub(crate) fn heed_seat(shared: &Shared, seat: &mut Seat, copy: Seat)
+pub(crate) fn heed_seat<O: Sequential>(shared: &Shared<O>, seat: &mut Seat<O>, copy: Seat<O>)
     requires ours { (seat.old.table_id ≡ shared.now.table_id) × (copy.table_id ≡ shared.now.table_id) }
     requires board { IsBoard shared.now.table_id }
     requires session { 0 < seat.old.me.0.number }
     requires copy { copy.me ≡ (copy_of copy.me.0, []) }
     ensures ours { seat.new.table_id ≡ seat.old.table_id }
     ensures step { seat.new.me ≡ (hearing seat.old.me.0 copy.me.0, seat.old.me.1) }
-    ensures learned { Learned (joined seat.old.me.0 (copy_of copy.me.0)) }
+    ensures learned { Learned O.Sequential (joined seat.old.me.0 (copy_of copy.me.0)) }
 {
     shared.join_seat::<JoinCopy>(seat, copy);
     shared.load::<Learn>(seat, 0);
 }
 
 /// Lets a session learn what another seat knows: a copy is split off that seat, and heeded.
-pub(crate) fn hear_seat(shared: &Shared, seat: &mut Seat, other: &mut Seat)
+pub(crate) fn hear_seat<O: Sequential>(shared: &Shared<O>, seat: &mut Seat<O>, other: &mut Seat<O>)
     requires ours { (seat.old.table_id ≡ shared.now.table_id) × (other.old.table_id ≡ shared.now.table_id) }
     requires board { IsBoard shared.now.table_id }
     requires session { 0 < seat.old.me.0.number }
@@ -416,7 +461,7 @@ pub(crate) fn hear_seat(shared: &Shared, seat: &mut Seat, other: &mut Seat)
     ensures theirs { (other.new.table_id ≡ other.old.table_id) × (other.new.id ≡ other.old.id) }
     ensures other { other.new.me ≡ other.old.me }
     ensures step { seat.new.me ≡ (hearing seat.old.me.0 other.old.me.0, seat.old.me.1) }
-    ensures learned { Learned (joined seat.old.me.0 (copy_of other.old.me.0)) }
+    ensures learned { Learned O.Sequential (joined seat.old.me.0 (copy_of other.old.me.0)) }
 {
     let copy = split_copy(shared, other);
     heed_seat(shared, seat, copy);
@@ -425,7 +470,11 @@ pub(crate) fn hear_seat(shared: &Shared, seat: &mut Seat, other: &mut Seat)
 /// Shows a session that the longer front which another seat knows has the calls that the session collected, or those and
 /// its pending call. A copy of that front is joined into the session's seat, which learns nothing else; a load afterwards
 /// shows it.
-pub(crate) fn compare_fronts(shared: &Shared, seat: &mut Seat, other: &mut Seat)
+pub(crate) fn compare_fronts<O: Sequential>(
+    shared: &Shared<O>,
+    seat: &mut Seat<O>,
+    other: &mut Seat<O>,
+)
     requires ours { (seat.old.table_id ≡ shared.now.table_id) × (other.old.table_id ≡ shared.now.table_id) }
     requires board { IsBoard shared.now.table_id }
     requires session { 0 < seat.old.me.0.number }
@@ -444,7 +493,7 @@ pub(crate) fn compare_fronts(shared: &Shared, seat: &mut Seat, other: &mut Seat)
 }
 
 /// Closes the session's own record: it publishes no more calls.
-pub(crate) fn retire_record(shared: &Shared, seat: &mut Seat, at: usize)
+pub(crate) fn retire_record<O: Sequential>(shared: &Shared<O>, seat: &mut Seat<O>, at: usize)
     requires ours { seat.old.table_id ≡ shared.now.table_id }
     requires board { IsBoard shared.now.table_id }
     requires at { IsAt shared.now.table_id at }
@@ -458,12 +507,17 @@ pub(crate) fn retire_record(shared: &Shared, seat: &mut Seat, at: usize)
 
 /// Joins the seat of a session into the closing one. The session lays its record's slot down first, because a seat
 /// that is joined may carry no slot. Needs a session with no call pending that isn't the combiner.
-pub(crate) fn gather_seat(shared: &Shared, seat: &mut Seat, other: Seat, at: usize)
+pub(crate) fn gather_seat<O: Sequential>(
+    shared: &Shared<O>,
+    seat: &mut Seat<O>,
+    other: Seat<O>,
+    at: usize,
+)
     requires ours { (seat.old.table_id ≡ shared.now.table_id) × (other.table_id ≡ shared.now.table_id) }
     requires board { IsBoard shared.now.table_id }
     requires at { IsAt shared.now.table_id at }
     requires theirs { other.me.0.number ≡ at }
-    requires settled { (is_some other.me.0.own.pending ≡ false) × (other.me.0.combiner.has_book ≡ false) }
+    requires settled { (is_some other.me.0.own.pending ≡ false) × (other.me.0.combiner.has_object ≡ false) }
     requires carried { other.me.1 ≡ (at, SlotValue.Empty) ∷ [] }
     ensures ours { seat.new.table_id ≡ seat.old.table_id }
     ensures step { seat.new.me ≡ (gathered seat.old.me.0 other.me.0, seat.old.me.1) }

@@ -1,4 +1,4 @@
-/// Lock word: no session has the lock table. Any other value is the number of the session that has it.
+/// Lock word: no session has the object. Any other value is the number of the session that has it.
 pub const FREE: u64 = 0;
 
 /// Words from one record to the next: 64 bytes, so that two records share no cache line.

@@ -1,5 +1,8 @@
 //! The entries of a history, and the items of a batch.
 
+ghost use Rattle.std.specs.Prelude.{◌≡◌, ◌≤◌, true, false, All};
+ghost use Rattle.sequential.specs.Batches.{IsItemWithin};
+
 /// The greatest number of sessions of one object. Sessions are numbered from 1.
 pub const MAX_SESSIONS: u16 = 1024;
 
@@ -23,4 +26,17 @@ pub struct Item<C, R> {
     pub call: C,
     /// Where the reply is written. What is there before is not read.
     pub reply: Option<R>,
+}
+
+/// Whether the session of each item is from 1 to `sessions`, as batches need it.
+pub fn are_within<C: Copy, R: Copy>(items: &[Item<C, R>], sessions: u16) -> bool
+    ensures yes { result ≡ true → All (IsItemWithin sessions) items.now }
+    ensures no { result ≡ false → ¬ (All (IsItemWithin sessions) items.now) }
+{
+    for item in items {
+        if item.session < 1 || sessions < item.session {
+            return false;
+        }
+    }
+    true
 }

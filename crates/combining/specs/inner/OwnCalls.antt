@@ -3,7 +3,8 @@ use Rattle.std.specs.Prelude.{◌≡◌, ℕ, ◌+◌, Bool, cond, List, [], ◌
 use Rattle.lock_rules.specs.declared.calls.Call.{Call}
 use Rattle.lock_rules.specs.declared.calls.Reply.{Reply}
 use Rattle.lock_rules.specs.Entries.{Entry}
-use Rattle.publication.specs.Views.{TicketView, entry, answer}
+use Rattle.publication.specs.Views.{entry, answer}
+use Rattle.lock_board.specs.LockBoards.{TicketView}
 
 -- The call was performed and entered directly: its entry is the last one, and its answer is collected.
 pub record IsOwnEntered (before after : TicketView) (call : Call) (place : ℕ) (reply : Reply) : Type 0 where

@@ -7,11 +7,9 @@ use Rattle.sequential.specs.Histories.{calls_of}
 use Rattle.lock_desk.specs.Batches.{Item, ended_waits_in}
 use Rattle.lock_desk.specs.BookView.{BookView}
 use Rattle.sequential.specs.Batches.{IsItemWithin, item_of}
-use Rattle.publication.specs.Views.{TicketView}
+use Rattle.lock_board.specs.LockBoards.{TicketView, IsHome, Load}
 use Rattle.publication.specs.Boards.{opened_at, heard_from, published_by}
 use Rattle.publication.specs.List.{IsOn, behind}
-use Rattle.publication.specs.Rule.{IsHome}
-use Rattle.publication.specs.declared.slot.Load.{Load}
 use Rattle.combining.specs.Sessions.{HasTriedToList}
 
 -- The row has the call of each opened record exactly once: with the items closed one after another, no record is left
@@ -91,12 +89,12 @@ pub record HasMadePass (sessions : ℕ) (before after : TicketView) (load : Load
   pub is_tried : HasTriedToList before between
   pub session : after ≡ record between {
     front = after.front;
-    has_book = true;
+    has_object = true;
     route = after.route;
     put_backs = after.put_backs;
     taken = load.pieces.items;
   }
-  pub lacked : (between.has_book ≡ false) × (between.route ≡ []) × (between.taken ≡ [])
+  pub lacked : (between.has_object ≡ false) × (between.route ≡ []) × (between.taken ≡ [])
   pub others : List Entry
   pub own : List Entry
   pub front : after.front ≡ before.front ++ others ++ own

@@ -2,14 +2,14 @@
 
 ghost use Rattle.std.specs.Prelude.{◌≡◌, ◌≢◌, ◌+◌, ◌<◌, ◌≤◌, ◌↔◌, [], true, false, IsTrue, None, IfSome, IfNone, length};
 ghost use Rattle.sequential.specs.Histories.{calls_of};
-ghost use Rattle.publication.specs.Rule.{IsHome};
+ghost use Rattle.lock_board.specs.LockBoards.{IsHome};
 ghost use Rattle.publication.specs.Boards.{IsOf, OpensNone, HasCallsOf, heard_from};
 ghost use Rattle.combining.specs.Sessions.{IsSessionOf, IsPendingServed, HasTriedToList};
 ghost use Rattle.combining.specs.inner.Passes.{HasMadePass};
 
 use crate::office::{Office, Turn};
 use crate::pass::{MadePass, serve_published};
-use publication::Ticket as Session;
+use lock_board::Ticket as Session;
 
 impl Office {
     /// Tries once to have the session's pending call listed, if it has one that isn't.
@@ -31,7 +31,7 @@ impl Office {
         requires ours { IsSessionOf self.now session.old }
         ensures ours { IsOf self.now session.new }
         ensures made { IfSome result (λ made. HasMadePass self.now.sessions session.old session.new made.load.value made.pass.served) }
-        ensures has { IfSome result (λ made. (session.new.has_book ≡ true) × (session.new.taken ≡ made.load.value.pieces.items)) }
+        ensures has { IfSome result (λ made. (session.new.has_object ≡ true) × (session.new.taken ≡ made.load.value.pieces.items)) }
         ensures back { IfSome result (λ _. OpensNone session.new × (session.new.pending ≢ None → session.new.retired ≡ false)) }
         ensures none { IfNone result (IsSessionOf self.now session.new × HasTriedToList session.old session.new × (1 < self.now.sessions)) }
         ensures starved { IfSome result (λ made. IsTrue made.pass.starved ↔ (session.old.put_backs < session.new.put_backs)) }
@@ -49,12 +49,12 @@ impl Office {
 
     /// Gives the lock table back after a pass.
     pub(crate) fn end_pass(&self, session: &mut Session, made: MadePass) -> Turn
-        requires ours { IsOf self.now session.old × (session.old.has_book ≡ true) × OpensNone session.old }
+        requires ours { IsOf self.now session.old × (session.old.has_object ≡ true) × OpensNone session.old }
         requires live { session.old.pending ≢ None → session.old.retired ≡ false }
         requires home { IsHome session.old.front (self.now.sessions + 1) made.load.value }
         requires taken { session.old.taken ≡ made.load.value.pieces.items }
         ensures ours { IsSessionOf self.now session.new }
-        ensures session { session.new ≡ record session.old { has_book = false; route = []; taken = [] } }
+        ensures session { session.new ≡ record session.old { has_object = false; route = []; taken = [] } }
         ensures calls { HasCallsOf session.new.front session.new }
         ensures turn { result ≡ Turn.Pass made.pass.served made.pass.starved }
     {

@@ -9,8 +9,8 @@ ghost use Rattle.combining.specs.Ended.{AreToldBy};
 use crate::ended::Ended;
 use crate::office::{Answer, Office};
 use crate::own_call::{serve_with_own, serve_with_own_telling};
+use lock_board::Ticket as Session;
 use lock_desk::Call;
-use publication::Ticket as Session;
 
 /// The outcome of one call of `perform`.
 #[derive(Clone, Copy, Debug, PartialEq, Eq)]

@@ -15,8 +15,8 @@ ghost use Rattle.combining.specs.Queries.{HasLooked, blockers_among};
 ghost use Rattle.combining.specs.inner.Queries.{IsLooking, HasBegunToLook};
 
 use crate::office::Office;
+use lock_board::{Load, Ticket as Session};
 use lock_desk::{Book, Claim, Mode, NoMemory, Resource, Transaction};
-use publication::{Load, Ticket as Session};
 use std::alloc::Global;
 
 /// The answer to a question about the lock table of an open office.

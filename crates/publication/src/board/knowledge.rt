@@ -2,27 +2,27 @@
 
 ghost use Rattle.std.specs.Prelude.{◌≡◌, length, max, slice_index};
 ghost use mathlib.Core.List.{IsPrefix};
-ghost use Rattle.lock_rules.specs.Legal.{IsLegal};
 ghost use Rattle.publication.specs.Kinds.{longer, maxes};
 ghost use Rattle.publication.specs.Boards.{IsOf, HasCallsOf, heard_from, known_by};
 
 use crate::board::{Board, Ticket};
 use crate::steps;
 use crate::steps::Seat;
+use sequential::Sequential;
 use std::marker::Model;
 
 /// What a session knew when its knowledge was taken: a front of the history, and for each session the number of calls
 /// that it had heard of. It is a value of its own that can move to another thread.
 #[derive(Drop)]
-pub struct Knowledge {
-    seat: Seat,
+pub struct Knowledge<O: Sequential> {
+    seat: Seat<O>,
     seen: u64,
 }
 
-impl Model for Knowledge {
+impl<O: Sequential> Model for Knowledge<O> {
     ghost use Rattle.publication.specs.Views.{KnowledgeView};
 
-    ghost Value = { KnowledgeView };
+    ghost Value = { KnowledgeView O.Call O.Reply };
 
     ghost use Rattle.publication.specs.inner.Inside.{knowledge_view_of, IsCopy};
 
@@ -31,7 +31,7 @@ impl Model for Knowledge {
     ghost invariant = { IsCopy };
 }
 
-impl Knowledge {
+impl<O: Sequential> Knowledge<O> {
     /// The number of history entries that were known.
     pub fn seen(&self) -> u64
         ensures { result ≡ length self.now.front }
@@ -40,9 +40,9 @@ impl Knowledge {
     }
 }
 
-impl Board {
+impl<O: Sequential> Board<O> {
     /// What the session of `ticket` knows.
-    pub fn knowledge(&self, ticket: &mut Ticket) -> Knowledge
+    pub fn knowledge(&self, ticket: &mut Ticket<O>) -> Knowledge<O>
         requires ours { IsOf self.now ticket.old }
         ensures same { ticket.new ≡ ticket.old }
         ensures knowledge { result ≡ known_by ticket.old }
@@ -55,14 +55,14 @@ impl Board {
 
     /// Lets the session of `ticket` learn what `knowledge` says: the longer of both fronts of the history, and for each
     /// session the larger number of calls that either had heard of.
-    pub fn heed(&self, ticket: &mut Ticket, knowledge: Knowledge)
+    pub fn heed(&self, ticket: &mut Ticket<O>, knowledge: Knowledge<O>)
         requires ours { IsOf self.now ticket.old × (knowledge.board ≡ self.now.id) }
         ensures ticket { ticket.new ≡ record ticket.old {
           front = longer ticket.old.front knowledge.front;
           heard = maxes ticket.old.heard knowledge.heard;
         } }
         ensures fronts { IsPrefix ticket.old.front ticket.new.front × IsPrefix knowledge.front ticket.new.front }
-        ensures legal { IsLegal ticket.new.front }
+        ensures legal { O.is_legal ticket.new.front }
         ensures heard { (j : _) → heard_from ticket.new j ≡ max (heard_from ticket.old j) (slice_index knowledge.heard j) }
         ensures calls { HasCallsOf ticket.new.front ticket.new }
     {
@@ -73,7 +73,7 @@ impl Board {
 
     /// Lets the session of `ticket` learn what `other` knows: the longer of their fronts of the history, and for each
     /// session the larger number of calls that either has heard of. `other` learns nothing.
-    pub fn hear(&self, ticket: &mut Ticket, other: &mut Ticket)
+    pub fn hear(&self, ticket: &mut Ticket<O>, other: &mut Ticket<O>)
         requires ours { IsOf self.now ticket.old × IsOf self.now other.old }
         ensures other { other.new ≡ other.old }
         ensures ticket { ticket.new ≡ record ticket.old {
@@ -81,7 +81,7 @@ impl Board {
           heard = maxes ticket.old.heard other.old.heard;
         } }
         ensures fronts { IsPrefix ticket.old.front ticket.new.front × IsPrefix other.old.front ticket.new.front }
-        ensures legal { IsLegal ticket.new.front }
+        ensures legal { O.is_legal ticket.new.front }
         ensures heard { (j : _) → heard_from ticket.new j ≡ max (heard_from ticket.old j) (heard_from other.old j) }
         ensures calls { HasCallsOf ticket.new.front ticket.new × HasCallsOf ticket.new.front other.new }
     {

@@ -1,5 +1,5 @@
 use Rattle.std.proofs.Common.{◌≡◌, subst}
-use Rattle.publication.specs.Views.{TicketView}
+use Rattle.lock_board.specs.LockBoards.{TicketView}
 use Rattle.combining.specs.Sessions.{IsPerformed}
 use Rattle.combining.proofs.calling.perform_soon.Goals as goal
 

@@ -1,5 +1,5 @@
 use Rattle.std.proofs.Common.{rules, ◌≡◌, ◌∙◌, ⊎_elim, inl, inr, ◌<◌, ℕ, List, length, sym, ap, subst}
-use Rattle.publication.specs.Views.{TicketView}
+use Rattle.lock_board.specs.LockBoards.{TicketView}
 use Rattle.publication.specs.List.{IsOn, first_of, behind, without}
 use Rattle.combining.proofs.CleanUpWalk.{off-shorter, on-shorter, off-left, off-first}
 use Rattle.combining.proofs.clean_up.unlink_if_unused.Goals as goal

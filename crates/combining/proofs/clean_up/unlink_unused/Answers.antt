@@ -1,5 +1,5 @@
 use Rattle.std.proofs.Common.{rules, ◌≡◌, ◌∙◌, ◌⊎◌, inl, ℕ, true, List, refl, sym, ap, subst, arith}
-use Rattle.publication.specs.Views.{TicketView}
+use Rattle.lock_board.specs.LockBoards.{TicketView}
 use Rattle.publication.specs.List.{IsOn, first_of, behind}
 use Rattle.combining.proofs.CleanUpWalk.{next-number, first-number, cleaned-more}
 use Rattle.combining.proofs.clean_up.unlink_unused.Goals as goal

@@ -1,6 +1,7 @@
 use Rattle.std.proofs.Common.{◌≡◌, ◌+◌, List, length, ap, arith, length-append, ◌∷◌, []}
 use Rattle.lock_rules.specs.Entries.{Entry}
-use Rattle.publication.specs.Views.{TicketView, entry}
+use Rattle.publication.specs.Views.{entry}
+use Rattle.lock_board.specs.LockBoards.{TicketView}
 use Rattle.combining.proofs.EndedWaits.{told-since, step-told}
 use Rattle.combining.proofs.OwnCalls.{entered-longer}
 use Rattle.combining.proofs.own_call.perform_own_telling.Goals as goal

@@ -1,7 +1,7 @@
 use Rattle.std.proofs.Common.{rules, ◌≡◌, ◌<◌, ◌++◌, length, vec_len, vec_capacity, ◌∷◌, get_or, ℕ, List, Some, None, set, take, drop, sym, ap, ◌∙◌, subst, arith}
 use Rattle.lock_desk.specs.Batches.{Item}
 use Rattle.sequential.specs.Batches.{IsItemWithin}
-use Rattle.publication.specs.Views.{TicketView}
+use Rattle.lock_board.specs.LockBoards.{TicketView}
 use Rattle.publication.specs.Boards.{opened_at}
 use Rattle.combining.specs.inner.Passes.{AreOpened}
 use Rattle.combining.proofs.OpenedRow.{Calls, opened-insert, opened-in_range}

@@ -1,5 +1,5 @@
 use Rattle.std.proofs.Common.{◌≡◌, ◌+◌, ◌∙◌, ℕ, Option, List, sym, ap, subst, arith}
-use Rattle.publication.specs.Views.{TicketView}
+use Rattle.lock_board.specs.LockBoards.{TicketView}
 use Rattle.publication.specs.List.{IsOn, first_of, behind}
 use Rattle.publication.specs.Kinds.{IsRoute}
 use Rattle.combining.specs.inner.Passes.{AreOpened, KeepsCalls, HasVisitedOpened, IsSameSession, IsNext, HasMet}

@@ -4,7 +4,7 @@ use Rattle.lock_rules.specs.Entries.{Entry}
 use Rattle.lock_desk.specs.Batches.{Item}
 use Rattle.sequential.specs.Batches.{IsItemWithin}
 use Rattle.combining.specs.inner.Ages.{sessions_of, sessions_since, noted}
-use Rattle.publication.specs.Views.{TicketView}
+use Rattle.lock_board.specs.LockBoards.{TicketView}
 use Rattle.combining.proofs.SameSession.{after_row}
 use Rattle.combining.proofs.CleanUpWalk.{first-within}
 use Rattle.combining.proofs.pass.serve_opened.Goals as goal

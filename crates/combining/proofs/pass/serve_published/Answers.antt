@@ -1,6 +1,6 @@
 use Rattle.std.proofs.Common.{rules, ◌≡◌, ◌≤◌, ◌∙◌, ℕ, List, get_or, length, subst, arith, sym, ap}
 use Rattle.lock_rules.specs.Entries.{Entry}
-use Rattle.publication.specs.Views.{TicketView}
+use Rattle.lock_board.specs.LockBoards.{TicketView}
 use Rattle.combining.specs.inner.Ages.{sessions_since, noted}
 use Rattle.combining.proofs.NotedAges.{noted-past}
 use Rattle.combining.proofs.PerformedCalls.{in-hand}

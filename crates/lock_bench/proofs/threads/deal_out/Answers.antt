@@ -1,7 +1,8 @@
 use Rattle.std.proofs.Common.{rules, List, Option, IfSome, subst}
 use Rattle.std.specs.List.{All}
 use Rattle.std.proofs.lemmas.List.Elements.{All-pop, All-push}
-use Rattle.publication.specs.Views.{BoardView, TicketView}
+use Rattle.publication.specs.Views.{BoardView}
+use Rattle.lock_board.specs.LockBoards.{TicketView}
 use Rattle.combining.specs.Sessions.{IsSessionOf, IsIdle}
 use Rattle.lock_bench.specs.declared.threads.Job.{Job}
 use Rattle.lock_bench.proofs.threads.deal_out.Goals as goal

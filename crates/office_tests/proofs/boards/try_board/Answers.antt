@@ -1,5 +1,5 @@
 use Rattle.std.proofs.Common.{◌≡◌, ℕ, Result, Ok, Err, IfOk, subst}
-use Rattle.publication.specs.Boards.{new_tickets}
+use Rattle.lock_board.specs.LockBoards.{new_tickets}
 use Rattle.office_tests.proofs.boards.try_board.Goals as goal
 
 -- two things that hold of what was made hold of it together

@@ -10,11 +10,11 @@ use Rattle.publication.proofs.SessionKinds.{start_kept}
 use Rattle.publication.proofs.board.enrol.Goals as goal
 
 pub load-requires : goal.load-requires
-load-requires c = let n = c.args.sessions in let number = c.args.number in let slots = c.args.shared.now.table_id.slots in let id = c.hear_seat.new.seat.id in
-    let v : View = hearing (new_session (n + 1) number) (maker (n + 1) n) in
-    let after : c.hear_seat.new.seat.me ≡ (v, []) = c.hear_seat.ensures.step ∙ (ap (λ (m : Seated). (hearing m.0 c.args.first.now.me.0, m.1)) c.requires.new ∙ ap (λ (m : Seated). (hearing (new_session (n + 1) number) m.0, [])) c.requires.made) in (
+load-requires g c = let n = c.args.sessions in let number = c.args.number in let slots = c.args.shared.now.table_id.slots in let id = c.hear_seat.new.seat.id in
+    let v : View _ _ = hearing (new_session (n + 1) number) (maker (n + 1) n) in
+    let after : c.hear_seat.new.seat.me ≡ (v, []) = c.hear_seat.ensures.step ∙ (ap (λ (m : Seated _ _ _). (hearing m.0 c.args.first.now.me.0, m.1)) c.requires.new ∙ ap (λ (m : Seated _ _ _). (hearing (new_session (n + 1) number) m.0, [])) c.requires.made) in (
       search rules,
       search rules,
-      rw c.from.ensures (subst (λ (m : Seated). Allows IsRuled slots id m (word_of number) (λ y. y) (starts (step slots (word_of number) 0 0 opt.none) m)) (sym after)
+      rw c.from.ensures (subst (λ (m : Seated _ _ _). Allows (IsRuled g.O.Sequential) slots id m (word_of number) (λ y. y) (starts (step slots (word_of number) 0 0 opt.none) m)) (sym after)
           (start_kept slots id number v [] refl c.requires.number.0 refl refl refl)),
     )

@@ -2,13 +2,13 @@ use Rattle.publication.proofs.RealTime.{step-unchanged, step-joins, step-enters,
 use Rattle.publication.proofs.laws.only_answers_and_direct_entries_change_the_history.Goals as goal
 
 pub returns-clause-others : goal.returns-clause-others
-returns-clause-others c = step-unchanged
+returns-clause-others g c = step-unchanged
 
 pub returns-clause-answers : goal.returns-clause-answers
-returns-clause-answers c = step-joins
+returns-clause-answers g c = step-joins
 
 pub returns-clause-entries : goal.returns-clause-entries
-returns-clause-entries c = step-enters
+returns-clause-entries g c = step-enters
 
 pub returns-clause-seats : goal.returns-clause-seats
-returns-clause-seats c = seats-unchanged
+returns-clause-seats g c = seats-unchanged

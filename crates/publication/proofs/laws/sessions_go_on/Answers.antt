@@ -2,4 +2,4 @@ use Rattle.publication.proofs.SessionsGoOn.{goes-on}
 use Rattle.publication.proofs.laws.sessions_go_on.Goals as goal
 
 pub returns : goal.returns
-returns c = goes-on
+returns g c = goes-on

@@ -2,16 +2,16 @@ use Rattle.publication.proofs.ListLaws.{one_chain, ruled_list, one_list, opens_w
 use Rattle.publication.proofs.list_laws.a_state_has_one_publication_list.Goals as goal
 
 pub returns-clause-some : goal.returns-clause-some
-returns-clause-some c s r = (r.list.list, ruled_list s r.list)
+returns-clause-some g c s r = (r.list.list, ruled_list s r.list)
 
 pub returns-clause-one : goal.returns-clause-one
-returns-clause-one c = one_list
+returns-clause-one g c = one_list
 
 pub returns-clause-chains : goal.returns-clause-chains
-returns-clause-chains c = one_chain
+returns-clause-chains g c = one_chain
 
 pub returns-clause-opens : goal.returns-clause-opens
-returns-clause-opens c = opens_with_room
+returns-clause-opens g c = opens_with_room
 
 pub returns-clause-stays : goal.returns-clause-stays
-returns-clause-stays c s t r leads = run_keeps r leads
+returns-clause-stays g c s t r leads = run_keeps r leads

@@ -12,20 +12,20 @@ use Rattle.publication.proofs.Gathering.{each_pushed}
 use Rattle.publication.proofs.new_board.split_all.Goals as goal
 
 pub split_seat-requires : goal.split_seat-requires
-split_seat-requires c = let first = c.loop-made.first in let i = c.loop-made.invariant in let n = c.args.sessions in (
+split_seat-requires g c = let first = c.loop-made.first in let i = c.loop-made.invariant in let n = c.args.sessions in (
   search rules,
   search rules,
-  subst (λ (v : View). Splits IsRuled first.id v (maker v.slots (v.made + 1)) (new_session v.slots (v.made + 1))) (sym (ap (λ (m : Seated). m.0) i.2)) (enrols first.id (n + 1) c.loop-made._made i.1 (omega (arith, c.loop-made-test.true))),
+  subst (λ (v : View _ _). Splits (IsRuled g.O.Sequential) first.id v (maker v.slots (v.made + 1)) (new_session v.slots (v.made + 1))) (sym (ap (λ (m : Seated _ _ _). m.0) i.2)) (enrols first.id (n + 1) c.loop-made._made i.1 (omega (arith, c.loop-made-test.true))),
 )
 
 pub loop-made-preserved : goal.loop-made-preserved
-loop-made-preserved c = let i = c.loop-made.invariant in let n = c.args.sessions in let made = c.loop-made._made in let seat = c.split_seat.result in let seats = c.loop-made.seats.items in
-    let new : seat.me ≡ (new_session (n + 1) (made + 1), []) = c.split_seat.ensures.4 ∙ ap (λ (m : Seated). (new_session m.0.slots (m.0.made + 1), [])) i.2 in
+loop-made-preserved g c = let i = c.loop-made.invariant in let n = c.args.sessions in let made = c.loop-made._made in let seat = c.split_seat.result in let seats = c.loop-made.seats.items in
+    let new : seat.me ≡ (new_session (n + 1) (made + 1), []) = c.split_seat.ensures.4 ∙ ap (λ (m : Seated _ _ _). (new_session m.0.slots (m.0.made + 1), [])) i.2 in
     let pushed : c.push.new.self.items ≡ seats ++ seat ∷ [] = search rules in (
       search rules,
       search rules,
-      c.split_seat.ensures.2 ∙ ap (λ (m : Seated). (maker m.0.slots (m.0.made + 1), m.1)) i.2,
-      omega (arith, i.3, ap (λ (l : List (Seat SlotValue View)). length l) pushed, length-append seats (seat ∷ [])),
+      c.split_seat.ensures.2 ∙ ap (λ (m : Seated _ _ _). (maker m.0.slots (m.0.made + 1), m.1)) i.2,
+      omega (arith, i.3, ap (λ (l : List (Seat (SlotValue _ _ _) (View _ _))). length l) pushed, length-append seats (seat ∷ [])),
       subst (AreNewSeats c.args.shared.now.table_id (n + 1)) (sym pushed)
-          (each_pushed (λ k (s : Seat SlotValue View). (s.table_id ≡ c.args.shared.now.table_id) × (s.me ≡ (new_session (n + 1) (k + 1), []))) seats seat i.4 (search rules, subst (λ (k : ℕ). seat.me ≡ (new_session (n + 1) (k + 1), [])) (sym i.3) new)),
+          (each_pushed (λ k (s : Seat (SlotValue _ _ _) (View _ _)). (s.table_id ≡ c.args.shared.now.table_id) × (s.me ≡ (new_session (n + 1) (k + 1), []))) seats seat i.4 (search rules, subst (λ (k : ℕ). seat.me ≡ (new_session (n + 1) (k + 1), [])) (sym i.3) new)),
     )

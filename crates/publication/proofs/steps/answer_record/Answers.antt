@@ -11,33 +11,33 @@ use Rattle.publication.proofs.Lists.{there_at}
 use Rattle.publication.proofs.steps.answer_record.Goals as goal
 
 pub load-requires : goal.load-requires
-load-requires c =
+load-requires g c =
     let m = c.args.seat.now.me in
     let at = c.args.at in
     let mine = c.requires.mine in
-    let there = there_at m.0.combiner.opened at (call_at m.0 at) c.requires.opened in
-    (search rules, search rules, pick_kept c.args.shared.now.table_id.slots c.args.seat.now.id m.0 mine.session mine.book at c.requires.at.some c.requires.at.there (call_at m.0 at) there m.1 mine.empty)
+    let there = there_at m.0.combiner.opened at (call_at g.O.Sequential m.0 at) c.requires.opened in
+    (search rules, search rules, pick_kept c.args.shared.now.table_id.slots c.args.seat.now.id m.0 mine.session mine.book at c.requires.at.some c.requires.at.there (call_at g.O.Sequential m.0 at) there m.1 mine.empty)
 
 pub store-requires : goal.store-requires
-store-requires c =
+store-requires g c =
     let m = c.args.seat.now.me in
     let at = c.args.at in
     let slots = c.args.shared.now.table_id.slots in
     let id = c.exchange.new.seat.id in
-    let held : SlotValue = ServedReply c.args.place c.args.reply in
-    let there = there_at m.0.combiner.opened at (call_at m.0 at) c.requires.opened in
+    let held : SlotValue _ _ _ = ServedReply c.args.place c.args.reply in
+    let there = there_at m.0.combiner.opened at (call_at g.O.Sequential m.0 at) c.requires.opened in
     let after = in_hand_with at m c.load.new.seat.me c.exchange.new.seat.me held c.load.ensures.2 c.exchange.ensures.3 in (
       search rules,
       search rules,
-      subst (λ (x : Seated). Allows IsRuled slots id x (word_of at) (λ _. SERVED) (λ _. answers (step slots (word_of at) SERVED 0 opt.none) x SERVED)) (sym after)
-          (answer_kept slots id (in_hand m.0 at) c.requires.mine.session refl at c.requires.at.some c.requires.at.there (call_at m.0 at) there m.1 c.args.place c.args.reply refl
+      subst (λ (x : Seated _ _ _). Allows (IsRuled g.O.Sequential) slots id x (word_of at) (λ _. SERVED) (λ _. answers g.O.Sequential (step slots (word_of at) SERVED 0 opt.none) x SERVED)) (sym after)
+          (answer_kept slots id (in_hand m.0 at) c.requires.mine.session refl at c.requires.at.some c.requires.at.there (call_at g.O.Sequential m.0 at) there m.1 c.args.place c.args.reply refl
           c.requires.place.0 c.requires.legal (omega (arith, c.requires.place.0, c.requires.place.1))),
     )
 
 pub returns-clause-step : goal.returns-clause-step
-returns-clause-step c =
+returns-clause-step g c =
     let m = c.args.seat.now.me in
     let at = c.args.at in
-    let held : SlotValue = ServedReply c.args.place c.args.reply in
+    let held : SlotValue _ _ _ = ServedReply c.args.place c.args.reply in
     let after = in_hand_with at m c.load.new.seat.me c.exchange.new.seat.me held c.load.ensures.2 c.exchange.ensures.3 in
-    c.store.ensures.2.0 ∙ ap (λ (x : Seated). (answering x.0 x.0.combiner.hand (call_at x.0 x.0.combiner.hand) (replied x.1), rest x.1)) after
+    c.store.ensures.2.0 ∙ ap (λ (x : Seated _ _ _). (answering x.0 x.0.combiner.hand (call_at g.O.Sequential x.0 x.0.combiner.hand) (replied g.O.Sequential x.1), rest x.1)) after

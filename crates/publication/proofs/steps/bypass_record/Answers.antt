@@ -10,7 +10,7 @@ use Rattle.publication.proofs.UnlinkKinds.{unlink_kept}
 use Rattle.publication.proofs.steps.bypass_record.Goals as goal
 
 pub load-next-requires : goal.load-next-requires
-load-next-requires c =
+load-next-requires g c =
     let m = c.args.seat.now.me in
     let mine = c.requires.mine.0 in
     let route = m.0.listing.route in
@@ -19,7 +19,7 @@ load-next-requires c =
     (search rules, search rules, walk_on_kept c.args.shared.now.table_id.slots c.args.seat.now.id m.0 m.1 mine.session mine.book c.args.whose on)
 
 pub store-requires : goal.store-requires
-store-requires c =
+store-requires g c =
     let m = c.args.seat.now.me in
     let n = c.args.shared.now.table_id.slots in
     let id = c.load-next.new.seat.id in
@@ -30,18 +30,18 @@ store-requires c =
     let t = subst (λ (k : ℕ). walks_on_from n k m next c.load-next.new.seat.me) (session_of_its_link whose) c.load-next.ensures.2 in (
       search rules,
       search rules,
-      subst (λ (x : Seated). Allows IsRuled n id x (link_of before) (λ _. next) (λ _. unlinks (step n (link_of before) next 0 opt.none) x next)) (sym t.0)
+      subst (λ (x : Seated _ _ _). Allows (IsRuled g.O.Sequential) n id x (link_of before) (λ _. next) (λ _. unlinks (step n (link_of before) next 0 opt.none) x next)) (sym t.0)
           (unlink_kept n id m.0 m.1 mine.session mine.book before whose next c.requires.mine.1 c.requires.before.1 c.requires.whose.1 t.1),
     )
 
 pub returns-clause-step : goal.returns-clause-step
-returns-clause-step c =
+returns-clause-step g c =
     let m = c.args.seat.now.me in
     let t = subst (λ (k : ℕ). walks_on_from c.args.shared.now.table_id.slots k m c.load-next.result c.load-next.new.seat.me) (session_of_its_link c.args.whose) c.load-next.ensures.2 in
     subst (λ (k : ℕ). c.store.new.seat.me ≡ (bypassing c.load-next.new.seat.me.0 k, c.load-next.new.seat.me.1)) (session_of_its_link c.args.before) c.store.ensures.2
-    ∙ ap (λ (x : Seated). (bypassing x.0 c.args.before, x.1)) t.0
+    ∙ ap (λ (x : Seated _ _ _). (bypassing x.0 c.args.before, x.1)) t.0
 
 pub returns-clause-apart : goal.returns-clause-apart
-returns-clause-apart c =
+returns-clause-apart g c =
     let m = c.args.seat.now.me in
     let t = subst (λ (k : ℕ). walks_on_from c.args.shared.now.table_id.slots k m c.load-next.result c.load-next.new.seat.me) (session_of_its_link c.args.whose) c.load-next.ensures.2 in t.2.apart

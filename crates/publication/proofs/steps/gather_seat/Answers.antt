@@ -11,20 +11,20 @@ use Rattle.publication.proofs.SplitsAndJoins.{gathers}
 use Rattle.publication.proofs.steps.gather_seat.Goals as goal
 
 pub load-requires : goal.load-requires
-load-requires c = let m = c.args.other.me in let at = c.args.at in let n = c.args.shared.now.table_id.slots in let id = c.args.other.id in (
+load-requires g c = let m = c.args.other.me in let at = c.args.at in let n = c.args.shared.now.table_id.slots in let id = c.args.other.id in (
   search rules,
   search rules,
-  subst (λ (l : List (ℕ × SlotValue)). Allows IsRuled n id (m.0, l) (word_of at) (λ y. y) (leaves (step n (word_of at) 0 0 opt.none) (m.0, l))) (sym c.requires.carried)
+  subst (λ (l : List (ℕ × SlotValue _ _ _)). Allows (IsRuled g.O.Sequential) n id (m.0, l) (word_of at) (λ y. y) (leaves (step n (word_of at) 0 0 opt.none) (m.0, l))) (sym c.requires.carried)
       (leave_kept n id at m.0 [] c.requires.theirs c.requires.at.some c.requires.settled.0),
 )
 
 pub join_seat-requires : goal.join_seat-requires
-join_seat-requires c = let v = c.args.seat.now.me.0 in let w = c.args.other.me.0 in let id = c.load.new.seat.id in
-    let after : c.load.new.seat.me ≡ (leaving w, []) = c.load.ensures.2 ∙ ap (λ (l : List (ℕ × SlotValue)). (leaving w, rest l)) c.requires.carried in
+join_seat-requires g c = let v = c.args.seat.now.me.0 in let w = c.args.other.me.0 in let id = c.load.new.seat.id in
+    let after : c.load.new.seat.me ≡ (leaving w, []) = c.load.ensures.2 ∙ ap (λ (l : List (ℕ × SlotValue _ _ _)). (leaving w, rest l)) c.requires.carried in
     let named : w.number ≢ 0 = λ e. omega (arith, c.requires.theirs, c.requires.at.some) in (
       search rules,
       search rules,
-      ap (λ (x : Seated). x.1) after,
+      ap (λ (x : Seated _ _ _). x.1) after,
       search rules,
-      subst (λ (x : Seated). Joins IsRuled c.args.seat.now.id v id x.0 (gathered v x.0) blank) (sym after) (gathers c.args.seat.now.id v id (leaving w) named refl c.requires.settled.1),
+      subst (λ (x : Seated _ _ _). Joins (IsRuled g.O.Sequential) c.args.seat.now.id v id x.0 (gathered v x.0) blank) (sym after) (gathers c.args.seat.now.id v id (leaving w) named refl c.requires.settled.1),
     )

@@ -3,5 +3,5 @@ use Rattle.publication.proofs.LockKinds.{look_at_lock_kept}
 use Rattle.publication.proofs.steps.is_free.Goals as goal
 
 pub load-requires : goal.load-requires
-load-requires c = let m = c.args.seat.now.me in let mine = c.requires.mine in
+load-requires g c = let m = c.args.seat.now.me in let mine = c.requires.mine in
     (search rules, search rules, look_at_lock_kept c.args.shared.now.table_id.slots c.args.seat.now.id m.0.number m.0 m.1 refl (omega arith))

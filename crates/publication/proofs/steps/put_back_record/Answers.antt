@@ -11,7 +11,7 @@ use Rattle.publication.proofs.Lists.{there_at}
 use Rattle.publication.proofs.steps.put_back_record.Goals as goal
 
 pub load-requires : goal.load-requires
-load-requires c =
+load-requires g c =
     let m = c.args.seat.now.me in
     let at = c.args.at in
     let mine = c.requires.mine in
@@ -20,16 +20,16 @@ load-requires c =
 
 -- The names are the same as for `answer_record`; the goals differ.
 pub store-requires : goal.store-requires
-store-requires c =
+store-requires g c =
     let m = c.args.seat.now.me in
     let at = c.args.at in
     let slots = c.args.shared.now.table_id.slots in
     let id = c.exchange.new.seat.id in
-    let held : SlotValue = PostedCall c.args.call in
+    let held : SlotValue _ _ _ = PostedCall c.args.call in
     let there = there_at m.0.combiner.opened at c.args.call c.requires.opened in
     let after = in_hand_with at m c.load.new.seat.me c.exchange.new.seat.me held c.load.ensures.2 c.exchange.ensures.3 in (
       search rules,
       search rules,
-      subst (λ (x : Seated). Allows IsRuled slots id x (word_of at) (λ _. POSTED) (λ _. puts_back (step slots (word_of at) POSTED 0 opt.none) x POSTED)) (sym after)
+      subst (λ (x : Seated _ _ _). Allows (IsRuled g.O.Sequential) slots id x (word_of at) (λ _. POSTED) (λ _. puts_back (step slots (word_of at) POSTED 0 opt.none) x POSTED)) (sym after)
           (put_back_kept slots id (in_hand m.0 at) c.requires.mine.session refl at c.requires.at.some c.requires.at.there c.args.call there m.1 refl),
     )

@@ -9,9 +9,9 @@ use Rattle.publication.proofs.Lists.{none_there}
 use Rattle.publication.proofs.steps.release_load.Goals as goal
 
 pub store-requires : goal.store-requires
-store-requires c = let v = c.args.seat.now.me.0 in let n = c.args.shared.now.table_id.slots in let id = c.exchange.new.seat.id in (
+store-requires g c = let v = c.args.seat.now.me.0 in let n = c.args.shared.now.table_id.slots in let id = c.exchange.new.seat.id in (
   search rules,
   search rules,
-  subst (λ (m : Seated). Allows IsRuled n id m 0 (λ _. FREE) (λ _. releases (step n 0 FREE 0 opt.none) m FREE)) (sym c.exchange.ensures.3)
+  subst (λ (m : Seated _ _ _). Allows (IsRuled g.O.Sequential) n id m 0 (λ _. FREE) (λ _. releases (step n 0 FREE 0 opt.none) m FREE)) (sym c.exchange.ensures.3)
       (release_kept n id v c.requires.mine.0 c.requires.mine.1 c.args.load (rest c.args.seat.now.me.1) c.requires.home c.requires.took (λ j call. none_there v.combiner.opened j call (c.requires.none j)) c.requires.whole),
 )

@@ -2,20 +2,20 @@ use Rattle.std.proofs.Common.{rules, ◌≡◌, ◌∷◌, ◌∙◌, ℕ, List,
 use Rattle.atomic_table.specs.Table.{rest}
 use Rattle.publication.specs.Kinds.{Seated}
 use Rattle.publication.specs.declared.slot.SlotValue.{SlotValue}
-use Rattle.publication.specs.declared.slot.SlotValue.TheVariants.{LockTable}
+use Rattle.publication.specs.declared.slot.SlotValue.TheVariants.{ObjectLoad}
 use Rattle.publication.proofs.LockKinds.{seize_kept}
 use Rattle.publication.proofs.steps.seize_load.Goals as goal
 
 pub compare_exchange-found-requires : goal.compare_exchange-found-requires
-compare_exchange-found-requires c =
+compare_exchange-found-requires g c =
     let seat = c.is_free.new.seat in
-    let mine : seat.me.0.number ≡ c.args.number = ap (λ (m : Seated). m.0.number) c.is_free.ensures.same ∙ c.requires.mine.0 in
+    let mine : seat.me.0.number ≡ c.args.number = ap (λ (m : Seated _ _ _). m.0.number) c.is_free.ensures.same ∙ c.requires.mine.0 in
     (search rules, search rules, seize_kept c.args.shared.now.table_id.slots seat.id c.args.number seat.me.0 seat.me.1 mine c.requires.mine.1)
 
 pub exchange-requires : goal.exchange-requires
-exchange-requires c =
+exchange-requires g c =
     let m = c.is_free.new.seat.me in
     let t = c.compare_exchange-found.ensures.2.0 (search rules) in
-    let held : SlotValue = LockTable t.0 in
-    let out : c.compare_exchange-found.new.seat.me.1 ≡ (0, held) ∷ m.1 = ap (λ (x : Seated). x.1) t.1 in
-    (search rules, (held, out ∙ ap (λ (l : List (ℕ × SlotValue)). (0, held) ∷ rest l) (sym out)))
+    let held : SlotValue _ _ _ = ObjectLoad t.0 in
+    let out : c.compare_exchange-found.new.seat.me.1 ≡ (0, held) ∷ m.1 = ap (λ (x : Seated _ _ _). x.1) t.1 in
+    (search rules, (held, out ∙ ap (λ (l : List (ℕ × SlotValue _ _ _)). (0, held) ∷ rest l) (sym out)))

@@ -1,7 +1,8 @@
 use Rattle.std.proofs.Common.{rules, List, subst}
 use Rattle.std.specs.Prelude.{All}
 use Rattle.sequential.specs.Histories.{IsEntryWithin}
-use Rattle.publication.specs.Views.{BoardView, TicketView}
+use Rattle.publication.specs.Views.{BoardView}
+use Rattle.lock_board.specs.LockBoards.{TicketView}
 use Rattle.publication.specs.Boards.{IsEachOnce, IsSettled, AccountsFor}
 use Rattle.combining.specs.Closed.{IsClosed}
 use Rattle.combining.proofs.AnswerCount.{counted}

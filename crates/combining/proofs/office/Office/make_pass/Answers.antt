@@ -1,7 +1,7 @@
 use Rattle.std.proofs.Common.{rules, ◌≡◌, ◌∙◌, ◌+◌, ◌<◌, ◌++◌, List, length, length-append, sym, ap, arith}
 use mathlib.Core.List.{IsPrefix}
 use Rattle.lock_rules.specs.Entries.{Entry}
-use Rattle.publication.specs.Views.{TicketView}
+use Rattle.lock_board.specs.LockBoards.{TicketView}
 use Rattle.combining.specs.inner.Passes.{ended_behind}
 use Rattle.combining.proofs.EndedWaits.{own-ended}
 use Rattle.combining.proofs.TakenPieces.{made, tried-front, tried-rest}

@@ -1,6 +1,6 @@
 use Rattle.std.proofs.Common.{List, sym, subst}
 use Rattle.std.specs.List.{All}
-use Rattle.publication.specs.Views.{TicketView}
+use Rattle.lock_board.specs.LockBoards.{TicketView}
 use Rattle.combining.specs.Sessions.{IsSessionOf, IsIdle}
 use Rattle.combining.proofs.NewSessions.{new_sessions_idle}
 use Rattle.combining.proofs.office.Office.open_keeping.Goals as goal

@@ -2,9 +2,10 @@ use Rattle.std.proofs.Common.{◌≡◌, ◌+◌, ℕ, Option, IfSome, List, len
 use mathlib.Core.List.{IsPrefix}
 use Rattle.lock_rules.specs.Entries.{Entry}
 use Rattle.lock_rules.specs.declared.calls.Reply.{Reply}
-use Rattle.publication.specs.Views.{BoardView, TicketView}
+use Rattle.publication.specs.Views.{BoardView}
+use Rattle.lock_board.specs.LockBoards.{TicketView}
 use Rattle.combining.specs.Ended.{EndedView, AreToldBy}
-use Rattle.combining.specs.Sessions.{makes_room}
+use Rattle.lock_desk.specs.Batches.{makes_room}
 use Rattle.combining.specs.inner.OwnCalls.{IsPassWithOwn}
 use Rattle.combining.specs.inner.EndedList.{HasAddedEnded}
 use Rattle.combining.proofs.EndedWaits.{all-told}

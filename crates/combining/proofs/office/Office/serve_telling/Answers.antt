@@ -1,7 +1,6 @@
 use Rattle.std.proofs.Common.{rules, ◌≡◌, ◌<◌, ◌↔◌, ◌++◌, ◌⊎◌, ℕ, ap, subst, arith}
 use Rattle.std.specs.List.{Contains}
-use Rattle.publication.specs.Views.{TicketView}
-use Rattle.publication.specs.declared.slot.Load.{Load}
+use Rattle.lock_board.specs.LockBoards.{TicketView, Load}
 use Rattle.combining.specs.Ended.{EndedView, AreToldBy}
 use Rattle.combining.specs.Sessions.{IsPassed}
 use Rattle.combining.proofs.EndedWaits.{pass-told, told-within, into-empty, once-empty}

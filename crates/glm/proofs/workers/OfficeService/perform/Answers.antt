@@ -1,5 +1,5 @@
 use Rattle.std.proofs.Common.{ap, sym, ◌∙◌, length}
-use Rattle.publication.specs.Views.{TicketView}
+use Rattle.lock_board.specs.LockBoards.{TicketView}
 use Rattle.glm.specs.Workers.{calls_known}
 use Rattle.glm.proofs.AtOnce.{calls-at_once, publishes-at_once, same-at_once}
 use Rattle.glm.proofs.workers.OfficeService.perform.Goals as goal

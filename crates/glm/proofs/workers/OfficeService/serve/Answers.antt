@@ -1,6 +1,6 @@
 use Rattle.std.proofs.Common.{ap}
 use Rattle.std.specs.Prelude.{Option, option_map}
-use Rattle.publication.specs.Views.{Pending}
+use Rattle.lock_board.specs.LockBoards.{Pending}
 use Rattle.glm.proofs.IsPassed.{calls-turn, known-tried, publishes-turn}
 use Rattle.glm.proofs.workers.OfficeService.serve.Goals as goal
 

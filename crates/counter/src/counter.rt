@@ -1,0 +1,117 @@
+//! The counter.
+
+ghost use Rattle.std.specs.Prelude.{◌≡◌, ◌≤◌, []};
+
+use ghost_list::GhostList;
+use sequential::{Entry, MAX_SESSIONS, Sequential, Serving};
+use std::alloc::AllocError as NoMemory;
+use std::marker::Model;
+
+/// A counter.
+#[derive(Drop)]
+pub struct Counter {
+    /// The number of sessions.
+    sessions: u16,
+    /// The value.
+    value: u64,
+    /// How many calls it has served.
+    served: u64,
+    /// All calls with their replies. It takes no memory.
+    history: GhostList<Entry<u32, u64>>,
+}
+
+impl Model for Counter {
+    ghost use Rattle.counter.specs.Counting.{CounterView};
+
+    ghost Value = { CounterView };
+
+    ghost use Rattle.counter.specs.Inside.{counter_view_of, IsCounting};
+
+    ghost view = { counter_view_of };
+
+    ghost invariant = { IsCounting };
+}
+
+impl Counter {
+    /// A counter at 0, for sessions 1 to `sessions`.
+    pub fn new(sessions: u16) -> Counter
+        requires some { 1 ≤ sessions }
+        requires few { sessions ≤ MAX_SESSIONS }
+        ensures sessions { result.sessions ≡ sessions }
+        ensures empty { result.history ≡ [] }
+    {
+        Counter {
+            sessions,
+            value: 0,
+            served: 0,
+            history: GhostList::new(),
+        }
+    }
+}
+
+impl Sequential for Counter {
+    type Call = u32;
+
+    type Reply = u64;
+
+    ghost use Rattle.std.specs.Prelude.{ℕ, List, ◌≡◌};
+    ghost use Rattle.counter.specs.Counting.{IsLegal, fronts_are_legal, replies_are_total, replies_are_determined};
+
+    ghost sessions = { λ c. c.sessions };
+
+    ghost history = { λ c. c.history };
+
+    ghost cut = { λ c. 0 };
+
+    ghost bound = { λ c. 0 };
+
+    ghost is_legal = { IsLegal };
+
+    ghost agree = { λ reply other. reply ≡ other };
+
+    ghost any_call = { 0 };
+
+    ghost any_reply = { 0 };
+
+    fn sessions(&self) -> u16 {
+        self.sessions
+    }
+
+    fn served(&self) -> u64 {
+        self.served
+    }
+
+    ghost empty = { tt };
+
+    ghost fronts = { fronts_are_legal };
+
+    ghost total = { replies_are_total };
+
+    ghost determined = { replies_are_determined };
+}
+
+impl Serving for Counter {
+    ghost use Rattle.std.specs.Prelude.{false};
+
+    ghost goes_first = { λ _. false };
+
+    fn goes_first(_call: &u32) -> bool {
+        false
+    }
+
+    fn serve(&mut self, session: u16, call: u32) -> Result<u64, NoMemory> {
+        if self.served == u64::MAX {
+            return Err(NoMemory);
+        }
+        let reply = self.value;
+        let entry = Entry {
+            session,
+            call,
+            reply,
+        };
+        self.history.push(&entry);
+        self.value = reply.wrapping_add(u64::from(call));
+        self.served += 1;
+        Ok(reply)
+    }
+}

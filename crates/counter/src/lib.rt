@@ -1,0 +1,7 @@
+//! A counter for several sessions: a call adds an amount, and the reply is the value before. It is one thread's; a board
+//! shares it among threads.
+#![tactic(auto)]
+
+mod counter;
+
+pub use counter::Counter;

@@ -1,0 +1,3 @@
+pub mod HoldsAsTold
+pub mod ToldIsHeld
+pub mod ToldTogether

@@ -1,0 +1,114 @@
+-- What two sessions of a board were told goes together, in every state with the rule.
+use Rattle.std.proofs.Common.{◌≡◌, ◌≢◌, ◌⊎◌, inl, inr, ℕ, ◌<◌, true, false, not, ◌||◌, Option, List, [], ◌∷◌, ◌++◌, refl, sym, ap, subst, ◌∙◌, arith, append-nil}
+use mathlib.Core.Option as opt
+use Rattle.std.specs.List.{All}
+use Rattle.std.proofs.lemmas.Bool.{or_left, or_right}
+use Rattle.std.proofs.lemmas.List.Elements.{All-nil, All-cons}
+use Rattle.lock_modes.specs.declared.Mode.{Mode}
+use Rattle.lock_modes.specs.declared.Mode.TheVariants.{S, X}
+use Rattle.lock_modes.specs.Order.{IsAtOrBelow, same}
+use Rattle.lock_modes.specs.Compatibility.{are_compatible}
+use Rattle.lock_modes.proofs.Every.{every-at, implied}
+use Rattle.lock_modes.proofs.Order.{order-from, order-tests, at_or_below-trans}
+use Rattle.lock_modes.proofs.Compatibility.{compatible-tests}
+use Rattle.lock_modes.proofs.Lower.{compatible-below}
+use Rattle.lock_rules.specs.Entries.{Entry, Answered}
+use Rattle.lock_rules.specs.State.{State}
+use Rattle.lock_rules.specs.Step.{is_nothing}
+use Rattle.lock_rules.specs.Legal.{IsLegal, state_of}
+use Rattle.sequential.specs.Histories.{calls_of}
+use Rattle.lock_rules.specs.Laws.{DoesRefusalKeep, HoldsAtLeast, GoTogether, Reads, Writes}
+use Rattle.lock_rules.proofs.Lawful.{lawful}
+use Rattle.lock_rules.proofs.Steps.{state-lawful}
+use Rattle.publication.specs.Views.{answer, asks}
+use Rattle.lock_board.specs.LockBoards.{Pending, Own, BoardState, IsOrderly, SlotValue}
+use Rattle.publication.specs.Rule.{word, home, own_at, RecordState}
+use Rattle.publication.specs.Rule.RecordState.{vacant, posted, busy, served, retired}
+use Rattle.lock_board.specs.HoldsAsTold.{KeptLock, HoldsAsTold, ReadsAsTold, WritesAsTold}
+use Rattle.publication.specs.Collected.{HasCollected}
+use Rattle.publication.proofs.Collected.{own-of}
+use Rattle.lock_board.proofs.ToldIsHeld.{told-grant, told-later}
+
+-- Modes that go together.
+
+-- Modes at or below two that go together go together, in the same order.
+pub together-below : (a b c d : Mode) → IsAtOrBelow a b → IsAtOrBelow c d → GoTogether b d → GoTogether a c
+together-below a b c d p q (inl h) = inl (compatible-below a b c d p q h)
+together-below a b c d p q (inr h) = inr (compatible-below c d a b q p h)
+
+-- Only NL goes together with X, in either order, and NL is no lock.
+none-beside-x : (k : Mode) → GoTogether X k → is_nothing k ≡ true
+none-beside-x k g = implied (are_compatible X k || are_compatible k X) (is_nothing k) (every-at (λ k. not (are_compatible X k || are_compatible k X) || is_nothing k) refl k) (tests g)
+  where
+    tests : GoTogether X k → (are_compatible X k || are_compatible k X) ≡ true
+    tests (inl h) = or_left (are_compatible X k) (are_compatible k X) (compatible-tests X k h)
+    tests (inr h) = or_right (are_compatible X k) (are_compatible k X) (compatible-tests k X h)
+
+module _ (refuses : (st : State) → DoesRefusalKeep st) where
+  -- A lock held as told is held after any legal history in which the session's calls are its answers and then calls that
+  -- keep the lock.
+  pub told-held : (h : List Entry) → IsLegal h → (i : ℕ) (answers more : List Answered) (pending : Option Pending) (r : List ℕ) (m : Mode)
+      → calls_of i h ≡ answers ++ more → All (KeptLock r) more → HoldsAsTold answers pending r m → HoldsAtLeast (state_of h).table i r m
+  told-held h legal i answers more pending r m calls kept t = elim t.told [
+    | inl g ↦ told-grant refuses i r h legal answers more calls kept m g
+    | inr g ↦ told-later refuses i r h legal answers more calls kept m g
+  ]
+
+  -- The same for a session whose record is in one of the states of the rule.
+  stands-held : (h : List Entry) → IsLegal h → (i w : ℕ) (slot : opt.Option SlotValue) (own : Own) → RecordState h i w slot own → (r : List ℕ) (m : Mode)
+      → HoldsAsTold own.collected own.pending r m → HoldsAtLeast (state_of h).table i r m
+  stands-held h legal i w slot own stands r m t = go stands
+    where
+      collected : calls_of i h ≡ own.collected → HoldsAtLeast (state_of h).table i r m
+      collected calls = told-held h legal i own.collected [] own.pending r m (calls ∙ sym (append-nil own.collected)) (All-nil (KeptLock r)) t
+
+      go : RecordState h i w slot own → HoldsAtLeast (state_of h).table i r m
+      go (vacant v) = collected v.calls
+      go (posted call floor v) = collected v.calls
+      go (busy call floor v) = collected v.calls
+      go (served call floor place reply v) =
+          let keeps : KeptLock r (answer place call reply) = inl (t.kept (asks call floor) v.some) in
+          told-held h legal i own.collected (answer place call reply ∷ []) own.pending r m v.calls (All-cons (KeptLock r) (answer place call reply) [] keeps (All-nil (KeptLock r))) t
+      go (retired v) = collected v.calls
+
+  module _ (s : BoardState) (o : IsOrderly s) where
+    -- The same for any session of a board with the rule.
+    pub held : (i : ℕ) (answers : List Answered) (pending : Option Pending) → HasCollected s i answers pending → (r : List ℕ) (m : Mode) → HoldsAsTold answers pending r m
+        → HoldsAtLeast (state_of o.history).table i r m
+    held i answers pending has r m told =
+        let d = own-of s o i answers pending has in
+        stands-held o.history o.legal i (word s i) (home s i) (own_at o.owns i) (o.stands i d.some d.small) r m
+        (subst (λ (l : List Answered). HoldsAsTold l (own_at o.owns i).pending r m) (sym d.answers_are) (subst (λ (p : Option Pending). HoldsAsTold answers p r m) (sym d.pending_is) told))
+
+    pub together : (i j : ℕ) (mine theirs : List Answered) (my_pending their_pending : Option Pending) → i ≢ j → HasCollected s i mine my_pending → HasCollected s j theirs their_pending
+        → (r : List ℕ) (m k : Mode) → HoldsAsTold mine my_pending r m → HoldsAsTold theirs their_pending r k → GoTogether m k
+    together i j mine theirs my_pending their_pending ne a b r m k t u =
+        let x = held i mine my_pending a r m t in
+        let y = held j theirs their_pending b r k u in
+        together-below m x.0 k y.0 x.2 y.2 ((lawful o.history).holders_compatible i j r x.0 y.0 ne x.1 y.1)
+
+    pub exclusive : (i j : ℕ) (mine theirs : List Answered) (my_pending their_pending : Option Pending) → i ≢ j → HasCollected s i mine my_pending → HasCollected s j theirs their_pending
+        → (r : List ℕ) (k : Mode) → HoldsAsTold mine my_pending r X → HoldsAsTold theirs their_pending r k → ⊥
+    exclusive i j mine theirs my_pending their_pending ne a b r k t u =
+        let x = held i mine my_pending a r X t in
+        let y = held j theirs their_pending b r k u in
+        let some : is_nothing y.0 ≡ false = ((state-lawful o.history).sound.held_under j r y.0 y.1).1 in
+        let none : is_nothing y.0 ≡ true = none-beside-x y.0 (together-below X x.0 y.0 y.0 x.2 same ((lawful o.history).holders_compatible i j r x.0 y.0 ne x.1 y.1)) in
+        absurd (cc (some, none))
+
+    reads : (i : ℕ) (answers : List Answered) (pending : Option Pending) (x : List ℕ) → HasCollected s i answers pending → ReadsAsTold answers pending x → Reads (state_of o.history).table i x
+    reads i answers pending x has t =
+        let h = held i answers pending has t.resource t.mode t.told in
+        (t.resource, t.over, (h.0, h.1, order-from S h.0 (at_or_below-trans S t.mode h.0 (order-tests t.reads) (order-tests h.2))))
+
+    writes : (i : ℕ) (answers : List Answered) (pending : Option Pending) (x : List ℕ) → HasCollected s i answers pending → WritesAsTold answers pending x → Writes (state_of o.history).table i x
+    writes i answers pending x has t =
+        let h = held i answers pending has t.resource t.mode t.told in
+        (t.resource, t.over, (h.0, h.1, order-from X h.0 (at_or_below-trans X t.mode h.0 (order-tests t.writes) (order-tests h.2))))
+
+    pub apart : (i j : ℕ) (mine theirs : List Answered) (my_pending their_pending : Option Pending) → i ≢ j → HasCollected s i mine my_pending → HasCollected s j theirs their_pending
+        → (x : List ℕ) → WritesAsTold mine my_pending x → ReadsAsTold theirs their_pending x ⊎ WritesAsTold theirs their_pending x → ⊥
+    apart i j mine theirs my_pending their_pending ne a b x t u = (lawful o.history).access_compatible i j x ne (writes i mine my_pending x a t) (elim u [
+      | inl k ↦ inl (reads j theirs their_pending x b k)
+      | inr k ↦ inr (writes j theirs their_pending x b k)
+    ])

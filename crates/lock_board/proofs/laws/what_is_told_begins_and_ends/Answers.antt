@@ -1,0 +1,26 @@
+use Rattle.lock_board.proofs.HoldsAsTold.{begins, begins-later, begins-meanwhile, goes-on, asks-on, comes-back, ends-asked, ends}
+use Rattle.lock_board.proofs.laws.what_is_told_begins_and_ends.Goals as goal
+
+pub returns-clause-granted : goal.returns-clause-granted
+returns-clause-granted c = begins
+
+pub returns-clause-granted_later : goal.returns-clause-granted_later
+returns-clause-granted_later c = begins-later
+
+pub returns-clause-granted_meanwhile : goal.returns-clause-granted_meanwhile
+returns-clause-granted_meanwhile c = begins-meanwhile
+
+pub returns-clause-stays : goal.returns-clause-stays
+returns-clause-stays c = goes-on
+
+pub returns-clause-asks_on : goal.returns-clause-asks_on
+returns-clause-asks_on c = asks-on
+
+pub returns-clause-asked_back : goal.returns-clause-asked_back
+returns-clause-asked_back c = ends-asked
+
+pub returns-clause-given_back : goal.returns-clause-given_back
+returns-clause-given_back c = ends
+
+pub returns-clause-back : goal.returns-clause-back
+returns-clause-back c = comes-back

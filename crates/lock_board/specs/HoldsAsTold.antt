@@ -1,0 +1,82 @@
+-- What a session was told that it holds, by the answers that it collected and its pending call alone.
+use Rattle.std.specs.Prelude.{◌≡◌, ◌≢◌, ◌⊎◌, ℕ, Option, Some, List, ◌∷◌, ◌++◌, All}
+use Rattle.lock_modes.specs.declared.Mode.{Mode}
+use Rattle.lock_modes.specs.declared.Mode.TheVariants.{S, X}
+use Rattle.lock_modes.specs.Order.{IsAtOrBelow}
+use Rattle.lock_rules.specs.declared.calls.Call.{Call}
+use Rattle.lock_rules.specs.declared.calls.Call.TheVariants.{Lock, Convert, Try, Poll, Release, Commit, Abort, Withdraw}
+use Rattle.lock_rules.specs.declared.calls.Reply.TheVariants.{Granted, Waiting, Clear, Refused, Withdrawn}
+use Rattle.lock_rules.specs.declared.calls.Why.{Why}
+use Rattle.lock_rules.specs.declared.calls.Why.TheVariants.{NotWaiting}
+use Rattle.lock_rules.specs.Entries.{Answered}
+use Rattle.lock_rules.specs.Laws.{IsAtOrOver}
+use Rattle.lock_board.specs.LockBoards.{Pending}
+
+-- The call requests the resource in this mode.
+abbrev pub AsksFor : Call → List ℕ → Mode → Type 0
+AsksFor c r m = (c ≡ Lock r m) ⊎ ((c ≡ Convert r m) ⊎ (c ≡ Try r m))
+
+-- The call doesn't give the resource back: it is no commit, no abort and no release of it.
+abbrev pub KeepsLock : List ℕ → Call → Type 0
+KeepsLock r c = (c ≢ Commit) × (c ≢ Abort) × (c ≢ Release r)
+
+-- The answered call gave nothing of the resource back: it is a call that doesn't, or it was refused.
+abbrev pub KeptLock : List ℕ → Answered → Type 0
+KeptLock r a = KeepsLock r a.call ⊎ ((why : Why) × (a.reply ≡ Refused why))
+
+-- The answered call told that the session waits no more and is no victim: a poll was answered Clear, or a withdrawal was refused
+-- with NotWaiting.
+abbrev pub ToldOfGrant : Answered → Type 0
+ToldOfGrant a = ((a.call ≡ Poll) × (a.reply ≡ Clear)) ⊎ ((a.call ≡ Withdraw) × (a.reply ≡ Refused NotWaiting))
+
+-- The answered call took no waiting request back.
+abbrev pub TookNothingBack : Answered → Type 0
+TookNothingBack a = a.reply ≢ Withdrawn
+
+-- An answer granted the resource in this mode, and no later answered call gave it back.
+pub record WasGranted (answers : List Answered) (r : List ℕ) (m : Mode) : Type 0 where
+  pub before : List Answered
+  pub grant : Answered
+  pub after : List Answered
+  pub answers_are : answers ≡ before ++ grant ∷ after
+  pub asked : (k : Mode) × AsksFor grant.call r k
+  pub granted : grant.reply ≡ Granted m
+  pub kept : All (KeptLock r) after
+
+-- A request for the resource in this mode was answered Waiting, and a later answer told that it was granted. No answered call
+-- between the two took the request back, and none since the request gave the resource back.
+pub record WasGrantedLater (answers : List Answered) (r : List ℕ) (m : Mode) : Type 0 where
+  pub before : List Answered
+  pub wait : Answered
+  pub between : List Answered
+  pub ending : Answered
+  pub after : List Answered
+  pub answers_are : answers ≡ before ++ wait ∷ (between ++ ending ∷ after)
+  pub asked : AsksFor wait.call r m
+  pub waited : wait.reply ≡ Waiting
+  pub ended : ToldOfGrant ending
+  pub kept_waiting : All (KeptLock r) between
+  pub not_withdrawn : All TookNothingBack between
+  pub kept : All (KeptLock r) after
+
+-- A session with these answers and this pending call was told that it holds the resource in this mode, and has published
+-- nothing since that may give it back. A deadlock victim keeps its locks until it aborts, so a Deadlock ends nothing.
+pub record HoldsAsTold (answers : List Answered) (pending : Option Pending) (r : List ℕ) (m : Mode) : Type 0 where
+  pub told : WasGranted answers r m ⊎ WasGrantedLater answers r m
+  pub kept : (p : Pending) → pending ≡ Some p → KeepsLock r p.call
+
+-- The session was told that it holds the resource, or an ancestor of it, in S, SIX, U or X: it may read the resource.
+pub record ReadsAsTold (answers : List Answered) (pending : Option Pending) (x : List ℕ) : Type 0 where
+  pub resource : List ℕ
+  pub over : IsAtOrOver resource x
+  pub mode : Mode
+  pub told : HoldsAsTold answers pending resource mode
+  pub reads : IsAtOrBelow S mode
+
+-- The session was told that it holds the resource, or an ancestor of it, in X: it may write the resource.
+pub record WritesAsTold (answers : List Answered) (pending : Option Pending) (x : List ℕ) : Type 0 where
+  pub resource : List ℕ
+  pub over : IsAtOrOver resource x
+  pub mode : Mode
+  pub told : HoldsAsTold answers pending resource mode
+  pub writes : IsAtOrBelow X mode

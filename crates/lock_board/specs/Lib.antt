@@ -1,0 +1,3 @@
+pub mod LockBoards
+pub mod HoldsAsTold
+pub mod Exclusion

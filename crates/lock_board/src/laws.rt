@@ -1,0 +1,101 @@
+//! What the sessions of a board of the lock table were told of locks, and what goes together of it. Each law is the contract
+//! of a function that does nothing.
+//!
+//! `IsRuled s` says that the rule of the board holds in state `s`. `atomic_table` promises that it holds between any two
+//! atomic steps of the running board.
+
+ghost use Rattle.std.specs.Prelude.{◌≡◌, ◌≢◌, ◌⊎◌, ℕ, List, ◌∷◌, ◌++◌, [], Option, Some, None, All};
+ghost use Rattle.lock_modes.specs.declared.Mode.{Mode};
+ghost use Rattle.sequential.specs.Histories.{calls_of};
+ghost use Rattle.lock_rules.specs.declared.calls.Call.{Call};
+ghost use Rattle.lock_rules.specs.declared.calls.Call.TheVariants.{Poll, Withdraw};
+ghost use Rattle.lock_rules.specs.declared.calls.Reply.{Reply};
+ghost use Rattle.lock_rules.specs.declared.calls.Reply.TheVariants.{Granted, Waiting, Clear, Refused};
+ghost use Rattle.lock_rules.specs.declared.calls.Why.{Why};
+ghost use Rattle.lock_rules.specs.declared.calls.Why.TheVariants.{NotWaiting};
+ghost use Rattle.lock_rules.specs.Entries.{Entry, Answered};
+ghost use Rattle.lock_rules.specs.Legal.{IsLegal, state_of};
+ghost use Rattle.lock_rules.specs.Laws.{HoldsAtLeast, GoTogether};
+ghost use Rattle.publication.specs.Views.{IsAccountedIn, answer, asks};
+ghost use Rattle.publication.specs.Collected.{HasCollected};
+ghost use Rattle.lock_board.specs.LockBoards.{Pending, BoardState, IsRuled, history_of};
+ghost use Rattle.lock_board.specs.HoldsAsTold.{AsksFor, KeepsLock, KeptLock, TookNothingBack, HoldsAsTold, ReadsAsTold, WritesAsTold};
+ghost use Rattle.lock_board.specs.Exclusion.{ToldModesGoTogether, IsToldExclusive, IsToldAccessCompatible};
+
+use lock_rules::laws;
+
+/// When a session holds a lock as told. It begins with the answer that grants the lock, or, after a wait, with the poll
+/// that is answered Clear or the withdrawal that is refused with NotWaiting, unless the session took its request back
+/// meanwhile. It lasts past each answer that gave nothing of the resource back, and while a call is
+/// pending that gives nothing of it back. It ends when the session publishes a commit, an abort or a release of the
+/// resource, or enters one directly. The answer of that call doesn't bring it back, except a refusal.
+pub fn what_is_told_begins_and_ends()
+    ensures granted { (answers : List Answered) (call : Call) (place : ℕ) (r : List ℕ) (k m : Mode) →
+        AsksFor call r k → HoldsAsTold (answers ++ answer place call (Granted m) ∷ []) None r m }
+    ensures granted_later { (answers between : List Answered) (call : Call) (place later : ℕ) (r : List ℕ) (m : Mode) →
+        AsksFor call r m → All (KeptLock r) between → All TookNothingBack between →
+        HoldsAsTold (answers ++ answer place call Waiting ∷ (between ++ answer later Poll Clear ∷ [])) None r m }
+    ensures granted_meanwhile { (answers between : List Answered) (call : Call) (place later : ℕ) (r : List ℕ) (m : Mode) →
+        AsksFor call r m → All (KeptLock r) between → All TookNothingBack between →
+        HoldsAsTold (answers ++ answer place call Waiting ∷ (between ++ answer later Withdraw (Refused NotWaiting) ∷ [])) None r m }
+    ensures stays { (answers : List Answered) (x : Answered) (pending : Option Pending) (r : List ℕ) (m : Mode) →
+        KeptLock r x → HoldsAsTold answers pending r m → HoldsAsTold (answers ++ x ∷ []) None r m }
+    ensures asks_on { (answers : List Answered) (call : Call) (floor : ℕ) (r : List ℕ) (m : Mode) →
+        KeepsLock r call → HoldsAsTold answers None r m → HoldsAsTold answers (Some (asks call floor)) r m }
+    ensures asked_back { (answers : List Answered) (call : Call) (floor : ℕ) (r : List ℕ) (m : Mode) →
+        (KeepsLock r call → ⊥) → HoldsAsTold answers (Some (asks call floor)) r m → ⊥ }
+    ensures given_back { (answers : List Answered) (x : Answered) (pending : Option Pending) (r : List ℕ) (m : Mode) →
+        (KeptLock r x → ⊥) → HoldsAsTold (answers ++ x ∷ []) pending r m → ⊥ }
+    ensures back { (answers : List Answered) (call : Call) (place : ℕ) (why : Why) (r : List ℕ) (m : Mode) →
+        HoldsAsTold answers None r m → HoldsAsTold (answers ++ answer place call (Refused why) ∷ []) None r m }
+{}
+
+/// A session holds each lock that it holds as told, in that mode or one above it, in the state of any legal history in
+/// which its calls are those that it collected, or those and its pending call.
+pub fn what_is_told_is_held()
+    ensures collected { (history : List Entry) (session : ℕ) (answers : List Answered) (pending : Option Pending) (r : List ℕ) (m : Mode) →
+        IsLegal history → calls_of session history ≡ answers → HoldsAsTold answers pending r m →
+        HoldsAtLeast (state_of history).table session r m }
+    ensures one_more { (history : List Entry) (session : ℕ) (answers : List Answered) (call : Call) (floor place : ℕ) (reply : Reply) (r : List ℕ) (m : Mode) →
+        IsLegal history → calls_of session history ≡ answers ++ answer place call reply ∷ [] →
+        HoldsAsTold answers (Some (asks call floor)) r m → HoldsAtLeast (state_of history).table session r m }
+{
+    laws::refusals_keep_the_state();
+}
+
+/// For a caller that has one legal history with the calls of two sessions: those that each collected, or those and its
+/// pending call, at a place not below its floor. The modes in which both were told that they hold one resource go
+/// together. If one session was told that it may write a resource, outright or through an ancestor, the other was not told
+/// that it may read or write it.
+pub fn one_history_tells_what_goes_together()
+    ensures modes { (history : List Entry) (i j : ℕ) (mine theirs : List Answered) (my_pending their_pending : Option Pending) (r : List ℕ) (m k : Mode) →
+        IsLegal history → i ≢ j → IsAccountedIn history i mine my_pending → IsAccountedIn history j theirs their_pending →
+        HoldsAsTold mine my_pending r m → HoldsAsTold theirs their_pending r k → GoTogether m k }
+    ensures access { (history : List Entry) (i j : ℕ) (mine theirs : List Answered) (my_pending their_pending : Option Pending) (x : List ℕ) →
+        IsLegal history → i ≢ j → IsAccountedIn history i mine my_pending → IsAccountedIn history j theirs their_pending →
+        WritesAsTold mine my_pending x → ReadsAsTold theirs their_pending x ⊎ WritesAsTold theirs their_pending x → ⊥ }
+{
+    laws::refusals_keep_the_state();
+}
+
+/// Mutual exclusion between any two atomic steps, whatever calls are posted, opened or served at that moment. No two
+/// sessions of a board were told that they hold one resource in modes that conflict in both orders. If a session was
+/// told that it may write a resource, outright or through an ancestor, no other was told that it may read or write it.
+/// A lock no longer counts from the step on that publishes a call which may give it back, or enters one directly.
+pub fn sessions_are_told_what_goes_together()
+    ensures modes { (s : BoardState) → IsRuled s → ToldModesGoTogether s }
+    ensures exclusive { (s : BoardState) → IsRuled s → IsToldExclusive s }
+    ensures access { (s : BoardState) → IsRuled s → IsToldAccessCompatible s }
+{
+    laws::refusals_keep_the_state();
+}
+
+/// Between any two atomic steps, a lock that a session holds as told is held in the state of the board's history, in that
+/// mode or one above it.
+pub fn told_locks_are_held()
+    ensures { (s : BoardState) (i : ℕ) (answers : List Answered) (pending : Option Pending) (r : List ℕ) (m : Mode) →
+        IsRuled s → HasCollected s i answers pending → HoldsAsTold answers pending r m →
+        HoldsAtLeast (state_of (history_of s)).table i r m }
+{
+    laws::refusals_keep_the_state();
+}

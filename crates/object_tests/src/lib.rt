@@ -1,0 +1,10 @@
+//! Tests of sequential objects: each call of the traits once with success, of a counter, a queue and a book, and calls and batches
+//! that are refused memory.
+#![tactic(auto)]
+
+#[cfg(test)]
+mod asking;
+#[cfg(test)]
+mod calls;
+#[cfg(test)]
+mod refusals;

@@ -1,0 +1,75 @@
+-- A combiner's seat between two calls, after it opened a record or took one off the list.
+use Rattle.std.proofs.Common.{◌≡◌, ◌≤◌, ℕ, Bool, true, false, Option, Some, None, IfSome, IfNone, refl, sym, subst}
+use Rattle.publication.specs.Kinds.{Seated, opening, in_hand, bypassing, none_unlinked}
+use Rattle.publication.specs.inner.Tickets.{IsBetweenCalls}
+
+module _ {O C R : Type 0} (m m' : Seated O C R) (number seen : ℕ) (b p l r : Bool) (t : IsBetweenCalls m number seen b p l r) (has : b ≡ true) where
+  -- After it opened record `at`, or found no call posted there.
+  pub opened-between : (at : ℕ) (found : Option C) → IfSome found (λ call. m' ≡ (in_hand (opening m.0 at call) 0, m.1)) → IfNone found (m' ≡ m) → IsBetweenCalls m' number seen b p l r
+  opened-between at None some none = subst (λ (x : Seated O C R). IsBetweenCalls x number seen b p l r) (sym none) t
+  opened-between at (Some call) some none = subst (λ (x : Seated O C R). IsBetweenCalls x number seen b p l r) (sym some) record {
+    number_is = t.number_is;
+    some_number = t.some_number;
+    seen_is = t.seen_is;
+    started = t.started;
+    retired = t.retired;
+    pending = t.pending;
+    book = sym has;
+    hand = refl;
+    listed = t.listed;
+    heard_few = t.heard_few;
+    heard = t.heard;
+    wide = t.wide;
+    all_made = t.all_made;
+    accounted = t.accounted;
+    no_head_seen = t.no_head_seen;
+    whole = t.whole;
+    routed = t.routed;
+    unknown = t.unknown;
+    carried = t.carried;
+  }
+
+  -- After it took a record off the list, or linked it again.
+  pub unlinked-between : (before : ℕ) (off : Bool) → (off ≡ true → m' ≡ (none_unlinked (bypassing m.0 before), m.1)) → (off ≡ false → m' ≡ (none_unlinked m.0, m.1)) → IsBetweenCalls m' number seen b p l r
+  unlinked-between before true out kept = subst (λ (x : Seated O C R). IsBetweenCalls x number seen b p l r) (sym (out refl)) record {
+    number_is = t.number_is;
+    some_number = t.some_number;
+    seen_is = t.seen_is;
+    started = t.started;
+    retired = t.retired;
+    pending = t.pending;
+    book = t.book;
+    hand = t.hand;
+    listed = t.listed;
+    heard_few = t.heard_few;
+    heard = t.heard;
+    wide = t.wide;
+    all_made = t.all_made;
+    accounted = t.accounted;
+    no_head_seen = t.no_head_seen;
+    whole = refl;
+    routed = λ lacks. absurd (cc (has, lacks));
+    unknown = t.unknown;
+    carried = t.carried;
+  }
+  unlinked-between before false out kept = subst (λ (x : Seated O C R). IsBetweenCalls x number seen b p l r) (sym (kept refl)) record {
+    number_is = t.number_is;
+    some_number = t.some_number;
+    seen_is = t.seen_is;
+    started = t.started;
+    retired = t.retired;
+    pending = t.pending;
+    book = t.book;
+    hand = t.hand;
+    listed = t.listed;
+    heard_few = t.heard_few;
+    heard = t.heard;
+    wide = t.wide;
+    all_made = t.all_made;
+    accounted = t.accounted;
+    no_head_seen = t.no_head_seen;
+    whole = refl;
+    routed = t.routed;
+    unknown = t.unknown;
+    carried = t.carried;
+  }
