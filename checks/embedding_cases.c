@@ -35,35 +35,14 @@
    come true in some round in which memory was refused, and in that pass, if it is about that pass; but not one with `ever`, as `when
    ever served 2`. The last line may say how the office ends: `end: missing 1`, if it isn't closed with the one session that is left;
    `end: book 2, 0, 2`, if its book has served two calls and keeps two from place 0 on; `end: history`, if the lines are its history. */
+#include "names.h"
 #include "pelgaisti.h"
+#include "refuse_one.h"
 #include <ctype.h>
 #include <stdio.h>
 #include <stdlib.h>
 #include <string.h>
 
-void *__real_malloc(size_t size);
-void *__real_realloc(void *at, size_t size);
-void *__wrap_malloc(size_t size);
-void *__wrap_realloc(void *at, size_t size);
-
-/* How many allocations there are before the one to refuse, or -1, and how many were refused. */
-static long left = -1, refusals;
-
-static int is_refused(void) {
-    if (left != 0) {
-        left -= left > 0;
-        return 0;
-    }
-    left = -1;
-    refusals++;
-    return 1;
-}
-
-void *__wrap_malloc(size_t size) { return is_refused() ? NULL : __real_malloc(size); }
-
-void *__wrap_realloc(void *at, size_t size) { return is_refused() ? NULL : __real_realloc(at, size); }
-
-#define COUNT(list) (sizeof(list) / sizeof((list)[0]))
 enum { MOST = 8, ROOM = 64, LONGEST = 256, LINES = 80, HANDLES = 1 << 16 };
 
 typedef pelgaisti_session session;
@@ -100,22 +79,13 @@ static uint64_t number_of(const char *word) {
     return number;
 }
 
-typedef struct named {
-    const char *name;
-    uint32_t number;
-} named;
-
-static uint32_t find(const named *list, size_t length, const char *word, const char *what) {
-    for (size_t k = 0; k < length; k++)
-        if (!strcmp(list[k].name, word)) return list[k].number;
-    stop(what, word);
-    return 0;
+static uint32_t find(const name *list, size_t length, const char *word, const char *what) {
+    const name *found = named(list, length, word);
+    if (!found) stop(what, word);
+    return found->number;
 }
 
-static uint32_t mode_of(const char *word) {
-    static const named modes[] = {{"IS", PELGAISTI_IS}, {"IX", PELGAISTI_IX}, {"S", PELGAISTI_S}, {"X", PELGAISTI_X}};
-    return find(modes, COUNT(modes), word, "not a mode");
-}
+static uint32_t mode_of(const char *word) { return find(modes, COUNT(modes), word, "not a mode"); }
 
 /* A database, by its number. */
 static pelgaisti_resource resource_of(const char *word) {
@@ -125,9 +95,6 @@ static pelgaisti_resource resource_of(const char *word) {
 }
 
 static pelgaisti_call call_of(char *text) {
-    static const named ops[] = {{"begin", PELGAISTI_BEGIN},   {"lock", PELGAISTI_LOCK},   {"try", PELGAISTI_TRY},
-                                {"release", PELGAISTI_RELEASE}, {"poll", PELGAISTI_POLL},   {"commit", PELGAISTI_COMMIT},
-                                {"abort", PELGAISTI_ABORT},   {"withdraw", PELGAISTI_WITHDRAW}};
     pelgaisti_call call = {0, 0, {0, {0}}};
     char *resource = cut(text, " "), *mode = cut(resource, " ");
     call.op = find(ops, COUNT(ops), text, "not a call");
@@ -137,19 +104,13 @@ static pelgaisti_call call_of(char *text) {
 }
 
 static pelgaisti_reply reply_of(char *text) {
-    static const named kinds[] = {{"began", PELGAISTI_BEGAN},       {"granted", PELGAISTI_GRANTED},   {"waiting", PELGAISTI_WAITING},
-                                  {"deadlock", PELGAISTI_DEADLOCK}, {"clear", PELGAISTI_CLEAR},       {"released", PELGAISTI_RELEASED},
-                                  {"committed", PELGAISTI_COMMITTED}, {"aborted", PELGAISTI_ABORTED}, {"refused", PELGAISTI_REFUSED},
-                                  {"withdrawn", PELGAISTI_WITHDRAWN}};
-    static const named refusals_of[] = {{"NoTransaction", PELGAISTI_NO_TRANSACTION}, {"WouldWait", PELGAISTI_WOULD_WAIT},
-                                        {"NotWaiting", PELGAISTI_NOT_WAITING}};
     pelgaisti_reply reply = {0, 0};
     char *value = cut(text, " ");
     reply.kind = find(kinds, COUNT(kinds), text, "not a reply");
     if (reply.kind == PELGAISTI_GRANTED)
         reply.value = mode_of(value);
     else if (reply.kind == PELGAISTI_REFUSED)
-        reply.value = find(refusals_of, COUNT(refusals_of), value, "not a refusal");
+        reply.value = find(reasons, COUNT(reasons), value, "not a refusal");
     else if (*value)
         reply.value = number_of(value);
     return reply;
@@ -326,10 +287,10 @@ static int take(session *own, char *text) {
 /* Whether a lock or a fresh request is that of the text, as `held 1 1 X`: the kind, the session, the resource and the mode. The
    transaction has the session's number. */
 static int is_claim(const pelgaisti_claim *claim, char *text) {
-    static const named kinds[] = {{"held", PELGAISTI_HELD}, {"fresh", PELGAISTI_FRESH}};
+    static const name claims[] = {{"held", PELGAISTI_HELD}, {"fresh", PELGAISTI_FRESH}};
     char *whose = cut(text, " "), *resource = cut(whose, " "), *mode = cut(resource, " ");
     uint64_t number = number_of(whose);
-    return claim->kind == find(kinds, COUNT(kinds), text, "not a claim") && claim->session == number && claim->transaction == number &&
+    return claim->kind == find(claims, COUNT(claims), text, "not a claim") && claim->session == number && claim->transaction == number &&
            claim->doomed == 0 && claim->mode == mode_of(mode) && claim->resource.level == 1 &&
            claim->resource.numbers[0] == number_of(resource);
 }

@@ -3,16 +3,12 @@
    allocation in one session's pass another session tries to serve, which returns ELSEWHERE. Link with
    -Wl,--wrap=malloc,--wrap=realloc. */
 #include "pelgaisti.h"
+#include "refuse_one.h"
 #include <stdio.h>
 #include <stdlib.h>
 #include <string.h>
 
-void *__real_malloc(size_t size);
-void *__real_realloc(void *at, size_t size);
-void *__wrap_malloc(size_t size);
-void *__wrap_realloc(void *at, size_t size);
-
-static long left = -1, refusals, failed;
+static long failed;
 
 /* The session that tries to serve at the next allocation, the one that tries to perform a call at once, and the statuses. */
 static pelgaisti_session *meanwhile, *other;
@@ -41,28 +37,16 @@ static void ask_each(pelgaisti_session *session) {
     asked[6] = pelgaisti_session_locks(session, 0, &claim, 1, &uncounted, &unseen);
 }
 
-/* Counts down to the allocation to refuse. Each round refuses at most one. */
-static int is_refused(void) {
-    if (meanwhile) {
-        pelgaisti_session *session = meanwhile;
-        meanwhile = NULL;
-        told = pelgaisti_session_serve(session, &unwritten);
-        at_once = pelgaisti_session_perform_at_once(other, &begin, &unwritten, &unanswered);
-        telling = pelgaisti_session_perform_telling(other, &begin, &unwritten, &unanswered, untold, 3, &uncounted);
-        ask_each(other);
-    }
-    if (left != 0) {
-        left -= left > 0;
-        return 0;
-    }
-    left = -1;
-    refusals++;
-    return 1;
+/* At the next allocation, `meanwhile` tries to serve and `other` to perform a call and to ask, once. */
+static void try_meanwhile(void) {
+    pelgaisti_session *session = meanwhile;
+    if (!session) return;
+    meanwhile = NULL;
+    told = pelgaisti_session_serve(session, &unwritten);
+    at_once = pelgaisti_session_perform_at_once(other, &begin, &unwritten, &unanswered);
+    telling = pelgaisti_session_perform_telling(other, &begin, &unwritten, &unanswered, untold, 3, &uncounted);
+    ask_each(other);
 }
-
-void *__wrap_malloc(size_t size) { return is_refused() ? NULL : __real_malloc(size); }
-
-void *__wrap_realloc(void *at, size_t size) { return is_refused() ? NULL : __real_realloc(at, size); }
 
 #define CHECK(condition) \
     do { \
@@ -397,6 +381,7 @@ static void elsewhere(void) {
     CHECK(pelgaisti_office_open(sessions, 3) == PELGAISTI_OK);
     for (int k = 0; k < 2; k++) CHECK(pelgaisti_session_publish(&sessions[k], &begin, NULL) == PELGAISTI_OK);
     unwritten.served = unwritten.starved = 99;
+    ahead = try_meanwhile;
     meanwhile = &sessions[1];
     other = &sessions[2];
     CHECK(pelgaisti_session_serve(&sessions[0], NULL) == PELGAISTI_OK);

@@ -1,21 +1,15 @@
 /* Serves the rows of a trace on a book through pelgaisti.h, and writes the book's history as `glm replay` does. */
+#include "names.h"
 #include "pelgaisti.h"
 #include <inttypes.h>
 #include <stdio.h>
 #include <stdlib.h>
 #include <string.h>
 
-static const char *const ops[] = {"begin", "lock", "convert", "poll", "release", "commit", "abort", "try", "withdraw"};
-static const uint32_t op_numbers[] = {PELGAISTI_BEGIN, PELGAISTI_LOCK, PELGAISTI_CONVERT, PELGAISTI_POLL, PELGAISTI_RELEASE,
-                                      PELGAISTI_COMMIT, PELGAISTI_ABORT, PELGAISTI_TRY, PELGAISTI_WITHDRAW};
-static const char *const modes[] = {"NL", "IS", "IX", "S", "SIX", "U", "X"};
-static const uint32_t mode_numbers[] = {PELGAISTI_NL, PELGAISTI_IS, PELGAISTI_IX, PELGAISTI_S, PELGAISTI_SIX, PELGAISTI_U, PELGAISTI_X};
-#define COUNT(list) (sizeof(list) / sizeof((list)[0]))
-
-static uint32_t number_of(const char *const *names, const uint32_t *numbers, size_t count, const char *name) {
-    for (size_t k = 0; k < count; k++)
-        if (!strcmp(names[k], name)) return numbers[k];
-    fprintf(stderr, "no such name: %s\n", name);
+static uint32_t number_of(const name *list, size_t length, const char *text) {
+    const name *found = named(list, length, text);
+    if (found) return found->number;
+    fprintf(stderr, "no such name: %s\n", text);
     exit(2);
 }
 
@@ -51,11 +45,11 @@ int main(void) {
             if (at) *at++ = 0;
             else if (k < 3) return 2;
         }
-        call.op = number_of(ops, op_numbers, COUNT(ops), field[1]);
+        call.op = number_of(ops, COUNT(ops), field[1]);
         for (char *digit = field[2]; *digit; digit += *digit == '/') {
             call.resource.numbers[call.resource.level++] = (uint32_t)strtoul(digit, &digit, 10);
         }
-        if (*field[3]) call.mode = number_of(modes, mode_numbers, COUNT(modes), field[3]);
+        if (*field[3]) call.mode = number_of(modes, COUNT(modes), field[3]);
         if (pelgaisti_book_serve(&book, (uint32_t)strtoul(field[0], NULL, 10), &call, &reply) != PELGAISTI_OK) return 3;
     }
     uint64_t length = 0;

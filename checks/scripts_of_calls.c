@@ -49,37 +49,14 @@
    Usage: scripts_of_calls < SCRIPTS, or scripts_of_calls wrong < SCRIPTS, where each script has something wrong: it must fail. A
    script that can't be read is status 2. The last line is 'N passed, M failed', one for each performance. Link with
    -Wl,--wrap=malloc,--wrap=realloc. */
+#include "names.h"
 #include "pelgaisti.h"
+#include "refuse_one.h"
 #include <stdio.h>
 #include <stdlib.h>
 #include <string.h>
 
-#define COUNT(list) (sizeof(list) / sizeof((list)[0]))
-
 enum { TEXT_BYTES = 1 << 20, MOST_CALLS = 1 << 16, MOST_ROWS = 1024, FILES = 4095, MOST_NUMBERS = 80 };
-
-void *__real_malloc(size_t size);
-void *__real_realloc(void *at, size_t size);
-void *__wrap_malloc(size_t size);
-void *__wrap_realloc(void *at, size_t size);
-
-/* How many allocations are made before the one that is refused; -1: none is refused. */
-static long left = -1;
-static long refusals;
-
-static int is_refused(void) {
-    if (left != 0) {
-        left -= left > 0;
-        return 0;
-    }
-    left = -1;
-    refusals++;
-    return 1;
-}
-
-void *__wrap_malloc(size_t size) { return is_refused() ? NULL : __real_malloc(size); }
-
-void *__wrap_realloc(void *at, size_t size) { return is_refused() ? NULL : __real_realloc(at, size); }
 
 /* The script that is performed, its number of sessions, and whether something of it was wrong. */
 static const char *script = "";
@@ -105,32 +82,10 @@ static void unreadable(const char *why, const char *text) {
 
 /* ---- Rows ---- */
 
-typedef struct name {
-    const char *name;
-    uint32_t number;
-} name;
-
-static const name ops[] = {{"begin", PELGAISTI_BEGIN},     {"lock", PELGAISTI_LOCK},     {"convert", PELGAISTI_CONVERT},
-                           {"poll", PELGAISTI_POLL},       {"release", PELGAISTI_RELEASE}, {"commit", PELGAISTI_COMMIT},
-                           {"abort", PELGAISTI_ABORT},     {"try", PELGAISTI_TRY},       {"withdraw", PELGAISTI_WITHDRAW}};
-static const name modes[] = {{"NL", PELGAISTI_NL},   {"IS", PELGAISTI_IS}, {"IX", PELGAISTI_IX}, {"S", PELGAISTI_S},
-                             {"SIX", PELGAISTI_SIX}, {"U", PELGAISTI_U},   {"X", PELGAISTI_X}};
-static const name kinds[] = {{"began", PELGAISTI_BEGAN},       {"granted", PELGAISTI_GRANTED},     {"waiting", PELGAISTI_WAITING},
-                             {"deadlock", PELGAISTI_DEADLOCK}, {"clear", PELGAISTI_CLEAR},         {"released", PELGAISTI_RELEASED},
-                             {"committed", PELGAISTI_COMMITTED}, {"aborted", PELGAISTI_ABORTED},   {"refused", PELGAISTI_REFUSED},
-                             {"withdrawn", PELGAISTI_WITHDRAWN}};
-static const name refusals_by_name[] = {
-    {"AlreadyOpen", PELGAISTI_ALREADY_OPEN},    {"NoTransaction", PELGAISTI_NO_TRANSACTION}, {"IsWaiting", PELGAISTI_IS_WAITING},
-    {"IsDoomed", PELGAISTI_IS_DOOMED},          {"NothingAsked", PELGAISTI_NOTHING_ASKED},   {"NotHeld", PELGAISTI_NOT_HELD},
-    {"ParentNotHeld", PELGAISTI_PARENT_NOT_HELD}, {"ChildHeld", PELGAISTI_CHILD_HELD},       {"TooManyLocks", PELGAISTI_TOO_MANY_LOCKS},
-    {"WouldWait", PELGAISTI_WOULD_WAIT},        {"NotWaiting", PELGAISTI_NOT_WAITING}};
-
 static uint32_t number_of(const name *names, size_t count, const char *text) {
-    size_t k;
-    for (k = 0; k < count; k++)
-        if (!strcmp(names[k].name, text)) return names[k].number;
-    unreadable("no such name", text);
-    return 0;
+    const name *found = named(names, count, text);
+    if (!found) unreadable("no such name", text);
+    return found->number;
 }
 
 static uint64_t read_number(const char *text) {
@@ -179,7 +134,7 @@ static pelgaisti_entry read_row(char *line, size_t index) {
     case PELGAISTI_COMMITTED:
     case PELGAISTI_ABORTED: row.reply.value = read_number(field[6]); break;
     case PELGAISTI_GRANTED: row.reply.value = number_of(modes, COUNT(modes), field[6]); break;
-    case PELGAISTI_REFUSED: row.reply.value = number_of(refusals_by_name, COUNT(refusals_by_name), field[6]); break;
+    case PELGAISTI_REFUSED: row.reply.value = number_of(reasons, COUNT(reasons), field[6]); break;
     default:
         if (*field[6]) unreadable("a value too many", field[6]);
     }
