@@ -34,14 +34,19 @@ static void books() {
     CHECK(reply.kind == kind::committed && reply.value == 0);
     reply = book.serve(1, {op::commit});
     CHECK(reply.kind == kind::refused && reply.value == static_cast<std::uint64_t>(pelgaisti::refusal::no_transaction));
-    book.serve(1, {op::begin});
+    CHECK(book.serve(1, {op::begin}).kind == kind::began);
     std::uint32_t level = 0;
     std::vector<std::uint32_t> ended{9};
     CHECK(book.lock_path(1, {1, 2, 3}, mode::X, level, ended).kind == kind::granted && level == 3);
     CHECK(book.held(1, {1, 2}) == mode::IX && book.held(1, {1, 2, 3}) == mode::X && book.held(2, {1}) == mode::NL);
+    const std::vector<std::uint32_t> path{1, 2, 3, 4, 5, 6, 7};
+    CHECK(book.held(1, {path.data(), 3}) == mode::X && book.held(1, {path.data(), 2}) == mode::IX);
+    CHECK(pelgaisti::resource(path.data(), 5).level == 5 && pelgaisti::resource(path.data(), 5).numbers[4] == 5);
+    CHECK(throws(PELGAISTI_NO_SUCH_LEVEL, [&] { book.held(1, {path.data(), 7}); }));
+    CHECK(throws(PELGAISTI_NO_SUCH_LEVEL, [&] { book.held(1, {path.data(), 0}); }));
     level = 0;
     CHECK(book.lock_path(2, {1, 2}, mode::S, level, ended).kind == kind::waiting && level == 1);
-    CHECK(throws(PELGAISTI_NO_SUCH_LEVEL, [&] { book.lock_path(1, {1}, mode::S, level, ended); }) && level == 1);
+    CHECK(throws(PELGAISTI_NO_SUCH_LEVEL, [&] { static_cast<void>(book.lock_path(1, {1}, mode::S, level, ended)); }) && level == 1);
     CHECK(ended == std::vector<std::uint32_t>{9});
     CHECK(book.waits_for(2, 1) && !book.waits_for(1, 2));
     CHECK(book.blockers(2) == std::vector<std::uint32_t>{1} && book.blockers(3).empty());
@@ -63,8 +68,8 @@ static void books() {
     CHECK(throws(PELGAISTI_LET_GO, [&] { book.history(2, 1); }));
     book.keep_at_most(1);
     CHECK(book.first_kept() == 11 && book.take_history(SIZE_MAX).size() == 1 && book.take_history(SIZE_MAX).empty());
-    CHECK(throws(PELGAISTI_NO_SUCH_SESSION, [&] { book.serve(4, {op::begin}); }));
-    CHECK(throws(PELGAISTI_NO_SUCH_LEVEL, [&] { book.serve(1, {op::lock, mode::S, {1, 2, 3, 4, 5, 6}}); }));
+    CHECK(throws(PELGAISTI_NO_SUCH_SESSION, [&] { static_cast<void>(book.serve(4, {op::begin})); }));
+    CHECK(throws(PELGAISTI_NO_SUCH_LEVEL, [&] { static_cast<void>(book.serve(1, {op::lock, mode::S, {1, 2, 3, 4, 5, 6}})); }));
     CHECK(throws(PELGAISTI_NO_SUCH_COUNT, [] { pelgaisti::book none{0}; }));
 }
 
@@ -73,7 +78,7 @@ static void books() {
 static void paths_tell() {
     for (const bool waits : {false, true}) {
         pelgaisti::book book{3};
-        for (std::uint32_t session = 1; session <= 3; ++session) book.serve(session, {op::begin});
+        for (std::uint32_t session = 1; session <= 3; ++session) CHECK(book.serve(session, {op::begin}).kind == kind::began);
         CHECK(book.serve(1, {op::lock, mode::X, {8}}).kind == kind::granted);
         CHECK(book.serve(2, {op::lock, mode::IX, {7}}).kind == kind::granted);
         CHECK(book.serve(2, {op::lock, mode::X, {7, 1}}).kind == kind::granted);
@@ -94,7 +99,7 @@ static void tries() {
     };
     pelgaisti::book book{3};
     CHECK(refused(book.serve(1, {op::try_lock, mode::S, {1}}), pelgaisti::refusal::no_transaction));
-    for (std::uint32_t session = 1; session <= 3; ++session) book.serve(session, {op::begin});
+    for (std::uint32_t session = 1; session <= 3; ++session) CHECK(book.serve(session, {op::begin}).kind == kind::began);
     CHECK(book.serve(1, {op::try_lock, mode::S, {1}}).kind == kind::granted);
     CHECK(refused(book.serve(2, {op::try_lock, mode::X, {1}}), pelgaisti::refusal::would_wait));
     CHECK(refused(book.serve(2, {op::withdraw}), pelgaisti::refusal::not_waiting));

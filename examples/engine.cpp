@@ -11,6 +11,7 @@
 #include <chrono>
 #include <condition_variable>
 #include <cstdio>
+#include <cstdlib>
 #include <mutex>
 #include <numeric>
 #include <thread>
@@ -65,6 +66,11 @@ struct worker {
     // Performs a call: without a bound on its turns there is always an answer.
     pelgaisti::reply ask(const pelgaisti::call &call) { return session.perform(call, UINT64_MAX, &waker)->reply; }
 
+    // Begins or ends a transaction, which is refused nowhere here.
+    void make(pelgaisti::op op) {
+        if (ask({op}).kind == pelgaisti::kind::refused) std::abort();
+    }
+
     // Sleeps until the wait of the session's request has ended. After the limit it takes the request back. Whether it was granted.
     bool end_wait(std::chrono::milliseconds limit) {
         if (!beds[number].sleep_within(limit)) {
@@ -95,24 +101,24 @@ struct worker {
 // without the account. Whether it was refused both times.
 bool do_without(pelgaisti::session &one, pelgaisti::session &two) {
     worker holder{one, 1, {}}, other{two, 2, {}};
-    for (auto *it : {&holder, &other}) it->ask({pelgaisti::op::begin});
+    for (auto *it : {&holder, &other}) it->make(pelgaisti::op::begin);
     const bool held = holder.try_lock({0, 0}), refused = !other.try_lock({0, 0}), withdrawn = !other.lock({0, 0}, 20ms);
-    for (auto *it : {&other, &holder}) it->ask({pelgaisti::op::commit});
+    for (auto *it : {&other, &holder}) it->make(pelgaisti::op::commit);
     return held && refused && withdrawn;
 }
 
 // One transfer. Whether it was committed.
 bool transfer(worker &worker, account from, account to) {
-    worker.ask({pelgaisti::op::begin});
+    worker.make(pelgaisti::op::begin);
     for (account it : {from, to}) {
         if (!worker.lock(it, 60s)) {
-            worker.ask({pelgaisti::op::abort});
+            worker.make(pelgaisti::op::abort);
             return false;
         }
     }
     tables[from.table][from.number] -= 1;
     tables[to.table][to.number] += 1;
-    worker.ask({pelgaisti::op::commit});
+    worker.make(pelgaisti::op::commit);
     return true;
 }
 

@@ -52,11 +52,13 @@ template <class T, class Call> std::vector<T> list_by(size_t room, Call call) {
     std::vector<T> list(room);
     return list.resize(made_by<size_t>([&](auto *count) { return call(list.data(), count); })), list;
 }
-// A path of 1 to PELGAISTI_LEVELS numbers; with another count of numbers the calls fail with NO_SUCH_LEVEL.
+// A path of 1 to PELGAISTI_LEVELS numbers, written out or lying one behind another, as in a vector or a span; with another count of
+// numbers the calls fail with NO_SUCH_LEVEL.
 struct resource : pelgaisti_resource {
-    resource(std::initializer_list<uint32_t> path) : pelgaisti_resource{} {
-        for (uint32_t number : path)
-            if (level++ < PELGAISTI_LEVELS) numbers[level - 1] = number;
+    resource(std::initializer_list<uint32_t> path) : resource(path.begin(), path.size()) {}
+    resource(const uint32_t *path, size_t count) : pelgaisti_resource{} {
+        for (; level < count && level <= PELGAISTI_LEVELS; level++)
+            if (level < PELGAISTI_LEVELS) numbers[level] = path[level];
     }
 };
 struct call : pelgaisti_call {
@@ -64,11 +66,11 @@ struct call : pelgaisti_call {
         : pelgaisti_call{static_cast<uint32_t>(what), static_cast<uint32_t>(in), on} {}
 };
 // A reply: `value` is the transaction's number, the mode's code, the number of locks or that of the refusal.
-struct reply {
+struct [[nodiscard]] reply {
     pelgaisti::kind kind; uint64_t value;
     explicit reply(const pelgaisti_reply &it) : kind(static_cast<pelgaisti::kind>(it.kind)), value(it.value) {}
 };
-struct answer { uint64_t place; pelgaisti::reply reply; };
+struct [[nodiscard]] answer { uint64_t place; pelgaisti::reply reply; };
 // The answer to a question about the lock table of an open office: what the state had behind the first `length` calls.
 template <class T> struct seen { T found; uint64_t length; };
 struct pinned { pinned() = default; pinned(const pinned &) = delete; pinned &operator=(const pinned &) = delete; };

@@ -2,11 +2,11 @@
 
 ghost use Rattle.std.specs.Prelude.{◌≡◌, ◌≤◌};
 
-use lock_desk::{Book, Call, Mode, NoMemory, Reply, Resource};
+use lock_desk::{Book, Call, Mode, NoMemory, Reply, Resource, Why};
 use std::process::Abort;
 use std::test::Fail;
 
-/// Reacts to the reply to a session's request: waits, aborts as a victim, or commits.
+/// Reacts to the reply to a session's request: waits, commits if it was granted, or else aborts.
 fn settle(book: &mut Book, session: u16, reply: Reply) -> Result<Reply, NoMemory>
     requires some { 1 ≤ session }
     requires within { session ≤ book.old.sessions }
@@ -15,10 +15,10 @@ fn settle(book: &mut Book, session: u16, reply: Reply) -> Result<Reply, NoMemory
     match reply {
         // other sessions go on, and this session polls again later
         Reply::Waiting => Ok(reply),
-        // here the engine undoes what the transaction wrote; the locks are held until the abort
-        Reply::Deadlock => book.serve(session, Call::Abort),
-        // Granted, or Clear after a wait: the engine can write the page
-        _ => book.serve(session, Call::Commit),
+        // the engine can write the page: a request that waited is granted once a poll is answered Clear
+        Reply::Granted(_) | Reply::Clear => book.serve(session, Call::Commit),
+        // a victim, or refused: here the engine undoes what the transaction wrote; its locks are held until the abort
+        _ => book.serve(session, Call::Abort),
     }
 }
 
@@ -123,6 +123,17 @@ fn meet(rt: &impl Abort, book: &mut Book) -> Result<(), Fail>
     wait_for(rt, book, 2, database)?;
     poll(rt, book, 1, Reply::Deadlock, Reply::Aborted(1))?;
     poll(rt, book, 2, Reply::Clear, Reply::Committed(2))
+}
+
+/// A request that is refused is followed by an abort, and nothing is committed.
+#[test]
+fn an_engine_commits_nothing_that_was_refused(rt: HostRuntime) -> Result<(), Fail> {
+    let database = Resource::from_numbers(&[1]).ok_or("no resource")?;
+    let mut book = Book::new(rt.alloc(), 2)?;
+    book.serve(1, Call::Begin)?;
+    let reply = book.serve(1, Call::Convert(database, Mode::S))?;
+    let refused = Reply::Refused(Why::NotHeld);
+    want_settled(&rt, &mut book, 1, reply, refused, Reply::Aborted(0))
 }
 
 /// The victim aborts, and the other session is granted its lock and commits.
