@@ -1,9 +1,11 @@
-//! Tests of sequential objects: each call of the traits once with success, of a counter, a queue and a book, and calls and batches
-//! that are refused memory.
+//! Tests of sequential objects: each call of the traits once with success, of a counter, a queue and a book, a board of a counter,
+//! and calls and batches that are refused memory.
 #![tactic(auto)]
 
 #[cfg(test)]
 mod asking;
+#[cfg(test)]
+mod boards;
 #[cfg(test)]
 mod calls;
 #[cfg(test)]
