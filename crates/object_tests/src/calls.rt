@@ -4,6 +4,7 @@ use crate::asking::{ask, ask_all, item};
 use bounded_queue::{BoundedQueue, CAPACITY, QueueCall, QueueReply};
 use counter::Counter;
 use lock_desk::{Book, Call, Mode, Reply, Resource};
+use ordered_map::{MapCall, MapReply, OrderedMap};
 use recording::Recording;
 use sequential::{Entry, Sequential, Serving, Telling, Trimming, are_within};
 use std::alloc::{AllocError, Global};
@@ -87,6 +88,31 @@ fn queues_keep_the_history_of_their_calls(rt: HostRuntime) -> Result<(), Fail> {
     want_queued(&rt, &mut queue);
     want_kept(&rt, rt.alloc(), &mut queue);
     let _behind: &BoundedQueue = queue.object();
+    Ok(())
+}
+
+/// Adds two keys, the greater one first, and takes the least one out. A key that is there isn't added, one that isn't there isn't
+/// taken.
+fn want_mapped(rt: &impl Abort, map: &mut Recording<OrderedMap>) {
+    assert_eq!(rt; ask(map, 1, MapCall::First), Some(MapReply::Absent));
+    assert_eq!(rt; ask(map, 1, MapCall::Add(5, 50)), Some(MapReply::Added));
+    assert_eq!(rt; ask(map, 2, MapCall::Add(5, 51)), Some(MapReply::Present(50)));
+    assert_eq!(rt; ask(map, 2, MapCall::Add(2, 20)), Some(MapReply::Added));
+    assert_eq!(rt; ask(map, 1, MapCall::First), Some(MapReply::Found(2, 20)));
+    assert_eq!(rt; ask(map, 1, MapCall::Get(5)), Some(MapReply::Found(5, 50)));
+    assert_eq!(rt; ask(map, 1, MapCall::Get(3)), Some(MapReply::Absent));
+    assert_eq!(rt; ask(map, 2, MapCall::Take(2)), Some(MapReply::Taken(20)));
+    assert_eq!(rt; ask(map, 2, MapCall::Take(2)), Some(MapReply::Absent));
+    assert_eq!(rt; ask(map, 1, MapCall::First), Some(MapReply::Found(5, 50)));
+}
+
+/// A map has each key once, and tells the least one.
+#[test]
+fn maps_keep_their_keys_in_order(rt: HostRuntime) -> Result<(), Fail> {
+    let map = OrderedMap::new(rt.alloc());
+    let mut recorded = Recording::new(rt.alloc(), map, 2);
+    want_mapped(&rt, &mut recorded);
+    assert!(rt; !Recording::<OrderedMap>::goes_first(&MapCall::First));
     Ok(())
 }
 

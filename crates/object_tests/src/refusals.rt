@@ -3,6 +3,7 @@
 
 use crate::asking::{ask, ask_all, item};
 use bounded_queue::{BoundedQueue, QueueCall, QueueReply};
+use ordered_map::{MapCall, MapReply, OrderedMap};
 use recording::Recording;
 use sequential::{Sequential, Trimming};
 use std::alloc::{AllocError, Global};
@@ -81,5 +82,32 @@ fn a_refused_batch_goes_on_at_the_second_try(rt: HostRuntime) -> Result<(), Fail
         queue.kept().last().map(|entry| entry.call),
         Some(QueueCall::Push(6))
     );
+    Ok(())
+}
+
+/// Adds a key, a second time if memory is refused; the key must not be there then. Returns whether memory was refused.
+fn want_added(rt: &impl Abort, map: &mut Recording<OrderedMap>, key: u32) -> bool {
+    let told = ask(map, 1, MapCall::Add(key, 7));
+    if told.is_some() {
+        assert_eq!(rt; told, Some(MapReply::Added));
+        return false;
+    }
+    assert_eq!(rt; ask(map, 1, MapCall::Get(key)), Some(MapReply::Absent));
+    assert_eq!(rt; ask(map, 1, MapCall::Add(key, 7)), Some(MapReply::Added));
+    true
+}
+
+/// A key for which memory is refused is added by the second try.
+#[test]
+fn a_refused_key_is_added_at_the_second_try(rt: HostRuntime) -> Result<(), Fail> {
+    let map = OrderedMap::new(rt.alloc());
+    let mut recorded = Recording::new(rt.alloc(), map, 1);
+    let mut was_refused = false;
+    for key in 0..12 {
+        was_refused |= want_added(&rt, &mut recorded, key);
+    }
+    if was_refused {
+        println!(&rt; "refused key")?;
+    }
     Ok(())
 }
