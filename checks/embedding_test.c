@@ -1073,6 +1073,81 @@ static void threads_share(void) {
     CHECK(pelgaisti_book_close(&book) == PELGAISTI_OK);
 }
 
+/* More clients than sessions: each transaction borrows a session, from its begin to its commit, and gives it back. */
+enum { CLIENTS = 32, LENT = 4, ROUNDS = 50 };
+static pelgaisti_session *pool[LENT];
+static int in_pool;
+static pthread_mutex_t pool_guard = PTHREAD_MUTEX_INITIALIZER;
+static pthread_cond_t pool_grew = PTHREAD_COND_INITIALIZER;
+
+static pelgaisti_session *borrow_session(void) {
+    pelgaisti_session *session;
+    pthread_mutex_lock(&pool_guard);
+    while (!in_pool) pthread_cond_wait(&pool_grew, &pool_guard);
+    session = pool[--in_pool];
+    pthread_mutex_unlock(&pool_guard);
+    return session;
+}
+
+static void give_session_back(pelgaisti_session *session) {
+    pthread_mutex_lock(&pool_guard);
+    pool[in_pool++] = session;
+    pthread_cond_signal(&pool_grew);
+    pthread_mutex_unlock(&pool_guard);
+}
+
+/* A client's transactions. Counts the replies that aren't as they have to be. */
+static void *work_on_loan(void *argument) {
+    uint64_t *bad = (uint64_t *)argument;
+    static const uint32_t steps[] = {PELGAISTI_BEGIN, PELGAISTI_LOCK, PELGAISTI_COMMIT};
+    static const uint32_t kinds[] = {PELGAISTI_BEGAN, PELGAISTI_GRANTED, PELGAISTI_COMMITTED};
+    for (int round = 0; round < ROUNDS; round++) {
+        pelgaisti_session *session = borrow_session();
+        for (int k = 0; k < 3; k++) {
+            pelgaisti_call call = call_of(steps[k], PELGAISTI_IX, 1, 1, 0);
+            pelgaisti_answer answer;
+            *bad += pelgaisti_session_perform(session, &call, UINT64_MAX, &answer) != PELGAISTI_OK || answer.reply.kind != kinds[k];
+        }
+        give_session_back(session);
+    }
+    return NULL;
+}
+
+/* Each of the clients' transactions is in the history, once, and those of a session don't overlap. */
+static void sessions_are_lent(void) {
+    static pelgaisti_session sessions[LENT];
+    static unsigned char began[CLIENTS * ROUNDS + 1];
+    pelgaisti_book book = PELGAISTI_EMPTY;
+    pthread_t threads[CLIENTS];
+    uint64_t bad[CLIENTS] = {0}, wrong = 0, length = 0;
+    static pelgaisti_entry entries[3 * CLIENTS * ROUNDS];
+    size_t count = 0;
+    uint32_t next[LENT + 1];
+
+    CHECK(pelgaisti_office_open(sessions, LENT) == PELGAISTI_OK);
+    for (int k = 0; k < LENT; k++) give_session_back(&sessions[k]);
+    for (int t = 0; t < CLIENTS; t++) CHECK(pthread_create(&threads[t], NULL, work_on_loan, &bad[t]) == 0);
+    for (int t = 0; t < CLIENTS; t++) {
+        CHECK(pthread_join(threads[t], NULL) == 0);
+        CHECK(bad[t] == 0);
+    }
+    CHECK(in_pool == LENT);
+    for (int k = LENT - 1; k > 0; k--) CHECK(pelgaisti_session_hand_in(&sessions[k], &sessions[0]) == PELGAISTI_OK);
+    CHECK(pelgaisti_office_close(&sessions[0], &book) == PELGAISTI_OK);
+    CHECK(pelgaisti_book_length(&book, &length) == PELGAISTI_OK && length == COUNT(entries));
+    CHECK(pelgaisti_book_history(&book, 0, entries, COUNT(entries), &count) == PELGAISTI_OK && count == COUNT(entries));
+    for (int k = 0; k <= LENT; k++) next[k] = PELGAISTI_BEGIN;
+    for (size_t k = 0; k < count; k++) {
+        uint32_t op = entries[k].call.op, *wanted = &next[entries[k].session];
+        wrong += op != *wanted;
+        *wanted = op == PELGAISTI_BEGIN ? PELGAISTI_LOCK : op == PELGAISTI_LOCK ? PELGAISTI_COMMIT : PELGAISTI_BEGIN;
+        if (op != PELGAISTI_BEGIN) continue;
+        wrong += !entries[k].reply.value || entries[k].reply.value > CLIENTS * ROUNDS || began[entries[k].reply.value]++;
+    }
+    CHECK(wrong == 0);
+    CHECK(pelgaisti_book_close(&book) == PELGAISTI_OK);
+}
+
 /* The history as the takers found it: each writes the pieces that it takes to their places. */
 static pelgaisti_entry taken[THREADS * CALLS];
 static unsigned char times[THREADS * CALLS];
@@ -1804,6 +1879,7 @@ int main(int argc, char **argv) {
     two_offices_have_their_own_sessions();
     pieces_follow();
     threads_share();
+    sessions_are_lent();
     pieces_are_the_history();
     ended_waits_of_a_book();
     tries_and_withdrawals();
