@@ -96,7 +96,10 @@ fn queues_keep_the_history_of_their_calls(rt: HostRuntime) -> Result<(), Fail> {
 fn want_mapped(rt: &impl Abort, map: &mut Recording<OrderedMap>) {
     assert_eq!(rt; ask(map, 1, MapCall::First), Some(MapReply::Absent));
     assert_eq!(rt; ask(map, 1, MapCall::Add(5, 50)), Some(MapReply::Added));
-    assert_eq!(rt; ask(map, 2, MapCall::Add(5, 51)), Some(MapReply::Present(50)));
+    assert_eq!(rt;
+        ask(map, 2, MapCall::Add(5, 51)),
+        Some(MapReply::Present(50))
+    );
     assert_eq!(rt; ask(map, 2, MapCall::Add(2, 20)), Some(MapReply::Added));
     assert_eq!(rt; ask(map, 1, MapCall::First), Some(MapReply::Found(2, 20)));
     assert_eq!(rt; ask(map, 1, MapCall::Get(5)), Some(MapReply::Found(5, 50)));

@@ -98,18 +98,24 @@ impl Stepping for OrderedMap {
                 };
                 Ok(MapReply::Added)
             }
-            MapCall::Take(key) => match self.map.remove(&key) {
-                Some(value) => Ok(MapReply::Taken(value)),
-                None => Ok(MapReply::Absent),
-            },
-            MapCall::Get(key) => match self.map.get(&key) {
-                Some(value) => Ok(MapReply::Found(key, *value)),
-                None => Ok(MapReply::Absent),
-            },
-            MapCall::First => match self.map.first_key_value() {
-                Some((key, value)) => Ok(MapReply::Found(*key, *value)),
-                None => Ok(MapReply::Absent),
-            },
+            MapCall::Take(key) => {
+                let Some(value) = self.map.remove(&key) else {
+                    return Ok(MapReply::Absent);
+                };
+                Ok(MapReply::Taken(value))
+            }
+            MapCall::Get(key) => {
+                let Some(value) = self.map.get(&key) else {
+                    return Ok(MapReply::Absent);
+                };
+                Ok(MapReply::Found(key, *value))
+            }
+            MapCall::First => {
+                let Some((key, value)) = self.map.first_key_value() else {
+                    return Ok(MapReply::Absent);
+                };
+                Ok(MapReply::Found(*key, *value))
+            }
         }
     }
 }
