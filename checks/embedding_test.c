@@ -1709,7 +1709,7 @@ static void calls_at_once(void) {
 }
 
 /* Threads that sleep until a pass tells of them: many more than there are processors. */
-enum { SLEEPERS = 64, DATABASES = 4 };
+enum { SLEEPERS = 64, DATABASES = 4, ENDINGS = 200 };
 static sem_t woken[SLEEPERS + 1];
 static pthread_barrier_t all_here;
 /* how many transactions each makes; the program's argument, if there is one */
@@ -1833,6 +1833,139 @@ static void threads_sleep(void) {
     CHECK(pelgaisti_book_close(&book) == PELGAISTI_OK);
 }
 
+/* What a session's thread sleeps on where an operator may ask that its transaction end: whether a pass has ended its wait, and
+   whether the operator has asked. */
+typedef struct bed {
+    pthread_mutex_t lock;
+    pthread_cond_t changed;
+    int is_ended, is_asked;
+} bed;
+static bed beds[4];
+
+static void note_ended(void *engine, uint32_t session) {
+    bed *it = (bed *)engine + session;
+    pthread_mutex_lock(&it->lock);
+    it->is_ended = 1;
+    pthread_cond_signal(&it->changed);
+    pthread_mutex_unlock(&it->lock);
+}
+
+static void ask_to_end(uint32_t session) {
+    pthread_mutex_lock(&beds[session].lock);
+    beds[session].is_asked = 1;
+    pthread_cond_signal(&beds[session].changed);
+    pthread_mutex_unlock(&beds[session].lock);
+}
+
+/* Sleeps until a pass has ended the wait, or, if the session may be asked, until the operator has asked. Returns whether the wait has
+   ended, and takes note of it. */
+static int sleep_until_ended(uint32_t session, int or_asked) {
+    bed *it = &beds[session];
+    int is_ended;
+    pthread_mutex_lock(&it->lock);
+    while (!it->is_ended && !(or_asked && it->is_asked)) pthread_cond_wait(&it->changed, &it->lock);
+    is_ended = it->is_ended;
+    it->is_ended = 0;
+    pthread_mutex_unlock(&it->lock);
+    return is_ended;
+}
+
+static int is_asked(uint32_t session) {
+    int is;
+    pthread_mutex_lock(&beds[session].lock);
+    is = beds[session].is_asked;
+    pthread_mutex_unlock(&beds[session].lock);
+    return is;
+}
+
+/* Makes a call, and notes the sessions whose wait a pass of this thread has ended. Returns the reply's kind. */
+static uint32_t call_and_note(sleeper *j, uint32_t op) {
+    pelgaisti_call call = call_of(op, PELGAISTI_X, 1, 1, 0);
+    pelgaisti_waker waker = {note_ended, beds, j->told, SLEEPERS};
+    pelgaisti_answer answer = {0, {0, 0}};
+    j->bad += pelgaisti_session_perform_waking(j->session, &call, UINT64_MAX, &waker, &answer) != PELGAISTI_OK;
+    return answer.reply.kind;
+}
+
+/* Waits for the database. A session that is asked takes its request back. If that is refused, a pass has ended the wait. It commits,
+   or aborts if it was asked. */
+static void *wait_and_obey(void *argument) {
+    sleeper *j = (sleeper *)argument;
+    uint32_t kind = 0;
+    j->bad += call_and_note(j, PELGAISTI_BEGIN) != PELGAISTI_BEGAN;
+    j->bad += call_and_note(j, PELGAISTI_LOCK) != PELGAISTI_WAITING;
+    pthread_barrier_wait(&all_here);
+    if (!sleep_until_ended(j->number, 1)) {
+        kind = call_and_note(j, PELGAISTI_WITHDRAW);
+        j->withdrawn += kind == PELGAISTI_WITHDRAWN;
+        j->bad += kind != PELGAISTI_WITHDRAWN && kind != PELGAISTI_REFUSED;
+        if (kind == PELGAISTI_REFUSED) sleep_until_ended(j->number, 0);
+    }
+    if (kind != PELGAISTI_WITHDRAWN) j->bad += call_and_note(j, PELGAISTI_POLL) != PELGAISTI_CLEAR;
+    if (is_asked(j->number))
+        j->bad += call_and_note(j, PELGAISTI_ABORT) != PELGAISTI_ABORTED;
+    else
+        j->bad += call_and_note(j, PELGAISTI_COMMIT) != PELGAISTI_COMMITTED;
+    return NULL;
+}
+
+/* A client that has gone to sleep in its transaction, until it is asked. */
+static void *sleep_and_obey(void *argument) {
+    sleeper *j = (sleeper *)argument;
+    pthread_barrier_wait(&all_here);
+    j->bad += sleep_until_ended(j->number, 1);
+    j->bad += call_and_note(j, PELGAISTI_ABORT) != PELGAISTI_ABORTED;
+    return NULL;
+}
+
+/* Session 1 holds a database and sleeps, sessions 2 and 3 wait for it. The operator asks 1 and 2 to end, in either order and with no
+   time between, so that the request of 2 is granted sometimes when it is to be taken back. 3 has the database in the end. */
+static void an_operator_ends_transactions(void) {
+    static pelgaisti_session sessions[3];
+    static sleeper jobs[3];
+    static pelgaisti_entry entries[12 * ENDINGS];
+    pelgaisti_book book = PELGAISTI_EMPTY;
+    uint64_t bad = 0, aborts = 0, commits = 0, taken_back = 0;
+    size_t count = 0;
+
+    CHECK(pelgaisti_office_open(sessions, 3) == PELGAISTI_OK);
+    CHECK(pthread_barrier_init(&all_here, NULL, 4) == 0);
+    for (uint32_t s = 1; s <= 3; s++) {
+        jobs[s - 1].session = &sessions[s - 1];
+        jobs[s - 1].number = s;
+        CHECK(pthread_mutex_init(&beds[s].lock, NULL) == 0 && pthread_cond_init(&beds[s].changed, NULL) == 0);
+    }
+    for (int round = 0; round < ENDINGS; round++) {
+        pthread_t threads[3];
+        for (uint32_t s = 1; s <= 3; s++) beds[s].is_asked = 0;
+        bad += call_and_note(&jobs[0], PELGAISTI_BEGIN) != PELGAISTI_BEGAN;
+        bad += call_and_note(&jobs[0], PELGAISTI_LOCK) != PELGAISTI_GRANTED;
+        for (int t = 0; t < 3; t++) bad += pthread_create(&threads[t], NULL, t == 0 ? sleep_and_obey : wait_and_obey, &jobs[t]) != 0;
+        pthread_barrier_wait(&all_here);
+        ask_to_end(round % 2 == 0 ? 1 : 2);
+        ask_to_end(round % 2 == 0 ? 2 : 1);
+        for (int t = 0; t < 3; t++) bad += pthread_join(threads[t], NULL) != 0;
+        for (uint32_t s = 1; s <= 3; s++) bad += beds[s].is_ended != 0;
+    }
+    for (uint32_t s = 1; s <= 3; s++) {
+        bad += jobs[s - 1].bad;
+        CHECK(pthread_cond_destroy(&beds[s].changed) == 0 && pthread_mutex_destroy(&beds[s].lock) == 0);
+    }
+    CHECK(bad == 0);
+    CHECK(pthread_barrier_destroy(&all_here) == 0);
+    for (int t = 2; t > 0; t--) CHECK(pelgaisti_session_hand_in(&sessions[t], &sessions[0]) == PELGAISTI_OK);
+    CHECK(pelgaisti_office_close(&sessions[0], &book) == PELGAISTI_OK);
+    CHECK(pelgaisti_book_history(&book, 0, entries, COUNT(entries), &count) == PELGAISTI_OK && count >= 11 * ENDINGS);
+    for (size_t k = 0; k < count; k++) {
+        aborts += entries[k].reply.kind == PELGAISTI_ABORTED;
+        commits += entries[k].reply.kind == PELGAISTI_COMMITTED;
+        taken_back += entries[k].reply.kind == PELGAISTI_WITHDRAWN;
+    }
+    /* session 2 may be asked when it has committed already */
+    CHECK(aborts + commits == 3 * ENDINGS && commits >= ENDINGS && aborts >= ENDINGS && taken_back == jobs[1].withdrawn);
+    CHECK(pelgaisti_book_close(&book) == PELGAISTI_OK);
+}
+
 /* What a waker has to have, and that its list is too small. */
 static void wakers_refuse(void) {
     static pelgaisti_session sessions[2];
@@ -1888,6 +2021,7 @@ int main(int argc, char **argv) {
     passes_tell();
     calls_at_once();
     threads_sleep();
+    an_operator_ends_transactions();
     wakers_refuse();
     printf("%d passed, %d failed\n", passed, failed);
     return failed != 0;

@@ -245,7 +245,8 @@ private:
 };
 static_assert(sizeof(session) == sizeof(pelgaisti_session), "an array of sessions is an array of handles");
 
-// An office with all its sessions. Whoever destroys it without closing it leaks its lock table.
+// An office with all its sessions, which no thread uses any more when it is destroyed. Without a close its lock table is freed then,
+// pending calls or not.
 class office : pinned {
     std::unique_ptr<session[]> sessions_;
     size_t count_, handed_in_ = 0;
@@ -253,6 +254,18 @@ public:
     // Of the history at most the newest `bound` entries are kept in memory.
     explicit office(size_t sessions, uint64_t bound = UINT64_MAX) : sessions_(new session[sessions]), count_(sessions) {
         check(pelgaisti_office_open_keeping(&sessions_[0].handle_, sessions, bound));
+    }
+    ~office() {
+        pelgaisti_session *const first = &sessions_[0].handle_;
+        pelgaisti_book made = PELGAISTI_EMPTY;
+        pelgaisti_pass pass;
+        pelgaisti_answer found;
+        for (size_t k = 0; k < count_; ++k) {  // a handle that is closed refuses each of these calls
+            static_cast<void>(pelgaisti_session_serve(first + k, &pass));
+            static_cast<void>(pelgaisti_session_collect(first + k, &found));
+        }
+        for (size_t k = 1; k < count_; ++k) static_cast<void>(pelgaisti_session_hand_in(first + k, first));
+        if (pelgaisti_office_close(first, &made) == PELGAISTI_OK) static_cast<void>(pelgaisti_book_close(&made));
     }
     session &operator[](size_t index) { return sessions_[index]; }
     size_t size() const { return count_; }

@@ -8,26 +8,58 @@ use std::cell::UnsafeCell;
 use std::hint;
 use std::marker::PhantomData;
 use std::sync::atomic::{AtomicU64, Ordering};
-use std::sync::Arc;
+use std::sync::{Arc, Mutex, MutexGuard, PoisonError};
 use std::thread;
 
 /// The handles of an office's sessions, at one place from its opening to its end.
-struct Handles(Box<[UnsafeCell<RawHandle>]>);
+struct Handles {
+    all: Box<[UnsafeCell<RawHandle>]>,
+    // the indices of the sessions that were dropped, with room for all, so that a drop asks for no memory
+    dropped: Mutex<Vec<usize>>,
+}
 
 // each handle is used by its own session, and by a session that has it by `&mut`
 unsafe impl Send for Handles {}
 unsafe impl Sync for Handles {}
+
+impl Handles {
+    /// The indices of the dropped sessions. What panicked beside them has left them whole.
+    fn dropped(&self) -> MutexGuard<'_, Vec<usize>> {
+        self.dropped.lock().unwrap_or_else(PoisonError::into_inner)
+    }
+}
+
+impl Drop for Handles {
+    /// All sessions were dropped: closes their office, unless it is closed, and gives its memory back. A handle that is closed
+    /// refuses each of these calls.
+    fn drop(&mut self) {
+        let (mut pass, mut answer, first) = (RawPass::default(), RawAnswer::default(), self.all[0].get());
+        for handle in &self.all {
+            unsafe {
+                ffi::pelgaisti_raw_session_serve(handle.get(), &mut pass);
+                ffi::pelgaisti_raw_session_collect(handle.get(), &mut answer);
+            }
+        }
+        for handle in &self.all[1..] {
+            unsafe { ffi::pelgaisti_raw_session_hand_in(handle.get(), first) };
+        }
+        let book = Book::closed();
+        unsafe { ffi::pelgaisti_raw_office_close(first, book.raw()) };
+    }
+}
 
 /// A lock table that threads share, each by a session of its own. This type has no values: an office is its sessions.
 pub enum Office {}
 
 /// One session of an office. It may go to another thread, and is used by one at a time.
 ///
-/// A session that is dropped stays in its office: its transaction and its locks stay as they are, and the office can't be closed
-/// any more.
+/// A session that is dropped goes back to its office with its transaction, its locks and its pending call as they are, also by a
+/// panic. [`Office::orphans`] hands it out again. If all sessions of an office are dropped, its lock table is dropped with the last.
 pub struct Session {
     handles: Arc<Handles>,
     index: usize,
+    // handed in, so that it doesn't go back when it is dropped
+    is_handed_in: bool,
     // room for whose wait a pass has ended, from the first call on that tells it
     told: Vec<u32>,
     // not Sync: a call uses the handle alone
@@ -107,17 +139,36 @@ impl Office {
             return Err(Error::NoSuchCount);
         }
         let handles: Vec<_> = (0..sessions).map(|_| UnsafeCell::new(RawHandle::EMPTY)).collect();
-        let handles = Arc::new(Handles(handles.into_boxed_slice()));
+        let handles = Arc::new(Handles {
+            all: handles.into_boxed_slice(),
+            dropped: Mutex::new(Vec::with_capacity(sessions)),
+        });
         let mark = MARKS.fetch_add(1, Ordering::Relaxed);
         // an UnsafeCell has the layout of what is in it
-        done(unsafe { ffi::pelgaisti_raw_office_open(handles.0[0].get(), sessions, mark, bound) })?;
-        let session = |index| Session {
-            handles: handles.clone(),
-            index,
-            told: Vec::new(),
-            alone: PhantomData,
-        };
-        Ok((0..sessions).map(session).collect())
+        done(unsafe { ffi::pelgaisti_raw_office_open(handles.all[0].get(), sessions, mark, bound) })?;
+        Ok((0..sessions).map(|index| Session::of(&handles, index)).collect())
+    }
+
+    /// The sessions of this session's office that were dropped and not handed out since, by number. Each still has its transaction,
+    /// its locks and its pending call, if there are such: [`Session::resume`] finishes the call, and [`Call::Abort`] ends the
+    /// transaction.
+    ///
+    ///     # use pelgaisti::{Call, Mode, Office, Reply, Resource};
+    ///     let mut sessions = Office::open(2)?;
+    ///     let mut lost = sessions.pop().unwrap();
+    ///     lost.perform(&Call::Begin, u64::MAX)?;
+    ///     lost.perform(&Call::Lock(Resource::new(&[7]).unwrap(), Mode::X), u64::MAX)?;
+    ///     drop(lost);
+    ///     let mut orphans = Office::orphans(&sessions[0]);
+    ///     assert_eq!(orphans[0].number(), 2);
+    ///     assert_eq!(orphans[0].perform(&Call::Abort, u64::MAX)?.reply, Reply::Aborted(1));
+    ///     sessions.append(&mut orphans);
+    ///     assert!(Office::close(sessions).is_ok());
+    ///     # Ok::<(), pelgaisti::Error>(())
+    pub fn orphans(session: &Session) -> Vec<Session> {
+        let mut dropped = session.handles.dropped();
+        dropped.sort_unstable();
+        dropped.drain(..).map(|index| Session::of(&session.handles, index)).collect()
     }
 
     /// Closes the office of these sessions, each once, in any order, with no call pending, and returns the lock table with the
@@ -139,7 +190,7 @@ impl Office {
                 sessions,
             });
         }
-        while let Some(last) = sessions.pop() {
+        while let Some(mut last) = sessions.pop() {
             if sessions.is_empty() {
                 sessions.push(last);
                 break;
@@ -149,6 +200,7 @@ impl Office {
                 sessions.push(last);
                 return Err(NotClosed { error, sessions });
             }
+            last.is_handed_in = true;
         }
         let book = Book::closed();
         match done(unsafe { ffi::pelgaisti_raw_office_close(sessions[0].raw(), book.raw()) }) {
@@ -175,9 +227,27 @@ fn try_at_once(turns: u64, mut perform: impl FnMut() -> Result<(), Error>) -> Re
     Err(Error::Elsewhere)
 }
 
+impl Drop for Session {
+    fn drop(&mut self) {
+        if !self.is_handed_in {
+            self.handles.dropped().push(self.index);
+        }
+    }
+}
+
 impl Session {
+    fn of(handles: &Arc<Handles>, index: usize) -> Session {
+        Session {
+            handles: handles.clone(),
+            index,
+            is_handed_in: false,
+            told: Vec::new(),
+            alone: PhantomData,
+        }
+    }
+
     pub(crate) fn raw(&self) -> *mut RawHandle {
-        self.handles.0[self.index].get()
+        self.handles.all[self.index].get()
     }
 
     /// The session's number, from 1 on.
@@ -255,7 +325,7 @@ impl Session {
     /// Where a call writes whose wait it has ended, and for how many sessions there is room.
     fn room_for_told(&mut self) -> (*mut u32, usize) {
         if self.told.is_empty() {
-            self.told = vec![0; self.handles.0.len()];
+            self.told = vec![0; self.handles.all.len()];
         }
         (self.told.as_mut_ptr(), self.told.len())
     }

@@ -1,0 +1,96 @@
+//! Sessions that are dropped: by a thread that panics, with a pending call, and all of an office.
+
+use pelgaisti::{Call, Error, Mode, Office, Reply, Resource, Session};
+use std::panic;
+use std::thread;
+
+/// Performs a call of the session and returns the reply.
+fn reply(session: &mut Session, call: Call) -> Reply {
+    session.perform(&call, u64::MAX).unwrap().reply
+}
+
+fn numbers(sessions: &[Session]) -> Vec<usize> {
+    sessions.iter().map(Session::number).collect()
+}
+
+/// glibc's count of the bytes that are in use.
+fn bytes_in_use() -> usize {
+    #[repr(C)]
+    struct Mallinfo2([usize; 10]);
+    unsafe extern "C" {
+        fn mallinfo2() -> Mallinfo2;
+    }
+    // its eighth field is uordblks, and its fifth hblkhd: in blocks, and mapped
+    let found = unsafe { mallinfo2() };
+    found.0[7] + found.0[4]
+}
+
+// one test, since it counts the bytes of the process
+#[test]
+fn dropped_sessions() {
+    let page = Resource::new(&[7]).unwrap();
+    let mut sessions = Office::open(4).unwrap();
+    let mut third = sessions.remove(2);
+    let mut fourth = sessions.remove(2);
+
+    // threads that panic: one holds the page, and one has asked for its commit and not heard of it
+    let panicked = thread::spawn(move || {
+        assert_eq!(reply(&mut third, Call::Begin), Reply::Began(1));
+        assert_eq!(reply(&mut third, Call::Lock(page, Mode::X)), Reply::Granted(Mode::X));
+        panic::resume_unwind(Box::new(()));
+    });
+    assert!(panicked.join().is_err());
+    let panicked = thread::spawn(move || {
+        assert_eq!(reply(&mut fourth, Call::Begin), Reply::Began(2));
+        fourth.publish(&Call::Commit).unwrap();
+        panic::resume_unwind(Box::new(()));
+    });
+    assert!(panicked.join().is_err());
+    assert_eq!(reply(&mut sessions[1], Call::Begin), Reply::Began(3));
+    assert_eq!(reply(&mut sessions[1], Call::Lock(page, Mode::S)), Reply::Waiting);
+
+    // each comes back once, with what it had
+    let mut orphans = Office::orphans(&sessions[0]);
+    assert_eq!(numbers(&orphans), [3, 4]);
+    assert!(Office::orphans(&sessions[0]).is_empty());
+    assert_eq!(orphans[0].resume(1), Err(Error::NothingPending));
+    assert_eq!(reply(&mut orphans[0], Call::Abort), Reply::Aborted(1));
+    assert_eq!(orphans[1].resume(1).unwrap().reply, Reply::Committed(0));
+    assert_eq!(reply(&mut sessions[1], Call::Poll), Reply::Clear);
+
+    // dropped again, it comes back again, and its number is used again
+    drop(orphans.pop());
+    drop(orphans.pop());
+    let mut orphans = Office::orphans(&sessions[1]);
+    assert_eq!(numbers(&orphans), [3, 4]);
+    assert_eq!(reply(&mut orphans[1], Call::Begin), Reply::Began(4));
+    assert_eq!(reply(&mut orphans[1], Call::Commit), Reply::Committed(0));
+
+    // an office isn't closed without them, and what was handed in already doesn't come back
+    drop(orphans);
+    let refused = Office::close(sessions).err().unwrap();
+    assert_eq!((refused.error, numbers(&refused.sessions)), (Error::Missing, vec![1]));
+    let mut sessions = refused.sessions;
+    let mut orphans = Office::orphans(&sessions[0]);
+    assert_eq!(numbers(&orphans), [3, 4]);
+    sessions.append(&mut orphans);
+    assert_eq!(Office::close(sessions).ok().unwrap().length(), 10);
+
+    // an office whose sessions are all dropped gives its memory back, pending calls or not, handed in or not
+    let drop_office = |round: usize| {
+        let mut sessions = Office::open(256).unwrap();
+        for session in &mut sessions[round % 2..] {
+            session.publish(&Call::Begin).unwrap();
+        }
+        if round % 2 == 1 {
+            let last = sessions.pop();
+            assert_eq!(Office::close(sessions).err().unwrap().error, Error::Pending);
+            drop(last);
+        }
+    };
+    (0..4).for_each(drop_office);
+    let before = bytes_in_use();
+    (0..32).for_each(drop_office);
+    let kept = bytes_in_use().saturating_sub(before);
+    assert!(kept < 65_536, "{kept} bytes are kept");
+}
