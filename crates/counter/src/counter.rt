@@ -7,7 +7,7 @@ use sequential::{Entry, MAX_SESSIONS, Sequential, Serving};
 use std::alloc::AllocError as NoMemory;
 use std::marker::Model;
 
-/// A counter.
+/// A counter modulo 2^64. It serves 2^64 - 1 calls, and each later one as if memory were refused for it.
 #[derive(Drop)]
 pub struct Counter {
     /// The number of sessions.

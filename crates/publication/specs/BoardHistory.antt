@@ -37,7 +37,7 @@ module _ {O C R : Type 0} (obj : Ghosts O C R) where
 module _ {O C R : Type 0} (obj : Ghosts O C R) where
   -- The entry is appended to the history: it is the call that its session has pending.
   pub record IsAppended (s t : BoardState O C R) (entry : Entry C R) : Type 0 where
-    pub history : history_of obj t ≡ (history_of obj) s ++ entry ∷ []
+    pub history : history_of obj t ≡ history_of obj s ++ entry ∷ []
     pub floor : ℕ
     pub pending : (seat s entry.session).own.pending ≡ Some (record { call = entry.call; floor = floor })
 
@@ -46,7 +46,7 @@ module _ {O C R : Type 0} (obj : Ghosts O C R) where
   -- after. The session has no call pending before or after, and the answers that it has collected grow by this call's, whose
   -- place is the end of the history before.
   pub record IsEnteredDirectly (s t : BoardState O C R) (entry : Entry C R) : Type 0 where
-    pub history : history_of obj t ≡ (history_of obj) s ++ entry ∷ []
+    pub history : history_of obj t ≡ history_of obj s ++ entry ∷ []
     pub combiner : word s 0 ≡ entry.session
     pub still : word t 0 ≡ entry.session
     pub answers : List (Answered C R)

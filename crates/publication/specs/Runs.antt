@@ -82,7 +82,7 @@ module _ {O C R : Type 0} where
   IsCombiner m = m.0.combiner.has_object ≡ true
 
 module _ {O C R : Type 0} (obj : Ghosts O C R) where
-  -- The slot that the seat lays down holds a book with the history that the session knows.
+  -- The slot that the seat lays down holds an object with the history that the session knows.
   pub record LaysDownLoad (m : Seated O C R) : Type 0 where
     pub load : Box (Load O C R)
     pub more : List (ℕ × SlotValue O C R)

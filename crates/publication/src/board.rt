@@ -207,8 +207,8 @@ impl<O: Sequential> Board<O> {
     /// A board for the sessions of the object, and a ticket for each session, by number. Fails with `NoMemory` if
     /// memory is refused.
     pub fn new(alloc: Global, book: O) -> Result<(Board<O>, Vec<Ticket<O>>), NoMemory>
-        requires empty { (O.history book) ≡ [] }
-        ensures sessions { IfOk result (λ made. made.0.sessions ≡ (O.sessions book)) }
+        requires empty { O.history book ≡ [] }
+        ensures sessions { IfOk result (λ made. made.0.sessions ≡ O.sessions book) }
         ensures tickets { IfOk result (λ made. made.1.items ≡ new_tickets made.0.id (O.sessions book) (O.sessions book)) }
     {
         let sessions = book.sessions();
@@ -392,11 +392,11 @@ impl<O: Sequential> Board<O> {
         }
     }
 
-    /// Ends the board and returns its book, after each session's seat was joined into the closing seat.
+    /// Ends the board and returns its object, after each session's seat was joined into the closing seat.
     fn finish(self, closing: Seat<O>) -> O
         requires ours { closing.table_id ≡ self.id }
         requires all { WereHanded (self.sessions + 1) closing.me.0.others.handed }
-        ensures sessions { (O.sessions result) ≡ self.sessions }
+        ensures sessions { O.sessions result ≡ self.sessions }
         ensures legal { O.is_legal (O.history result) }
         ensures ends { AreEnded (O.history result) closing.me.0.others.handed }
         ensures pieces { TookHanded O.Sequential result closing.me.0.others.handed }
@@ -405,7 +405,7 @@ impl<O: Sequential> Board<O> {
         close_table(table, closing)
     }
 
-    /// Closes the board and returns its book, with the whole history. Needs each session's ticket exactly once, in
+    /// Closes the board and returns its object, with the whole history. Needs each session's ticket exactly once, in
     /// any order, and all of them settled: no call pending, and not the combiner.
     ///
     /// Otherwise it returns the board and the tickets, in their order, with `Missing` if a ticket is missing or there
@@ -417,7 +417,7 @@ impl<O: Sequential> Board<O> {
         requires ours { All (IsOf self) tickets.items }
         ensures all { IfOk result (λ _. IsEachOnce self.sessions tickets.items) }
         ensures settled { IfOk result (λ _. All IsSettled tickets.items) }
-        ensures sessions { IfOk result (λ book. (O.sessions book) ≡ self.sessions) }
+        ensures sessions { IfOk result (λ book. O.sessions book ≡ self.sessions) }
         ensures legal { IfOk result (λ book. O.is_legal (O.history book)) }
         ensures accounts { IfOk result (λ book. All (AccountsFor (O.history book)) tickets.items) }
         ensures pieces { IfOk result (λ book. TookPieces O.Sequential book tickets.items) }

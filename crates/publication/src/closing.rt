@@ -50,7 +50,7 @@ pub(crate) fn are_settled<O: Sequential>(tickets: &[Ticket<O>]) -> bool
     tickets.iter().all(|ticket| ticket.is_settled())
 }
 
-/// Ends the table and returns its book. Needs a closing seat into which all sessions' seats were joined.
+/// Ends the table and returns its object. Needs a closing seat into which all sessions' seats were joined.
 pub(crate) fn close_table<O: Sequential>(
     table: Table<SlotValue<O>, View<O::Call, O::Reply>, u16, BoardRule<O>, Global>,
     closing: Seat<O>,
@@ -58,7 +58,7 @@ pub(crate) fn close_table<O: Sequential>(
     requires ours { closing.table_id ≡ table.shared.table_id }
     requires some { 0 < table.shared.table_id.slots }
     requires all { WereHanded table.shared.table_id.slots closing.me.0.others.handed }
-    ensures sessions { (O.sessions result) + 1 ≡ table.shared.table_id.slots }
+    ensures sessions { O.sessions result + 1 ≡ table.shared.table_id.slots }
     ensures legal { O.is_legal (O.history result) }
     ensures ends { AreEnded (O.history result) closing.me.0.others.handed }
     ensures pieces { TookHanded O.Sequential result closing.me.0.others.handed }

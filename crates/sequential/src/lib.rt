@@ -3,8 +3,9 @@
 //!
 //! `entry.rt` has the entries of a history and the items of a batch. `object.rt` has the trait of a sequential object with
 //! its histories and their laws, `serving.rt` that of one that serves calls, `trimming.rt` that of one that lets go of its
-//! history, `telling.rt` that of one whose calls end the waits of other sessions. `laws.rt` says what follows of histories. An object that is given by one function,
-//! its reply to a call behind a history, is best made by `recording`, which proves the laws once.
+//! history, `telling.rt` that of one whose calls end the waits of other sessions. `laws.rt` says what follows of histories.
+//! An object that is given by one function, its reply to a call behind a history, is best made by `recording`, which proves
+//! the laws once.
 //!
 //! What is proved of a shared object is as strong as what the object says of itself: `is_legal`, and `agree`. The laws
 //! refuse an object of which any history is legal, unless all of its replies agree.

@@ -23,7 +23,7 @@ impl<O: Sequential> Board<O> {
     pub fn seize(&self, ticket: &mut Ticket<O>) -> Option<Box<Load<O>>>
         requires ours { IsOf self.now ticket.old }
         ensures ticket { IfSome result (λ load. ticket.new ≡ record ticket.old {
-          front = (O.history load.value.book);
+          front = O.history load.value.book;
           has_object = true;
           taken = load.value.pieces.items;
         }) }
