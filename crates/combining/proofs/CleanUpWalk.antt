@@ -1,7 +1,7 @@
 -- The walk of a clean-up comes nearer to the end of the list with each record.
 use Rattle.std.proofs.Common.{◌≡◌, ◌⊎◌, inl, inr, ⊎_elim, ℕ, zero, suc, ◌+◌, ◌<◌, ◌==◌, Bool, true, false, cond, Some, None, List, [], ◌∷◌, ◌++◌, length, take, drop, set, refl, sym, ap, ◌∙◌, subst, arith, eq-eqb, ne_eqb}
 use Rattle.std.specs.Prelude.{All}
-use Rattle.lock_desk.specs.Batches.{Item}
+use Rattle.sequential.specs.declared.entry.Item.{Item}
 use Rattle.sequential.specs.Batches.{IsItemWithin}
 use Rattle.publication.specs.Views.{BoardView}
 use Rattle.publication.specs.Boards.{IsNumber}
@@ -48,22 +48,23 @@ next-number board b w route r next = let on = on_behind w b route (first_on (beh
     first_on [] e = absurd (cc e)
     first_on (x ∷ xs) e = inl (let z : Some x ≡ Some w = e in let y : x ≡ w = cc z in sym y)
 
--- The items of a row are of the board's sessions.
-pub row-within : (n : ℕ) (l : Calls) (row : List Item) → AreOpened n l row → All (IsItemWithin n) row
-row-within n l [] all k d few = absurd (omega arith)
-row-within n l (i ∷ is) all zero d few = all.0
-row-within n l (i ∷ is) all (suc k) d few = row-within n (set l i.session None) is all.2 k d (omega arith)
+module _ {C R : Type 0} where
+  -- The items of a row are of the board's sessions.
+  pub row-within : (n : ℕ) (l : Calls C) (row : List (Item C R)) → AreOpened n l row → All (IsItemWithin n) row
+  row-within n l [] all k d few = absurd (omega arith)
+  row-within n l (i ∷ is) all zero d few = all.0
+  row-within n l (i ∷ is) all (suc k) d few = row-within n (set l i.session None) is all.2 k d (omega arith)
 
--- The first items of such a row are of the board's sessions too.
-pub first-within : (n k : ℕ) (row : List Item) → All (IsItemWithin n) row → All (IsItemWithin n) (take k row)
-first-within n k [] all j d few = absurd (none k few)
-  where
-    none : (k : ℕ) → j < length {A = Item} (take k []) → ⊥
-    none zero h = absurd (omega arith)
-    none (suc k) h = absurd (omega arith)
-first-within n zero (i ∷ is) all j d few = absurd (omega arith)
-first-within n (suc k) (i ∷ is) all zero d few = all 0 d (omega arith)
-first-within n (suc k) (i ∷ is) all (suc j) d few = first-within n k is (λ m e less. all (suc m) e (omega arith)) j d (omega arith)
+  -- The first items of such a row are of the board's sessions too.
+  pub first-within : (n k : ℕ) (row : List (Item C R)) → All (IsItemWithin n) row → All (IsItemWithin n) (take k row)
+  first-within n k [] all j d few = absurd (none k few)
+    where
+      none : (k : ℕ) → j < length {A = (Item C R)} (take k []) → ⊥
+      none zero h = absurd (omega arith)
+      none (suc k) h = absurd (omega arith)
+  first-within n zero (i ∷ is) all j d few = absurd (omega arith)
+  first-within n (suc k) (i ∷ is) all zero d few = all 0 d (omega arith)
+  first-within n (suc k) (i ∷ is) all (suc j) d few = first-within n k is (λ m e less. all (suc m) e (omega arith)) j d (omega arith)
 
 -- The first record of a route is a session's, and on the route.
 pub first-number : (board : BoardView) (w : ℕ) (route : List ℕ) → IsRoute (board.sessions + 1) route → first_of route ≡ Some w → IsNumber board w × IsOn w route

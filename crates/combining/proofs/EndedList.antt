@@ -13,8 +13,7 @@ use Rattle.std.proofs.lemmas.Map.Made.{length-le_from_is_member, is_member-Decid
 use Rattle.std.proofs.Math.Seq.{get_or-append_seam, take-suc}
 use mathlib.Core.Logic.{dite}
 use native.Mathlib.Decide.{ℕ_discrete}
-use Rattle.lock_rules.proofs.Alters.{true≢false}
-use Rattle.lock_rules.proofs.Ended.{member-range}
+use Rattle.sequential.proofs.Ranges.{true≢false, member-range}
 use Rattle.sequential.proofs.Members.{member-contains}
 use Rattle.combining.specs.Ended.{IsOnce}
 

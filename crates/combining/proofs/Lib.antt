@@ -1,5 +1,6 @@
 pub mod NewSessions
 pub mod OpenedRow
+pub mod Batches
 pub mod PerformedCalls
 pub mod CallsToServe
 pub mod SameSession
@@ -12,7 +13,6 @@ pub mod PendingSessions
 pub mod TakenPieces
 pub mod EndedList
 pub mod EndedWaits
-pub mod WakesTold
 pub mod OwnCalls
 pub mod Turns
-pub mod Blockers
+pub mod OneHistory

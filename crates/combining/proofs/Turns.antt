@@ -3,159 +3,163 @@ use Rattle.std.proofs.Common.{◌≡◌, ℕ, ◌+◌, ◌⊎◌, ⊎_elim, Bool
 use mathlib.Core.List.{IsPrefix}
 use mathlib.Core.Option as opt
 use lib.ListN.{get_elem?}
-use Rattle.lock_rules.specs.declared.calls.Call.{Call}
-use Rattle.lock_rules.specs.declared.calls.Reply.{Reply}
-use Rattle.lock_rules.specs.Entries.{Entry, Answered}
-use Rattle.sequential.specs.Histories.{calls_of}
-use Rattle.publication.specs.Views.{entry, answer, asks}
-use Rattle.lock_board.specs.LockBoards.{TicketView, Pending}
+use Rattle.sequential.specs.declared.entry.Entry.{Entry}
+use Rattle.sequential.specs.Histories.{Answered, calls_of}
+use Rattle.publication.specs.Views.{TicketView, Pending, entry, answer, asks}
 use Rattle.publication.specs.Boards.{publishing, enlisted, tried}
 use Rattle.publication.proofs.Lists.{prefix_self, prefix_trans}
 use Rattle.combining.specs.Sessions.{HasTriedToList, IsPassed, IsCollected, IsPerformed, IsRefused}
 use Rattle.combining.specs.Calls.{later, IsWaitingOn, IsAnswered, IsCalled, IsCalling}
+use Rattle.sequential.specs.declared.object.Sequential.{Ghosts}
 
--- A session of which nothing else changed than a turn may change is as `later` has it.
-pub fits : (t u : TicketView) (q : Option Pending) (cs : List Answered) (f : List Entry) (h : List ℕ) (l : Bool) (n p : ℕ)
-    → u ≡ record t { pending = q; collected = cs; front = f; heard = h; listed = l; tries = n; put_backs = p } → u ≡ later t q cs u
-fits t u q cs f h l n p is = is ∙ ap
-    (λ (k : List Entry × (List ℕ × (Bool × (ℕ × ℕ)))). record t { pending = q; collected = cs; front = k.0; heard = k.1.0; listed = k.1.1.0; tries = k.1.1.1.0; put_backs = k.1.1.1.1 })
-    (sym (ap (λ (x : TicketView). (x.front, (x.heard, (x.listed, (x.tries, x.put_backs))))) is))
+module _ {C R : Type 0} where
+  -- A session of which nothing else changed than a turn may change is as `later` has it.
+  pub fits : (t u : TicketView C R) (q : Option (Pending C)) (cs : List (Answered C R)) (f : List (Entry C R)) (h : List ℕ) (l : Bool) (n p : ℕ)
+      → u ≡ record t { pending = q; collected = cs; front = f; heard = h; listed = l; tries = n; put_backs = p } → u ≡ later t q cs u
+  fits t u q cs f h l n p is = is ∙ ap
+      (λ (k : List (Entry C R) × (List ℕ × (Bool × (ℕ × ℕ)))). record t { pending = q; collected = cs; front = k.0; heard = k.1.0; listed = k.1.1.0; tries = k.1.1.1.0; put_backs = k.1.1.1.1 })
+      (sym (ap (λ (x : TicketView C R). (x.front, (x.heard, (x.listed, (x.tries, x.put_backs))))) is))
 
--- A front that stays begins itself.
-stays : (t u : TicketView) (f : List Entry) → u.front ≡ f → IsPrefix t.front f → IsPrefix t.front u.front
-stays t u f is longer = subst (λ (l : List Entry). IsPrefix t.front l) (sym is) longer
+  -- A front that stays begins itself.
+  stays : (t u : TicketView C R) (f : List (Entry C R)) → u.front ≡ f → IsPrefix t.front f → IsPrefix t.front u.front
+  stays t u f is longer = subst (λ (l : List (Entry C R)). IsPrefix t.front l) (sym is) longer
 
-pub waiting-self : (t : TicketView) → IsWaitingOn t t
-waiting-self t = record { session = refl; longer = prefix_self t.front }
+  pub waiting-self : (t : TicketView C R) → IsWaitingOn t t
+  waiting-self t = record { session = refl; longer = prefix_self t.front }
 
--- A session that tried once more to have its call listed goes on waiting.
-pub waiting-tried : (t u : TicketView) → HasTriedToList t u → IsWaitingOn t u
-waiting-tried t u h = ⊎_elim
-    (λ a. ⊎_elim
-    (λ is. from t.heard t.listed (t.tries + 1) is)
-    (λ is. from (enlisted t).heard true (t.tries + 1) is)
-    a.1)
-    (λ b. from t.heard t.listed t.tries b.1)
-    h
-  where
-    from : (h : List ℕ) (l : Bool) (n : ℕ) → u ≡ record t { heard = h; listed = l; tries = n } → IsWaitingOn t u
-    from h l n is = record {
-      session = fits t u t.pending t.collected t.front h l n t.put_backs is;
-      longer = stays t u t.front (ap (λ (x : TicketView). x.front) is) (prefix_self t.front);
-    }
+  -- A session that tried once more to have its call listed goes on waiting.
+  pub waiting-tried : (t u : TicketView C R) → HasTriedToList t u → IsWaitingOn t u
+  waiting-tried t u h = ⊎_elim
+      (λ a. ⊎_elim
+      (λ is. from t.heard t.listed (t.tries + 1) is)
+      (λ is. from (enlisted t).heard true (t.tries + 1) is)
+      a.1)
+      (λ b. from t.heard t.listed t.tries b.1)
+      h
+    where
+      from : (h : List ℕ) (l : Bool) (n : ℕ) → u ≡ record t { heard = h; listed = l; tries = n } → IsWaitingOn t u
+      from h l n is = record {
+        session = fits t u t.pending t.collected t.front h l n t.put_backs is;
+        longer = stays t u t.front (ap (λ (x : TicketView C R). x.front) is) (prefix_self t.front);
+      }
 
--- Waiting goes on.
-pub waiting-trans : (t u v : TicketView) → IsWaitingOn t u → IsWaitingOn u v → IsWaitingOn t v
-waiting-trans t u v first last = record {
-  session = fits t v t.pending t.collected v.front v.heard v.listed v.tries v.put_backs
-      (last.session ∙ ap (λ (x : TicketView). later x x.pending x.collected v) first.session);
-  longer = prefix_trans t.front u.front v.front first.longer last.longer;
-}
+  -- Waiting goes on.
+  pub waiting-trans : (t u v : TicketView C R) → IsWaitingOn t u → IsWaitingOn u v → IsWaitingOn t v
+  waiting-trans t u v first last = record {
+    session = fits t v t.pending t.collected v.front v.heard v.listed v.tries v.put_backs
+        (last.session ∙ ap (λ (x : TicketView C R). later x x.pending x.collected v) first.session);
+    longer = prefix_trans t.front u.front v.front first.longer last.longer;
+  }
 
--- A session that made a pass goes on waiting.
-pub waiting-passed : (t u : TicketView) (served : ℕ) → IsPassed t u served → IsWaitingOn t u
-waiting-passed t u served p =
-    let first = waiting-tried t p.between p.is_tried in
-    record {
-      session = fits t u t.pending t.collected u.front p.between.heard p.between.listed p.between.tries u.put_backs
-          (p.session ∙ ap (λ (x : TicketView). record x { front = u.front; put_backs = u.put_backs }) first.session);
-      longer = (p.others ++ p.own, sym (p.front ∙ append_assoc t.front p.others p.own));
-    }
-
--- A session that waited collects its answer.
-pub answered : (t u v : TicketView) (place : ℕ) (reply : Reply) → IsWaitingOn t u → IsCollected u v place reply → IsAnswered t v place reply
-answered t u v place reply w c =
-    let number : u.number ≡ t.number = ap (λ (x : TicketView). x.number) w.session in
-    let pending : u.pending ≡ t.pending = ap (λ (x : TicketView). x.pending) w.session in
-    let collected : u.collected ≡ t.collected = ap (λ (x : TicketView). x.collected) w.session in (
-      c.call,
-      c.floor,
-      sym pending ∙ c.pending,
+module _ {O C R : Type 0} {obj : Ghosts O C R} where
+  -- A session that made a pass goes on waiting.
+  pub waiting-passed : (t u : TicketView C R) (served : ℕ) → IsPassed obj t u served → IsWaitingOn t u
+  waiting-passed t u served p =
+      let first = waiting-tried t p.between p.is_tried in
       record {
-        session = fits t v None (t.collected ++ answer place c.call reply ∷ []) v.front u.heard u.listed u.tries u.put_backs
-            (c.session ∙ (ap (λ (x : TicketView). record x { front = v.front; pending = None; collected = u.collected ++ answer place c.call reply ∷ [] }) w.session
-            ∙ ap (λ (l : List Answered). record (later t t.pending t.collected u) { front = v.front; pending = None; collected = l ++ answer place c.call reply ∷ [] }) collected));
-        longer = prefix_trans t.front u.front v.front w.longer c.longer;
-        legal = c.legal;
-        stands = subst (λ (n : ℕ). get_elem? v.front place ≡ opt.some (entry n c.call reply)) number c.stands;
-        late = c.late;
-        calls = subst (λ (n : ℕ). calls_of n v.front ≡ v.collected) number c.calls;
-      },
-    )
+        session = fits t u t.pending t.collected u.front p.between.heard p.between.listed p.between.tries u.put_backs
+            (p.session ∙ ap (λ (x : TicketView C R). record x { front = u.front; put_backs = u.put_backs }) first.session);
+        longer = (p.others ++ p.own, sym (p.front ∙ append_assoc t.front p.others p.own));
+      }
 
--- The idle session that published a call.
-pub posted-waits : (t u : TicketView) (call : Call) → (u ≡ enlisted (publishing t call)) ⊎ ((u ≡ tried (enlisted (publishing t call))) ⊎ (u ≡ tried (publishing t call))) → IsWaitingOn (publishing t call) u
-posted-waits t u call h = ⊎_elim
-    (λ is. from (enlisted p).heard true p.tries is)
-    (λ r. ⊎_elim (λ is. from (enlisted p).heard true (p.tries + 1) is) (λ is. from p.heard p.listed (p.tries + 1) is) r)
-    h
-  where
-    p : TicketView
-    p = publishing t call
-
-    from : (h : List ℕ) (l : Bool) (n : ℕ) → u ≡ record p { heard = h; listed = l; tries = n } → IsWaitingOn p u
-    from h l n is = record {
-      session = fits p u p.pending p.collected p.front h l n p.put_backs is;
-      longer = stays p u p.front (ap (λ (x : TicketView). x.front) is) (prefix_self p.front);
-    }
-
--- The call that an idle session published waits for its answer.
-pub published : (s t v : TicketView) (call : Call) → IsRefused s t ⊎ (t ≡ s) → IsWaitingOn (publishing t call) v → IsCalling s v call
-published s t v call before w = ⊎_elim (λ r. from t.front t.put_backs r.session r.longer) (λ is. from s.front s.put_backs is (prefix_self s.front)) before
-  where
-    from : (f : List Entry) (n : ℕ) → t ≡ record s { front = f; put_backs = n } → IsPrefix s.front f → IsCalling s v call
-    from f n is longer =
-        let front : t.front ≡ f = ap (λ (x : TicketView). x.front) is in
-        let grown : IsPrefix s.front t.front = subst (λ (l : List Entry). IsPrefix s.front l) (sym front) longer in
+  -- A session that waited collects its answer.
+  pub collects : (t u v : TicketView C R) (place : ℕ) (reply : R) → IsWaitingOn t u → IsCollected obj u v place reply → IsAnswered obj t v place reply
+  collects t u v place reply w c =
+      let number : u.number ≡ t.number = ap (λ (x : TicketView C R). x.number) w.session in
+      let pending : u.pending ≡ t.pending = ap (λ (x : TicketView C R). x.pending) w.session in
+      let collected : u.collected ≡ t.collected = ap (λ (x : TicketView C R). x.collected) w.session in (
+        c.call,
+        c.floor,
+        sym pending ∙ c.pending,
         record {
-          floor = length t.front;
-          session = fits s v (Some (asks call (length t.front))) s.collected v.front v.heard v.listed v.tries v.put_backs
-              (w.session ∙ ap (λ (x : TicketView). record x { pending = Some (asks call (length t.front)); front = v.front; heard = v.heard; listed = v.listed; tries = v.tries; put_backs = v.put_backs }) is);
-          longer = prefix_trans s.front t.front v.front grown w.longer;
-          late = omega (arith, ap (λ (l : List Entry). length l) grown.1, length-append s.front grown.0);
-        }
+          session = fits t v None (t.collected ++ answer place c.call reply ∷ []) v.front u.heard u.listed u.tries u.put_backs
+              (c.session ∙ (ap (λ (x : TicketView C R). record x { front = v.front; pending = None; collected = u.collected ++ answer place c.call reply ∷ [] }) w.session
+              ∙ ap (λ (l : List (Answered C R)). record (later t t.pending t.collected u) { front = v.front; pending = None; collected = l ++ answer place c.call reply ∷ [] }) collected));
+          longer = prefix_trans t.front u.front v.front w.longer c.longer;
+          legal = c.legal;
+          stands = subst (λ (n : ℕ). get_elem? v.front place ≡ opt.some (entry n c.call reply)) number c.stands;
+          late = c.late;
+          calls = subst (λ (n : ℕ). calls_of n v.front ≡ v.collected) number c.calls;
+        },
+      )
 
--- The element at the seam of two lists.
-elem-seam : (xs : List Entry) (e : Entry) (ys : List Entry) → get_elem? (xs ++ e ∷ ys) (length xs) ≡ opt.some e
-elem-seam [] e ys = refl
-elem-seam (x ∷ xs) e ys = elem-seam xs e ys
+module _ {C R : Type 0} where
+  -- The idle session that published a call.
+  pub posted-waits : (t u : TicketView C R) (call : C) → (u ≡ enlisted (publishing t call)) ⊎ ((u ≡ tried (enlisted (publishing t call))) ⊎ (u ≡ tried (publishing t call))) → IsWaitingOn (publishing t call) u
+  posted-waits t u call h = ⊎_elim
+      (λ is. from (enlisted p).heard true p.tries is)
+      (λ r. ⊎_elim (λ is. from (enlisted p).heard true (p.tries + 1) is) (λ is. from p.heard p.listed (p.tries + 1) is) r)
+      h
+    where
+      p : TicketView C R
+      p = publishing t call
 
--- A call that the session performed at once is answered.
-pub performed-called : (t u : TicketView) (call : Call) (place : ℕ) (reply : Reply) (served : ℕ) → t.pending ≡ None → IsPerformed t u call place reply served → IsCalled t u call place reply
-performed-called t u call place reply served idle p =
-    let ahead : List Entry = t.front ++ p.others ++ p.ahead in
-    let e : Entry = entry t.number call reply in record {
-      session = fits t u None (t.collected ++ answer place call reply ∷ []) u.front t.heard t.listed t.tries u.put_backs
-          (p.session ∙ ap (λ (q : Option Pending). record t { pending = q; collected = t.collected ++ answer place call reply ∷ []; front = u.front; put_backs = u.put_backs }) idle);
-      longer = (p.others ++ p.ahead ++ e ∷ p.behind, whole);
-      legal = p.legal;
-      stands = subst (λ (l : List Entry). get_elem? l place ≡ opt.some e) (sym p.front) (subst (λ (n : ℕ). get_elem? (ahead ++ e ∷ p.behind) n ≡ opt.some e) (sym p.place_is) (elem-seam ahead e p.behind));
-      late = omega (arith, p.place_is, length-append (t.front ++ p.others) p.ahead, length-append t.front p.others);
-      calls = p.calls;
-    }
-  where
-    whole : t.front ++ (p.others ++ p.ahead ++ entry t.number call reply ∷ p.behind) ≡ u.front
-    whole = sym (p.front ∙ (append_assoc (t.front ++ p.others) p.ahead (entry t.number call reply ∷ p.behind) ∙ (append_assoc t.front p.others (p.ahead ++ entry t.number call reply ∷ p.behind)
-        ∙ ap (λ (l : List Entry). t.front ++ l) (sym (append_assoc p.others p.ahead (entry t.number call reply ∷ p.behind))))))
+      from : (h : List ℕ) (l : Bool) (n : ℕ) → u ≡ record p { heard = h; listed = l; tries = n } → IsWaitingOn p u
+      from h l n is = record {
+        session = fits p u p.pending p.collected p.front h l n p.put_backs is;
+        longer = stays p u p.front (ap (λ (x : TicketView C R). x.front) is) (prefix_self p.front);
+      }
 
--- A call that was published is answered.
-pub published-called : (t u v : TicketView) (call : Call) (place : ℕ) (reply : Reply) → IsWaitingOn (publishing t call) u → IsAnswered u v place reply → IsCalled t v call place reply
-published-called t u v call place reply w a =
-    let known : Call = a.0 in
-    let floor : ℕ = a.1 in
-    let at = a.3 in
-    let number : u.number ≡ t.number = ap (λ (x : TicketView). x.number) w.session in
-    let asked : Some (asks known floor) ≡ Some (asks call (length t.front)) = sym a.2 ∙ ap (λ (x : TicketView). x.pending) w.session in
-    let both : asks known floor ≡ asks call (length t.front) = cc asked in
-    let same : known ≡ call = ap (λ (q : Pending). q.call) both in
-    let from : floor ≡ length t.front = ap (λ (q : Pending). q.floor) both in
-    record {
-      session = fits t v None (t.collected ++ answer place call reply ∷ []) v.front v.heard v.listed v.tries v.put_backs
-          (at.session ∙ (ap (λ (x : TicketView). later x None (x.collected ++ answer place known reply ∷ []) v) w.session
-          ∙ ap (λ (x : Call). later t None (t.collected ++ answer place x reply ∷ []) v) same));
-      longer = prefix_trans t.front u.front v.front w.longer at.longer;
-      legal = at.legal;
-      stands = subst (λ (x : Call). get_elem? v.front place ≡ opt.some (entry t.number x reply)) same (subst (λ (n : ℕ). get_elem? v.front place ≡ opt.some (entry n known reply)) number at.stands);
-      late = omega (arith, at.late, from);
-      calls = subst (λ (n : ℕ). calls_of n v.front ≡ v.collected) number at.calls;
-    }
+module _ {O C R : Type 0} {obj : Ghosts O C R} where
+  -- The call that an idle session published waits for its answer.
+  pub published : (s t v : TicketView C R) (call : C) → IsRefused obj s t ⊎ (t ≡ s) → IsWaitingOn (publishing t call) v → IsCalling s v call
+  published s t v call before w = ⊎_elim (λ r. from t.front t.put_backs r.session r.longer) (λ is. from s.front s.put_backs is (prefix_self s.front)) before
+    where
+      from : (f : List (Entry C R)) (n : ℕ) → t ≡ record s { front = f; put_backs = n } → IsPrefix s.front f → IsCalling s v call
+      from f n is longer =
+          let front : t.front ≡ f = ap (λ (x : TicketView C R). x.front) is in
+          let grown : IsPrefix s.front t.front = subst (λ (l : List (Entry C R)). IsPrefix s.front l) (sym front) longer in
+          record {
+            floor = length t.front;
+            session = fits s v (Some (asks call (length t.front))) s.collected v.front v.heard v.listed v.tries v.put_backs
+                (w.session ∙ ap (λ (x : TicketView C R). record x { pending = Some (asks call (length t.front)); front = v.front; heard = v.heard; listed = v.listed; tries = v.tries; put_backs = v.put_backs }) is);
+            longer = prefix_trans s.front t.front v.front grown w.longer;
+            late = omega (arith, ap (λ (l : List (Entry C R)). length l) grown.1, length-append s.front grown.0);
+          }
+
+module _ {C R : Type 0} where
+  -- The element at the seam of two lists.
+  elem-seam : (xs : List (Entry C R)) (e : Entry C R) (ys : List (Entry C R)) → get_elem? (xs ++ e ∷ ys) (length xs) ≡ opt.some e
+  elem-seam [] e ys = refl
+  elem-seam (x ∷ xs) e ys = elem-seam xs e ys
+
+module _ {O C R : Type 0} {obj : Ghosts O C R} where
+  -- A call that the session performed at once is answered.
+  pub performed-called : (first : Bool) (t u : TicketView C R) (call : C) (place : ℕ) (reply : R) (served : ℕ) → t.pending ≡ None → IsPerformed obj first t u call place reply served → IsCalled obj t u call place reply
+  performed-called first t u call place reply served idle p =
+      let ahead : List (Entry C R) = t.front ++ p.others ++ p.ahead in
+      let e : Entry C R = entry t.number call reply in record {
+        session = fits t u None (t.collected ++ answer place call reply ∷ []) u.front t.heard t.listed t.tries u.put_backs
+            (p.session ∙ ap (λ (q : Option (Pending C)). record t { pending = q; collected = t.collected ++ answer place call reply ∷ []; front = u.front; put_backs = u.put_backs }) idle);
+        longer = (p.others ++ p.ahead ++ e ∷ p.behind, whole);
+        legal = p.legal;
+        stands = subst (λ (l : List (Entry C R)). get_elem? l place ≡ opt.some e) (sym p.front) (subst (λ (n : ℕ). get_elem? (ahead ++ e ∷ p.behind) n ≡ opt.some e) (sym p.place_is) (elem-seam ahead e p.behind));
+        late = omega (arith, p.place_is, length-append (t.front ++ p.others) p.ahead, length-append t.front p.others);
+        calls = p.calls;
+      }
+    where
+      whole : t.front ++ (p.others ++ p.ahead ++ entry t.number call reply ∷ p.behind) ≡ u.front
+      whole = sym (p.front ∙ (append_assoc (t.front ++ p.others) p.ahead (entry t.number call reply ∷ p.behind) ∙ (append_assoc t.front p.others (p.ahead ++ entry t.number call reply ∷ p.behind)
+          ∙ ap (λ (l : List (Entry C R)). t.front ++ l) (sym (append_assoc p.others p.ahead (entry t.number call reply ∷ p.behind))))))
+
+  -- A call that was published is answered.
+  pub published-called : (t u v : TicketView C R) (call : C) (place : ℕ) (reply : R) → IsWaitingOn (publishing t call) u → IsAnswered obj u v place reply → IsCalled obj t v call place reply
+  published-called t u v call place reply w a =
+      let known : C = a.0 in
+      let floor : ℕ = a.1 in
+      let at = a.3 in
+      let number : u.number ≡ t.number = ap (λ (x : TicketView C R). x.number) w.session in
+      let asked : Some (asks known floor) ≡ Some (asks call (length t.front)) = sym a.2 ∙ ap (λ (x : TicketView C R). x.pending) w.session in
+      let both : asks known floor ≡ asks call (length t.front) = cc asked in
+      let same : known ≡ call = ap (λ (q : Pending C). q.call) both in
+      let from : floor ≡ length t.front = ap (λ (q : Pending C). q.floor) both in
+      record {
+        session = fits t v None (t.collected ++ answer place call reply ∷ []) v.front v.heard v.listed v.tries v.put_backs
+            (at.session ∙ (ap (λ (x : TicketView C R). later x None (x.collected ++ answer place known reply ∷ []) v) w.session
+            ∙ ap (λ (x : C). later t None (t.collected ++ answer place x reply ∷ []) v) same));
+        longer = prefix_trans t.front u.front v.front w.longer at.longer;
+        legal = at.legal;
+        stands = subst (λ (x : C). get_elem? v.front place ≡ opt.some (entry t.number x reply)) same (subst (λ (n : ℕ). get_elem? v.front place ≡ opt.some (entry n known reply)) number at.stands);
+        late = omega (arith, at.late, from);
+        calls = subst (λ (n : ℕ). calls_of n v.front ≡ v.collected) number at.calls;
+      }

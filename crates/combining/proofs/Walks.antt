@@ -2,7 +2,7 @@
 use Rattle.std.proofs.Common.{◌≡◌, ◌≢◌, inl, inr, ⊎_elim, ℕ, ◌<◌, Bool, cond, Option, Some, List, [], ◌∷◌, length, refl, sym, ap, ◌∙◌, subst, arith, eq-eqb, ne_eqb}
 use mathlib.Core.Logic.{dite}
 use native.Mathlib.Decide.{ℕ_discrete}
-use Rattle.lock_board.specs.LockBoards.{TicketView}
+use Rattle.publication.specs.Views.{TicketView}
 use Rattle.publication.specs.List.{IsOn, AreApart, first_of, behind}
 use Rattle.publication.proofs.Routes.{on_behind}
 use Rattle.combining.specs.inner.Passes.{IsVisited, ahead, IsNext, HasMet}
@@ -41,13 +41,14 @@ next-on q route = by_rest (behind q route) (λ p on. on_behind p q route on)
     by_rest [] all = tt
     by_rest (b ∷ ys) all = all b (inl refl)
 
--- Visiting record q takes the walk on to the record behind it.
-pub met-next : (q : ℕ) (t u : TicketView) → AreApart t.route → u.route ≡ t.route → ((j : ℕ) → IsVisited j t → IsVisited j u) → IsVisited q u → HasMet (Some q) t → HasMet (first_of (behind q t.route)) u
-met-next q t u apart same later here met j on =
-    let rest : ahead (first_of (behind q t.route)) u.route ≡ behind q t.route = ap (λ (r : List ℕ). ahead (first_of (behind q t.route)) r) same ∙ ahead-next q t.route apart in
-    ⊎_elim (λ front. ⊎_elim (λ (e : j ≡ q). inr (subst (λ (n : ℕ). IsVisited n u) (sym e) here))
-    (λ more. inl (subst (λ (l : List ℕ). IsOn j l) (sym rest) more)) front)
-    (λ v. inr (later j v)) (met j (subst (λ (r : List ℕ). IsOn j r) same on))
+module _ {C R : Type 0} where
+  -- Visiting record q takes the walk on to the record behind it.
+  pub met-next : (q : ℕ) (t u : TicketView C R) → AreApart t.route → u.route ≡ t.route → ((j : ℕ) → IsVisited j t → IsVisited j u) → IsVisited q u → HasMet (Some q) t → HasMet (first_of (behind q t.route)) u
+  met-next q t u apart same later here met j on =
+      let rest : ahead (first_of (behind q t.route)) u.route ≡ behind q t.route = ap (λ (r : List ℕ). ahead (first_of (behind q t.route)) r) same ∙ ahead-next q t.route apart in
+      ⊎_elim (λ front. ⊎_elim (λ (e : j ≡ q). inr (subst (λ (n : ℕ). IsVisited n u) (sym e) here))
+      (λ more. inl (subst (λ (l : List ℕ). IsOn j l) (sym rest) more)) front)
+      (λ v. inr (later j v)) (met j (subst (λ (r : List ℕ). IsOn j r) same on))
 
 -- With each record visited, fewer records are ahead.
 pub ahead-smaller : (next later : Option ℕ) (route after : List ℕ) (q : ℕ) → AreApart route → next ≡ Some q → later ≡ first_of (behind q route) → after ≡ route

@@ -3,6 +3,6 @@ pub mod Sessions
 pub mod Closed
 pub mod Ended
 pub mod Calls
-pub mod Queries
+pub mod Looks
 -- What only private contracts cite.
 pub mod inner

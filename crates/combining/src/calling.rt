@@ -1,4 +1,4 @@
-//! A whole call of a session: performed at once where the lock table is free, else published, served and collected.
+//! A whole call of a session: performed at once where the object is free, else published, served and collected.
 
 ghost use Rattle.std.specs.Prelude.{◌≡◌, ◌≢◌, ◌⊎◌, ◌<◌, true, false, Some, None, IfNone};
 ghost use Rattle.publication.specs.Boards.{HasCallsOf};
@@ -6,15 +6,15 @@ ghost use Rattle.combining.specs.Sessions.{IsSessionOf, IsIdle, IsPendingServed,
 ghost use Rattle.combining.specs.Calls.{IsCalled, IsCalling, IsAnswered, IsWaitingOn, HasStarved};
 
 use crate::office::{Answer, Office, Performed, Turn};
-use lock_board::Ticket as Session;
-use lock_desk::Call;
+use publication::Ticket as Session;
+use sequential::Batching;
 use std::{hint, thread};
 
 /// The outcome of `call` and `resume`.
 #[derive(Clone, Copy, Debug, PartialEq, Eq)]
-pub enum Called {
+pub enum Called<R> {
     /// The answer. The session is idle.
-    Answered(Answer),
+    Answered(Answer<R>),
     /// No answer came within so many turns. The call is published and pending, and `resume` goes on with it.
     NotYet,
     /// Memory was refused in a pass of the session, and the call has no answer yet. It is published and pending, and `resume`
@@ -23,7 +23,7 @@ pub enum Called {
 }
 
 /// The tries to perform a call at once after the first one, before the call is published. While a session tries, the one that has
-/// the lock table performs its next calls in its own cache, so that a few threads take no longer than with a mutex.
+/// the object performs its next calls in its own cache, so that a few threads take no longer than with a mutex.
 const MORE_TRIES: u64 = 31;
 
 /// The pause instructions between the first two tries.
@@ -74,30 +74,35 @@ fn back_off_longer(tried: u64) {
 }
 
 /// Tries to perform a call at once, by `Office::perform`, at most `tries` times, with pauses between that grow. `Elsewhere`: the
-/// lock table was never free, and nothing changed.
-fn perform_soon(office: &Office, session: &mut Session, call: &Call, tries: u64) -> Performed
+/// object was never free, and nothing changed.
+fn perform_soon<O: Batching>(
+    office: &Office<O>,
+    session: &mut Session<O>,
+    call: &O::Call,
+    tries: u64,
+) -> Performed<O::Reply>
     requires ours { IsSessionOf office.now session.old }
     requires idle { IsIdle session.old }
     ensures ours { IsSessionOf office.now session.new }
     ensures idle { IsIdle session.new }
     ensures answered { (answer : _) (served : _) (starved : _) → result ≡ Performed.Answered answer served starved
-        → IsPerformed session.old session.new call.now answer.place answer.reply served }
-    ensures refused { result ≡ Performed.Starved → IsRefused session.old session.new }
+        → IsPerformed O.Sequential (O.goes_first call.now) session.old session.new call.now answer.place answer.reply served }
+    ensures refused { result ≡ Performed.Starved → IsRefused O.Sequential session.old session.new }
     ensures elsewhere { result ≡ Performed.Elsewhere → (session.new ≡ session.old) × (0 < tries → 1 < office.now.sessions) }
     ensures calls { result ≢ Performed.Elsewhere → HasCallsOf session.new.front session.new }
 {
     for tried in 0..tries {
         let performed = office.perform(session, *call);
-        if performed != Performed::Elsewhere {
+        let Performed::Elsewhere = performed else {
             return performed;
-        }
+        };
         back_off_longer(tried);
     }
     Performed::Elsewhere
 }
 
 /// Tries once to serve, if `serve_now`. Returns whether the session made a pass in which memory was refused.
-fn serve_if(office: &Office, session: &mut Session, serve_now: bool) -> bool
+fn serve_if<O: Batching>(office: &Office<O>, session: &mut Session<O>, serve_now: bool) -> bool
     requires ours { IsSessionOf office.now session.old }
     requires pending { session.old.pending ≢ None }
     ensures ours { IsSessionOf office.now session.new }
@@ -115,11 +120,15 @@ fn serve_if(office: &Office, session: &mut Session, serve_now: bool) -> bool
 }
 
 /// Takes one turn of waiting: serves if `serve_now`, and looks for the answer. `None` if the answer isn't there.
-fn turn(office: &Office, session: &mut Session, serve_now: bool) -> Option<Called>
+fn turn<O: Batching>(
+    office: &Office<O>,
+    session: &mut Session<O>,
+    serve_now: bool,
+) -> Option<Called<O::Reply>>
     requires ours { IsSessionOf office.now session.old }
     requires pending { session.old.pending ≢ None }
     ensures ours { IsSessionOf office.now session.new }
-    ensures answered { (answer : _) → result ≡ Some (Called.Answered answer) → IsAnswered session.old session.new answer.place answer.reply × IsIdle session.new }
+    ensures answered { (answer : _) → result ≡ Some (Called.Answered answer) → IsAnswered O.Sequential session.old session.new answer.place answer.reply × IsIdle session.new }
     ensures starved { result ≡ Some Called.Starved → IsWaitingOn session.old session.new × (session.old.put_backs < session.new.put_backs) }
     ensures never { result ≢ Some Called.NotYet }
     ensures none { IfNone result (IsWaitingOn session.old session.new) }
@@ -137,13 +146,15 @@ fn turn(office: &Office, session: &mut Session, serve_now: bool) -> Option<Calle
 
 /// Goes on with the pending call of a session: serves and looks for the answer in at most `turns` turns, with pauses between
 /// them. `NotYet`: the answer wasn't there. `Starved`: the session made a pass in which memory was refused.
-///
-/// It serves by passes that tell nobody whose wait they have ended.
-pub fn resume(office: &Office, session: &mut Session, turns: u64) -> Called
+pub fn resume<O: Batching>(
+    office: &Office<O>,
+    session: &mut Session<O>,
+    turns: u64,
+) -> Called<O::Reply>
     requires ours { IsSessionOf office.now session.old }
     requires pending { session.old.pending ≢ None }
     ensures ours { IsSessionOf office.now session.new }
-    ensures answered { (answer : _) → result ≡ Called.Answered answer → IsAnswered session.old session.new answer.place answer.reply }
+    ensures answered { (answer : _) → result ≡ Called.Answered answer → IsAnswered O.Sequential session.old session.new answer.place answer.reply }
     ensures idle { (answer : _) → result ≡ Called.Answered answer → IsIdle session.new }
     ensures not_yet { result ≡ Called.NotYet → IsWaitingOn session.old session.new }
     ensures starved { result ≡ Called.Starved → HasStarved session.old session.new }
@@ -158,18 +169,22 @@ pub fn resume(office: &Office, session: &mut Session, turns: u64) -> Called
     Called::NotYet
 }
 
-/// Makes a call of an idle session. If the lock table is free, the session performs the call at once, by `Office::perform`. Else
-/// it tries again, with pauses that grow, as often as `turns` says but at most `MORE_TRIES` times. If the lock table was never
+/// Makes a call of an idle session. If the object is free, the session performs the call at once, by `Office::perform`. Else
+/// it tries again, with pauses that grow, as often as `turns` says but at most `MORE_TRIES` times. If the object was never
 /// free, it publishes the call, and serves and looks for the answer in at most `turns` turns, by `resume`.
 ///
 /// `Answered`: the session is idle again. `NotYet` and `Starved` leave the call published and pending. `Starved`: memory was
-/// refused for the call, or in a pass of the session. Whose wait the call has ended is told to nobody: where threads sleep until
-/// a pass tells of them, `Office::perform_telling` and `Office::serve_telling` take its place.
-pub fn call(office: &Office, session: &mut Session, call: Call, turns: u64) -> Called
+/// refused for the call, or in a pass of the session.
+pub fn call<O: Batching>(
+    office: &Office<O>,
+    session: &mut Session<O>,
+    call: O::Call,
+    turns: u64,
+) -> Called<O::Reply>
     requires ours { IsSessionOf office.now session.old }
     requires idle { IsIdle session.old }
     ensures ours { IsSessionOf office.now session.new }
-    ensures answered { (answer : _) → result ≡ Called.Answered answer → IsCalled session.old session.new call answer.place answer.reply }
+    ensures answered { (answer : _) → result ≡ Called.Answered answer → IsCalled O.Sequential session.old session.new call answer.place answer.reply }
     ensures idle { (answer : _) → result ≡ Called.Answered answer → IsIdle session.new }
     ensures not_yet { result ≡ Called.NotYet → IsCalling session.old session.new call × (1 < office.now.sessions) }
     ensures starved { result ≡ Called.Starved → IsCalling session.old session.new call }

@@ -8,15 +8,15 @@ ghost use Rattle.publication.specs.List.{IsOn, first_of, behind};
 ghost use Rattle.publication.specs.Kinds.{IsRoute};
 ghost use Rattle.combining.specs.inner.Ages.{sessions_of, noted, IsUnused, IsCleaned};
 
-use lock_board::{Board, Ticket};
-use lock_desk::Item;
+use publication::{Board, Ticket};
+use sequential::{Batching, Item};
 
 /// The clean-up runs every `PASSES_KEPT` passes, and takes off the records that were last served more than
 /// `PASSES_KEPT` passes ago.
 const PASSES_KEPT: u64 = 64;
 
 /// Sets the age of each session that a pass served to the number of that pass. The other ages stay.
-pub(crate) fn note_served(ages: &mut Vec<u64>, served: &[Item], passes: u64)
+pub(crate) fn note_served<C: Copy, R: Copy>(ages: &mut Vec<u64>, served: &[Item<C, R>], passes: u64)
     requires within { All (IsItemWithin (vec_len ages.old)) served.now }
     ensures ages { ages.new.items ≡ noted ages.old.items (sessions_of served.now) passes }
     ensures len { vec_len ages.new ≡ vec_len ages.old }
@@ -36,9 +36,9 @@ fn is_unused(ages: &[u64], whose: u16, passes: u64) -> bool
 
 /// Takes the record `whose`, behind `before`, off the publication list if it is `unused` and no call is pending in
 /// it. Returns the record behind which the walk goes on.
-fn unlink_if_unused(
-    board: &Board,
-    session: &mut Ticket,
+fn unlink_if_unused<O: Batching>(
+    board: &Board<O>,
+    session: &mut Ticket<O>,
     before: u16,
     whose: u16,
     unused: bool,
@@ -62,7 +62,13 @@ fn unlink_if_unused(
 
 /// Walks on from the first record of the publication list, and takes off each unused record behind it.
 #[inline(never)]
-fn unlink_unused(board: &Board, session: &mut Ticket, first: u16, ages: &[u64], passes: u64)
+fn unlink_unused<O: Batching>(
+    board: &Board<O>,
+    session: &mut Ticket<O>,
+    first: u16,
+    ages: &[u64],
+    passes: u64,
+)
     requires ours { IsOf board.now session.old × (session.old.has_object ≡ true) }
     requires ages { length ages.now ≡ board.now.sessions }
     requires route { IsRoute (board.now.sessions + 1) session.old.route }
@@ -82,7 +88,12 @@ fn unlink_unused(board: &Board, session: &mut Ticket, first: u16, ages: &[u64], 
 
 /// Every `PASSES_KEPT` passes, walks the publication list once and takes off each unused record except the first,
 /// which can't be taken off.
-pub(crate) fn clean_up(board: &Board, session: &mut Ticket, ages: &[u64], passes: u64)
+pub(crate) fn clean_up<O: Batching>(
+    board: &Board<O>,
+    session: &mut Ticket<O>,
+    ages: &[u64],
+    passes: u64,
+)
     requires ours { IsOf board.now session.old × (session.old.has_object ≡ true) }
     requires ages { length ages.now ≡ board.now.sessions }
     ensures session { session.new ≡ record session.old { route = session.new.route } }

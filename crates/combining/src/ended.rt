@@ -1,10 +1,11 @@
 //! The list of the sessions whose wait a pass has ended.
 
-ghost use Rattle.std.specs.Prelude.{◌≡◌, ◌⊎◌, ℕ, ◌<◌, ◌≤◌, ◌↔◌, ◌∷◌, ◌++◌, [], true, false, IfOk, length, All, Contains, slice_index_or};
+ghost use Rattle.std.specs.Prelude.{◌≡◌, ◌⊎◌, ℕ, ◌+◌, ◌<◌, ◌≤◌, ◌↔◌, ◌∷◌, ◌++◌, [], true, false, IfOk, length, All, Contains, slice_index_or};
 ghost use Rattle.combining.specs.Ended.{IsOnce};
+ghost use Rattle.combining.specs.inner.EndedList.{IsEndedFrom};
 
-use lock_desk::{Book, NoMemory};
-use std::alloc::Global;
+use sequential::Telling;
+use std::alloc::{AllocError as NoMemory, Global};
 use std::marker::Model;
 
 /// A list in which `Office::serve_telling` and `Office::perform_telling` tell whose wait a pass has ended. Contracts see its
@@ -99,15 +100,18 @@ impl Ended {
         let _list = &self.list;
     }
 
-    /// Adds the sessions whose wait the last calls have ended, by the book that served them. Adds none if it served none.
-    pub(crate) fn add_ended(&mut self, book: &Book, served: u32)
-        requires within { (u : ℕ) → 0 < served → Contains book.now.ended u → (1 ≤ u) × (u ≤ self.old.room) }
+    /// Adds the sessions whose wait the last `served` calls have ended, by the object that served them. Adds none if it served
+    /// none.
+    pub(crate) fn add_ended<O: Telling>(&mut self, object: &O, served: u32)
+        requires tells { 0 < served → (from : ℕ) × O.tells_from object.now from }
+        requires within { O.sessions object.now ≤ self.old.room }
         ensures room { self.new.room ≡ self.old.room }
-        ensures members { (u : ℕ) → Contains self.new.list u ↔ (Contains self.old.list u ⊎ ((0 < served) × Contains book.now.ended u)) }
+        ensures members { (from u : ℕ) → (0 < served → O.tells_from object.now from) → length (O.history object.now) ≡ from + served
+            → Contains self.new.list u ↔ (Contains self.old.list u ⊎ IsEndedFrom O.ends (O.sessions object.now) (O.history object.now) from u) }
         ensures once { IsOnce self.old.list → IsOnce self.new.list }
     {
         if served > 0 {
-            self.add_all(book.ended());
+            self.add_all(object.ended());
         }
     }
 }

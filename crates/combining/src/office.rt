@@ -1,30 +1,27 @@
 //! The office and the calls of its sessions.
 
-ghost use Rattle.std.specs.Prelude.{◌≡◌, ◌≢◌, ◌⊎◌, ◌+◌, ◌<◌, ◌≤◌, ◌↔◌, [], true, false, IsTrue, Some, None, Ok, Err, IfOk, IfErr, IfSome, IfNone, length, max, slice_index, vec_len};
+ghost use Rattle.std.specs.Prelude.{◌≡◌, ◌≢◌, ◌⊎◌, ◌+◌, ◌<◌, ◌≤◌, ◌↔◌, [], true, false, IsTrue, Some, None, Err, IfOk, IfErr, IfSome, IfNone, length, max, slice_index};
 ghost use Rattle.std.specs.List.{All};
 ghost use mathlib.Core.List.{IsPrefix};
-ghost use Rattle.lock_rules.specs.Legal.{IsLegal};
 ghost use Rattle.sequential.specs.Histories.{calls_of};
 ghost use Rattle.publication.specs.Kinds.{longer, maxes};
-ghost use Rattle.publication.specs.Boards.{HasCallsOf, heard_from, known_by, published_by, publishing, enlisted, tried, IsUnlisted, IsEachOnce};
-ghost use Rattle.lock_board.specs.LockBoards.{new_tickets};
-ghost use Rattle.combining.specs.Sessions.{IsSessionOf, IsIdle, HasNothingPending, IsPendingServed, HasTriedToList, IsPassed, IsCollected, HasTakenPiece};
+ghost use Rattle.publication.specs.Boards.{HasCallsOf, heard_from, known_by, published_by, publishing, enlisted, tried, IsUnlisted, new_tickets, IsEachOnce};
+ghost use Rattle.combining.specs.Sessions.{IsSessionOf, IsIdle, HasNothingPending, IsPendingServed, HasTriedToList, IsPassed, IsCollected};
 ghost use Rattle.combining.specs.Closed.{IsClosed};
 ghost use Rattle.combining.specs.Ended.{AreToldBy};
 
+mod looks;
 mod passes;
 mod perform;
-mod queries;
+mod taking;
 
 use crate::ended::Ended;
-use lock_board::{Board, Knowledge, Ticket as Session};
-use lock_desk::{Book, Call, Entry, MOST_DROPPED, NO_BOUND, NoMemory, Reply};
-use lock_rules::MAX_SESSIONS;
 pub use perform::Performed;
-use publication::{CloseFault, Piece, Posted};
-pub use queries::Snapshot;
-use std::alloc::Global;
+use publication::{Board, CloseFault, Knowledge, Posted, Ticket as Session};
+use sequential::{Batching, Fresh, MAX_SESSIONS, Telling};
+use std::alloc::{AllocError as NoMemory, Global};
 use std::marker::Model;
+pub use taking::HistoryPiece;
 use thiserror::Error;
 
 /// Why an office was not opened.
@@ -44,8 +41,8 @@ pub enum OpenFault {
 /// The outcome of one call of `serve`.
 #[derive(Clone, Copy, Debug, PartialEq, Eq)]
 pub enum Turn {
-    /// The session did not become the combiner, because another session had the lock table. Proved is that the office
-    /// has more than one session; that another one had the lock table is tested, not proved.
+    /// The session did not become the combiner, because another session had the object. Proved is that the office
+    /// has more than one session; that another one had the object is tested, not proved.
     Elsewhere,
     /// The session was the combiner and made a pass.
     Pass {
@@ -60,33 +57,24 @@ pub enum Turn {
 
 /// The answer to a published call.
 #[derive(Clone, Copy, Debug, PartialEq, Eq)]
-pub struct Answer {
+pub struct Answer<R> {
     /// The place of the call's entry in the history, from 0 on.
     pub place: u64,
     /// The reply to the call.
-    pub reply: Reply,
+    pub reply: R,
 }
 
-/// A piece of the history that a session took.
-#[derive(Drop)]
-pub struct HistoryPiece {
-    /// The place of its first entry in the history, from 0 on.
-    pub first: u64,
-    /// The calls with their replies from that place on, in order.
-    pub entries: Vec<Entry>,
-}
-
-/// A lock table that threads share by reference, each with sessions of its own.
+/// A sequential object that threads share by reference, each with sessions of its own.
 ///
 /// A session publishes a call, then alternates `serve` and `collect` until it gets the answer. All answers belong to
-/// one history, in which each reply is the one that the sequential lock manager of `lock_rules` gives at its place.
+/// one history, in which each reply is the one that the object gives at its place.
 #[derive(Drop)]
-pub struct Office {
-    /// The board of publication records, which has the lock table.
-    board: Board,
+pub struct Office<O: Batching> {
+    /// The board of publication records, which has the object.
+    board: Board<O>,
 }
 
-impl Model for Office {
+impl<O: Batching> Model for Office<O> {
     ghost use Rattle.publication.specs.Views.{BoardView};
 
     ghost Value = { BoardView };
@@ -96,53 +84,31 @@ impl Model for Office {
     ghost view = { λ (office : Inside). office.board };
 }
 
-impl Office {
-    /// Opens an office with an empty lock table, and returns it with its sessions 1 to `sessions` in order, all idle.
-    /// Only this call, `serve`, `serve_telling` and `perform` take memory.
-    pub fn open(alloc: Global, sessions: u16) -> Result<(Office, Vec<Session>), OpenFault>
-        ensures none { (result ≡ Err OpenFault.NoSessions) ↔ (sessions ≡ 0) }
-        ensures many { (result ≡ Err OpenFault.TooManySessions) ↔ (MAX_SESSIONS < sessions) }
-        ensures office { IfOk result (λ made. made.0.sessions ≡ sessions) }
-        ensures sessions { IfOk result (λ made. made.1.items ≡ new_tickets made.0.id sessions sessions) }
+impl<O: Batching> Office<O> {
+    /// Opens an office of an object that has answered no calls, and returns it with the object's sessions, from 1 on, in order,
+    /// all idle. Fails with `NoMemory` if memory is refused; the object is dropped then. Beside this call, only calls that serve
+    /// take memory: what the object takes.
+    pub fn share(alloc: Global, object: O) -> Result<(Office<O>, Vec<Session<O>>), NoMemory>
+        requires empty { O.history object ≡ [] }
+        ensures office { IfOk result (λ made. made.0.sessions ≡ O.sessions object) }
+        ensures sessions { IfOk result (λ made. made.1.items ≡ new_tickets made.0.id (O.sessions object) (O.sessions object)) }
         ensures ready { IfOk result (λ made. All (λ session. IsSessionOf made.0 session × IsIdle session) made.1.items) }
     {
-        Office::open_keeping(alloc, sessions, NO_BOUND)
+        let (board, sessions) = Board::new(alloc, object)?;
+        Ok((Office { board }, sessions))
     }
 
-    /// Opens an office as `open` does, whose lock table keeps at most the newest `bound` entries of its history in memory.
-    /// Older ones are let go as calls are served, so that the memory of an office follows what is held and waited for.
-    /// Contracts go on to see the whole history. With `NO_BOUND` all entries are kept.
-    pub fn open_keeping(
-        alloc: Global,
-        sessions: u16,
-        bound: u64,
-    ) -> Result<(Office, Vec<Session>), OpenFault>
-        ensures none { (result ≡ Err OpenFault.NoSessions) ↔ (sessions ≡ 0) }
-        ensures many { (result ≡ Err OpenFault.TooManySessions) ↔ (MAX_SESSIONS < sessions) }
-        ensures office { IfOk result (λ made. made.0.sessions ≡ sessions) }
-        ensures sessions { IfOk result (λ made. made.1.items ≡ new_tickets made.0.id sessions sessions) }
-        ensures ready { IfOk result (λ made. All (λ session. IsSessionOf made.0 session × IsIdle session) made.1.items) }
+    /// The number of sessions.
+    pub fn sessions(&self) -> u16
+        ensures { result ≡ self.now.sessions }
     {
-        if sessions == 0 {
-            return Err(OpenFault::NoSessions);
-        }
-        if sessions > MAX_SESSIONS {
-            return Err(OpenFault::TooManySessions);
-        }
-        let Ok(mut book) = Book::new(alloc, sessions) else {
-            return Err(OpenFault::NoMemory);
-        };
-        book.keep_at_most(bound);
-        match Board::new(alloc, book) {
-            Ok((board, tickets)) => Ok((Office { board }, tickets)),
-            Err(_) => Err(OpenFault::NoMemory),
-        }
+        self.board.sessions()
     }
 
     /// Publishes a call. The session is pending until it collects the answer. `Listed`: passes of every session visit
     /// its record. `Unlisted`: another session won the exchange of the publication list's head. Each `serve` of the
     /// session then tries the exchange once more, and a pass of its own visits its record in any case.
-    pub fn publish(&self, session: &mut Session, call: Call) -> Posted
+    pub fn publish(&self, session: &mut Session<O>, call: O::Call) -> Posted
         requires ours { IsSessionOf self.now session.old }
         requires idle { IsIdle session.old }
         ensures ours { IsSessionOf self.now session.new }
@@ -157,14 +123,13 @@ impl Office {
     /// own, until memory is refused for a call. The session need not be pending. If its call isn't listed, it first
     /// tries once to have it listed.
     ///
-    /// Commits, aborts, releases and withdrawals are served before the other calls, because they make room for
-    /// requests (this project's choice). Both groups are served in the order of the publication list, with the
+    /// Calls that go first are served before the other calls. Both groups are served in the order of the publication list, with the
     /// session's own call last in its group if its record isn't on the list.
-    pub fn serve(&self, session: &mut Session) -> Turn
+    pub fn serve(&self, session: &mut Session<O>) -> Turn
         requires ours { IsSessionOf self.now session.old }
         ensures ours { IsSessionOf self.now session.new }
         ensures elsewhere { result ≡ Turn.Elsewhere → HasTriedToList session.old session.new × (1 < self.now.sessions) }
-        ensures pass { (served : _) (starved : _) → result ≡ Turn.Pass served starved → IsPassed session.old session.new served }
+        ensures pass { (served : _) (starved : _) → result ≡ Turn.Pass served starved → IsPassed O.Sequential session.old session.new served }
         ensures starved { (served : _) (starved : _) → result ≡ Turn.Pass served starved → IsTrue starved ↔ (session.old.put_backs < session.new.put_backs) }
         ensures rises { (j : _) → heard_from session.old j ≤ heard_from session.new j }
         ensures calls { HasCallsOf session.new.front session.new }
@@ -178,46 +143,12 @@ impl Office {
         }
     }
 
-    /// Serves as `serve` does, and tells whose wait the pass has ended: the sessions, other than that of the call, whose
-    /// waiting request a call of this pass granted, or whose transaction it made a deadlock victim. Each is told once, also
-    /// one that waits again since. `ended` is empty afterwards if the session did not become the combiner.
-    ///
-    /// A thread that was told `Waiting` need not poll until a pass tells its session: whoever made that pass wakes it, and
-    /// its next poll tells how the wait has ended (`laws::no_wake_up_is_lost`). `ended` has room for all sessions of the
-    /// office, so that the call takes no memory beyond what `serve` takes. That a pass tells whose wait it has ended is this
-    /// project's own.
-    pub fn serve_telling(&self, session: &mut Session, ended: &mut Ended) -> Turn
-        requires ours { IsSessionOf self.now session.old }
-        requires room { self.now.sessions ≤ ended.old.room }
-        ensures ours { IsSessionOf self.now session.new }
-        ensures elsewhere { result ≡ Turn.Elsewhere → HasTriedToList session.old session.new × (1 < self.now.sessions) }
-        ensures pass { (served : _) (starved : _) → result ≡ Turn.Pass served starved → IsPassed session.old session.new served }
-        ensures starved { (served : _) (starved : _) → result ≡ Turn.Pass served starved → IsTrue starved ↔ (session.old.put_backs < session.new.put_backs) }
-        ensures rises { (j : _) → heard_from session.old j ≤ heard_from session.new j }
-        ensures calls { HasCallsOf session.new.front session.new }
-        ensures own { (served : _) → result ≡ Turn.Pass served false → session.old.pending ≢ None → IsPendingServed session.new }
-        ensures heard { (served j : _) → result ≡ Turn.Pass served false → 0 < j → j ≤ self.now.sessions
-            → heard_from session.old j ≤ length (calls_of j session.new.front) }
-        ensures told { (served : _) (starved : _) → result ≡ Turn.Pass served starved → AreToldBy self.now.sessions served session.new.front ended.new.list }
-        ensures none { result ≡ Turn.Elsewhere → ended.new.list ≡ [] }
-        ensures room { ended.new.room ≡ ended.old.room }
-    {
-        ended.clear();
-        match self.make_pass(session) {
-            Some(made) => {
-                ended.add_ended(&made.load.book, made.pass.served);
-                self.end_pass(session, made)
-            }
-            None => Turn::Elsewhere,
-        }
-    }
-
     /// Takes the answer to the session's published call; each answer is taken once. `None`, with nothing changed,
     /// means that the session isn't pending, or that its call isn't in what the session knows of the history.
-    pub fn collect(&self, session: &mut Session) -> Option<Answer>
+    pub fn collect(&self, session: &mut Session<O>) -> Option<Answer<O::Reply>>
         requires ours { IsSessionOf self.now session.old }
         ensures ours { IsSessionOf self.now session.new }
-        ensures some { IfSome result (λ answer. IsCollected session.old session.new answer.place answer.reply) }
+        ensures some { IfSome result (λ answer. IsCollected O.Sequential session.old session.new answer.place answer.reply) }
         ensures idle { IfSome result (λ _. IsIdle session.new) }
         ensures none { IfNone result (session.new ≡ session.old) }
         ensures late { IfNone result (session.old.pending ≢ None → ¬ (IsPendingServed session.old)) }
@@ -226,81 +157,9 @@ impl Office {
         Some(Answer { place, reply })
     }
 
-    /// Takes the entries of the history that the lock table keeps: those that no session has taken before, and no bound
-    /// has let go. They leave the lock table's memory, and the history that contracts see stays what it is. `None`, with
-    /// nothing changed, means that another session had the lock table, as `Turn::Elsewhere` of `serve` does. The session
-    /// need not be idle, and serves no calls.
-    ///
-    /// Each piece says at which place it begins. The pieces that sessions take follow one another in the history, without a
-    /// gap if the office has no bound (clause `ok` of `close`; `publication::piece_laws`). Put in order, they and what the
-    /// closed office's lock table still has are the history. An office that has served more than `MOST_DROPPED` calls hands
-    /// out no entries. It takes no memory.
-    pub fn take_history(&self, alloc: Global, session: &mut Session) -> Option<HistoryPiece>
-        requires ours { IsSessionOf self.now session.old }
-        ensures ours { IsSessionOf self.now session.new }
-        ensures some { IfSome result (λ piece. HasTakenPiece session.old session.new piece.first piece.entries.items) }
-        ensures all { IfSome result (λ piece. length session.new.front ≤ MOST_DROPPED → piece.first + vec_len piece.entries ≡ length session.new.front) }
-        ensures many { IfSome result (λ piece. MOST_DROPPED < length session.new.front → piece.entries.items ≡ []) }
-        ensures none { IfNone result ((session.new ≡ session.old) × (1 < self.now.sessions)) }
-        ensures calls { HasCallsOf session.new.front session.new }
-    {
-        let mut load = self.board.seize(session)?;
-        let first = load.book.first_kept();
-        let entries = load.book.take_history(alloc);
-        let piece = Piece {
-            session: session.number(),
-            first,
-            count: entries.len() as u64,
-        };
-        load.pieces.push(&piece);
-        self.board.release(session, load);
-        Some(HistoryPiece { first, entries })
-    }
-
-    /// Takes the oldest entries of the history that the lock table keeps, at most `most`, else as `take_history` does: fewer
-    /// only if no more are kept.
-    ///
-    /// Memory for `most` entries is taken first, before the lock table is tried for. Fails with `NoMemory` if it is refused,
-    /// with nothing changed.
-    pub fn take_oldest(
-        &self,
-        alloc: Global,
-        session: &mut Session,
-        most: usize,
-    ) -> Result<Option<HistoryPiece>, NoMemory>
-        requires ours { IsSessionOf self.now session.old }
-        ensures ours { IsSessionOf self.now session.new }
-        ensures some { (piece : _) → result ≡ Ok (Some piece) → HasTakenPiece session.old session.new piece.first piece.entries.items }
-        ensures few { (piece : _) → result ≡ Ok (Some piece) → vec_len piece.entries ≤ most }
-        ensures all { (piece : _) → result ≡ Ok (Some piece) → vec_len piece.entries < most → piece.first + vec_len piece.entries ≡ length session.new.front }
-        ensures none { result ≡ Ok None → (session.new ≡ session.old) × (1 < self.now.sessions) }
-        ensures err { IfErr result (λ _. session.new ≡ session.old) }
-        ensures calls { IfOk result (λ _. HasCallsOf session.new.front session.new) }
-    {
-        let mut entries = Vec::with_capacity(alloc, most)?;
-        let Some(mut load) = self.board.seize(session) else {
-            return Ok(None);
-        };
-        let first = load.book.first_kept();
-        let kept = load.book.history();
-        let count = usize::min(most, kept.len());
-        let Ok(()) = entries.extend_from_slice(&kept[..count]) else {
-            unreachable!()
-        };
-        load.book.let_go(count as u64);
-        let piece = Piece {
-            session: session.number(),
-            first,
-            count: count as u64,
-        };
-        load.pieces.push(&piece);
-        self.board.release(session, load);
-        Ok(Some(HistoryPiece { first, entries }))
-    }
-
     /// What `session` knows, as a value that may move to another thread: the front of the history that it knows, and
     /// for each session the number of calls that it has heard of.
-    pub fn knowledge(&self, session: &mut Session) -> Knowledge
+    pub fn knowledge(&self, session: &mut Session<O>) -> Knowledge<O>
         requires ours { IsSessionOf self.now session.old }
         ensures ours { IsSessionOf self.now session.new }
         ensures same { session.new ≡ session.old }
@@ -312,7 +171,7 @@ impl Office {
     /// Lets `session` learn what another session knew when its `knowledge` was taken: the longer of both fronts of the
     /// history, one of which begins the other, and for each session the larger number of calls that either had heard
     /// of. What `session` publishes from then on gets a place behind all that the other knew.
-    pub fn heed(&self, session: &mut Session, knowledge: Knowledge)
+    pub fn heed(&self, session: &mut Session<O>, knowledge: Knowledge<O>)
         requires ours { IsSessionOf self.now session.old × (knowledge.board ≡ self.now.id) }
         ensures ours { IsSessionOf self.now session.new }
         ensures session { session.new ≡ record session.old {
@@ -320,7 +179,7 @@ impl Office {
           heard = maxes session.old.heard knowledge.heard;
         } }
         ensures fronts { IsPrefix session.old.front session.new.front × IsPrefix knowledge.front session.new.front }
-        ensures legal { IsLegal session.new.front }
+        ensures legal { O.is_legal session.new.front }
         ensures heard { (j : _) → heard_from session.new j ≡ max (heard_from session.old j) (slice_index knowledge.heard j) }
         ensures calls { HasCallsOf session.new.front session.new }
     {
@@ -331,7 +190,7 @@ impl Office {
     /// other, and for each session the larger number of calls that either has heard of. `other` learns nothing. What
     /// `session` publishes from then on gets a place behind all that `other` knew. For two sessions that one thread has
     /// in hand; `knowledge` and `heed` do the same between threads.
-    pub fn hear(&self, session: &mut Session, other: &mut Session)
+    pub fn hear(&self, session: &mut Session<O>, other: &mut Session<O>)
         requires ours { IsSessionOf self.now session.old × IsSessionOf self.now other.old }
         ensures ours { IsSessionOf self.now session.new × IsSessionOf self.now other.new }
         ensures other { other.new ≡ other.old }
@@ -340,15 +199,15 @@ impl Office {
           heard = maxes session.old.heard other.old.heard;
         } }
         ensures fronts { IsPrefix session.old.front session.new.front × IsPrefix other.old.front session.new.front }
-        ensures legal { IsLegal session.new.front }
+        ensures legal { O.is_legal session.new.front }
         ensures heard { (j : _) → heard_from session.new j ≡ max (heard_from session.old j) (heard_from other.old j) }
         ensures calls { HasCallsOf session.new.front session.new × HasCallsOf session.new.front other.new }
     {
         self.board.hear(session, other);
     }
 
-    /// Retires the session: it publishes no more calls. Its transaction and its locks stay as they are.
-    pub fn retire(&self, session: &mut Session)
+    /// Retires the session: it publishes no more calls.
+    pub fn retire(&self, session: &mut Session<O>)
         requires ours { IsSessionOf self.now session.old }
         requires idle { IsIdle session.old }
         ensures ours { IsSessionOf self.now session.new }
@@ -357,26 +216,86 @@ impl Office {
         self.board.retire(session);
     }
 
-    /// Closes the office and returns the lock table with the history, of which it keeps what `Book::history` shows: all
-    /// entries, unless the office was opened with a bound. Needs each session of the office exactly
-    /// once, in any order, and none pending. Otherwise it returns the office and the sessions, in their order: with
+    /// Closes the office and returns the object. Needs each session of the office exactly once, in any order, and none pending. Otherwise it returns the office and the sessions, in their order: with
     /// `Missing` if the vector doesn't hold each session once, else with `Unsettled`. It takes no memory.
     /// `laws::closed_offices_have_one_history` says what the history then is.
-    pub fn close(self, sessions: Vec<Session>) -> Result<Book, (CloseFault, Office, Vec<Session>)>
+    pub fn close(
+        self,
+        sessions: Vec<Session<O>>,
+    ) -> Result<O, (CloseFault, Office<O>, Vec<Session<O>>)>
         requires ours { All (IsSessionOf self) sessions.items }
-        ensures ok { IfOk result (λ book. IsClosed self sessions.items book) }
+        ensures ok { IfOk result (λ object. IsClosed O.Sequential self sessions.items object) }
         ensures back { IfErr result (λ refused. (refused.1 ≡ self) × (refused.2.items ≡ sessions.items)) }
         ensures missing { IfErr result (λ refused. refused.0 ≡ CloseFault.Missing → ¬ (IsEachOnce self.sessions sessions.items)) }
         ensures unsettled { IfErr result (λ refused. refused.0 ≡ CloseFault.Unsettled → IsEachOnce self.sessions sessions.items × ¬ (All HasNothingPending sessions.items)) }
     {
         let Office { board } = self;
         match board.gather(sessions) {
-            Ok(book) => {
-                // reading the history shows that every entry is of a session of the book
-                let _length = book.history().len();
-                Ok(book)
+            Ok(object) => {
+                // every entry is of a session of the object
+                let _served = object.served();
+                Ok(object)
             }
             Err((fault, board, sessions)) => Err((fault, Office { board }, sessions)),
+        }
+    }
+}
+
+impl<O: Telling> Office<O> {
+    /// Serves as `serve` does, and tells whose wait a call of the pass has ended, as the object says. Each session is told once,
+    /// also one that waits again since. `ended` is empty afterwards if the session did not become the combiner.
+    ///
+    /// A thread that waits need not ask until a pass tells its session: whoever made that pass wakes it. `ended` has room for
+    /// all sessions of the office, so that the call takes no memory beyond what `serve` takes. That a pass tells whose wait it
+    /// has ended is this project's own.
+    pub fn serve_telling(&self, session: &mut Session<O>, ended: &mut Ended) -> Turn
+        requires ours { IsSessionOf self.now session.old }
+        requires room { self.now.sessions ≤ ended.old.room }
+        ensures ours { IsSessionOf self.now session.new }
+        ensures elsewhere { result ≡ Turn.Elsewhere → HasTriedToList session.old session.new × (1 < self.now.sessions) }
+        ensures pass { (served : _) (starved : _) → result ≡ Turn.Pass served starved → IsPassed O.Sequential session.old session.new served }
+        ensures starved { (served : _) (starved : _) → result ≡ Turn.Pass served starved → IsTrue starved ↔ (session.old.put_backs < session.new.put_backs) }
+        ensures rises { (j : _) → heard_from session.old j ≤ heard_from session.new j }
+        ensures calls { HasCallsOf session.new.front session.new }
+        ensures own { (served : _) → result ≡ Turn.Pass served false → session.old.pending ≢ None → IsPendingServed session.new }
+        ensures heard { (served j : _) → result ≡ Turn.Pass served false → 0 < j → j ≤ self.now.sessions
+            → heard_from session.old j ≤ length (calls_of j session.new.front) }
+        ensures told { (served : _) (starved : _) → result ≡ Turn.Pass served starved → AreToldBy O.ends self.now.sessions served session.new.front ended.new.list }
+        ensures none { result ≡ Turn.Elsewhere → ended.new.list ≡ [] }
+        ensures room { ended.new.room ≡ ended.old.room }
+    {
+        ended.clear();
+        match self.make_pass(session) {
+            Some(made) => {
+                ended.add_ended(&made.load.object, made.pass.served);
+                self.end_pass(session, made)
+            }
+            None => Turn::Elsewhere,
+        }
+    }
+}
+
+impl<O: Fresh> Office<O> {
+    /// Opens an office of a new object for sessions 1 to `sessions`, and returns it with these sessions in order, all idle.
+    pub fn open(alloc: Global, sessions: u16) -> Result<(Office<O>, Vec<Session<O>>), OpenFault>
+        ensures none { (result ≡ Err OpenFault.NoSessions) ↔ (sessions ≡ 0) }
+        ensures many { (result ≡ Err OpenFault.TooManySessions) ↔ (MAX_SESSIONS < sessions) }
+        ensures office { IfOk result (λ made. made.0.sessions ≡ sessions) }
+        ensures sessions { IfOk result (λ made. made.1.items ≡ new_tickets made.0.id sessions sessions) }
+        ensures ready { IfOk result (λ made. All (λ session. IsSessionOf made.0 session × IsIdle session) made.1.items) }
+    {
+        if sessions == 0 {
+            return Err(OpenFault::NoSessions);
+        }
+        if sessions > MAX_SESSIONS {
+            return Err(OpenFault::TooManySessions);
+        }
+        let Ok(object) = O::fresh(alloc, sessions) else {
+            return Err(OpenFault::NoMemory);
+        };
+        match Office::share(alloc, object) {
+            Ok(made) => Ok(made),
+            Err(NoMemory) => Err(OpenFault::NoMemory),
         }
     }
 }

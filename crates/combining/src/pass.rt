@@ -3,21 +3,17 @@
 
 ghost use Rattle.std.specs.Prelude.{◌≡◌, ◌≢◌, ◌+◌, ◌-◌, ◌^◌, ◌<◌, ◌≤◌, ◌↔◌, ◌∷◌, ◌++◌, min, [], true, false, IsTrue, Some, None, IfSome, IfNone, length, take, drop, vec_len, vec_capacity, All};
 ghost use mathlib.Core.List.{IsPrefix};
-ghost use Rattle.lock_rules.specs.Legal.{IsLegal};
 ghost use Rattle.sequential.specs.Histories.{calls_of};
 ghost use Rattle.sequential.specs.Batches.{IsItemWithin};
 ghost use Rattle.publication.specs.Boards.{IsOf, IsNumber, OpensNone, heard_from, published_by};
-ghost use Rattle.lock_board.specs.LockBoards.{IsHome};
 ghost use Rattle.publication.specs.List.{IsOn};
 ghost use Rattle.publication.specs.Kinds.{IsRoute};
-ghost use Rattle.combining.specs.inner.Passes.{AreOpened, HasCalls, KeepsCalls, IsVisited, HasVisitedOpened, IsNext, HasMet, IsSameSession, IsAfterRow, IsBookInHand, HasTakenNothing, ended_behind};
-ghost use Rattle.lock_desk.specs.Batches.{makes_room};
+ghost use Rattle.combining.specs.inner.Passes.{AreOpened, HasCalls, KeepsCalls, IsVisited, HasVisitedOpened, IsNext, HasMet, IsSameSession, IsAfterRow, IsObjectInHand, IsAtWork, HasRow, HasServed, HasServedRow};
 ghost use Rattle.combining.specs.inner.Ages.{sessions_of, sessions_since, noted};
 
 use crate::clean_up::{clean_up, note_served};
-use lock_board::{Board, Load, Ticket};
-use lock_desk::{Book, Call, Item};
-use sequential::Serving;
+use publication::{Board, Load, Ticket};
+use sequential::{Batching, Item};
 
 /// The outcome of a pass.
 #[derive(Drop)]
@@ -28,18 +24,18 @@ pub(crate) struct Pass {
     pub starved: bool,
 }
 
-/// A pass that a session has made: its outcome, and what the session took from the lock's slot and has to give back.
+/// A pass that a session has made: its outcome, and what the session took from the object's slot and has to give back.
 #[derive(Drop)]
-pub(crate) struct MadePass {
+pub(crate) struct MadePass<O: Batching> {
     /// The outcome.
     pub pass: Pass,
-    /// The lock table, and what passes work with.
-    pub load: Box<Load>,
+    /// The object, and what passes work with.
+    pub load: Box<Load<O>>,
 }
 
 /// Inserts an item for the call of session `whose` into the row, which has room for it, behind the first `place` items.
 #[inline(always)]
-fn insert_item(row: &mut Vec<Item>, place: usize, whose: u16, call: Call)
+fn insert_item<C: Copy, R: Copy>(row: &mut Vec<Item<C, R>>, place: usize, whose: u16, call: C)
     requires place { place ≤ vec_len row.old }
     requires room { vec_len row.old < vec_capacity row.old }
     ensures items { row.new.items ≡ take place row.old.items ++ (record { session = whose; call = call; reply = None }) ∷ drop place row.old.items }
@@ -67,10 +63,10 @@ fn insert_item(row: &mut Vec<Item>, place: usize, whose: u16, call: Call)
 /// the first `released_first` items, which make room too, any other call at the end.
 // Out of line, so that a pass over idle records only looks at them.
 #[inline(never)]
-fn open_posted(
-    board: &Board,
-    session: &mut Ticket,
-    row: &mut Vec<Item>,
+fn open_posted<O: Batching>(
+    board: &Board<O>,
+    session: &mut Ticket<O>,
+    row: &mut Vec<Item<O::Call, O::Reply>>,
     released_first: &mut usize,
     whose: u16,
 )
@@ -89,7 +85,7 @@ fn open_posted(
     let Some(call) = board.open(session, whose) else {
         return;
     };
-    let gives = Book::goes_first(&call);
+    let gives = O::goes_first(&call);
     let place = if gives { *released_first } else { row.len() };
     insert_item(row, place, whose, call);
     if gives {
@@ -99,10 +95,10 @@ fn open_posted(
 
 /// Looks at record `whose`, and opens it as `open_posted` does if a call is posted there.
 #[inline(always)]
-fn open_record(
-    board: &Board,
-    session: &mut Ticket,
-    row: &mut Vec<Item>,
+fn open_record<O: Batching>(
+    board: &Board<O>,
+    session: &mut Ticket<O>,
+    row: &mut Vec<Item<O::Call, O::Reply>>,
     released_first: &mut usize,
     whose: u16,
 )
@@ -125,10 +121,10 @@ fn open_record(
 
 /// Visits the records of the walk from `next` on, and opens each in which a call is posted.
 #[inline(always)]
-fn open_walked(
-    board: &Board,
-    session: &mut Ticket,
-    row: &mut Vec<Item>,
+fn open_walked<O: Batching>(
+    board: &Board<O>,
+    session: &mut Ticket<O>,
+    row: &mut Vec<Item<O::Call, O::Reply>>,
     released_first: &mut usize,
     next: Option<u16>,
 )
@@ -154,7 +150,12 @@ fn open_walked(
 
 /// Walks the publication list from the head word to the end mark, and opens each record in which a call is posted.
 #[inline(always)]
-fn open_listed(board: &Board, session: &mut Ticket, row: &mut Vec<Item>, released_first: &mut usize)
+fn open_listed<O: Batching>(
+    board: &Board<O>,
+    session: &mut Ticket<O>,
+    row: &mut Vec<Item<O::Call, O::Reply>>,
+    released_first: &mut usize,
+)
     requires ours { IsOf board.now session.old × (session.old.has_object ≡ true) }
     requires none { OpensNone session.old }
     requires row { AreOpened board.now.sessions session.old.opened row.old.items }
@@ -175,7 +176,11 @@ fn open_listed(board: &Board, session: &mut Ticket, row: &mut Vec<Item>, release
 /// Visits the records on the publication list, and then the combiner's own if its call is pending and not listed, and opens
 /// each in which a call is posted.
 #[inline(always)]
-fn open_records(board: &Board, session: &mut Ticket, row: &mut Vec<Item>)
+fn open_records<O: Batching>(
+    board: &Board<O>,
+    session: &mut Ticket<O>,
+    row: &mut Vec<Item<O::Call, O::Reply>>,
+)
     requires ours { IsOf board.now session.old × (session.old.has_object ≡ true) }
     requires number { IsNumber board.now session.old.number }
     requires none { OpensNone session.old }
@@ -198,23 +203,28 @@ fn open_records(board: &Board, session: &mut Ticket, row: &mut Vec<Item>)
 }
 
 /// Answers the first `served` calls of the row, in order, each with the reply in its item.
-fn answer_row(board: &Board, session: &mut Ticket, book: &Book, row: &[Item], served: usize)
+fn answer_row<O: Batching>(
+    board: &Board<O>,
+    session: &mut Ticket<O>,
+    object: &O,
+    row: &[Item<O::Call, O::Reply>],
+    served: usize,
+)
     requires ours { IsOf board.now session.old × (session.old.has_object ≡ true) }
     requires served { served ≤ length row.now }
-    requires book { IsBookInHand board.now.sessions book.now session.old (take served row.now) }
+    requires object { IsObjectInHand O.Sequential board.now.sessions object.now session.old (take served row.now) }
     requires row { AreOpened board.now.sessions session.old.opened row.now }
     ensures session { IsSameSession session.old session.new }
-    ensures book { IsBookInHand board.now.sessions book.now session.new [] }
+    ensures object { IsObjectInHand O.Sequential board.now.sessions object.now session.new [] }
     ensures row { AreOpened board.now.sessions session.new.opened (drop served row.now) }
     ensures longer { IsPrefix session.old.front session.new.front }
-    ensures legal { IsLegal session.new.front }
+    ensures legal { O.is_legal session.new.front }
     ensures entries { length session.new.front ≡ length session.old.front + served }
     ensures whose { sessions_since (length session.old.front) session.new.front ≡ sessions_of (take served row.now) }
     ensures calls { KeepsCalls session.old session.new }
 {
     // the history is legal, and its length fits into 64 bits, so there is room for these entries
-    let _length = book.history().len();
-    let _served = book.served();
+    let _served = object.served();
     for item in &row[..served] {
         let Some(reply) = item.reply else {
             unreachable!()
@@ -224,31 +234,40 @@ fn answer_row(board: &Board, session: &mut Ticket, book: &Book, row: &[Item], se
 }
 
 /// Performs the calls of the row as one batch, until memory is refused for one, and then answers those that were
-/// performed, in order. Returns how many there were. In between, the book is ahead of the history.
-fn serve_row(board: &Board, session: &mut Ticket, book: &mut Book, row: &mut Vec<Item>) -> usize
+/// performed, in order. Returns how many there were. In between, the object is ahead of the history.
+fn serve_row<O: Batching>(
+    board: &Board<O>,
+    session: &mut Ticket<O>,
+    object: &mut O,
+    row: &mut Vec<Item<O::Call, O::Reply>>,
+) -> usize
     requires ours { IsOf board.now session.old × (session.old.has_object ≡ true) }
-    requires book { IsBookInHand board.now.sessions book.old session.old [] }
+    requires object { IsObjectInHand O.Sequential board.now.sessions object.old session.old [] }
     requires row { AreOpened board.now.sessions session.old.opened row.old.items }
     ensures session { IsSameSession session.old session.new }
-    ensures book { IsBookInHand board.now.sessions book.new session.new [] }
+    ensures object { IsObjectInHand O.Sequential board.now.sessions object.new session.new [] }
     ensures row { AreOpened board.now.sessions session.new.opened (drop result row.new.items) }
-    ensures kept { (book.new.cut ≡ book.old.cut) × (book.new.bound ≡ book.old.bound) }
+    ensures kept { ((O.cut object.new) ≡ (O.cut object.old)) × ((O.bound object.new) ≡ (O.bound object.old)) }
     ensures within { All (IsItemWithin board.now.sessions) row.new.items }
     ensures room { (vec_len row.new ≡ vec_len row.old) × (vec_capacity row.new ≡ vec_capacity row.old) }
     ensures longer { IsPrefix session.old.front session.new.front }
-    ensures legal { IsLegal session.new.front }
+    ensures legal { O.is_legal session.new.front }
     ensures served { (result ≤ vec_len row.new) × (length session.new.front ≡ length session.old.front + result) }
     ensures whose { sessions_since (length session.old.front) session.new.front ≡ sessions_of (take result row.new.items) }
     ensures calls { KeepsCalls session.old session.new }
-    ensures ended { book.new.ended ≡ ended_behind board.now.sessions session.old.front (drop (length session.old.front) session.new.front) }
+    ensures tells { 0 < result → O.tells_from object.new (length session.old.front) }
 {
-    let served = book.serve_batch(row.as_mut_slice());
-    answer_row(board, session, book, row.as_slice(), served);
+    let served = object.serve_batch(row.as_mut_slice());
+    answer_row(board, session, object, row.as_slice(), served);
     served
 }
 
 /// Puts the calls of these items, which were not performed, back into their records.
-fn put_back_row(board: &Board, session: &mut Ticket, row: &[Item])
+fn put_back_row<O: Batching>(
+    board: &Board<O>,
+    session: &mut Ticket<O>,
+    row: &[Item<O::Call, O::Reply>],
+)
     requires ours { IsOf board.now session.old × (session.old.has_object ≡ true) }
     requires row { AreOpened board.now.sessions session.old.opened row.now }
     ensures session { session.new ≡ record session.old { opened = session.new.opened; put_backs = session.old.put_backs + length row.now } }
@@ -263,29 +282,11 @@ fn put_back_row(board: &Board, session: &mut Ticket, row: &[Item])
 /// Performs the calls of the row, answers those that were performed, and posts the others again. Notes the pass as the
 /// age of each session that it served.
 #[inline(never)]
-fn serve_opened(board: &Board, session: &mut Ticket, load: &mut Load) -> Pass
-    requires ours { IsOf board.now session.old × (session.old.has_object ≡ true) }
-    requires book { IsBookInHand board.now.sessions load.old.book session.old [] }
-    requires row { AreOpened board.now.sessions session.old.opened load.old.row.items }
-    requires few { vec_len load.old.row < 65536 }
-    requires ages { vec_len load.old.ages ≡ board.now.sessions }
-    ensures session { IsAfterRow session.old session.new }
-    ensures none { OpensNone session.new }
-    ensures put_backs { session.new.put_backs + result.served ≡ session.old.put_backs + vec_len load.old.row }
-    ensures book { IsBookInHand board.now.sessions load.new.book session.new [] }
-    ensures longer { IsPrefix session.old.front session.new.front }
-    ensures legal { IsLegal session.new.front }
-    ensures served { length session.new.front ≡ length session.old.front + result.served }
-    ensures starved { IsTrue result.starved ↔ (result.served < vec_len load.old.row) }
-    ensures calls { result.starved ≡ false → KeepsCalls session.old session.new }
-    ensures room { vec_capacity load.new.row ≡ vec_capacity load.old.row }
-    ensures passes { load.new.passes ≡ load.old.passes }
-    ensures taken { HasTakenNothing load.old load.new }
-    ensures ages { load.new.ages.items ≡ noted load.old.ages.items (sessions_since (length session.old.front) session.new.front) load.old.passes }
-    ensures len { vec_len load.new.ages ≡ vec_len load.old.ages }
-    ensures ended { load.new.book.ended ≡ ended_behind board.now.sessions session.old.front (drop (length session.old.front) session.new.front) }
+fn serve_opened<O: Batching>(board: &Board<O>, session: &mut Ticket<O>, load: &mut Load<O>) -> Pass
+    requires row { HasRow O.Sequential board.now session.old load.old }
+    ensures served { HasServedRow O.Sequential O.tells_from board.now.sessions session.old session.new load.old load.new result.served result.starved }
 {
-    let served = serve_row(board, session, &mut load.book, &mut load.row);
+    let served = serve_row(board, session, &mut load.object, &mut load.row);
     put_back_row(board, session, &load.row[served..]);
     let starved = served < load.row.len();
     note_served(&mut load.ages, &load.row[..served], load.passes);
@@ -295,30 +296,11 @@ fn serve_opened(board: &Board, session: &mut Ticket, load: &mut Load) -> Pass
     }
 }
 
-/// Like `serve_opened`, but does nothing if the row is empty; `Book::ended` then still describes an earlier pass.
+/// Like `serve_opened`, but does nothing if the row is empty; what the object tells then still describes an earlier pass.
 #[inline(always)]
-fn serve_any(board: &Board, session: &mut Ticket, load: &mut Load) -> Pass
-    requires ours { IsOf board.now session.old × (session.old.has_object ≡ true) }
-    requires legal { IsLegal session.old.front }
-    requires book { IsBookInHand board.now.sessions load.old.book session.old [] }
-    requires row { AreOpened board.now.sessions session.old.opened load.old.row.items }
-    requires few { vec_len load.old.row < 65536 }
-    requires ages { vec_len load.old.ages ≡ board.now.sessions }
-    ensures session { IsAfterRow session.old session.new }
-    ensures none { OpensNone session.new }
-    ensures put_backs { session.new.put_backs + result.served ≡ session.old.put_backs + vec_len load.old.row }
-    ensures book { IsBookInHand board.now.sessions load.new.book session.new [] }
-    ensures longer { IsPrefix session.old.front session.new.front }
-    ensures legal { IsLegal session.new.front }
-    ensures served { length session.new.front ≡ length session.old.front + result.served }
-    ensures starved { IsTrue result.starved ↔ (result.served < vec_len load.old.row) }
-    ensures calls { result.starved ≡ false → KeepsCalls session.old session.new }
-    ensures room { vec_capacity load.new.row ≡ vec_capacity load.old.row }
-    ensures passes { load.new.passes ≡ load.old.passes }
-    ensures taken { HasTakenNothing load.old load.new }
-    ensures ages { load.new.ages.items ≡ noted load.old.ages.items (sessions_since (length session.old.front) session.new.front) load.old.passes }
-    ensures len { vec_len load.new.ages ≡ vec_len load.old.ages }
-    ensures ended { 0 < result.served → load.new.book.ended ≡ ended_behind board.now.sessions session.old.front (drop (length session.old.front) session.new.front) }
+fn serve_any<O: Batching>(board: &Board<O>, session: &mut Ticket<O>, load: &mut Load<O>) -> Pass
+    requires row { HasRow O.Sequential board.now session.old load.old }
+    ensures served { HasServedRow O.Sequential O.tells_from board.now.sessions session.old session.new load.old load.new result.served result.starved }
 {
     if load.row.is_empty() {
         return Pass {
@@ -331,22 +313,21 @@ fn serve_any(board: &Board, session: &mut Ticket, load: &mut Load) -> Pass
 
 /// Runs a whole pass for a combiner that has the load, and leaves the load fit to be given back.
 #[inline(always)]
-pub(crate) fn serve_published(board: &Board, session: &mut Ticket, load: &mut Load) -> Pass
-    requires ours { IsOf board.now session.old × (session.old.has_object ≡ true) × OpensNone session.old }
-    requires number { IsNumber board.now session.old.number }
+pub(crate) fn serve_published<O: Batching>(
+    board: &Board<O>,
+    session: &mut Ticket<O>,
+    load: &mut Load<O>,
+) -> Pass
+    requires work { IsAtWork O.Sequential board.now session.old load.old }
     requires listed { session.old.pending ≢ None → session.old.listed ≡ true → heard_from session.old session.old.number ≡ published_by session.old }
-    requires home { IsHome session.old.front (board.now.sessions + 1) load.old × IsLegal session.old.front }
+    ensures work { IsAtWork O.Sequential board.now session.new load.new }
     ensures session { session.new ≡ record session.old { front = session.new.front; route = session.new.route; put_backs = session.new.put_backs } }
-    ensures starved { IsTrue result.starved ↔ (session.old.put_backs < session.new.put_backs) }
-    ensures home { IsHome session.new.front (board.now.sessions + 1) load.new × IsLegal session.new.front }
-    ensures longer { IsPrefix session.old.front session.new.front }
-    ensures served { length session.new.front ≡ length session.old.front + result.served }
-    ensures heard { result.starved ≡ false → (j : _) → 0 < j → j ≤ board.now.sessions → heard_from session.old j ≤ length (calls_of j session.new.front) }
+    ensures served { HasServed board.now.sessions session.old session.new load.old load.new result.starved }
+    ensures count { length session.new.front ≡ length session.old.front + result.served }
     ensures own { result.starved ≡ false → session.old.pending ≢ None → published_by session.old ≤ length (calls_of session.old.number session.new.front) }
     ensures passes { load.new.passes ≡ min (load.old.passes + 1) (2 ^ 64 - 1) }
-    ensures taken { load.new.pieces.items ≡ load.old.pieces.items }
     ensures ages { load.new.ages.items ≡ noted load.old.ages.items (sessions_since (length session.old.front) session.new.front) load.new.passes }
-    ensures ended { 0 < result.served → load.new.book.ended ≡ ended_behind board.now.sessions session.old.front (drop (length session.old.front) session.new.front) }
+    ensures tells { 0 < result.served → O.tells_from load.new.object (length session.old.front) }
 {
     load.passes = load.passes.saturating_add(1);
     open_records(board, session, &mut load.row);

@@ -3,8 +3,8 @@
 ghost use Rattle.std.specs.Prelude.{◌≡◌, ◌≤◌, []};
 
 use ghost_list::GhostList;
-use sequential::{Entry, MAX_SESSIONS, Sequential, Serving};
-use std::alloc::AllocError as NoMemory;
+use sequential::{Batching, Entry, Fresh, Item, MAX_SESSIONS, Sequential, Serving, serve_each};
+use std::alloc::{AllocError as NoMemory, Global};
 use std::marker::Model;
 
 /// A counter modulo 2^64. It serves 2^64 - 1 calls, and each later one as if memory were refused for it.
@@ -67,7 +67,7 @@ impl Sequential for Counter {
 
     ghost is_legal = { IsLegal };
 
-    ghost agree = { λ reply other. reply ≡ other };
+    ghost agree = { λ _ reply other. reply ≡ other };
 
     ghost any_call = { 0 };
 
@@ -95,6 +95,8 @@ impl Serving for Counter {
 
     ghost goes_first = { λ _. false };
 
+    ghost tells_from = { λ _ _. Unit {0} };
+
     fn goes_first(_call: &u32) -> bool {
         false
     }
@@ -113,5 +115,17 @@ impl Serving for Counter {
         self.value = reply.wrapping_add(u64::from(call));
         self.served += 1;
         Ok(reply)
+    }
+}
+
+impl Batching for Counter {
+    fn serve_batch(&mut self, items: &mut [Item<u32, u64>]) -> usize {
+        serve_each(self, items)
+    }
+}
+
+impl Fresh for Counter {
+    fn fresh(_alloc: Global, sessions: u16) -> Result<Counter, NoMemory> {
+        Ok(Counter::new(sessions))
     }
 }

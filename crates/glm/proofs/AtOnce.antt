@@ -5,9 +5,8 @@ use Rattle.lock_rules.specs.declared.calls.Call.{Call}
 use Rattle.lock_rules.specs.Entries.{Answered}
 use Rattle.publication.specs.Views.{answer}
 use Rattle.lock_board.specs.LockBoards.{TicketView}
-use Rattle.combining.specs.Sessions.{IsPerformed, IsRefused}
-use Rattle.combining.specs.declared.office.Answer.{Answer}
-use Rattle.combining.specs.declared.office.perform.Performed.{Performed}
+use Rattle.lock_office.specs.Sessions.{IsPerformed, IsRefused}
+use Rattle.lock_office.specs.Sessions.{Answer, Performed}
 use Rattle.combining.specs.declared.office.perform.Performed.TheVariants as performed
 use Rattle.glm.specs.declared.workers.TryOutcome.TheVariants as outcome
 use Rattle.glm.specs.Workers.{Calls, calls_known, outcome_of_try}

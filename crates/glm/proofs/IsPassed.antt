@@ -2,7 +2,7 @@
 use Rattle.std.proofs.Common.{ap, refl, ◌≡◌, ◌∙◌, ◌<◌, inl, inr, ℕ, Bool, false, length}
 use Rattle.lock_board.specs.LockBoards.{TicketView}
 use Rattle.publication.specs.Boards.{enlisted, tried}
-use Rattle.combining.specs.Sessions.{HasTriedToList, IsPassed}
+use Rattle.lock_office.specs.Sessions.{HasTriedToList, IsPassed}
 use Rattle.combining.specs.declared.office.Turn.{Turn}
 use Rattle.combining.specs.declared.office.Turn.TheVariants as turn
 use Rattle.glm.specs.Workers.{calls_known}

@@ -2,7 +2,7 @@
 use Rattle.std.proofs.Common.{ap, sym, refl, ◌≡◌, ◌∙◌, ℕ, List, [], None, Some, Option, option_map, false}
 use Rattle.publication.specs.Views.{BoardView}
 use Rattle.lock_board.specs.LockBoards.{TicketView, Pending}
-use Rattle.combining.specs.Sessions.{IsSessionOf}
+use Rattle.lock_office.specs.Sessions.{IsSessionOf}
 use Rattle.lock_trace.specs.declared.trace_row.TraceRow.{TraceRow}
 use Rattle.glm.specs.Calls.{calls_answered, calls_of_rows}
 use Rattle.glm.specs.Workers.{Calls, calls_known, IsNewSession, IsPerformed}

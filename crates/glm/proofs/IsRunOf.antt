@@ -13,8 +13,8 @@ use Rattle.lock_board.specs.LockBoards.{TicketView, new_ticket, new_tickets}
 use Rattle.publication.specs.declared.closing.CloseFault.{CloseFault}
 use Rattle.publication.specs.declared.closing.CloseFault.TheVariants as close
 use Rattle.publication.specs.Boards.{IsEachOnce, AccountsFor}
-use Rattle.combining.specs.Sessions.{IsSessionOf, IsIdle, HasNothingPending}
-use Rattle.combining.specs.Closed.{IsClosed, answers_of}
+use Rattle.lock_office.specs.Sessions.{IsSessionOf, IsIdle, HasNothingPending}
+use Rattle.lock_office.specs.Closed.{IsClosed, answers_of}
 use Rattle.lock_trace.specs.declared.trace_row.TraceRow.{TraceRow}
 use Rattle.lock_trace.specs.Rows.{IsRow}
 use Rattle.glm.specs.Calls.{calls_answered, calls_of_rows}

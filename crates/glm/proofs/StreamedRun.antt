@@ -12,8 +12,8 @@ use Rattle.lock_board.specs.LockBoards.{TicketView, new_ticket, new_tickets}
 use Rattle.publication.specs.declared.closing.CloseFault.{CloseFault}
 use Rattle.publication.specs.declared.closing.CloseFault.TheVariants as close
 use Rattle.publication.specs.Boards.{AccountsFor, IsEachOnce}
-use Rattle.combining.specs.Sessions.{HasNothingPending, IsSessionOf, IsIdle}
-use Rattle.combining.specs.Closed.{IsClosed}
+use Rattle.lock_office.specs.Sessions.{HasNothingPending, IsSessionOf, IsIdle}
+use Rattle.lock_office.specs.Closed.{IsClosed}
 use Rattle.lock_trace.specs.declared.trace_row.TraceRow.{TraceRow}
 use Rattle.lock_trace.specs.Rows.{IsRow}
 use Rattle.glm.specs.Calls.{calls_answered}

@@ -10,7 +10,7 @@ use Rattle.lock_rules.specs.Legal.{IsLegal}
 use Rattle.lock_rules.proofs.Histories.{legal-front}
 use Rattle.lock_board.specs.LockBoards.{TicketView}
 use Rattle.publication.proofs.Histories.{length-begins}
-use Rattle.combining.specs.Sessions.{HasTakenPiece}
+use Rattle.lock_office.specs.Sessions.{HasTakenPiece}
 use Rattle.lock_trace.specs.Histories.{text_of_history, text_of_piece}
 use Rattle.glm.specs.Pieces.{IsFaultOfPiece}
 use Rattle.glm.specs.Runs.{HasWrittenFront, HasWrittenPart}
@@ -99,7 +99,7 @@ pub piece_written : (before after : TicketView) (first next end : ℕ) (entries 
 piece_written before after first next end entries old mid new taken here there piece way =
     subst (λ (k : ℕ). IsWrittenUpTo k after.front old new) (sym there)
     (more_written next entries after.front old mid new (goes_on next before.front after.front old mid way taken.longer taken.legal)
-    (subst (λ (k : ℕ). entries ≡ take (length entries) (drop k after.front)) here taken.entries_are)
+    (subst (λ (k : ℕ). entries ≡ take (length entries) (drop k after.front)) here taken.lines_are)
     (subst (λ (k : ℕ). k + length entries ≤ length after.front) here taken.within) piece)
 
 -- the session took a piece, and it isn't written
@@ -108,7 +108,7 @@ pub piece_failed : (before after : TicketView) (first next : ℕ) (entries : Lis
     → IsWrittenUpTo next before.front old mid → IsFaultOfStream old new fault
 piece_failed before after first next entries old mid new fault taken here is way =
     more_failed next entries after.front old mid new fault (goes_on next before.front after.front old mid way taken.longer taken.legal)
-    (subst (λ (k : ℕ). entries ≡ take (length entries) (drop k after.front)) here taken.entries_are) is
+    (subst (λ (k : ℕ). entries ≡ take (length entries) (drop k after.front)) here taken.lines_are) is
 
 -- the rest of the history is written, which begins with what the taker knows
 pub rest_written : (next : ℕ) (front history : List Entry) (old mid new : Option (List ℕ)) → IsWrittenUpTo next front old mid → IsPrefix front history

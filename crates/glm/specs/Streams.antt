@@ -9,8 +9,8 @@ use Rattle.lock_board.specs.LockBoards.{TicketView, new_ticket, new_tickets}
 use Rattle.publication.specs.Boards.{IsEachOnce}
 use Rattle.publication.specs.declared.closing.CloseFault.{CloseFault}
 use Rattle.publication.specs.declared.closing.CloseFault.TheVariants as close
-use Rattle.combining.specs.Sessions.{HasNothingPending}
-use Rattle.combining.specs.Closed.{IsClosed}
+use Rattle.lock_office.specs.Sessions.{HasNothingPending}
+use Rattle.lock_office.specs.Closed.{IsClosed}
 use Rattle.lock_trace.specs.Histories.{text_of_history, text_of_piece}
 use Rattle.glm.specs.declared.tool_fault.ToolFault.{ToolFault}
 use Rattle.glm.specs.declared.tool_fault.ToolFault.TheVariants as tool

@@ -3,8 +3,8 @@ use Rattle.std.specs.Prelude.{◌≡◌, ℕ, ◌+◌, ◌≤◌, nat_le, if◌t
 use Rattle.lock_rules.specs.declared.calls.Call.{Call}
 use Rattle.publication.specs.Views.{BoardView}
 use Rattle.lock_board.specs.LockBoards.{TicketView}
-use Rattle.combining.specs.Sessions.{IsSessionOf, IsIdle}
-use Rattle.combining.specs.declared.office.perform.Performed.{Performed}
+use Rattle.lock_office.specs.Sessions.{IsSessionOf, IsIdle}
+use Rattle.lock_office.specs.Sessions.{Performed}
 use Rattle.combining.specs.declared.office.perform.Performed.TheVariants as performed
 use Rattle.combining.specs.declared.office.Turn.{Turn}
 use Rattle.combining.specs.declared.office.Turn.TheVariants as turn

@@ -2,8 +2,8 @@
 
 ghost use Rattle.std.specs.Io.KnownBytes.{Appends, Keeps};
 ghost use Rattle.std.specs.Prelude.{◌≡◌, ◌≢◌, ℕ, ◌<◌, ◌≤◌, ◌++◌, ◌∷◌, [], List, Some, All, drop, length, OnOk, IfOk, IfErr, IfSome};
-ghost use Rattle.combining.specs.Closed.{IsClosed};
-ghost use Rattle.combining.specs.Sessions.{IsSessionOf};
+ghost use Rattle.lock_office.specs.Closed.{IsClosed};
+ghost use Rattle.lock_office.specs.Sessions.{IsSessionOf};
 ghost use Rattle.lock_rules.specs.declared.calls.TheConstants.{MAX_SESSIONS};
 ghost use Rattle.lock_trace.specs.declared.faults.TraceFault.{TraceFault as FaultValue};
 ghost use Rattle.lock_trace.specs.Histories.{text_of_piece};
@@ -17,8 +17,8 @@ use crate::pieces::write_piece;
 use crate::running::greatest_session;
 use crate::streaming::{Streamed, stream_in_threads};
 use crate::tool_fault::ToolFault;
-use combining::{Office, Session};
 use lock_desk::Book;
+use lock_office::{Office, Session};
 use lock_rules::MAX_SESSIONS;
 use lock_trace::{TraceRow, read_trace};
 use std::alloc::Global;

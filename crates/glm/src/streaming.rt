@@ -1,7 +1,7 @@
 //! Takes the history of a run while its threads are at work, and writes it.
 
 ghost use Rattle.std.specs.Prelude.{◌≡◌, ℕ, [], List, Option, Ok, IfOk, IfErr, All};
-ghost use Rattle.combining.specs.Sessions.{IsSessionOf};
+ghost use Rattle.lock_office.specs.Sessions.{IsSessionOf};
 ghost use Rattle.glm.specs.Streams.{IsFaultOfStream, IsWrittenUpTo, bare};
 ghost use Rattle.glm.specs.Workers.{IsNewSession, IsPerformed, fault_of_stop, numbers_of};
 
@@ -11,7 +11,7 @@ use crate::pieces::write_piece;
 use crate::threads::{join_all, start_all};
 use crate::tool_fault::ToolFault;
 use crate::workers::Stop;
-use combining::{Office, Session};
+use lock_office::{Office, Session};
 use lock_trace::TraceRow;
 use std::alloc::Global;
 use std::io::Write;
@@ -55,10 +55,10 @@ fn write_taken<W: Write>(
     if piece.first != next {
         return Err(ToolFault::NoMemory);
     }
-    let Some(end) = next.checked_add(piece.entries.len() as u64) else {
+    let Some(end) = next.checked_add(piece.lines.len() as u64) else {
         return Err(ToolFault::NoMemory);
     };
-    match write_piece(alloc, output, next, &piece.entries) {
+    match write_piece(alloc, output, next, &piece.lines) {
         Ok(()) => Ok(end),
         Err(fault) => Err(fault),
     }

@@ -2,13 +2,13 @@
 
 ghost use Rattle.std.specs.Prelude.{◌≡◌, ◌⊎◌, ◌≤◌, ◌++◌, ◌∷◌, [], ℕ, false, Some, None, List, IfOk, IfErr, IfSome, OnOk, length, map, vec_len, All};
 ghost use Rattle.std.specs.Bool.{OnFalse};
-ghost use Rattle.combining.specs.Sessions.{IsSessionOf, IsIdle};
+ghost use Rattle.lock_office.specs.Sessions.{IsSessionOf, IsIdle};
 ghost use Rattle.glm.specs.Calls.{calls_of_rows};
 ghost use Rattle.glm.specs.Workers.{IsNewSession, IsPerformed, IsWorkOf, IsStart, number_of_start, numbers_of, numbers_of_starts, first_of_stops};
 
 use crate::call_gate::Gate;
 use crate::workers::{Stop, work_through};
-use combining::{Office, Session};
+use lock_office::{Office, Session};
 use lock_trace::TraceRow;
 use std::alloc::Global;
 use std::sync::Wait;

@@ -7,8 +7,8 @@ ghost use Rattle.glm.specs.Workers.{TriedAtMost, outcome_of_try, fault_of_stop, 
 
 use crate::call_gate::Gate;
 use crate::tool_fault::ToolFault;
-use combining::{Office, Performed, Session, Turn};
 use lock_desk::Call;
+use lock_office::{Office, Performed, Session, Turn};
 use lock_trace::TraceRow;
 use std::{hint, thread};
 
@@ -135,7 +135,7 @@ pub(crate) trait Service: Sync {
 
 impl Service for Office {
     ghost use Rattle.std.specs.Prelude.{◌≡◌, false, length};
-    ghost use Rattle.combining.specs.Sessions.{IsSessionOf, IsPendingServed};
+    ghost use Rattle.lock_office.specs.Sessions.{IsSessionOf, IsPendingServed};
     ghost use Rattle.glm.specs.Workers.{calls_known};
 
     /// A session of the office.

@@ -3,13 +3,13 @@
 ghost use Rattle.std.specs.Prelude.{◌<◌, IfOk};
 ghost use Rattle.std.specs.Bool.{OnTrue};
 ghost use Rattle.std.specs.List.{All};
-ghost use Rattle.combining.specs.Sessions.{IsSessionOf, IsIdle};
+ghost use Rattle.lock_office.specs.Sessions.{IsSessionOf, IsIdle};
 
 use crate::spans;
 use crate::spans::Span;
 use crate::timing::Fault;
-use combining::{Called, Office, Session};
 use lock_desk::{Call, NoMemory};
+use lock_office::{Called, Office, Session};
 use lock_trace::TraceRow;
 use std::alloc::Global;
 use std::thread;
@@ -43,7 +43,7 @@ fn perform(office: &Office, session: &mut Session, call: Call) -> bool
     requires ours { IsSessionOf office.now session.old × IsIdle session.old }
     ensures ours { OnTrue result (IsSessionOf office.now session.new × IsIdle session.new) }
 {
-    match combining::call(office, session, call, LOOKS) {
+    match lock_office::call(office, session, call, LOOKS) {
         Called::Answered(_) => true,
         Called::NotYet | Called::Starved => false,
     }

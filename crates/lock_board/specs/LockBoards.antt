@@ -25,7 +25,7 @@ book_object = record {
   cut = λ book. book.cut;
   bound = λ book. book.bound;
   is_legal = IsLegal;
-  agree = λ reply other. reply ≡ other;
+  agree = λ _ reply other. reply ≡ other;
   any_call = Poll;
   any_reply = Clear;
 }

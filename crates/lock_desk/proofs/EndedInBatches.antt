@@ -1,19 +1,24 @@
 -- Whose wait the calls of a batch have ended, said of its entries.
-use Rattle.std.proofs.Common.{◌≡◌, ℕ, ◌+◌, ◌<◌, ◌≤◌, ◌↔◌, ◌⊎◌, inl, inr, ⊎_elim, Bool, true, false, ◌||◌, List, [], ◌∷◌, ◌++◌, length, map, take, drop, filter, Contains, refl, sym, ap, ◌∙◌, subst, arith, append_assoc}
+use Rattle.std.proofs.Common.{◌≡◌, ℕ, ◌≤◌, ◌↔◌, ⊎_elim, Bool, true, ◌||◌, List, [], ◌∷◌, ◌++◌, length, map, take, drop, filter, Contains, refl, sym, ap, ◌∙◌, subst, arith}
 use Rattle.std.specs.List.{range_with_len}
 use Rattle.std.proofs.lemmas.Bool.{or_cases, or_left, or_right}
-use Rattle.std.proofs.Math.Seq.{drop-append_seam}
+use Rattle.std.proofs.Math.Bool.{or-false}
+use Rattle.std.proofs.Math.Seq.{drop-append_seam, take-append_seam}
 use Rattle.sequential.specs.Batches.{item_of}
 use Rattle.sequential.specs.EndedWaits.{HasEndedIn}
 use Rattle.sequential.proofs.Members.{contains-member, member-contains}
 use Rattle.lock_rules.specs.Entries.{Entry}
 use Rattle.lock_rules.specs.State.{State, empty}
 use Rattle.lock_rules.specs.Step.{step}
-use Rattle.lock_rules.specs.Ended.{has_ended, HasEnded}
+use Rattle.lock_rules.specs.declared.calls.Call.{Call}
+use Rattle.lock_rules.specs.declared.calls.Reply.{Reply}
+use Rattle.lock_rules.specs.Ended.{has_ended, ended_waits, HasEnded}
 use Rattle.lock_rules.specs.Legal.{state_after, state_of}
 use Rattle.lock_rules.proofs.Histories.{state_after-append}
-use Rattle.lock_rules.proofs.Ended.{ended-decides, member-range}
-use Rattle.lock_desk.specs.Batches.{Item, entries_from, has_ended_in, ended_waits_in, ends_wait}
+use Rattle.lock_rules.proofs.Ended.{ended-decides}
+use Rattle.sequential.proofs.Ranges.{member-range}
+use Rattle.lock_desk.specs.BookView.{BookView}
+use Rattle.lock_desk.specs.Batches.{Item, entries_from, has_ended_in, ended_waits_in, ends_wait, TellsFrom}
 
 -- The entries of calls have ended the same waits as the calls.
 pub same-ended : (st : State) (is : List Item) (u : ℕ) → has_ended_in st is u ≡ has_ended_in st (map item_of (entries_from st is)) u
@@ -69,12 +74,38 @@ members n front es u =
       λ h. let l = h.1 in member-contains u (ended_waits_in n (state_of front) (map item_of es)) (m.1 (h.0, omega (arith, l), d.1 h.2)),
     )
 
--- After a batch behind this history, exactly the sessions are listed whose wait its entries have ended.
-pub batch-ended : (n : ℕ) (before after : List Entry) (is : List Item) (told : List ℕ) → after ≡ before ++ entries_from (state_of before) is → told ≡ ended_waits_in n (state_of before) is
-    → (u : ℕ) → Contains told u ↔ ((1 ≤ u) × (u ≤ n) × HasEndedIn ends_wait before (drop (length before) after) u)
-batch-ended n before after is told grown listed u =
-    let es : List Entry = entries_from (state_of before) is in
-    let gained : drop (length before) after ≡ es = ap (λ (l : List Entry). drop (length before) l) grown ∙ drop-append_seam before es in
-    let entered : ended_waits_in n (state_of before) is ≡ ended_waits_in n (state_of before) (map item_of es) = λ i. filter (λ v. same-ended (state_of before) is v i) (range_with_len 1 n) in
-    let m = subst (λ (l : List Entry). Contains (ended_waits_in n (state_of before) (map item_of es)) u ↔ ((1 ≤ u) × (u ≤ n) × HasEndedIn ends_wait before l u)) (sym gained) (members n before es u) in
-    subst (λ (l : List ℕ). Contains l u ↔ ((1 ≤ u) × (u ≤ n) × HasEndedIn ends_wait before (drop (length before) after) u)) (sym (listed ∙ entered)) m
+-- A book that tells whose wait these entries have ended, which follow this front of its history.
+tells-behind : (book : BookView) (front es : List Entry) → book.history ≡ front ++ es → book.ended ≡ ended_waits_in book.sessions (state_of front) (map item_of es) → TellsFrom book (length front)
+tells-behind book front es whole listed u =
+    let ahead : take (length front) book.history ≡ front = ap (λ (l : List Entry). take (length front) l) whole ∙ take-append_seam front es in
+    let gained : drop (length front) book.history ≡ es = ap (λ (l : List Entry). drop (length front) l) whole ∙ drop-append_seam front es in
+    let m = subst (λ (l : List ℕ). Contains l u ↔ ((1 ≤ u) × (u ≤ book.sessions) × HasEndedIn ends_wait front es u)) (sym listed) (members book.sessions front es u) in
+    let k = subst (λ (f : List Entry). Contains book.ended u ↔ ((1 ≤ u) × (u ≤ book.sessions) × HasEndedIn ends_wait f es u)) (sym ahead) m in
+    subst (λ (l : List Entry). Contains book.ended u ↔ ((1 ≤ u) × (u ≤ book.sessions) × HasEndedIn ends_wait (take (length front) book.history) l u)) (sym gained) k
+
+-- After a batch, the book tells exactly the sessions whose wait its entries have ended.
+pub batch-tells : (before after : BookView) (is : List Item)
+    → after ≡ record before { history = before.history ++ entries_from (state_of before.history) is; ended = ended_waits_in before.sessions (state_of before.history) is } → TellsFrom after (length before.history)
+batch-tells before after is same =
+    let st : State = state_of before.history in
+    let es : List Entry = entries_from st is in
+    let entered : ended_waits_in before.sessions st is ≡ ended_waits_in before.sessions st (map item_of es) = λ i. filter (λ v. same-ended st is v i) (range_with_len 1 before.sessions) in
+    let many : before.sessions ≡ after.sessions = sym (ap (λ (b : BookView). b.sessions) same) in
+    tells-behind after before.history es (ap (λ (b : BookView). b.history) same)
+    (ap (λ (b : BookView). b.ended) same ∙ (entered ∙ ap (λ (n : ℕ). ended_waits_in n st (map item_of es)) many))
+
+-- After a call, the book tells exactly the sessions whose wait its entry has ended.
+pub call-tells : (before after : BookView) (session : ℕ) (call : Call) (reply : Reply)
+    → after ≡ record before {
+      history = before.history ++ record { session = session; call = call; reply = reply } ∷ [];
+      ended = ended_waits before.sessions session (state_of before.history) (step (state_of before.history) session call).state;
+    } → TellsFrom after (length before.history)
+call-tells before after session call reply same =
+    let st : State = state_of before.history in
+    let next : State = (step st session call).state in
+    let e : Entry = record { session = session; call = call; reply = reply } in
+    let one : ended_waits before.sessions session st next ≡ ended_waits_in before.sessions st (map item_of (e ∷ [])) =
+    λ i. filter (λ v. sym (or-false (has_ended session st next v)) i) (range_with_len 1 before.sessions) in
+    let many : before.sessions ≡ after.sessions = sym (ap (λ (b : BookView). b.sessions) same) in
+    tells-behind after before.history (e ∷ []) (ap (λ (b : BookView). b.history) same)
+    (ap (λ (b : BookView). b.ended) same ∙ (one ∙ ap (λ (n : ℕ). ended_waits_in n st (map item_of (e ∷ []))) many))

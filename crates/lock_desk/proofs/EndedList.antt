@@ -6,8 +6,7 @@ use Rattle.std.proofs.lemmas.Bool.{and_parts, and_from, cases_Bool, cases_eq, ca
 use Rattle.std.proofs.lemmas.Bool.Decides.{nat_tests, leb_tells, Decides-eqb, Decides-ltb}
 use Rattle.std.proofs.lemmas.List.{get_or-set_same, get_or-set_other, length-set, get_or_default, get_or-take, length-take-le}
 use Rattle.sequential.proofs.Members.{contains-member, member-contains}
-use Rattle.lock_rules.proofs.Ended.{member-range}
-use Rattle.lock_rules.proofs.Alters.{true≢false}
+use Rattle.sequential.proofs.Ranges.{true≢false, member-range}
 use Rattle.lock_desk.specs.inner.Ended.{EndedView, is_ended, ended_in, ArePlaced}
 
 -- tests of numbers

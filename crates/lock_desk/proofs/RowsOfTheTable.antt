@@ -7,7 +7,6 @@ use Rattle.std.proofs.Math.Bool.{and-true, and-false, or-false}
 use Rattle.std.specs.Prelude.{vec_len, slice_index_or}
 use Rattle.waits_for.specs.Pairs.{pairs_of}
 use Rattle.lock_modes.specs.declared.Mode.{Mode}
-use Rattle.lock_modes.specs.Compatibility.{are_compatible}
 use Rattle.lock_tree.specs.Paths.{same_path}
 use Rattle.lock_rules.specs.declared.calls.Transaction.{Transaction}
 use Rattle.lock_rules.specs.State.{number_in}
@@ -19,7 +18,7 @@ use Rattle.lock_desk.specs.declared.cells.SessionMode.{SessionMode}
 use Rattle.lock_desk.specs.inner.Cells.{View, has_session, mode_of, is_nobody}
 use Rattle.lock_desk.specs.inner.Lockers.{Standing, standing_at, is_wanted, no_standing}
 use Rattle.lock_desk.specs.inner.Changes.{view_at, standings, standing, IsWhole, IsSameSeen}
-use Rattle.lock_desk.specs.inner.Blocking.{holder_blocks, is_ahead, target_blocks, view_blocks, blocks_at, blocks, IsSizedFor, AreWritten, IsWritten, DoFollow}
+use Rattle.lock_desk.specs.inner.Blocking.{target_blocks, view_blocks, blocks_at, blocks, IsSizedFor, AreWritten, IsWritten, DoFollow}
 use Rattle.lock_desk.specs.inner.Ended.{EndedView}
 use Rattle.lock_desk.specs.inner.Ready.{IsReadyTable}
 use Rattle.lock_desk.proofs.SessionsInRange.{numbered-whole, once-at}

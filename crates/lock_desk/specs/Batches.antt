@@ -1,7 +1,8 @@
 -- A batch leaves the replies and the entries that its calls leave when they are served one after another.
-use Rattle.std.specs.Prelude.{ℕ, Bool, true, false, ◌||◌, List, [], ◌∷◌, filter}
+use Rattle.std.specs.Prelude.{ℕ, ◌≤◌, ◌↔◌, Bool, true, false, ◌||◌, List, [], ◌∷◌, filter, take, drop, Contains}
 use Rattle.std.specs.List.{range_with_len}
 use Rattle.sequential.specs.declared.entry.Item.{Item as ItemOf}
+use Rattle.sequential.specs.EndedWaits.{HasEndedIn}
 use Rattle.lock_rules.specs.declared.calls.Call.{Call}
 use Rattle.lock_rules.specs.declared.calls.Reply.{Reply}
 use Rattle.lock_rules.specs.Entries.{Entry}
@@ -10,6 +11,7 @@ use Rattle.lock_rules.specs.State.{State}
 use Rattle.lock_rules.specs.Legal.{state_of}
 use Rattle.lock_rules.specs.Step.{step}
 use Rattle.lock_rules.specs.Ended.{has_ended, HasEnded}
+use Rattle.lock_desk.specs.BookView.{BookView}
 
 -- one call of a batch, with its reply once it is served
 abbrev pub Item : Type 0
@@ -34,6 +36,10 @@ ended_waits_in n st is = filter (has_ended_in st is) (range_with_len 1 n)
 -- the entry's call, which follows this history, has ended the wait of session u, which is another than that of the call
 abbrev pub ends_wait : List Entry → Entry → ℕ → Type 0
 ends_wait history entry u = (let before = state_of history in HasEnded entry.session before (step before entry.session entry.call).state u)
+
+-- the book tells exactly the sessions whose wait the calls from this place of its history on have ended
+abbrev pub TellsFrom : BookView → ℕ → Type 0
+TellsFrom book from = (u : ℕ) → Contains book.ended u ↔ ((1 ≤ u) × (u ≤ book.sessions) × HasEndedIn ends_wait (take from book.history) (drop from book.history) u)
 
 -- whether the call makes room for requests of others: it releases locks, or takes a request out of a queue
 abbrev pub makes_room : Call → Bool

@@ -4,7 +4,7 @@ ghost use Rattle.std.specs.Prelude.{◌≡◌};
 
 use crate::book::{Book, Item};
 use lock_rules::{Call, Entry, Reply};
-use sequential::{Sequential, Serving, Telling, Trimming};
+use sequential::{Batching, Fresh, Sequential, Serving, Telling, Trimming};
 use std::alloc::{AllocError as NoMemory, Global};
 
 impl Sequential for Book {
@@ -28,7 +28,7 @@ impl Sequential for Book {
 
     ghost is_legal = { IsLegal };
 
-    ghost agree = { λ reply other. reply ≡ other };
+    ghost agree = { λ _ reply other. reply ≡ other };
 
     ghost any_call = { Poll };
 
@@ -55,9 +55,11 @@ impl Sequential for Book {
 }
 
 impl Serving for Book {
-    ghost use Rattle.lock_desk.specs.Batches.{makes_room};
+    ghost use Rattle.lock_desk.specs.Batches.{makes_room, TellsFrom};
 
     ghost goes_first = { makes_room };
+
+    ghost tells_from = { TellsFrom };
 
     /// Whether the call makes room for requests of others: it releases locks, or takes a request out of a queue.
     fn goes_first(call: &Call) -> bool {
@@ -71,7 +73,9 @@ impl Serving for Book {
     fn serve(&mut self, session: u16, call: Call) -> Result<Reply, NoMemory> {
         self.serve(session, call)
     }
+}
 
+impl Batching for Book {
     fn serve_batch(&mut self, items: &mut [Item]) -> usize {
         self.serve_batch(items)
     }
@@ -85,6 +89,8 @@ impl Trimming for Book {
     ghost lines = { λ history. history };
 
     fn kept_from(&self) -> u64 {
+        // the length of the history fits into 64 bits
+        let _served = self.served();
         self.first_kept()
     }
 
@@ -108,13 +114,13 @@ impl Telling for Book {
 
     ghost ends = { ends_wait };
 
-    ghost ended = { λ book. book.ended };
-
     fn ended(&self) -> &[u16] {
         self.ended()
     }
+}
 
-    fn serve_telling(&mut self, items: &mut [Item]) -> usize {
-        self.serve_batch(items)
+impl Fresh for Book {
+    fn fresh(alloc: Global, sessions: u16) -> Result<Book, NoMemory> {
+        Book::new(alloc, sessions)
     }
 }

@@ -13,6 +13,7 @@ use Rattle.lock_rules.specs.Waits.{conflicts, stands_before, keeps_waiting, wait
 use Rattle.lock_rules.specs.Sound.{IsOrdered}
 use Rattle.lock_rules.proofs.Lists.{request_of-claims_but, request_of-claims_but_other, request_of-session, filter-swap, claims_but-append, stands_before-claims_but}
 use Rattle.lock_rules.proofs.Walks.{has, AllIn, found}
+pub use Rattle.sequential.proofs.Ranges.{true≢false}
 
 -- one relation for every single change: v waits no more, the locks of others stay, and holders stay in order. It covers a
 -- grant, a release, the end of a transaction, a victim and, read backwards, a request that begins to wait
@@ -20,10 +21,6 @@ pub record Alters (v : ℕ) (t t' : Table) : Type 0 where
   pub requests : t'.requests ≡ claims_but v t.requests
   pub others : (u : ℕ) (x : List ℕ) → eqb u v ≡ false → mode_in u x t'.held ≡ mode_in u x t.held
   pub order : IsOrdered t.held → IsOrdered t'.held
-
--- true isn't false
-pub true≢false : {b : Bool} → b ≡ true → b ≡ false → ⊥
-true≢false h k = cc
 
 -- every queue is as before, without v
 pub queue-alters : (v : ℕ) (t t' : Table) → Alters v t t' → (r : List ℕ) → queue t' r ≡ claims_but v (queue t r)

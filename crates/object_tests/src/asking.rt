@@ -1,6 +1,6 @@
 //! Calls and batches for an object, if their sessions are the object's.
 
-use sequential::{Item, Serving, are_within};
+use sequential::{Batching, Item, Serving, are_within};
 
 /// A call of a batch that isn't served yet.
 pub(crate) fn item<C: Copy, R: Copy>(session: u16, call: C) -> Item<C, R> {
@@ -20,7 +20,7 @@ pub(crate) fn ask<O: Serving>(object: &mut O, session: u16, call: O::Call) -> Op
 }
 
 /// Serves a batch. `None` if the object lacks a session of it.
-pub(crate) fn ask_all<O: Serving>(
+pub(crate) fn ask_all<O: Batching>(
     object: &mut O,
     items: &mut [Item<O::Call, O::Reply>],
 ) -> Option<usize> {

@@ -30,11 +30,11 @@ fn call_alone<O: Serving>(
 {
     let mut load = board.seize(ticket)?;
     let asked = call;
-    let Ok(reply) = load.book.serve(ticket.number(), call) else {
+    let Ok(reply) = load.object.serve(ticket.number(), call) else {
         board.release(ticket, load);
         return None;
     };
-    let _served = load.book.served();
+    let _served = load.object.served();
     let place = board.enter(ticket, asked, reply);
     board.release(ticket, load);
     Some((place, reply))

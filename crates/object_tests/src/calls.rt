@@ -6,7 +6,7 @@ use counter::Counter;
 use lock_desk::{Book, Call, Mode, Reply, Resource};
 use ordered_map::{MapCall, MapReply, OrderedMap};
 use recording::Recording;
-use sequential::{Entry, Sequential, Serving, Telling, Trimming, are_within};
+use sequential::{Entry, Fresh, Sequential, Serving, Telling, Trimming, are_within};
 use std::alloc::{AllocError, Global};
 use std::process::Abort;
 use std::test::Fail;
@@ -37,7 +37,7 @@ fn want_counted(rt: &impl Abort, counter: &mut Counter) {
 /// A counter replies with the sum before.
 #[test]
 fn counters_reply_with_the_sum_before(rt: HostRuntime) -> Result<(), Fail> {
-    let mut counter = Counter::new(2);
+    let mut counter = Counter::fresh(rt.alloc(), 2)?;
     want_counted(&rt, &mut counter);
     Ok(())
 }
@@ -129,7 +129,7 @@ fn want_told(rt: &impl Abort, book: &mut Book, database: Resource) {
         item(2, Call::Lock(again, Mode::X)),
     ];
     assert!(rt; are_within(&items, book.sessions()));
-    assert_eq!(rt; book.serve_telling(&mut items), 2);
+    assert_eq!(rt; ask_all(book, &mut items), Some(2));
     assert!(rt; Telling::ended(book).is_empty());
     let [held, waiting] = items;
     assert_eq!(rt; held.reply, Some(Reply::Granted(Mode::X)));
@@ -161,7 +161,7 @@ fn want_kept_of_book(rt: &impl Abort, alloc: Global, book: &mut Book) {
 #[test]
 fn books_are_sequential_objects(rt: HostRuntime) -> Result<(), Fail> {
     let database = Resource::from_numbers(&[1]).ok_or("no resource")?;
-    let mut book = Book::new(rt.alloc(), 2)?;
+    let mut book = Book::fresh(rt.alloc(), 2)?;
     want_told(&rt, &mut book, database);
     want_kept_of_book(&rt, rt.alloc(), &mut book);
     Ok(())

@@ -2,15 +2,16 @@
 //! second time, so that these tests also pass if any one of their allocations is refused.
 
 ghost use Rattle.std.specs.Prelude.{◌≡◌, ◌≤◌, All, IfOk};
-ghost use Rattle.combining.specs.Sessions.{IsSessionOf, IsIdle};
+ghost use Rattle.lock_office.specs.Sessions.{IsSessionOf, IsIdle};
 
 use crate::closing::refused;
 use crate::offices::{begun, pass};
-use combining::{
-    Answer, Called, CloseFault, Ended, Office, OpenFault, Performed, Posted, Session, Snapshot,
+use lock_desk::{Call, Claim, ClaimKind, Mode, NoMemory, Reply, Resource, Transaction, Why};
+use lock_office::queries::{self, Snapshot};
+use lock_office::{
+    Answer, Called, CloseFault, Ended, Office, OpenFault, Performed, Posted, Session, open_keeping,
     resume,
 };
-use lock_desk::{Call, Claim, ClaimKind, Mode, NoMemory, Reply, Resource, Transaction, Why};
 use std::alloc::Global;
 use std::process::Abort;
 use std::test::Fail;
@@ -107,10 +108,10 @@ fn ask(rt: &impl Abort, office: &Office, asker: &mut Session, database: Resource
         length,
         found: Some(request),
     };
-    assert!(rt; office.held(asker, 1, database) == Some(mode));
-    assert!(rt; office.waits_for(asker, 2, 1) == Some(edge));
-    assert!(rt; office.transaction(asker, 2) == Some(open));
-    assert!(rt; office.request(asker, 2) == Some(queued));
+    assert!(rt; queries::held(office, asker, 1, database) == Some(mode));
+    assert!(rt; queries::waits_for(office, asker, 2, 1) == Some(edge));
+    assert!(rt; queries::transaction(office, asker, 2) == Some(open));
+    assert!(rt; queries::request(office, asker, 2) == Some(queued));
 }
 
 /// What questions list.
@@ -136,19 +137,19 @@ fn ask_for_lists(
     requires ours { IsSessionOf office.now asker.old }
     ensures ours { IsSessionOf office.now asker.new }
 {
-    let mut seen = office.holders(asker, database, &mut lists.holders);
+    let mut seen = queries::holders(office, asker, database, &mut lists.holders);
     if seen.is_err() {
-        seen = office.holders(asker, database, &mut lists.holders);
+        seen = queries::holders(office, asker, database, &mut lists.holders);
     }
     assert!(rt; seen.ok() == Some(Some(4)));
-    seen = office.blockers(asker, 2, &mut lists.blockers);
+    seen = queries::blockers(office, asker, 2, &mut lists.blockers);
     if seen.is_err() {
-        seen = office.blockers(asker, 2, &mut lists.blockers);
+        seen = queries::blockers(office, asker, 2, &mut lists.blockers);
     }
     assert!(rt; seen.ok() == Some(Some(4)));
-    seen = office.locks(alloc, asker, &mut lists.claims);
+    seen = queries::locks(office, alloc, asker, &mut lists.claims);
     if seen.is_err() {
-        seen = office.locks(alloc, asker, &mut lists.claims);
+        seen = queries::locks(office, alloc, asker, &mut lists.claims);
     }
     assert!(rt; seen.ok() == Some(Some(4)));
 }
@@ -298,7 +299,7 @@ fn take_newest(
     want(rt, office, first, &Call::Begin, 0, Reply::Began(1));
     want(rt, office, second, &Call::Begin, 1, Reply::Began(2));
     let piece = office.take_history(alloc, first).expect(rt, "a piece");
-    assert!(rt; piece.first == 1 && piece.entries.len() == 1);
+    assert!(rt; piece.first == 1 && piece.lines.len() == 1);
 }
 
 /// Session 1 publishes a poll, while session 2 waits for it.
@@ -393,8 +394,8 @@ fn new_bounded_office(alloc: Global) -> Result<(Office, Vec<Session>), OpenFault
     ensures office { IfOk result (λ made. made.0.sessions ≡ 2) }
     ensures ready { IfOk result (λ made. All (λ session. IsSessionOf made.0 session × IsIdle session) made.1.items) }
 {
-    match Office::open_keeping(alloc, 2, 1) {
-        Err(OpenFault::NoMemory) => Office::open_keeping(alloc, 2, 1),
+    match open_keeping(alloc, 2, 1) {
+        Err(OpenFault::NoMemory) => open_keeping(alloc, 2, 1),
         other => other,
     }
 }

@@ -1,11 +1,11 @@
 //! Offices that are closed, and some that are not.
 
 ghost use Rattle.std.specs.Prelude.{◌≡◌, All};
-ghost use Rattle.combining.specs.Sessions.{IsSessionOf};
+ghost use Rattle.lock_office.specs.Sessions.{IsSessionOf};
 
 use crate::offices::{begun, closed, new_office, pass};
-use combining::{CloseFault, Office, OpenFault, Posted, Session};
 use lock_desk::Call;
+use lock_office::{CloseFault, Office, OpenFault, Posted, Session};
 use std::alloc::Global;
 use std::process::Abort;
 use std::test::Fail;

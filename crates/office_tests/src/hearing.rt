@@ -1,11 +1,11 @@
 //! Threads with two sessions each, of which one hears the other at random.
 
 ghost use Rattle.std.specs.Prelude.{◌≡◌, true, All, IfOk};
-ghost use Rattle.combining.specs.Sessions.{IsSessionOf, IsIdle};
+ghost use Rattle.lock_office.specs.Sessions.{IsSessionOf, IsIdle};
 
 use crate::threads::{Caller, Load, call};
-use combining::{Office, Session};
 use lock_desk::Call;
+use lock_office::{Office, Session};
 use std::alloc::{AllocError, Global};
 use std::process::Abort;
 use std::test::Fail;

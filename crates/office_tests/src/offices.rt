@@ -2,12 +2,12 @@
 //! tests also pass if any one of their allocations is refused.
 
 ghost use Rattle.std.specs.Prelude.{◌≡◌, All, IfOk};
-ghost use Rattle.combining.specs.Sessions.{IsSessionOf, IsIdle};
+ghost use Rattle.lock_office.specs.Sessions.{IsSessionOf, IsIdle};
 
-use combining::{
+use lock_desk::{Book, Call, Reply};
+use lock_office::{
     Answer, Called, Office, OpenFault, Performed, Posted, Session, Turn, call, resume,
 };
-use lock_desk::{Book, Call, Reply};
 use std::alloc::Global;
 use std::process::Abort;
 use std::test::Fail;
@@ -76,7 +76,7 @@ enum Way {
     Published,
     /// Performs it at once.
     AtOnce,
-    /// By `combining::call`.
+    /// By `lock_office::call`.
     Whole,
 }
 

@@ -2,10 +2,10 @@
 //! the other one over, which the contracts of the calls refuse.
 
 ghost use Rattle.std.specs.Prelude.{All};
-ghost use Rattle.combining.specs.Sessions.{IsSessionOf};
+ghost use Rattle.lock_office.specs.Sessions.{IsSessionOf};
 
-use combining::{CloseFault, Office, Session};
 use lock_desk::Book;
+use lock_office::{CloseFault, Office, Session};
 
 /// Makes a pass of `first`, which is a session of `office`, and one of `foreign`, which is a session of `other`.
 pub fn serve_in_its_own_office(

@@ -1,11 +1,11 @@
 //! The history of an office, taken in pieces by its sessions.
 
-ghost use Rattle.combining.specs.Sessions.{IsSessionOf, IsIdle};
+ghost use Rattle.lock_office.specs.Sessions.{IsSessionOf, IsIdle};
 
 use crate::threads::{Answered, want_replies_of};
 use crate::workers::Worked;
-use combining::Office;
 use lock_desk::{Book, Entry, NoMemory};
+use lock_office::Office;
 use std::alloc::{AllocError, Global};
 use std::process::Abort;
 use std::thread;
@@ -36,7 +36,7 @@ fn take_once(alloc: Global, office: &Office, worked: &mut Worked) -> bool
 {
     match office.take_history(alloc, &mut worked.session) {
         Some(piece) => {
-            note_entries(&mut worked.noted.answers, piece.first, &piece.entries).is_ok()
+            note_entries(&mut worked.noted.answers, piece.first, &piece.lines).is_ok()
         }
         None => true,
     }

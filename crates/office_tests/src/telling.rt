@@ -1,12 +1,12 @@
 //! Passes that tell whose wait they have ended.
 
 ghost use Rattle.std.specs.Prelude.{◌≡◌, ◌≤◌, IfSome};
-ghost use Rattle.combining.specs.Sessions.{IsSessionOf, IsIdle};
+ghost use Rattle.lock_office.specs.Sessions.{IsSessionOf, IsIdle};
 
 use crate::threads::{Caller, Load};
 use crate::workers::{Notes, Worked};
-use combining::{Answer, Ended, Office, Turn};
 use lock_desk::{Book, Call, Entry, NoMemory};
+use lock_office::{Answer, Ended, Office, Turn};
 use std::alloc::{AllocError, Global};
 use std::process::Abort;
 use std::test::Fail;

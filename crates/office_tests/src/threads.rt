@@ -1,11 +1,11 @@
 //! One history has all answers of many threads.
 
 ghost use Rattle.std.specs.Prelude.{IfSome};
-ghost use Rattle.combining.specs.Sessions.{IsSessionOf, IsIdle};
+ghost use Rattle.lock_office.specs.Sessions.{IsSessionOf, IsIdle};
 
 use crate::workers::{Task, Worked, work_and_judge};
-use combining::{Answer, Called, Office, Session, resume};
 use lock_desk::{Book, Call, Entry, Mode, NoMemory, Reply, Resource, Why};
+use lock_office::{Answer, Called, Office, Session, resume};
 use std::process::Abort;
 use std::test::Fail;
 use std::thread;
@@ -20,7 +20,7 @@ pub(crate) enum Load {
     Polls,
     /// Random calls: begins, locks, tries, withdrawals, polls, commits and aborts.
     Transactions,
-    /// The same random calls, some made by `combining::call`, and some published, served and collected.
+    /// The same random calls, some made by `lock_office::call`, and some published, served and collected.
     TransactionsMixed,
     /// The same random calls, published and served by passes that tell whose waits they end.
     Telling,
@@ -112,14 +112,14 @@ pub(crate) fn call(office: &Office, session: &mut Session, call: Call) -> Option
     None
 }
 
-/// Makes a call by `combining::call` with one turn, and goes on with it by `resume`. Returns `None` if memory is refused, or
+/// Makes a call by `lock_office::call` with one turn, and goes on with it by `resume`. Returns `None` if memory is refused, or
 /// after `TURNS` turns.
 fn call_whole(office: &Office, session: &mut Session, asked: &Call) -> Option<Answer>
     requires ours { IsSessionOf office.now session.old × IsIdle session.old }
     ensures ours { IsSessionOf office.now session.new }
     ensures idle { IfSome result (λ _. IsIdle session.new) }
 {
-    let called = match combining::call(office, session, *asked, 1) {
+    let called = match lock_office::call(office, session, *asked, 1) {
         Called::Answered(answer) => return Some(answer),
         Called::Starved => return None,
         Called::NotYet => resume(office, session, TURNS),

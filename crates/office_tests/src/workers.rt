@@ -1,14 +1,14 @@
 //! Threads that work in one office, each with a session of its own, note what they see, and are judged by it.
 
 ghost use Rattle.std.specs.Prelude.{◌≤◌, All, IfOk};
-ghost use Rattle.combining.specs.Sessions.{IsSessionOf, IsIdle};
+ghost use Rattle.lock_office.specs.Sessions.{IsSessionOf, IsIdle};
 
 use crate::offices::closed;
 use crate::pieces::{take_all, want_pieces};
 use crate::telling::{SeenPass, want_passes, work_telling};
 use crate::threads::{Answered, Load, want_refused_polls, want_replies, work_calling};
-use combining::{Office, Session};
 use lock_desk::Book;
+use lock_office::{Office, Session};
 use std::alloc::{AllocError, Global};
 use std::process::Abort;
 use std::test::Fail;

@@ -8,8 +8,8 @@ use Rattle.lock_rules.specs.Legal.{IsLegal}
 use Rattle.sequential.specs.Histories.{calls_of}
 use Rattle.publication.specs.Boards.{HasCallsOf, heard_from, publishing, enlisted, tried}
 use Rattle.publication.specs.Kinds.{longer, maxes}
-use Rattle.combining.specs.Sessions.{HasTriedToList, HasNothingPending, IsIdle, IsPassed, IsPerformed, IsRefused, IsCollected, IsPendingServed, HasTakenPiece}
-use Rattle.combining.specs.Ended.{AreToldBy}
+use Rattle.lock_office.specs.Sessions.{HasTriedToList, HasNothingPending, IsIdle, IsPassed, IsPerformed, IsRefused, IsCollected, IsPendingServed, HasTakenPiece}
+use Rattle.lock_office.specs.Ended.{AreToldBy}
 use Rattle.pelgaisti_c.specs.declared.numbers.CallNumbers.{CallNumbers}
 use Rattle.pelgaisti_c.specs.declared.numbers.AnswerNumbers.{AnswerNumbers}
 use Rattle.pelgaisti_c.specs.declared.session_share.SessionShare.{SessionShare}

@@ -2,7 +2,7 @@
 
 ghost use Rattle.std.specs.Prelude.{◌≡◌, IfSome};
 
-use combining::Ended;
+use lock_office::Ended;
 use std::alloc::Global;
 use std::marker::Model;
 use std::mem;

@@ -3,15 +3,15 @@
 ghost use Rattle.std.specs.Prelude.{◌≡◌, ◌≢◌, ◌<◌, ◌≤◌, ◌∷◌, ◌++◌, [], ◌↔◌, ◌⊎◌, true, false, None, IsTrue, IsSome, IfOk, IfErr, IfSome, vec_len, vec_capacity};
 ghost use Rattle.lock_rules.specs.declared.calls.TheConstants.{MAX_SESSIONS};
 ghost use Rattle.publication.specs.Boards.{IsEachOnce};
-ghost use Rattle.combining.specs.Sessions.{HasNothingPending};
-ghost use Rattle.combining.specs.Closed.{IsClosed};
+ghost use Rattle.lock_office.specs.Sessions.{HasNothingPending};
+ghost use Rattle.lock_office.specs.Closed.{IsClosed};
 ghost use Rattle.pelgaisti_c.specs.Offices.{all_of};
 ghost use Rattle.pelgaisti_c.specs.Sessions.{IsSameShare, IsHandedIn};
 
 use crate::session_share::SessionShare;
 use crate::status::{COPIED, MISSING, NO_MEMORY, OTHER_OFFICE, PENDING};
-use combining::{CloseFault, Session};
 use lock_desk::Book;
+use lock_office::{CloseFault, Session};
 use lock_rules::MAX_SESSIONS;
 use publication::Roll;
 use std::alloc::Global;

@@ -1,7 +1,7 @@
 //! The export that opens an office.
 
 ghost use Rattle.std.specs.Prelude.{◌≡◌, ◌≢◌, ◌≤◌, ◌⊎◌, ◌↔◌, [], true, false, Some, None, All, Any, IfOk, length, map};
-ghost use Rattle.combining.specs.Sessions.{IsSessionOf, IsIdle};
+ghost use Rattle.lock_office.specs.Sessions.{IsSessionOf, IsIdle};
 ghost use Rattle.lock_rules.specs.declared.calls.TheConstants.{MAX_SESSIONS};
 ghost use Rattle.publication.specs.Views.{BoardView};
 ghost use Rattle.pelgaisti_c.specs.Offices.{IsOfOffice, AreSessionsOf};
@@ -10,7 +10,7 @@ use crate::ended_list::EndedList;
 use crate::session_handle::SessionHandle;
 use crate::session_share::SessionShare;
 use crate::status::{NO_MEMORY, NO_SUCH_COUNT, OK, OPEN};
-use combining::{Office, Session};
+use lock_office::{Office, Session, open_keeping};
 use lock_rules::MAX_SESSIONS;
 use std::alloc::{AllocError, Global};
 use std::sync::Arc;
@@ -116,7 +116,7 @@ pub extern "C" fn pelgaisti_raw_office_open(
     if has_open(sessions) {
         return OPEN;
     }
-    let Ok((office, made)) = Office::open_keeping(alloc, count as u16, bound) else {
+    let Ok((office, made)) = open_keeping(alloc, count as u16, bound) else {
         return NO_MEMORY;
     };
     let Ok(shares) = shares_of(alloc, office, made, count as u16, mark) else {

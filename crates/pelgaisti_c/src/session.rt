@@ -1,7 +1,7 @@
 //! The exports over a session of an office.
 
 ghost use Rattle.std.specs.Prelude.{◌≡◌, ◌≢◌, ◌<◌, ◌≤◌, ◌↔◌, ◌⊎◌, true, Some, None, length};
-ghost use Rattle.combining.specs.Sessions.{IsPendingServed};
+ghost use Rattle.lock_office.specs.Sessions.{IsPendingServed};
 ghost use Rattle.lock_rules.specs.declared.calls.Call.{Call};
 ghost use Rattle.pelgaisti_c.specs.Numbers.{IsCall, IsCallFault};
 ghost use Rattle.pelgaisti_c.specs.Sessions.{IsPublished, IsTurn, IsToldTurn, IsPerformedAtOnce, IsRefusedAtOnce, IsToldPerformed, IsToldRefused, HasToldNobody, MayCall, IsElsewhere, IsAnswered, IsPieceTaken, IsHeard, IsRetired};

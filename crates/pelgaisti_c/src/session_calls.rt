@@ -1,8 +1,7 @@
 //! The calls of a session in numbers, on the share that a handle holds.
 
 ghost use Rattle.std.specs.Prelude.{◌≡◌, ◌≢◌, ◌<◌, ◌≤◌, ◌⊎◌, ◌↔◌, ◌==◌, true, None, IfOk, IfErr, length};
-ghost use Rattle.combining.specs.Sessions.{IsIdle, IsPassed, IsPendingServed};
-ghost use Rattle.combining.specs.declared.office.Answer.{Answer};
+ghost use Rattle.lock_office.specs.Sessions.{Answer, IsIdle, IsPassed, IsPendingServed};
 ghost use Rattle.sequential.specs.Histories.{calls_of};
 ghost use Rattle.publication.specs.Boards.{HasCallsOf, heard_from};
 ghost use Rattle.lock_rules.specs.declared.calls.Call.{Call as CallValue};
@@ -19,8 +18,9 @@ use crate::status::{
     ELSEWHERE, NO_MEMORY, NO_ROOM, NO_SUCH_MODE, NO_SUCH_OP, NOT_SERVED, NOTHING_PENDING, OK,
     OTHER_OFFICE, PENDING, RETIRED,
 };
-use combining::{Ended, Performed, Posted, Session, Turn};
-use lock_rules::Call;
+use combining::Performed;
+use lock_office::{Ended, Posted, Session, Turn};
+use lock_rules::{Call, Reply};
 use std::alloc::Global;
 
 /// The session's record is on the publication list.
@@ -172,7 +172,11 @@ fn call_of(session: &Session, asked: &CallNumbers) -> Result<Call, u32>
 }
 
 /// Writes the numbers of a call that was performed at once, and of its pass. Returns the status.
-fn write_performed(performed: Performed, pass: &mut PassNumbers, answer: &mut AnswerNumbers) -> u32
+fn write_performed(
+    performed: Performed<Reply>,
+    pass: &mut PassNumbers,
+    answer: &mut AnswerNumbers,
+) -> u32
     ensures ok { result ≡ OK → (found : Answer) × (performed ≡ Performed.Answered found pass.new.served (pass.new.starved == 1))
         × (answer.new.place ≡ found.place) × (answer.new.reply ≡ numbers_of_reply found.reply) }
     ensures starved { result ≡ OK → pass.new.starved ≤ 1 }
@@ -294,7 +298,7 @@ pub(crate) fn take_history(
         return ELSEWHERE;
     };
     *first = piece.first;
-    *count = write_entries(piece.entries.as_slice(), places);
+    *count = write_entries(piece.lines.as_slice(), places);
     OK
 }
 

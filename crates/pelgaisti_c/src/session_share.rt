@@ -2,10 +2,10 @@
 
 ghost use Rattle.std.specs.Prelude.{◌≡◌, ◌≤◌, All};
 ghost use Rattle.lock_rules.specs.declared.calls.TheConstants.{MAX_SESSIONS};
-ghost use Rattle.combining.specs.Sessions.{IsSessionOf, HasNothingPending};
+ghost use Rattle.lock_office.specs.Sessions.{IsSessionOf, HasNothingPending};
 
 use crate::ended_list::EndedList;
-use combining::{Office, Session};
+use lock_office::{Office, Session};
 use std::sync::Arc;
 
 /// A session and its share of the office.

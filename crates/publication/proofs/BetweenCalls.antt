@@ -1,5 +1,5 @@
 -- A combiner's seat between two calls, after it opened a record or took one off the list.
-use Rattle.std.proofs.Common.{◌≡◌, ◌≤◌, ℕ, Bool, true, false, Option, Some, None, IfSome, IfNone, refl, sym, subst}
+use Rattle.std.proofs.Common.{◌≡◌, ℕ, Bool, true, false, Option, Some, None, IfSome, IfNone, refl, sym, subst}
 use Rattle.publication.specs.Kinds.{Seated, opening, in_hand, bypassing, none_unlinked}
 use Rattle.publication.specs.inner.Tickets.{IsBetweenCalls}
 
@@ -14,7 +14,7 @@ module _ {O C R : Type 0} (m m' : Seated O C R) (number seen : ℕ) (b p l r : B
     started = t.started;
     retired = t.retired;
     pending = t.pending;
-    book = sym has;
+    object = sym has;
     hand = refl;
     listed = t.listed;
     heard_few = t.heard_few;
@@ -38,7 +38,7 @@ module _ {O C R : Type 0} (m m' : Seated O C R) (number seen : ℕ) (b p l r : B
     started = t.started;
     retired = t.retired;
     pending = t.pending;
-    book = t.book;
+    object = t.object;
     hand = t.hand;
     listed = t.listed;
     heard_few = t.heard_few;
@@ -59,7 +59,7 @@ module _ {O C R : Type 0} (m m' : Seated O C R) (number seen : ℕ) (b p l r : B
     started = t.started;
     retired = t.retired;
     pending = t.pending;
-    book = t.book;
+    object = t.object;
     hand = t.hand;
     listed = t.listed;
     heard_few = t.heard_few;

@@ -35,13 +35,13 @@ false-not true n = absurd (n refl)
 false-not false n = refl
 
 module _ {O C R : Type 0} {obj : Ghosts O C R} where
-  -- Two states with the rule have the same history if the same combiner knows as much, or the same book is at home.
+  -- Two states with the rule have the same history if the same combiner knows as much, or the same object is at home.
   module _ (s t : BoardState O C R) (o : IsOrderly obj s) (p : IsOrderly obj t) where
     -- The same session is the combiner, and knows as much.
     pub same-holder : (k : ℕ) → (seat s k).combiner.has_object ≡ true → (seat t k).combiner.has_object ≡ true → (seat t k).front ≡ (seat s k).front → p.history ≡ o.history
     same-holder k had has same = sym (p.combiners k has).whole ∙ (same ∙ (o.combiners k had).whole)
 
-    -- There is no combiner before or after, and the same book is at home.
+    -- There is no combiner before or after, and the same object is at home.
     pub same-home : word s 0 ≡ FREE → word t 0 ≡ FREE → home t 0 ≡ home s 0 → p.history ≡ o.history
     same-home none free same =
         let b = o.free none in
@@ -95,9 +95,9 @@ module _ {O C R : Type 0} {obj : Ghosts O C R} where
 
     -- The history stays if the seat is the combiner's before and after, with the same front, or neither before nor after.
     pub steady : w.combiner.has_object ≡ v.combiner.has_object → (v.combiner.has_object ≡ true → w.front ≡ v.front) → p.history ≡ o.history
-    steady book front = dite (ℕ_discrete (word s 0) FREE)
-        (λ none. stays_home none (book ∙ false-not v.combiner.has_object (λ has. nobody s o none id (had has))))
+    steady object front = dite (ℕ_discrete (word s 0) FREE)
+        (λ none. stays_home none (object ∙ false-not v.combiner.has_object (λ has. nobody s o none id (had has))))
         (λ some. dite (ℕ_discrete (word s 0) id)
         (λ e. let has : v.combiner.has_object ≡ true = ap (λ (x : View C R). x.combiner.has_object) (sym is_me) ∙ (ap (λ (n : ℕ). (seat s n).combiner.has_object) (sym e) ∙ (o.taken some).0) in
-        kept_here has (book ∙ has) (front has))
+        kept_here has (object ∙ has) (front has))
         (λ ne. elsewhere some ne))

@@ -25,7 +25,7 @@ module _ {O C R : Type 0} {obj : Ghosts O C R} where
       pub others : AreTrue o.history viewed o.slots o.owns u.others
       pub waits : (own_at o.owns k).pending ≢ None → u.own ≡ own_at o.owns k
       pub session : u.number ≢ 0 → IsSession o.slots o.owns k u
-      pub book : u.combiner.has_object ≡ true → HasObject o.history (word s 0) k u
+      pub object : u.combiner.has_object ≡ true → HasObject o.history (word s 0) k u
       pub combiner : (u.combiner ≡ (seat s k).combiner) ⊎ (((seat s k).combiner.has_object ≡ false) × (u.combiner ≡ no_combiner 0))
       pub pieces : HasPieces o.pieces.all u
 
@@ -36,7 +36,7 @@ module _ {O C R : Type 0} {obj : Ghosts O C R} where
 
       -- A seat whose view is the same meets the demands.
       pub sits-same : StaysGone s viewed o.owns o.owns → (k : ℕ) → Sits k (seat s k)
-      sits-same gone k = record { front = o.fronts k; heard = o.heard k; others = sits-others gone k; waits = o.waits k; session = o.sessions k; book = o.combiners k; combiner = inl refl; pieces = o.pieces.seats k }
+      sits-same gone k = record { front = o.fronts k; heard = o.heard k; others = sits-others gone k; waits = o.waits k; session = o.sessions k; object = o.combiners k; combiner = inl refl; pieces = o.pieces.seats k }
 
       -- The rule is stated of one board, so each of its facts is proved anew for the changed board, also those that
       -- don't change; `OrderlyCombiner`, `ListKinds` and `NewBoards` do the same.
@@ -58,7 +58,7 @@ module _ {O C R : Type 0} {obj : Ghosts O C R} where
         heard = λ k. (sits k).heard;
         others = λ k. (sits k).others;
         stands = o.stands;
-        combiners = λ k. (sits k).book;
+        combiners = λ k. (sits k).object;
         free = o.free;
         taken = λ some_lock. let t = o.taken some_lock in (still_has (word s 0) t.0, t.1, t.2);
         opens = λ k j call is. still_open k j call is (sits k).combiner;
@@ -74,9 +74,9 @@ module _ {O C R : Type 0} {obj : Ghosts O C R} where
               → IsOpened viewed o.owns (get_or vs k blank).combiner j call
           still_open k j call is = ⊎_elim
               (λ same. let p = o.opens k j call (ap (λ (c : Combiner C). get_elem? c.opened j) (sym same) ∙ is) in
-              subst (λ (c : Combiner C). IsOpened viewed o.owns c j call) (sym same) (record { book = p.book; record_of = p.record_of; is_busy = p.is_busy; call_of = p.call_of; empty_slot = p.empty_slot }))
+              subst (λ (c : Combiner C). IsOpened viewed o.owns c j call) (sym same) (record { object = p.object; record_of = p.record_of; is_busy = p.is_busy; call_of = p.call_of; empty_slot = p.empty_slot }))
               (λ lost. absurd (nothing_at 0 j call (ap (λ (c : Combiner C). get_elem? c.opened j) (sym lost.1) ∙ is)))
 
           still_opened : (k j : ℕ) (call : C) → get_elem? (seat s k).combiner.opened j ≡ opt.some (Some call) → get_elem? (get_or vs k blank).combiner.opened j ≡ opt.some (Some call)
           still_opened k j call was = ⊎_elim (λ same. ap (λ (c : Combiner C). get_elem? c.opened j) same ∙ was)
-              (λ lost. let p = o.opens k j call was in let z = lost.0 in let y = p.book in absurd (cc (y, z))) (sits k).combiner
+              (λ lost. let p = o.opens k j call was in let z = lost.0 in let y = p.object in absurd (cc (y, z))) (sits k).combiner

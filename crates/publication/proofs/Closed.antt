@@ -34,10 +34,10 @@ module _ {C R : Type 0} where
 module _ {O C R : Type 0} (obj : Ghosts O C R) where
   -- What holds of the load in the lock's slot then.
   pub record IsLast (slots : ℕ) (v : View C R) (l : Load O C R) : Type 0 where
-    pub home : IsHome obj (obj.history l.book) slots l
-    pub legal : obj.is_legal (obj.history l.book)
-    pub short : length (obj.history l.book) < 2 ^ 64
-    pub ends : (p : ℕ) (x : Handed C R) → get_elem? v.others.handed p ≡ opt.some x → Ends (obj.history l.book) x
+    pub home : IsHome obj (obj.history l.object) slots l
+    pub legal : obj.is_legal (obj.history l.object)
+    pub short : length (obj.history l.object) < 2 ^ 64
+    pub ends : (p : ℕ) (x : Handed C R) → get_elem? v.others.handed p ≡ opt.some x → Ends (obj.history l.object) x
     pub within : All (λ x. (0 < x.session) × (x.session < slots)) l.pieces.items
     pub pieces : (p : ℕ) (x : Handed C R) → get_elem? v.others.handed p ≡ opt.some x → x.pieces ≡ pieces_of x.number l.pieces.items
 

@@ -66,14 +66,14 @@ module _ {O C R : Type 0} {obj : Ghosts O C R} where
     lives : v.number ≢ 0
     lives e = omega arith
 
-    book : HasObject o.history (word s 0) i v
-    book = object_of s o i v me has
+    object : HasObject o.history (word s 0) i v
+    object = object_of s o i v me has
 
     session : IsSession o.slots o.owns i v
     session = session_of s o i v me lives
 
     h_is : h ≡ o.history ++ entry i call reply ∷ []
-    h_is = ap (λ (f : List (Entry C R)). f ++ entry i call reply ∷ []) book.whole
+    h_is = ap (λ (f : List (Entry C R)). f ++ entry i call reply ∷ []) object.whole
 
     grows : IsPrefix o.history h
     grows = (entry i call reply ∷ [], sym h_is)
@@ -105,7 +105,7 @@ module _ {O C R : Type 0} {obj : Ghosts O C R} where
     was_vacant = is_vacant (subst (λ (y : Own C R). RecordState o.history i (word s i) (home s i) y) (sym session.own_is) (o.stands i some_number small)) none live
 
     calls_now : calls_of i h ≡ w.collected
-    calls_now = calls-mine i v.front call reply ∙ ap (λ (cs : List (Answered C R)). cs ++ answer (length v.front) call reply ∷ []) (ap (calls_of i) book.whole ∙ was_vacant.calls)
+    calls_now = calls-mine i v.front call reply ∙ ap (λ (cs : List (Answered C R)). cs ++ answer (length v.front) call reply ∷ []) (ap (calls_of i) object.whole ∙ was_vacant.calls)
 
     stands_here : RecordState h i (word s i) (home s i) w
     stands_here = let t = was_vacant in vacant record { is = t.is; none = none; out = t.out; empty_slot = t.empty_slot; publishes = live; calls = calls_now }
@@ -154,8 +154,8 @@ module _ {O C R : Type 0} {obj : Ghosts O C R} where
     -- No other session has the object.
     combiners_after : (j : ℕ) → (seat after j).combiner.has_object ≡ true → HasObject h (word s 0) j (seat after j)
     combiners_after = each_set s.views i u blank (λ j x. x.combiner.has_object ≡ true → HasObject h (word s 0) j x) sits
-        (λ _. let t = book in record { lock_is = t.lock_is; session = some_number; named = t.named; whole = refl })
-        (λ j ne has_too. absurd (ne (sym (o.combiners j has_too).lock_is ∙ book.lock_is)))
+        (λ _. let t = object in record { lock_is = t.lock_is; session = some_number; named = t.named; whole = refl })
+        (λ j ne has_too. absurd (ne (sym (o.combiners j has_too).lock_is ∙ object.lock_is)))
 
     pending_kept : (j : ℕ) → (own_at owns_after j).pending ≡ (own_at o.owns j).pending
     pending_kept j = dite (ℕ_discrete j i)
@@ -166,7 +166,7 @@ module _ {O C R : Type 0} {obj : Ghosts O C R} where
     opens_after m j c there =
         let t : IsOpened s o.owns (seat s m).combiner j c = o.opens m j c (sym (ap (λ (d : Combiner C). get_elem? d.opened j) (combiner_kept m)) ∙ there) in
         rw (combiner_kept m) (record {
-          book = t.book;
+          object = t.object;
           record_of = t.record_of;
           is_busy = t.is_busy;
           call_of = (t.call_of.0, pending_kept j ∙ t.call_of.1);
@@ -198,7 +198,7 @@ module _ {O C R : Type 0} {obj : Ghosts O C R} where
       others = others_after;
       stands = stands_after;
       combiners = combiners_after;
-      free = λ z. absurd (omega (arith, book.lock_is));
+      free = λ z. absurd (omega (arith, object.lock_is));
       taken = λ some_lock. let t = o.taken some_lock in (ap (λ (d : Combiner C). d.has_object) (combiner_kept (word s 0)) ∙ t.0, t.1, t.2);
       opens = opens_after;
       opened = opened_after;

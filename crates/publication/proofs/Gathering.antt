@@ -133,8 +133,8 @@ module _ {C R : Type 0} where
 
 module _ {O C R : Type 0} {obj : Ghosts O C R} where
   -- If what was kept of the tickets has the pieces that were taken, so have the tickets.
-  pub all_took : (book : O) (ts : List (TicketView C R)) → TookHanded obj book (map handed_by ts) → TookPieces obj book ts
-  all_took book ts t = record {
+  pub all_took : (object : O) (ts : List (TicketView C R)) → TookHanded obj object (map handed_by ts) → TookPieces obj object ts
+  all_took object ts t = record {
     all = t.all;
     within = t.within;
     each = λ k d few. t.each k (handed_by (get_or ts k d)) (map_at handed_by ts k (get_or ts k d) (stands_at ts k d few));

@@ -1,5 +1,5 @@
 -- What each kind of step does to the history.
-use Rattle.std.proofs.Common.{◌≡◌, ◌≢◌, ℕ, ◌<◌, ◌==◌, true, false, Option, Some, None, List, [], ◌∷◌, ◌++◌, length, get_or, refl, sym, ap, subst, ◌∙◌, arith}
+use Rattle.std.proofs.Common.{◌≡◌, ◌≢◌, ℕ, zero, suc, ◌<◌, ◌==◌, true, false, Option, Some, None, List, [], ◌∷◌, ◌++◌, length, get_or, refl, sym, ap, subst, ◌∙◌, arith}
 use mathlib.Core.Option as opt
 use mathlib.Core.Logic.{dite}
 use native.Mathlib.Decide.{ℕ_discrete}
@@ -44,7 +44,7 @@ module _ {O C R : Type 0} {obj : Ghosts O C R} where
 
     -- The step leaves who is the combiner, and the seat's front.
     calmly : (w : View C R) (d : List (ℕ × SlotValue O C R)) → n ≡ (w, d) → w.combiner.has_object ≡ m.0.combiner.has_object → w.front ≡ m.0.front → Same
-    calmly w d e book front = steady s o at put id m.1 m.0 n.0 a p me out valid (ap (λ (x : Seated O C R). x.0.combiner.has_object) e ∙ book) (λ _. ap (λ (x : Seated O C R). x.0.front) e ∙ front)
+    calmly w d e object front = steady s o at put id m.1 m.0 n.0 a p me out valid (ap (λ (x : Seated O C R). x.0.combiner.has_object) e ∙ object) (λ _. ap (λ (x : Seated O C R). x.0.front) e ∙ front)
 
     same : n ≡ m → Same
     same e = calmly m.0 m.1 e refl refl
@@ -72,13 +72,13 @@ module _ {O C R : Type 0} {obj : Ghosts O C R} where
     knows : n.0.combiner.has_object ≡ true → p.history ≡ n.0.front
     knows has = sym (p.combiners id (ap (λ (x : View C R). x.combiner.has_object) seat_after ∙ has)).whole ∙ ap (λ (x : View C R). x.front) seat_after
 
-    seized : at ≡ word_of 0 → found ≡ FREE → (load : Box (Load O C R)) → n ≡ (seizing m.0 (obj.history load.value.book) load.value.pieces.items, (0, ObjectLoad load) ∷ m.1) → Same
+    seized : at ≡ word_of 0 → found ≡ FREE → (load : Box (Load O C R)) → n ≡ (seizing m.0 (obj.history load.value.object) load.value.pieces.items, (0, ObjectLoad load) ∷ m.1) → Same
     seized lock hit load e =
         let none : word s 0 ≡ FREE = ap (λ (k : ℕ). get_or s.words k 0) (sym lock) ∙ hit in
         let b = o.free none in
         let at_home : home s 0 ≡ opt.some (ObjectLoad load) = slot-taken s.homes m.1 a valid out 0 (ObjectLoad load) (sym carried ∙ ap (λ (x : Seated O C R). x.1) e) in
-        let book : (obj.history load.value.book) ≡ o.history = ap (history_in obj) (sym at_home ∙ b.1) ∙ b.2.history in
-        knows (ap (λ (x : Seated O C R). x.0.combiner.has_object) e) ∙ (ap (λ (x : Seated O C R). x.0.front) e ∙ book)
+        let object : (obj.history load.value.object) ≡ o.history = ap (history_in obj) (sym at_home ∙ b.1) ∙ b.2.history in
+        knows (ap (λ (x : Seated O C R). x.0.combiner.has_object) e) ∙ (ap (λ (x : Seated O C R). x.0.front) e ∙ object)
 
     released : m.0.combiner.has_object ≡ true → LaysDownLoad obj m → n ≡ (releasing m.0 (noted m.1), rest m.1) → Same
     released has down e =
@@ -147,6 +147,18 @@ module _ {O C R : Type 0} {obj : Ghosts O C R} where
         let k = opened_of s o id m.0 me m.0.combiner.hand call (there_at m.0.combiner.opened m.0.combiner.hand call opened) in
         let f = k.call_of in
         (f.0, ap (λ (w : Own C R). w.pending) (o.waits m.0.combiner.hand (λ none. let g = f.1 in cc (g, none))) ∙ f.1)
+
+    -- The record in the combiner's hand is one of the board's sessions.
+    pub hand-within : (call : C) → opened_in m.0 m.0.combiner.hand ≡ Some call → (0 < m.0.combiner.hand) × (m.0.combiner.hand < o.slots)
+    hand-within call opened =
+        let k = opened_of s o id m.0 me m.0.combiner.hand call (there_at m.0.combiner.opened m.0.combiner.hand call opened) in
+        let there = in-reach s.words (word_of m.0.combiner.hand) 1 k.is_busy in
+        (k.record_of, omega (arith, there, o.words_are))
+      where
+        in-reach : (l : List ℕ) (i b : ℕ) → get_or l i 0 ≡ suc b → i < length l
+        in-reach [] i b e = absurd (cc e)
+        in-reach (x ∷ xs) zero b e = omega arith
+        in-reach (x ∷ xs) (suc i) b e = omega (arith, in-reach xs i b e)
 
     -- A direct entry appends its entry to the history.
     pub enters-history : (call : C) (reply : R) → m.0.combiner.has_object ≡ true → n ≡ (entering m.0 call reply, m.1) → p.history ≡ o.history ++ entry m.0.number call reply ∷ []

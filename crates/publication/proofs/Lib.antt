@@ -33,3 +33,4 @@ pub mod SessionsGoOn
 pub mod RealTime
 pub mod ListLaws
 pub mod PieceLaws
+pub mod Linearizable

@@ -50,7 +50,7 @@ module _ {O C R : Type 0} {obj : Ghosts O C R} where
     combiners = λ k has. subst (λ (w : ℕ). HasObject o.history w k (seat s k)) (sym (same 0)) (o.combiners k has);
     free = λ e. o.free (sym (same 0) ∙ e);
     taken = λ ne. rw (same 0) (o.taken (λ e. ne (same 0 ∙ e)));
-    opens = λ k j call at. let t = o.opens k j call at in record { book = t.book; record_of = t.record_of; is_busy = same j ∙ t.is_busy; call_of = t.call_of; empty_slot = t.empty_slot };
+    opens = λ k j call at. let t = o.opens k j call at in record { object = t.object; record_of = t.record_of; is_busy = same j ∙ t.is_busy; call_of = t.call_of; empty_slot = t.empty_slot };
     opened = λ j some e. rw (same 0) (o.opened j some (sym (same j) ∙ e));
     pieces = pieces_kept o.slots s (record { words = ws; homes = s.homes; views = s.views }) o.pieces (omega arith) (λ e. (sym (same 0) ∙ e, refl)) o.pieces.seats;
   }

@@ -85,7 +85,7 @@ module _ {O C R : Type 0} {obj : Ghosts O C R} where
         whole = refl;
         named = is;
         same = refl;
-        none = λ k j call shown. nobody k (o.opens k j call shown).book;
+        none = λ k j call shown. nobody k (o.opens k j call shown).object;
         alone = λ k ne has. nobody k has;
         free = λ z. absurd (omega arith);
         taken = λ _. (refl, refl, small, refl);
@@ -110,7 +110,7 @@ module _ {O C R : Type 0} {obj : Ghosts O C R} where
 
       seize_won : (more : List (ℕ × SlotValue O C R)) → Goes obj s 0 i (v, more) (seizes obj (step o.slots 0 FREE i opt.none) (v, more)) i
       seize_won more = let t = o.free hit in let load = t.0 in let noted_all : load.value.pieces.items ≡ o.pieces.all = ap pieces_in (sym t.1) ∙ o.pieces.home hit in (
-        seizing v (obj.history load.value.book) load.value.pieces.items,
+        seizing v (obj.history load.value.object) load.value.pieces.items,
         takes 0 (ObjectLoad load),
         at_home s.homes 0 (ObjectLoad load) t.1,
         subst (λ (f : List (Entry C R)). IsRuled obj record { words = set s.words (word_of 0) i; homes = set s.homes 0 opt.none; views = set s.views i (seizing v f load.value.pieces.items) }) (sym t.2.history)
@@ -144,11 +144,11 @@ module _ {O C R : Type 0} {obj : Ghosts O C R} where
       none_off : l.off ≡ 0
       none_off = sym (subst (λ (u : View C R). u.combiner.has_object ≡ true → IsWalking l.list l.off l.before u.listing) is_me (l.walkers i) has).off_is ∙ settled
 
-      book : HasObject o.history (word s 0) i v
-      book = object_of s o i v me has
+      object : HasObject o.history (word s 0) i v
+      object = object_of s o i v me has
 
       nobody_else : (k : ℕ) → k ≢ i → (seat s k).combiner.has_object ≢ true
-      nobody_else k ne too = ne (sym (o.combiners k too).lock_is ∙ book.lock_is)
+      nobody_else k ne too = ne (sym (o.combiners k too).lock_is ∙ object.lock_is)
 
       none_here : IsNothingOpened (seat s i).combiner
       none_here = subst (λ (u : View C R). IsNothingOpened u.combiner) (sym is_me) none
@@ -161,9 +161,9 @@ module _ {O C R : Type 0} {obj : Ghosts O C R} where
         same = refl;
         none = λ k. dite (ℕ_discrete k i)
             (λ e. subst (λ (l : ℕ). IsNothingOpened (seat s l).combiner) (sym e) none_here)
-            (λ ne j call shown. nobody_else k ne (o.opens k j call shown).book);
+            (λ ne j call shown. nobody_else k ne (o.opens k j call shown).object);
         alone = nobody_else;
-        free = λ _. (load, refl, record { history = full.history ∙ book.whole; sessions = full.sessions; empty = full.empty; room = full.room; ages = full.ages; past = full.past; pieces = full.pieces; in_a_row = full.in_a_row });
+        free = λ _. (load, refl, record { history = full.history ∙ object.whole; sessions = full.sessions; empty = full.empty; room = full.room; ages = full.ages; past = full.past; pieces = full.pieces; in_a_row = full.in_a_row });
         taken = λ z. absurd (z refl);
         mine_then = λ e. absurd (cc e);
         pieces = load.value.pieces.items;
@@ -184,7 +184,7 @@ module _ {O C R : Type 0} {obj : Ghosts O C R} where
           words = set s.words (word_of 0) FREE;
           homes = set s.homes 0 (opt.some (ObjectLoad load));
           views = set s.views i (with_pieces (as_combiner v f (combiner v.combiner false v.combiner.opened 0) (no_walk v.listing)) now_taken);
-        }) (sym book.whole) (record {
+        }) (sym object.whole) (record {
           records = relocked s o i v 0 FREE (opt.some (ObjectLoad load)) o.history (combiner v.combiner false v.combiner.opened 0) (no_walk v.listing) now_taken me some_number release_step;
           list = still_listed FREE (opt.some (ObjectLoad load)) o.history (combiner v.combiner false v.combiner.opened 0) now_taken none_off;
         }),

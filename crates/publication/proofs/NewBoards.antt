@@ -222,7 +222,7 @@ module _ {O C R : Type 0} {obj : Ghosts O C R} where
     opens_after : (k j : ℕ) (call : C) → get_elem? (seat enrolled k).combiner.opened j ≡ opt.some (Some call) → IsOpened enrolled o.owns (seat enrolled k).combiner j call
     opens_after = each_seat (λ k u. (j : ℕ) (call : C) → get_elem? u.combiner.opened j ≡ opt.some (Some call) → IsOpened enrolled o.owns u.combiner j call)
         (λ j call is. absurd (nothing_at slots j call is)) (λ j call is. absurd (nothing_at 0 j call is))
-        (λ k ne j call is. let p = o.opens k j call is in record { book = p.book; record_of = p.record_of; is_busy = p.is_busy; call_of = p.call_of; empty_slot = p.empty_slot })
+        (λ k ne j call is. let p = o.opens k j call is in record { object = p.object; record_of = p.record_of; is_busy = p.is_busy; call_of = p.call_of; empty_slot = p.empty_slot })
 
     still_open : (j : ℕ) (call : C) (k : ℕ) → get_elem? (seat s k).combiner.opened j ≡ opt.some (Some call) → get_elem? (seat enrolled k).combiner.opened j ≡ opt.some (Some call)
     still_open j call = each_seat (λ k u. get_elem? (seat s k).combiner.opened j ≡ opt.some (Some call) → get_elem? u.combiner.opened j ≡ opt.some (Some call))

@@ -163,7 +163,7 @@ module _ {O C R : Type 0} {obj : Ghosts O C R} where
 
       open_here : (j : ℕ) (call : C) → j ≡ x → get_elem? d.opened j ≡ opt.some (Some call) → IsOpened after o.owns d j call
       open_here j call e is = let r = t.new_open call (sym (ap (λ (i : ℕ). get_elem? d.opened i) e) ∙ is) in record {
-        book = t.still;
+        object = t.still;
         record_of = omega (arith, e, t.some_record);
         is_busy = ap (word after) e ∙ (word_here t.few ∙ r.0);
         call_of = (r.1.0, ap (λ (i : ℕ). (own_at o.owns i).pending) e ∙ r.1.1);
@@ -172,7 +172,7 @@ module _ {O C R : Type 0} {obj : Ghosts O C R} where
 
       open_other : (j : ℕ) (call : C) → j ≢ x → get_elem? d.opened j ≡ opt.some (Some call) → IsOpened after o.owns d j call
       open_other j call ne is = let r = opened_of s o k v me j call (sym (t.others j ne) ∙ is) in record {
-        book = t.still;
+        object = t.still;
         record_of = r.record_of;
         is_busy = word_other j ne ∙ r.is_busy;
         call_of = r.call_of;
@@ -211,7 +211,7 @@ module _ {O C R : Type 0} {obj : Ghosts O C R} where
         combiners = combiners_kept h (λ _. record { lock_is = lock_after; session = mine; named = object_before.named; whole = t.whole }) alone;
         free = λ none. absurd (omega (arith, lock_after));
         taken = λ _. let r = o.taken (λ none. omega (arith, object_before.lock_is)) in with_object lock_after t.still (omega (arith, r.1, object_before.lock_is)) (home_other 0 not_lock ∙ r.2);
-        opens = opens_kept (λ j call is. dite (ℕ_discrete j x) (λ e. open_here j call e is) (λ ne. open_other j call ne is)) (λ i ne j call is. alone i ne (o.opens i j call is).book);
+        opens = opens_kept (λ j call is. dite (ℕ_discrete j x) (λ e. open_here j call e is) (λ ne. open_other j call ne is)) (λ i ne j call is. alone i ne (o.opens i j call is).object);
         opened = opened_after;
         pieces = pieces_kept o.slots s after o.pieces (omega (arith, seats_kept)) (λ none. absurd (omega (arith, lock_after)))
             (each_set s.views k u blank (λ j y. HasPieces o.pieces.all y) sits
@@ -220,7 +220,7 @@ module _ {O C R : Type 0} {obj : Ghosts O C R} where
       }
 
     -- What a step on the lock word has to show: no seat has opened a record, before or after; no other seat has the
-    -- book; the object is at home if the word is FREE, else this seat has it. Of the pieces afterwards, this session's own are
+    -- object; the object is at home if the word is FREE, else this seat has it. Of the pieces afterwards, this session's own are
     -- those that it took, and no other session has others than before; the load notes them, or this seat knows them.
     pub record IsLockStep : Type 0 where
       pub lock : x ≡ 0

@@ -152,7 +152,7 @@ module _ {O C R : Type 0} {obj : Ghosts O C R} where
           let b = k.was_busy (sym (ap (word s) e) ∙ t.is_busy) in
           let same : w.pending ≡ (own_at o.owns i).pending = b.2 ∙ ap (λ (x : Own C R). x.pending) session_before.own_is in
           record {
-            book = t.book;
+            object = t.object;
             record_of = t.record_of;
             is_busy = ap (word after) e ∙ (word_here ∙ b.0);
             call_of = (t.call_of.0, ap (λ (m : ℕ). (own_at owns_after m).pending) e ∙ (ap (λ (x : Own C R). x.pending) own_here ∙ (same ∙ (ap (λ (m : ℕ). (own_at o.owns m).pending) (sym e) ∙ t.call_of.1))));
@@ -163,7 +163,7 @@ module _ {O C R : Type 0} {obj : Ghosts O C R} where
       opens_after m j call is =
           let t : IsOpened s o.owns (seat s m).combiner j call = o.opens m j call (sym (ap (λ (c : Combiner C). get_elem? c.opened j) (combiner_kept m)) ∙ is) in
           rw (combiner_kept m) (dite (ℕ_discrete j i) (λ e. open_here (seat s m).combiner j call e t) (λ ne. record {
-            book = t.book;
+            object = t.object;
             record_of = t.record_of;
             is_busy = word_other j ne ∙ t.is_busy;
             call_of = (t.call_of.0, ap (λ (x : Own C R). x.pending) (own_other j ne) ∙ t.call_of.1);

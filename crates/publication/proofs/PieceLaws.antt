@@ -1,8 +1,7 @@
 -- What the pieces of the history that sessions took make together.
 use Rattle.std.proofs.Common.{◌≡◌, ℕ, zero, suc, ◌+◌, ◌-◌, ◌<◌, ◌≤◌, List, [], ◌∷◌, ◌++◌, length, get_or, take, drop, refl, sym, ap, ◌∙◌, subst, arith}
 use mathlib.Core.List.{IsPrefix}
-use Rattle.sequential.specs.declared.entry.Entry.{Entry}
-use Rattle.publication.specs.Pieces.{AreInOrder, AreInARow, entries_in, put_together}
+use Rattle.publication.specs.Pieces.{AreInOrder, AreInARow, lines_in, put_together}
 use Rattle.publication.specs.declared.piece.Piece.{Piece}
 
 -- The last of the pieces ends no earlier than the first begins.
@@ -27,19 +26,19 @@ two_runs (x ∷ xs) (suc from) m n =
     let there : suc from + m ≡ suc (from + m) = omega arith in
     ap (λ (k : ℕ). take m (drop from xs) ++ take n (drop k (x ∷ xs))) there ∙ two_runs xs from m n
 
-module _ {C R : Type 0} where
+module _ {L : Type 0} where
   -- Pieces in a row are the part of the history from the first one's beginning to the last one's end.
-  runs : (history : List (Entry C R)) (from upto : ℕ) (ps : List Piece) → AreInARow from ps upto → put_together history ps ≡ take (upto - from) (drop from history)
+  runs : (history : List L) (from upto : ℕ) (ps : List Piece) → AreInARow from ps upto → put_together history ps ≡ take (upto - from) (drop from history)
   runs history from upto [] row = let none : 0 ≡ upto - from = omega (arith, row) in ap (λ (n : ℕ). take n (drop from history)) none
   runs history from upto (p ∷ ps) row =
       let late = ends_late (p.first + p.count) upto ps row.1 in
       let long : p.count + (upto - (p.first + p.count)) ≡ upto - from = omega (arith, row.0, late) in
-      ap (λ (l : List (Entry C R)). entries_in history p ++ l) (runs history (p.first + p.count) upto ps row.1)
+      ap (λ (l : List L). lines_in history p ++ l) (runs history (p.first + p.count) upto ps row.1)
       ∙ (two_runs history p.first p.count (upto - (p.first + p.count))
       ∙ (ap (λ (n : ℕ). take n (drop p.first history)) long ∙ ap (λ (n : ℕ). take (upto - from) (drop n history)) row.0))
 
   -- Pieces in a row from the beginning are the history up to where the last one ends.
-  pub together : (history : List (Entry C R)) (from upto : ℕ) (ps : List Piece) → AreInARow from ps upto → from ≡ 0 → put_together history ps ≡ take upto history
+  pub together : (history : List L) (from upto : ℕ) (ps : List Piece) → AreInARow from ps upto → from ≡ 0 → put_together history ps ≡ take upto history
   together history from upto ps row e = let whole : upto - 0 ≡ upto = omega arith in
       runs history from upto ps row ∙ (ap (λ (n : ℕ). take (upto - n) (drop n history)) e ∙ ap (λ (n : ℕ). take n history) whole)
 
@@ -52,10 +51,10 @@ stays (x ∷ xs) more zero zero le = refl
 stays (x ∷ xs) more zero (suc n) le = ap (λ l. x ∷ l) (stays xs more zero n (omega arith))
 stays (x ∷ xs) more (suc f) n le = stays xs more f n (omega arith)
 
-module _ {C R : Type 0} where
+module _ {L : Type 0} where
   -- The entries of a piece stay what they are as the history grows.
-  pub piece_stays : (front history : List (Entry C R)) (p : Piece) → IsPrefix front history → p.first + p.count ≤ length front → entries_in history p ≡ entries_in front p
-  piece_stays front history p begins le = subst (λ (h : List (Entry C R)). entries_in h p ≡ entries_in front p) begins.1 (stays front begins.0 p.first p.count le)
+  pub piece_stays : (front history : List L) (p : Piece) → IsPrefix front history → p.first + p.count ≤ length front → lines_in history p ≡ lines_in front p
+  piece_stays front history p begins le = subst (λ (h : List L). lines_in h p ≡ lines_in front p) begins.1 (stays front begins.0 p.first p.count le)
 
 -- A piece begins no earlier than the row does.
 begins_late : (from upto j : ℕ) (ps : List Piece) (d : Piece) → AreInOrder from ps upto → j < length ps → from ≤ (get_or ps j d).first
@@ -71,7 +70,7 @@ apart_from from upto zero (suc j) (p ∷ ps) d order less few = begins_late (p.f
 apart_from from upto (suc i) zero (p ∷ ps) d order less few = absurd (omega arith)
 apart_from from upto (suc i) (suc j) (p ∷ ps) d order less few = apart_from (p.first + p.count) upto i j ps d order.1 (omega arith) (omega arith)
 
--- pieces of a book
+-- one piece more
 
 -- One piece more keeps the order.
 pub one_more_in_order : (from upto : ℕ) (ps : List Piece) (p : Piece) → AreInOrder from ps upto → upto ≤ p.first → AreInOrder from (ps ++ p ∷ []) (p.first + p.count)

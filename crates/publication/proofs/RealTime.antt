@@ -41,8 +41,8 @@ module _ {O C R : Type 0} where
   abbrev KnowsAsMuch : BoardState O C R → ℕ → View C R → Type 0
   KnowsAsMuch s k u = u.combiner.has_object ≡ true → u.front ≡ (seat s k).front
 
-  no-book : (s : BoardState O C R) (k : ℕ) (u : View C R) → u.combiner.has_object ≡ false → KnowsAsMuch s k u
-  no-book s k u lacks has = absurd (cc (lacks, has))
+  no-object : (s : BoardState O C R) (k : ℕ) (u : View C R) → u.combiner.has_object ≡ false → KnowsAsMuch s k u
+  no-object s k u lacks has = absurd (cc (lacks, has))
 
   front-kept : (s : BoardState O C R) (k : ℕ) (v u : View C R) → get_elem? s.views k ≡ opt.some v → u.front ≡ v.front → KnowsAsMuch s k u
   front-kept s k v u me same has = same ∙ ap (λ (x : View C R). x.front) (sym (at_there s.views k v blank me).0)
@@ -57,16 +57,16 @@ module _ {O C R : Type 0} {obj : Ghosts O C R} where
     where
       left : KnowsAsMuch s c.id c.left
       left = elim c.cut [
-        | inl m ↦ no-book s c.id c.left (ap (λ (x : View C R). x.combiner.has_object) m.1)
+        | inl m ↦ no-object s c.id c.left (ap (λ (x : View C R). x.combiner.has_object) m.1)
         | inr m ↦ front-kept s c.id c.view c.left c.seated (ap (λ (x : View C R). x.front) m.0)
       ]
 
       right : KnowsAsMuch s (length (set s.views c.id c.left)) c.right
       right = elim c.cut [
-        | inl m ↦ no-book s (length (set s.views c.id c.left)) c.right (ap (λ (x : View C R). x.combiner.has_object) m.2)
+        | inl m ↦ no-object s (length (set s.views c.id c.left)) c.right (ap (λ (x : View C R). x.combiner.has_object) m.2)
         | inr m ↦ elim m.1 [
-          | inl e ↦ no-book s (length (set s.views c.id c.left)) c.right (ap (λ (x : View C R). x.combiner.has_object) e)
-          | inr e ↦ no-book s (length (set s.views c.id c.left)) c.right (ap (λ (x : View C R). x.combiner.has_object) e)
+          | inl e ↦ no-object s (length (set s.views c.id c.left)) c.right (ap (λ (x : View C R). x.combiner.has_object) e)
+          | inr e ↦ no-object s (length (set s.views c.id c.left)) c.right (ap (λ (x : View C R). x.combiner.has_object) e)
         ]
       ]
 
@@ -94,7 +94,7 @@ module _ {O C R : Type 0} {obj : Ghosts O C R} where
       every : (k : ℕ) → KnowsAsMuch s k (get_or (set (set s.views c.id c.both) c.other blank) k blank)
       every k = elim (unset (set s.views c.id c.both) c.other k) [
         | inl e ↦ subst (KnowsAsMuch s k) (sym e) (one k)
-        | inr e ↦ subst (KnowsAsMuch s k) (sym e) (no-book s k blank refl)
+        | inr e ↦ subst (KnowsAsMuch s k) (sym e) (no-object s k blank refl)
       ]
 
   -- Steps, and the history that the states determine.
@@ -156,11 +156,11 @@ module _ {O C R : Type 0} {obj : Ghosts O C R} where
           (λ p. enters-history s r.records c.at c.put c.id c.first c.second c.before c.after c.act p c.seated c.out c.valid c.carried call reply c.asked.1 c.told.0)) p
 
 module _ {C R : Type 0} where
-  is-answer : (name : StepName C R) → (name ≡ answer_record) ⊎ (name ≢ answer_record)
+  pub is-answer : (name : StepName C R) → (name ≡ answer_record) ⊎ (name ≢ answer_record)
   is-answer answer_record = inl refl
   is-answer _ = inr (λ e. absurd (cc e))
 
-  is-enter : (name : StepName C R) → ((call : C) × (reply : R) × (name ≡ enter call reply)) ⊎ ((call : C) (reply : R) → name ≢ enter call reply)
+  pub is-enter : (name : StepName C R) → ((call : C) × (reply : R) × (name ≡ enter call reply)) ⊎ ((call : C) (reply : R) → name ≢ enter call reply)
   is-enter (enter call reply) = inl (call, reply, refl)
   is-enter _ = inr (λ call reply e. absurd (cc e))
 
@@ -211,7 +211,7 @@ module _ {C R : Type 0} where
   member-append x (z ∷ zs) ys (inl e) = inl e
   member-append x (z ∷ zs) ys (inr m) = inr (member-append x zs ys m)
 
-  there : (h : List (Entry C R)) (n : ℕ) (e : Entry C R) → slice_get h n ≡ Some e → n < length h
+  pub there : (h : List (Entry C R)) (n : ℕ) (e : Entry C R) → slice_get h n ≡ Some e → n < length h
   there [] n e is = absurd (cc is)
   there (x ∷ xs) zero e is = omega arith
   there (x ∷ xs) (suc n) e is = omega (arith, there xs n e is)
@@ -229,7 +229,7 @@ module _ {O C R : Type 0} {obj : Ghosts O C R} where
 
 module _ {C R : Type 0} where
   -- The calls of a longer history.
-  calls-longer : (i k : ℕ) (h rest : List (Entry C R)) → calls_from i k (h ++ rest) ≡ calls_from i k h ++ calls_from i (k + length h) rest
+  pub calls-longer : (i k : ℕ) (h rest : List (Entry C R)) → calls_from i k (h ++ rest) ≡ calls_from i k h ++ calls_from i (k + length h) rest
   calls-longer i k [] rest = ap (λ (n : ℕ). calls_from i n rest) (let z : k ≡ k + 0 = omega arith in z)
   calls-longer i k (x ∷ xs) rest =
       let n : k + 1 + length xs ≡ k + suc (length xs) = omega arith in

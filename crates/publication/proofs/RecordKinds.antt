@@ -45,8 +45,8 @@ module _ {O C R : Type 0} {obj : Ghosts O C R} where
     is_me : seat s i ≡ v
     is_me = (at_there s.views i v blank me).0
 
-    book : HasObject o.history (word s 0) i v
-    book = object_of s o i v me has
+    object : HasObject o.history (word s 0) i v
+    object = object_of s o i v me has
 
     stands_at : RecordState o.history j (word s j) (home s j) (own_at o.owns j)
     stands_at = o.stands j some_record few
@@ -55,7 +55,7 @@ module _ {O C R : Type 0} {obj : Ghosts O C R} where
     heard_at = heard_few s o i v me j
 
     known : length (calls_of j v.front) ≡ length (calls_of j o.history)
-    known = ap (λ (f : List (Entry C R)). length (calls_of j f)) book.whole
+    known = ap (λ (f : List (Entry C R)). length (calls_of j f)) object.whole
 
     -- A step on the record that doesn't change the history.
     same_history : (n : ℕ) (at : opt.Option (SlotValue O C R)) (d : Combiner C) → d.has_object ≡ true → length d.opened ≡ length v.combiner.opened
@@ -71,7 +71,7 @@ module _ {O C R : Type 0} {obj : Ghosts O C R} where
       legal = o.legal;
       short = o.short;
       grows = prefix_self o.history;
-      whole = book.whole;
+      whole = object.whole;
       wide = as_wide;
       others = others;
       hands = hands;
@@ -112,7 +112,7 @@ module _ {O C R : Type 0} {obj : Ghosts O C R} where
     not_busy shut busy_now =
         let t = o.opened j some_record busy_now in
         let here : get_elem? v.combiner.opened j ≡ opt.some (Some t.0)
-        = ap (λ (u : View C R). get_elem? u.combiner.opened j) (sym is_me) ∙ (ap (λ (k : ℕ). get_elem? (seat s k).combiner.opened j) (sym book.lock_is) ∙ t.1) in
+        = ap (λ (u : View C R). get_elem? u.combiner.opened j) (sym is_me) ∙ (ap (λ (k : ℕ). get_elem? (seat s k).combiner.opened j) (sym object.lock_is) ∙ t.1) in
         let q : Some t.0 ≡ None = sym (at_there v.combiner.opened j (Some t.0) None here).0 ∙ shut in absurd (cc q)
 
     entered : word s j ≢ POSTED → HasEntered v j
@@ -269,7 +269,7 @@ module _ {O C R : Type 0} {obj : Ghosts O C R} where
         longer = v.front ++ entry j call reply ∷ []
 
         longer_is : longer ≡ o.history ++ entry j call reply ∷ []
-        longer_is = ap (λ (f : List (Entry C R)). f ++ entry j call reply ∷ []) book.whole
+        longer_is = ap (λ (f : List (Entry C R)). f ++ entry j call reply ∷ []) object.whole
 
         served_now : RecordState {O = O} longer j SERVED (opt.some (ServedReply (length v.front) reply)) (own_at o.owns j)
         served_now = served call was.call_of.0 (length v.front) reply record {
@@ -277,9 +277,9 @@ module _ {O C R : Type 0} {obj : Ghosts O C R} where
           some = busy_is.some;
           replied = refl;
           stands = at_last v.front (entry j call reply) (length v.front) refl;
-          late = subst (λ (f : List (Entry C R)). was.call_of.0 ≤ length f) (sym book.whole) busy_is.early;
+          late = subst (λ (f : List (Entry C R)). was.call_of.0 ≤ length f) (sym object.whole) busy_is.early;
           publishes = busy_is.publishes;
-          calls = calls-mine j v.front call reply ∙ ap (λ (cs : List (Answered C R)). cs ++ answer (length v.front) call reply ∷ []) (ap (calls_of j) book.whole ∙ busy_is.calls);
+          calls = calls-mine j v.front call reply ∙ ap (λ (cs : List (Answered C R)). cs ++ answer (length v.front) call reply ∷ []) (ap (calls_of j) object.whole ∙ busy_is.calls);
         }
 
         answer_step : v.combiner.hand ≡ j → IsRecordStep s o i v j SERVED (opt.some (ServedReply (length v.front) reply)) longer cleared v.listing v.pieces me some_number longer
@@ -314,7 +314,7 @@ module _ {O C R : Type 0} {obj : Ghosts O C R} where
             (subst (λ (w : Own C R). IsAccountedIn longer j w.collected w.pending) (ap (own_at o.owns) (e ∙ is) ∙ sym mine)
             (account-of longer j SERVED (opt.some (ServedReply (length v.front) reply)) (own_at o.owns j) served_now)))
             (λ ne. account-same v.number v.front longer v.own.collected v.own.pending (calls-other v.number j v.front call reply ne)
-            (subst (λ (f : List (Entry C R)). IsAccountedIn f v.number v.own.collected v.own.pending) (sym book.whole) (account-whole s o i v me some_number lives)))
+            (subst (λ (f : List (Entry C R)). IsAccountedIn f v.number v.own.collected v.own.pending) (sym object.whole) (account-whole s o i v me some_number lives)))
 
         answer_goes : (more : List (ℕ × SlotValue O C R)) → v.combiner.hand ≡ j
             → Goes obj s j i (v, (j, ServedReply (length v.front) reply) ∷ more) (λ _. answers obj (step o.slots (word_of j) SERVED 0 opt.none) (v, (j, ServedReply (length v.front) reply) ∷ more) SERVED) SERVED

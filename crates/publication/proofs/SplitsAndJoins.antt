@@ -53,7 +53,7 @@ module _ {O C R : Type 0} {obj : Ghosts O C R} where
       others = tells;
       waits = λ some. ap (λ (x : View C R). x.own) (sym is_me) ∙ o.waits id some;
       session = λ some_number. session_on s o id v front heard others (session_of s o id v me some_number);
-      book = λ has. let t = object_of s o id v me has in record { lock_is = t.lock_is; session = t.session; named = t.named; whole = whole has };
+      object = λ has. let t = object_of s o id v me has in record { lock_is = t.lock_is; session = t.session; named = t.named; whole = whole has };
       combiner = inl (ap (λ (x : View C R). x.combiner) (sym is_me));
       pieces = let p = pieces_of_seat s o id v me in record { own = p.own; handed = took; known = p.known };
     }
@@ -118,7 +118,7 @@ module _ {O C R : Type 0} {obj : Ghosts O C R} where
             others = told_nothing o.history (viewed s o joint) o.slots o.owns false (λ e. absurd (cc e));
             waits = λ some. absurd (some (ap (λ (y : Own C R). y.pending) (sym (o.waits other some)) ∙ (ap (λ (x : View C R). x.own.pending) is_other ∙ settled)));
             session = λ some_number. absurd (some_number refl);
-            book = λ e. absurd (cc e);
+            object = λ e. absurd (cc e);
             combiner = inr (ap (λ (x : View C R). x.combiner.has_object) is_other ∙ no_object, refl);
             pieces = knows_none o.pieces.all blank refl refl refl;
           })
@@ -241,7 +241,7 @@ module _ {O C R : Type 0} {obj : Ghosts O C R} where
               others = told_nothing o.history (viewed s o vs) o.slots o.owns true (λ _. omega arith);
               waits = λ some. absurd (some (ap (λ (y : Own C R). y.pending) (o.unmade (length s.views) (omega arith))));
               session = λ some_number. absurd (some_number refl);
-              book = λ e. absurd (cc e);
+              object = λ e. absurd (cc e);
               combiner = inr (ap (λ (x : View C R). x.combiner.has_object) (past_end s.views blank), refl);
               pieces = knows_none o.pieces.all b refl refl refl;
             })

@@ -27,7 +27,7 @@ module _ {O C R : Type 0} (obj : Ghosts O C R) where
   history_in (opt.some Empty) = []
   history_in (opt.some (PostedCall call)) = []
   history_in (opt.some (ServedReply place reply)) = []
-  history_in (opt.some (ObjectLoad load)) = (obj.history load.value.book)
+  history_in (opt.some (ObjectLoad load)) = (obj.history load.value.object)
 
 module _ {O C R : Type 0} (obj : Ghosts O C R) where
   -- The board's history: the object's while the lock word is FREE, else the front that the combiner knows.

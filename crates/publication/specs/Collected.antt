@@ -1,5 +1,5 @@
 -- What the sessions of a board were told, as the board's state has it, and what goes together of that.
-use Rattle.std.specs.Prelude.{◌≡◌, ◌≢◌, ◌⊎◌, ℕ, ◌<◌, Option, None, List}
+use Rattle.std.specs.Prelude.{◌≡◌, ◌⊎◌, ℕ, ◌<◌, Option, None, List}
 use mathlib.Core.Option as opt
 use lib.ListN.{get_elem?}
 use Rattle.sequential.specs.Histories.{Answered}

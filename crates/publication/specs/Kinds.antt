@@ -238,16 +238,16 @@ module _ {O C R : Type 0} (obj : Ghosts O C R) where
   -- its pending call; and of the pieces that were taken, those of the session are the ones that it took.
   pub record Seized (v : View C R) (slots : ℕ) (load : Load O C R) : Type 0 where
     pub lacked : v.combiner.has_object ≡ false
-    pub home : IsHome obj (obj.history load.book) slots load
-    pub legal : obj.is_legal (obj.history load.book)
-    pub longer : IsPrefix v.front (obj.history load.book)
-    pub accounted : IsAccountedIn (obj.history load.book) v.number v.own.collected v.own.pending
+    pub home : IsHome obj (obj.history load.object) slots load
+    pub legal : obj.is_legal (obj.history load.object)
+    pub longer : IsPrefix v.front (obj.history load.object)
+    pub accounted : IsAccountedIn (obj.history load.object) v.number v.own.collected v.own.pending
     pub pieces : v.pieces.own ≡ pieces_of v.number load.pieces.items
 
 module _ {O C R : Type 0} (obj : Ghosts O C R) where
   -- Seize: if the lock word is FREE, the session takes the load; else nothing changes.
   abbrev pub seizes : Kind O C R
-  seizes st m found n = (found ≡ FREE → (load : Box (Load O C R)) × (n ≡ (seizing m.0 (obj.history load.value.book) load.value.pieces.items, (0, ObjectLoad load) ∷ m.1)) × Seized obj m.0 st.slots load.value)
+  seizes st m found n = (found ≡ FREE → (load : Box (Load O C R)) × (n ≡ (seizing m.0 (obj.history load.value.object) load.value.pieces.items, (0, ObjectLoad load) ∷ m.1)) × Seized obj m.0 st.slots load.value)
       × (found ≢ FREE → (n ≡ m) × HasOthers st.slots m.0)
 
 module _ {C R : Type 0} where

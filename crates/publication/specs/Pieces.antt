@@ -1,6 +1,5 @@
 -- The pieces of the history that sessions take while the board is open.
 use Rattle.std.specs.Prelude.{◌≡◌, ℕ, ◌+◌, ◌≤◌, ◌==◌, List, [], ◌∷◌, ◌++◌, filter, length, take, drop, All}
-use Rattle.sequential.specs.declared.entry.Entry.{Entry}
 use Rattle.publication.specs.declared.piece.Piece.{Piece}
 
 -- The pieces that session i took, in order.
@@ -19,15 +18,15 @@ abbrev pub AreInARow : ℕ → List Piece → ℕ → Type 0
 AreInARow from [] upto = from ≡ upto
 AreInARow from (p ∷ ps) upto = (p.first ≡ from) × AreInARow (p.first + p.count) ps upto
 
-module _ {C R : Type 0} where
-  -- The entries of the history in the piece.
-  abbrev pub entries_in : List (Entry C R) → Piece → List (Entry C R)
-  entries_in history p = take p.count (drop p.first history)
+module _ {L : Type 0} where
+  -- The lines of the list that are in the piece.
+  abbrev pub lines_in : List L → Piece → List L
+  lines_in lines p = take p.count (drop p.first lines)
 
-  -- The entries of the history in the pieces, one piece after another.
-  abbrev pub put_together : List (Entry C R) → List Piece → List (Entry C R)
-  put_together history [] = []
-  put_together history (p ∷ ps) = entries_in history p ++ put_together history ps
+  -- The lines of the list that are in the pieces, one piece after another.
+  abbrev pub put_together : List L → List Piece → List L
+  put_together lines [] = []
+  put_together lines (p ∷ ps) = lines_in lines p ++ put_together lines ps
 
 -- After some pieces were taken, session `number` took more, and nobody else did.
 pub record HasAdded (number : ℕ) (before after : List Piece) : Type 0 where

@@ -159,14 +159,14 @@ module _ {O C R : Type 0} (obj : Ghosts O C R) where
   -- passes, and the pieces of the history that were taken follow one another up to the place before which entries were let go:
   -- without a gap if the object has no bound, since then nothing is let go but what is taken.
   pub record IsHome (h : List (Entry C R)) (slots : ℕ) (l : Load O C R) : Type 0 where
-    pub history : (obj.history l.book) ≡ h
-    pub sessions : (obj.sessions l.book) + 1 ≡ slots
+    pub history : (obj.history l.object) ≡ h
+    pub sessions : (obj.sessions l.object) + 1 ≡ slots
     pub empty : vec_len l.row ≡ 0
-    pub room : (obj.sessions l.book) ≤ vec_capacity l.row
-    pub ages : vec_len l.ages ≡ (obj.sessions l.book)
+    pub room : (obj.sessions l.object) ≤ vec_capacity l.row
+    pub ages : vec_len l.ages ≡ (obj.sessions l.object)
     pub past : (i : ℕ) → slice_index l.ages.items i ≤ l.passes
-    pub pieces : AreInOrder 0 l.pieces.items (obj.cut l.book)
-    pub in_a_row : (obj.bound l.book) ≡ NO_BOUND → AreInARow 0 l.pieces.items (obj.cut l.book)
+    pub pieces : AreInOrder 0 l.pieces.items (obj.cut l.object)
+    pub in_a_row : (obj.bound l.object) ≡ NO_BOUND → AreInARow 0 l.pieces.items (obj.cut l.object)
 
 module _ {C R : Type 0} where
   -- Session k is the combiner: the lock word is its number, and it knows the whole history.
@@ -180,7 +180,7 @@ module _ {O C R : Type 0} where
   -- The combiner has opened record j with this call: the record is BUSY, its session waits for this call, and the slot
   -- is in the combiner's hand, or at home and empty.
   pub record IsOpened (s : BoardState O C R) (owns : List (Own C R)) (c : Combiner C) (j : ℕ) (call : C) : Type 0 where
-    pub book : c.has_object ≡ true
+    pub object : c.has_object ≡ true
     pub record_of : 0 < j
     pub is_busy : word s j ≡ BUSY
     pub call_of : (floor : ℕ) × ((own_at owns j).pending ≡ Some (asks call floor))

@@ -87,7 +87,7 @@ module _ {O C R : Type 0} (obj : Ghosts O C R) where
     pub load : Box (Load O C R)
     pub more : List (ℕ × SlotValue O C R)
     pub carried : m.1 ≡ (0, ObjectLoad load) ∷ more
-    pub whole : (obj.history load.value.book) ≡ m.0.front
+    pub whole : (obj.history load.value.object) ≡ m.0.front
 
 module _ {O C R : Type 0} (obj : Ghosts O C R) where
   -- What the board's calls see to before a step of a kind: the combiner's steps are made by the combiner, it answers a

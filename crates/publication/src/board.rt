@@ -206,18 +206,18 @@ fn enrol_all<O: Sequential>(
 impl<O: Sequential> Board<O> {
     /// A board for the sessions of the object, and a ticket for each session, by number. Fails with `NoMemory` if
     /// memory is refused.
-    pub fn new(alloc: Global, book: O) -> Result<(Board<O>, Vec<Ticket<O>>), NoMemory>
-        requires empty { O.history book ≡ [] }
-        ensures sessions { IfOk result (λ made. made.0.sessions ≡ O.sessions book) }
-        ensures tickets { IfOk result (λ made. made.1.items ≡ new_tickets made.0.id (O.sessions book) (O.sessions book)) }
+    pub fn new(alloc: Global, object: O) -> Result<(Board<O>, Vec<Ticket<O>>), NoMemory>
+        requires empty { O.history object ≡ [] }
+        ensures sessions { IfOk result (λ made. made.0.sessions ≡ O.sessions object) }
+        ensures tickets { IfOk result (λ made. made.1.items ≡ new_tickets made.0.id (O.sessions object) (O.sessions object)) }
     {
-        let sessions = book.sessions();
+        let sessions = object.sessions();
         // shows that an empty history has no cut above 0
-        let _served = book.served();
+        let _served = object.served();
         let row = Vec::with_capacity(alloc, usize::from(sessions))?;
         let ages = vec![in alloc; 0u64; usize::from(sessions)]?;
         let load = Load {
-            book,
+            object,
             row,
             passes: 0,
             ages,
@@ -417,10 +417,10 @@ impl<O: Sequential> Board<O> {
         requires ours { All (IsOf self) tickets.items }
         ensures all { IfOk result (λ _. IsEachOnce self.sessions tickets.items) }
         ensures settled { IfOk result (λ _. All IsSettled tickets.items) }
-        ensures sessions { IfOk result (λ book. O.sessions book ≡ self.sessions) }
-        ensures legal { IfOk result (λ book. O.is_legal (O.history book)) }
-        ensures accounts { IfOk result (λ book. All (AccountsFor (O.history book)) tickets.items) }
-        ensures pieces { IfOk result (λ book. TookPieces O.Sequential book tickets.items) }
+        ensures sessions { IfOk result (λ object. O.sessions object ≡ self.sessions) }
+        ensures legal { IfOk result (λ object. O.is_legal (O.history object)) }
+        ensures accounts { IfOk result (λ object. All (AccountsFor (O.history object)) tickets.items) }
+        ensures pieces { IfOk result (λ object. TookPieces O.Sequential object tickets.items) }
         ensures back { IfErr result (λ refused. (refused.1 ≡ self) × (refused.2.items ≡ tickets.items)) }
         ensures missing { IfErr result (λ refused. refused.0 ≡ CloseFault.Missing → ¬ (IsEachOnce self.sessions tickets.items)) }
         ensures unsettled { IfErr result (λ refused. refused.0 ≡ CloseFault.Unsettled → IsEachOnce self.sessions tickets.items × ¬ (All IsSettled tickets.items)) }

@@ -75,11 +75,11 @@ pub(crate) fn close_table<O: Sequential>(
         unreachable!()
     };
     let Load {
-        book,
+        object,
         row: _,
         passes: _,
         ages: _,
         pieces: _,
     } = Box::into_inner(load);
-    book
+    object
 }

@@ -11,6 +11,7 @@ ghost use Rattle.std.specs.Global.{Box};
 ghost use Rattle.atomic_table.specs.Table.{step, Act, Valid, carried_after, stepped};
 ghost use Rattle.sequential.specs.declared.entry.Entry.{Entry};
 ghost use Rattle.sequential.specs.Histories.{Answered, calls_of};
+ghost use Rattle.sequential.specs.Linearizable.{Event, IsLinearization, IsLinearizable};
 ghost use Rattle.publication.specs.Views.{Pending, IsAccountedIn, entry, answer, asks};
 ghost use Rattle.publication.specs.Rule.{BoardState, seat, IsHome};
 ghost use Rattle.publication.specs.List.{IsRuled};
@@ -18,6 +19,7 @@ ghost use Rattle.publication.specs.Kinds.{Seated};
 ghost use Rattle.publication.specs.Collected.{HasCollected};
 ghost use Rattle.publication.specs.BoardHistory.{new_board, history_of, IsAppended, IsEnteredDirectly, IsAccounted};
 ghost use Rattle.publication.specs.Runs.{StepName, answer_record, enter, kind_of, StepRequires, CarriesOnlyItsOwn, IsStep, IsSeatSplit, IsSeatJoin, IsRun, calls_made, RespectsRealTime};
+ghost use Rattle.publication.specs.Linearizable.{AreEventsOfRun};
 ghost use Rattle.publication.specs.declared.slot.Load.{Load};
 ghost use Rattle.publication.specs.declared.slot.SlotValue.{SlotValue};
 ghost use Rattle.publication.specs.declared.view.View.{View};
@@ -87,4 +89,20 @@ pub fn calls_stand_in_the_order_of_time<O: Sequential>()
         HasCollected s j mine my_pending → HasCollected t j later later_pending → (y : Answered O.Call O.Reply) (before after : List (Answered O.Call O.Reply)) →
         calls_of j (history_of O.Sequential t) ≡ before ++ y ∷ after → calls_made mine my_pending ≤ length before → length (history_of O.Sequential s) ≤ y.place }
     ensures in_time { (s t : BoardState O O.Call O.Reply) → IsRuled O.Sequential s → IsRun O.Sequential s t → RespectsRealTime O.Sequential s t }
+{}
+
+/// Any object that sessions share through a board is linearizable (Herlihy and Wing 1990). In a run of a board from its opening
+/// on, by which time all its sessions are made, take the invocations and the responses of their calls, in the order of time. The
+/// board's history at the end of the run is a linearization of these: it is legal; each session has the same calls in it, in
+/// order and with the same replies, but that a call which hasn't returned may be there or not; and of two calls of which one
+/// returned before the other was made, the one stands before the other.
+///
+/// A call for which memory was refused hasn't been made.
+pub fn boards_are_linearizable<O: Sequential>()
+    ensures history { (n : ℕ) (load : Box (Load O O.Call O.Reply)) (t : BoardState O O.Call O.Reply) (events : List (Event O.Call O.Reply)) →
+        IsHome O.Sequential [] (n + 1) load.value → load.value.pieces.items ≡ [] → IsRun O.Sequential (new_board n load) t →
+        AreEventsOfRun O.Sequential n (new_board n load) t events → IsLinearization O.Sequential n events (history_of O.Sequential t) }
+    ensures linearizable { (n : ℕ) (load : Box (Load O O.Call O.Reply)) (t : BoardState O O.Call O.Reply) (events : List (Event O.Call O.Reply)) →
+        IsHome O.Sequential [] (n + 1) load.value → load.value.pieces.items ≡ [] → IsRun O.Sequential (new_board n load) t →
+        AreEventsOfRun O.Sequential n (new_board n load) t events → IsLinearizable O.Sequential n events }
 {}

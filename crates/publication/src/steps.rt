@@ -276,7 +276,7 @@ pub(crate) fn seize_load<O: Sequential>(
     requires board { IsBoard shared.now.table_id }
     requires mine { (seat.old.me.0.number ≡ number) × (0 < number) }
     ensures ours { seat.new.table_id ≡ seat.old.table_id }
-    ensures some { IfSome result (λ load. (seat.new.me ≡ (seizing seat.old.me.0 (O.history load.value.book) load.value.pieces.items, (0, SlotValue.Empty) ∷ seat.old.me.1))
+    ensures some { IfSome result (λ load. (seat.new.me ≡ (seizing seat.old.me.0 (O.history load.value.object) load.value.pieces.items, (0, SlotValue.Empty) ∷ seat.old.me.1))
         × Seized O.Sequential seat.old.me.0 shared.now.table_id.slots load.value) }
     ensures none { IfNone result ((seat.new.me ≡ seat.old.me) × HasOthers shared.now.table_id.slots seat.old.me.0) }
 {

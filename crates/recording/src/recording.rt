@@ -3,7 +3,7 @@
 ghost use Rattle.std.specs.Prelude.{◌≡◌, ◌≤◌, []};
 
 use crate::stepping::Stepping;
-use sequential::{Entry, MAX_SESSIONS, Sequential, Serving, Trimming};
+use sequential::{Batching, Entry, Item, MAX_SESSIONS, Sequential, Serving, Trimming, serve_each};
 use std::alloc::{AllocError as NoMemory, Global};
 use std::marker::Model;
 use trimmed_list::{NO_BOUND, TrimmedList};
@@ -59,7 +59,8 @@ impl<S: Stepping> Sequential for Recording<S> {
 
     type Reply = S::Reply;
 
-    ghost use Rattle.sequential.specs.Replies.{AreRepliesOf, fronts_of, empty_of, total_of, determined_of};
+    ghost use Rattle.sequential.specs.Replies.{AreRepliesOf};
+    ghost use Rattle.sequential.proofs.Replies.{fronts_of, empty_of, total_of, determined_of};
 
     ghost sessions = { λ r. r.sessions };
 
@@ -71,7 +72,7 @@ impl<S: Stepping> Sequential for Recording<S> {
 
     ghost is_legal = { AreRepliesOf S.reply_to };
 
-    ghost agree = { λ reply other. reply ≡ other };
+    ghost agree = { λ _ reply other. reply ≡ other };
 
     ghost any_call = { S.any_call };
 
@@ -99,6 +100,8 @@ impl<S: Stepping> Sequential for Recording<S> {
 impl<S: Stepping> Serving for Recording<S> {
     ghost goes_first = { S.goes_first };
 
+    ghost tells_from = { λ _ _. Unit {0} };
+
     fn goes_first(call: &S::Call) -> bool {
         S::goes_first(call)
     }
@@ -116,6 +119,12 @@ impl<S: Stepping> Serving for Recording<S> {
     }
 }
 
+impl<S: Stepping> Batching for Recording<S> {
+    fn serve_batch(&mut self, items: &mut [Item<S::Call, S::Reply>]) -> usize {
+        serve_each(self, items)
+    }
+}
+
 impl<S: Stepping> Trimming for Recording<S> {
     type Line = Entry<S::Call, S::Reply>;
 
@@ -124,6 +133,8 @@ impl<S: Stepping> Trimming for Recording<S> {
     ghost lines = { λ history. history };
 
     fn kept_from(&self) -> u64 {
+        // the length of the history fits into 64 bits
+        let _count = self.history.count();
         self.history.first_kept()
     }
 

@@ -1,3 +1,5 @@
 pub mod Members
 pub mod SessionCalls
 pub mod Batches
+pub mod Replies
+pub mod Ranges

@@ -3,3 +3,4 @@ pub mod Meaning
 pub mod Batches
 pub mod Replies
 pub mod EndedWaits
+pub mod Linearizable

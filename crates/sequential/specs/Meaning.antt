@@ -11,4 +11,4 @@ AreFrontsLegal {O} {C} {R} obj = (front rest : List (Entry C R)) → obj.is_lega
 abbrev pub AreRepliesDetermined : {O C R : Type 0} → Ghosts O C R → Type 0
 AreRepliesDetermined {O} {C} {R} obj = (front : List (Entry C R)) (session : ℕ) (call : C) (reply other : R) →
     obj.is_legal (front ++ record { session = session; call = call; reply = reply } ∷ [])
-    → obj.is_legal (front ++ record { session = session; call = call; reply = other } ∷ []) → obj.agree reply other
+    → obj.is_legal (front ++ record { session = session; call = call; reply = other } ∷ []) → obj.agree call reply other

@@ -31,8 +31,8 @@ pub trait Sequential: Drop {
     // The history is one that the object can have.
     ghost is_legal: { List (EntryValue Self.Call Self.Reply) → Type 0 };
 
-    // Two replies to one call at one place count as the same. For most objects this is equality.
-    ghost agree: { Self.Reply → Self.Reply → Type 0 };
+    // Two replies to this call at one place count as the same. For most objects this is equality.
+    ghost agree: { Self.Call → Self.Reply → Self.Reply → Type 0 };
 
     // A call and a reply that stand where there is none, and on which nothing relies.
     ghost any_call: { Self.Call };
@@ -66,5 +66,5 @@ pub trait Sequential: Drop {
     // The reply to a call is determined by the calls before it: any two that are legal there agree.
     ghost determined: { (front : List (EntryValue Self.Call Self.Reply)) (session : ℕ) (call : Self.Call) (reply other : Self.Reply) →
         is_legal (front ++ record { session = session; call = call; reply = reply } ∷ [])
-        → is_legal (front ++ record { session = session; call = call; reply = other } ∷ []) → agree reply other };
+        → is_legal (front ++ record { session = session; call = call; reply = other } ∷ []) → agree call reply other };
 }

@@ -1,10 +1,10 @@
 //! A sequential object that keeps what it has answered in memory, hands it out, and lets go of it.
 
-ghost use Rattle.std.specs.Prelude.{◌≡◌, ◌+◌, ◌-◌, ◌<◌, ◌≤◌, List, ◌++◌, [], min, length};
+ghost use Rattle.std.specs.Prelude.{◌≡◌, ◌+◌, ◌-◌, ◌^◌, ◌<◌, ◌≤◌, List, ◌++◌, [], min, length};
 ghost use Rattle.trimmed_list.specs.Kept.{first_kept, kept};
 ghost use Rattle.sequential.specs.declared.entry.Entry.{Entry as EntryValue};
 
-use crate::serving::Serving;
+use crate::batching::Batching;
 use std::alloc::Global;
 use trimmed_list::MOST_DROPPED;
 
@@ -13,7 +13,7 @@ use trimmed_list::MOST_DROPPED;
 ///
 /// What is written down need not be the entries themselves: an object whose calls are programs of calls writes down the calls
 /// that its programs made. As the history grows, so does what is written down, at its end.
-pub trait Trimming: Serving {
+pub trait Trimming: Batching {
     /// What the object writes down.
     type Line: Copy;
 
@@ -23,7 +23,8 @@ pub trait Trimming: Serving {
     /// The place of the first line that is kept.
     fn kept_from(&self) -> u64
         ensures place { result ≡ first_kept (Self.cut self.now) (Self.bound self.now) (length (lines (Self.history self.now))) }
-        ensures within { result ≤ length (lines (Self.history self.now)) };
+        ensures within { result ≤ length (lines (Self.history self.now)) }
+        ensures few { length (lines (Self.history self.now)) < 2 ^ 64 };
 
     /// The lines that are kept, oldest first.
     fn kept(&self) -> &[Self::Line]

@@ -1,17 +1,18 @@
 -- The ages of publication records, and what a clean-up may take off the publication list.
 use Rattle.std.specs.Prelude.{◌≡◌, ◌⊎◌, ℕ, ◌+◌, ◌-◌, ◌<◌, List, [], ◌∷◌, map, drop, slice_index, slice_set}
-use Rattle.lock_rules.specs.Entries.{Entry}
-use Rattle.lock_desk.specs.Batches.{Item}
+use Rattle.sequential.specs.declared.entry.Entry.{Entry}
+use Rattle.sequential.specs.declared.entry.Item.{Item}
 use Rattle.publication.specs.List.{IsOn, first_of}
 use Rattle.combining.specs.declared.clean_up.TheConstants.{PASSES_KEPT}
 
--- The sessions of these items, in order.
-abbrev pub sessions_of : List Item → List ℕ
-sessions_of items = map (λ item. item.session) items
+module _ {C R : Type 0} where
+  -- The sessions of these items, in order.
+  abbrev pub sessions_of : List (Item C R) → List ℕ
+  sessions_of items = map (λ item. item.session) items
 
--- The sessions of the entries behind the first `known` ones, in order.
-abbrev pub sessions_since : ℕ → List Entry → List ℕ
-sessions_since known front = map (λ entry. entry.session) (drop known front)
+  -- The sessions of the entries behind the first `known` ones, in order.
+  abbrev pub sessions_since : ℕ → List (Entry C R) → List ℕ
+  sessions_since known front = map (λ entry. entry.session) (drop known front)
 
 -- The ages after pass `passes` served these sessions: the pass becomes the age of each of them, and all other ages
 -- stay.

@@ -1,30 +1,28 @@
 -- A combiner that performs a call of its own, without its record.
 use Rattle.std.specs.Prelude.{◌≡◌, ℕ, ◌+◌, Bool, cond, List, [], ◌∷◌, ◌++◌, length}
-use Rattle.lock_rules.specs.declared.calls.Call.{Call}
-use Rattle.lock_rules.specs.declared.calls.Reply.{Reply}
-use Rattle.lock_rules.specs.Entries.{Entry}
-use Rattle.publication.specs.Views.{entry, answer}
-use Rattle.lock_board.specs.LockBoards.{TicketView}
+use Rattle.sequential.specs.declared.entry.Entry.{Entry}
+use Rattle.publication.specs.Views.{TicketView, entry, answer}
 
--- The call was performed and entered directly: its entry is the last one, and its answer is collected.
-pub record IsOwnEntered (before after : TicketView) (call : Call) (place : ℕ) (reply : Reply) : Type 0 where
-  pub session : after ≡ record before {
-    front = before.front ++ entry before.number call reply ∷ [];
-    collected = before.collected ++ answer place call reply ∷ [];
-  }
-  pub place_is : place ≡ length before.front
+module _ {C R : Type 0} where
+  -- The call was performed and entered directly: its entry is the last one, and its answer is collected.
+  pub record IsOwnEntered (before after : TicketView C R) (call : C) (place : ℕ) (reply : R) : Type 0 where
+    pub session : after ≡ record before {
+      front = before.front ++ entry before.number call reply ∷ [];
+      collected = before.collected ++ answer place call reply ∷ [];
+    }
+    pub place_is : place ≡ length before.front
 
--- A pass in which the combiner performed this call, and `served` calls that were published: ahead of it or behind it.
-pub record IsPassWithOwn (first : Bool) (before after : TicketView) (call : Call) (place : ℕ) (reply : Reply) (served : ℕ) : Type 0 where
-  pub session : after ≡ record before {
-    front = after.front;
-    collected = before.collected ++ answer place call reply ∷ [];
-    route = after.route;
-    put_backs = after.put_backs;
-  }
-  pub ahead : List Entry
-  pub behind : List Entry
-  pub front : after.front ≡ (before.front ++ ahead) ++ entry before.number call reply ∷ behind
-  pub place_is : place ≡ length (before.front ++ ahead)
-  pub count : length ahead + length behind ≡ served
-  pub order : cond first ahead behind ≡ []
+  -- A pass in which the combiner performed this call, and `served` calls that were published: ahead of it or behind it.
+  pub record IsPassWithOwn (first : Bool) (before after : TicketView C R) (call : C) (place : ℕ) (reply : R) (served : ℕ) : Type 0 where
+    pub session : after ≡ record before {
+      front = after.front;
+      collected = before.collected ++ answer place call reply ∷ [];
+      route = after.route;
+      put_backs = after.put_backs;
+    }
+    pub ahead : List (Entry C R)
+    pub behind : List (Entry C R)
+    pub front : after.front ≡ (before.front ++ ahead) ++ entry before.number call reply ∷ behind
+    pub place_is : place ≡ length (before.front ++ ahead)
+    pub count : length ahead + length behind ≡ served
+    pub order : cond first ahead behind ≡ []

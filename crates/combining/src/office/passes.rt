@@ -1,19 +1,20 @@
-//! What every way to serve has in common: the pass of a session, up to where it gives the lock table back, and its end.
+//! What every way to serve has in common: the pass of a session, up to where it gives the object back, and its end.
 
 ghost use Rattle.std.specs.Prelude.{◌≡◌, ◌≢◌, ◌+◌, ◌<◌, ◌≤◌, ◌↔◌, [], true, false, IsTrue, None, IfSome, IfNone, length};
 ghost use Rattle.sequential.specs.Histories.{calls_of};
-ghost use Rattle.lock_board.specs.LockBoards.{IsHome};
+ghost use Rattle.publication.specs.Rule.{IsHome};
 ghost use Rattle.publication.specs.Boards.{IsOf, OpensNone, HasCallsOf, heard_from};
 ghost use Rattle.combining.specs.Sessions.{IsSessionOf, IsPendingServed, HasTriedToList};
 ghost use Rattle.combining.specs.inner.Passes.{HasMadePass};
 
 use crate::office::{Office, Turn};
 use crate::pass::{MadePass, serve_published};
-use lock_board::Ticket as Session;
+use publication::Ticket as Session;
+use sequential::Batching;
 
-impl Office {
+impl<O: Batching> Office<O> {
     /// Tries once to have the session's pending call listed, if it has one that isn't.
-    fn enlist(&self, session: &mut Session)
+    fn enlist(&self, session: &mut Session<O>)
         requires ours { IsSessionOf self.now session.old }
         ensures ours { IsSessionOf self.now session.new }
         ensures tried { HasTriedToList session.old session.new }
@@ -25,12 +26,12 @@ impl Office {
     }
 
     /// Has the session's call listed, tries once to become the combiner, and if it does, makes a pass. The session then has
-    /// the lock table.
+    /// the object.
     #[inline(always)]
-    pub(crate) fn make_pass(&self, session: &mut Session) -> Option<MadePass>
+    pub(crate) fn make_pass(&self, session: &mut Session<O>) -> Option<MadePass<O>>
         requires ours { IsSessionOf self.now session.old }
         ensures ours { IsOf self.now session.new }
-        ensures made { IfSome result (λ made. HasMadePass self.now.sessions session.old session.new made.load.value made.pass.served) }
+        ensures made { IfSome result (λ made. HasMadePass O.Sequential O.tells_from self.now.sessions session.old session.new made.load.value made.pass.served) }
         ensures has { IfSome result (λ made. (session.new.has_object ≡ true) × (session.new.taken ≡ made.load.value.pieces.items)) }
         ensures back { IfSome result (λ _. OpensNone session.new × (session.new.pending ≢ None → session.new.retired ≡ false)) }
         ensures none { IfNone result (IsSessionOf self.now session.new × HasTriedToList session.old session.new × (1 < self.now.sessions)) }
@@ -47,11 +48,11 @@ impl Office {
         Some(MadePass { pass, load })
     }
 
-    /// Gives the lock table back after a pass.
-    pub(crate) fn end_pass(&self, session: &mut Session, made: MadePass) -> Turn
+    /// Gives the object back after a pass.
+    pub(crate) fn end_pass(&self, session: &mut Session<O>, made: MadePass<O>) -> Turn
         requires ours { IsOf self.now session.old × (session.old.has_object ≡ true) × OpensNone session.old }
         requires live { session.old.pending ≢ None → session.old.retired ≡ false }
-        requires home { IsHome session.old.front (self.now.sessions + 1) made.load.value }
+        requires home { IsHome O.Sequential session.old.front (self.now.sessions + 1) made.load.value }
         requires taken { session.old.taken ≡ made.load.value.pieces.items }
         ensures ours { IsSessionOf self.now session.new }
         ensures session { session.new ≡ record session.old { has_object = false; route = []; taken = [] } }

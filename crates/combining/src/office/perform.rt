@@ -9,51 +9,51 @@ ghost use Rattle.combining.specs.Ended.{AreToldBy};
 use crate::ended::Ended;
 use crate::office::{Answer, Office};
 use crate::own_call::{serve_with_own, serve_with_own_telling};
-use lock_board::Ticket as Session;
-use lock_desk::Call;
+use publication::Ticket as Session;
+use sequential::{Batching, Telling};
 
 /// The outcome of one call of `perform`.
 #[derive(Clone, Copy, Debug, PartialEq, Eq)]
-pub enum Performed {
+pub enum Performed<R> {
     /// The session was the combiner: it performed the call, and made a pass.
     Answered {
         /// The place of the call's entry in the history, and the reply.
-        answer: Answer,
+        answer: Answer<R>,
         /// How many published calls the pass served.
         served: u32,
         /// Whether the pass put published calls back, because memory was refused for one.
         starved: bool,
     },
-    /// The session did not become the combiner, because another session had the lock table. Proved is that the office
-    /// has more than one session; that another one had the lock table is tested, not proved.
+    /// The session did not become the combiner, because another session had the object. Proved is that the office
+    /// has more than one session; that another one had the object is tested, not proved.
     Elsewhere,
     /// The session was the combiner and made a pass, but memory was refused for the call, which was not performed. That
     /// memory was refused is tested, not proved.
     Starved,
 }
 
-impl Office {
+impl<O: Batching> Office<O> {
     /// Tries once to become the combiner, and if it does, performs the call at once and makes a pass, as `serve` does. The
     /// call is not published: its entry joins the history and its answer is collected at one step, and the session's
-    /// record stays as it is. A call that makes room is performed ahead of the published calls, any other call behind
+    /// record stays as it is. A call that goes first is performed ahead of the published calls, any other call behind
     /// them.
     ///
     /// `Elsewhere`: nothing changed, and the call may be published instead. `Starved`: the call is not in the history, and
     /// may be performed again or published. The session is idle again in each case. Reports no ended waits: if threads sleep
     /// until a pass tells of them, use `perform_telling` everywhere.
-    pub fn perform(&self, session: &mut Session, call: Call) -> Performed
+    pub fn perform(&self, session: &mut Session<O>, call: O::Call) -> Performed<O::Reply>
         requires ours { IsSessionOf self.now session.old }
         requires idle { IsIdle session.old }
         ensures ours { IsSessionOf self.now session.new }
         ensures idle { IsIdle session.new }
         ensures answered { (answer : _) (served : _) (starved : _) → result ≡ Performed.Answered answer served starved
-            → IsPerformed session.old session.new call answer.place answer.reply served }
+            → IsPerformed O.Sequential (O.goes_first call) session.old session.new call answer.place answer.reply served }
         ensures put_back { (answer : _) (served : _) (starved : _) → result ≡ Performed.Answered answer served starved
             → IsTrue starved ↔ (session.old.put_backs < session.new.put_backs) }
         ensures heard { (answer : _) (served j : _) → result ≡ Performed.Answered answer served false → 0 < j → j ≤ self.now.sessions
             → heard_from session.old j ≤ length (calls_of j session.new.front) }
         ensures elsewhere { result ≡ Performed.Elsewhere → (session.new ≡ session.old) × (1 < self.now.sessions) }
-        ensures refused { result ≡ Performed.Starved → IsRefused session.old session.new }
+        ensures refused { result ≡ Performed.Starved → IsRefused O.Sequential session.old session.new }
         ensures calls { HasCallsOf session.new.front session.new }
     {
         let Some(mut load) = self.board.seize(session) else {
@@ -70,30 +70,36 @@ impl Office {
             None => Performed::Starved,
         }
     }
+}
 
-    /// Performs as `perform` does, and tells whose wait the pass and the call have ended, as `serve_telling` tells it of a pass:
-    /// the sessions whose waiting request one of these calls granted, or whose transaction it made a deadlock victim, but not
-    /// that of the call itself. Each is told once. `ended` is empty afterwards if the session did not become the combiner.
+impl<O: Telling> Office<O> {
+    /// Performs as `perform` does, and tells whose wait the pass and the call have ended, as `serve_telling` tells it of a pass.
+    /// Each session is told once. `ended` is empty afterwards if the session did not become the combiner.
     ///
     /// `ended` has room for all sessions of the office, so that the call takes no memory beyond what `perform` takes.
-    pub fn perform_telling(&self, session: &mut Session, call: Call, ended: &mut Ended) -> Performed
+    pub fn perform_telling(
+        &self,
+        session: &mut Session<O>,
+        call: O::Call,
+        ended: &mut Ended,
+    ) -> Performed<O::Reply>
         requires ours { IsSessionOf self.now session.old }
         requires idle { IsIdle session.old }
         requires room { self.now.sessions ≤ ended.old.room }
         ensures ours { IsSessionOf self.now session.new }
         ensures idle { IsIdle session.new }
         ensures answered { (answer : _) (served : _) (starved : _) → result ≡ Performed.Answered answer served starved
-            → IsPerformed session.old session.new call answer.place answer.reply served }
+            → IsPerformed O.Sequential (O.goes_first call) session.old session.new call answer.place answer.reply served }
         ensures put_back { (answer : _) (served : _) (starved : _) → result ≡ Performed.Answered answer served starved
             → IsTrue starved ↔ (session.old.put_backs < session.new.put_backs) }
         ensures heard { (answer : _) (served j : _) → result ≡ Performed.Answered answer served false → 0 < j → j ≤ self.now.sessions
             → heard_from session.old j ≤ length (calls_of j session.new.front) }
         ensures elsewhere { result ≡ Performed.Elsewhere → (session.new ≡ session.old) × (1 < self.now.sessions) }
-        ensures refused { result ≡ Performed.Starved → IsRefused session.old session.new }
+        ensures refused { result ≡ Performed.Starved → IsRefused O.Sequential session.old session.new }
         ensures calls { HasCallsOf session.new.front session.new }
         ensures told { (answer : _) (served : _) (starved : _) → result ≡ Performed.Answered answer served starved
-            → AreToldBy self.now.sessions (served + 1) session.new.front ended.new.list }
-        ensures told_refused { result ≡ Performed.Starved → (served : ℕ) × AreToldBy self.now.sessions served session.new.front ended.new.list }
+            → AreToldBy O.ends self.now.sessions (served + 1) session.new.front ended.new.list }
+        ensures told_refused { result ≡ Performed.Starved → (served : ℕ) × AreToldBy O.ends self.now.sessions served session.new.front ended.new.list }
         ensures none { result ≡ Performed.Elsewhere → ended.new.list ≡ [] }
         ensures room { ended.new.room ≡ ended.old.room }
     {

@@ -37,9 +37,9 @@ module _ {C R : Type 0} where
 
 module _ {O C R : Type 0} (obj : Ghosts O C R) where
   -- The pieces of the history that the sessions in the list took before the object came out of the board.
-  pub record TookHanded (book : O) (handed : List (Handed C R)) : Type 0 where
+  pub record TookHanded (object : O) (handed : List (Handed C R)) : Type 0 where
     pub all : List Piece
-    pub within : All (λ p. (1 ≤ p.session) × (p.session ≤ obj.sessions book)) all
+    pub within : All (λ p. (1 ≤ p.session) × (p.session ≤ obj.sessions object)) all
     pub each : (p : ℕ) (x : Handed C R) → get_elem? handed p ≡ opt.some x → x.pieces ≡ pieces_of x.number all
-    pub in_order : AreInOrder 0 all (obj.cut book)
-    pub in_a_row : obj.bound book ≡ NO_BOUND → AreInARow 0 all (obj.cut book)
+    pub in_order : AreInOrder 0 all (obj.cut object)
+    pub in_a_row : obj.bound object ≡ NO_BOUND → AreInARow 0 all (obj.cut object)

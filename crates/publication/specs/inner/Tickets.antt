@@ -30,7 +30,7 @@ module _ {O C R : Type 0} where
     pub started : m.0.own.started ≡ true
     pub retired : m.0.own.retired ≡ is_retired
     pub pending : is_some m.0.own.pending ≡ is_pending
-    pub book : m.0.combiner.has_object ≡ has_object
+    pub object : m.0.combiner.has_object ≡ has_object
     pub hand : m.0.combiner.hand ≡ 0
     pub listed : m.0.own.listed ≡ is_listed
     pub heard_few : slice_index m.0.heard number ≤ length m.0.own.collected + cond is_pending 1 0
@@ -48,7 +48,7 @@ module _ {C R : Type 0} where
   -- The session is the combiner, and has no record's slot in hand.
   pub record IsCombiner (v : View C R) : Type 0 where
     pub session : v.number ≢ 0
-    pub book : v.combiner.has_object ≡ true
+    pub object : v.combiner.has_object ≡ true
     pub empty : v.combiner.hand ≡ 0
 
 -- A table with one record and one slot for the lock and for each session.

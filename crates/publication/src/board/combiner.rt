@@ -23,14 +23,14 @@ impl<O: Sequential> Board<O> {
     pub fn seize(&self, ticket: &mut Ticket<O>) -> Option<Box<Load<O>>>
         requires ours { IsOf self.now ticket.old }
         ensures ticket { IfSome result (λ load. ticket.new ≡ record ticket.old {
-          front = O.history load.value.book;
+          front = O.history load.value.object;
           has_object = true;
           taken = load.value.pieces.items;
         }) }
-        ensures home { IfSome result (λ load. IsHome O.Sequential (O.history load.value.book) (self.now.sessions + 1) load.value) }
-        ensures legal { IfSome result (λ load. O.is_legal (O.history load.value.book)) }
-        ensures short { IfSome result (λ load. length (O.history load.value.book) < 2 ^ 64) }
-        ensures longer { IfSome result (λ load. IsPrefix ticket.old.front (O.history load.value.book)) }
+        ensures home { IfSome result (λ load. IsHome O.Sequential (O.history load.value.object) (self.now.sessions + 1) load.value) }
+        ensures legal { IfSome result (λ load. O.is_legal (O.history load.value.object)) }
+        ensures short { IfSome result (λ load. length (O.history load.value.object) < 2 ^ 64) }
+        ensures longer { IfSome result (λ load. IsPrefix ticket.old.front (O.history load.value.object)) }
         ensures lacked { IfSome result (λ _. ticket.old.has_object ≡ false) }
         ensures pieces { IfSome result (λ load. ticket.old.pieces ≡ pieces_of ticket.old.number load.value.pieces.items) }
         ensures untaken { IfSome result (λ _. ticket.old.taken ≡ []) }
@@ -46,7 +46,7 @@ impl<O: Sequential> Board<O> {
             u64::from(ticket.number),
         )?;
         ticket.has_object = true;
-        ticket.seen = load.book.served();
+        ticket.seen = load.object.served();
         Some(load)
     }
 

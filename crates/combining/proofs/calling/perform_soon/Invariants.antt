@@ -3,7 +3,7 @@ use Rattle.combining.proofs.calling.perform_soon.Given as goal
 
 -- Nothing has changed, and the session has lost a try for the lock table if it made one.
 abbrev pub invariant-loop-tried : goal.invariant-loop-tried
-invariant-loop-tried l = record {
+invariant-loop-tried g l = record {
   same : l.session ≡ l.initial.session;
   others : 0 < l.tried → 1 < l.office.sessions;
 }

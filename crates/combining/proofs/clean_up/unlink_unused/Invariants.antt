@@ -6,7 +6,7 @@ use Rattle.combining.specs.inner.Ages.{IsCleaned}
 use Rattle.combining.proofs.clean_up.unlink_unused.Given as goal
 
 abbrev pub invariant-loop-next : goal.invariant-loop-next
-invariant-loop-next l = record {
+invariant-loop-next g l = record {
   same : l.session ≡ record l.initial.session { route = l.session.route };
   route : IsRoute (l.board.sessions + 1) l.session.route;
   before : IsNumber l.board l.before × IsOn l.before l.session.route;
@@ -15,4 +15,4 @@ invariant-loop-next l = record {
 }
 
 abbrev pub decreases-loop-next : goal.decreases-loop-next
-decreases-loop-next l = length (behind l.before l.session.route)
+decreases-loop-next g l = length (behind l.before l.session.route)

@@ -1,20 +1,30 @@
-use Rattle.std.proofs.Common.{arith}
-use Rattle.publication.proofs.Histories.{calls-fewer}
+use Rattle.std.proofs.Common.{false, ℕ}
+use Rattle.combining.specs.inner.OwnCalls.{IsOwnEntered, IsPassWithOwn}
 use Rattle.combining.proofs.EndedWaits.{steps-told}
-use Rattle.combining.proofs.OwnCalls.{entered-longer}
+use Rattle.combining.proofs.OwnCalls.{some_weaker, own_last, entered-longer, served-last}
 use Rattle.combining.proofs.own_call.serve_own_last_telling.Goals as goal
 
-pub returns-clause-heard : goal.returns-clause-heard
-returns-clause-heard c unstarved j some few =
+pub returns-clause-performed : goal.returns-clause-performed
+returns-clause-performed g c =
+    let before = c.args.session.now in
     let own = c.perform_own_telling-answer in
     let pass = c.serve_published_telling-pass in
-    let grows = entered-longer pass.new.session own.new.session c.args.call own.result own.ensures.some own.ensures.none in
-    omega (arith, pass.ensures.heard unstarved j some few, calls-fewer j pass.new.session.front own.new.session.front grows)
+    let call = c.args.call in
+    let served = pass.result.served in
+    some_weaker own.result (λ (r : ℕ × _). IsOwnEntered pass.new.session own.new.session call r.0 r.1) (λ (r : ℕ × _). IsPassWithOwn false before own.new.session call r.0 r.1 served)
+    (λ (r : ℕ × _) is. own_last before pass.new.session own.new.session call r.0 r.1 served pass.ensures.session pass.ensures.served.longer pass.ensures.count is) own.ensures.some
+
+pub returns-clause-served : goal.returns-clause-served
+returns-clause-served g c =
+    let own = c.perform_own_telling-answer in
+    let pass = c.serve_published_telling-pass in
+    served-last c.args.board.now.sessions c.args.session.now pass.new.session own.new.session c.args.call own.result c.args.load.now pass.new.load own.new.load pass.result.starved
+    own.ensures.some own.ensures.none own.ensures.taken pass.ensures.served
 
 pub returns-clause-ended : goal.returns-clause-ended
-returns-clause-ended c =
+returns-clause-ended g c =
     let before = c.args.session.now in
     let own = c.perform_own_telling-answer in
     let pass = c.serve_published_telling-pass in
     steps-told c.args.board.now.sessions before.front pass.new.session.front own.new.session.front c.args.ended.now pass.new.ended own.new.ended
-    pass.ensures.longer (entered-longer pass.new.session own.new.session c.args.call own.result own.ensures.some own.ensures.none) pass.ensures.ended own.ensures.ended
+    pass.ensures.served.longer (entered-longer pass.new.session own.new.session c.args.call own.result own.ensures.some own.ensures.none) pass.ensures.ended own.ensures.ended

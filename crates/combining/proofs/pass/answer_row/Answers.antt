@@ -1,37 +1,37 @@
 use Rattle.std.proofs.Common.{rules, ◌≤◌, List, length, take, refl, subst, arith}
 use Rattle.std.proofs.Math.ListN.{drop_of_length-le}
-use Rattle.lock_desk.specs.Batches.{Item}
+use Rattle.sequential.specs.declared.entry.Item.{Item}
 use Rattle.publication.proofs.Lists.{prefix_trans}
-use Rattle.combining.specs.inner.Passes.{IsBookInHand}
+use Rattle.combining.specs.inner.Passes.{IsObjectInHand}
 use Rattle.combining.proofs.CallsToServe.{answered, keeps-trans}
 use Rattle.combining.proofs.PerformedCalls.{answerable-at, answered-at, all-entered}
 use Rattle.combining.proofs.pass.answer_row.Goals as goal
 
 pub unreachable-requires : goal.unreachable-requires
-unreachable-requires c =
+unreachable-requires g c =
     let row = take c.args.served c.args.row.now in
-    let next = answerable-at c.args.board.now.sessions c.args.book.now c.loop-item.session row c.loop-item.item-index c.item-item.result c.loop-item-test.true c.item-item.is c.history-length.ensures.legal c.loop-item.invariant.book in
+    let next = answerable-at g.met.O.Sequential.fronts c.args.board.now.sessions c.args.object.now c.loop-item.session row c.loop-item.item-index c.item-item.result c.loop-item-test.true c.item-item.is c.served-served.ensures.legal c.loop-item.invariant.object in
     c.in_default.not-Some next.reply next.told
 
 pub answer-requires-clause-legal : goal.answer-requires-clause-legal
-answer-requires-clause-legal c =
+answer-requires-clause-legal g c =
     let t = c.loop-item.session in
     let i = c.item-item.result in
-    (answered-at c.args.board.now.sessions c.args.book.now t (answered t i.session c.in-Some.reply) c.args.row.now c.args.served c.loop-item.item-index i c.in-Some.reply
-    c.requires.served c.loop-item-test.true c.item-item.is c.in-Some.is c.history-length.ensures.legal c.loop-item.invariant.book c.loop-item.invariant.row refl).legal
+    (answered-at g.met.O.Sequential.fronts c.args.board.now.sessions c.args.object.now t (answered g.O.Sequential t i.session c.in-Some.reply) c.args.row.now c.args.served c.loop-item.item-index i c.in-Some.reply
+    c.requires.served c.loop-item-test.true c.item-item.is c.in-Some.is c.served-served.ensures.legal c.loop-item.invariant.object c.loop-item.invariant.row refl).legal
 
 pub loop-item-preserved : goal.loop-item-preserved
-loop-item-preserved c =
+loop-item-preserved g c =
     let before = c.args.session.now in
     let t = c.loop-item.session in
     let u = c.answer.new.ticket in
     let i = c.loop-item.invariant in
-    let next = answered-at c.args.board.now.sessions c.args.book.now t u c.args.row.now c.args.served c.loop-item.item-index c.item-item.result c.in-Some.reply
-    c.requires.served c.loop-item-test.true c.item-item.is c.in-Some.is c.history-length.ensures.legal i.book i.row c.answer.ensures.ticket in
+    let next = answered-at g.met.O.Sequential.fronts c.args.board.now.sessions c.args.object.now t u c.args.row.now c.args.served c.loop-item.item-index c.item-item.result c.in-Some.reply
+    c.requires.served c.loop-item-test.true c.item-item.is c.in-Some.is c.served-served.ensures.legal i.object i.row c.answer.ensures.ticket in
     record {
       same = search rules;
       short = i.short;
-      book = next.book_is;
+      object = next.book_is;
       row = next.row_is;
       longer = prefix_trans before.front t.front u.front i.longer next.longer;
       entries = search rules;
@@ -39,9 +39,9 @@ loop-item-preserved c =
     }
 
 pub returns-clause-whose : goal.returns-clause-whose
-returns-clause-whose c =
+returns-clause-whose g c =
     let n = c.args.board.now.sessions in
-    let row : List Item = take c.args.served c.args.row.now in
+    let row : List (Item _ _) = take c.args.served c.args.row.now in
     let all : length row ≤ c.loop-item.item-index = omega arith in
-    let done = subst (λ (l : List Item). IsBookInHand n c.args.book.now c.loop-item.session l) (drop_of_length-le row all) c.loop-item.invariant.book in
-    all-entered n c.args.book.now c.args.session.now c.loop-item.session row c.requires.book done
+    let done = subst (λ (l : List (Item _ _)). IsObjectInHand g.O.Sequential n c.args.object.now c.loop-item.session l) (drop_of_length-le row all) c.loop-item.invariant.object in
+    all-entered n c.args.object.now c.args.session.now c.loop-item.session row c.requires.object done

@@ -1,5 +1,5 @@
 use Rattle.std.proofs.Common.{◌≡◌, ◌+◌, ◌∙◌, ℕ, Option, List, sym, ap, subst, arith}
-use Rattle.lock_board.specs.LockBoards.{TicketView}
+use Rattle.publication.specs.Views.{TicketView}
 use Rattle.publication.specs.List.{IsOn, first_of, behind}
 use Rattle.publication.specs.Kinds.{IsRoute}
 use Rattle.combining.specs.inner.Passes.{AreOpened, KeepsCalls, HasVisitedOpened, IsSameSession, IsNext, HasMet}
@@ -9,28 +9,28 @@ use Rattle.combining.proofs.Walks.{met-next, next-on, ahead-smaller}
 use Rattle.combining.proofs.pass.open_walked.Goals as goal
 
 pub open_record-requires-clause-whose : goal.open_record-requires-clause-whose
-open_record-requires-clause-whose c =
+open_record-requires-clause-whose g c =
     let i = c.loop-next.invariant in
     let on : IsOn c.in-Some.whose c.loop-next.session.route = subst (λ (n : Option ℕ). IsNext n c.loop-next.session.route) c.in-Some.is i.next in
     let w = i.route.within c.in-Some.whose on in record { some = w.0; few = omega (arith, w.1) }
 
 pub walk-next-requires-clause-on : goal.walk-next-requires-clause-on
-walk-next-requires-clause-on c =
+walk-next-requires-clause-on g c =
     let i = c.loop-next.invariant in
     let on : IsOn c.in-Some.whose c.loop-next.session.route = subst (λ (n : Option ℕ). IsNext n c.loop-next.session.route) c.in-Some.is i.next in
     let w = i.route.within c.in-Some.whose on in
     (record { some = w.0; few = omega (arith, w.1) }, subst (λ (r : List ℕ). IsOn c.in-Some.whose r) (sym c.open_record.ensures.session.2) on)
 
 pub loop-next-smaller : goal.loop-next-smaller
-loop-next-smaller c =
+loop-next-smaller g c =
     let i = c.loop-next.invariant in
     let w = c.walk-next.ensures.next in
     let kept = c.open_record.ensures.session.2 in
     ahead-smaller c.loop-next.next c.walk-next.result c.loop-next.session.route c.walk-next.new.ticket.route c.in-Some.whose i.route.apart c.in-Some.is
-    (w.1 ∙ ap (λ (r : List ℕ). first_of (behind c.in-Some.whose r)) kept) (ap (λ (x : TicketView). x.route) w.0 ∙ kept)
+    (w.1 ∙ ap (λ (r : List ℕ). first_of (behind c.in-Some.whose r)) kept) (ap (λ (x : TicketView _ _). x.route) w.0 ∙ kept)
 
 pub loop-next-preserved : goal.loop-next-preserved
-loop-next-preserved c =
+loop-next-preserved g c =
     let i = c.loop-next.invariant in
     let q = c.in-Some.whose in
     let before = c.args.session.now in
@@ -46,15 +46,15 @@ loop-next-preserved c =
     let met : HasMet (first_of (behind q t.route)) u =
     met-next q t u i.route.apart kept (λ j. visited-later t u j e.calls e.session.0) e.met (subst (λ (m : Option ℕ). HasMet m t) c.in-Some.is i.met) in record {
       same = (
-        subst (λ (x : TicketView). IsSameSession before x) (sym same) (same_session-trans before t u i.same.0 e.session.0),
-        ap (λ (x : TicketView). x.front) same ∙ (e.session.1 ∙ i.same.1),
+        subst (λ (x : TicketView _ _). IsSameSession before x) (sym same) (same_session-trans before t u i.same.0 e.session.0),
+        ap (λ (x : TicketView _ _). x.front) same ∙ (e.session.1 ∙ i.same.1),
       );
-      route = subst (λ (r : List ℕ). IsRoute (n + 1) r) (sym (ap (λ (x : TicketView). x.route) same ∙ kept)) i.route;
-      next = subst (λ (m : Option ℕ). IsNext m v.route) (sym next) (subst (λ (r : List ℕ). IsNext (first_of (behind q t.route)) r) (sym (ap (λ (x : TicketView). x.route) same ∙ kept)) (next-on q t.route));
-      row = subst (λ (x : TicketView). AreOpened n x.opened c.open_record.new.row.items) (sym same) e.row;
+      route = subst (λ (r : List ℕ). IsRoute (n + 1) r) (sym (ap (λ (x : TicketView _ _). x.route) same ∙ kept)) i.route;
+      next = subst (λ (m : Option ℕ). IsNext m v.route) (sym next) (subst (λ (r : List ℕ). IsNext (first_of (behind q t.route)) r) (sym (ap (λ (x : TicketView _ _). x.route) same ∙ kept)) (next-on q t.route));
+      row = subst (λ (x : TicketView _ _). AreOpened n x.opened c.open_record.new.row.items) (sym same) e.row;
       room = e.room;
-      calls = subst (λ (x : TicketView). KeepsCalls before x) (sym same) (keeps-trans before t u i.calls e.calls);
-      visited = subst (λ (x : TicketView). HasVisitedOpened x) (sym same) e.visited;
-      met = subst (λ (m : Option ℕ). HasMet m v) (sym next) (subst (λ (x : TicketView). HasMet (first_of (behind q t.route)) x) (sym same) met);
-      kept = ap (λ (x : TicketView). x.route) same ∙ (kept ∙ i.kept);
+      calls = subst (λ (x : TicketView _ _). KeepsCalls before x) (sym same) (keeps-trans before t u i.calls e.calls);
+      visited = subst (λ (x : TicketView _ _). HasVisitedOpened x) (sym same) e.visited;
+      met = subst (λ (m : Option ℕ). HasMet m v) (sym next) (subst (λ (x : TicketView _ _). HasMet (first_of (behind q t.route)) x) (sym same) met);
+      kept = ap (λ (x : TicketView _ _). x.route) same ∙ (kept ∙ i.kept);
     }

@@ -4,7 +4,7 @@ use Rattle.combining.specs.inner.Passes.{AreOpened, KeepsCalls, HasVisitedOpened
 use Rattle.combining.proofs.pass.open_walked.Given as goal
 
 abbrev pub invariant-loop-next : goal.invariant-loop-next
-invariant-loop-next l = record {
+invariant-loop-next g l = record {
   same : IsSameSession l.initial.session l.session × (l.session.front ≡ l.initial.session.front);
   kept : l.session.route ≡ l.initial.session.route;
   route : IsRoute (l.board.sessions + 1) l.session.route;
@@ -17,4 +17,4 @@ invariant-loop-next l = record {
 }
 
 abbrev pub decreases-loop-next : goal.decreases-loop-next
-decreases-loop-next l = length (ahead l.next l.session.route)
+decreases-loop-next g l = length (ahead l.next l.session.route)

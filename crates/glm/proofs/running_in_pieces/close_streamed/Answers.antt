@@ -1,7 +1,7 @@
 use Rattle.std.proofs.Common.{List, subst, sym}
 use Rattle.std.specs.List.{All}
 use Rattle.lock_board.specs.LockBoards.{TicketView}
-use Rattle.combining.specs.Sessions.{IsSessionOf}
+use Rattle.lock_office.specs.Sessions.{IsSessionOf}
 use Rattle.glm.specs.Streams.{IsNeverRefused}
 use Rattle.glm.proofs.running_in_pieces.close_streamed.Goals as goal
 

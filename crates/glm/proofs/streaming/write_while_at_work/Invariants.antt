@@ -1,5 +1,5 @@
 use Rattle.std.proofs.Common.{◌≡◌}
-use Rattle.combining.specs.Sessions.{IsSessionOf}
+use Rattle.lock_office.specs.Sessions.{IsSessionOf}
 use Rattle.glm.specs.Streams.{IsWrittenUpTo, bare}
 use Rattle.glm.proofs.streaming.write_while_at_work.Given as goal
 

@@ -3,7 +3,7 @@ use Rattle.std.specs.List.{All}
 use Rattle.std.proofs.lemmas.List.Elements.{All-pop, All-push}
 use Rattle.publication.specs.Views.{BoardView}
 use Rattle.lock_board.specs.LockBoards.{TicketView}
-use Rattle.combining.specs.Sessions.{IsSessionOf, IsIdle}
+use Rattle.lock_office.specs.Sessions.{IsSessionOf, IsIdle}
 use Rattle.lock_bench.specs.declared.threads.Job.{Job}
 use Rattle.lock_bench.proofs.threads.deal_out.Goals as goal
 use Rattle.lock_bench.proofs.threads.deal_out.Goals.{then-number-threads+in_ok-map_err, else-number-threads+in_ok-map_err-2}

@@ -1,5 +1,5 @@
 use Rattle.std.specs.List.{All}
-use Rattle.combining.specs.Sessions.{IsSessionOf, IsIdle}
+use Rattle.lock_office.specs.Sessions.{IsSessionOf, IsIdle}
 use Rattle.lock_bench.proofs.threads.deal_out.Given as goal
 
 -- the sessions of each thread so far, and those left, belong to the office and are idle

@@ -1,5 +1,5 @@
 use Rattle.std.specs.List.{All}
-use Rattle.combining.specs.Sessions.{IsSessionOf, IsIdle}
+use Rattle.lock_office.specs.Sessions.{IsSessionOf, IsIdle}
 use Rattle.lock_bench.proofs.threads.work.Given as goal
 
 -- the sessions belong to the office and are idle

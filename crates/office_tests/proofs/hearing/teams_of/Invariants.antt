@@ -1,5 +1,5 @@
 use Rattle.std.specs.Prelude.{All}
-use Rattle.combining.specs.Sessions.{IsSessionOf, IsIdle}
+use Rattle.lock_office.specs.Sessions.{IsSessionOf, IsIdle}
 use Rattle.office_tests.proofs.hearing.teams_of.Given as goal
 
 -- the sessions left and those of the teams belong to the office and are idle

@@ -1,4 +1,4 @@
-use Rattle.combining.specs.Sessions.{IsSessionOf, IsIdle}
+use Rattle.lock_office.specs.Sessions.{IsSessionOf, IsIdle}
 use Rattle.office_tests.proofs.hearing.work.Given as goal
 
 -- both sessions belong to the office and are idle

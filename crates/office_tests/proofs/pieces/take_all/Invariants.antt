@@ -1,4 +1,4 @@
-use Rattle.combining.specs.Sessions.{IsSessionOf}
+use Rattle.lock_office.specs.Sessions.{IsSessionOf}
 use Rattle.office_tests.proofs.pieces.take_all.Given as goal
 
 -- the session belongs to the office

@@ -1,5 +1,5 @@
 use Rattle.std.proofs.Common.{◌≤◌}
-use Rattle.combining.specs.Sessions.{IsSessionOf, IsIdle}
+use Rattle.lock_office.specs.Sessions.{IsSessionOf, IsIdle}
 use Rattle.office_tests.proofs.telling.call_each_noted.Given as goal
 
 -- the session belongs to the office and is idle, and the list has room for all sessions

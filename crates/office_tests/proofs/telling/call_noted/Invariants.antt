@@ -1,5 +1,5 @@
 use Rattle.std.proofs.Common.{◌≡◌}
-use Rattle.combining.specs.Sessions.{IsSessionOf}
+use Rattle.lock_office.specs.Sessions.{IsSessionOf}
 use Rattle.office_tests.proofs.telling.call_noted.Given as goal
 
 -- the session belongs to the office, and the list keeps its room

@@ -1,4 +1,4 @@
-use Rattle.combining.specs.Sessions.{IsSessionOf, IsIdle}
+use Rattle.lock_office.specs.Sessions.{IsSessionOf, IsIdle}
 use Rattle.office_tests.proofs.threads.work_calling.Given as goal
 
 -- the session belongs to the office and is idle

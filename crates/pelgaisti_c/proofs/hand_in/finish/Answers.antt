@@ -2,7 +2,7 @@ use Rattle.std.proofs.Common.{◌∷◌, [], ◌++◌, List, sym, subst, arith}
 use Rattle.std.specs.Prelude.{All}
 use Rattle.std.proofs.lemmas.List.Elements.{All-append, All-cons}
 use Rattle.lock_board.specs.LockBoards.{TicketView}
-use Rattle.combining.specs.Sessions.{HasNothingPending}
+use Rattle.lock_office.specs.Sessions.{HasNothingPending}
 use Rattle.pelgaisti_c.proofs.hand_in.finish.Goals as goal
 
 pub unreachable-requires-in-Err-Unsettled-default-default : goal.unreachable-requires-in-Err-Unsettled-default-default

@@ -2,7 +2,7 @@ use Rattle.std.proofs.Common.{rules, ◌≡◌, [], List, sym, ap, ◌∙◌, su
 use Rattle.std.specs.Prelude.{All}
 use Rattle.publication.specs.Views.{BoardView}
 use Rattle.lock_board.specs.LockBoards.{TicketView}
-use Rattle.combining.specs.Sessions.{IsSessionOf, HasNothingPending}
+use Rattle.lock_office.specs.Sessions.{IsSessionOf, HasNothingPending}
 use Rattle.pelgaisti_c.proofs.office.share_of.Goals as goal
 
 pub invariant_of-share : goal.invariant_of-share

@@ -1,5 +1,5 @@
 use Rattle.std.proofs.Common.{rules, ◌≡◌, ℕ, refl, sym, subst, arith}
-use Rattle.combining.specs.Sessions.{IsPerformed}
+use Rattle.lock_office.specs.Sessions.{IsPerformed}
 use Rattle.combining.specs.declared.office.perform.Performed.TheVariants.{Answered}
 use Rattle.pelgaisti_c.proofs.Starved.{is_one, falls}
 use Rattle.pelgaisti_c.proofs.session_calls.perform_at_once.Goals as goal

@@ -1,6 +1,6 @@
 use Rattle.std.proofs.Common.{rules, ◌≡◌, ◌+◌, ℕ, refl, sym, subst, arith, ◌∙◌}
-use Rattle.combining.specs.Sessions.{IsPerformed}
-use Rattle.combining.specs.Ended.{AreToldBy}
+use Rattle.lock_office.specs.Sessions.{IsPerformed}
+use Rattle.lock_office.specs.Ended.{AreToldBy}
 use Rattle.combining.specs.declared.office.perform.Performed.TheVariants.{Answered}
 use Rattle.pelgaisti_c.proofs.Starved.{is_one, falls}
 use Rattle.pelgaisti_c.proofs.session_calls.perform_telling.Goals.{then-status-ne-ELSEWHERE, else-status-ne-ELSEWHERE}

@@ -36,7 +36,7 @@ returns-clause-sessions g c =
     let xs : List (SlotValue _ _ _) = slots_items closed.result.slots in
     let long : length xs ≡ c.args.table.shared.table_id.slots = search rules in
     (last_load _ xs c.args.closing.id c.args.table.shared.table_id.slots c.args.closing.me.0 closed.ensures.values.2 long c.requires.all
-    c.take-held.result c.take-held.ensures.value c.in-ObjectLoad.load c.in-ObjectLoad.is c.into_inner-book.result c.into_inner-book.ensures).home.sessions
+    c.take-held.result c.take-held.ensures.value c.in-ObjectLoad.load c.in-ObjectLoad.is c.into_inner-object.result c.into_inner-object.ensures).home.sessions
 
 pub returns-clause-legal : goal.returns-clause-legal
 returns-clause-legal g c =
@@ -44,7 +44,7 @@ returns-clause-legal g c =
     let xs : List (SlotValue _ _ _) = slots_items closed.result.slots in
     let long : length xs ≡ c.args.table.shared.table_id.slots = search rules in
     (last_load _ xs c.args.closing.id c.args.table.shared.table_id.slots c.args.closing.me.0 closed.ensures.values.2 long c.requires.all
-    c.take-held.result c.take-held.ensures.value c.in-ObjectLoad.load c.in-ObjectLoad.is c.into_inner-book.result c.into_inner-book.ensures).legal
+    c.take-held.result c.take-held.ensures.value c.in-ObjectLoad.load c.in-ObjectLoad.is c.into_inner-object.result c.into_inner-object.ensures).legal
 
 pub returns-clause-ends : goal.returns-clause-ends
 returns-clause-ends g c =
@@ -52,7 +52,7 @@ returns-clause-ends g c =
     let xs : List (SlotValue _ _ _) = slots_items closed.result.slots in
     let long : length xs ≡ c.args.table.shared.table_id.slots = search rules in
     (last_load _ xs c.args.closing.id c.args.table.shared.table_id.slots c.args.closing.me.0 closed.ensures.values.2 long c.requires.all
-    c.take-held.result c.take-held.ensures.value c.in-ObjectLoad.load c.in-ObjectLoad.is c.into_inner-book.result c.into_inner-book.ensures).ends
+    c.take-held.result c.take-held.ensures.value c.in-ObjectLoad.load c.in-ObjectLoad.is c.into_inner-object.result c.into_inner-object.ensures).ends
 
 pub returns-clause-pieces : goal.returns-clause-pieces
 returns-clause-pieces g c =
@@ -60,9 +60,9 @@ returns-clause-pieces g c =
     let xs : List (SlotValue _ _ _) = slots_items closed.result.slots in
     let slots = c.args.table.shared.table_id.slots in
     let long : length xs ≡ slots = search rules in
-    let load = c.into_inner-book.result in
+    let load = c.into_inner-object.result in
     let last = last_load _ xs c.args.closing.id slots c.args.closing.me.0 closed.ensures.values.2 long c.requires.all
-    c.take-held.result c.take-held.ensures.value c.in-ObjectLoad.load c.in-ObjectLoad.is load c.into_inner-book.ensures in
+    c.take-held.result c.take-held.ensures.value c.in-ObjectLoad.load c.in-ObjectLoad.is load c.into_inner-object.ensures in
     record {
       all = load.pieces.items;
       within = λ k d few. let w = last.within k d few in (omega (arith, w.0), omega (arith, w.1, last.home.sessions));

@@ -16,7 +16,7 @@ load-requires g c =
     let at = c.args.at in
     let mine = c.requires.mine in
     let there = there_at m.0.combiner.opened at (call_at g.O.Sequential m.0 at) c.requires.opened in
-    (search rules, search rules, pick_kept c.args.shared.now.table_id.slots c.args.seat.now.id m.0 mine.session mine.book at c.requires.at.some c.requires.at.there (call_at g.O.Sequential m.0 at) there m.1 mine.empty)
+    (search rules, search rules, pick_kept c.args.shared.now.table_id.slots c.args.seat.now.id m.0 mine.session mine.object at c.requires.at.some c.requires.at.there (call_at g.O.Sequential m.0 at) there m.1 mine.empty)
 
 pub store-requires : goal.store-requires
 store-requires g c =

@@ -16,7 +16,7 @@ load-next-requires g c =
     let route = m.0.listing.route in
     let t = splits c.args.before c.args.whose route c.requires.before.1 c.requires.whose.1 in
     let on : IsOn c.args.whose route = subst (λ (r : List ℕ). IsOn c.args.whose r) (sym t.is) (on_right c.args.whose t.front (c.args.before ∷ c.args.whose ∷ t.rest) (inr (inl refl))) in
-    (search rules, search rules, walk_on_kept c.args.shared.now.table_id.slots c.args.seat.now.id m.0 m.1 mine.session mine.book c.args.whose on)
+    (search rules, search rules, walk_on_kept c.args.shared.now.table_id.slots c.args.seat.now.id m.0 m.1 mine.session mine.object c.args.whose on)
 
 pub store-requires : goal.store-requires
 store-requires g c =
@@ -31,7 +31,7 @@ store-requires g c =
       search rules,
       search rules,
       subst (λ (x : Seated _ _ _). Allows (IsRuled g.O.Sequential) n id x (link_of before) (λ _. next) (λ _. unlinks (step n (link_of before) next 0 opt.none) x next)) (sym t.0)
-          (unlink_kept n id m.0 m.1 mine.session mine.book before whose next c.requires.mine.1 c.requires.before.1 c.requires.whose.1 t.1),
+          (unlink_kept n id m.0 m.1 mine.session mine.object before whose next c.requires.mine.1 c.requires.before.1 c.requires.whose.1 t.1),
     )
 
 pub returns-clause-step : goal.returns-clause-step

@@ -13,7 +13,7 @@ load-requires g c =
     let n = c.args.shared.now.table_id.slots in
     let id = c.args.seat.now.id in
     let mine = c.requires.mine in
-    let as_named = enter_kept n id m.0 m.1 (omega (arith, mine.session)) mine.book (lacks m.0.own.pending c.requires.idle.0) c.requires.idle.1 c.args._call c.args._reply c.requires.legal c.requires.short in (
+    let as_named = enter_kept n id m.0 m.1 (omega (arith, mine.session)) mine.object (lacks m.0.own.pending c.requires.idle.0) c.requires.idle.1 c.args._call c.args._reply c.requires.legal c.requires.short in (
       search rules,
       search rules,
       subst (λ (x : Option _). Allows (IsRuled g.O.Sequential) n id m 0 (λ y. y) (enters_named x g.E.DirectEntry.reply (step n 0 0 0 opt.none) m)) (sym c.requires.named.0)

@@ -15,7 +15,7 @@ pub compare_exchange-found-requires : goal.compare_exchange-found-requires
 compare_exchange-found-requires g c =
     let seat = c.is_posted.new.seat in
     let mine : IsCombiner seat.me.0 = rw c.is_posted.ensures.same c.requires.mine in
-    (search rules, search rules, open_kept c.args.shared.now.table_id.slots seat.id seat.me.0 mine.session mine.book c.args.at c.requires.at.some c.requires.at.there seat.me.1 mine.empty)
+    (search rules, search rules, open_kept c.args.shared.now.table_id.slots seat.id seat.me.0 mine.session mine.object c.args.at c.requires.at.some c.requires.at.there seat.me.1 mine.empty)
 
 pub exchange-requires : goal.exchange-requires
 exchange-requires g c =

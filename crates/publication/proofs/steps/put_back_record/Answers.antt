@@ -16,7 +16,7 @@ load-requires g c =
     let at = c.args.at in
     let mine = c.requires.mine in
     let there = there_at m.0.combiner.opened at c.args.call c.requires.opened in
-    (search rules, search rules, pick_kept c.args.shared.now.table_id.slots c.args.seat.now.id m.0 mine.session mine.book at c.requires.at.some c.requires.at.there c.args.call there m.1 mine.empty)
+    (search rules, search rules, pick_kept c.args.shared.now.table_id.slots c.args.seat.now.id m.0 mine.session mine.object at c.requires.at.some c.requires.at.there c.args.call there m.1 mine.empty)
 
 -- The names are the same as for `answer_record`; the goals differ.
 pub store-requires : goal.store-requires

@@ -18,7 +18,7 @@ mark_out-requires-clause-mine g c =
     let v = c.args.seat.now.me.0 in
     let t = splits c.args.before c.args.whose v.listing.route c.requires.before.1 c.requires.whose.1 in
     let me = c.bypass_record.ensures.step in (
-      subst (λ (x : Seated _ _ _). IsCombiner x.0) (sym me) (record { session = c.requires.mine.0.session; book = c.requires.mine.0.book; empty = c.requires.mine.0.empty }),
+      subst (λ (x : Seated _ _ _). IsCombiner x.0) (sym me) (record { session = c.requires.mine.0.session; object = c.requires.mine.0.object; empty = c.requires.mine.0.empty }),
       ap (λ (x : Seated _ _ _). x.0.listing.off) me ∙ ap head_of t.behind_is,
     )
 

@@ -7,7 +7,7 @@ use Rattle.publication.proofs.steps.walk_from_head.Goals as goal
 
 pub load-found-requires : goal.load-found-requires
 load-found-requires g c = let m = c.args.seat.now.me in let mine = c.requires.mine in
-    (search rules, search rules, walk_kept c.args.shared.now.table_id.slots c.args.seat.now.id m.0 m.1 mine.session mine.book c.requires.whole)
+    (search rules, search rules, walk_kept c.args.shared.now.table_id.slots c.args.seat.now.id m.0 m.1 mine.session mine.object c.requires.whole)
 
 pub record_named-requires : goal.record_named-requires
 record_named-requires g c = let t = c.load-found.ensures.2 in named_few c.args.shared.now.table_id.slots t.0 c.load-found.result c.requires.board.few t.3 t.2

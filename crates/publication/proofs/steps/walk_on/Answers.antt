@@ -7,7 +7,7 @@ use Rattle.publication.proofs.steps.walk_on.Goals as goal
 
 pub load-found-requires : goal.load-found-requires
 load-found-requires g c = let m = c.args.seat.now.me in let mine = c.requires.mine in
-    (search rules, search rules, walk_on_kept c.args.shared.now.table_id.slots c.args.seat.now.id m.0 m.1 mine.session mine.book c.args.at c.requires.on)
+    (search rules, search rules, walk_on_kept c.args.shared.now.table_id.slots c.args.seat.now.id m.0 m.1 mine.session mine.object c.args.at c.requires.on)
 
 pub record_named-requires : goal.record_named-requires
 record_named-requires g c = let n = c.args.shared.now.table_id.slots in let at = c.args.at in let route = c.args.seat.now.me.0.listing.route in

@@ -1,14 +1,12 @@
-use Rattle.std.proofs.Common.{rules, ◌≡◌, ◌∙◌, ◌+◌, ◌<◌, ◌++◌, List, length, length-append, sym, ap, arith}
+use Rattle.std.proofs.Common.{rules, ◌≡◌, ◌∙◌, ◌+◌, ◌++◌, List, length, length-append, sym, ap, subst, arith}
 use mathlib.Core.List.{IsPrefix}
-use Rattle.lock_rules.specs.Entries.{Entry}
-use Rattle.lock_board.specs.LockBoards.{TicketView}
-use Rattle.combining.specs.inner.Passes.{ended_behind}
-use Rattle.combining.proofs.EndedWaits.{own-ended}
+use Rattle.sequential.specs.declared.entry.Entry.{Entry}
+use Rattle.publication.specs.Views.{TicketView}
 use Rattle.combining.proofs.TakenPieces.{made, tried-front, tried-rest}
 use Rattle.combining.proofs.office.Office.make_pass.Goals as goal
 
 pub returns-clause-made : goal.returns-clause-made
-returns-clause-made c =
+returns-clause-made g c =
     let before = c.args.session.now in
     let between = c.enlist.new.session in
     let seized = c.in_ok-load.ensures in
@@ -17,24 +15,22 @@ returns-clause-made c =
     let last = pass.new.session in
     let rest = tried-rest before between c.enlist.ensures.tried in
     let same : pass.new.load.pieces.items ≡ old.pieces.items = search rules in
-    let longer : IsPrefix between.front old.book.history = seized.longer in
-    let whole : IsPrefix old.book.history last.front = search rules in
-    let known : old.book.history ≡ before.front ++ longer.0 = sym longer.1 ∙ ap (λ (l : List Entry). l ++ longer.0) (tried-front before between c.enlist.ensures.tried) in
-    let front : last.front ≡ (before.front ++ longer.0) ++ whole.0 = sym whole.1 ∙ ap (λ (l : List Entry). l ++ whole.0) known in
-    let count : length last.front ≡ length old.book.history + pass.result.served = search rules in
-    let ended : 0 < pass.result.served → pass.new.load.book.ended ≡ ended_behind c.self.inside.board.sessions (before.front ++ longer.0) whole.0 = λ some.
-    own-ended c.self.inside.board.sessions c.seize.new.ticket.front last.front (before.front ++ longer.0) whole.0 pass.new.load.book.ended (pass.ensures.ended some)
-    (ap (λ (t : TicketView). t.front) seized.ticket ∙ known) front in
+    let longer : IsPrefix between.front (g.O.Sequential.history old.object) = seized.longer in
+    let whole : IsPrefix (g.O.Sequential.history old.object) last.front = search rules in
+    let known : (g.O.Sequential.history old.object) ≡ before.front ++ longer.0 = sym longer.1 ∙ ap (λ (l : List (Entry _ _)). l ++ longer.0) (tried-front before between c.enlist.ensures.tried) in
+    let front : last.front ≡ (before.front ++ longer.0) ++ whole.0 = sym whole.1 ∙ ap (λ (l : List (Entry _ _)). l ++ whole.0) known in
+    let count : length last.front ≡ length (g.O.Sequential.history old.object) + pass.result.served = search rules in
+    let known_whole : c.seize.new.ticket.front ≡ before.front ++ longer.0 = ap (λ (t : TicketView _ _). t.front) seized.ticket ∙ known in
     record {
       between = between;
       is_tried = c.enlist.ensures.tried;
-      session = made between c.seize.new.ticket last old.book.history old.pieces.items pass.new.load.pieces.items (search rules) pass.ensures.session same;
+      session = made between c.seize.new.ticket last (g.O.Sequential.history old.object) old.pieces.items pass.new.load.pieces.items (search rules) pass.ensures.session same;
       lacked = (seized.lacked, rest.1 ∙ c.requires.ours.no_walk, seized.untaken);
       others = longer.0;
       own = whole.0;
       front = front;
-      count = omega (arith, count, ap (λ (l : List Entry). length l) whole.1, length-append old.book.history whole.0);
+      count = omega (arith, count, ap (λ (l : List (Entry _ _)). length l) whole.1, length-append (g.O.Sequential.history old.object) whole.0);
       home = search rules;
       legal = search rules;
-      ended = search rules;
+      tells = λ some. subst (λ (l : List (Entry _ _)). g.O.Serving.tells_from pass.new.load.object (length l)) known_whole (pass.ensures.tells some);
     }

@@ -1,8 +1,7 @@
-use Rattle.std.proofs.Common.{rules, ◌≡◌, ◌∙◌, ◌+◌, ◌-◌, max, ◌≤◌, ◌++◌, ◌∷◌, List, [], take, drop, length, sym, ap, subst, arith}
+use Rattle.std.proofs.Common.{rules, ◌≡◌, ◌∙◌, ◌+◌, ◌-◌, ◌^◌, max, ◌<◌, ◌≤◌, ◌++◌, ◌∷◌, List, [], take, drop, length, sym, ap, subst, arith}
 use mathlib.Core.List.{IsPrefix}
 use Rattle.trimmed_list.specs.declared.trimmed_list.TheConstants.{NO_BOUND, MOST_DROPPED}
-use Rattle.lock_rules.specs.Entries.{Entry}
-use Rattle.lock_rules.specs.Legal.{IsLegal}
+use Rattle.sequential.specs.declared.entry.Entry.{Entry}
 use Rattle.publication.specs.declared.piece.Piece.{Piece}
 use Rattle.publication.proofs.PieceLaws.{one_more_in_order, one_more_in_a_row}
 use Rattle.combining.specs.Sessions.{HasTakenPiece}
@@ -10,47 +9,51 @@ use Rattle.combining.proofs.TakenPieces.{noted_one, all_or_none}
 use Rattle.combining.proofs.office.Office.take_history.Goals as goal
 
 pub release-requires-clause-home : goal.release-requires-clause-home
-release-requires-clause-home c =
+release-requires-clause-home g c =
     let old = c.in_ok-load.load.value in
     let home = c.in_ok-load.ensures.home in
-    let first = c.first_kept-first.result in
+    let first = c.kept_from-first.result in
     let count = c.len.result in
     let p : Piece = record { session = c.number.result; first = first; count = count } in
     let now = c.deref_mut-2.result.now in
     let items : c.push.new.self.items ≡ old.pieces.items ++ p ∷ [] = search rules in
-    let cut : now.book.cut ≡ first + count = search rules in
-    let place : first ≡ max old.book.cut (length old.book.history - old.book.bound) = search rules in
+    let cut : (g.O.Sequential.cut now.object) ≡ first + count = search rules in
+    let place : first ≡ max (g.O.Sequential.cut old.object) (length (g.O.Trimming.lines (g.O.Sequential.history old.object)) - (g.O.Sequential.bound old.object)) = search rules in
+    let short : length (g.O.Trimming.lines (g.O.Sequential.history old.object)) < 2 ^ 64 = search rules in
+    let ages_same : now.ages.items ≡ old.ages.items = search rules in
+    let passes_same : now.passes ≡ old.passes = search rules in
     record {
       history = search rules;
       sessions = search rules;
       empty = search rules;
       room = search rules;
       ages = search rules;
-      past = search rules;
-      pieces = rw (items, cut) (one_more_in_order 0 old.book.cut old.pieces.items p home.pieces (omega (arith, place)));
-      in_a_row = λ unbound. let none : old.book.bound ≡ NO_BOUND = search rules in
-          rw (items, cut) (one_more_in_a_row 0 old.book.cut old.pieces.items p (home.in_a_row none) (omega (arith, place, none, c.in_ok-load.ensures.short)));
+      past = λ i. rw (ages_same, passes_same) (home.past i);
+      pieces = rw (items, cut) (one_more_in_order 0 (g.O.Sequential.cut old.object) old.pieces.items p home.pieces (omega (arith, place)));
+      in_a_row = λ unbound. let none : (g.O.Sequential.bound old.object) ≡ NO_BOUND = search rules in
+          rw (items, cut) (one_more_in_a_row 0 (g.O.Sequential.cut old.object) old.pieces.items p (home.in_a_row none) (omega (arith, place, none, short)));
     }
 
 pub returns-clause-some : goal.returns-clause-some
-returns-clause-some c =
+returns-clause-some g c =
     let before = c.args.session.now in
     let after = c.release.new.ticket in
     let old = c.in_ok-load.load.value in
     let seized = c.in_ok-load.ensures in
-    let h : List Entry = old.book.history in
-    let first = c.first_kept-first.result in
-    let entries : List Entry = c.take_history-entries.result.items in
-    let p : Piece = record { session = before.number; first = first; count = length entries } in
+    let h : List (Entry _ _) = g.O.Sequential.history old.object in
+    let all : List _ = g.O.Trimming.lines h in
+    let first = c.kept_from-first.result in
+    let taken : List _ = c.take_kept-lines.result.items in
+    let p : Piece = record { session = before.number; first = first; count = length taken } in
     let items : c.push.new.self.items ≡ old.pieces.items ++ p ∷ [] = search rules in
     let front : after.front ≡ h = search rules in
-    let within : first ≤ length h = search rules in
-    let which = all_or_none h entries first MOST_DROPPED within (search rules) (search rules) in
-    let took : HasTakenPiece before after first entries = record {
+    let within : first ≤ length all = search rules in
+    let which = all_or_none all taken first MOST_DROPPED within (search rules) (search rules) in
+    let took : HasTakenPiece g.O.Sequential g.O.Trimming.lines before after first taken = record {
       session = noted_one before c.seize.new.ticket after h old.pieces.items c.push.new.self.items p (search rules) c.release.ensures.ticket seized.lacked c.requires.ours.no_walk seized.untaken items;
       longer = subst (IsPrefix before.front) (sym front) seized.longer;
-      legal = subst IsLegal (sym front) seized.legal;
-      entries_are = which.0 ∙ ap (λ (l : List Entry). take (length entries) (drop first l)) (sym front);
-      within = omega (arith, which.1, ap (λ (l : List Entry). length l) front);
+      legal = subst g.O.Sequential.is_legal (sym front) seized.legal;
+      lines_are = which.0 ∙ ap (λ (l : List (Entry _ _)). take (length taken) (drop first (g.O.Trimming.lines l))) (sym front);
+      within = omega (arith, which.1, ap (λ (l : List (Entry _ _)). length (g.O.Trimming.lines l)) front);
     } in
     took

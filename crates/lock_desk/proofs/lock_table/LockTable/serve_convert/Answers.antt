@@ -2,9 +2,8 @@ use Rattle.std.proofs.Common.{◌∙◌, sym}
 use Rattle.lock_rules.specs.declared.calls.Call.TheVariants.{Convert}
 use Rattle.lock_desk.specs.inner.Changes.{idle_tests, convert_tests}
 use Rattle.lock_desk.proofs.Results.{first-some, first-none}
-use Rattle.lock_desk.proofs.RunItems.{same-on}
 use Rattle.lock_desk.proofs.Simulation.{convert-may, refused-step, passed-steps, same-shown}
-use Rattle.lock_desk.proofs.EndedWaits.{waits_ended-same, waits_ended-on}
+use Rattle.lock_desk.proofs.EndedWaits.{waits_ended-same}
 use Rattle.lock_desk.proofs.lock_table.LockTable.serve_convert.Goals as goal
 
 pub returns-in-Some-clause-step : goal.returns-in-Some-clause-step

@@ -1,5 +1,4 @@
-use Rattle.std.proofs.Common.{◌≡◌, Bool, true, cond, List, [], ◌∷◌, Option, Some, None, ◌∙◌, sym, ap}
-use Rattle.lock_rules.specs.declared.calls.Why.{Why}
+use Rattle.std.proofs.Common.{◌≡◌, Bool, true, cond, [], ◌∷◌, Option, Some, None, ◌∙◌, sym, ap}
 use Rattle.lock_rules.specs.declared.calls.Why.TheVariants.{WouldWait}
 use Rattle.lock_rules.specs.Step.{target_of}
 use Rattle.lock_modes.specs.declared.Mode.{Mode}

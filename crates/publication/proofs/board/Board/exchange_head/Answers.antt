@@ -19,7 +19,7 @@ module _ {O C R : Type 0} where
         started = t.started;
         retired = t.retired;
         pending = t.pending;
-        book = t.book;
+        object = t.object;
         hand = t.hand;
         listed = refl;
         heard_few = omega (arith, here);
@@ -43,7 +43,7 @@ module _ {O C R : Type 0} where
     started = t.started;
     retired = t.retired;
     pending = t.pending;
-    book = t.book;
+    object = t.object;
     hand = t.hand;
     listed = t.listed;
     heard_few = t.heard_few;

@@ -20,7 +20,7 @@ invariant_of-ticket g c = let a = c.ticket.inside in let b = c.knowledge.inside 
             started = t.started;
             retired = t.retired;
             pending = t.pending;
-            book = t.book;
+            object = t.object;
             hand = t.hand;
             listed = t.listed;
             heard_few = omega (arith, at_most, announced_few v.own, ap (λ (x : Bool). cond {A = ℕ} x 1 0) t.pending);

@@ -17,5 +17,5 @@ new-requires-3 g c = let n = c.sessions-sessions.result in
     let ages : load.value.ages.items ≡ replicate n 0 = search rules in
     let slots : c.in_ok-slots.slots.items ≡ ObjectLoad load ∷ replicate n Empty = search rules in
     let untaken : load.value.pieces.items ≡ [] = search rules in
-    let uncut : (g.O.Sequential.cut load.value.book) ≡ 0 = search rules in
+    let uncut : (g.O.Sequential.cut load.value.object) ≡ 0 = search rules in
     rw (words, slots) (begins n load (record { history = search rules; sessions = search rules; empty = search rules; room = search rules; ages = search rules; past = λ i. subst (λ (l : List ℕ). get_or l i 0 ≤ load.value.passes) (sym ages) (no_ages n load.value.passes i); pieces = rw untaken (omega arith); in_a_row = λ _. rw untaken (omega (arith, uncut)) }) g.met.O.Sequential.empty untaken)

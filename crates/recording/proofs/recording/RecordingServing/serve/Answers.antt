@@ -3,7 +3,8 @@ use Rattle.std.specs.Prelude.{All}
 use Rattle.std.proofs.lemmas.List.Elements.{All-push}
 use Rattle.sequential.specs.declared.entry.Entry.{Entry}
 use Rattle.sequential.specs.Histories.{IsEntryWithin}
-use Rattle.sequential.specs.Replies.{AreRepliesOf, push_of}
+use Rattle.sequential.specs.Replies.{AreRepliesOf}
+use Rattle.sequential.proofs.Replies.{push_of}
 use Rattle.recording.proofs.recording.RecordingServing.serve.Goals as goal
 
 pub invariant_of-self-2 : goal.invariant_of-self-2

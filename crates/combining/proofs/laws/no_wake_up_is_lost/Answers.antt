@@ -1,5 +1,0 @@
-use Rattle.combining.proofs.WakesTold.{wakes-told}
-use Rattle.combining.proofs.laws.no_wake_up_is_lost.Goals as goal
-
-pub returns : goal.returns
-returns c n front own list ended = wakes-told c.ended_waits_are_told_by_polls.ensures.told c.ended_waits_are_told_by_polls.ensures.others n front own list ended

@@ -1,0 +1,4 @@
+pub mod Sessions
+pub mod Closed
+pub mod Ended
+pub mod Queries

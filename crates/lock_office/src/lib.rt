@@ -1,0 +1,34 @@
+//! The lock office: threads share a lock table by flat combining. It is the office of `combining`, with a book of `lock_desk` as
+//! its object.
+//!
+//! Sessions publish, serve and collect by the calls of `combining`. `opening.rt` opens an office that lets go of its history,
+//! `queries.rt` has questions that a session asks of the lock table meanwhile, and `laws.rt` says what holds of locks.
+//!
+//! Proved, beside what `combining` proves of any object: each reply is the one that the sequential lock manager gives at its
+//! place, no two transactions ever have incompatible access to a resource, no waits form a circle, and no wake-up is lost
+//! ([`laws`]).
+#![tactic(auto)]
+
+pub mod laws;
+mod opening;
+pub mod queries;
+
+pub use combining::{CloseFault, Ended, OpenFault, Posted, Turn, call, resume};
+pub use lock_board::{Knowledge, Ticket as Session};
+use lock_desk::{Book, Entry, Reply};
+pub use opening::open_keeping;
+
+/// A lock table that threads share by reference, each with sessions of its own.
+pub type Office = combining::Office<Book>;
+
+/// The answer to a call.
+pub type Answer = combining::Answer<Reply>;
+
+/// The outcome of one call of `Office::perform`.
+pub type Performed = combining::Performed<Reply>;
+
+/// The outcome of `call` and `resume`.
+pub type Called = combining::Called<Reply>;
+
+/// A piece of the history that a session took: its lines are the calls with their replies.
+pub type HistoryPiece = combining::HistoryPiece<Entry>;

@@ -1,0 +1,224 @@
+//! Questions that a session asks of the lock table while the office is open.
+//!
+//! Each question is asked of an office by one of its sessions. It tries once for the lock table, as `serve` does, reads it, and
+//! gives it back. It serves no calls, changes nothing, and the session need not be idle. The answer is that of one moment: the
+//! number of calls that the history had then comes with it, and the session knows the whole history up to there.
+
+ghost use Rattle.std.specs.Prelude.{◌≡◌, ◌≢◌, ◌+◌, ◌<◌, ◌≤◌, true, false, [], Some, None, Ok, IfOk, IfErr, IfSome, IfNone, length, vec_capacity};
+ghost use Rattle.lock_rules.specs.State.{held_mode, holders};
+ghost use Rattle.lock_rules.specs.Waits.{waits_for};
+ghost use Rattle.lock_rules.specs.Legal.{state_of};
+ghost use Rattle.lock_rules.specs.Listing.{listing_of, waiting_line};
+ghost use Rattle.publication.specs.Boards.{HasCallsOf};
+ghost use Rattle.lock_office.specs.Sessions.{IsSessionOf};
+ghost use Rattle.lock_office.specs.Queries.{HasLooked, blockers_among};
+
+use crate::Office;
+use lock_board::Ticket as Session;
+use lock_desk::{Book, Claim, Mode, NoMemory, Resource, Transaction};
+use std::alloc::Global;
+
+/// The answer to a question about the lock table of an open office.
+#[derive(Clone, Copy, Debug, PartialEq, Eq)]
+pub struct Snapshot<T> {
+    /// How many calls the history had: the answer is that of the state behind these.
+    pub length: u64,
+    /// The answer.
+    pub found: T,
+}
+
+/// Replaces the contents of `list` by the sessions for which session `whose` waits, by number. `list` has room for all
+/// `sessions` of the book.
+fn list_blockers(book: &Book, sessions: u16, whose: u16, list: &mut Vec<u16>)
+    requires room { sessions ≤ vec_capacity list.old }
+    ensures { list.new.items ≡ blockers_among sessions (state_of book.now.history).table whose }
+{
+    list.clear();
+    for before in 0..sessions {
+        let other = before + 1;
+        if book.waits_for(whose, other) {
+            list.push_reserved(other);
+        }
+    }
+}
+
+/// The mode of the lock that session `whose` holds on `resource`, `None` if it holds none, as `Book::held` tells it.
+///
+/// `None` in place of an answer, with nothing changed, means that another session had the lock table, as
+/// `Turn::Elsewhere` of `serve` does.
+pub fn held(
+    office: &Office,
+    session: &mut Session,
+    whose: u16,
+    resource: Resource,
+) -> Option<Snapshot<Option<Mode>>>
+    requires ours { IsSessionOf office.now session.old }
+    ensures ours { IsSessionOf office.now session.new }
+    ensures looked { IfSome result (λ _. HasLooked session.old session.new) }
+    ensures length { IfSome result (λ seen. seen.length ≡ length session.new.front) }
+    ensures found { IfSome result (λ seen. seen.found ≡ held_mode (state_of session.new.front).table whose resource) }
+    ensures none { IfNone result ((session.new ≡ session.old) × (1 < office.now.sessions)) }
+    ensures calls { HasCallsOf session.new.front session.new }
+{
+    let load = office.look(session)?;
+    let found = load.object.held(whose, resource);
+    let length = office.end_look(session, load);
+    Some(Snapshot { length, found })
+}
+
+/// Whether session `whose` waits for `other` directly, as `Book::waits_for` tells it. `None` is as with `held`.
+pub fn waits_for(
+    office: &Office,
+    session: &mut Session,
+    whose: u16,
+    other: u16,
+) -> Option<Snapshot<bool>>
+    requires ours { IsSessionOf office.now session.old }
+    ensures ours { IsSessionOf office.now session.new }
+    ensures looked { IfSome result (λ _. HasLooked session.old session.new) }
+    ensures length { IfSome result (λ seen. seen.length ≡ length session.new.front) }
+    ensures found { IfSome result (λ seen. seen.found ≡ waits_for (state_of session.new.front).table whose other) }
+    ensures none { IfNone result ((session.new ≡ session.old) × (1 < office.now.sessions)) }
+    ensures calls { HasCallsOf session.new.front session.new }
+{
+    let load = office.look(session)?;
+    let found = load.object.waits_for(whose, other);
+    let length = office.end_look(session, load);
+    Some(Snapshot { length, found })
+}
+
+/// The open transaction of session `whose`, as `Book::transaction` tells it. `None` in place of an answer is as with
+/// `held`.
+pub fn transaction(
+    office: &Office,
+    session: &mut Session,
+    whose: u16,
+) -> Option<Snapshot<Option<Transaction>>>
+    requires ours { IsSessionOf office.now session.old }
+    ensures ours { IsSessionOf office.now session.new }
+    ensures looked { IfSome result (λ _. HasLooked session.old session.new) }
+    ensures length { IfSome result (λ seen. seen.length ≡ length session.new.front) }
+    ensures found { IfSome result (λ seen. seen.found ≡ (state_of session.new.front).begun whose) }
+    ensures none { IfNone result ((session.new ≡ session.old) × (1 < office.now.sessions)) }
+    ensures calls { HasCallsOf session.new.front session.new }
+{
+    let load = office.look(session)?;
+    let found = load.object.transaction(whose);
+    let length = office.end_look(session, load);
+    Some(Snapshot { length, found })
+}
+
+/// The waiting request of session `whose`, as `Book::request` tells it. `None` in place of an answer is as with `held`.
+pub fn request(
+    office: &Office,
+    session: &mut Session,
+    whose: u16,
+) -> Option<Snapshot<Option<Claim>>>
+    requires ours { IsSessionOf office.now session.old }
+    ensures ours { IsSessionOf office.now session.new }
+    ensures looked { IfSome result (λ _. HasLooked session.old session.new) }
+    ensures length { IfSome result (λ seen. seen.length ≡ length session.new.front) }
+    ensures found { IfSome result (λ seen. seen.found ≡ waiting_line (state_of session.new.front) whose) }
+    ensures none { IfNone result ((session.new ≡ session.old) × (1 < office.now.sessions)) }
+    ensures calls { HasCallsOf session.new.front session.new }
+{
+    let load = office.look(session)?;
+    let found = load.object.request(whose);
+    let length = office.end_look(session, load);
+    Some(Snapshot { length, found })
+}
+
+/// Replaces the contents of `list` by the sessions that hold `resource`, each with its mode, by session number, as
+/// `Book::holders` does, and returns how many calls the history had.
+///
+/// `Ok(None)`, with nothing changed, means that another session had the lock table. Fails with `NoMemory` if `list`
+/// would have to grow and memory is refused: its contents are unchanged then, and the session knows the history up to
+/// there all the same.
+pub fn holders(
+    office: &Office,
+    session: &mut Session,
+    resource: Resource,
+    list: &mut Vec<(u16, Mode)>,
+) -> Result<Option<u64>, NoMemory>
+    requires ours { IsSessionOf office.now session.old }
+    ensures ours { IsSessionOf office.now session.new }
+    ensures looked { (seen : _) → result ≡ Ok (Some seen) → HasLooked session.old session.new }
+    ensures length { (seen : _) → result ≡ Ok (Some seen) → seen ≡ length session.new.front }
+    ensures found { (seen : _) → result ≡ Ok (Some seen) → list.new.items ≡ holders resource (state_of session.new.front).table.held }
+    ensures none { result ≡ Ok None → (session.new ≡ session.old) × (list.new.items ≡ list.old.items) × (1 < office.now.sessions) }
+    ensures err { IfErr result (λ _. HasLooked session.old session.new × (list.new.items ≡ list.old.items)) }
+    ensures calls { HasCallsOf session.new.front session.new }
+{
+    let Some(load) = office.look(session) else {
+        return Ok(None);
+    };
+    let listed = load.object.holders(resource, list);
+    let length = office.end_look(session, load);
+    match listed {
+        Ok(()) => Ok(Some(length)),
+        Err(refused) => Err(refused),
+    }
+}
+
+/// Replaces the contents of `list` by the sessions for which session `whose` waits directly, by number, and returns how
+/// many calls the history had. The list is empty if `whose` doesn't wait.
+///
+/// Memory for all sessions of the office is reserved first, before the lock table is tried for. `Ok(None)`, with nothing
+/// changed, means that another session had the lock table. Fails with `NoMemory`, with nothing changed, if memory is
+/// refused.
+pub fn blockers(
+    office: &Office,
+    session: &mut Session,
+    whose: u16,
+    list: &mut Vec<u16>,
+) -> Result<Option<u64>, NoMemory>
+    requires ours { IsSessionOf office.now session.old }
+    ensures ours { IsSessionOf office.now session.new }
+    ensures looked { (seen : _) → result ≡ Ok (Some seen) → HasLooked session.old session.new }
+    ensures length { (seen : _) → result ≡ Ok (Some seen) → seen ≡ length session.new.front }
+    ensures found { (seen : _) → result ≡ Ok (Some seen) → list.new.items ≡ blockers_among office.now.sessions (state_of session.new.front).table whose }
+    ensures none { result ≡ Ok None → (session.new ≡ session.old) × (list.new.items ≡ list.old.items) × (1 < office.now.sessions) }
+    ensures err { IfErr result (λ _. (session.new ≡ session.old) × (list.new.items ≡ list.old.items)) }
+    ensures calls { IfOk result (λ _. HasCallsOf session.new.front session.new) }
+{
+    let sessions = office.sessions();
+    let more = usize::from(sessions).saturating_sub(list.len());
+    list.reserve(more)?;
+    let Some(load) = office.look(session) else {
+        return Ok(None);
+    };
+    list_blockers(&load.object, sessions, whose, list);
+    let length = office.end_look(session, load);
+    Ok(Some(length))
+}
+
+/// Replaces the contents of `list` by all locks and all waiting requests, as `Book::locks` lists them, and returns how many
+/// calls the history had.
+///
+/// While it lists them, no other session can become the combiner: its cost is that of `Book::locks`. `Ok(None)` and
+/// `NoMemory` are as with `holders`.
+pub fn locks(
+    office: &Office,
+    alloc: Global,
+    session: &mut Session,
+    list: &mut Vec<Claim>,
+) -> Result<Option<u64>, NoMemory>
+    requires ours { IsSessionOf office.now session.old }
+    ensures ours { IsSessionOf office.now session.new }
+    ensures looked { (seen : _) → result ≡ Ok (Some seen) → HasLooked session.old session.new }
+    ensures length { (seen : _) → result ≡ Ok (Some seen) → seen ≡ length session.new.front }
+    ensures found { (seen : _) → result ≡ Ok (Some seen) → list.new.items ≡ listing_of (state_of session.new.front) }
+    ensures none { result ≡ Ok None → (session.new ≡ session.old) × (list.new.items ≡ list.old.items) × (1 < office.now.sessions) }
+    ensures err { IfErr result (λ _. HasLooked session.old session.new × (list.new.items ≡ list.old.items)) }
+    ensures calls { HasCallsOf session.new.front session.new }
+{
+    let Some(load) = office.look(session) else {
+        return Ok(None);
+    };
+    let listed = load.object.locks(alloc, list);
+    let length = office.end_look(session, load);
+    match listed {
+        Ok(()) => Ok(Some(length)),
+        Err(refused) => Err(refused),
+    }
+}

@@ -1,0 +1,288 @@
+//! The work of threads that share an object, each with a session of its own: eight make calls, and a ninth takes the history
+//! meanwhile. It notes what each thread sees.
+
+ghost use Rattle.std.specs.Prelude.{All, IfOk, IfSome};
+ghost use Rattle.combining.specs.Sessions.{IsSessionOf, IsIdle};
+
+use crate::choices::Chosen;
+use combining::{Answer, Called, Office, Session, call, resume};
+use sequential::{Batching, Entry, Trimming};
+use std::alloc::{AllocError, Global};
+use std::process::Abort;
+use std::thread;
+
+/// How many sessions make calls.
+pub(crate) const CALLERS: u16 = 8;
+
+/// How many calls each of them makes.
+const CALLS: u64 = 2000;
+
+/// How many calls they make together.
+pub(crate) const ALL_CALLS: u64 = CALLERS as u64 * CALLS;
+
+/// The greatest number of turns for one answer.
+const TURNS: u64 = 1_000_000_000;
+
+/// An entry of a history, with its place.
+#[derive(Clone, Copy)]
+pub(crate) struct Placed<C, R> {
+    /// The place, from 0 on.
+    pub(crate) place: u64,
+    /// The entry.
+    pub(crate) entry: Entry<C, R>,
+}
+
+/// A session that a thread gives back, with the entries that it noted, oldest first.
+#[derive(Drop)]
+pub(crate) struct Worked<O: Batching> {
+    /// The session.
+    pub(crate) session: Session<O>,
+    /// Its calls with their answers. Of a session that takes the history: what it took.
+    noted: Vec<Placed<O::Call, O::Reply>>,
+}
+
+/// The next pseudorandom number, of which the upper half is used.
+fn next(state: u64) -> u64 {
+    state
+        .wrapping_mul(6_364_136_223_846_793_005)
+        .wrapping_add(1_442_695_040_888_963_407)
+}
+
+/// The entry of a call with its answer.
+fn with_place<C: Copy, R: Copy>(session: u16, call: C, answer: Answer<R>) -> Placed<C, R> {
+    let reply = answer.reply;
+    Placed {
+        place: answer.place,
+        entry: Entry {
+            session,
+            call,
+            reply,
+        },
+    }
+}
+
+/// Publishes a call, and serves and collects until the answer is there. Returns `None` after `TURNS` tries.
+fn call_published<O: Batching>(
+    office: &Office<O>,
+    session: &mut Session<O>,
+    asked: O::Call,
+) -> Option<Answer<O::Reply>>
+    requires ours { IsSessionOf office.now session.old × IsIdle session.old }
+    ensures ours { IsSessionOf office.now session.new }
+    ensures idle { IfSome result (λ _. IsIdle session.new) }
+{
+    let _posted = office.publish(session, asked);
+    for _turn in 0..TURNS {
+        let _turn = office.serve(session);
+        let answer = office.collect(session);
+        if answer.is_some() {
+            return answer;
+        }
+        thread::yield_now();
+    }
+    None
+}
+
+/// Makes a call by `call` with this number of turns, and goes on with it by `resume`. Returns `None` if memory is refused, or after
+/// `TURNS` turns.
+fn call_whole<O: Batching>(
+    office: &Office<O>,
+    session: &mut Session<O>,
+    asked: O::Call,
+    turns: u64,
+) -> Option<Answer<O::Reply>>
+    requires ours { IsSessionOf office.now session.old × IsIdle session.old }
+    ensures ours { IsSessionOf office.now session.new }
+    ensures idle { IfSome result (λ _. IsIdle session.new) }
+{
+    let called = match call(office, session, asked, turns) {
+        Called::Answered(answer) => return Some(answer),
+        Called::Starved => return None,
+        Called::NotYet => resume(office, session, TURNS),
+    };
+    match called {
+        Called::Answered(answer) => Some(answer),
+        Called::Starved | Called::NotYet => None,
+    }
+}
+
+/// Makes a call: by `call_whole` with 0 to 2 turns if `made` is even, and else by `call_published`.
+fn call_as<O: Batching>(
+    office: &Office<O>,
+    session: &mut Session<O>,
+    asked: O::Call,
+    made: u64,
+) -> Option<Answer<O::Reply>>
+    requires ours { IsSessionOf office.now session.old × IsIdle session.old }
+    ensures ours { IsSessionOf office.now session.new }
+    ensures idle { IfSome result (λ _. IsIdle session.new) }
+{
+    if made % 2 == 0 {
+        return call_whole(office, session, asked, made % 3);
+    }
+    call_published(office, session, asked)
+}
+
+/// Makes `CALLS` calls of a session, one after another, and notes their answers. Stops early if an answer doesn't come, or if memory
+/// is refused to the list.
+pub(crate) fn call_often<O: Batching>(
+    alloc: Global,
+    office: &Office<O>,
+    session: Session<O>,
+) -> Worked<O>
+where
+    O::Call: Chosen,
+    requires ours { IsSessionOf office.now session × IsIdle session }
+    ensures ours { IsSessionOf office.now result.session }
+{
+    let number = session.number();
+    let mut worked = Worked {
+        session,
+        noted: Vec::new(alloc),
+    };
+    let mut state = u64::from(number);
+    for made in 0..CALLS {
+        state = next(state);
+        let asked = O::Call::choose(made / (CALLS / 4), state >> 33);
+        let Some(answer) = call_as(office, &mut worked.session, asked, made) else {
+            break;
+        };
+        if worked
+            .noted
+            .push(with_place(number, asked, answer))
+            .is_err()
+        {
+            break;
+        }
+    }
+    worked
+}
+
+/// Appends entries, the first of which has this place.
+pub(crate) fn note_from<C: Copy, R: Copy>(
+    noted: &mut Vec<Placed<C, R>>,
+    first: u64,
+    entries: &[Entry<C, R>],
+) -> Result<(), AllocError> {
+    let mut place = first;
+    for entry in entries {
+        noted.push(Placed {
+            place,
+            entry: *entry,
+        })?;
+        place = place.wrapping_add(1);
+    }
+    Ok(())
+}
+
+/// Takes what the object keeps, if it is free: at most the oldest 100 entries if `take` is even, and else all. Returns false if
+/// memory is refused.
+fn take_once<C: Copy, Y: Copy, O: Trimming<Call = C, Reply = Y, Line = Entry<C, Y>>>(
+    alloc: Global,
+    office: &Office<O>,
+    worked: &mut Worked<O>,
+    take: u64,
+) -> bool
+    requires ours { IsSessionOf office.now worked.old.session }
+    ensures ours { IsSessionOf office.now worked.new.session }
+{
+    let taken = if take % 2 == 0 {
+        office.take_oldest(alloc, &mut worked.session, 100)
+    } else {
+        Ok(office.take_history(alloc, &mut worked.session))
+    };
+    match taken {
+        Ok(Some(piece)) => note_from(&mut worked.noted, piece.first, &piece.lines).is_ok(),
+        Ok(None) => true,
+        Err(AllocError) => false,
+    }
+}
+
+/// Makes the calls of a session up to number `CALLERS`. A session with a greater number takes the history, again and again until it
+/// has seen half of all calls.
+pub(crate) fn call_or_take<
+    C: Chosen,
+    Y: Copy,
+    O: Trimming<Call = C, Reply = Y, Line = Entry<C, Y>>,
+>(alloc: Global, office: &Office<O>, session: Session<O>) -> Worked<O>
+    requires ours { IsSessionOf office.now session × IsIdle session }
+    ensures ours { IsSessionOf office.now result.session }
+{
+    if session.number() <= CALLERS {
+        return call_often(alloc, office, session);
+    }
+    let mut worked = Worked {
+        session,
+        noted: Vec::new(alloc),
+    };
+    for take in 0..TURNS {
+        thread::yield_now();
+        if !take_once(alloc, office, &mut worked, take) || worked.session.seen() >= ALL_CALLS / 2 {
+            break;
+        }
+    }
+    worked
+}
+
+/// What all sessions have noted.
+#[derive(Drop)]
+pub(crate) struct Notes<C, R> {
+    /// The calls with their answers.
+    pub(crate) answers: Vec<Placed<C, R>>,
+    /// The entries that a session took of the history, by place.
+    pub(crate) taken: Vec<Placed<C, R>>,
+}
+
+/// Empty notes.
+pub(crate) fn no_notes<C: Copy, R: Copy>(alloc: Global) -> Notes<C, R> {
+    Notes {
+        answers: Vec::new(alloc),
+        taken: Vec::new(alloc),
+    }
+}
+
+/// Adds what the session with this number noted.
+fn add<C: Copy, R: Copy>(
+    notes: &mut Notes<C, R>,
+    session: u16,
+    noted: &[Placed<C, R>],
+) -> Result<(), AllocError> {
+    if session > CALLERS {
+        return notes.taken.extend_from_slice(noted);
+    }
+    notes.answers.extend_from_slice(noted)
+}
+
+/// Gathers the notes of the threads, and returns their sessions.
+fn gather<O: Batching>(
+    alloc: Global,
+    office: &Office<O>,
+    all: Vec<Worked<O>>,
+    notes: &mut Notes<O::Call, O::Reply>,
+) -> Result<Vec<Session<O>>, AllocError>
+    requires ours { All (λ worked. IsSessionOf office.now worked.session) all.items }
+    ensures ours { IfOk result (λ sessions. All (IsSessionOf office.now) sessions.items) }
+{
+    let mut sessions = Vec::new(alloc);
+    for worked in all {
+        let Worked { session, noted } = worked;
+        add(notes, session.number(), &noted)?;
+        sessions.push(session)?;
+    }
+    Ok(sessions)
+}
+
+/// Gathers what the threads gave back, sorts the answers by place, closes the office, and returns its object.
+pub(crate) fn finish<O: Batching>(
+    rt: &impl Abort,
+    alloc: Global,
+    office: Office<O>,
+    all: Vec<Worked<O>>,
+    notes: &mut Notes<O::Call, O::Reply>,
+) -> Result<O, AllocError>
+    requires ours { All (λ worked. IsSessionOf office worked.session) all.items }
+{
+    let sessions = gather(alloc, &office, all, notes)?;
+    notes.answers.sort_unstable_by_key(|answer| answer.place);
+    Ok(office.close(sessions).ok().expect(rt, "the object"))
+}

@@ -1,0 +1,16 @@
+use Rattle.std.proofs.Common.{rules, refl, sym}
+use Rattle.sequential.proofs.Batches.{batch-next, within-set}
+use Rattle.sequential.proofs.batching.serve_each.Goals as goal
+
+pub loop-served-preserved : goal.loop-served-preserved
+loop-served-preserved g c =
+    let i = c.loop-served.invariant in
+    record {
+      few = search rules;
+      len = search rules;
+      within = within-set _ _ c.loop-served.items c.loop-served.served c.index-items-served-in-loop-served.result _ (sym c.in-Ok.ensures.sessions) (search rules) refl i.within;
+      batch = batch-next _ _ _ _ _ _ c.loop-served.served c.index-items-served.result c.index-items-served-in-loop-served.result c.in-Ok.reply (search rules) i.len i.batch (search rules) (search rules) (search rules);
+      sessions = search rules;
+      cut = search rules;
+      bound = search rules;
+    }
