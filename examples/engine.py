@@ -1,0 +1,161 @@
+#!/usr/bin/env python3
+"""A small engine in Python, by ctypes over the shared library: accounts, and four threads that move money between them. Each move locks
+the two accounts that it changes, sleeps while it waits for a lock, and starts again if it is chosen as a deadlock's victim. Whoever ends
+a wait wakes the thread that waits.
+
+    ./embed && python3 examples/engine.py out
+
+The argument is the folder with the shared library and the header, from which the numbers of statuses, calls and replies are read. Each
+thread makes 200 moves, or as many as a second argument says.
+"""
+import ctypes
+import random
+import re
+import sys
+import threading
+import time
+from ctypes import POINTER, Structure, byref, c_size_t, c_uint32, c_uint64, c_void_p
+from pathlib import Path
+
+FOLDER = Path(sys.argv[1] if len(sys.argv) > 1 else "out")
+MOVES = int(sys.argv[2]) if len(sys.argv) > 2 else 200
+ACCOUNTS, BALANCE, THREADS, KEPT = 6, 100, 4, 1024
+
+HEADER = (FOLDER / "pelgaisti.h").read_text(encoding="utf-8")
+# the numbers of the header's enums, by their names without PELGAISTI_
+N = {name: int(number) for name, number in re.findall(r"^ +PELGAISTI_(\w+) = (\d+)", HEADER, re.MULTILINE)}
+VERSION = int(re.search(r"^#define PELGAISTI_HEADER_VERSION (\d+)$", HEADER, re.MULTILINE)[1])
+
+
+class Resource(Structure):
+    _fields_ = [("level", c_uint32), ("numbers", c_uint32 * 5)]
+
+
+class Call(Structure):
+    _fields_ = [("op", c_uint32), ("mode", c_uint32), ("resource", Resource)]
+
+
+class Reply(Structure):
+    _fields_ = [("kind", c_uint32), ("value", c_uint64)]
+
+
+class Answer(Structure):
+    _fields_ = [("place", c_uint64), ("reply", Reply)]
+
+
+class Pass(Structure):
+    _fields_ = [("served", c_uint32), ("starved", c_uint32)]
+
+
+class Handle(Structure):
+    """The handle of a session or of a book."""
+
+    _fields_ = [("is_open", c_uint32), ("at", c_void_p)]
+
+
+LIBRARY = ctypes.CDLL(str((FOLDER / f"libpelgaisti.so.{VERSION}").resolve()))
+LIBRARY.pelgaisti_version.restype = c_uint32
+if LIBRARY.pelgaisti_version() != VERSION:
+    sys.exit("engine.py: the library is of another version than the header")
+
+
+def checked(name, *arguments):
+    """Returns the library's function, which returns a status. It tests no pointer."""
+    function = getattr(LIBRARY, name)
+    function.restype, function.argtypes = c_uint32, arguments
+    return function
+
+
+open_office = checked("pelgaisti_raw_office_open", POINTER(Handle), c_size_t, c_uint64, c_uint64)
+perform = checked("pelgaisti_raw_session_perform_telling", POINTER(Handle), POINTER(Call), POINTER(Pass), POINTER(Answer), POINTER(c_uint32), c_size_t,
+                  POINTER(c_size_t))
+hand_in = checked("pelgaisti_raw_session_hand_in", POINTER(Handle), POINTER(Handle))
+close_office = checked("pelgaisti_raw_office_close", POINTER(Handle), POINTER(Handle))
+close_book = checked("pelgaisti_raw_book_close", POINTER(Handle))
+
+
+def expect(status, what):
+    if status != N["OK"]:
+        raise RuntimeError(f"{what}: status {status}")
+
+
+class Worker:
+    """A session that one thread uses."""
+
+    def __init__(self, handle, number):
+        self.handle, self.number = handle, number
+        self.told, self.count = (c_uint32 * THREADS)(), c_size_t()
+        self.waits = self.victims = 0
+
+    def call(self, op, mode="NL", *path):
+        """Makes a call, and wakes the sessions whose wait it has ended. Returns the kind of the reply."""
+        asked = Call(N[op], N[mode], Resource(len(path), (c_uint32 * 5)(*path)))
+        answer, made = Answer(), Pass()
+        while True:
+            status = perform(self.handle, byref(asked), byref(made), byref(answer), self.told, THREADS, byref(self.count))
+            for at in range(self.count.value):
+                WOKEN[self.told[at]].release()
+            if status != N["ELSEWHERE"]:
+                break
+            time.sleep(0)  # another thread has the lock table
+        expect(status, op)
+        return answer.reply.kind
+
+    def lock(self, mode, *path):
+        """Locks a resource, and sleeps while the lock waits. Returns whether it is held: if it isn't, the transaction is a victim."""
+        kind = self.call("LOCK", mode, *path)
+        while kind == N["WAITING"]:
+            self.waits += 1
+            if not WOKEN[self.number].acquire(timeout=60):
+                raise RuntimeError("a wake-up is lost")
+            kind = self.call("POLL")
+        if kind not in (N["GRANTED"], N["CLEAR"], N["DEADLOCK"]):
+            raise RuntimeError(f"a lock was answered by kind {kind}")
+        return kind != N["DEADLOCK"]
+
+    def move(self, source, target, amount):
+        """Moves an amount from one account to another, in as many transactions as it takes."""
+        while True:
+            self.call("BEGIN")
+            if self.lock("IX", 1) and self.lock("X", 1, source):
+                ACCOUNT[source] -= amount
+                if self.lock("X", 1, target):
+                    ACCOUNT[target] += amount
+                    self.call("COMMIT")
+                    return
+                ACCOUNT[source] += amount  # undone before the locks are given back
+            self.victims += 1
+            self.call("ABORT")
+
+    def work(self):
+        chosen = random.Random(self.number)
+        for _ in range(MOVES):
+            source, target = chosen.sample(range(ACCOUNTS), 2)
+            self.move(source, target, chosen.randrange(10))
+
+
+ACCOUNT = [BALANCE] * ACCOUNTS
+# for each session, by its number, what its thread sleeps on
+WOKEN = [threading.Semaphore(0) for _ in range(THREADS + 1)]
+
+
+def main():
+    sessions = (Handle * THREADS)()
+    expect(open_office(sessions, THREADS, 1, KEPT), "open")
+    workers = [Worker(sessions[at], at + 1) for at in range(THREADS)]
+    threads = [threading.Thread(target=worker.work) for worker in workers]
+    for thread in threads:
+        thread.start()
+    for thread in threads:
+        thread.join()
+    for at in range(1, THREADS):
+        expect(hand_in(sessions[at], sessions[0]), "hand in")
+    book = Handle()
+    expect(close_office(sessions[0], book), "close")
+    expect(close_book(book), "close")
+    print(f"{THREADS * MOVES} moves, {sum(worker.waits for worker in workers)} waits, {sum(worker.victims for worker in workers)} victims")
+    if sum(ACCOUNT) != ACCOUNTS * BALANCE:
+        sys.exit("engine.py: money was made or lost")
+
+
+main()
