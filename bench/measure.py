@@ -15,6 +15,7 @@ The sections, with the minutes that they take on 4 free processors:
     growth        a new book and a new office of 256 and of 1,024 sessions, by bench/memory.c                0
     sharing       a book behind a mutex and an office, by bench/sharing.c on the traces of bench/sharing.py  1 1/2
     lock_bench    the same traces by lock_bench mutex and lock_bench threads                                 1/2
+    objects       a queue and a map, by an office, a mutex, and queues without a lock, by object_bench       1 1/2
     waiting       three ways to wait for locks, by bench/waiting.c                                           1
     embedding     the boundary to C beside lock_bench seq and, if its library is there, Berkeley DB          1/2
     instructions  what checks/instructions.py counts; needs valgrind; once                                   1/2
@@ -35,12 +36,13 @@ import time
 from pathlib import Path
 
 sys.dont_write_bytecode = True
-from sections import GLM, LIBRARY, LOCK_BENCH, SECTIONS, TOP  # noqa: E402
+from sections import GLM, LIBRARY, LOCK_BENCH, OBJECT_BENCH, SECTIONS, TOP  # noqa: E402
 
 # what builds each of these, and where
 BUILDS = {
     GLM: (["./glm", "--help"], TOP),
     LOCK_BENCH: (["rt", "run", "--", "--help"], TOP / "crates/lock_bench"),
+    OBJECT_BENCH: (["rt", "run", "--", "--help"], TOP / "crates/object_bench"),
     LIBRARY: (["./embed"], TOP),
 }
 # a round is robbed if more than one tick in so many was stolen

@@ -13,6 +13,7 @@ import worst
 TOP = Path(__file__).resolve().parent.parent
 GLM = TOP / "crates/glm_main/out/glm_main"
 LOCK_BENCH = TOP / "crates/lock_bench/out/lock_bench"
+OBJECT_BENCH = TOP / "crates/object_bench/out/object_bench"
 LIBRARY = TOP / "out/libpelgaisti.a"
 # --quick makes so many times fewer repetitions and rows
 LESS = 100
@@ -244,6 +245,36 @@ class LockBench(Sharing):
         return table(["threads, sessions", *kinds], rows)
 
 
+class Objects(Section):
+    name, heading, needs = "objects", "How threads share small objects: `object_bench`", (OBJECT_BENCH,)
+    how = "Nanoseconds a call, 8,000,000 calls in all."
+    THREADS = (1, 2, 4, 8)
+    # with fewer, a thread may be done before the next one has come to a processor of its own
+    CALLS = 8_000_000
+    # each object and way to share it, as object_bench calls them, and what the table does
+    WAYS = {
+        ("queue", "office"): "queue, office",
+        ("queue", "mutex"): "queue, mutex",
+        ("queue", "array"): "`ArrayQueue`",
+        ("queue", "segments"): "`SegQueue`",
+        ("map", "office"): "map, office",
+        ("map", "mutex"): "map, mutex",
+    }
+
+    def cases(self):
+        keys = [(way, threads) for threads in self.THREADS for way in self.WAYS]
+        return [(key, lambda k=key: self.told(*k)) for key in keys]
+
+    def told(self, way, threads):
+        calls = self.few(self.CALLS) // threads
+        line = output_of([OBJECT_BENCH, *way, str(threads), str(calls)])
+        return {"each": int(re.search(r"nanoseconds=(\d+)", line)[1]) / (calls * threads)}
+
+    def tables(self, found):
+        rows = [[threads, *(found.text((way, threads), "each") for way in self.WAYS)] for threads in self.THREADS]
+        return table(["threads", *self.WAYS.values()], rows)
+
+
 class Waiting(Section):
     name, heading, needs = "waiting", "How threads wait for locks: `bench/waiting.c`", (LIBRARY,)
     how = "Processor time and calls are those of a transaction; the time to the grant is that of requests that wait."
@@ -353,5 +384,5 @@ class Instructions(Section):
         return table(["calls", "instructions", "at most"], [[told, f"{int(a):,}", f"{int(b):,}"] for told, a, b in self.lines])
 
 
-SECTIONS = [Replay, Worst, Memory, Growth, Sharing, LockBench, Waiting, Embedding, Instructions]
+SECTIONS = [Replay, Worst, Memory, Growth, Sharing, LockBench, Objects, Waiting, Embedding, Instructions]
 

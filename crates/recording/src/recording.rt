@@ -1,6 +1,7 @@
 //! An object with the history of its calls.
 
-ghost use Rattle.std.specs.Prelude.{◌≡◌, ◌≤◌, []};
+ghost use Rattle.std.specs.Prelude.{◌≡◌, ◌≤◌, [], length};
+ghost use Rattle.trimmed_list.specs.Kept.{first_kept};
 
 use crate::stepping::Stepping;
 use sequential::{Batching, Entry, Item, MAX_SESSIONS, Sequential, Serving, Trimming, serve_each};
@@ -43,6 +44,14 @@ impl<S: Stepping> Recording<S> {
             object,
             history: TrimmedList::new(alloc),
         }
+    }
+
+    /// Keeps at most the newest `bound` calls from now on, and lets go of older ones as calls are served. What was let go before
+    /// doesn't come back.
+    pub fn keep_at_most(&mut self, bound: u64)
+        ensures { self.new ≡ record self.old { cut = first_kept self.old.cut self.old.bound (length self.old.history); bound = bound } }
+    {
+        self.history.keep_at_most(bound);
     }
 
     /// The object, which is as its history leaves it.
