@@ -50,7 +50,9 @@ pub(crate) fn publish_in_record<O: Sequential>(
     ensures ours { seat.new.table_id ≡ seat.old.table_id }
     ensures step { seat.new.me ≡ (posting seat.old.me.0 call result, rest seat.old.me.1) }
 {
-    drop(shared.exchange(seat, at, SlotValue::PostedCall(call)));
+    let SlotValue::Empty = shared.exchange(seat, at, SlotValue::PostedCall(call)) else {
+        unreachable!()
+    };
     shared.swap::<Post>(seat, at * WORDS_APART, POSTED) == EMPTY
 }
 
@@ -310,7 +312,9 @@ pub(crate) fn release_load<O: Sequential>(
     ensures ours { seat.new.table_id ≡ seat.old.table_id }
     ensures step { seat.new.me ≡ (releasing seat.old.me.0 load.value.pieces.items, rest seat.old.me.1) }
 {
-    drop(shared.exchange(seat, 0, SlotValue::ObjectLoad(load)));
+    let SlotValue::Empty = shared.exchange(seat, 0, SlotValue::ObjectLoad(load)) else {
+        unreachable!()
+    };
     shared.store::<Release>(seat, 0, FREE);
 }
 
@@ -378,7 +382,9 @@ pub(crate) fn answer_record<O: Sequential>(
     ensures accounted { IsAccountedIn seat.new.me.0.front seat.new.me.0.number seat.new.me.0.own.collected seat.new.me.0.own.pending }
 {
     shared.load::<Pick>(seat, at * WORDS_APART);
-    drop(shared.exchange(seat, at, SlotValue::ServedReply(place, reply)));
+    let SlotValue::Empty = shared.exchange(seat, at, SlotValue::ServedReply(place, reply)) else {
+        unreachable!()
+    };
     shared.store::<Answer>(seat, at * WORDS_APART, SERVED);
 }
 
@@ -398,7 +404,9 @@ pub(crate) fn put_back_record<O: Sequential>(
     ensures step { seat.new.me ≡ (putting_back seat.old.me.0 at, seat.old.me.1) }
 {
     shared.load::<Pick>(seat, at * WORDS_APART);
-    drop(shared.exchange(seat, at, SlotValue::PostedCall(call)));
+    let SlotValue::Empty = shared.exchange(seat, at, SlotValue::PostedCall(call)) else {
+        unreachable!()
+    };
     shared.store::<PutBack>(seat, at * WORDS_APART, POSTED);
 }
 
