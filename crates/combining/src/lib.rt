@@ -25,4 +25,4 @@ mod pass;
 pub use calling::{Called, call, resume};
 pub use ended::Ended;
 pub use office::{Answer, HistoryPiece, Office, OpenFault, Performed, Turn};
-pub use publication::{CloseFault, Knowledge, Posted, Ticket as Session};
+pub use publication::{CloseFault, Knowledge, Load, Posted, Ticket as Session};

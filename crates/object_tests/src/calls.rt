@@ -71,7 +71,9 @@ fn want_kept(rt: &impl Abort, alloc: Global, queue: &mut Recording<BoundedQueue>
     assert_eq!(rt; queue.served(), 68);
     assert_eq!(rt; queue.kept_from(), 0);
     assert_eq!(rt; queue.kept().len(), 68);
-    assert_eq!(rt; queue.let_go(66), 66);
+    queue.keep_at_most(67);
+    assert_eq!(rt; queue.kept_from(), 1);
+    assert_eq!(rt; queue.let_go(65), 65);
     assert_eq!(rt; queue.kept_from(), 66);
     let last = entry(2, QueueCall::Pop, QueueReply::Popped(1));
     assert_eq!(rt; queue.kept().last().copied(), Some(last));

@@ -6,14 +6,14 @@ use ordered_map::MapCall;
 /// The keys of the map are below this number, so that many calls are refused.
 const KEYS: u64 = 8;
 
-/// A call that a number chooses.
+/// A call that a test chooses by a pseudorandom number.
 pub(crate) trait Chosen: Copy {
-    /// The call for a number, in a quarter of a session's calls, from 0 to 3. No call of quarter 0 takes something out of the object,
-    /// and no call of quarter 3 puts something in.
+    /// The call for a number in one of the four quarters, from 0 on, of a session's calls. No call of quarter 0 takes something out of
+    /// the object, and no call of quarter 3 puts something in.
     fn choose(quarter: u64, number: u64) -> Self;
 }
 
-/// Whether a call takes something out, and not in: never in quarter 0, and always in quarter 3.
+/// Whether a call that changes the object takes something out: never in quarter 0, and always in quarter 3.
 fn takes_out(quarter: u64, number: u64) -> bool {
     number % 3 < quarter
 }

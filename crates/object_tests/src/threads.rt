@@ -1,17 +1,17 @@
 //! One history has the answers of all threads that share an object.
 //!
-//! Each object has a function of its own that starts the threads: an office of a type parameter can't be proved to go to threads.
+//! Each object has a function of its own that starts the threads, since threads that share an office of a type parameter have no
+//! proof.
 
 ghost use Rattle.std.specs.Prelude.{All, IfOk};
 ghost use Rattle.combining.specs.Sessions.{IsSessionOf, IsIdle};
 
 use crate::asking::ask;
 use crate::workers::{
-    ALL_CALLS, CALLERS, Notes, Placed, Worked, call_often, call_or_take, finish, no_notes,
-    note_from,
+    ALL_CALLS, CALLERS, Notes, Worked, call_often, call_or_take, finish, no_notes,
 };
 use bounded_queue::{BoundedQueue, QueueReply};
-use combining::{Office, Session};
+use combining::{Answer, Office, Session};
 use counter::Counter;
 use ordered_map::{MapReply, OrderedMap};
 use recording::Recording;
@@ -79,39 +79,49 @@ fn work_on_map<R: Threads + Sync>(
     )
 }
 
-/// Expects `ALL_CALLS` answers, one at each place from 0 on. A fresh object that serves the calls in this order gives the same
-/// replies.
-fn want_replies<O: Batching>(rt: &impl Abort, fresh: &mut O, answers: &[Placed<O::Call, O::Reply>])
+/// Expects `ALL_CALLS` answers, one at each place from 0 on, and the same replies from a fresh object that serves the calls in this
+/// order.
+fn want_replies<O: Batching>(
+    rt: &impl Abort,
+    fresh: &mut O,
+    answers: &[Entry<O::Call, Answer<O::Reply>>],
+)
 where
     O::Reply: PartialEq,
 {
     assert!(rt; answers.len() as u64 == ALL_CALLS);
-    for (place, answer) in answers.iter().enumerate() {
-        assert!(rt; answer.place == place as u64);
-        let Entry { session, call, .. } = answer.entry;
-        let reply = ask(fresh, session, call).expect(rt, "a reply");
-        assert!(rt; reply == answer.entry.reply, "{place}");
+    for (place, answered) in answers.iter().enumerate() {
+        let answer = answered.reply;
+        let reply = ask(fresh, answered.session, answered.call).expect(rt, "a reply");
+        assert!(rt; answer.place == place as u64 && answer.reply == reply);
     }
 }
 
-/// Expects the history to have the answers, each once and in order. Its front is what a session took, and the closed object keeps the
-/// rest.
+/// Expects the history of a closed object to be that of the fresh object, which has served the same calls. A session took its front,
+/// and the closed object keeps the rest.
 fn want_history<
     C: Copy + PartialEq,
     Y: Copy + PartialEq,
     O: Trimming<Call = C, Reply = Y, Line = Entry<C, Y>>,
->(rt: &impl Abort, object: &O, notes: &mut Notes<C, Y>) -> Result<(), AllocError> {
-    assert!(rt; object.kept_from() == notes.taken.len() as u64);
-    note_from(&mut notes.taken, object.kept_from(), object.kept())?;
-    assert!(rt; notes.taken.len() == notes.answers.len());
-    for (taken, answer) in notes.taken.iter().zip(notes.answers.iter()) {
-        assert!(rt; taken.place == answer.place && taken.entry == answer.entry);
-    }
+>(rt: &impl Abort, object: &O, taken: &mut Vec<Entry<C, Y>>, fresh: &O) -> Result<(), AllocError> {
+    assert!(rt; object.kept_from() == taken.len() as u64);
+    taken.extend_from_slice(object.kept())?;
+    assert!(rt; taken.as_slice() == fresh.kept());
     Ok(())
 }
 
-/// Eight threads add to one counter. Their answers have the places from 0 on, each once, and each reply is the sum of the amounts at
-/// the places before.
+/// Whether an answer has this reply.
+fn has<C: Copy, Y: Copy + PartialEq>(notes: &Notes<C, Y>, reply: &Y) -> bool {
+    for answered in &notes.answers {
+        if answered.reply.reply == *reply {
+            return true;
+        }
+    }
+    false
+}
+
+/// Eight threads add to one counter. Their answers have the places from 0 on, each once, and a counter of one thread gives the same
+/// replies.
 #[test]
 fn eight_threads_add_to_one_counter(rt: HostRuntime) -> Result<(), Fail> {
     let alloc = rt.alloc();
@@ -119,7 +129,7 @@ fn eight_threads_add_to_one_counter(rt: HostRuntime) -> Result<(), Fail> {
     let (office, sessions) = Office::share(alloc, Counter::new(CALLERS))?;
     let all = work_on_counter(&rt, alloc, &office, sessions)?;
     let counter = finish(&rt, alloc, office, all, &mut notes)?;
-    assert_eq!(rt; counter.served(), notes.answers.len() as u64);
+    assert!(rt; counter.served() == ALL_CALLS);
     want_replies(&rt, &mut Counter::new(CALLERS), &notes.answers);
     Ok(())
 }
@@ -138,18 +148,16 @@ fn eight_threads_fill_and_empty_one_queue(rt: HostRuntime) -> Result<(), Fail> {
     let all = work_on_queue(&rt, alloc, &office, sessions)?;
     let queue = finish(&rt, alloc, office, all, &mut notes)?;
     assert!(rt; notes.taken.is_empty());
-    want_history(&rt, &queue, &mut notes)?;
     let mut fresh = Recording::new(alloc, BoundedQueue::new(alloc)?, CALLERS);
     want_replies(&rt, &mut fresh, &notes.answers);
-    let mut replies = notes.answers.iter().map(|answer| answer.entry.reply);
-    assert!(rt; replies.any(|reply| reply == QueueReply::Full));
-    assert!(rt; replies.any(|reply| reply == QueueReply::Empty));
+    want_history(&rt, &queue, &mut notes.taken, &fresh)?;
+    assert!(rt; has(&notes, &QueueReply::Full) && has(&notes, &QueueReply::Empty));
     Ok(())
 }
 
 /// Eight threads add, take and look up a few keys of one map, while a ninth thread takes the history: by turns the oldest entries and
 /// all that are kept. The answers have the places from 0 on, each once, and a map of one thread gives the same replies. The pieces of
-/// the history, with what the map still keeps, have the same entries. Some calls are refused, since the key is there or isn't.
+/// the history, with what the map still keeps, have the same entries. Some calls are refused, since their key isn't there.
 #[test]
 fn eight_threads_share_one_map_while_a_ninth_takes_its_history(
     rt: HostRuntime,
@@ -161,11 +169,9 @@ fn eight_threads_share_one_map_while_a_ninth_takes_its_history(
     let all = work_on_map(&rt, alloc, &office, sessions)?;
     let map = finish(&rt, alloc, office, all, &mut notes)?;
     assert!(rt; !notes.taken.is_empty());
-    want_history(&rt, &map, &mut notes)?;
     let mut fresh = Recording::new(alloc, OrderedMap::new(alloc), CALLERS);
     want_replies(&rt, &mut fresh, &notes.answers);
-    let mut replies = notes.answers.iter().map(|answer| answer.entry.reply);
-    assert!(rt; replies.any(|reply| matches!(reply, MapReply::Present(_))));
-    assert!(rt; replies.any(|reply| reply == MapReply::Absent));
+    want_history(&rt, &map, &mut notes.taken, &fresh)?;
+    assert!(rt; has(&notes, &MapReply::Absent));
     Ok(())
 }

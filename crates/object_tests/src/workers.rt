@@ -1,11 +1,11 @@
 //! The work of threads that share an object, each with a session of its own: eight make calls, and a ninth takes the history
 //! meanwhile. It notes what each thread sees.
 
-ghost use Rattle.std.specs.Prelude.{All, IfOk, IfSome};
+ghost use Rattle.std.specs.Prelude.{◌≡◌, All, IfOk, IfSome};
 ghost use Rattle.combining.specs.Sessions.{IsSessionOf, IsIdle};
 
 use crate::choices::Chosen;
-use combining::{Answer, Called, Office, Session, call, resume};
+use combining::{Answer, Called, HistoryPiece, Office, Session, call, resume};
 use sequential::{Batching, Entry, Trimming};
 use std::alloc::{AllocError, Global};
 use std::process::Abort;
@@ -23,22 +23,15 @@ pub(crate) const ALL_CALLS: u64 = CALLERS as u64 * CALLS;
 /// The greatest number of turns for one answer.
 const TURNS: u64 = 1_000_000_000;
 
-/// An entry of a history, with its place.
-#[derive(Clone, Copy)]
-pub(crate) struct Placed<C, R> {
-    /// The place, from 0 on.
-    pub(crate) place: u64,
-    /// The entry.
-    pub(crate) entry: Entry<C, R>,
-}
-
-/// A session that a thread gives back, with the entries that it noted, oldest first.
+/// A session that a thread gives back, with what it noted, oldest first.
 #[derive(Drop)]
 pub(crate) struct Worked<O: Batching> {
     /// The session.
     pub(crate) session: Session<O>,
-    /// Its calls with their answers. Of a session that takes the history: what it took.
-    noted: Vec<Placed<O::Call, O::Reply>>,
+    /// Its calls, each with its answer in the place of the reply.
+    answers: Vec<Entry<O::Call, Answer<O::Reply>>>,
+    /// What it took of the history.
+    taken: Vec<Entry<O::Call, O::Reply>>,
 }
 
 /// The next pseudorandom number, of which the upper half is used.
@@ -46,19 +39,6 @@ fn next(state: u64) -> u64 {
     state
         .wrapping_mul(6_364_136_223_846_793_005)
         .wrapping_add(1_442_695_040_888_963_407)
-}
-
-/// The entry of a call with its answer.
-fn with_place<C: Copy, R: Copy>(session: u16, call: C, answer: Answer<R>) -> Placed<C, R> {
-    let reply = answer.reply;
-    Placed {
-        place: answer.place,
-        entry: Entry {
-            session,
-            call,
-            reply,
-        },
-    }
 }
 
 /// Publishes a call, and serves and collects until the answer is there. Returns `None` after `TURNS` tries.
@@ -123,6 +103,17 @@ fn call_as<O: Batching>(
     call_published(office, session, asked)
 }
 
+/// A session that has noted nothing.
+fn unworked<O: Batching>(alloc: Global, session: Session<O>) -> Worked<O>
+    ensures { result.session ≡ session }
+{
+    Worked {
+        session,
+        answers: Vec::new(alloc),
+        taken: Vec::new(alloc),
+    }
+}
+
 /// Makes `CALLS` calls of a session, one after another, and notes their answers. Stops early if an answer doesn't come, or if memory
 /// is refused to the list.
 pub(crate) fn call_often<O: Batching>(
@@ -136,47 +127,36 @@ where
     ensures ours { IsSessionOf office.now result.session }
 {
     let number = session.number();
-    let mut worked = Worked {
-        session,
-        noted: Vec::new(alloc),
-    };
+    let mut worked = unworked(alloc, session);
     let mut state = u64::from(number);
     for made in 0..CALLS {
         state = next(state);
-        let asked = O::Call::choose(made / (CALLS / 4), state >> 33);
-        let Some(answer) = call_as(office, &mut worked.session, asked, made) else {
+        let call = O::Call::choose(made / (CALLS / 4), state >> 33);
+        let Some(reply) = call_as(office, &mut worked.session, call, made) else {
             break;
         };
-        if worked
-            .noted
-            .push(with_place(number, asked, answer))
-            .is_err()
-        {
+        let entry = Entry {
+            session: number,
+            call,
+            reply,
+        };
+        if worked.answers.push(entry).is_err() {
             break;
         }
     }
     worked
 }
 
-/// Appends entries, the first of which has this place.
-pub(crate) fn note_from<C: Copy, R: Copy>(
-    noted: &mut Vec<Placed<C, R>>,
-    first: u64,
-    entries: &[Entry<C, R>],
-) -> Result<(), AllocError> {
-    let mut place = first;
-    for entry in entries {
-        noted.push(Placed {
-            place,
-            entry: *entry,
-        })?;
-        place = place.wrapping_add(1);
-    }
-    Ok(())
+/// Appends a piece of the history to those before it. Returns false if there is a gap between, or if memory is refused.
+fn append<C: Copy, R: Copy>(
+    taken: &mut Vec<Entry<C, R>>,
+    piece: &HistoryPiece<Entry<C, R>>,
+) -> bool {
+    piece.first == taken.len() as u64 && taken.extend_from_slice(&piece.lines).is_ok()
 }
 
-/// Takes what the object keeps, if it is free: at most the oldest 100 entries if `take` is even, and else all. Returns false if
-/// memory is refused.
+/// Takes what the object keeps, if it is free: at most the oldest 100 entries if `take` is even, and else all. Returns false if there
+/// is a gap before what it took, or if memory is refused.
 fn take_once<C: Copy, Y: Copy, O: Trimming<Call = C, Reply = Y, Line = Entry<C, Y>>>(
     alloc: Global,
     office: &Office<O>,
@@ -192,7 +172,7 @@ fn take_once<C: Copy, Y: Copy, O: Trimming<Call = C, Reply = Y, Line = Entry<C, 
         Ok(office.take_history(alloc, &mut worked.session))
     };
     match taken {
-        Ok(Some(piece)) => note_from(&mut worked.noted, piece.first, &piece.lines).is_ok(),
+        Ok(Some(piece)) => append(&mut worked.taken, &piece),
         Ok(None) => true,
         Err(AllocError) => false,
     }
@@ -211,10 +191,7 @@ pub(crate) fn call_or_take<
     if session.number() <= CALLERS {
         return call_often(alloc, office, session);
     }
-    let mut worked = Worked {
-        session,
-        noted: Vec::new(alloc),
-    };
+    let mut worked = unworked(alloc, session);
     for take in 0..TURNS {
         thread::yield_now();
         if !take_once(alloc, office, &mut worked, take) || worked.session.seen() >= ALL_CALLS / 2 {
@@ -227,10 +204,10 @@ pub(crate) fn call_or_take<
 /// What all sessions have noted.
 #[derive(Drop)]
 pub(crate) struct Notes<C, R> {
-    /// The calls with their answers.
-    pub(crate) answers: Vec<Placed<C, R>>,
-    /// The entries that a session took of the history, by place.
-    pub(crate) taken: Vec<Placed<C, R>>,
+    /// The calls, each with its answer in the place of the reply.
+    pub(crate) answers: Vec<Entry<C, Answer<R>>>,
+    /// What a session took of the history, oldest first.
+    pub(crate) taken: Vec<Entry<C, R>>,
 }
 
 /// Empty notes.
@@ -241,19 +218,17 @@ pub(crate) fn no_notes<C: Copy, R: Copy>(alloc: Global) -> Notes<C, R> {
     }
 }
 
-/// Adds what the session with this number noted.
+/// Adds what a thread has noted.
 fn add<C: Copy, R: Copy>(
     notes: &mut Notes<C, R>,
-    session: u16,
-    noted: &[Placed<C, R>],
+    answers: &[Entry<C, Answer<R>>],
+    taken: &[Entry<C, R>],
 ) -> Result<(), AllocError> {
-    if session > CALLERS {
-        return notes.taken.extend_from_slice(noted);
-    }
-    notes.answers.extend_from_slice(noted)
+    notes.answers.extend_from_slice(answers)?;
+    notes.taken.extend_from_slice(taken)
 }
 
-/// Gathers the notes of the threads, and returns their sessions.
+/// Gathers the notes of the threads, and returns their sessions. At most one of them took the history.
 fn gather<O: Batching>(
     alloc: Global,
     office: &Office<O>,
@@ -265,8 +240,12 @@ fn gather<O: Batching>(
 {
     let mut sessions = Vec::new(alloc);
     for worked in all {
-        let Worked { session, noted } = worked;
-        add(notes, session.number(), &noted)?;
+        let Worked {
+            session,
+            answers,
+            taken,
+        } = worked;
+        add(notes, &answers, &taken)?;
         sessions.push(session)?;
     }
     Ok(sessions)
@@ -283,6 +262,8 @@ pub(crate) fn finish<O: Batching>(
     requires ours { All (λ worked. IsSessionOf office worked.session) all.items }
 {
     let sessions = gather(alloc, &office, all, notes)?;
-    notes.answers.sort_unstable_by_key(|answer| answer.place);
+    notes
+        .answers
+        .sort_unstable_by_key(|answered| answered.reply.place);
     Ok(office.close(sessions).ok().expect(rt, "the object"))
 }

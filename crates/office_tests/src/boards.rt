@@ -65,9 +65,9 @@ fn serve(
     ensures taken { IfOk result (λ _. load.new.pieces.items ≡ load.old.pieces.items) }
 {
     laws::histories_are_legal_by_steps();
-    let reply = load.book.serve(whose, call)?;
-    let _length = load.book.history().len();
-    let _served = load.book.served();
+    let reply = load.object.serve(whose, call)?;
+    let _length = load.object.history().len();
+    let _served = load.object.served();
     board.answer(ticket, whose, reply);
     Ok(reply)
 }

@@ -32,7 +32,8 @@ module _ {O C R : Type 0} where
 
 module _ {O C R : Type 0} (obj : Ghosts O C R) where
   -- These are the events of calls that sessions 1 to n make in a run from state s to state t. A call begins before the board's steps for it,
-  -- and returns after them: so at each moment between two events the board was in a state of the run that has carried the calls out.
+  -- and returns after them: so at each moment between two events the board was in a state, between s
+  -- and t, that has carried the calls out. (If several runs lead from s to t, these states may be on any of them.)
   pub record AreEventsOfRun (n : ℕ) (s t : BoardState O C R) (events : List (Event C R)) : Type 0 where
     pub well_formed : IsWellFormed n events
     pub moments : (before after : List (Event C R)) → events ≡ before ++ after → (m : BoardState O C R) × IsRun obj s m × IsRun obj m t × AreCarriedOut n before m

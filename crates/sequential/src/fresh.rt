@@ -6,7 +6,7 @@ use crate::batching::Batching;
 use crate::entry::MAX_SESSIONS;
 use std::alloc::{AllocError as NoMemory, Global};
 
-/// An object that is made for a number of sessions, by nothing else.
+/// An object that needs only its number of sessions to be made.
 pub trait Fresh: Batching {
     /// An object that has answered no calls, for sessions 1 to `sessions`. Fails with `NoMemory` if memory is refused.
     fn fresh(alloc: Global, sessions: u16) -> Result<Self, NoMemory>
