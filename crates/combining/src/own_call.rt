@@ -78,7 +78,7 @@ fn serve_own_last<O: Batching>(
 }
 
 /// Runs a pass in which the combiner performs a call of its own, which it has not published: ahead of the others if the
-/// call makes room, else behind them. Returns the pass, and of the own call its place and reply; `None` if memory is
+/// call goes first, else behind them. Returns the pass, and of the own call its place and reply; `None` if memory is
 /// refused for it.
 pub(crate) fn serve_with_own<O: Batching>(
     board: &Board<O>,

@@ -59,25 +59,25 @@ fn insert_item<C: Copy, R: Copy>(row: &mut Vec<Item<C, R>>, place: usize, whose:
     };
 }
 
-/// Opens record `whose` if a call is posted there, and inserts an item for it into the row: a call that makes room behind
-/// the first `released_first` items, which make room too, any other call at the end.
+/// Opens record `whose` if a call is posted there, and inserts an item for it into the row: a call that goes first behind
+/// the first `going_first` items, which go first too, any other call at the end.
 // Out of line, so that a pass over idle records only looks at them.
 #[inline(never)]
 fn open_posted<O: Batching>(
     board: &Board<O>,
     session: &mut Ticket<O>,
     row: &mut Vec<Item<O::Call, O::Reply>>,
-    released_first: &mut usize,
+    going_first: &mut usize,
     whose: u16,
 )
     requires ours { IsOf board.now session.old × (session.old.has_object ≡ true) }
     requires whose { IsNumber board.now whose }
     requires row { AreOpened board.now.sessions session.old.opened row.old.items }
-    requires room { (board.now.sessions ≤ vec_capacity row.old) × (released_first.old ≤ vec_len row.old) }
+    requires room { (board.now.sessions ≤ vec_capacity row.old) × (going_first.old ≤ vec_len row.old) }
     requires visited { HasVisitedOpened session.old }
     ensures session { IsSameSession session.old session.new × (session.new.front ≡ session.old.front) × (session.new.route ≡ session.old.route) }
     ensures row { AreOpened board.now.sessions session.new.opened row.new.items }
-    ensures room { (board.now.sessions ≤ vec_capacity row.new) × (released_first.new ≤ vec_len row.new) }
+    ensures room { (board.now.sessions ≤ vec_capacity row.new) × (going_first.new ≤ vec_len row.new) }
     ensures calls { KeepsCalls session.old session.new }
     ensures visited { HasVisitedOpened session.new }
     ensures met { IsVisited whose session.new }
@@ -86,10 +86,10 @@ fn open_posted<O: Batching>(
         return;
     };
     let gives = O::goes_first(&call);
-    let place = if gives { *released_first } else { row.len() };
+    let place = if gives { *going_first } else { row.len() };
     insert_item(row, place, whose, call);
     if gives {
-        *released_first += 1;
+        *going_first += 1;
     }
 }
 
@@ -99,23 +99,23 @@ fn open_record<O: Batching>(
     board: &Board<O>,
     session: &mut Ticket<O>,
     row: &mut Vec<Item<O::Call, O::Reply>>,
-    released_first: &mut usize,
+    going_first: &mut usize,
     whose: u16,
 )
     requires ours { IsOf board.now session.old × (session.old.has_object ≡ true) }
     requires whose { IsNumber board.now whose }
     requires row { AreOpened board.now.sessions session.old.opened row.old.items }
-    requires room { (board.now.sessions ≤ vec_capacity row.old) × (released_first.old ≤ vec_len row.old) }
+    requires room { (board.now.sessions ≤ vec_capacity row.old) × (going_first.old ≤ vec_len row.old) }
     requires visited { HasVisitedOpened session.old }
     ensures session { IsSameSession session.old session.new × (session.new.front ≡ session.old.front) × (session.new.route ≡ session.old.route) }
     ensures row { AreOpened board.now.sessions session.new.opened row.new.items }
-    ensures room { (board.now.sessions ≤ vec_capacity row.new) × (released_first.new ≤ vec_len row.new) }
+    ensures room { (board.now.sessions ≤ vec_capacity row.new) × (going_first.new ≤ vec_len row.new) }
     ensures calls { KeepsCalls session.old session.new }
     ensures visited { HasVisitedOpened session.new }
     ensures met { IsVisited whose session.new }
 {
     if board.is_posted(session, whose) {
-        open_posted(board, session, row, released_first, whose);
+        open_posted(board, session, row, going_first, whose);
     }
 }
 
@@ -125,25 +125,25 @@ fn open_walked<O: Batching>(
     board: &Board<O>,
     session: &mut Ticket<O>,
     row: &mut Vec<Item<O::Call, O::Reply>>,
-    released_first: &mut usize,
+    going_first: &mut usize,
     next: Option<u16>,
 )
     requires ours { IsOf board.now session.old × (session.old.has_object ≡ true) }
     requires route { IsRoute (board.now.sessions + 1) session.old.route }
     requires next { IsNext next session.old.route × HasMet next session.old }
     requires row { AreOpened board.now.sessions session.old.opened row.old.items }
-    requires room { (board.now.sessions ≤ vec_capacity row.old) × (released_first.old ≤ vec_len row.old) }
+    requires room { (board.now.sessions ≤ vec_capacity row.old) × (going_first.old ≤ vec_len row.old) }
     requires visited { HasVisitedOpened session.old }
     ensures session { IsSameSession session.old session.new × (session.new.front ≡ session.old.front) }
     ensures row { AreOpened board.now.sessions session.new.opened row.new.items }
-    ensures room { (board.now.sessions ≤ vec_capacity row.new) × (released_first.new ≤ vec_len row.new) }
+    ensures room { (board.now.sessions ≤ vec_capacity row.new) × (going_first.new ≤ vec_len row.new) }
     ensures calls { KeepsCalls session.old session.new }
     ensures visited { HasVisitedOpened session.new }
     ensures met { (j : _) → IsOn j session.old.route → IsVisited j session.new }
 {
     let mut next = next;
     while let Some(whose) = next {
-        open_record(board, session, row, released_first, whose);
+        open_record(board, session, row, going_first, whose);
         next = board.walk(session, Some(whose));
     }
 }
@@ -154,22 +154,22 @@ fn open_listed<O: Batching>(
     board: &Board<O>,
     session: &mut Ticket<O>,
     row: &mut Vec<Item<O::Call, O::Reply>>,
-    released_first: &mut usize,
+    going_first: &mut usize,
 )
     requires ours { IsOf board.now session.old × (session.old.has_object ≡ true) }
     requires none { OpensNone session.old }
     requires row { AreOpened board.now.sessions session.old.opened row.old.items }
-    requires room { (board.now.sessions ≤ vec_capacity row.old) × (released_first.old ≤ vec_len row.old) }
+    requires room { (board.now.sessions ≤ vec_capacity row.old) × (going_first.old ≤ vec_len row.old) }
     ensures session { IsSameSession session.old session.new × (session.new.front ≡ session.old.front) }
     ensures row { AreOpened board.now.sessions session.new.opened row.new.items }
-    ensures room { (board.now.sessions ≤ vec_capacity row.new) × (released_first.new ≤ vec_len row.new) }
+    ensures room { (board.now.sessions ≤ vec_capacity row.new) × (going_first.new ≤ vec_len row.new) }
     ensures calls { KeepsCalls session.old session.new }
     ensures visited { HasVisitedOpened session.new }
     ensures met { (j : _) → 0 < j → j ≤ board.now.sessions → HasCalls (heard_from session.old j) j session.new }
 {
     let next = board.walk(session, None);
     if next.is_some() {
-        open_walked(board, session, row, released_first, next);
+        open_walked(board, session, row, going_first, next);
     }
 }
 
@@ -195,10 +195,10 @@ fn open_records<O: Batching>(
 {
     // the number of sessions fits into 16 bits, so a u32 counts the calls of the row
     let _sessions = board.sessions();
-    let mut released_first = 0;
-    open_listed(board, session, row, &mut released_first);
+    let mut going_first = 0;
+    open_listed(board, session, row, &mut going_first);
     if session.is_unlisted() {
-        open_record(board, session, row, &mut released_first, session.number());
+        open_record(board, session, row, &mut going_first, session.number());
     }
 }
 

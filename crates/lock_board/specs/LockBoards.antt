@@ -12,7 +12,7 @@ use Rattle.publication.specs.Views.{Pending as PendingOf, Own as OwnOf, TicketVi
 use Rattle.publication.specs.Rule.{BoardState as BoardStateOf, IsHome as IsHomeOf, IsOrderly as IsOrderlyOf}
 use Rattle.publication.specs.List.{IsRuled as IsRuledOf}
 use Rattle.atomic_table.specs.Seated.{TableId}
-use Rattle.publication.specs.Boards.{asked_at as asked_at_of, new_ticket as new_ticket_of, new_tickets as new_tickets_of, TookPieces as TookPiecesOf}
+use Rattle.publication.specs.Boards.{new_ticket as new_ticket_of, new_tickets as new_tickets_of}
 use Rattle.publication.specs.BoardHistory.{history_of as history_of_any}
 use Rattle.publication.specs.declared.slot.Load.{Load as LoadOf}
 use Rattle.publication.specs.declared.slot.SlotValue.{SlotValue as SlotValueOf}
@@ -62,14 +62,8 @@ IsRuled = IsRuledOf book_object
 abbrev pub history_of : BoardState → List Entry
 history_of = history_of_any book_object
 
-abbrev pub asked_at : TicketView → ℕ → Call
-asked_at = asked_at_of book_object
-
 abbrev pub new_ticket : TableId → ℕ → ℕ → TicketView
 new_ticket = new_ticket_of
 
 abbrev pub new_tickets : TableId → ℕ → ℕ → List TicketView
 new_tickets = new_tickets_of
-
-abbrev pub TookPieces : BookView → List TicketView → Type 0
-TookPieces = TookPiecesOf book_object

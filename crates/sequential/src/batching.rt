@@ -1,6 +1,6 @@
 //! A sequential object that serves calls in batches.
 
-ghost use Rattle.std.specs.Prelude.{◌≡◌, ◌≤◌, ◌<◌, length, All};
+ghost use Rattle.std.specs.Prelude.{◌≡◌, ◌≤◌, length, All};
 ghost use Rattle.sequential.specs.Batches.{IsItemWithin, IsBatch};
 
 use crate::entry::Item;
@@ -15,7 +15,7 @@ pub trait Batching: Serving {
         requires within { All (IsItemWithin (Self.sessions self.old)) items.old }
         ensures count { result ≤ length items.old }
         ensures batch { IsBatch (Self.history self.old) (Self.history self.new) items.old items.new result }
-        ensures tells { 0 < result → Self.tells_from self.new (length (Self.history self.old)) }
+        ensures tells { Self.tells_from self.new (length (Self.history self.old)) }
         ensures sessions { Self.sessions self.new ≡ Self.sessions self.old }
         ensures cut { Self.cut self.new ≡ Self.cut self.old }
         ensures bound { Self.bound self.new ≡ Self.bound self.old };

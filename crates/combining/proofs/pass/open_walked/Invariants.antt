@@ -10,7 +10,7 @@ invariant-loop-next g l = record {
   route : IsRoute (l.board.sessions + 1) l.session.route;
   next : IsNext l.next l.session.route;
   row : AreOpened l.board.sessions l.session.opened l.row.items;
-  room : (l.board.sessions ≤ vec_capacity l.row) × (l.released_first ≤ vec_len l.row);
+  room : (l.board.sessions ≤ vec_capacity l.row) × (l.going_first ≤ vec_len l.row);
   calls : KeepsCalls l.initial.session l.session;
   visited : HasVisitedOpened l.session;
   met : HasMet l.next l.session;

@@ -42,4 +42,4 @@ answer_row-requires-clause-object g c =
 pub returns-clause-tells : goal.returns-clause-tells
 returns-clause-tells g c some =
     let h = c.requires.object in
-    subst (λ (l : List _). g.O.Serving.tells_from c.serve_batch-served.new.self (length l)) (in-hand c.args.board.now.sessions c.args.object.now c.args.session.now h) (c.serve_batch-served.ensures.tells some)
+    subst (λ (l : List _). g.O.Serving.tells_from c.serve_batch-served.new.self (length l)) (in-hand c.args.board.now.sessions c.args.object.now c.args.session.now h) c.serve_batch-served.ensures.tells

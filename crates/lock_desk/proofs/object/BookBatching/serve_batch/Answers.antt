@@ -12,4 +12,4 @@ returns-clause-batch c =
     (ap (λ (b : BookView). b.history) c.serve_batch.ensures.history) c.serve_batch.ensures.items
 
 pub returns-clause-tells : goal.returns-clause-tells
-returns-clause-tells c some = batch-tells c.args.self.now c.serve_batch.new.self (take c.serve_batch.result c.args.items.now) c.serve_batch.ensures.history
+returns-clause-tells c = batch-tells c.args.self.now c.serve_batch.new.self (take c.serve_batch.result c.args.items.now) c.serve_batch.ensures.history
