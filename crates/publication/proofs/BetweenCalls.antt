@@ -1,6 +1,8 @@
--- A combiner's seat between two calls, after it opened a record or took one off the list.
-use Rattle.std.proofs.Common.{◌≡◌, ℕ, Bool, true, false, Option, Some, None, IfSome, IfNone, refl, sym, subst}
-use Rattle.publication.specs.Kinds.{Seated, opening, in_hand, bypassing, none_unlinked}
+-- A combiner's seat between two calls, after it opened or answered a record, entered a call or took a record off the list.
+use Rattle.std.proofs.Common.{◌≡◌, inl, ℕ, ◌+◌, Bool, true, false, Option, Some, None, IfSome, IfNone, List, [], ◌∷◌, length, refl, sym, ap, ◌∙◌, subst, arith, length-append}
+use Rattle.sequential.specs.Histories.{calls_of}
+use Rattle.publication.specs.Views.{IsAccountedIn, entry, answer}
+use Rattle.publication.specs.Kinds.{Seated, opening, in_hand, bypassing, none_unlinked, answering, entering}
 use Rattle.publication.specs.inner.Tickets.{IsBetweenCalls}
 
 module _ {O C R : Type 0} (m m' : Seated O C R) (number seen : ℕ) (b p l r : Bool) (t : IsBetweenCalls m number seen b p l r) (has : b ≡ true) where
@@ -69,6 +71,54 @@ module _ {O C R : Type 0} (m m' : Seated O C R) (number seen : ℕ) (b p l r : B
     accounted = t.accounted;
     no_head_seen = t.no_head_seen;
     whole = refl;
+    routed = t.routed;
+    unknown = t.unknown;
+    carried = t.carried;
+  }
+
+  -- After it answered record `at`.
+  pub answered-between : (at : ℕ) (call : C) (reply : R) → m' ≡ (answering m.0 at call reply, m.1) → IsAccountedIn m'.0.front m'.0.number m'.0.own.collected m'.0.own.pending → IsBetweenCalls m' number (seen + 1) b p l r
+  answered-between at call reply is accounted = subst (λ (x : Seated O C R). IsBetweenCalls x number (seen + 1) b p l r) (sym is) record {
+    number_is = t.number_is;
+    some_number = t.some_number;
+    seen_is = omega (arith, t.seen_is, length-append m.0.front (entry at call reply ∷ []));
+    started = t.started;
+    retired = t.retired;
+    pending = t.pending;
+    object = sym has;
+    hand = refl;
+    listed = t.listed;
+    heard_few = t.heard_few;
+    heard = t.heard;
+    wide = t.wide;
+    all_made = t.all_made;
+    accounted = subst (λ (x : Seated O C R). IsAccountedIn x.0.front x.0.number x.0.own.collected x.0.own.pending) is accounted;
+    no_head_seen = t.no_head_seen;
+    whole = t.whole;
+    routed = t.routed;
+    unknown = t.unknown;
+    carried = t.carried;
+  }
+
+  -- After it entered a call of its own.
+  pub entered-between : (call : C) (reply : R) → p ≡ false → m' ≡ (entering m.0 call reply, m.1) → calls_of m.0.number m'.0.front ≡ m'.0.own.collected → IsBetweenCalls m' number (seen + 1) b p l r
+  entered-between call reply idle is calls = subst (λ (x : Seated O C R). IsBetweenCalls x number (seen + 1) b p l r) (sym is) record {
+    number_is = t.number_is;
+    some_number = t.some_number;
+    seen_is = omega (arith, t.seen_is, length-append m.0.front (entry m.0.number call reply ∷ []));
+    started = t.started;
+    retired = t.retired;
+    pending = t.pending;
+    object = t.object;
+    hand = t.hand;
+    listed = t.listed;
+    heard_few = omega (arith, t.heard_few, length-append m.0.own.collected (answer (length m.0.front) call reply ∷ []));
+    heard = λ waits. absurd (cc (waits, idle));
+    wide = t.wide;
+    all_made = t.all_made;
+    accounted = inl (subst (λ (x : Seated O C R). calls_of m.0.number x.0.front ≡ x.0.own.collected) is calls);
+    no_head_seen = t.no_head_seen;
+    whole = t.whole;
     routed = t.routed;
     unknown = t.unknown;
     carried = t.carried;

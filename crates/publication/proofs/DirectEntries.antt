@@ -1,6 +1,6 @@
 -- A direct entry keeps the rule: the history, what its session knows of it and the answers that the session collected grow
 -- by the same entry.
-use Rattle.std.proofs.Common.{false, ◌≡◌, ◌≢◌, ℕ, ◌+◌, ◌^◌, ◌<◌, ◌≤◌, true, Some, None, List, [], ◌∷◌, ◌++◌, length, get_or, set, sym, refl, ap, ◌∙◌, subst, arith, length-set, length-append, get_or-set_other, get_or-set_same}
+use Rattle.std.proofs.Common.{false, ◌≡◌, ◌≢◌, ℕ, ◌+◌, ◌^◌, ◌<◌, ◌≤◌, true, Option, Some, None, List, [], ◌∷◌, ◌++◌, length, get_or, set, sym, refl, ap, ◌∙◌, subst, arith, length-set, length-append, get_or-set_other, get_or-set_same}
 use Rattle.std.proofs.lemmas.List.{set-get_or}
 use mathlib.Core.Option as opt
 use mathlib.Core.Logic.{dite}
@@ -93,11 +93,13 @@ module _ {O C R : Type 0} {obj : Ghosts O C R} where
     own_here : own_at owns_after i ≡ w
     own_here = get_or-set_same o.owns i w fresh (omega (arith, o.owns_are))
 
-    combiner_kept : (k : ℕ) → (seat after k).combiner ≡ (seat s k).combiner
-    combiner_kept k = dite (ℕ_discrete k i)
-        (λ e. ap (λ (j : ℕ). (seat after j).combiner) e
-        ∙ (ap (λ (x : View C R). x.combiner) seat_here ∙ (ap (λ (x : View C R). x.combiner) (sym is_me) ∙ ap (λ (j : ℕ). (seat s j).combiner) (sym e))))
-        (λ ne. ap (λ (x : View C R). x.combiner) (seat_other k ne))
+    -- A combiner's part with one place more that was entered.
+    abbrev IsKept : Combiner C → Combiner C → Type 0
+    IsKept c d = (d.has_object ≡ c.has_object) × (d.opened ≡ c.opened) × (d.hand ≡ c.hand)
+
+    combiner_kept : (k : ℕ) → IsKept (seat s k).combiner (seat after k).combiner
+    combiner_kept = each_set s.views i u blank (λ k x. IsKept (seat s k).combiner x.combiner) sits
+        (subst (λ (x : View C R). IsKept x.combiner u.combiner) (sym is_me) (refl, refl, refl)) (λ k ne. (refl, refl, refl))
 
     -- The session's record stays vacant: the answers that it collected grow with the history.
 
@@ -164,18 +166,18 @@ module _ {O C R : Type 0} {obj : Ghosts O C R} where
 
     opens_after : (m j : ℕ) (c : C) → get_elem? (seat after m).combiner.opened j ≡ opt.some (Some c) → IsOpened after owns_after (seat after m).combiner j c
     opens_after m j c there =
-        let t : IsOpened s o.owns (seat s m).combiner j c = o.opens m j c (sym (ap (λ (d : Combiner C). get_elem? d.opened j) (combiner_kept m)) ∙ there) in
-        rw (combiner_kept m) (record {
-          object = t.object;
+        let kept = combiner_kept m in
+        let t : IsOpened s o.owns (seat s m).combiner j c = o.opens m j c (sym (ap (λ (d : List (Option C)). get_elem? d j) kept.1) ∙ there) in record {
+          object = kept.0 ∙ t.object;
           record_of = t.record_of;
           is_busy = t.is_busy;
           call_of = (t.call_of.0, pending_kept j ∙ t.call_of.1);
-          empty_slot = t.empty_slot;
-        })
+          empty_slot = λ away. t.empty_slot (λ held. away (kept.2 ∙ held));
+        }
 
     opened_after : (j : ℕ) → 0 < j → word s j ≡ BUSY → (c : C) × (get_elem? (seat after (word s 0)).combiner.opened j ≡ opt.some (Some c))
     opened_after j some_record busy = let t = o.opened j some_record busy in
-        (t.0, ap (λ (d : Combiner C). get_elem? d.opened j) (combiner_kept (word s 0)) ∙ t.1)
+        (t.0, ap (λ (d : List (Option C)). get_elem? d j) (combiner_kept (word s 0)).1 ∙ t.1)
 
     -- The step keeps the rule of the records.
     entered : IsOrderly obj after
@@ -199,7 +201,7 @@ module _ {O C R : Type 0} {obj : Ghosts O C R} where
       stands = stands_after;
       combiners = combiners_after;
       free = λ z. absurd (omega (arith, object.lock_is));
-      taken = λ some_lock. let t = o.taken some_lock in (ap (λ (d : Combiner C). d.has_object) (combiner_kept (word s 0)) ∙ t.0, t.1, t.2);
+      taken = λ some_lock. let t = o.taken some_lock in ((combiner_kept (word s 0)).0 ∙ t.0, t.1, t.2);
       opens = opens_after;
       opened = opened_after;
       pieces = pieces_kept o.slots s after o.pieces (omega (arith, seats_kept)) (λ z. (z, refl))

@@ -34,3 +34,4 @@ pub mod RealTime
 pub mod ListLaws
 pub mod PieceLaws
 pub mod Linearizable
+pub mod Entered

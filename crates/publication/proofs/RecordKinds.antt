@@ -14,7 +14,7 @@ use Rattle.publication.specs.List.{belongs, IsLinked, IsRuled}
 use Rattle.publication.specs.Views.{Own, Combiner, IsAccountedIn, entry, answer, asks}
 use Rattle.publication.specs.Rule.{blank, BoardState, word, home, seat, own_at, announced, IsPosted, IsBusy, RecordState, HasObject, IsOpened, IsOrderly}
 use Rattle.publication.specs.Rule.RecordState.{posted, busy, served}
-use Rattle.publication.specs.Kinds.{Seated, combiner, as_combiner, opened_in, called, call_at, HasEntered, looks_at, looks_at_record, opening, Opened, opens_record, opens, in_hand, lays, picks_slot, picks, answering, answers, putting_back, puts_back}
+use Rattle.publication.specs.Kinds.{Seated, combiner, as_combiner, opened_in, called, call_at, HasEntered, looks_at, looks_at_record, opening, Opened, opens_record, opens, in_hand, lays, picks_slot, picks, with_entered, answering, answers, putting_back, puts_back}
 use Rattle.publication.specs.declared.view.View.{View}
 use Rattle.publication.specs.declared.slot.SlotValue.{SlotValue}
 use Rattle.publication.specs.declared.slot.SlotValue.TheVariants.{Empty, PostedCall, ServedReply}
@@ -234,16 +234,16 @@ module _ {O C R : Type 0} {obj : Ghosts O C R} where
 
       -- answer and put back: the record isn't opened any more
 
-      -- The combiner's part once record j isn't opened any more.
+      -- The combiner's part once record j is answered.
       abbrev cleared : Combiner C
-      cleared = combiner v.combiner true (set v.combiner.opened j None) 0
+      cleared = with_entered v (combiner v.combiner true (set v.combiner.opened j None) 0)
 
       no_more : (c : C) → get_elem? cleared.opened j ≢ opt.some (Some c)
       no_more c there = let p : None ≡ Some c = opt.some-injective None (Some c) (sym (set_here v.combiner.opened j None (omega arith)) ∙ there) in absurd (cc p)
 
       -- The same after the call was put back, which counts.
       abbrev put_back : Combiner C
-      put_back = record { has_object = true; opened = set v.combiner.opened j None; hand = 0; put_backs = v.combiner.put_backs + 1 }
+      put_back = record { has_object = true; opened = set v.combiner.opened j None; hand = 0; put_backs = v.combiner.put_backs + 1; entered = v.combiner.entered }
 
       put_back_step : v.combiner.hand ≡ j → IsRecordStep s o i v j POSTED (opt.some (PostedCall call)) v.front put_back v.listing v.pieces me some_number o.history
       put_back_step held = same_history POSTED (opt.some (PostedCall call)) put_back refl (length-set v.combiner.opened j None)

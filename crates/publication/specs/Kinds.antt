@@ -71,9 +71,9 @@ module _ {C R : Type 0} where
   own pending collected listed = record { started = true; retired = false; pending = pending; collected = collected; listed = listed }
 
 module _ {C : Type 0} where
-  -- The combiner's part of a view, after a step that puts no call back.
+  -- The combiner's part of a view, after a step that puts no call back and enters none.
   abbrev pub combiner : Combiner C → Bool → List (Option C) → ℕ → Combiner C
-  combiner c has_object opened hand = record { has_object = has_object; opened = opened; hand = hand; put_backs = c.put_backs }
+  combiner c has_object opened hand = record { has_object = has_object; opened = opened; hand = hand; put_backs = c.put_backs; entered = c.entered }
 
 module _ {C R : Type 0} where
   -- The view after a step of the session itself.
@@ -419,9 +419,13 @@ module _ {O C R : Type 0} (obj : Ghosts O C R) where
   replied (x ∷ xs) = elim x.1 [ Empty ↦ obj.any_reply | PostedCall call ↦ obj.any_reply | ServedReply place reply ↦ reply | ObjectLoad load ↦ obj.any_reply ]
 
 module _ {C R : Type 0} where
-  -- The call's entry is the last of the known history, and record j isn't opened any more.
+  -- The combiner's part of a view, with one place more that it entered: the end of the known history.
+  abbrev pub with_entered : View C R → Combiner C → Combiner C
+  with_entered v c = record { has_object = c.has_object; opened = c.opened; hand = c.hand; put_backs = c.put_backs; entered = c.entered ++ length v.front ∷ [] }
+
+  -- The call's entry is the last of the known history, its place is entered, and record j isn't opened any more.
   abbrev pub answering : View C R → ℕ → C → R → View C R
-  answering v j call reply = as_combiner v (v.front ++ entry j call reply ∷ []) (combiner v.combiner true (slice_set v.combiner.opened j None) 0) v.listing
+  answering v j call reply = as_combiner v (v.front ++ entry j call reply ∷ []) (with_entered v (combiner v.combiner true (slice_set v.combiner.opened j None) 0)) v.listing
 
 module _ {O C R : Type 0} (obj : Ghosts O C R) where
   -- Answer: the call of the record in hand is answered with the reply in its slot. The longer history has the calls that the
@@ -435,7 +439,7 @@ module _ {C R : Type 0} where
 
   -- Record j isn't opened any more, and one call more was put back.
   abbrev pub putting_back : View C R → ℕ → View C R
-  putting_back v j = as_combiner v v.front (record { has_object = true; opened = slice_set v.combiner.opened j None; hand = 0; put_backs = v.combiner.put_backs + 1 }) v.listing
+  putting_back v j = as_combiner v v.front (record { has_object = true; opened = slice_set v.combiner.opened j None; hand = 0; put_backs = v.combiner.put_backs + 1; entered = v.combiner.entered }) v.listing
 
 module _ {O C R : Type 0} where
   -- Put back: the call of the record in hand is posted again, and the history stays as it is.
@@ -446,10 +450,21 @@ module _ {C R : Type 0} where
   -- Direct entry: the combiner enters a call of its own into the history, without its record. Publish, answer and take are
   -- one step.
 
-  -- The call's entry is the last of the known history, and its answer is collected.
+  -- The call's entry is the last of the known history, its place is entered, and its answer is collected.
   abbrev pub entering : View C R → C → R → View C R
-  entering v call reply = as_session v (v.front ++ entry v.number call reply ∷ [])
-      (record { started = v.own.started; retired = v.own.retired; pending = v.own.pending; collected = v.own.collected ++ answer (length v.front) call reply ∷ []; listed = v.own.listed }) v.heard v.listing
+  entering v call reply = record {
+    of = v.of;
+    number = v.number;
+    slots = v.slots;
+    made = v.made;
+    front = v.front ++ entry v.number call reply ∷ [];
+    own = record { started = v.own.started; retired = v.own.retired; pending = v.own.pending; collected = v.own.collected ++ answer (length v.front) call reply ∷ []; listed = v.own.listed };
+    combiner = with_entered v v.combiner;
+    heard = v.heard;
+    listing = v.listing;
+    others = v.others;
+    pieces = v.pieces;
+  }
 
 module _ {O C R : Type 0} where
   -- Enter this call with this reply: the session has collected all its calls in the longer history.
@@ -560,7 +575,7 @@ module _ {O C R : Type 0} where
 module _ {C R : Type 0} where
   -- What the closing seat keeps of a session that is handed in.
   abbrev pub handed_in : View C R → Handed C R
-  handed_in w = record { number = w.number; collected = w.own.collected; front = w.front; pieces = w.pieces.own }
+  handed_in w = record { number = w.number; collected = w.own.collected; front = w.front; pieces = w.pieces.own; entered = w.combiner.entered }
 
   -- The session is added to those that were handed in.
   abbrev pub gathered : View C R → View C R → View C R

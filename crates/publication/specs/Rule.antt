@@ -30,7 +30,7 @@ module _ {C R : Type 0} where
 module _ {C : Type 0} where
   -- A session that isn't the combiner, and has opened no record.
   abbrev pub no_combiner : ℕ → Combiner C
-  no_combiner slots = record { has_object = false; opened = replicate slots None; hand = 0; put_backs = 0 }
+  no_combiner slots = record { has_object = false; opened = replicate slots None; hand = 0; put_backs = 0; entered = [] }
 
 -- Nothing is known of the publication list.
 abbrev pub unwalked : Listing

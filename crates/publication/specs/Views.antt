@@ -38,6 +38,8 @@ pub record Combiner (C : Type 0) : Type 0 where
   pub hand : ℕ
   -- how many calls that it had opened it posted again, since it is a session
   pub put_backs : ℕ
+  -- the places of the history that it entered, since it is a session: where it answered a call, or entered one directly
+  pub entered : List ℕ
 
 -- What a seat knows of the publication list.
 pub record Listing : Type 0 where
@@ -63,6 +65,8 @@ pub record Handed (C R : Type 0) : Type 0 where
   pub front : List (Entry C R)
   -- the pieces of the history that it took, in order
   pub pieces : List Piece
+  -- the places of the history that it entered as the combiner, in order
+  pub entered : List ℕ
 
 -- What a seat knows of the other seats.
 pub record Others (C R : Type 0) : Type 0 where
@@ -113,6 +117,9 @@ pub record TicketView (C R : Type 0) : Type 0 where
   pub tries : ℕ
   -- how many calls that it had opened as the combiner it posted again
   pub put_backs : ℕ
+  -- the places of the history that the session entered as the combiner, in order: where it answered a call, or entered one
+  -- directly
+  pub entered : List ℕ
   -- the pieces of the history that the session took, in order
   pub pieces : List Piece
   -- while it is the combiner: the pieces that all sessions took before, in order

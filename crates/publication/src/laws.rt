@@ -18,6 +18,7 @@ ghost use Rattle.publication.specs.List.{IsRuled};
 ghost use Rattle.publication.specs.Kinds.{Seated};
 ghost use Rattle.publication.specs.Collected.{HasCollected};
 ghost use Rattle.publication.specs.BoardHistory.{new_board, history_of, IsAppended, IsEnteredDirectly, IsAccounted};
+ghost use Rattle.publication.specs.Entered.{AreEnteredOnce};
 ghost use Rattle.publication.specs.Runs.{StepName, answer_record, enter, kind_of, StepRequires, CarriesOnlyItsOwn, IsStep, IsSeatSplit, IsSeatJoin, IsRun, calls_made, RespectsRealTime};
 ghost use Rattle.publication.specs.Linearizable.{AreEventsOfRun};
 ghost use Rattle.publication.specs.declared.slot.Load.{Load};
@@ -89,6 +90,14 @@ pub fn calls_stand_in_the_order_of_time<O: Sequential>()
         HasCollected s j mine my_pending → HasCollected t j later later_pending → (y : Answered O.Call O.Reply) (before after : List (Answered O.Call O.Reply)) →
         calls_of j (history_of O.Sequential t) ≡ before ++ y ∷ after → calls_made mine my_pending ≤ length before → length (history_of O.Sequential s) ≤ y.place }
     ensures in_time { (s t : BoardState O O.Call O.Reply) → IsRuled O.Sequential s → IsRun O.Sequential s t → RespectsRealTime O.Sequential s t }
+{}
+
+/// Each place of the history was entered by exactly one session, once: it answered the call there, as the combiner, or entered one
+/// of its own directly. A session's ticket has the places that it entered (`TicketView`: `entered`), in order. So whoever has to
+/// do something about each entry once, such as wake whom it concerns, may leave it to the session that entered it.
+pub fn each_place_is_entered_once<O: Sequential>()
+    ensures { (n : ℕ) (load : Box (Load O O.Call O.Reply)) (s : BoardState O O.Call O.Reply) →
+        IsHome O.Sequential [] (n + 1) load.value → load.value.pieces.items ≡ [] → IsRun O.Sequential (new_board n load) s → AreEnteredOnce O.Sequential s }
 {}
 
 /// Any object that sessions share through a board is linearizable (Herlihy and Wing 1990). In a run of a board from its opening

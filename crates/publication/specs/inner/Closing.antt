@@ -19,7 +19,7 @@ module _ {C R : Type 0} where
 
   -- What the closing seat keeps of a ticket.
   abbrev pub handed_by : TicketView C R → Handed C R
-  handed_by ticket = record { number = ticket.number; collected = ticket.collected; front = ticket.front; pieces = ticket.pieces }
+  handed_by ticket = record { number = ticket.number; collected = ticket.collected; front = ticket.front; pieces = ticket.pieces; entered = ticket.entered }
 
   -- Each session, that is each number above 0 and below `slots`, was handed in.
   abbrev pub WereHanded : ℕ → List (Handed C R) → Type 0

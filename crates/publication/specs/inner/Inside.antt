@@ -37,6 +37,7 @@ module _ {O C R : Type 0} where
     route = t.seat.me.0.listing.route;
     tries = t.seat.me.0.listing.tries;
     put_backs = t.seat.me.0.combiner.put_backs;
+    entered = t.seat.me.0.combiner.entered;
     pieces = t.seat.me.0.pieces.own;
     taken = t.seat.me.0.pieces.all;
   }

@@ -143,7 +143,8 @@ impl<O: Sequential> Board<O> {
         steps::open_record(&self.table.shared, &mut ticket.seat, usize::from(whose))
     }
 
-    /// Answers a call that the combiner opened. The call's entry becomes the last one of the board's history.
+    /// Answers a call that the combiner opened. The call's entry becomes the last one of the board's history, and its place one
+    /// that the session entered.
     pub fn answer(&self, ticket: &mut Ticket<O>, whose: u16, reply: O::Reply)
         requires ours { IsOf self.now ticket.old }
         requires has { ticket.old.has_object ≡ true }
@@ -154,6 +155,7 @@ impl<O: Sequential> Board<O> {
         ensures ticket { ticket.new ≡ record ticket.old {
           front = ticket.old.front ++ entry whose (asked_at O.Sequential ticket.old whose) reply ∷ [];
           opened = slice_set ticket.old.opened whose None;
+          entered = ticket.old.entered ++ length ticket.old.front ∷ [];
         } }
     {
         let place = ticket.seen;
@@ -168,7 +170,8 @@ impl<O: Sequential> Board<O> {
     }
 
     /// Enters a call of the combiner's own session, which it has performed on the object and not published, into the
-    /// history. The call's entry becomes the last one, and its answer is collected at once. Returns the place of the entry.
+    /// history. The call's entry becomes the last one, its place one that the session entered, and its answer is collected at once.
+    /// Returns the place of the entry.
     /// The session must be idle. Its record stays as it is, and no word is written.
     pub fn enter(&self, ticket: &mut Ticket<O>, call: O::Call, reply: O::Reply) -> u64
         requires ours { IsOf self.now ticket.old }
@@ -180,6 +183,7 @@ impl<O: Sequential> Board<O> {
         ensures ticket { ticket.new ≡ record ticket.old {
           front = ticket.old.front ++ entry ticket.old.number call reply ∷ [];
           collected = ticket.old.collected ++ answer result call reply ∷ [];
+          entered = ticket.old.entered ++ result ∷ [];
         } }
         ensures calls { calls_of ticket.new.number ticket.new.front ≡ ticket.new.collected }
     {
