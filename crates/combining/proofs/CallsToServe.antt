@@ -31,7 +31,7 @@ module _ {C : Type 0} where
 module _ {O C R : Type 0} (obj : Ghosts O C R) where
   -- The combiner after it answered the call of record w.
   abbrev pub answered : TicketView C R → ℕ → R → TicketView C R
-  answered t w reply = record t { front = t.front ++ entry w (asked_at obj t w) reply ∷ []; opened = set t.opened w None }
+  answered t w reply = record t { front = t.front ++ entry w (asked_at obj t w) reply ∷ []; opened = set t.opened w None; entered = t.entered ++ length t.front ∷ [] }
 
 module _ {O C R : Type 0} (obj : Ghosts O C R) where
   -- An answer moves a call from the opened ones into the history.

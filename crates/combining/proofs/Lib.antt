@@ -3,6 +3,7 @@ pub mod OpenedRow
 pub mod Batches
 pub mod PerformedCalls
 pub mod CallsToServe
+pub mod Places
 pub mod SameSession
 pub mod OpenedCount
 pub mod Walks

@@ -1,6 +1,7 @@
 -- A pass in which the combiner performs a call of its own, ahead of the published calls or behind them.
 use Rattle.std.proofs.Common.{◌≡◌, ℕ, ◌+◌, ◌<◌, ◌≤◌, Bool, true, false, Option, Some, None, IfSome, IfNone, List, [], ◌∷◌, ◌++◌, length, get_or, refl, sym, ap, ◌∙◌, subst, arith, append_assoc, append-nil, length-append}
 use mathlib.Core.List.{IsPrefix}
+use Rattle.std.specs.List.{range_with_len}
 use Rattle.sequential.specs.declared.entry.Entry.{Entry}
 use Rattle.sequential.specs.Histories.{Answered, calls_of}
 use Rattle.publication.specs.Views.{TicketView, entry, answer}
@@ -8,12 +9,18 @@ use Rattle.publication.specs.declared.slot.Load.{Load}
 use Rattle.publication.proofs.Histories.{calls-fewer}
 use Rattle.publication.proofs.Lists.{prefix_self, prefix_trans}
 use Rattle.combining.specs.inner.OwnCalls.{IsOwnEntered, IsPassWithOwn}
-use Rattle.combining.specs.inner.Passes.{HasServed}
+use Rattle.combining.specs.inner.Passes.{HasPassed, HasServed}
+use Rattle.combining.proofs.Places.{range-first, range-last}
 
 -- What holds of a value holds of it in a weaker form.
 pub some_weaker : {A : Type 0} (o : Option A) (P Q : A → Type 0) → ((x : A) → P x → Q x) → IfSome o P → IfSome o Q
 some_weaker None P Q so p = tt
 some_weaker (Some x) P Q so p = so x p
+
+-- What holds if there is none.
+pub none_then : {A : Type 0} (o : Option A) (P Q : Type 0) → (P → Q) → IfNone o P → IfNone o Q
+none_then None P Q so p = so p
+none_then (Some x) P Q so p = tt
 
 module _ {C R : Type 0} where
   -- The session's view when its own call was entered, and before or after a pass.
@@ -23,38 +30,46 @@ module _ {C R : Type 0} where
     e = entry t.number call reply
 
     -- The call was entered, and then a pass made.
-    pub own_first : IsOwnEntered t u call place reply → v ≡ record u { front = v.front; route = v.route; put_backs = v.put_backs } → IsPrefix u.front v.front → length v.front ≡ length u.front + served
-        → IsPassWithOwn true t v call place reply served
-    own_first own passed longer count =
+    pub own_first : IsOwnEntered t u call place reply → HasPassed u v served → IsPrefix u.front v.front → IsPassWithOwn true t v call place reply served
+    own_first own passed longer =
         let front : u.front ≡ t.front ++ e ∷ [] = ap (λ (x : TicketView C R). x.front) own.session in
+        let long : length u.front ≡ length t.front + 1 = ap (λ (l : List (Entry C R)). length l) front ∙ length-append t.front (e ∷ []) in
         record {
-          session = passed ∙ ap (λ (x : TicketView C R). record x { front = v.front; route = v.route; put_backs = v.put_backs }) own.session;
+          session = passed.session ∙ ap (λ (x : TicketView C R). record x { front = v.front; route = v.route; put_backs = v.put_backs; entered = v.entered }) own.session;
+          entered = passed.entered ∙ (ap (λ (l : List ℕ). l ++ range_with_len (length u.front) served) (ap (λ (x : TicketView C R). x.entered) own.session)
+              ∙ (append_assoc t.entered (place ∷ []) (range_with_len (length u.front) served)
+              ∙ (ap (λ (k : ℕ × ℕ). t.entered ++ k.0 ∷ range_with_len k.1 served) (two own.place_is long) ∙ ap (λ (l : List ℕ). t.entered ++ l) (sym (range-first (length t.front) served)))));
           ahead = [];
           behind = longer.0;
           front = sym longer.1 ∙ (ap (λ (l : List (Entry C R)). l ++ longer.0) front ∙ (append_assoc t.front (e ∷ []) longer.0 ∙ ap (λ (l : List (Entry C R)). l ++ e ∷ longer.0) (sym (append-nil t.front))));
           place_is = own.place_is ∙ ap (λ (l : List (Entry C R)). length l) (sym (append-nil t.front));
-          count = omega (arith, count, ap (λ (l : List (Entry C R)). length l) longer.1, length-append u.front longer.0);
+          count = omega (arith, passed.count, ap (λ (l : List (Entry C R)). length l) longer.1, length-append u.front longer.0);
           order = refl;
         }
+      where
+        two : place ≡ length t.front → length u.front ≡ length t.front + 1 → ◌≡◌ {A = ℕ × ℕ} (place, length u.front) (length t.front, length t.front + 1)
+        two x y = cc (x, y)
 
     -- A pass was made, and then the call entered.
-    pub own_last : u ≡ record t { front = u.front; route = u.route; put_backs = u.put_backs } → IsPrefix t.front u.front → length u.front ≡ length t.front + served → IsOwnEntered u v call place reply
-        → IsPassWithOwn false t v call place reply served
-    own_last passed longer count own =
-        let number : u.number ≡ t.number = ap (λ (x : TicketView C R). x.number) passed in
-        let collected : u.collected ≡ t.collected = ap (λ (x : TicketView C R). x.collected) passed in
-        let whole : v ≡ record t { front = u.front ++ entry u.number call reply ∷ []; collected = u.collected ++ answer place call reply ∷ []; route = u.route; put_backs = u.put_backs }
-        = own.session ∙ ap (λ (x : TicketView C R). record x { front = u.front ++ entry u.number call reply ∷ []; collected = u.collected ++ answer place call reply ∷ [] }) passed in
+    pub own_last : HasPassed t u served → IsPrefix t.front u.front → IsOwnEntered u v call place reply → IsPassWithOwn false t v call place reply served
+    own_last passed longer own =
+        let number : u.number ≡ t.number = ap (λ (x : TicketView C R). x.number) passed.session in
+        let collected : u.collected ≡ t.collected = ap (λ (x : TicketView C R). x.collected) passed.session in
+        let whole : v ≡ record t { front = u.front ++ entry u.number call reply ∷ []; collected = u.collected ++ answer place call reply ∷ []; route = u.route; put_backs = u.put_backs; entered = u.entered ++ place ∷ [] }
+        = own.session ∙ ap (λ (x : TicketView C R). record x { front = u.front ++ entry u.number call reply ∷ []; collected = u.collected ++ answer place call reply ∷ []; entered = u.entered ++ place ∷ [] }) passed.session in
         let front : v.front ≡ u.front ++ e ∷ [] = ap (λ (x : TicketView C R). x.front) whole ∙ ap (λ (n : ℕ). u.front ++ entry n call reply ∷ []) number in
         record {
           session = whole
-              ∙ (ap (λ (k : List (Entry C R) × (List ℕ × ℕ)). record t { front = k.0; collected = u.collected ++ answer place call reply ∷ []; route = k.1.0; put_backs = k.1.1 }) (sym (ap (λ (x : TicketView C R). (x.front, (x.route, x.put_backs))) whole))
-              ∙ ap (λ (l : List (Answered C R)). record t { front = v.front; collected = l ++ answer place call reply ∷ []; route = v.route; put_backs = v.put_backs }) collected);
+              ∙ (ap (λ (k : List (Entry C R) × (List ℕ × (ℕ × List ℕ))). record t { front = k.0; collected = u.collected ++ answer place call reply ∷ []; route = k.1.0; put_backs = k.1.1.0; entered = k.1.1.1 })
+              (sym (ap (λ (x : TicketView C R). (x.front, (x.route, (x.put_backs, x.entered)))) whole))
+              ∙ ap (λ (l : List (Answered C R)). record t { front = v.front; collected = l ++ answer place call reply ∷ []; route = v.route; put_backs = v.put_backs; entered = v.entered }) collected);
+          entered = ap (λ (x : TicketView C R). x.entered) whole ∙ (ap (λ (l : List ℕ). l ++ place ∷ []) passed.entered ∙ (append_assoc t.entered (range_with_len (length t.front) served) (place ∷ [])
+              ∙ ap (λ (l : List ℕ). t.entered ++ l) (sym (range-last (length t.front) served place (sym (own.place_is ∙ passed.count))))));
           ahead = longer.0;
           behind = [];
           front = front ∙ ap (λ (l : List (Entry C R)). l ++ e ∷ []) (sym longer.1);
           place_is = own.place_is ∙ ap (λ (l : List (Entry C R)). length l) (sym longer.1);
-          count = omega (arith, count, ap (λ (l : List (Entry C R)). length l) longer.1, length-append t.front longer.0);
+          count = omega (arith, passed.count, ap (λ (l : List (Entry C R)). length l) longer.1, length-append t.front longer.0);
           order = refl;
         }
 
@@ -62,13 +77,6 @@ module _ {C R : Type 0} where
   pub entered-longer : (t u : TicketView C R) (call : C) (o : Option (ℕ × R)) → IfSome o (λ r. IsOwnEntered t u call r.0 r.1) → IfNone o (u ≡ t) → IsPrefix t.front u.front
   entered-longer t u call None own same = subst (λ (x : TicketView C R). IsPrefix t.front x.front) (sym same) (prefix_self t.front)
   entered-longer t u call (Some r) own same = (entry t.number call r.1 ∷ [], sym (ap (λ (x : TicketView C R). x.front) own.session))
-
-  -- How many entries a pass with a call of one's own adds.
-  pub pass-count : (first : Bool) (t v : TicketView C R) (call : C) (place : ℕ) (reply : R) (served : ℕ) → IsPassWithOwn first t v call place reply served
-      → length v.front ≡ length t.front + (served + 1)
-  pass-count first t v call place reply served p =
-      let whole = ap (λ (l : List (Entry C R)). length l) p.front in
-      omega (arith, whole, length-append (t.front ++ p.ahead) (entry t.number call reply ∷ p.behind), length-append t.front p.ahead, p.count)
 
 module _ {C R : Type 0} where
   -- A call of its own that the combiner entered, or for which memory was refused, changes neither what the session has heard of nor how
@@ -102,3 +110,19 @@ module _ {O C R : Type 0} where
         heard = λ unstarved j is few. omega (arith, s.heard unstarved j is few, calls-fewer j u.front v.front grows);
         taken = taken ∙ s.taken;
       }
+
+module _ {C R : Type 0} where
+  -- A pass before or after a call for which memory was refused is the whole pass.
+  pub refused-first : (t u v : TicketView C R) (served : ℕ) → u ≡ t → HasPassed u v served → HasPassed t v served
+  refused-first t u v served same p = subst (λ (x : TicketView C R). HasPassed x v served) same p
+
+  pub refused-last : (t u v : TicketView C R) (served : ℕ) → HasPassed t u served → v ≡ u → HasPassed t v served
+  refused-last t u v served p same = subst (λ (x : TicketView C R). HasPassed t x served) (sym same) p
+
+  -- What the session has entered, and that its known history only grew.
+  pub own-entered : (t u : TicketView C R) (call : C) (o : Option (ℕ × R)) → IfSome o (λ r. IsOwnEntered t u call r.0 r.1) → IfNone o (u ≡ t) → IsPrefix t.entered u.entered
+  own-entered t u call None own same = subst (λ (x : TicketView C R). IsPrefix t.entered x.entered) (sym same) (prefix_self t.entered)
+  own-entered t u call (Some r) own same = (r.0 ∷ [], sym (ap (λ (x : TicketView C R). x.entered) own.session))
+
+  pub pass-entered : (t u : TicketView C R) (served : ℕ) → HasPassed t u served → IsPrefix t.entered u.entered
+  pass-entered t u served p = (range_with_len (length t.front) served, sym p.entered)

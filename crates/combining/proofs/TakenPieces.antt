@@ -16,12 +16,12 @@ use Rattle.sequential.specs.declared.object.Sequential.{Ghosts}
 
 module _ {C R : Type 0} where
   -- A session that isn't the combiner is none afterwards, has begun no walk, and knows nothing of others' pieces.
-  same_rest : (t : TicketView C R) (f : List (Entry C R)) (n : ℕ) (q : List Piece) → t.has_object ≡ false → t.route ≡ [] → t.taken ≡ []
-      → record t { front = f; put_backs = n; pieces = q; has_object = false; route = []; taken = [] } ≡ record t { front = f; put_backs = n; pieces = q }
-  same_rest t f n q lacked no_walk untaken =
-      ap (λ (b : Bool). record t { front = f; put_backs = n; pieces = q; has_object = b; route = []; taken = [] }) (sym lacked)
-      ∙ (ap (λ (r : List ℕ). record t { front = f; put_backs = n; pieces = q; route = r; taken = [] }) (sym no_walk)
-      ∙ ap (λ (ps : List Piece). record t { front = f; put_backs = n; pieces = q; taken = ps }) (sym untaken))
+  same_rest : (t : TicketView C R) (f : List (Entry C R)) (n : ℕ) (m : List ℕ) (q : List Piece) → t.has_object ≡ false → t.route ≡ [] → t.taken ≡ []
+      → record t { front = f; put_backs = n; entered = m; pieces = q; has_object = false; route = []; taken = [] } ≡ record t { front = f; put_backs = n; entered = m; pieces = q }
+  same_rest t f n m q lacked no_walk untaken =
+      ap (λ (b : Bool). record t { front = f; put_backs = n; entered = m; pieces = q; has_object = b; route = []; taken = [] }) (sym lacked)
+      ∙ (ap (λ (r : List ℕ). record t { front = f; put_backs = n; entered = m; pieces = q; route = r; taken = [] }) (sym no_walk)
+      ∙ ap (λ (ps : List Piece). record t { front = f; put_backs = n; entered = m; pieces = q; taken = ps }) (sym untaken))
 
   -- The session noted one piece meanwhile: it knows the history, and the piece is its own.
   pub noted_one : (t u w : TicketView C R) (h : List (Entry C R)) (all after : List Piece) (p : Piece) → u ≡ record t { front = h; has_object = true; taken = all }
@@ -33,15 +33,15 @@ module _ {C R : Type 0} where
       let one : added all after ≡ p ∷ [] = ap (added all) noted ∙ drop-append_seam all (p ∷ []) in
       let front : w.front ≡ h = ap (λ (x : TicketView C R). x.front) whole in
       whole ∙ (ap (λ (ps : List Piece). record t { front = h; has_object = false; route = []; pieces = t.pieces ++ ps; taken = [] }) one
-      ∙ (same_rest t h t.put_backs (t.pieces ++ p ∷ []) lacked no_walk untaken ∙ ap (λ (f : List (Entry C R)). record t { front = f; pieces = t.pieces ++ p ∷ [] }) (sym front)))
+      ∙ (same_rest t h t.put_backs t.entered (t.pieces ++ p ∷ []) lacked no_walk untaken ∙ ap (λ (f : List (Entry C R)). record t { front = f; pieces = t.pieces ++ p ∷ [] }) (sym front)))
 
   -- The session took the object and made a pass, and noted no piece.
   pub made : (t u v : TicketView C R) (h : List (Entry C R)) (all after : List Piece) → u ≡ record t { front = h; has_object = true; taken = all }
-      → v ≡ record u { front = v.front; route = v.route; put_backs = v.put_backs } → after ≡ all
-      → v ≡ record t { front = v.front; has_object = true; route = v.route; put_backs = v.put_backs; taken = after }
+      → v ≡ record u { front = v.front; route = v.route; put_backs = v.put_backs; entered = v.entered } → after ≡ all
+      → v ≡ record t { front = v.front; has_object = true; route = v.route; put_backs = v.put_backs; entered = v.entered; taken = after }
   made t u v h all after seized served same =
-      served ∙ (ap (λ (x : TicketView C R). record x { front = v.front; route = v.route; put_backs = v.put_backs }) seized
-      ∙ ap (λ (ps : List Piece). record t { front = v.front; has_object = true; route = v.route; put_backs = v.put_backs; taken = ps }) (sym same))
+      served ∙ (ap (λ (x : TicketView C R). record x { front = v.front; route = v.route; put_backs = v.put_backs; entered = v.entered }) seized
+      ∙ ap (λ (ps : List Piece). record t { front = v.front; has_object = true; route = v.route; put_backs = v.put_backs; entered = v.entered; taken = ps }) (sym same))
 
   -- Giving the object back notes no piece if none was taken meanwhile.
   pub gave_back : (v w : TicketView C R) (after : List Piece) → w ≡ record v { has_object = false; route = []; pieces = v.pieces ++ added v.taken after; taken = [] } → v.taken ≡ after
@@ -52,13 +52,13 @@ module _ {C R : Type 0} where
       released ∙ ap (λ (q : List Piece). record v { has_object = false; route = []; pieces = q; taken = [] }) kept
 
   -- The session made a pass meanwhile, and noted no piece.
-  passed : (t v w : TicketView C R) (all : List Piece) → v ≡ record t { front = v.front; has_object = true; route = v.route; put_backs = v.put_backs; taken = all }
-      → w ≡ record v { has_object = false; route = []; taken = [] } → t.has_object ≡ false → t.route ≡ [] → t.taken ≡ [] → w ≡ record t { front = w.front; put_backs = w.put_backs }
+  passed : (t v w : TicketView C R) (all : List Piece) → v ≡ record t { front = v.front; has_object = true; route = v.route; put_backs = v.put_backs; entered = v.entered; taken = all }
+      → w ≡ record v { has_object = false; route = []; taken = [] } → t.has_object ≡ false → t.route ≡ [] → t.taken ≡ [] → w ≡ record t { front = w.front; put_backs = w.put_backs; entered = w.entered }
   passed t v w all late released lacked no_walk untaken =
-      let whole : w ≡ record t { front = v.front; put_backs = v.put_backs; has_object = false; route = []; taken = [] }
+      let whole : w ≡ record t { front = v.front; put_backs = v.put_backs; entered = v.entered; has_object = false; route = []; taken = [] }
       = released ∙ ap (λ (x : TicketView C R). record x { has_object = false; route = []; taken = [] }) late in
-      let both : (v.front, v.put_backs) ≡ (w.front, w.put_backs) = sym (ap (λ (x : TicketView C R). (x.front, x.put_backs)) whole) in
-      whole ∙ (same_rest t v.front v.put_backs t.pieces lacked no_walk untaken ∙ ap (λ (k : List (Entry C R) × ℕ). record t { front = k.0; put_backs = k.1 }) both)
+      let both : (v.front, (v.put_backs, v.entered)) ≡ (w.front, (w.put_backs, w.entered)) = sym (ap (λ (x : TicketView C R). (x.front, (x.put_backs, x.entered))) whole) in
+      whole ∙ (same_rest t v.front v.put_backs v.entered t.pieces lacked no_walk untaken ∙ ap (λ (k : List (Entry C R) × (ℕ × List ℕ)). record t { front = k.0; put_backs = k.1.0; entered = k.1.1 }) both)
 
 module _ {O C R : Type 0} {obj : Ghosts O C R} where
   -- The session looked at the object meanwhile, and noted no piece.
@@ -68,7 +68,7 @@ module _ {O C R : Type 0} {obj : Ghosts O C R} where
       = released ∙ ap (λ (x : TicketView C R). record x { has_object = false; route = []; taken = [] }) b.session in
       let front : after.front ≡ mid.front = ap (λ (x : TicketView C R). x.front) whole in
       record {
-        session = whole ∙ (same_rest before mid.front before.put_backs before.pieces b.lacked b.no_walk b.untaken ∙ ap (λ (f : List (Entry C R)). record before { front = f }) (sym front));
+        session = whole ∙ (same_rest before mid.front before.put_backs before.entered before.pieces b.lacked b.no_walk b.untaken ∙ ap (λ (f : List (Entry C R)). record before { front = f }) (sym front));
         longer = subst (IsPrefix before.front) (sym front) b.longer;
         legal = subst obj.is_legal (sym front) b.legal;
       }
@@ -87,6 +87,7 @@ module _ {O C R : Type 0} {obj : Ghosts O C R} {tells_from : O → ℕ → Type 
         own = m.own;
         front = front ∙ m.front;
         count = m.count;
+        entered = ap (λ (x : TicketView C R). x.entered) released ∙ m.entered;
         legal = subst obj.is_legal (sym front) m.legal;
       }
 
@@ -96,11 +97,11 @@ module _ {C R : Type 0} where
   tried-front t u h = ⊎_elim (λ unlisted. ⊎_elim (λ (e : u ≡ tried t). ap (λ (x : TicketView C R). x.front) e) (λ (e : u ≡ tried (enlisted t)). ap (λ (x : TicketView C R). x.front) e) unlisted.1)
       (λ other. ap (λ (x : TicketView C R). x.front) other.1) h
 
-  -- Nor of what the session is.
-  pub tried-rest : (t u : TicketView C R) → HasTriedToList t u → (u.has_object ≡ t.has_object) × (u.route ≡ t.route)
-  tried-rest t u h = ⊎_elim (λ unlisted. ⊎_elim (λ (e : u ≡ tried t). (ap (λ (x : TicketView C R). x.has_object) e, ap (λ (x : TicketView C R). x.route) e))
-      (λ (e : u ≡ tried (enlisted t)). (ap (λ (x : TicketView C R). x.has_object) e, ap (λ (x : TicketView C R). x.route) e)) unlisted.1)
-      (λ other. (ap (λ (x : TicketView C R). x.has_object) other.1, ap (λ (x : TicketView C R). x.route) other.1)) h
+  -- Nor of what the session is, and of what it entered.
+  pub tried-rest : (t u : TicketView C R) → HasTriedToList t u → (u.has_object ≡ t.has_object) × (u.route ≡ t.route) × (u.entered ≡ t.entered)
+  tried-rest t u h = ⊎_elim (λ unlisted. ⊎_elim (λ (e : u ≡ tried t). (ap (λ (x : TicketView C R). x.has_object) e, ap (λ (x : TicketView C R). x.route) e, ap (λ (x : TicketView C R). x.entered) e))
+      (λ (e : u ≡ tried (enlisted t)). (ap (λ (x : TicketView C R). x.has_object) e, ap (λ (x : TicketView C R). x.route) e, ap (λ (x : TicketView C R). x.entered) e)) unlisted.1)
+      (λ other. (ap (λ (x : TicketView C R). x.has_object) other.1, ap (λ (x : TicketView C R). x.route) other.1, ap (λ (x : TicketView C R). x.entered) other.1)) h
 
 -- which lines
 

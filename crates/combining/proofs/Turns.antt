@@ -1,5 +1,6 @@
 -- A whole call of a session: what it knows from turn to turn, and at its end.
-use Rattle.std.proofs.Common.{◌≡◌, ℕ, ◌+◌, ◌⊎◌, ⊎_elim, Bool, true, Option, Some, None, List, [], ◌∷◌, ◌++◌, length, refl, sym, ap, ◌∙◌, subst, arith, append_assoc, length-append}
+use Rattle.std.proofs.Common.{◌≡◌, ℕ, ◌+◌, ◌⊎◌, inl, inr, ⊎_elim, Bool, true, Option, Some, None, List, [], ◌∷◌, ◌++◌, length, refl, sym, ap, ◌∙◌, subst, arith, append_assoc, length-append}
+use Rattle.std.specs.List.{range_with_len}
 use mathlib.Core.List.{IsPrefix}
 use mathlib.Core.Option as opt
 use lib.ListN.{get_elem?}
@@ -8,24 +9,32 @@ use Rattle.sequential.specs.Histories.{Answered, calls_of}
 use Rattle.publication.specs.Views.{TicketView, Pending, entry, answer, asks}
 use Rattle.publication.specs.Boards.{publishing, enlisted, tried}
 use Rattle.publication.proofs.Lists.{prefix_self, prefix_trans}
+use Rattle.combining.proofs.EndedWaits.{elem-seam}
 use Rattle.combining.specs.Sessions.{HasTriedToList, IsPassed, IsCollected, IsPerformed, IsRefused}
+use Rattle.publication.specs.declared.board.Posted.{Posted}
+use Rattle.publication.specs.declared.board.Posted.TheVariants.{Listed, Unlisted}
+use Rattle.combining.specs.inner.Calling.{HasGoneOn}
 use Rattle.combining.specs.Calls.{later, IsWaitingOn, IsAnswered, IsCalled, IsCalling}
 use Rattle.sequential.specs.declared.object.Sequential.{Ghosts}
 
 module _ {C R : Type 0} where
   -- A session of which nothing else changed than a turn may change is as `later` has it.
-  pub fits : (t u : TicketView C R) (q : Option (Pending C)) (cs : List (Answered C R)) (f : List (Entry C R)) (h : List ℕ) (l : Bool) (n p : ℕ)
-      → u ≡ record t { pending = q; collected = cs; front = f; heard = h; listed = l; tries = n; put_backs = p } → u ≡ later t q cs u
-  fits t u q cs f h l n p is = is ∙ ap
-      (λ (k : List (Entry C R) × (List ℕ × (Bool × (ℕ × ℕ)))). record t { pending = q; collected = cs; front = k.0; heard = k.1.0; listed = k.1.1.0; tries = k.1.1.1.0; put_backs = k.1.1.1.1 })
-      (sym (ap (λ (x : TicketView C R). (x.front, (x.heard, (x.listed, (x.tries, x.put_backs))))) is))
+  pub fits : (t u : TicketView C R) (q : Option (Pending C)) (cs : List (Answered C R)) (f : List (Entry C R)) (h : List ℕ) (l : Bool) (n p : ℕ) (m : List ℕ)
+      → u ≡ record t { pending = q; collected = cs; front = f; heard = h; listed = l; tries = n; put_backs = p; entered = m } → u ≡ later t q cs u
+  fits t u q cs f h l n p m is = is ∙ ap
+      (λ (k : List (Entry C R) × (List ℕ × (Bool × (ℕ × (ℕ × List ℕ))))). record t { pending = q; collected = cs; front = k.0; heard = k.1.0; listed = k.1.1.0; tries = k.1.1.1.0; put_backs = k.1.1.1.1.0; entered = k.1.1.1.1.1 })
+      (sym (ap (λ (x : TicketView C R). (x.front, (x.heard, (x.listed, (x.tries, (x.put_backs, x.entered)))))) is))
 
   -- A front that stays begins itself.
   stays : (t u : TicketView C R) (f : List (Entry C R)) → u.front ≡ f → IsPrefix t.front f → IsPrefix t.front u.front
   stays t u f is longer = subst (λ (l : List (Entry C R)). IsPrefix t.front l) (sym is) longer
 
+  -- So do places that stay.
+  keeps : (t u : TicketView C R) → u.entered ≡ t.entered → IsPrefix t.entered u.entered
+  keeps t u is = subst (λ (l : List ℕ). IsPrefix t.entered l) (sym is) (prefix_self t.entered)
+
   pub waiting-self : (t : TicketView C R) → IsWaitingOn t t
-  waiting-self t = record { session = refl; longer = prefix_self t.front }
+  waiting-self t = record { session = refl; longer = prefix_self t.front; entered = prefix_self t.entered }
 
   -- A session that tried once more to have its call listed goes on waiting.
   pub waiting-tried : (t u : TicketView C R) → HasTriedToList t u → IsWaitingOn t u
@@ -39,16 +48,18 @@ module _ {C R : Type 0} where
     where
       from : (h : List ℕ) (l : Bool) (n : ℕ) → u ≡ record t { heard = h; listed = l; tries = n } → IsWaitingOn t u
       from h l n is = record {
-        session = fits t u t.pending t.collected t.front h l n t.put_backs is;
+        session = fits t u t.pending t.collected t.front h l n t.put_backs t.entered is;
         longer = stays t u t.front (ap (λ (x : TicketView C R). x.front) is) (prefix_self t.front);
+        entered = keeps t u (ap (λ (x : TicketView C R). x.entered) is);
       }
 
   -- Waiting goes on.
   pub waiting-trans : (t u v : TicketView C R) → IsWaitingOn t u → IsWaitingOn u v → IsWaitingOn t v
   waiting-trans t u v first last = record {
-    session = fits t v t.pending t.collected v.front v.heard v.listed v.tries v.put_backs
+    session = fits t v t.pending t.collected v.front v.heard v.listed v.tries v.put_backs v.entered
         (last.session ∙ ap (λ (x : TicketView C R). later x x.pending x.collected v) first.session);
     longer = prefix_trans t.front u.front v.front first.longer last.longer;
+    entered = prefix_trans t.entered u.entered v.entered first.entered last.entered;
   }
 
 module _ {O C R : Type 0} {obj : Ghosts O C R} where
@@ -57,9 +68,10 @@ module _ {O C R : Type 0} {obj : Ghosts O C R} where
   waiting-passed t u served p =
       let first = waiting-tried t p.between p.is_tried in
       record {
-        session = fits t u t.pending t.collected u.front p.between.heard p.between.listed p.between.tries u.put_backs
-            (p.session ∙ ap (λ (x : TicketView C R). record x { front = u.front; put_backs = u.put_backs }) first.session);
+        session = fits t u t.pending t.collected u.front p.between.heard p.between.listed p.between.tries u.put_backs u.entered
+            (p.session ∙ ap (λ (x : TicketView C R). record x { front = u.front; put_backs = u.put_backs; entered = u.entered }) first.session);
         longer = (p.others ++ p.own, sym (p.front ∙ append_assoc t.front p.others p.own));
+        entered = (range_with_len (length (t.front ++ p.others)) served, sym p.entered);
       }
 
   -- A session that waited collects its answer.
@@ -72,10 +84,11 @@ module _ {O C R : Type 0} {obj : Ghosts O C R} where
         c.floor,
         sym pending ∙ c.pending,
         record {
-          session = fits t v None (t.collected ++ answer place c.call reply ∷ []) v.front u.heard u.listed u.tries u.put_backs
+          session = fits t v None (t.collected ++ answer place c.call reply ∷ []) v.front u.heard u.listed u.tries u.put_backs u.entered
               (c.session ∙ (ap (λ (x : TicketView C R). record x { front = v.front; pending = None; collected = u.collected ++ answer place c.call reply ∷ [] }) w.session
               ∙ ap (λ (l : List (Answered C R)). record (later t t.pending t.collected u) { front = v.front; pending = None; collected = l ++ answer place c.call reply ∷ [] }) collected));
           longer = prefix_trans t.front u.front v.front w.longer c.longer;
+          entered = subst (λ (l : List ℕ). IsPrefix t.entered l) (sym (ap (λ (x : TicketView C R). x.entered) c.session)) w.entered;
           legal = c.legal;
           stands = subst (λ (n : ℕ). get_elem? v.front place ≡ opt.some (entry n c.call reply)) number c.stands;
           late = c.late;
@@ -96,32 +109,29 @@ module _ {C R : Type 0} where
 
       from : (h : List ℕ) (l : Bool) (n : ℕ) → u ≡ record p { heard = h; listed = l; tries = n } → IsWaitingOn p u
       from h l n is = record {
-        session = fits p u p.pending p.collected p.front h l n p.put_backs is;
+        session = fits p u p.pending p.collected p.front h l n p.put_backs p.entered is;
         longer = stays p u p.front (ap (λ (x : TicketView C R). x.front) is) (prefix_self p.front);
+        entered = keeps p u (ap (λ (x : TicketView C R). x.entered) is);
       }
 
 module _ {O C R : Type 0} {obj : Ghosts O C R} where
   -- The call that an idle session published waits for its answer.
   pub published : (s t v : TicketView C R) (call : C) → IsRefused obj s t ⊎ (t ≡ s) → IsWaitingOn (publishing t call) v → IsCalling s v call
-  published s t v call before w = ⊎_elim (λ r. from t.front t.put_backs r.session r.longer) (λ is. from s.front s.put_backs is (prefix_self s.front)) before
+  published s t v call before w = ⊎_elim (λ r. from t.front t.put_backs t.entered r.session r.longer (range_with_len (length (s.front ++ r.others)) (length r.own), sym r.entered))
+      (λ is. from s.front s.put_backs s.entered is (prefix_self s.front) (prefix_self s.entered)) before
     where
-      from : (f : List (Entry C R)) (n : ℕ) → t ≡ record s { front = f; put_backs = n } → IsPrefix s.front f → IsCalling s v call
-      from f n is longer =
+      from : (f : List (Entry C R)) (n : ℕ) (m : List ℕ) → t ≡ record s { front = f; put_backs = n; entered = m } → IsPrefix s.front f → IsPrefix s.entered m → IsCalling s v call
+      from f n m is longer more =
           let front : t.front ≡ f = ap (λ (x : TicketView C R). x.front) is in
           let grown : IsPrefix s.front t.front = subst (λ (l : List (Entry C R)). IsPrefix s.front l) (sym front) longer in
           record {
             floor = length t.front;
-            session = fits s v (Some (asks call (length t.front))) s.collected v.front v.heard v.listed v.tries v.put_backs
-                (w.session ∙ ap (λ (x : TicketView C R). record x { pending = Some (asks call (length t.front)); front = v.front; heard = v.heard; listed = v.listed; tries = v.tries; put_backs = v.put_backs }) is);
+            session = fits s v (Some (asks call (length t.front))) s.collected v.front v.heard v.listed v.tries v.put_backs v.entered
+                (w.session ∙ ap (λ (x : TicketView C R). record x { pending = Some (asks call (length t.front)); front = v.front; heard = v.heard; listed = v.listed; tries = v.tries; put_backs = v.put_backs; entered = v.entered }) is);
             longer = prefix_trans s.front t.front v.front grown w.longer;
+            entered = prefix_trans s.entered t.entered v.entered (subst (λ (l : List ℕ). IsPrefix s.entered l) (sym (ap (λ (x : TicketView C R). x.entered) is)) more) w.entered;
             late = omega (arith, ap (λ (l : List (Entry C R)). length l) grown.1, length-append s.front grown.0);
           }
-
-module _ {C R : Type 0} where
-  -- The element at the seam of two lists.
-  elem-seam : (xs : List (Entry C R)) (e : Entry C R) (ys : List (Entry C R)) → get_elem? (xs ++ e ∷ ys) (length xs) ≡ opt.some e
-  elem-seam [] e ys = refl
-  elem-seam (x ∷ xs) e ys = elem-seam xs e ys
 
 module _ {O C R : Type 0} {obj : Ghosts O C R} where
   -- A call that the session performed at once is answered.
@@ -129,9 +139,10 @@ module _ {O C R : Type 0} {obj : Ghosts O C R} where
   performed-called first t u call place reply served idle p =
       let ahead : List (Entry C R) = t.front ++ p.others ++ p.ahead in
       let e : Entry C R = entry t.number call reply in record {
-        session = fits t u None (t.collected ++ answer place call reply ∷ []) u.front t.heard t.listed t.tries u.put_backs
-            (p.session ∙ ap (λ (q : Option (Pending C)). record t { pending = q; collected = t.collected ++ answer place call reply ∷ []; front = u.front; put_backs = u.put_backs }) idle);
+        session = fits t u None (t.collected ++ answer place call reply ∷ []) u.front t.heard t.listed t.tries u.put_backs u.entered
+            (p.session ∙ ap (λ (q : Option (Pending C)). record t { pending = q; collected = t.collected ++ answer place call reply ∷ []; front = u.front; put_backs = u.put_backs; entered = u.entered }) idle);
         longer = (p.others ++ p.ahead ++ e ∷ p.behind, whole);
+        entered = (range_with_len (length (t.front ++ p.others)) (served + 1), sym p.entered);
         legal = p.legal;
         stands = subst (λ (l : List (Entry C R)). get_elem? l place ≡ opt.some e) (sym p.front) (subst (λ (n : ℕ). get_elem? (ahead ++ e ∷ p.behind) n ≡ opt.some e) (sym p.place_is) (elem-seam ahead e p.behind));
         late = omega (arith, p.place_is, length-append (t.front ++ p.others) p.ahead, length-append t.front p.others);
@@ -154,12 +165,43 @@ module _ {O C R : Type 0} {obj : Ghosts O C R} where
       let same : known ≡ call = ap (λ (q : Pending C). q.call) both in
       let from : floor ≡ length t.front = ap (λ (q : Pending C). q.floor) both in
       record {
-        session = fits t v None (t.collected ++ answer place call reply ∷ []) v.front v.heard v.listed v.tries v.put_backs
+        session = fits t v None (t.collected ++ answer place call reply ∷ []) v.front v.heard v.listed v.tries v.put_backs v.entered
             (at.session ∙ (ap (λ (x : TicketView C R). later x None (x.collected ++ answer place known reply ∷ []) v) w.session
             ∙ ap (λ (x : C). later t None (t.collected ++ answer place x reply ∷ []) v) same));
         longer = prefix_trans t.front u.front v.front w.longer at.longer;
+        entered = prefix_trans t.entered u.entered v.entered w.entered at.entered;
         legal = at.legal;
         stands = subst (λ (x : C). get_elem? v.front place ≡ opt.some (entry t.number x reply)) same (subst (λ (n : ℕ). get_elem? v.front place ≡ opt.some (entry n known reply)) number at.stands);
         late = omega (arith, at.late, from);
         calls = subst (λ (n : ℕ). calls_of n v.front ≡ v.collected) number at.calls;
       }
+
+-- What was published, whether or not it is listed.
+pub posted-cases : {A B D E : Type 0} (p : Posted) → (p ≡ Listed → A ⊎ B) → (p ≡ Unlisted → D × E) → A ⊎ (B ⊎ D)
+posted-cases Listed listed unlisted = ⊎_elim (λ a. inl a) (λ b. inr (inl b)) (listed refl)
+posted-cases Unlisted listed unlisted = inr (inr (unlisted refl).0)
+
+module _ {C R : Type 0} where
+  -- A session that published a call knows what it knew, and has entered what it had.
+  pub posted-same : (t u : TicketView C R) (call : C) → (u ≡ enlisted (publishing t call)) ⊎ ((u ≡ tried (enlisted (publishing t call))) ⊎ (u ≡ tried (publishing t call))) → (u.front ≡ t.front) × (u.entered ≡ t.entered)
+  posted-same t u call h = ⊎_elim (λ is. both is) (λ r. ⊎_elim (λ is. both is) (λ is. both is) r) h
+    where
+      both : {w : TicketView C R} → u ≡ w → (u.front ≡ w.front) × (u.entered ≡ w.entered)
+      both is = (ap (λ (x : TicketView C R). x.front) is, ap (λ (x : TicketView C R). x.entered) is)
+
+  -- A session whose call was performed, or for which memory was refused, has gone on.
+  pub waiting-on : (t u : TicketView C R) → IsWaitingOn t u → HasGoneOn t u
+  waiting-on t u w = record { longer = w.longer; entered = w.entered }
+
+  pub on-trans : (t u v : TicketView C R) → HasGoneOn t u → HasGoneOn u v → HasGoneOn t v
+  on-trans t u v first later = record { longer = prefix_trans t.front u.front v.front first.longer later.longer; entered = prefix_trans t.entered u.entered v.entered first.entered later.entered }
+
+  pub on-same : (t u : TicketView C R) → u.front ≡ t.front → u.entered ≡ t.entered → HasGoneOn t u
+  on-same t u front entered = record { longer = stays t u t.front front (prefix_self t.front); entered = keeps t u entered }
+
+module _ {O C R : Type 0} {obj : Ghosts O C R} where
+  pub refused-on : (t u : TicketView C R) → IsRefused obj t u → HasGoneOn t u
+  refused-on t u r = record { longer = r.longer; entered = (range_with_len (length (t.front ++ r.others)) (length r.own), sym r.entered) }
+
+  pub collected-on : (t u : TicketView C R) (place : ℕ) (reply : R) → IsCollected obj t u place reply → HasGoneOn t u
+  collected-on t u place reply c = record { longer = c.longer; entered = keeps t u (ap (λ (x : TicketView C R). x.entered) c.session) }

@@ -9,7 +9,7 @@ use Rattle.sequential.specs.declared.object.Sequential.{Ghosts}
 
 module _ {C R : Type 0} where
   -- What else may have changed of a session that made a call: it may know more of the history, what it has heard of itself, whether
-  -- its last call was listed, how often it tried to have one listed, and how many calls it put back.
+  -- its last call was listed, how often it tried to have one listed, how many calls it put back, and which places it entered.
   abbrev pub later : TicketView C R → Option (Pending C) → List (Answered C R) → TicketView C R → TicketView C R
   later before pending collected after = record before {
     pending = pending;
@@ -19,12 +19,14 @@ module _ {C R : Type 0} where
     listed = after.listed;
     tries = after.tries;
     put_backs = after.put_backs;
+    entered = after.entered;
   }
 
   -- The session goes on waiting for the answer to its pending call.
   pub record IsWaitingOn (before after : TicketView C R) : Type 0 where
     pub session : after ≡ later before before.pending before.collected after
     pub longer : IsPrefix before.front after.front
+    pub entered : IsPrefix before.entered after.entered
 
   -- The session went on waiting, and put calls back in the pass that it made last.
   abbrev pub HasStarved : TicketView C R → TicketView C R → Type 0
@@ -35,6 +37,7 @@ module _ {O C R : Type 0} (obj : Ghosts O C R) where
   pub record IsAnsweredAt (before after : TicketView C R) (call : C) (floor place : ℕ) (reply : R) : Type 0 where
     pub session : after ≡ later before None (before.collected ++ answer place call reply ∷ []) after
     pub longer : IsPrefix before.front after.front
+    pub entered : IsPrefix before.entered after.entered
     pub legal : obj.is_legal after.front
     pub stands : get_elem? after.front place ≡ opt.some (entry before.number call reply)
     -- the entry's place is not below the number of entries that the session knew when it made the call
@@ -59,5 +62,6 @@ module _ {C R : Type 0} where
     pub floor : ℕ
     pub session : after ≡ later before (Some (asks call floor)) before.collected after
     pub longer : IsPrefix before.front after.front
+    pub entered : IsPrefix before.entered after.entered
     -- it was published when the session knew so many entries of the history
     pub late : length before.front ≤ floor

@@ -1,7 +1,8 @@
--- Whose wait a pass has ended.
-use Rattle.std.specs.Prelude.{◌≡◌, ◌≢◌, ℕ, ◌<◌, ◌≤◌, ◌↔◌, List, ◌++◌, length, slice_index, Contains}
+-- Whose waits a session's passes have ended.
+use Rattle.std.specs.Prelude.{◌≢◌, ℕ, ◌<◌, ◌≤◌, ◌↔◌, List, length, take, drop, slice_index, Contains}
 use Rattle.sequential.specs.declared.entry.Entry.{Entry}
-use Rattle.sequential.specs.EndedWaits.{HasEndedIn}
+use Rattle.sequential.specs.EndedWaits.{HasEndedIn, HasEndedAt}
+use Rattle.publication.specs.Views.{TicketView}
 
 -- What contracts see of a list of sessions: for how many sessions it has room, and which are in it.
 pub record EndedView : Type 0 where
@@ -12,19 +13,18 @@ pub record EndedView : Type 0 where
 abbrev pub IsOnce : List ℕ → Type 0
 IsOnce list = (j k : ℕ) → j < k → k < length list → slice_index list j ≢ slice_index list k
 
-module _ {C R : Type 0} (ends : List (Entry C R) → Entry C R → ℕ → Type 0) where
-  -- The list has exactly the sessions from 1 to n whose wait one of these entries has ended, each once. The entries follow this
-  -- front of the history.
-  pub record AreEndedBy (n : ℕ) (front entries : List (Entry C R)) (list : List ℕ) : Type 0 where
-    pub members : (u : ℕ) → Contains list u ↔ ((1 ≤ u) × (u ≤ n) × HasEndedIn ends front entries u)
-    pub once : IsOnce list
+module _ {C R : Type 0} where
+  -- The places of the history that the session has entered meanwhile.
+  abbrev pub entered_since : TicketView C R → TicketView C R → List ℕ
+  entered_since before after = drop (length before.entered) after.entered
 
 module _ {C R : Type 0} (ends : List (Entry C R) → Entry C R → ℕ → Type 0) where
-  -- The list has exactly the sessions whose wait a pass has ended, each once. The pass added the last `served` entries of
-  -- the history.
-  pub record AreToldBy (n served : ℕ) (history : List (Entry C R)) (list : List ℕ) : Type 0 where
-    pub front : List (Entry C R)
-    pub own : List (Entry C R)
-    pub history_is : history ≡ front ++ own
-    pub count : length own ≡ served
-    pub ended : AreEndedBy ends n front own list
+  -- Session u is one of those from 1 to n, and its wait was ended by an entry from this place of the history on.
+  abbrev pub IsEndedFrom : ℕ → List (Entry C R) → ℕ → ℕ → Type 0
+  IsEndedFrom n history from u = (1 ≤ u) × (u ≤ n) × HasEndedIn ends (take from history) (drop from history) u
+
+  -- The list has exactly the sessions from 1 to n whose wait the entry at one of these places of the history has ended, each
+  -- once.
+  pub record AreToldBy (n : ℕ) (history : List (Entry C R)) (places list : List ℕ) : Type 0 where
+    pub members : (u : ℕ) → Contains list u ↔ ((1 ≤ u) × (u ≤ n) × HasEndedAt ends history places u)
+    pub once : IsOnce list

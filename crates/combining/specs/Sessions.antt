@@ -1,5 +1,6 @@
 -- What contracts see of an office and its sessions.
 use Rattle.std.specs.Prelude.{◌≡◌, ◌≢◌, ◌⊎◌, ℕ, ◌+◌, ◌<◌, ◌≤◌, max, cond, Bool, false, Some, None, List, [], ◌∷◌, ◌++◌, length}
+use Rattle.std.specs.List.{range_with_len}
 use mathlib.Core.Option as opt
 use mathlib.Core.List.{IsPrefix}
 use lib.ListN.{get_elem?}
@@ -42,16 +43,17 @@ module _ {C R : Type 0} where
 
 module _ {O C R : Type 0} (obj : Ghosts O C R) where
   -- A pass by the session. If its pending call wasn't listed, it first tried once more to have it listed. It then knows
-  -- the entries added before this pass, followed by those that this pass added, `served` of them. It may have put calls
-  -- back.
+  -- the entries added before this pass, followed by those that this pass added, `served` of them, whose places are those that it
+  -- has entered. It may have put calls back.
   pub record IsPassed (before after : TicketView C R) (served : ℕ) : Type 0 where
     pub between : TicketView C R
     pub is_tried : HasTriedToList before between
-    pub session : after ≡ record between { front = after.front; put_backs = after.put_backs }
+    pub session : after ≡ record between { front = after.front; put_backs = after.put_backs; entered = after.entered }
     pub others : List (Entry C R)
     pub own : List (Entry C R)
     pub front : after.front ≡ before.front ++ others ++ own
     pub count : length own ≡ served
+    pub entered : after.entered ≡ before.entered ++ range_with_len (length (before.front ++ others)) served
     pub legal : obj.is_legal after.front
 
 -- A piece of the history, as it is noted.
@@ -95,12 +97,13 @@ module _ {O C R : Type 0} (obj : Ghosts O C R) where
 module _ {O C R : Type 0} (obj : Ghosts O C R) where
   -- The session performed a call of its own, which it didn't publish, in a pass. It then knows the entries added before this
   -- pass, followed by those that this pass added: the call's own, and ahead of it or behind it those of `served` calls that
-  -- were published. The pass may have put calls back.
+  -- were published. Their places are those that the session has entered. The pass may have put calls back.
   pub record IsPerformed (first : Bool) (before after : TicketView C R) (call : C) (place : ℕ) (reply : R) (served : ℕ) : Type 0 where
     pub session : after ≡ record before {
       front = after.front;
       collected = before.collected ++ answer place call reply ∷ [];
       put_backs = after.put_backs;
+      entered = after.entered;
     }
     pub others : List (Entry C R)
     pub ahead : List (Entry C R)
@@ -108,6 +111,7 @@ module _ {O C R : Type 0} (obj : Ghosts O C R) where
     pub front : after.front ≡ (before.front ++ others ++ ahead) ++ entry before.number call reply ∷ behind
     pub place_is : place ≡ length (before.front ++ others ++ ahead)
     pub count : length ahead + length behind ≡ served
+    pub entered : after.entered ≡ before.entered ++ range_with_len (length (before.front ++ others)) (served + 1)
     -- a call that goes first is the first of the pass, any other call the last
     pub order : cond first ahead behind ≡ []
     pub legal : obj.is_legal after.front
@@ -115,10 +119,15 @@ module _ {O C R : Type 0} (obj : Ghosts O C R) where
     pub calls : calls_of before.number after.front ≡ after.collected
 
 module _ {O C R : Type 0} (obj : Ghosts O C R) where
-  -- A pass by an idle session, whose own call was not performed. The session may know more of the history, and the pass may
-  -- have put calls back. The session's calls in the known history are those that it collected before.
+  -- A pass by an idle session, whose own call was not performed. The session then knows the entries added before this pass,
+  -- followed by those that this pass added, whose places are those that it has entered. The pass may have put calls back. The
+  -- session's calls in the known history are those that it collected before.
   pub record IsRefused (before after : TicketView C R) : Type 0 where
-    pub session : after ≡ record before { front = after.front; put_backs = after.put_backs }
+    pub session : after ≡ record before { front = after.front; put_backs = after.put_backs; entered = after.entered }
+    pub others : List (Entry C R)
+    pub own : List (Entry C R)
+    pub front : after.front ≡ before.front ++ others ++ own
+    pub entered : after.entered ≡ before.entered ++ range_with_len (length (before.front ++ others)) (length own)
     pub longer : IsPrefix before.front after.front
     pub legal : obj.is_legal after.front
     pub calls : calls_of before.number after.front ≡ after.collected

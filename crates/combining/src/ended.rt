@@ -1,15 +1,14 @@
-//! The list of the sessions whose wait a pass has ended.
+//! The list of the sessions whose waits passes have ended.
 
 ghost use Rattle.std.specs.Prelude.{◌≡◌, ◌⊎◌, ℕ, ◌+◌, ◌<◌, ◌≤◌, ◌↔◌, ◌∷◌, ◌++◌, [], true, false, IfOk, length, All, Contains, slice_index_or};
-ghost use Rattle.combining.specs.Ended.{IsOnce};
-ghost use Rattle.combining.specs.inner.EndedList.{IsEndedFrom};
+ghost use Rattle.combining.specs.Ended.{IsOnce, IsEndedFrom};
 
 use sequential::Telling;
 use std::alloc::{AllocError as NoMemory, Global};
 use std::marker::Model;
 
-/// A list in which `Office::serve_telling` and `Office::perform_telling` tell whose wait a pass has ended. Contracts see its
-/// sessions, and for how many it has room. Only `new` takes memory.
+/// A list in which `serve_telling`, `perform_telling`, `call` and `resume` tell whose waits the session's passes have ended.
+/// Contracts see its sessions, and for how many it has room. Only `new` takes memory.
 #[derive(Drop)]
 pub struct Ended {
     /// The sessions, each once.
@@ -63,7 +62,7 @@ impl Ended {
     }
 
     /// Removes all sessions.
-    pub(crate) fn clear(&mut self)
+    pub(crate) fn remove_all(&mut self)
         ensures { self.new ≡ record self.old { list = [] } }
     {
         while self.remove_last() {}

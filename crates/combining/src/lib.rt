@@ -5,7 +5,8 @@
 //! `office.rt` has the calls of sessions, `office/perform.rt` a call that its session performs itself, `office/taking.rt` the
 //! taking of the history, `office/looks.rt` a look at the object, `office/passes.rt` what all ways to serve have in common.
 //! `calling.rt` makes a whole call. `pass.rt` is the combiner's pass, `own_call.rt` a pass with a call of its own, `clean_up.rt`
-//! takes unused records off the publication list. `ended.rt` lists the sessions whose wait a pass has ended.
+//! takes unused records off the publication list. `told.rt` says who is told whose waits a pass has ended, `ended.rt` is the list of
+//! them.
 //!
 //! A pass seizes the object, opens the posted records, serves their calls as one batch, answers them, and gives the object back.
 //!
@@ -21,8 +22,10 @@ pub mod laws;
 mod office;
 mod own_call;
 mod pass;
+mod told;
 
 pub use calling::{Called, call, resume};
 pub use ended::Ended;
 pub use office::{Answer, HistoryPiece, Office, OpenFault, Performed, Turn};
 pub use publication::{CloseFault, Knowledge, Load, Posted, Ticket as Session};
+pub use told::{Nobody, Told};

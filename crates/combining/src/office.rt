@@ -8,17 +8,17 @@ ghost use Rattle.publication.specs.Kinds.{longer, maxes};
 ghost use Rattle.publication.specs.Boards.{HasCallsOf, heard_from, known_by, published_by, publishing, enlisted, tried, IsUnlisted, new_tickets, IsEachOnce};
 ghost use Rattle.combining.specs.Sessions.{IsSessionOf, IsIdle, HasNothingPending, IsPendingServed, HasTriedToList, IsPassed, IsCollected};
 ghost use Rattle.combining.specs.Closed.{IsClosed};
-ghost use Rattle.combining.specs.Ended.{AreToldBy};
+ghost use Rattle.combining.specs.Ended.{AreToldBy, entered_since};
 
 mod looks;
 mod passes;
 mod perform;
 mod taking;
 
-use crate::ended::Ended;
+use crate::told::{Nobody, Told};
 pub use perform::Performed;
 use publication::{Board, CloseFault, Knowledge, Posted, Ticket as Session};
-use sequential::{Batching, Fresh, MAX_SESSIONS, Telling};
+use sequential::{Batching, Fresh, MAX_SESSIONS};
 use std::alloc::{AllocError as NoMemory, Global};
 use std::marker::Model;
 pub use taking::HistoryPiece;
@@ -137,10 +137,32 @@ impl<O: Batching> Office<O> {
         ensures heard { (served j : _) → result ≡ Turn.Pass served false → 0 < j → j ≤ self.now.sessions
             → heard_from session.old j ≤ length (calls_of j session.new.front) }
     {
-        match self.make_pass(session) {
-            Some(made) => self.end_pass(session, made),
-            None => Turn::Elsewhere,
-        }
+        self.pass(session, &mut Nobody)
+    }
+
+    /// Serves as `serve` does, and tells whose wait a call of the pass has ended, as the object says: afterwards `told` has each
+    /// of these sessions once, also one that waits again since, and nobody else.
+    ///
+    /// A thread that waits need not ask until a pass tells its session: whoever made that pass wakes it. `told` has room for
+    /// all sessions of the office, so that the call takes no memory beyond what `serve` takes. That a pass tells whose wait it
+    /// has ended is this project's own.
+    pub fn serve_telling<T: Told<O>>(&self, session: &mut Session<O>, told: &mut T) -> Turn
+        requires ours { IsSessionOf self.now session.old }
+        requires room { T.has_room told.old self.now.sessions }
+        ensures ours { IsSessionOf self.now session.new }
+        ensures elsewhere { result ≡ Turn.Elsewhere → HasTriedToList session.old session.new × (1 < self.now.sessions) }
+        ensures pass { (served : _) (starved : _) → result ≡ Turn.Pass served starved → IsPassed O.Sequential session.old session.new served }
+        ensures starved { (served : _) (starved : _) → result ≡ Turn.Pass served starved → IsTrue starved ↔ (session.old.put_backs < session.new.put_backs) }
+        ensures rises { (j : _) → heard_from session.old j ≤ heard_from session.new j }
+        ensures calls { HasCallsOf session.new.front session.new }
+        ensures own { (served : _) → result ≡ Turn.Pass served false → session.old.pending ≢ None → IsPendingServed session.new }
+        ensures heard { (served j : _) → result ≡ Turn.Pass served false → 0 < j → j ≤ self.now.sessions
+            → heard_from session.old j ≤ length (calls_of j session.new.front) }
+        ensures told { AreToldBy T.ends self.now.sessions session.new.front (entered_since session.old session.new) (T.list told.new) }
+        ensures room { T.has_room told.new self.now.sessions }
+    {
+        told.clear();
+        self.pass(session, told)
     }
 
     /// Takes the answer to the session's published call; each answer is taken once. `None`, with nothing changed,
@@ -237,40 +259,6 @@ impl<O: Batching> Office<O> {
                 Ok(object)
             }
             Err((fault, board, sessions)) => Err((fault, Office { board }, sessions)),
-        }
-    }
-}
-
-impl<O: Telling> Office<O> {
-    /// Serves as `serve` does, and tells whose wait a call of the pass has ended, as the object says. Each session is told once,
-    /// also one that waits again since. `ended` is empty afterwards if the session did not become the combiner.
-    ///
-    /// A thread that waits need not ask until a pass tells its session: whoever made that pass wakes it. `ended` has room for
-    /// all sessions of the office, so that the call takes no memory beyond what `serve` takes. That a pass tells whose wait it
-    /// has ended is this project's own.
-    pub fn serve_telling(&self, session: &mut Session<O>, ended: &mut Ended) -> Turn
-        requires ours { IsSessionOf self.now session.old }
-        requires room { self.now.sessions ≤ ended.old.room }
-        ensures ours { IsSessionOf self.now session.new }
-        ensures elsewhere { result ≡ Turn.Elsewhere → HasTriedToList session.old session.new × (1 < self.now.sessions) }
-        ensures pass { (served : _) (starved : _) → result ≡ Turn.Pass served starved → IsPassed O.Sequential session.old session.new served }
-        ensures starved { (served : _) (starved : _) → result ≡ Turn.Pass served starved → IsTrue starved ↔ (session.old.put_backs < session.new.put_backs) }
-        ensures rises { (j : _) → heard_from session.old j ≤ heard_from session.new j }
-        ensures calls { HasCallsOf session.new.front session.new }
-        ensures own { (served : _) → result ≡ Turn.Pass served false → session.old.pending ≢ None → IsPendingServed session.new }
-        ensures heard { (served j : _) → result ≡ Turn.Pass served false → 0 < j → j ≤ self.now.sessions
-            → heard_from session.old j ≤ length (calls_of j session.new.front) }
-        ensures told { (served : _) (starved : _) → result ≡ Turn.Pass served starved → AreToldBy O.ends self.now.sessions served session.new.front ended.new.list }
-        ensures none { result ≡ Turn.Elsewhere → ended.new.list ≡ [] }
-        ensures room { ended.new.room ≡ ended.old.room }
-    {
-        ended.clear();
-        match self.make_pass(session) {
-            Some(made) => {
-                ended.add_ended(&made.load.object, made.pass.served);
-                self.end_pass(session, made)
-            }
-            None => Turn::Elsewhere,
         }
     }
 }

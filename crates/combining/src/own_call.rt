@@ -1,15 +1,17 @@
-//! A pass in which the combiner performs a call of its own besides, which it has not published.
+//! A pass in which the combiner performs a call of its own session, without its record, and tells whose waits the calls have ended.
 
-ghost use Rattle.std.specs.Prelude.{◌≡◌, ◌+◌, ◌≤◌, true, false, None, IfSome, IfNone, length};
+ghost use Rattle.std.specs.Prelude.{◌≡◌, ◌+◌, ◌<◌, true, false, None, IfSome, IfNone, length};
+ghost use Rattle.publication.specs.Boards.{heard_from, published_by};
 ghost use Rattle.combining.specs.Sessions.{IsIdle};
-ghost use Rattle.combining.specs.inner.Passes.{IsAtWork, HasServed};
 ghost use Rattle.combining.specs.inner.OwnCalls.{IsOwnEntered, IsPassWithOwn};
-ghost use Rattle.combining.specs.inner.EndedList.{HasAddedEnded};
+ghost use Rattle.combining.specs.inner.Passes.{IsAtWork, HasPassed, HasServed};
+ghost use Rattle.combining.specs.Ended.{entered_since};
+ghost use Rattle.combining.specs.inner.EndedList.{HasAddedTold};
 
-use crate::ended::Ended;
 use crate::pass::{Pass, serve_published};
+use crate::told::Told;
 use publication::{Board, Load, Ticket};
-use sequential::{Batching, Telling};
+use sequential::Batching;
 
 /// Performs a call of the combiner's own session, which has not published it, and enters it into the history. Returns its
 /// place in the history and the reply; `None`, with nothing changed, if memory is refused.
@@ -38,175 +40,122 @@ fn perform_own<O: Batching>(
     Some((place, reply))
 }
 
-/// Performs a call of the combiner's own and then runs a pass.
+/// Performs a call as `perform_own` does, and tells whose wait it has ended.
 #[inline(always)]
-fn serve_own_first<O: Batching>(
+fn perform_own_telling<O: Batching, T: Told<O>>(
     board: &Board<O>,
     session: &mut Ticket<O>,
     load: &mut Load<O>,
     call: O::Call,
+    told: &mut T,
+) -> Option<(u64, O::Reply)>
+    requires work { IsAtWork O.Sequential board.now session.old load.old }
+    requires idle { IsIdle session.old }
+    requires room { T.has_room told.old board.now.sessions }
+    ensures some { IfSome result (λ r. IsOwnEntered session.old session.new call r.0 r.1) }
+    ensures none { IfNone result (session.new ≡ session.old) }
+    ensures work { IsAtWork O.Sequential board.now session.new load.new }
+    ensures taken { load.new.pieces.items ≡ load.old.pieces.items }
+    ensures told { HasAddedTold T.ends board.now.sessions session.new.front (entered_since session.old session.new) (T.list told.old) (T.list told.new) }
+    ensures room { T.has_room told.new board.now.sessions }
+{
+    let answer = perform_own(board, session, load, call)?;
+    told.add(&load.object, 1);
+    Some(answer)
+}
+
+/// Runs a pass as `serve_published` does, for a session with no call pending, and tells whose waits it has ended.
+#[inline(always)]
+fn serve_published_telling<O: Batching, T: Told<O>>(
+    board: &Board<O>,
+    session: &mut Ticket<O>,
+    load: &mut Load<O>,
+    told: &mut T,
+) -> Pass
+    requires work { IsAtWork O.Sequential board.now session.old load.old }
+    requires none { session.old.pending ≡ None }
+    requires room { T.has_room told.old board.now.sessions }
+    ensures work { IsAtWork O.Sequential board.now session.new load.new }
+    ensures pass { HasPassed session.old session.new result.served }
+    ensures served { HasServed board.now.sessions session.old session.new load.old load.new result.starved }
+    ensures told { HasAddedTold T.ends board.now.sessions session.new.front (entered_since session.old session.new) (T.list told.old) (T.list told.new) }
+    ensures room { T.has_room told.new board.now.sessions }
+{
+    let pass = serve_published(board, session, load);
+    told.add(&load.object, pass.served);
+    pass
+}
+
+/// Performs a call of the combiner's own and then runs a pass.
+#[inline(always)]
+fn serve_own_first<O: Batching, T: Told<O>>(
+    board: &Board<O>,
+    session: &mut Ticket<O>,
+    load: &mut Load<O>,
+    call: O::Call,
+    told: &mut T,
 ) -> (Pass, Option<(u64, O::Reply)>)
     requires work { IsAtWork O.Sequential board.now session.old load.old }
     requires idle { IsIdle session.old }
+    requires room { T.has_room told.old board.now.sessions }
     ensures performed { IfSome result.1 (λ r. IsPassWithOwn true session.old session.new call r.0 r.1 result.0.served) }
-    ensures refused { IfNone result.1 (session.new ≡ record session.old { front = session.new.front; route = session.new.route; put_backs = session.new.put_backs }) }
+    ensures refused { IfNone result.1 (HasPassed session.old session.new result.0.served) }
     ensures work { IsAtWork O.Sequential board.now session.new load.new }
     ensures served { HasServed board.now.sessions session.old session.new load.old load.new result.0.starved }
+    ensures told { HasAddedTold T.ends board.now.sessions session.new.front (entered_since session.old session.new) (T.list told.old) (T.list told.new) }
+    ensures room { T.has_room told.new board.now.sessions }
 {
-    let answer = perform_own(board, session, load, call);
-    (serve_published(board, session, load), answer)
+    let answer = perform_own_telling(board, session, load, call, told);
+    (serve_published_telling(board, session, load, told), answer)
 }
 
 /// Runs a pass and then performs a call of the combiner's own.
 #[inline(always)]
-fn serve_own_last<O: Batching>(
+fn serve_own_last<O: Batching, T: Told<O>>(
     board: &Board<O>,
     session: &mut Ticket<O>,
     load: &mut Load<O>,
     call: O::Call,
+    told: &mut T,
 ) -> (Pass, Option<(u64, O::Reply)>)
     requires work { IsAtWork O.Sequential board.now session.old load.old }
     requires idle { IsIdle session.old }
+    requires room { T.has_room told.old board.now.sessions }
     ensures performed { IfSome result.1 (λ r. IsPassWithOwn false session.old session.new call r.0 r.1 result.0.served) }
-    ensures refused { IfNone result.1 (session.new ≡ record session.old { front = session.new.front; route = session.new.route; put_backs = session.new.put_backs }) }
+    ensures refused { IfNone result.1 (HasPassed session.old session.new result.0.served) }
     ensures work { IsAtWork O.Sequential board.now session.new load.new }
     ensures served { HasServed board.now.sessions session.old session.new load.old load.new result.0.starved }
+    ensures told { HasAddedTold T.ends board.now.sessions session.new.front (entered_since session.old session.new) (T.list told.old) (T.list told.new) }
+    ensures room { T.has_room told.new board.now.sessions }
 {
-    let pass = serve_published(board, session, load);
-    let answer = perform_own(board, session, load, call);
+    let pass = serve_published_telling(board, session, load, told);
+    let answer = perform_own_telling(board, session, load, call, told);
     (pass, answer)
 }
 
 /// Runs a pass in which the combiner performs a call of its own, which it has not published: ahead of the others if the
 /// call goes first, else behind them. Returns the pass, and of the own call its place and reply; `None` if memory is
-/// refused for it.
-pub(crate) fn serve_with_own<O: Batching>(
+/// refused for it. Tells whose waits the pass and the call have ended.
+pub(crate) fn serve_with_own<O: Batching, T: Told<O>>(
     board: &Board<O>,
     session: &mut Ticket<O>,
     load: &mut Load<O>,
     call: O::Call,
+    told: &mut T,
 ) -> (Pass, Option<(u64, O::Reply)>)
     requires work { IsAtWork O.Sequential board.now session.old load.old }
     requires idle { IsIdle session.old }
+    requires room { T.has_room told.old board.now.sessions }
     ensures performed { IfSome result.1 (λ r. IsPassWithOwn (O.goes_first call) session.old session.new call r.0 r.1 result.0.served) }
-    ensures refused { IfNone result.1 (session.new ≡ record session.old { front = session.new.front; route = session.new.route; put_backs = session.new.put_backs }) }
+    ensures refused { IfNone result.1 (HasPassed session.old session.new result.0.served) }
     ensures work { IsAtWork O.Sequential board.now session.new load.new }
     ensures served { HasServed board.now.sessions session.old session.new load.old load.new result.0.starved }
+    ensures told { HasAddedTold T.ends board.now.sessions session.new.front (entered_since session.old session.new) (T.list told.old) (T.list told.new) }
+    ensures room { T.has_room told.new board.now.sessions }
 {
     if O::goes_first(&call) {
-        serve_own_first(board, session, load, call)
+        serve_own_first(board, session, load, call, told)
     } else {
-        serve_own_last(board, session, load, call)
-    }
-}
-
-/// Performs a call as `perform_own` does, and adds the sessions whose wait it has ended to the list.
-fn perform_own_telling<O: Telling>(
-    board: &Board<O>,
-    session: &mut Ticket<O>,
-    load: &mut Load<O>,
-    call: O::Call,
-    ended: &mut Ended,
-) -> Option<(u64, O::Reply)>
-    requires work { IsAtWork O.Sequential board.now session.old load.old }
-    requires idle { IsIdle session.old }
-    requires room { board.now.sessions ≤ ended.old.room }
-    ensures some { IfSome result (λ r. IsOwnEntered session.old session.new call r.0 r.1) }
-    ensures none { IfNone result (session.new ≡ session.old) }
-    ensures work { IsAtWork O.Sequential board.now session.new load.new }
-    ensures taken { load.new.pieces.items ≡ load.old.pieces.items }
-    ensures ended { HasAddedEnded O.ends board.now.sessions session.old.front session.new.front ended.old ended.new }
-{
-    let answer = perform_own(board, session, load, call)?;
-    ended.add_ended(&load.object, 1);
-    Some(answer)
-}
-
-/// Runs a pass as `serve_published` does, for a session with no call pending, and adds the sessions whose wait it has ended to
-/// the list.
-fn serve_published_telling<O: Telling>(
-    board: &Board<O>,
-    session: &mut Ticket<O>,
-    load: &mut Load<O>,
-    ended: &mut Ended,
-) -> Pass
-    requires work { IsAtWork O.Sequential board.now session.old load.old }
-    requires none { session.old.pending ≡ None }
-    requires room { board.now.sessions ≤ ended.old.room }
-    ensures work { IsAtWork O.Sequential board.now session.new load.new }
-    ensures session { session.new ≡ record session.old { front = session.new.front; route = session.new.route; put_backs = session.new.put_backs } }
-    ensures served { HasServed board.now.sessions session.old session.new load.old load.new result.starved }
-    ensures count { length session.new.front ≡ length session.old.front + result.served }
-    ensures ended { HasAddedEnded O.ends board.now.sessions session.old.front session.new.front ended.old ended.new }
-{
-    let pass = serve_published(board, session, load);
-    ended.add_ended(&load.object, pass.served);
-    pass
-}
-
-/// Performs a call of the combiner's own and then runs a pass. Adds the sessions whose wait these have ended to the list.
-fn serve_own_first_telling<O: Telling>(
-    board: &Board<O>,
-    session: &mut Ticket<O>,
-    load: &mut Load<O>,
-    call: O::Call,
-    ended: &mut Ended,
-) -> (Pass, Option<(u64, O::Reply)>)
-    requires work { IsAtWork O.Sequential board.now session.old load.old }
-    requires idle { IsIdle session.old }
-    requires room { board.now.sessions ≤ ended.old.room }
-    ensures performed { IfSome result.1 (λ r. IsPassWithOwn true session.old session.new call r.0 r.1 result.0.served) }
-    ensures refused { IfNone result.1 (session.new ≡ record session.old { front = session.new.front; route = session.new.route; put_backs = session.new.put_backs }) }
-    ensures work { IsAtWork O.Sequential board.now session.new load.new }
-    ensures served { HasServed board.now.sessions session.old session.new load.old load.new result.0.starved }
-    ensures ended { HasAddedEnded O.ends board.now.sessions session.old.front session.new.front ended.old ended.new }
-{
-    let answer = perform_own_telling(board, session, load, call, ended);
-    (serve_published_telling(board, session, load, ended), answer)
-}
-
-/// Runs a pass and then performs a call of the combiner's own. Adds the sessions whose wait these have ended to the list.
-fn serve_own_last_telling<O: Telling>(
-    board: &Board<O>,
-    session: &mut Ticket<O>,
-    load: &mut Load<O>,
-    call: O::Call,
-    ended: &mut Ended,
-) -> (Pass, Option<(u64, O::Reply)>)
-    requires work { IsAtWork O.Sequential board.now session.old load.old }
-    requires idle { IsIdle session.old }
-    requires room { board.now.sessions ≤ ended.old.room }
-    ensures performed { IfSome result.1 (λ r. IsPassWithOwn false session.old session.new call r.0 r.1 result.0.served) }
-    ensures refused { IfNone result.1 (session.new ≡ record session.old { front = session.new.front; route = session.new.route; put_backs = session.new.put_backs }) }
-    ensures work { IsAtWork O.Sequential board.now session.new load.new }
-    ensures served { HasServed board.now.sessions session.old session.new load.old load.new result.0.starved }
-    ensures ended { HasAddedEnded O.ends board.now.sessions session.old.front session.new.front ended.old ended.new }
-{
-    let pass = serve_published_telling(board, session, load, ended);
-    let answer = perform_own_telling(board, session, load, call, ended);
-    (pass, answer)
-}
-
-/// Runs a pass as `serve_with_own` does, and adds the sessions whose wait it has ended to the list.
-pub(crate) fn serve_with_own_telling<O: Telling>(
-    board: &Board<O>,
-    session: &mut Ticket<O>,
-    load: &mut Load<O>,
-    call: O::Call,
-    ended: &mut Ended,
-) -> (Pass, Option<(u64, O::Reply)>)
-    requires work { IsAtWork O.Sequential board.now session.old load.old }
-    requires idle { IsIdle session.old }
-    requires room { board.now.sessions ≤ ended.old.room }
-    ensures performed { IfSome result.1 (λ r. IsPassWithOwn (O.goes_first call) session.old session.new call r.0 r.1 result.0.served) }
-    ensures refused { IfNone result.1 (session.new ≡ record session.old { front = session.new.front; route = session.new.route; put_backs = session.new.put_backs }) }
-    ensures work { IsAtWork O.Sequential board.now session.new load.new }
-    ensures served { HasServed board.now.sessions session.old session.new load.old load.new result.0.starved }
-    ensures ended { HasAddedEnded O.ends board.now.sessions session.old.front session.new.front ended.old ended.new }
-{
-    if O::goes_first(&call) {
-        serve_own_first_telling(board, session, load, call, ended)
-    } else {
-        serve_own_last_telling(board, session, load, call, ended)
+        serve_own_last(board, session, load, call, told)
     }
 }

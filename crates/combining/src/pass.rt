@@ -8,7 +8,7 @@ ghost use Rattle.sequential.specs.Batches.{IsItemWithin};
 ghost use Rattle.publication.specs.Boards.{IsOf, IsNumber, OpensNone, heard_from, published_by};
 ghost use Rattle.publication.specs.List.{IsOn};
 ghost use Rattle.publication.specs.Kinds.{IsRoute};
-ghost use Rattle.combining.specs.inner.Passes.{AreOpened, HasCalls, KeepsCalls, IsVisited, HasVisitedOpened, IsNext, HasMet, IsSameSession, IsAfterRow, IsObjectInHand, IsAtWork, HasRow, HasServed, HasServedRow};
+ghost use Rattle.combining.specs.inner.Passes.{AreOpened, HasCalls, KeepsCalls, IsVisited, HasVisitedOpened, IsNext, HasMet, IsSameSession, HasAnswered, HasPassed, IsObjectInHand, IsAtWork, HasRow, HasServed, HasServedRow};
 ghost use Rattle.combining.specs.inner.Ages.{sessions_of, sessions_since, noted};
 
 use crate::clean_up::{clean_up, note_served};
@@ -214,12 +214,11 @@ fn answer_row<O: Batching>(
     requires served { served ≤ length row.now }
     requires object { IsObjectInHand O.Sequential board.now.sessions object.now session.old (take served row.now) }
     requires row { AreOpened board.now.sessions session.old.opened row.now }
-    ensures session { IsSameSession session.old session.new }
+    ensures session { HasAnswered session.old session.new served }
     ensures object { IsObjectInHand O.Sequential board.now.sessions object.now session.new [] }
     ensures row { AreOpened board.now.sessions session.new.opened (drop served row.now) }
     ensures longer { IsPrefix session.old.front session.new.front }
     ensures legal { O.is_legal session.new.front }
-    ensures entries { length session.new.front ≡ length session.old.front + served }
     ensures whose { sessions_since (length session.old.front) session.new.front ≡ sessions_of (take served row.now) }
     ensures calls { KeepsCalls session.old session.new }
 {
@@ -244,7 +243,7 @@ fn serve_row<O: Batching>(
     requires ours { IsOf board.now session.old × (session.old.has_object ≡ true) }
     requires object { IsObjectInHand O.Sequential board.now.sessions object.old session.old [] }
     requires row { AreOpened board.now.sessions session.old.opened row.old.items }
-    ensures session { IsSameSession session.old session.new }
+    ensures session { HasAnswered session.old session.new result }
     ensures object { IsObjectInHand O.Sequential board.now.sessions object.new session.new [] }
     ensures row { AreOpened board.now.sessions session.new.opened (drop result row.new.items) }
     ensures kept { ((O.cut object.new) ≡ (O.cut object.old)) × ((O.bound object.new) ≡ (O.bound object.old)) }
@@ -252,7 +251,7 @@ fn serve_row<O: Batching>(
     ensures room { (vec_len row.new ≡ vec_len row.old) × (vec_capacity row.new ≡ vec_capacity row.old) }
     ensures longer { IsPrefix session.old.front session.new.front }
     ensures legal { O.is_legal session.new.front }
-    ensures served { (result ≤ vec_len row.new) × (length session.new.front ≡ length session.old.front + result) }
+    ensures served { result ≤ vec_len row.new }
     ensures whose { sessions_since (length session.old.front) session.new.front ≡ sessions_of (take result row.new.items) }
     ensures calls { KeepsCalls session.old session.new }
     ensures tells { 0 < result → O.tells_from object.new (length session.old.front) }
@@ -321,9 +320,8 @@ pub(crate) fn serve_published<O: Batching>(
     requires work { IsAtWork O.Sequential board.now session.old load.old }
     requires listed { session.old.pending ≢ None → session.old.listed ≡ true → heard_from session.old session.old.number ≡ published_by session.old }
     ensures work { IsAtWork O.Sequential board.now session.new load.new }
-    ensures session { session.new ≡ record session.old { front = session.new.front; route = session.new.route; put_backs = session.new.put_backs } }
+    ensures pass { HasPassed session.old session.new result.served }
     ensures served { HasServed board.now.sessions session.old session.new load.old load.new result.starved }
-    ensures count { length session.new.front ≡ length session.old.front + result.served }
     ensures own { result.starved ≡ false → session.old.pending ≢ None → published_by session.old ≤ length (calls_of session.old.number session.new.front) }
     ensures passes { load.new.passes ≡ min (load.old.passes + 1) (2 ^ 64 - 1) }
     ensures ages { load.new.ages.items ≡ noted load.old.ages.items (sessions_since (length session.old.front) session.new.front) load.new.passes }

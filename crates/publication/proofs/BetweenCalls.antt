@@ -1,5 +1,5 @@
 -- A combiner's seat between two calls, after it opened or answered a record, entered a call or took a record off the list.
-use Rattle.std.proofs.Common.{◌≡◌, inl, ℕ, ◌+◌, Bool, true, false, Option, Some, None, IfSome, IfNone, List, [], ◌∷◌, length, refl, sym, ap, ◌∙◌, subst, arith, length-append}
+use Rattle.std.proofs.Common.{◌≡◌, inl, ℕ, ◌+◌, Bool, true, false, Option, Some, None, IfSome, IfNone, [], ◌∷◌, length, refl, sym, subst, arith, length-append}
 use Rattle.sequential.specs.Histories.{calls_of}
 use Rattle.publication.specs.Views.{IsAccountedIn, entry, answer}
 use Rattle.publication.specs.Kinds.{Seated, opening, in_hand, bypassing, none_unlinked, answering, entering}

@@ -1,5 +1,5 @@
 -- Each place of the history was entered by exactly one session.
-use Rattle.std.proofs.Common.{◌≡◌, ◌≢◌, ◌⊎◌, inl, inr, ⊎_elim, ℕ, zero, suc, ◌+◌, ◌<◌, ◌≤◌, ◌==◌, cond, Bool, true, false, Option, None, List, [], ◌∷◌, ◌++◌, length, get_or, set, refl, sym, ap, subst, ◌∙◌, arith, append-nil, length-append, length-set, eq-eqb, ne_eqb, Contains}
+use Rattle.std.proofs.Common.{◌≡◌, ◌≢◌, ◌⊎◌, inl, inr, ⊎_elim, ℕ, zero, suc, ◌+◌, ◌<◌, ◌==◌, cond, Bool, true, Option, List, [], ◌∷◌, ◌++◌, length, get_or, set, refl, sym, ap, subst, ◌∙◌, arith, append-nil, length-append, length-set, eq-eqb, ne_eqb}
 use mathlib.Core.Option as opt
 use mathlib.Core.Logic.{dite}
 use native.Mathlib.Decide.{ℕ_discrete}
@@ -14,9 +14,9 @@ use Rattle.publication.specs.Views.{Pending, Handed}
 use Rattle.publication.specs.Rule.{blank, BoardState, seat}
 use Rattle.publication.specs.List.{IsRuled}
 use Rattle.publication.specs.Kinds.{Seated, handed_in}
-use Rattle.publication.specs.Collected.{IsSeated, IsHandedIn, HasCollected}
+use Rattle.publication.specs.Collected.{HasCollected}
 use Rattle.publication.specs.BoardHistory.{history_of}
-use Rattle.publication.specs.Entered.{HasEnteredAtSeat, HasEnteredHandedIn, HasEnteredPlaces, AreRising, AreEnteredOnce}
+use Rattle.publication.specs.Entered.{HasEnteredPlaces, AreRising, AreEnteredOnce}
 use Rattle.publication.specs.Runs.{StepName, start, post, look_at_head, link, enlist, look_for_reply, take_reply, look_at_lock, seize, release, walk, walk_on, unlink, mark_out, relink, look_at_record, open_record, lay, pick, answer_record, put_back, enter, learn, compare, retire, leave, kind_of, IsStep, IsSeatSplit, IsSeatJoin, IsMove, IsRun, stop, move}
 use Rattle.publication.specs.declared.view.View.{View}
 use Rattle.publication.specs.declared.slot.SlotValue.{SlotValue}

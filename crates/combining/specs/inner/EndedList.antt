@@ -1,7 +1,7 @@
--- The list in which a pass tells whose wait it has ended.
-use Rattle.std.specs.Prelude.{◌≡◌, ◌⊎◌, ℕ, ◌-◌, ◌≤◌, ◌↔◌, true, false, List, length, take, drop, vec_capacity, slice_index_or, Contains}
+-- The list in which a session's passes tell whose waits they have ended.
+use Rattle.std.specs.Prelude.{◌≡◌, ◌⊎◌, ℕ, ◌-◌, ◌<◌, ◌≤◌, ◌↔◌, true, false, List, length, vec_capacity, slice_index_or, Contains}
 use Rattle.sequential.specs.declared.entry.Entry.{Entry}
-use Rattle.sequential.specs.EndedWaits.{HasEndedIn}
+use Rattle.sequential.specs.EndedWaits.{HasEndedAt}
 use Rattle.combining.specs.Ended.{EndedView, IsOnce}
 use Rattle.combining.specs.declared.ended.Ended.TheInside.{Inside}
 
@@ -16,18 +16,9 @@ pub record IsEndedList (a : Inside) : Type 0 where
   pub members : (u : ℕ) → Contains a.list.items u ↔ ((1 ≤ u) × (u ≤ length a.is_in.items) × (slice_index_or a.is_in.items (u - 1) false ≡ true))
 
 module _ {C R : Type 0} (ends : List (Entry C R) → Entry C R → ℕ → Type 0) where
-  -- Session u is one of those from 1 to n, and its wait was ended by an entry from this place of the history on.
-  abbrev pub IsEndedFrom : ℕ → List (Entry C R) → ℕ → ℕ → Type 0
-  IsEndedFrom n history from u = (1 ≤ u) × (u ≤ n) × HasEndedIn ends (take from history) (drop from history) u
-
-  -- Session u is one of those from 1 to n, and its wait was ended by an entry that the known history has gained.
-  abbrev pub IsEndedSince : ℕ → List (Entry C R) → List (Entry C R) → ℕ → Type 0
-  IsEndedSince n before after u = (1 ≤ u) × (u ≤ n) × HasEndedIn ends before (drop (length before) after) u
-
-module _ {C R : Type 0} (ends : List (Entry C R) → Entry C R → ℕ → Type 0) where
-  -- Exactly the sessions were added to the list whose wait was ended by an entry that the known history has gained, each if it
-  -- wasn't in it.
-  pub record HasAddedEnded (n : ℕ) (before after : List (Entry C R)) (old new : EndedView) : Type 0 where
-    pub room : new.room ≡ old.room
-    pub members : (u : ℕ) → Contains new.list u ↔ (Contains old.list u ⊎ IsEndedSince ends n before after u)
-    pub once : IsOnce old.list → IsOnce new.list
+  -- Exactly the sessions were added to the list whose wait the entry at one of these places of the known history has ended, each
+  -- if it wasn't in it.
+  pub record HasAddedTold (n : ℕ) (history : List (Entry C R)) (places old new : List ℕ) : Type 0 where
+    pub members : (u : ℕ) → Contains new u ↔ (Contains old u ⊎ ((1 ≤ u) × (u ≤ n) × HasEndedAt ends history places u))
+    pub once : IsOnce old → IsOnce new
+    pub within : (p : ℕ) → Contains places p → p < length history

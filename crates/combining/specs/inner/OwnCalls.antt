@@ -1,5 +1,6 @@
 -- A combiner that performs a call of its own, without its record.
 use Rattle.std.specs.Prelude.{◌≡◌, ℕ, ◌+◌, Bool, cond, List, [], ◌∷◌, ◌++◌, length}
+use Rattle.std.specs.List.{range_with_len}
 use Rattle.sequential.specs.declared.entry.Entry.{Entry}
 use Rattle.publication.specs.Views.{TicketView, entry, answer}
 
@@ -9,6 +10,7 @@ module _ {C R : Type 0} where
     pub session : after ≡ record before {
       front = before.front ++ entry before.number call reply ∷ [];
       collected = before.collected ++ answer place call reply ∷ [];
+      entered = before.entered ++ place ∷ [];
     }
     pub place_is : place ≡ length before.front
 
@@ -19,7 +21,9 @@ module _ {C R : Type 0} where
       collected = before.collected ++ answer place call reply ∷ [];
       route = after.route;
       put_backs = after.put_backs;
+      entered = after.entered;
     }
+    pub entered : after.entered ≡ before.entered ++ range_with_len (length before.front) (served + 1)
     pub ahead : List (Entry C R)
     pub behind : List (Entry C R)
     pub front : after.front ≡ (before.front ++ ahead) ++ entry before.number call reply ∷ behind

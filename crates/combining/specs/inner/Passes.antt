@@ -1,5 +1,6 @@
 -- A combiner at work, and in the middle of its pass.
 use Rattle.std.specs.Prelude.{◌≡◌, ◌≢◌, ◌⊎◌, ℕ, ◌+◌, ◌<◌, ◌≤◌, ◌↔◌, cond, is_some, Bool, true, false, IsTrue, Option, Some, None, List, [], ◌∷◌, ◌++◌, length, map, slice_set, slice_index_or, vec_len, vec_capacity}
+use Rattle.std.specs.List.{range_with_len}
 use mathlib.Core.List.{IsPrefix}
 use Rattle.sequential.specs.declared.entry.Entry.{Entry}
 use Rattle.sequential.specs.Histories.{calls_of}
@@ -56,16 +57,31 @@ module _ {C R : Type 0} where
   abbrev pub HasMet : Option ℕ → TicketView C R → Type 0
   HasMet next t = (j : ℕ) → IsOn j t.route → IsOn j (ahead next t.route) ⊎ IsVisited j t
 
-  -- The same session later in its pass: only its known history, its opened records and its route may have changed.
+  -- The same session later in its pass, as it opens records: only these and its route may have changed.
   pub record IsSameSession (before after : TicketView C R) : Type 0 where
-    pub same : after ≡ record before { front = after.front; opened = after.opened; route = after.route }
+    pub same : after ≡ record before { opened = after.opened; route = after.route }
     pub wide : length after.opened ≡ length before.opened
 
-  -- The same session once its row is answered or put back: beside what a step of its pass changes, it may have put calls
-  -- back.
-  pub record IsAfterRow (before after : TicketView C R) : Type 0 where
-    pub same : after ≡ record before { front = after.front; opened = after.opened; route = after.route; put_backs = after.put_backs }
+  -- The same session once it has answered so many of the records that it opened: it has entered their places.
+  pub record HasAnswered (before after : TicketView C R) (served : ℕ) : Type 0 where
+    pub same : after ≡ record before { front = after.front; opened = after.opened; entered = after.entered }
     pub wide : length after.opened ≡ length before.opened
+    pub count : length after.front ≡ length before.front + served
+    pub entered : after.entered ≡ before.entered ++ range_with_len (length before.front) served
+
+  -- The same session once its row is answered or put back: it has entered the places of the `served` calls that are answered, and
+  -- may have put calls back.
+  pub record IsAfterRow (before after : TicketView C R) (served : ℕ) : Type 0 where
+    pub same : after ≡ record before { front = after.front; opened = after.opened; put_backs = after.put_backs; entered = after.entered }
+    pub wide : length after.opened ≡ length before.opened
+    pub count : length after.front ≡ length before.front + served
+    pub entered : after.entered ≡ before.entered ++ range_with_len (length before.front) served
+
+  -- The session has made a pass as the combiner, and entered the places of the `served` calls that the pass answered.
+  pub record HasPassed (before after : TicketView C R) (served : ℕ) : Type 0 where
+    pub session : after ≡ record before { front = after.front; route = after.route; put_backs = after.put_backs; entered = after.entered }
+    pub count : length after.front ≡ length before.front + served
+    pub entered : after.entered ≡ before.entered ++ range_with_len (length before.front) served
 
 module _ {O C R : Type 0} (obj : Ghosts O C R) where
   -- The combiner's object: its history is the one that the combiner knows, followed by the entries of the calls that were
@@ -117,13 +133,12 @@ module _ {O C R : Type 0} (obj : Ghosts O C R) (tells_from : O → ℕ → Type 
   -- The first `served` calls of the row are in the history and answered, the others are put back, and the pass is the age of the
   -- sessions that it served. If it served any, the object tells what these calls have brought about.
   pub record HasServedRow (n : ℕ) (before after : TicketView C R) (old new : Load O C R) (served : ℕ) (starved : Bool) : Type 0 where
-    pub session : IsAfterRow before after
+    pub session : IsAfterRow before after served
     pub none : OpensNone after
     pub put_backs : after.put_backs + served ≡ before.put_backs + vec_len old.row
     pub in_hand : IsObjectInHand obj n new.object after []
     pub longer : IsPrefix before.front after.front
     pub legal : obj.is_legal after.front
-    pub count : length after.front ≡ length before.front + served
     pub starved_is : IsTrue starved ↔ (served < vec_len old.row)
     pub calls : starved ≡ false → KeepsCalls before after
     pub room : vec_capacity new.row ≡ vec_capacity old.row
@@ -145,6 +160,7 @@ module _ {O C R : Type 0} (obj : Ghosts O C R) (tells_from : O → ℕ → Type 
       has_object = true;
       route = after.route;
       put_backs = after.put_backs;
+      entered = after.entered;
       taken = load.pieces.items;
     }
     pub lacked : (between.has_object ≡ false) × (between.route ≡ []) × (between.taken ≡ [])
@@ -152,6 +168,7 @@ module _ {O C R : Type 0} (obj : Ghosts O C R) (tells_from : O → ℕ → Type 
     pub own : List (Entry C R)
     pub front : after.front ≡ before.front ++ others ++ own
     pub count : length own ≡ served
+    pub entered : after.entered ≡ before.entered ++ range_with_len (length (before.front ++ others)) served
     pub home : IsHome obj after.front (sessions + 1) load
     pub legal : obj.is_legal after.front
     pub tells : 0 < served → tells_from load.object (length (before.front ++ others))

@@ -4,11 +4,14 @@ ghost use Rattle.std.specs.Prelude.{◌≡◌, ◌≢◌, ◌+◌, ◌<◌, ◌�
 ghost use Rattle.sequential.specs.Histories.{calls_of};
 ghost use Rattle.publication.specs.Rule.{IsHome};
 ghost use Rattle.publication.specs.Boards.{IsOf, OpensNone, HasCallsOf, heard_from};
-ghost use Rattle.combining.specs.Sessions.{IsSessionOf, IsPendingServed, HasTriedToList};
+ghost use Rattle.combining.specs.Sessions.{IsSessionOf, IsPendingServed, HasTriedToList, IsPassed};
+ghost use Rattle.combining.specs.Ended.{entered_since};
 ghost use Rattle.combining.specs.inner.Passes.{HasMadePass};
+ghost use Rattle.combining.specs.inner.EndedList.{HasAddedTold};
 
 use crate::office::{Office, Turn};
 use crate::pass::{MadePass, serve_published};
+use crate::told::Told;
 use publication::Ticket as Session;
 use sequential::Batching;
 
@@ -28,7 +31,7 @@ impl<O: Batching> Office<O> {
     /// Has the session's call listed, tries once to become the combiner, and if it does, makes a pass. The session then has
     /// the object.
     #[inline(always)]
-    pub(crate) fn make_pass(&self, session: &mut Session<O>) -> Option<MadePass<O>>
+    fn make_pass(&self, session: &mut Session<O>) -> Option<MadePass<O>>
         requires ours { IsSessionOf self.now session.old }
         ensures ours { IsOf self.now session.new }
         ensures made { IfSome result (λ made. HasMadePass O.Sequential O.tells_from self.now.sessions session.old session.new made.load.value made.pass.served) }
@@ -49,7 +52,7 @@ impl<O: Batching> Office<O> {
     }
 
     /// Gives the object back after a pass.
-    pub(crate) fn end_pass(&self, session: &mut Session<O>, made: MadePass<O>) -> Turn
+    fn end_pass(&self, session: &mut Session<O>, made: MadePass<O>) -> Turn
         requires ours { IsOf self.now session.old × (session.old.has_object ≡ true) × OpensNone session.old }
         requires live { session.old.pending ≢ None → session.old.retired ≡ false }
         requires home { IsHome O.Sequential session.old.front (self.now.sessions + 1) made.load.value }
@@ -65,5 +68,28 @@ impl<O: Batching> Office<O> {
             served: pass.served,
             starved: pass.starved,
         }
+    }
+    /// Serves as `serve` does, and adds the sessions whose waits the pass has ended to those that were told.
+    #[inline(always)]
+    pub(crate) fn pass<T: Told<O>>(&self, session: &mut Session<O>, told: &mut T) -> Turn
+        requires ours { IsSessionOf self.now session.old }
+        requires room { T.has_room told.old self.now.sessions }
+        ensures ours { IsSessionOf self.now session.new }
+        ensures elsewhere { result ≡ Turn.Elsewhere → HasTriedToList session.old session.new × (1 < self.now.sessions) }
+        ensures pass { (served : _) (starved : _) → result ≡ Turn.Pass served starved → IsPassed O.Sequential session.old session.new served }
+        ensures starved { (served : _) (starved : _) → result ≡ Turn.Pass served starved → IsTrue starved ↔ (session.old.put_backs < session.new.put_backs) }
+        ensures rises { (j : _) → heard_from session.old j ≤ heard_from session.new j }
+        ensures calls { HasCallsOf session.new.front session.new }
+        ensures own { (served : _) → result ≡ Turn.Pass served false → session.old.pending ≢ None → IsPendingServed session.new }
+        ensures heard { (served j : _) → result ≡ Turn.Pass served false → 0 < j → j ≤ self.now.sessions
+            → heard_from session.old j ≤ length (calls_of j session.new.front) }
+        ensures told { HasAddedTold T.ends self.now.sessions session.new.front (entered_since session.old session.new) (T.list told.old) (T.list told.new) }
+        ensures room { T.has_room told.new self.now.sessions }
+    {
+        let Some(made) = self.make_pass(session) else {
+            return Turn::Elsewhere;
+        };
+        told.add(&made.load.object, made.pass.served);
+        self.end_pass(session, made)
     }
 }

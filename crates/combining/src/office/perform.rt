@@ -4,13 +4,14 @@ ghost use Rattle.std.specs.Prelude.{◌≡◌, ◌+◌, ◌<◌, ◌≤◌, ◌�
 ghost use Rattle.sequential.specs.Histories.{calls_of};
 ghost use Rattle.publication.specs.Boards.{HasCallsOf, heard_from};
 ghost use Rattle.combining.specs.Sessions.{IsSessionOf, IsIdle, IsPerformed, IsRefused};
-ghost use Rattle.combining.specs.Ended.{AreToldBy};
+ghost use Rattle.combining.specs.Ended.{AreToldBy, entered_since};
+ghost use Rattle.combining.specs.inner.EndedList.{HasAddedTold};
 
-use crate::ended::Ended;
 use crate::office::{Answer, Office};
-use crate::own_call::{serve_with_own, serve_with_own_telling};
+use crate::own_call::serve_with_own;
+use crate::told::{Nobody, Told};
 use publication::Ticket as Session;
-use sequential::{Batching, Telling};
+use sequential::Batching;
 
 /// The outcome of one call of `perform`.
 #[derive(Clone, Copy, Debug, PartialEq, Eq)]
@@ -56,36 +57,22 @@ impl<O: Batching> Office<O> {
         ensures refused { result ≡ Performed.Starved → IsRefused O.Sequential session.old session.new }
         ensures calls { HasCallsOf session.new.front session.new }
     {
-        let Some(mut load) = self.board.seize(session) else {
-            return Performed::Elsewhere;
-        };
-        let (pass, own) = serve_with_own(&self.board, session, &mut load, call);
-        self.board.release(session, load);
-        match own {
-            Some((place, reply)) => Performed::Answered {
-                answer: Answer { place, reply },
-                served: pass.served,
-                starved: pass.starved,
-            },
-            None => Performed::Starved,
-        }
+        self.perform_adding(session, call, &mut Nobody)
     }
-}
 
-impl<O: Telling> Office<O> {
-    /// Performs as `perform` does, and tells whose wait the pass and the call have ended, as `serve_telling` tells it of a pass.
-    /// Each session is told once. `ended` is empty afterwards if the session did not become the combiner.
+    /// Performs as `perform` does, and tells whose wait the pass and the call have ended, as `serve_telling` tells it of a pass, also
+    /// if memory was refused for the call.
     ///
-    /// `ended` has room for all sessions of the office, so that the call takes no memory beyond what `perform` takes.
-    pub fn perform_telling(
+    /// `told` has room for all sessions of the office, so that the call takes no memory beyond what `perform` takes.
+    pub fn perform_telling<T: Told<O>>(
         &self,
         session: &mut Session<O>,
         call: O::Call,
-        ended: &mut Ended,
+        told: &mut T,
     ) -> Performed<O::Reply>
         requires ours { IsSessionOf self.now session.old }
         requires idle { IsIdle session.old }
-        requires room { self.now.sessions ≤ ended.old.room }
+        requires room { T.has_room told.old self.now.sessions }
         ensures ours { IsSessionOf self.now session.new }
         ensures idle { IsIdle session.new }
         ensures answered { (answer : _) (served : _) (starved : _) → result ≡ Performed.Answered answer served starved
@@ -97,17 +84,41 @@ impl<O: Telling> Office<O> {
         ensures elsewhere { result ≡ Performed.Elsewhere → (session.new ≡ session.old) × (1 < self.now.sessions) }
         ensures refused { result ≡ Performed.Starved → IsRefused O.Sequential session.old session.new }
         ensures calls { HasCallsOf session.new.front session.new }
-        ensures told { (answer : _) (served : _) (starved : _) → result ≡ Performed.Answered answer served starved
-            → AreToldBy O.ends self.now.sessions (served + 1) session.new.front ended.new.list }
-        ensures told_refused { result ≡ Performed.Starved → (served : ℕ) × AreToldBy O.ends self.now.sessions served session.new.front ended.new.list }
-        ensures none { result ≡ Performed.Elsewhere → ended.new.list ≡ [] }
-        ensures room { ended.new.room ≡ ended.old.room }
+        ensures told { AreToldBy T.ends self.now.sessions session.new.front (entered_since session.old session.new) (T.list told.new) }
+        ensures room { T.has_room told.new self.now.sessions }
     {
-        ended.clear();
+        told.clear();
+        self.perform_adding(session, call, told)
+    }
+
+    /// Performs as `perform` does, and adds the sessions whose waits the pass and the call have ended to those that were told.
+    pub(crate) fn perform_adding<T: Told<O>>(
+        &self,
+        session: &mut Session<O>,
+        call: O::Call,
+        told: &mut T,
+    ) -> Performed<O::Reply>
+        requires ours { IsSessionOf self.now session.old }
+        requires idle { IsIdle session.old }
+        requires room { T.has_room told.old self.now.sessions }
+        ensures ours { IsSessionOf self.now session.new }
+        ensures idle { IsIdle session.new }
+        ensures answered { (answer : _) (served : _) (starved : _) → result ≡ Performed.Answered answer served starved
+            → IsPerformed O.Sequential (O.goes_first call) session.old session.new call answer.place answer.reply served }
+        ensures put_back { (answer : _) (served : _) (starved : _) → result ≡ Performed.Answered answer served starved
+            → IsTrue starved ↔ (session.old.put_backs < session.new.put_backs) }
+        ensures heard { (answer : _) (served j : _) → result ≡ Performed.Answered answer served false → 0 < j → j ≤ self.now.sessions
+            → heard_from session.old j ≤ length (calls_of j session.new.front) }
+        ensures elsewhere { result ≡ Performed.Elsewhere → (session.new ≡ session.old) × (1 < self.now.sessions) }
+        ensures refused { result ≡ Performed.Starved → IsRefused O.Sequential session.old session.new }
+        ensures calls { HasCallsOf session.new.front session.new }
+        ensures told { HasAddedTold T.ends self.now.sessions session.new.front (entered_since session.old session.new) (T.list told.old) (T.list told.new) }
+        ensures room { T.has_room told.new self.now.sessions }
+    {
         let Some(mut load) = self.board.seize(session) else {
             return Performed::Elsewhere;
         };
-        let (pass, own) = serve_with_own_telling(&self.board, session, &mut load, call, ended);
+        let (pass, own) = serve_with_own(&self.board, session, &mut load, call, told);
         self.board.release(session, load);
         match own {
             Some((place, reply)) => Performed::Answered {

@@ -1,10 +1,13 @@
-use Rattle.std.proofs.Common.{rules, ◌≤◌, List, length, take, refl, subst, arith}
+use Rattle.std.proofs.Common.{◌≤◌, ◌∙◌, Option, None, List, [], ◌∷◌, ◌++◌, length, take, refl, sym, ap, subst, arith, length-append, length-set}
 use Rattle.std.proofs.Math.ListN.{drop_of_length-le}
 use Rattle.sequential.specs.declared.entry.Item.{Item}
+use Rattle.publication.specs.Views.{TicketView, entry}
+use Rattle.publication.specs.Boards.{asked_at}
 use Rattle.publication.proofs.Lists.{prefix_trans}
 use Rattle.combining.specs.inner.Passes.{IsObjectInHand}
 use Rattle.combining.proofs.CallsToServe.{answered, keeps-trans}
 use Rattle.combining.proofs.PerformedCalls.{answerable-at, answered-at, all-entered}
+use Rattle.combining.proofs.SameSession.{one-answered}
 use Rattle.combining.proofs.pass.answer_row.Goals as goal
 
 pub unreachable-requires : goal.unreachable-requires
@@ -28,13 +31,16 @@ loop-item-preserved g c =
     let i = c.loop-item.invariant in
     let next = answered-at g.met.O.Sequential.fronts c.args.board.now.sessions c.args.object.now t u c.args.row.now c.args.served c.loop-item.item-index c.item-item.result c.in-Some.reply
     c.requires.served c.loop-item-test.true c.item-item.is c.in-Some.is c.served-served.ensures.legal i.object i.row c.answer.ensures.ticket in
+    let whose = c.item-item.result.session in
+    let front = t.front ++ entry whose (asked_at g.O.Sequential t whose) c.in-Some.reply ∷ [] in
+    let step = c.answer.ensures.ticket in
     record {
-      same = search rules;
+      same = one-answered before t u c.loop-item.item-index front i.same (step ∙ ap (λ (o : List (Option _)). record t { front = front; opened = o; entered = t.entered ++ length t.front ∷ [] }) (sym (ap (λ (x : TicketView _ _). x.opened) step)))
+          (ap (λ (x : TicketView _ _). length x.opened) step ∙ length-set t.opened whose None) (length-append t.front (entry whose (asked_at g.O.Sequential t whose) c.in-Some.reply ∷ []));
       short = i.short;
       object = next.book_is;
       row = next.row_is;
       longer = prefix_trans before.front t.front u.front i.longer next.longer;
-      entries = search rules;
       calls = keeps-trans before t u i.calls next.calls;
     }
 

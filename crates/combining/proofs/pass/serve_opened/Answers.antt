@@ -33,7 +33,7 @@ returns g c =
     let hand = c.serve_row-served.ensures.object in
     record {
       served = record {
-        session = after_row before after last last.put_backs c.serve_row-served.ensures.session
+        session = after_row before after last served last.put_backs c.serve_row-served.ensures.session
             (c.put_back_row.ensures.session ∙ ap (λ (n : ℕ). record after { opened = last.opened; put_backs = n }) (sym (ap (λ (t : TicketView _ _). t.put_backs) c.put_back_row.ensures.session))) c.put_back_row.ensures.wide;
         none = search rules;
         put_backs = search rules;
@@ -45,7 +45,6 @@ returns g c =
         };
         longer = search rules;
         legal = search rules;
-        count = search rules;
         starved_is = search rules;
         calls = λ unstarved. grind (arith, common_steps, unstarved);
         room = search rules;

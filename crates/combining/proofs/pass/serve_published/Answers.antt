@@ -1,23 +1,19 @@
 use Rattle.std.proofs.Common.{rules, ◌≡◌, ◌≤◌, ◌∙◌, ℕ, List, get_or, length, subst, arith, sym, ap}
-use Rattle.sequential.specs.declared.entry.Entry.{Entry}
 use Rattle.publication.specs.Views.{TicketView}
 use Rattle.combining.specs.inner.Ages.{sessions_since, noted}
 use Rattle.combining.proofs.NotedAges.{noted-past}
 use Rattle.combining.proofs.PerformedCalls.{in-hand}
-use Rattle.combining.proofs.SameSession.{after_row-trans, after_row-none}
+use Rattle.combining.proofs.SameSession.{passed, cleaned}
 use Rattle.combining.proofs.pass.serve_published.Goals as goal
 
-pub returns-clause-session : goal.returns-clause-session
-returns-clause-session g c =
+pub returns-clause-pass : goal.returns-clause-pass
+returns-clause-pass g c =
     let before = c.args.session.now in
     let opened = c.open_records.new.session in
     let after = c.serve_any-pass.new.session in
-    let last = c.clean_up.new.session in
-    let done : after ≡ record before { front = after.front; route = after.route; put_backs = after.put_backs } =
-    after_row-none before after (after_row-trans before opened after c.open_records.ensures.session.0 c.serve_any-pass.ensures.served.session) c.requires.work.none c.serve_any-pass.ensures.served.none in
-    let cleaned : last ≡ record after { route = last.route } = c.clean_up.ensures.session in
-    cleaned ∙ (ap (λ (t : TicketView _ _). record t { route = last.route }) done
-    ∙ ap (λ (k : List (Entry _ _) × ℕ). record before { front = k.0; route = last.route; put_backs = k.1 }) (sym (ap (λ (t : TicketView _ _). (t.front, t.put_backs)) cleaned)))
+    let served = c.serve_any-pass.result.served in
+    cleaned before after c.clean_up.new.session served
+    (passed before opened after served c.open_records.ensures.session.0 c.serve_any-pass.ensures.served.session c.requires.work.none c.serve_any-pass.ensures.served.none) c.clean_up.ensures.session
 
 pub returns-clause-work : goal.returns-clause-work
 returns-clause-work g c =

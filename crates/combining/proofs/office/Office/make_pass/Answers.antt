@@ -1,4 +1,5 @@
-use Rattle.std.proofs.Common.{rules, ◌≡◌, ◌∙◌, ◌+◌, ◌++◌, List, length, length-append, sym, ap, subst, arith}
+use Rattle.std.proofs.Common.{rules, ◌≡◌, ◌∙◌, ◌+◌, ◌++◌, List, length, length-append, sym, ap, subst, arith, ℕ}
+use Rattle.std.specs.List.{range_with_len}
 use mathlib.Core.List.{IsPrefix}
 use Rattle.sequential.specs.declared.entry.Entry.{Entry}
 use Rattle.publication.specs.Views.{TicketView}
@@ -24,13 +25,18 @@ returns-clause-made g c =
     record {
       between = between;
       is_tried = c.enlist.ensures.tried;
-      session = made between c.seize.new.ticket last (g.O.Sequential.history old.object) old.pieces.items pass.new.load.pieces.items (search rules) pass.ensures.session same;
+      session = made between c.seize.new.ticket last (g.O.Sequential.history old.object) old.pieces.items pass.new.load.pieces.items (search rules) pass.ensures.pass.session same;
       lacked = (seized.lacked, rest.1 ∙ c.requires.ours.no_walk, seized.untaken);
       others = longer.0;
       own = whole.0;
       front = front;
       count = omega (arith, count, ap (λ (l : List (Entry _ _)). length l) whole.1, length-append (g.O.Sequential.history old.object) whole.0);
+      entered = pass.ensures.pass.entered ∙ (ap (λ (t : TicketView _ _). t.entered ++ range_with_len (length t.front) pass.result.served) seized.ticket
+          ∙ ap (λ (k : List ℕ × List (Entry _ _)). k.0 ++ range_with_len (length k.1) pass.result.served) (two rest.2 known));
       home = search rules;
       legal = search rules;
       tells = λ some. subst (λ (l : List (Entry _ _)). g.O.Serving.tells_from pass.new.load.object (length l)) known_whole (pass.ensures.tells some);
     }
+  where
+    two : {A B : Type 0} {a a' : A} {b b' : B} → a ≡ a' → b ≡ b' → ◌≡◌ {A = A × B} (a, b) (a', b')
+    two x y = cc (x, y)

@@ -1,5 +1,5 @@
 use Rattle.std.proofs.Common.{◌≡◌, length}
-use Rattle.combining.proofs.ended.Ended.clear.Given as goal
+use Rattle.combining.proofs.ended.Ended.remove_all.Given as goal
 
 -- The room stays.
 abbrev pub invariant-loop : goal.invariant-loop
