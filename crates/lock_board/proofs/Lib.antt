@@ -1,3 +1,4 @@
 pub mod HoldsAsTold
 pub mod ToldIsHeld
 pub mod ToldTogether
+pub mod WakeUps

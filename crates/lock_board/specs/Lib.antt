@@ -1,3 +1,4 @@
 pub mod LockBoards
 pub mod HoldsAsTold
 pub mod Exclusion
+pub mod WakeUps

@@ -4,7 +4,7 @@
 //! `IsRuled s` says that the rule of the board holds in state `s`. `atomic_table` promises that it holds between any two
 //! atomic steps of the running board.
 
-ghost use Rattle.std.specs.Prelude.{◌≡◌, ◌≢◌, ◌⊎◌, ℕ, List, ◌∷◌, ◌++◌, [], Option, Some, None, All};
+ghost use Rattle.std.specs.Prelude.{◌≡◌, ◌≢◌, ◌⊎◌, ℕ, ◌+◌, List, ◌∷◌, ◌++◌, [], length, Option, Some, None, All};
 ghost use Rattle.lock_modes.specs.declared.Mode.{Mode};
 ghost use Rattle.sequential.specs.Histories.{calls_of};
 ghost use Rattle.lock_rules.specs.declared.calls.Call.{Call};
@@ -17,12 +17,18 @@ ghost use Rattle.lock_rules.specs.Entries.{Entry, Answered};
 ghost use Rattle.lock_rules.specs.Legal.{IsLegal, state_of};
 ghost use Rattle.lock_rules.specs.Laws.{HoldsAtLeast, GoTogether};
 ghost use Rattle.publication.specs.Views.{IsAccountedIn, answer, asks};
+ghost use Rattle.std.specs.Global.{Box};
+ghost use Rattle.publication.specs.BoardHistory.{new_board};
+ghost use Rattle.publication.specs.Runs.{IsRun};
 ghost use Rattle.publication.specs.Collected.{HasCollected};
-ghost use Rattle.lock_board.specs.LockBoards.{Pending, BoardState, IsRuled, history_of};
+ghost use Rattle.lock_board.specs.LockBoards.{Pending, Load, BoardState, IsHome, IsRuled, history_of, book_object};
+ghost use Rattle.lock_board.specs.WakeUps.{WasToldToWait, IsNotForgotten};
 ghost use Rattle.lock_board.specs.HoldsAsTold.{AsksFor, KeepsLock, KeptLock, TookNothingBack, HoldsAsTold, ReadsAsTold, WritesAsTold};
 ghost use Rattle.lock_board.specs.Exclusion.{ToldModesGoTogether, IsToldExclusive, IsToldAccessCompatible};
 
+use lock_desk::Book;
 use lock_rules::laws;
+use publication::laws::{boards_open_with_an_empty_history, each_place_is_entered_once};
 
 /// When a session holds a lock as told. It begins with the answer that grants the lock, or, after a wait, with the poll
 /// that is answered Clear or the withdrawal that is refused with NotWaiting, unless the session took its request back
@@ -98,4 +104,23 @@ pub fn told_locks_are_held()
         HoldsAtLeast (state_of (history_of s)).table i r m }
 {
     laws::refusals_keep_the_state();
+}
+
+/// No session that waits is forgotten, in any state that a run of a board from its opening reaches, whatever calls are posted,
+/// opened or served at that moment. Take a session whose last call was answered Waiting, whether or not it has collected the answer
+/// (clause `told_to_wait` says when it has). Either it has a waiting request; or an entry behind that answer has ended its wait,
+/// which stands among the places that exactly one session has entered. That session's call tells it: it has told already; or the
+/// session is in the lock word and its pass goes on; or its call has it in the list that it hasn't handed out yet.
+///
+/// `told` says of how many of the places that a session has entered its calls have told by then. A call that tells
+/// (`serve_telling`, `perform_telling`, `call` and `resume` of the office) tells of exactly the places that it has entered, so that
+/// once it has returned, its session's calls have told of all.
+pub fn nobody_who_waits_is_forgotten()
+    ensures not_forgotten { (n : ℕ) (load : Box Load) (s : BoardState) (told : ℕ → ℕ) (u : ℕ) → IsHome [] (n + 1) load.value → load.value.pieces.items ≡ [] →
+        IsRun book_object (new_board n load) s → (wait : WasToldToWait (history_of s) u) → IsNotForgotten s told (length wait.front) u }
+    ensures told_to_wait { (s : BoardState) (u place : ℕ) (before : List Answered) (call : Call) → IsRuled s →
+        HasCollected s u (before ++ answer place call Waiting ∷ []) None → WasToldToWait (history_of s) u }
+{
+    boards_open_with_an_empty_history::<Book>();
+    each_place_is_entered_once::<Book>();
 }

@@ -11,7 +11,7 @@ ghost use Rattle.lock_board.specs.LockBoards.{TicketView};
 ghost use Rattle.publication.specs.Boards.{HasCallsOf};
 ghost use Rattle.lock_board.specs.HoldsAsTold.{HoldsAsTold, ReadsAsTold, WritesAsTold};
 ghost use Rattle.lock_office.specs.Closed.{IsClosed, IsOneHistory};
-ghost use Rattle.lock_office.specs.Ended.{AreEndedBy, AreWakesTold};
+ghost use Rattle.lock_office.specs.Ended.{AreToldBy, AreWakesTold};
 
 use combining::laws::closed_offices_have_one_history as one_history_of_any_object;
 use lock_board::laws::one_history_tells_what_goes_together;
@@ -53,11 +53,13 @@ pub fn told_locks_go_together()
     one_history_tells_what_goes_together();
 }
 
-/// Why a session that waits may sleep until a pass tells it. A pass tells each session whose wait its calls have ended: one that
-/// waited before the pass or came to wait in it, made no call since, and waits no more behind it. A told session learns by its
-/// next poll how its wait has ended: `Clear` or `Deadlock`, whatever others call in between.
+/// Why a session that waits may sleep until a pass tells it. A call that tells (`serve_telling`, `perform_telling`, `call`, `resume`)
+/// tells each session whose wait ended at a place that the call's passes have entered: also one whose request came to wait in the same
+/// pass, and also if memory was refused. A told session that has made no call since its wait ended learns by its next poll how it
+/// has ended: `Clear` or `Deadlock`, whatever others call in between. `lock_board::laws::nobody_who_waits_is_forgotten` says of every
+/// state of the board whose call tells a session.
 pub fn no_wake_up_is_lost()
-    ensures { (sessions : ℕ) (front own : List Entry) (list : List ℕ) → AreEndedBy sessions front own list → AreWakesTold sessions front own list }
+    ensures { (sessions : ℕ) (history : List Entry) (places list : List ℕ) → AreToldBy sessions history places list → AreWakesTold sessions history places list }
 {
     laws::ended_waits_are_told_by_polls();
 }

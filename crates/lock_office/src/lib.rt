@@ -13,7 +13,7 @@ pub mod laws;
 mod opening;
 pub mod queries;
 
-pub use combining::{CloseFault, Ended, OpenFault, Posted, Turn, call, resume};
+pub use combining::{CloseFault, Ended, Nobody, OpenFault, Posted, Told, Turn, call, resume};
 pub use lock_board::{Knowledge, Ticket as Session};
 use lock_desk::{Book, Entry, Reply};
 pub use opening::open_keeping;

@@ -9,6 +9,7 @@ use Rattle.sequential.specs.Histories.{calls_of}
 use Rattle.publication.specs.Boards.{HasCallsOf, heard_from, publishing, enlisted, tried}
 use Rattle.publication.specs.Kinds.{longer, maxes}
 use Rattle.lock_office.specs.Sessions.{HasTriedToList, HasNothingPending, IsIdle, IsPassed, IsPerformed, IsRefused, IsCollected, IsPendingServed, HasTakenPiece}
+use Rattle.combining.specs.Ended.{entered_since}
 use Rattle.lock_office.specs.Ended.{AreToldBy}
 use Rattle.pelgaisti_c.specs.declared.numbers.CallNumbers.{CallNumbers}
 use Rattle.pelgaisti_c.specs.declared.numbers.AnswerNumbers.{AnswerNumbers}
@@ -48,16 +49,16 @@ IsTurn before after served starved = IsPassed before.session after.session serve
     × (starved ≡ 0 → (j : ℕ) → 0 < j → j ≤ before.sessions → heard_from before.session j ≤ length (calls_of j after.session.front))
     × IsSameOffice before after
 
--- the sessions whose wait the last `served` calls of the history have ended, each once: the array has their numbers at its front, and room
--- for them all
-abbrev pub AreToldIn : ℕ → ℕ → List Entry → List ℕ → List ℕ → ℕ → Type 0
-AreToldIn sessions served history places numbers count = (told : List ℕ) × AreToldBy sessions served history told
+-- the sessions whose wait the entries have ended whose places the session has entered meanwhile, each once: the array has their numbers
+-- at its front, and room for them all
+abbrev pub AreToldIn : SessionShare → SessionShare → List ℕ → List ℕ → ℕ → Type 0
+AreToldIn before after places numbers count = (told : List ℕ) × AreToldBy before.sessions after.session.front (entered_since before.session after.session) told
     × (numbers ≡ are_written (λ u. u) told places) × (count ≡ length told) × (count ≤ length places)
 
 -- a pass as IsTurn says, and the sessions whose wait its calls have ended
 abbrev pub IsToldTurn : SessionShare → SessionShare → ℕ → ℕ → List ℕ → List ℕ → ℕ → Type 0
 IsToldTurn before after served starved places numbers count = IsTurn before after served starved
-    × AreToldIn before.sessions served after.session.front places numbers count
+    × AreToldIn before after places numbers count
 
 -- the numbers encode a call, and the session may make one
 abbrev pub MayCall : SessionShare → CallNumbers → Type 0
@@ -83,12 +84,12 @@ IsRefusedAtOnce before after asked = MayCall before asked × IsRefused before.se
 -- the call was performed at once, as IsPerformedAtOnce says, and the sessions whose wait it and the calls of the pass have ended
 abbrev pub IsToldPerformed : SessionShare → SessionShare → CallNumbers → AnswerNumbers → ℕ → ℕ → List ℕ → List ℕ → ℕ → Type 0
 IsToldPerformed before after asked answer served starved places numbers count = IsPerformedAtOnce before after asked answer served starved
-    × AreToldIn before.sessions (served + 1) after.session.front places numbers count
+    × AreToldIn before after places numbers count
 
 -- the call was not performed in a pass, as IsRefusedAtOnce says, and the sessions whose wait the calls of the pass have ended
 abbrev pub IsToldRefused : SessionShare → SessionShare → CallNumbers → List ℕ → List ℕ → ℕ → Type 0
 IsToldRefused before after asked places numbers count = IsRefusedAtOnce before after asked
-    × ((served : ℕ) × AreToldIn before.sessions served after.session.front places numbers count)
+    × AreToldIn before after places numbers count
 
 -- no pass was made: the share and the array are as before, and nobody is told of
 abbrev pub HasToldNobody : SessionShare → SessionShare → CallNumbers → List ℕ → List ℕ → ℕ → Type 0

@@ -1,5 +1,6 @@
 use Rattle.std.proofs.Common.{rules, ◌≡◌, ◌+◌, ℕ, refl, sym, subst, arith, ◌∙◌}
 use Rattle.lock_office.specs.Sessions.{IsPerformed}
+use Rattle.combining.specs.Ended.{entered_since}
 use Rattle.lock_office.specs.Ended.{AreToldBy}
 use Rattle.combining.specs.declared.office.perform.Performed.TheVariants.{Answered}
 use Rattle.pelgaisti_c.proofs.Starved.{is_one, falls}
@@ -32,7 +33,7 @@ returns-clause-ok c = λ e.
         record { office = refl; handed = refl; sessions = refl; mark = refl },
       ),
       elim c.if-status-ne-ELSEWHERE.branch [
-        | then-status-ne-ELSEWHERE w ↦ (told, subst (λ (n : ℕ). AreToldBy n (pass.served + 1) c.perform_telling-performed.new.session.front told) many (done.told _ _ _ found.1), w.list-is ∙ w.write_ended.ensures.list, w.count-is ∙ w.write_ended.ensures.count.0, (let few = w.write_ended.ensures.count.1 in omega (arith, w.count-is, few)))
+        | then-status-ne-ELSEWHERE w ↦ (told, subst (λ (n : ℕ). AreToldBy n c.perform_telling-performed.new.session.front (entered_since c.args.share.now.session c.perform_telling-performed.new.session) told) many done.told, w.list-is ∙ w.write_ended.ensures.list, w.count-is ∙ w.write_ended.ensures.count.0, (let few = w.write_ended.ensures.count.1 in omega (arith, w.count-is, few)))
         | else-status-ne-ELSEWHERE w ↦ absurd (let no : 0 ≡ 13 = sym e ∙ w.if-status-ne-ELSEWHERE.false in omega (arith, no))
       ],
     )

@@ -1,4 +1,5 @@
 use Rattle.std.proofs.Common.{rules, ◌≡◌, ℕ, arith, refl, ◌∙◌, subst}
+use Rattle.combining.specs.Ended.{entered_since}
 use Rattle.lock_office.specs.Ended.{AreToldBy}
 use Rattle.combining.specs.declared.office.Turn.TheVariants.{Pass}
 use Rattle.pelgaisti_c.proofs.Starved.{is_one, falls}
@@ -25,7 +26,7 @@ returns-clause-ok c = λ e.
         record { office = refl; handed = refl; sessions = refl; mark = refl },
       ),
       elim c.if-status-eq-OK.branch [
-        | then-status-eq-OK w ↦ (told, subst (λ (n : ℕ). AreToldBy n pass.served c.serve_telling-turn.new.session.front told) many (turn.told _ _ is), w.list-is ∙ w.write_ended.ensures.list, w.count-is ∙ w.write_ended.ensures.count.0, (let few = w.write_ended.ensures.count.1 in omega (arith, w.count-is, few)))
+        | then-status-eq-OK w ↦ (told, subst (λ (n : ℕ). AreToldBy n c.serve_telling-turn.new.session.front (entered_since c.args.share.now.session c.serve_telling-turn.new.session) told) many turn.told, w.list-is ∙ w.write_ended.ensures.list, w.count-is ∙ w.write_ended.ensures.count.0, (let few = w.write_ended.ensures.count.1 in omega (arith, w.count-is, few)))
         | else-status-eq-OK w ↦ absurd (w.if-status-eq-OK.false e)
       ],
     )

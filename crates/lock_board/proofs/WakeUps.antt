@@ -1,0 +1,180 @@
+-- Who tells a session that waits that its wait has ended.
+use Rattle.std.proofs.Common.{◌≡◌, ◌≢◌, ◌⊎◌, inl, inr, ⊎_elim, ℕ, zero, suc, ◌+◌, ◌<◌, ◌≤◌, cond, Bool, true, false, eqb, Option, Some, None, List, [], ◌∷◌, ◌++◌, length, get_or, take, refl, sym, ap, subst, ◌∙◌, arith, append-nil, append_assoc, length-append, Contains}
+use Rattle.std.specs.Prelude.{All}
+use Rattle.std.proofs.lemmas.List.{get_or_default}
+use Rattle.std.proofs.lemmas.List.Elements.{All-nil, All-cons}
+use Rattle.std.proofs.lemmas.Bool.Decides.{Decides-eqb}
+use Rattle.std.proofs.Math.Seq.{take-append_seam}
+use mathlib.Core.Option as opt
+use mathlib.Core.Logic.{dite}
+use native.Mathlib.Decide.{ℕ_discrete}
+use lib.ListN.{get_elem?}
+use Rattle.lock_modes.specs.declared.Mode.{Mode}
+use Rattle.lock_rules.specs.declared.calls.Call.{Call}
+use Rattle.lock_rules.specs.declared.calls.Call.TheVariants.{Begin, Lock, Convert, Poll, Release, Commit, Abort, Try, Withdraw}
+use Rattle.lock_rules.specs.declared.calls.Reply.TheVariants.{Waiting, Deadlock, Granted, Clear}
+use Rattle.lock_rules.specs.declared.calls.Why.{Why}
+use Rattle.lock_rules.specs.Entries.{Entry, Answered}
+use Rattle.lock_rules.specs.State.{Claim, State, empty, request_of, is_waiting}
+use Rattle.lock_rules.specs.Step.{Outcome, tests, first_failing, outcome_of, step}
+use Rattle.lock_rules.specs.Ended.{HasEnded}
+use Rattle.lock_rules.specs.Laws.{HasRequest}
+use Rattle.lock_rules.specs.Legal.{IsLegal, state_of}
+use Rattle.lock_rules.proofs.Histories.{legal-steps, state_of-push}
+use Rattle.lock_rules.proofs.Sessions.{waiting-decides}
+use Rattle.sequential.specs.Histories.{calls_from, calls_of}
+use Rattle.sequential.specs.EndedWaits.{HasEndedIn}
+use Rattle.lock_desk.specs.Batches.{ends_wait}
+use Rattle.publication.specs.Views.{entry, answer}
+use Rattle.publication.specs.Rule.{word}
+use Rattle.publication.specs.Entered.{HasEnteredPlaces, AreEnteredOnce}
+use Rattle.lock_board.specs.LockBoards.{BoardState, history_of, book_object}
+use Rattle.lock_board.specs.WakeUps.{MakesNoCall, WasToldToWait, HasEndedWait, IsNotForgotten, waits, was_told, combiner_tells, is_listed}
+use Rattle.lock_board.proofs.ToldIsHeld.{split}
+
+-- A session that makes no call in some entries makes none in those behind the first ones.
+pub no-call-behind : (u : ℕ) (xs ys : List Entry) → MakesNoCall u (xs ++ ys) → MakesNoCall u ys
+no-call-behind u [] ys h = h
+no-call-behind u (x ∷ xs) ys h = no-call-behind u xs ys (λ k d few. h (suc k) d (omega (arith, few)))
+
+-- A wait that other sessions' entries have ended
+
+-- Entries behind more entries of the front.
+pub further : (front some others : List Entry) (u : ℕ) → HasEndedIn ends_wait (front ++ some) others u → HasEndedIn ends_wait front (some ++ others) u
+further front some others u h = record {
+  earlier = some ++ h.earlier;
+  entry = h.entry;
+  later = h.later;
+  entries_are = ap (λ (l : List Entry). some ++ l) h.entries_are ∙ sym (append_assoc some h.earlier (h.entry ∷ h.later));
+  ended = subst (λ (l : List Entry). HasEnded h.entry.session (state_of l) (step (state_of l) h.entry.session h.entry.call).state u) (append_assoc front some h.earlier) h.ended;
+}
+
+-- A session with a request and none behind entries that are others' has had its wait ended by one of them.
+pub wait-ended : (front es : List Entry) (u : ℕ) → HasRequest (state_of front) u → MakesNoCall u es → request_of u (state_of (front ++ es)).table.requests ≡ None → HasEndedIn ends_wait front es u
+wait-ended front [] u waited none gone =
+    let some : Some waited.0 ≡ None = sym waited.1 ∙ (ap (λ (l : List Entry). request_of u (state_of l).table.requests) (sym (append-nil front)) ∙ gone) in
+    absurd (cc some)
+wait-ended front (e ∷ es) u waited none gone = by_request (request_of u next.table.requests) refl (λ q is. wait-ended (front ++ e ∷ []) es u
+    (q, ap (λ (st : State). request_of u st.table.requests) (state_of-push front e) ∙ is) (no-call-behind u (e ∷ []) es none)
+    (ap (λ (l : List Entry). request_of u (state_of l).table.requests) (append_assoc front (e ∷ []) es) ∙ gone))
+  where
+    next : State
+    next = (step (state_of front) e.session e.call).state
+
+    by_request : (o : Option Claim) → request_of u next.table.requests ≡ o → ((q : Claim) → request_of u next.table.requests ≡ Some q → HasEndedIn ends_wait (front ++ e ∷ []) es u) → HasEndedIn ends_wait front (e ∷ es) u
+    by_request None is later = record {
+      earlier = [];
+      entry = e;
+      later = es;
+      entries_are = refl;
+      ended = subst (λ (l : List Entry). HasEnded e.session (state_of l) (step (state_of l) e.session e.call).state u) (sym (append-nil front))
+          (record { another = λ same. none 0 e (omega arith) (sym same); waited = waited; waits_no_more = is });
+    }
+    by_request (Some q) is later = further front (e ∷ []) es u (later q is)
+
+-- A reply Waiting
+
+-- What is answered Waiting has a waiting request.
+waits-after : (st : State) (s : ℕ) (c : Call) → (step st s c).reply ≡ Waiting → HasRequest (step st s c).state s
+waits-after st s c is = by_test (first_failing (tests st s c)) c is
+  where
+    asked : (d w : Bool) (k : Mode) → cond d Deadlock (cond w Waiting (Granted k)) ≡ Waiting → w ≡ true
+    asked true w k e = absurd (cc e)
+    asked false true k e = refl
+    asked false false k e = absurd (cc e)
+
+    polled : (d w : Bool) → cond d Deadlock (cond w Waiting Clear) ≡ Waiting → w ≡ true
+    polled true w e = absurd (cc e)
+    polled false true e = refl
+    polled false false e = absurd (cc e)
+
+    by_test : (o : Option Why) (y : Call) → (outcome_of o st s y).reply ≡ Waiting → HasRequest (outcome_of o st s y).state s
+    by_test (Some why) y e = absurd (cc e)
+    by_test None Begin e = absurd (cc e)
+    by_test None (Lock r m) e = (waiting-decides (outcome_of None st s (Lock r m)).state s).0 (asked _ _ _ e)
+    by_test None (Convert r m) e = (waiting-decides (outcome_of None st s (Convert r m)).state s).0 (asked _ _ _ e)
+    by_test None Poll e = (waiting-decides st s).0 (polled _ _ e)
+    by_test None (Release r) e = absurd (cc e)
+    by_test None Commit e = absurd (cc e)
+    by_test None Abort e = absurd (cc e)
+    by_test None (Try r m) e = (waiting-decides (outcome_of None st s (Try r m)).state s).0 (asked _ _ _ e)
+    by_test None Withdraw e = absurd (cc e)
+
+-- Where an entry stands.
+
+elem-seam : (xs : List Entry) (e : Entry) (ys : List Entry) → get_elem? (xs ++ e ∷ ys) (length xs) ≡ opt.some e
+elem-seam [] e ys = refl
+elem-seam (x ∷ xs) e ys = elem-seam xs e ys
+
+less-or : (i n : ℕ) → (i < n) ⊎ (n ≤ i)
+less-or i zero = inr (omega arith)
+less-or zero (suc n) = inl (omega arith)
+less-or (suc i) (suc n) = ⊎_elim (λ a. inl (omega (arith, a))) (λ b. inr (omega (arith, b))) (less-or i n)
+
+-- A session that was told to wait is not forgotten.
+module _ (s : BoardState) (once : AreEnteredOnce book_object s) (legal : IsLegal (history_of s)) (told : ℕ → ℕ) (u : ℕ) (w : WasToldToWait (history_of s) u) where
+  abbrev h : List Entry
+  h = history_of s
+
+  abbrev e : Entry
+  e = entry u w.call Waiting
+
+  abbrev known : List Entry
+  known = w.front ++ e ∷ []
+
+  whole : h ≡ known ++ w.rest
+  whole = w.history_is ∙ sym (append_assoc w.front (e ∷ []) w.rest)
+
+  asked : HasRequest (state_of known) u
+  asked = subst (λ (st : State). HasRequest st u) (sym (state_of-push w.front e)) (waits-after (state_of w.front) u w.call (sym (legal-steps h legal w.front w.rest e w.history_is)))
+
+  ends-here : HasEndedIn ends_wait known w.rest u → (k index : ℕ) × HasEndedWait s (length w.front) u k index
+  ends-here k =
+      let place : ℕ = length (known ++ k.earlier) in
+      let all : h ≡ (known ++ k.earlier) ++ k.entry ∷ k.later = whole ∙ (ap (λ (l : List Entry). known ++ l) k.entries_are ∙ sym (append_assoc known k.earlier (k.entry ∷ k.later))) in
+      let few : place < length h = omega (arith, ap (λ (l : List Entry). length l) all, length-append (known ++ k.earlier) (k.entry ∷ k.later)) in
+      let found = once.each place few in
+      let places = found.1 in
+      let among = found.3 in
+      let at : get_or places among.0 0 ≡ place = get_or_default places among.0 0 place among.1 ∙ among.2 in (
+        found.0,
+        among.0,
+        record {
+          places = places;
+          entered = found.2;
+          small = among.1;
+          late = omega (arith, at, length-append known k.earlier, length-append w.front (e ∷ []));
+          entry = k.entry;
+          stands = ap (λ (i : ℕ). get_elem? h i) at ∙ (ap (λ (l : List Entry). get_elem? l place) all ∙ elem-seam (known ++ k.earlier) k.entry k.later);
+          ended = subst (λ (l : List Entry). ends_wait l k.entry u) (sym (ap (λ (i : ℕ). take i h) at ∙ (ap (λ (l : List Entry). take place l) all ∙ take-append_seam (known ++ k.earlier) (k.entry ∷ k.later)))) k.ended;
+        },
+      )
+
+  pub not-forgotten : IsNotForgotten s told (length w.front) u
+  not-forgotten = by_request (request_of u (state_of h).table.requests) refl
+    where
+      tells : (k index : ℕ) → HasEndedWait s (length w.front) u k index → IsNotForgotten s told (length w.front) u
+      tells k index ended = ⊎_elim (λ lt. was_told k index ended lt)
+          (λ le. dite (ℕ_discrete (word s 0) k) (λ is. combiner_tells k index ended le is) (λ isnt. is_listed k index ended le isnt))
+          (less-or index (told k))
+
+      by_request : (o : Option Claim) → request_of u (state_of h).table.requests ≡ o → IsNotForgotten s told (length w.front) u
+      by_request (Some q) is = waits (q, is)
+      by_request None is =
+          let gone : request_of u (state_of (known ++ w.rest)).table.requests ≡ None = ap (λ (l : List Entry). request_of u (state_of l).table.requests) (sym whole) ∙ is in
+          let t = ends-here (wait-ended known w.rest u asked w.quiet gone) in tells t.0 t.1 t.2
+
+-- A session that collected the answer Waiting last, and has no call pending.
+
+no-calls : (u k : ℕ) (es : List Entry) → calls_from u k es ≡ [] → MakesNoCall u es
+no-calls u k [] none = All-nil (λ (x : Entry). x.session ≢ u)
+no-calls u k (x ∷ xs) none = go (eqb x.session u) refl none (λ more. no-calls u (k + 1) xs more)
+  where
+    go : (b : Bool) → eqb x.session u ≡ b → cond b (answer k x.call x.reply ∷ calls_from u (k + 1) xs) (calls_from u (k + 1) xs) ≡ [] → (calls_from u (k + 1) xs ≡ [] → MakesNoCall u xs) → MakesNoCall u (x ∷ xs)
+    go true is none more = absurd (cc none)
+    go false is none more = All-cons (λ (y : Entry). y.session ≢ u) x xs (λ same. absurd (let yes = (Decides-eqb x.session u).1 same in cc (yes, is))) (more none)
+
+pub told-to-wait : (history : List Entry) (u : ℕ) (before : List Answered) (place : ℕ) (call : Call) → calls_of u history ≡ before ++ answer place call Waiting ∷ [] → WasToldToWait history u
+told-to-wait history u before place call calls =
+    let t = split u 0 history before (answer place call Waiting) [] calls in
+    record { front = t.front; call = call; rest = t.rest; history_is = t.whole; quiet = no-calls u t.at t.rest t.after_is }
