@@ -1,5 +1,5 @@
 -- Whose waits a session's passes have ended.
-use Rattle.std.specs.Prelude.{◌≢◌, ℕ, ◌<◌, ◌≤◌, ◌↔◌, List, length, take, drop, slice_index, Contains}
+use Rattle.std.specs.Prelude.{◌≢◌, ℕ, ◌<◌, ◌≤◌, ◌↔◌, Option, IfSome, List, length, take, drop, slice_index, Contains}
 use Rattle.sequential.specs.declared.entry.Entry.{Entry}
 use Rattle.sequential.specs.EndedWaits.{HasEndedIn, HasEndedAt}
 use Rattle.publication.specs.Views.{TicketView}
@@ -8,6 +8,10 @@ use Rattle.publication.specs.Views.{TicketView}
 pub record EndedView : Type 0 where
   pub room : ℕ
   pub list : List ℕ
+
+-- There is room for the sessions from 1 to n: room for so many, or none is needed.
+abbrev pub HasRoom : Option ℕ → ℕ → Type 0
+HasRoom room n = IfSome room (λ most. n ≤ most)
 
 -- No session is in the list twice.
 abbrev pub IsOnce : List ℕ → Type 0

@@ -4,7 +4,7 @@ ghost use Rattle.std.specs.Prelude.{◌≡◌, ◌≢◌, ◌⊎◌, ◌<◌, tr
 ghost use Rattle.publication.specs.Boards.{HasCallsOf};
 ghost use Rattle.combining.specs.Sessions.{IsSessionOf, IsIdle, IsPendingServed, IsPerformed, IsRefused};
 ghost use Rattle.combining.specs.Calls.{IsCalled, IsCalling, IsAnswered, IsWaitingOn, HasStarved};
-ghost use Rattle.combining.specs.Ended.{AreToldBy, entered_since};
+ghost use Rattle.combining.specs.Ended.{AreToldBy, entered_since, HasRoom};
 ghost use Rattle.combining.specs.inner.EndedList.{HasAddedTold};
 ghost use Rattle.combining.specs.inner.Calling.{HasGoneOn};
 
@@ -89,7 +89,7 @@ fn perform_soon<O: Batching, T: Told<O>>(
 ) -> Performed<O::Reply>
     requires ours { IsSessionOf office.now session.old }
     requires idle { IsIdle session.old }
-    requires room { T.has_room told.old office.now.sessions }
+    requires room { HasRoom (T.room told.old) office.now.sessions }
     ensures ours { IsSessionOf office.now session.new }
     ensures idle { IsIdle session.new }
     ensures answered { (answer : _) (served : _) (starved : _) → result ≡ Performed.Answered answer served starved
@@ -98,7 +98,7 @@ fn perform_soon<O: Batching, T: Told<O>>(
     ensures elsewhere { result ≡ Performed.Elsewhere → (session.new ≡ session.old) × (0 < tries → 1 < office.now.sessions) }
     ensures calls { result ≢ Performed.Elsewhere → HasCallsOf session.new.front session.new }
     ensures told { HasAddedTold T.ends office.now.sessions session.new.front (entered_since session.old session.new) (T.list told.old) (T.list told.new) }
-    ensures room { T.has_room told.new office.now.sessions }
+    ensures room { T.room told.new ≡ T.room told.old }
 {
     for tried in 0..tries {
         let performed = office.perform_adding(session, *call, told);
@@ -119,13 +119,13 @@ fn serve_if<O: Batching, T: Told<O>>(
 ) -> bool
     requires ours { IsSessionOf office.now session.old }
     requires pending { session.old.pending ≢ None }
-    requires room { T.has_room told.old office.now.sessions }
+    requires room { HasRoom (T.room told.old) office.now.sessions }
     ensures ours { IsSessionOf office.now session.new }
     ensures waits { IsWaitingOn session.old session.new }
     ensures starved { result ≡ true → session.old.put_backs < session.new.put_backs }
     ensures served { result ≡ false → serve_now ≡ true → IsPendingServed session.new ⊎ (1 < office.now.sessions) }
     ensures told { HasAddedTold T.ends office.now.sessions session.new.front (entered_since session.old session.new) (T.list told.old) (T.list told.new) }
-    ensures room { T.has_room told.new office.now.sessions }
+    ensures room { T.room told.new ≡ T.room told.old }
 {
     if !serve_now {
         return false;
@@ -145,7 +145,7 @@ fn turn<O: Batching, T: Told<O>>(
 ) -> Option<Called<O::Reply>>
     requires ours { IsSessionOf office.now session.old }
     requires pending { session.old.pending ≢ None }
-    requires room { T.has_room told.old office.now.sessions }
+    requires room { HasRoom (T.room told.old) office.now.sessions }
     ensures ours { IsSessionOf office.now session.new }
     ensures answered { (answer : _) → result ≡ Some (Called.Answered answer) → IsAnswered O.Sequential session.old session.new answer.place answer.reply × IsIdle session.new }
     ensures starved { result ≡ Some Called.Starved → IsWaitingOn session.old session.new × (session.old.put_backs < session.new.put_backs) }
@@ -154,7 +154,7 @@ fn turn<O: Batching, T: Told<O>>(
     ensures others { IfNone result (serve_now ≡ true → 1 < office.now.sessions) }
     ensures on { HasGoneOn session.old session.new }
     ensures told { HasAddedTold T.ends office.now.sessions session.new.front (entered_since session.old session.new) (T.list told.old) (T.list told.new) }
-    ensures room { T.has_room told.new office.now.sessions }
+    ensures room { T.room told.new ≡ T.room told.old }
 {
     let starved = serve_if(office, session, serve_now, told);
     if let Some(answer) = office.collect(session) {
@@ -176,7 +176,7 @@ fn wait_for_answer<O: Batching, T: Told<O>>(
 ) -> Called<O::Reply>
     requires ours { IsSessionOf office.now session.old }
     requires pending { session.old.pending ≢ None }
-    requires room { T.has_room told.old office.now.sessions }
+    requires room { HasRoom (T.room told.old) office.now.sessions }
     ensures ours { IsSessionOf office.now session.new }
     ensures answered { (answer : _) → result ≡ Called.Answered answer → IsAnswered O.Sequential session.old session.new answer.place answer.reply }
     ensures idle { (answer : _) → result ≡ Called.Answered answer → IsIdle session.new }
@@ -185,7 +185,7 @@ fn wait_for_answer<O: Batching, T: Told<O>>(
     ensures others { result ≡ Called.NotYet → 0 < turns → 1 < office.now.sessions }
     ensures on { HasGoneOn session.old session.new }
     ensures told { HasAddedTold T.ends office.now.sessions session.new.front (entered_since session.old session.new) (T.list told.old) (T.list told.new) }
-    ensures room { T.has_room told.new office.now.sessions }
+    ensures room { T.room told.new ≡ T.room told.old }
 {
     for look in 0..turns {
         if let Some(called) = turn(office, session, look % LOOKS_PER_TRY == 0, told) {
@@ -207,7 +207,7 @@ pub fn resume<O: Batching, T: Told<O>>(
 ) -> Called<O::Reply>
     requires ours { IsSessionOf office.now session.old }
     requires pending { session.old.pending ≢ None }
-    requires room { T.has_room told.old office.now.sessions }
+    requires room { HasRoom (T.room told.old) office.now.sessions }
     ensures ours { IsSessionOf office.now session.new }
     ensures answered { (answer : _) → result ≡ Called.Answered answer → IsAnswered O.Sequential session.old session.new answer.place answer.reply }
     ensures idle { (answer : _) → result ≡ Called.Answered answer → IsIdle session.new }
@@ -215,7 +215,7 @@ pub fn resume<O: Batching, T: Told<O>>(
     ensures starved { result ≡ Called.Starved → HasStarved session.old session.new }
     ensures others { result ≡ Called.NotYet → 0 < turns → 1 < office.now.sessions }
     ensures told { AreToldBy T.ends office.now.sessions session.new.front (entered_since session.old session.new) (T.list told.new) }
-    ensures room { T.has_room told.new office.now.sessions }
+    ensures room { T.room told.new ≡ T.room told.old }
 {
     told.clear();
     wait_for_answer(office, session, turns, told)
@@ -237,14 +237,14 @@ pub fn call<O: Batching, T: Told<O>>(
 ) -> Called<O::Reply>
     requires ours { IsSessionOf office.now session.old }
     requires idle { IsIdle session.old }
-    requires room { T.has_room told.old office.now.sessions }
+    requires room { HasRoom (T.room told.old) office.now.sessions }
     ensures ours { IsSessionOf office.now session.new }
     ensures answered { (answer : _) → result ≡ Called.Answered answer → IsCalled O.Sequential session.old session.new call answer.place answer.reply }
     ensures idle { (answer : _) → result ≡ Called.Answered answer → IsIdle session.new }
     ensures not_yet { result ≡ Called.NotYet → IsCalling session.old session.new call × (1 < office.now.sessions) }
     ensures starved { result ≡ Called.Starved → IsCalling session.old session.new call }
     ensures told { AreToldBy T.ends office.now.sessions session.new.front (entered_since session.old session.new) (T.list told.new) }
-    ensures room { T.has_room told.new office.now.sessions }
+    ensures room { T.room told.new ≡ T.room told.old }
 {
     told.clear();
     let asked = call;

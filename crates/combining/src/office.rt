@@ -8,7 +8,7 @@ ghost use Rattle.publication.specs.Kinds.{longer, maxes};
 ghost use Rattle.publication.specs.Boards.{HasCallsOf, heard_from, known_by, published_by, publishing, enlisted, tried, IsUnlisted, new_tickets, IsEachOnce};
 ghost use Rattle.combining.specs.Sessions.{IsSessionOf, IsIdle, HasNothingPending, IsPendingServed, HasTriedToList, IsPassed, IsCollected};
 ghost use Rattle.combining.specs.Closed.{IsClosed};
-ghost use Rattle.combining.specs.Ended.{AreToldBy, entered_since};
+ghost use Rattle.combining.specs.Ended.{AreToldBy, entered_since, HasRoom};
 
 mod looks;
 mod passes;
@@ -148,7 +148,7 @@ impl<O: Batching> Office<O> {
     /// has ended is this project's own.
     pub fn serve_telling<T: Told<O>>(&self, session: &mut Session<O>, told: &mut T) -> Turn
         requires ours { IsSessionOf self.now session.old }
-        requires room { T.has_room told.old self.now.sessions }
+        requires room { HasRoom (T.room told.old) self.now.sessions }
         ensures ours { IsSessionOf self.now session.new }
         ensures elsewhere { result ≡ Turn.Elsewhere → HasTriedToList session.old session.new × (1 < self.now.sessions) }
         ensures pass { (served : _) (starved : _) → result ≡ Turn.Pass served starved → IsPassed O.Sequential session.old session.new served }
@@ -159,7 +159,7 @@ impl<O: Batching> Office<O> {
         ensures heard { (served j : _) → result ≡ Turn.Pass served false → 0 < j → j ≤ self.now.sessions
             → heard_from session.old j ≤ length (calls_of j session.new.front) }
         ensures told { AreToldBy T.ends self.now.sessions session.new.front (entered_since session.old session.new) (T.list told.new) }
-        ensures room { T.has_room told.new self.now.sessions }
+        ensures room { T.room told.new ≡ T.room told.old }
     {
         told.clear();
         self.pass(session, told)

@@ -5,7 +5,7 @@ ghost use Rattle.publication.specs.Boards.{heard_from, published_by};
 ghost use Rattle.combining.specs.Sessions.{IsIdle};
 ghost use Rattle.combining.specs.inner.OwnCalls.{IsOwnEntered, IsPassWithOwn};
 ghost use Rattle.combining.specs.inner.Passes.{IsAtWork, HasPassed, HasServed};
-ghost use Rattle.combining.specs.Ended.{entered_since};
+ghost use Rattle.combining.specs.Ended.{entered_since, HasRoom};
 ghost use Rattle.combining.specs.inner.EndedList.{HasAddedTold};
 
 use crate::pass::{Pass, serve_published};
@@ -51,13 +51,13 @@ fn perform_own_telling<O: Batching, T: Told<O>>(
 ) -> Option<(u64, O::Reply)>
     requires work { IsAtWork O.Sequential board.now session.old load.old }
     requires idle { IsIdle session.old }
-    requires room { T.has_room told.old board.now.sessions }
+    requires room { HasRoom (T.room told.old) board.now.sessions }
     ensures some { IfSome result (λ r. IsOwnEntered session.old session.new call r.0 r.1) }
     ensures none { IfNone result (session.new ≡ session.old) }
     ensures work { IsAtWork O.Sequential board.now session.new load.new }
     ensures taken { load.new.pieces.items ≡ load.old.pieces.items }
     ensures told { HasAddedTold T.ends board.now.sessions session.new.front (entered_since session.old session.new) (T.list told.old) (T.list told.new) }
-    ensures room { T.has_room told.new board.now.sessions }
+    ensures room { T.room told.new ≡ T.room told.old }
 {
     let answer = perform_own(board, session, load, call)?;
     told.add(&load.object, 1);
@@ -74,12 +74,12 @@ fn serve_published_telling<O: Batching, T: Told<O>>(
 ) -> Pass
     requires work { IsAtWork O.Sequential board.now session.old load.old }
     requires none { session.old.pending ≡ None }
-    requires room { T.has_room told.old board.now.sessions }
+    requires room { HasRoom (T.room told.old) board.now.sessions }
     ensures work { IsAtWork O.Sequential board.now session.new load.new }
     ensures pass { HasPassed session.old session.new result.served }
     ensures served { HasServed board.now.sessions session.old session.new load.old load.new result.starved }
     ensures told { HasAddedTold T.ends board.now.sessions session.new.front (entered_since session.old session.new) (T.list told.old) (T.list told.new) }
-    ensures room { T.has_room told.new board.now.sessions }
+    ensures room { T.room told.new ≡ T.room told.old }
 {
     let pass = serve_published(board, session, load);
     told.add(&load.object, pass.served);
@@ -97,13 +97,13 @@ fn serve_own_first<O: Batching, T: Told<O>>(
 ) -> (Pass, Option<(u64, O::Reply)>)
     requires work { IsAtWork O.Sequential board.now session.old load.old }
     requires idle { IsIdle session.old }
-    requires room { T.has_room told.old board.now.sessions }
+    requires room { HasRoom (T.room told.old) board.now.sessions }
     ensures performed { IfSome result.1 (λ r. IsPassWithOwn true session.old session.new call r.0 r.1 result.0.served) }
     ensures refused { IfNone result.1 (HasPassed session.old session.new result.0.served) }
     ensures work { IsAtWork O.Sequential board.now session.new load.new }
     ensures served { HasServed board.now.sessions session.old session.new load.old load.new result.0.starved }
     ensures told { HasAddedTold T.ends board.now.sessions session.new.front (entered_since session.old session.new) (T.list told.old) (T.list told.new) }
-    ensures room { T.has_room told.new board.now.sessions }
+    ensures room { T.room told.new ≡ T.room told.old }
 {
     let answer = perform_own_telling(board, session, load, call, told);
     (serve_published_telling(board, session, load, told), answer)
@@ -120,13 +120,13 @@ fn serve_own_last<O: Batching, T: Told<O>>(
 ) -> (Pass, Option<(u64, O::Reply)>)
     requires work { IsAtWork O.Sequential board.now session.old load.old }
     requires idle { IsIdle session.old }
-    requires room { T.has_room told.old board.now.sessions }
+    requires room { HasRoom (T.room told.old) board.now.sessions }
     ensures performed { IfSome result.1 (λ r. IsPassWithOwn false session.old session.new call r.0 r.1 result.0.served) }
     ensures refused { IfNone result.1 (HasPassed session.old session.new result.0.served) }
     ensures work { IsAtWork O.Sequential board.now session.new load.new }
     ensures served { HasServed board.now.sessions session.old session.new load.old load.new result.0.starved }
     ensures told { HasAddedTold T.ends board.now.sessions session.new.front (entered_since session.old session.new) (T.list told.old) (T.list told.new) }
-    ensures room { T.has_room told.new board.now.sessions }
+    ensures room { T.room told.new ≡ T.room told.old }
 {
     let pass = serve_published_telling(board, session, load, told);
     let answer = perform_own_telling(board, session, load, call, told);
@@ -145,13 +145,13 @@ pub(crate) fn serve_with_own<O: Batching, T: Told<O>>(
 ) -> (Pass, Option<(u64, O::Reply)>)
     requires work { IsAtWork O.Sequential board.now session.old load.old }
     requires idle { IsIdle session.old }
-    requires room { T.has_room told.old board.now.sessions }
+    requires room { HasRoom (T.room told.old) board.now.sessions }
     ensures performed { IfSome result.1 (λ r. IsPassWithOwn (O.goes_first call) session.old session.new call r.0 r.1 result.0.served) }
     ensures refused { IfNone result.1 (HasPassed session.old session.new result.0.served) }
     ensures work { IsAtWork O.Sequential board.now session.new load.new }
     ensures served { HasServed board.now.sessions session.old session.new load.old load.new result.0.starved }
     ensures told { HasAddedTold T.ends board.now.sessions session.new.front (entered_since session.old session.new) (T.list told.old) (T.list told.new) }
-    ensures room { T.has_room told.new board.now.sessions }
+    ensures room { T.room told.new ≡ T.room told.old }
 {
     if O::goes_first(&call) {
         serve_own_first(board, session, load, call, told)

@@ -5,15 +5,15 @@ use sequential::{Batching, Telling};
 
 /// Who is told whose waits a session's passes have ended: a list ([`Ended`]); or [`Nobody`], which costs nothing.
 pub trait Told<O: Batching> {
-    ghost use Rattle.std.specs.Prelude.{◌≡◌, ◌⊎◌, ℕ, ◌+◌, ◌<◌, ◌↔◌, List, [], length, Contains};
+    ghost use Rattle.std.specs.Prelude.{◌≡◌, ◌⊎◌, ℕ, ◌+◌, ◌<◌, ◌↔◌, Option, List, [], length, Contains};
     ghost use Rattle.sequential.specs.declared.entry.Entry.{Entry};
-    ghost use Rattle.combining.specs.Ended.{IsOnce, IsEndedFrom};
+    ghost use Rattle.combining.specs.Ended.{HasRoom, IsOnce, IsEndedFrom};
 
     // The sessions that it was told of since it was cleared.
     ghost list: { Self → List ℕ };
 
-    // It has room for the sessions from 1 to this number.
-    ghost has_room: { Self → ℕ → Type 0 };
+    // For how many sessions it has room; none if it needs no room.
+    ghost room: { Self → Option ℕ };
 
     // The waits whose end it is told: this entry, behind this front of the history, has ended the wait of this session.
     ghost ends: { List (Entry O.Call O.Reply) → Entry O.Call O.Reply → ℕ → Type 0 };
@@ -21,17 +21,17 @@ pub trait Told<O: Batching> {
     /// Forgets all sessions.
     fn clear(&mut self)
         ensures none { list self.new ≡ [] }
-        ensures room { (n : ℕ) → has_room self.old n → has_room self.new n };
+        ensures room { room self.new ≡ room self.old };
 
     /// Adds the sessions whose wait the last `served` calls have ended, by the object that served them, each if it was not added
     /// before.
     fn add(&mut self, object: &O, served: u32)
         requires tells { 0 < served → (from : ℕ) × O.tells_from object.now from }
-        requires room { has_room self.old (O.sessions object.now) }
+        requires room { HasRoom (room self.old) (O.sessions object.now) }
         ensures members { (from u : ℕ) → (0 < served → O.tells_from object.now from) → length (O.history object.now) ≡ from + served
             → Contains (list self.new) u ↔ (Contains (list self.old) u ⊎ IsEndedFrom ends (O.sessions object.now) (O.history object.now) from u) }
         ensures once { IsOnce (list self.old) → IsOnce (list self.new) }
-        ensures room { (n : ℕ) → has_room self.old n → has_room self.new n };
+        ensures room { room self.new ≡ room self.old };
 }
 
 /// Nobody is told anything.
@@ -39,11 +39,11 @@ pub trait Told<O: Batching> {
 pub struct Nobody;
 
 impl<O: Batching> Told<O> for Nobody {
-    ghost use Rattle.std.specs.Prelude.{[]};
+    ghost use Rattle.std.specs.Prelude.{[], None};
 
     ghost list = { λ _. [] };
 
-    ghost has_room = { λ _ _. Unit {0} };
+    ghost room = { λ _. None };
 
     ghost ends = { λ _ _ _. ⊥ };
 
@@ -55,11 +55,11 @@ impl<O: Batching> Told<O> for Nobody {
 }
 
 impl<O: Telling> Told<O> for Ended {
-    ghost use Rattle.std.specs.Prelude.{◌≤◌};
+    ghost use Rattle.std.specs.Prelude.{Some};
 
     ghost list = { λ ended. ended.list };
 
-    ghost has_room = { λ ended sessions. sessions ≤ ended.room };
+    ghost room = { λ ended. Some ended.room };
 
     ghost ends = { O.ends };
 

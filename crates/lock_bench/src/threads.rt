@@ -9,7 +9,7 @@ use crate::spans;
 use crate::spans::Span;
 use crate::timing::Fault;
 use lock_desk::{Call, NoMemory};
-use lock_office::{Called, Office, Session};
+use lock_office::{Called, Nobody, Office, Session};
 use lock_trace::TraceRow;
 use std::alloc::Global;
 use std::thread;
@@ -43,7 +43,7 @@ fn perform(office: &Office, session: &mut Session, call: Call) -> bool
     requires ours { IsSessionOf office.now session.old × IsIdle session.old }
     ensures ours { OnTrue result (IsSessionOf office.now session.new × IsIdle session.new) }
 {
-    match lock_office::call(office, session, call, LOOKS) {
+    match lock_office::call(office, session, call, LOOKS, &mut Nobody) {
         Called::Answered(_) => true,
         Called::NotYet | Called::Starved => false,
     }

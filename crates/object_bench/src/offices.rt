@@ -6,7 +6,7 @@ ghost use Rattle.sequential.specs.declared.entry.TheConstants.{MAX_SESSIONS};
 ghost use Rattle.combining.specs.Sessions.{IsSessionOf, IsIdle};
 
 use crate::workloads::Workload;
-use combining::{Called, Office, Session};
+use combining::{Called, Nobody, Office, Session};
 use rand_pcg::Pcg32;
 use recording::{Recording, Stepping};
 use sequential::MAX_SESSIONS;
@@ -42,7 +42,8 @@ pub fn work<S: Workload>(
     let mut refused = 0u64;
     for turn in 0..calls {
         let asked = S::call(turn, &mut random);
-        let Called::Answered(answer) = combining::call(office, session, asked, LOOKS) else {
+        let called = combining::call(office, session, asked, LOOKS, &mut Nobody);
+        let Called::Answered(answer) = called else {
             return None;
         };
         refused = refused.wrapping_add(u64::from(S::is_refusal(&answer.reply)));

@@ -5,7 +5,7 @@ ghost use Rattle.std.specs.Prelude.{◌≡◌, All, IfOk, IfSome};
 ghost use Rattle.combining.specs.Sessions.{IsSessionOf, IsIdle};
 
 use crate::choices::Chosen;
-use combining::{Answer, Called, HistoryPiece, Office, Session, call, resume};
+use combining::{Answer, Called, HistoryPiece, Nobody, Office, Session, call, resume};
 use sequential::{Batching, Entry, Trimming};
 use std::alloc::{AllocError, Global};
 use std::process::Abort;
@@ -75,10 +75,10 @@ fn call_whole<O: Batching>(
     ensures ours { IsSessionOf office.now session.new }
     ensures idle { IfSome result (λ _. IsIdle session.new) }
 {
-    let called = match call(office, session, asked, turns) {
+    let called = match call(office, session, asked, turns, &mut Nobody) {
         Called::Answered(answer) => return Some(answer),
         Called::Starved => return None,
-        Called::NotYet => resume(office, session, TURNS),
+        Called::NotYet => resume(office, session, TURNS, &mut Nobody),
     };
     match called {
         Called::Answered(answer) => Some(answer),

@@ -7,17 +7,18 @@ ghost use Rattle.lock_office.specs.Sessions.{IsSessionOf, IsIdle};
 use crate::closing::refused;
 use crate::offices::{begun, pass};
 use lock_desk::{Call, Claim, ClaimKind, Mode, NoMemory, Reply, Resource, Transaction, Why};
+use crate::telling::{tell_beside, tell_by_call};
 use lock_office::queries::{self, Snapshot};
 use lock_office::{
-    Answer, Called, CloseFault, Ended, Office, OpenFault, Performed, Posted, Session, open_keeping,
-    resume,
+    Answer, Called, CloseFault, Ended, Nobody, Office, OpenFault, Performed, Posted, Session,
+    open_keeping, resume,
 };
 use std::alloc::Global;
 use std::process::Abort;
 use std::test::Fail;
 
 /// Database 1.
-fn database(rt: &impl Abort) -> Resource {
+pub(crate) fn database(rt: &impl Abort) -> Resource {
     Resource::from_numbers(&[1]).expect(rt, "a resource")
 }
 
@@ -31,7 +32,7 @@ fn alone(place: u64, reply: Reply) -> Performed {
 }
 
 /// Performs a call of an idle session at once, and once more if memory is refused for it. Wants this answer.
-fn want(
+pub(crate) fn want(
     rt: &impl Abort,
     office: &Office,
     session: &mut Session,
@@ -191,7 +192,7 @@ fn ask_each(
 }
 
 /// Wants that the last pass told of this session alone.
-fn want_told(rt: &impl Abort, ended: &Ended, number: u16) {
+pub(crate) fn want_told(rt: &impl Abort, ended: &Ended, number: u16) {
     let told = ended.sessions();
     assert!(rt; told.len() == 1 && told[0] == number);
 }
@@ -210,6 +211,7 @@ fn tell_each(
     requires room { office.now.sessions ≤ ended.old.room }
     ensures first { IsSessionOf office.now first.new }
     ensures second { IsSessionOf office.now second.new }
+    ensures room { ended.new.room ≡ ended.old.room }
 {
     let database = database(rt);
     wait_behind(rt, office, first, second, database);
@@ -253,7 +255,7 @@ fn new_list(alloc: Global, sessions: u16) -> Result<Ended, NoMemory>
     }
 }
 
-/// Tells as `tell_each` does, with a list for two sessions.
+/// Tells as `tell_each`, `tell_beside` and `tell_by_call` do, with a list for two sessions.
 fn tell(rt: &impl Abort, alloc: Global, office: &Office, first: &mut Session, second: &mut Session)
     requires first { IsSessionOf office.now first.old }
     requires second { IsSessionOf office.now second.old }
@@ -263,6 +265,8 @@ fn tell(rt: &impl Abort, alloc: Global, office: &Office, first: &mut Session, se
 {
     let mut ended = new_list(alloc, 2).ok().expect(rt, "a list");
     tell_each(rt, office, first, second, &mut ended);
+    tell_beside(rt, office, first, second, &mut ended);
+    tell_by_call(rt, office, first, second, &mut ended);
 }
 
 /// A published call stays pending after no turn, and is answered by one, a second one if memory is refused.
@@ -273,12 +277,12 @@ fn resume_in_turns(rt: &impl Abort, office: &Office, only: &mut Session)
     assert!(rt; only.is_idle());
     assert!(rt; office.publish(only, Call::Begin) == Posted::Listed);
     assert!(rt; !only.is_idle() && !only.is_retired());
-    assert!(rt; resume(office, only, 0) == Called::NotYet);
+    assert!(rt; resume(office, only, 0, &mut Nobody) == Called::NotYet);
     assert!(rt; !only.is_idle() && !only.is_retired());
-    let mut called = resume(office, only, 1);
+    let mut called = resume(office, only, 1, &mut Nobody);
     if called == Called::Starved {
         assert!(rt; !only.is_idle() && !only.is_retired());
-        called = resume(office, only, 1);
+        called = resume(office, only, 1, &mut Nobody);
     }
     assert!(rt; called == Called::Answered(begun()));
 }

@@ -6,7 +6,7 @@ ghost use Rattle.lock_office.specs.Sessions.{IsSessionOf, IsIdle};
 
 use lock_desk::{Book, Call, Reply};
 use lock_office::{
-    Answer, Called, Office, OpenFault, Performed, Posted, Session, Turn, call, resume,
+    Answer, Called, Nobody, Office, OpenFault, Performed, Posted, Session, Turn, call, resume,
 };
 use std::alloc::Global;
 use std::process::Abort;
@@ -127,11 +127,11 @@ fn begin_whole(rt: &impl Abort, office: &Office, only: &mut Session) -> bool
     requires ours { IsSessionOf office.now only.old × IsIdle only.old }
     ensures ours { IsSessionOf office.now only.new }
 {
-    let mut called = call(office, only, Call::Begin, 1);
+    let mut called = call(office, only, Call::Begin, 1, &mut Nobody);
     let starved = called == Called::Starved;
     if starved {
         assert!(rt; !only.is_idle() && !only.is_retired() && only.seen() == 0);
-        called = resume(office, only, 1);
+        called = resume(office, only, 1, &mut Nobody);
     }
     assert!(rt; called == Called::Answered(begun()));
     starved

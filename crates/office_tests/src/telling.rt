@@ -3,10 +3,11 @@
 ghost use Rattle.std.specs.Prelude.{◌≡◌, ◌≤◌, IfSome};
 ghost use Rattle.lock_office.specs.Sessions.{IsSessionOf, IsIdle};
 
+use crate::calls::{database, want, want_told};
 use crate::threads::{Caller, Load};
 use crate::workers::{Notes, Worked};
-use lock_desk::{Book, Call, Entry, NoMemory};
-use lock_office::{Answer, Ended, Office, Turn};
+use lock_desk::{Book, Call, Entry, Mode, NoMemory, Reply, Resource};
+use lock_office::{Answer, Called, Ended, Office, Performed, Posted, Session, Turn, call, resume};
 use std::alloc::{AllocError, Global};
 use std::process::Abort;
 use std::test::Fail;
@@ -182,4 +183,113 @@ pub(crate) fn want_passes(
     }
     assert!(rt; book.served() == history.len() as u64);
     Ok(())
+}
+
+/// Lets `waits` wait for the database, which `holder` holds alone, with its begin at this place of the history.
+fn wait_for(
+    rt: &impl Abort,
+    office: &Office,
+    waits: &mut Session,
+    database: Resource,
+    place: u64,
+    number: u64,
+)
+    requires waits { IsSessionOf office.now waits.old }
+    ensures waits { IsSessionOf office.now waits.new × IsIdle waits.new }
+{
+    want(rt, office, waits, &Call::Begin, place, Reply::Began(number));
+    let lock = Call::Lock(database, Mode::X);
+    want(
+        rt,
+        office,
+        waits,
+        &lock,
+        place.wrapping_add(1),
+        Reply::Waiting,
+    );
+}
+
+/// Performs a poll of an idle session at once, and once more if memory is refused for it. Returns the reply, and of how many
+/// sessions both passes have told.
+fn poll_telling(
+    rt: &impl Abort,
+    office: &Office,
+    session: &mut Session,
+    ended: &mut Ended,
+) -> (Reply, usize)
+    requires ours { IsSessionOf office.now session.old × IsIdle session.old }
+    requires room { office.now.sessions ≤ ended.old.room }
+    ensures ours { IsSessionOf office.now session.new }
+    ensures room { ended.new.room ≡ ended.old.room }
+{
+    let mut performed = office.perform_telling(session, Call::Poll, ended);
+    let mut told = ended.sessions().len();
+    if performed == Performed::Starved {
+        performed = office.perform_telling(session, Call::Poll, ended);
+        told = told.wrapping_add(ended.sessions().len());
+    }
+    let Performed::Answered { answer, .. } = performed else {
+        panic!(rt; "an answer");
+    };
+    (answer.reply, told)
+}
+
+/// Session 1, which holds the database, publishes its commit. A poll of session 2, which waits for it, is performed at once behind it,
+/// also after a pass in which memory was refused for one of them. Of session 2 is told once, whichever pass served the commit.
+pub(crate) fn tell_beside(
+    rt: &impl Abort,
+    office: &Office,
+    first: &mut Session,
+    second: &mut Session,
+    ended: &mut Ended,
+)
+    requires first { IsSessionOf office.now first.old }
+    requires second { IsSessionOf office.now second.old }
+    requires room { office.now.sessions ≤ ended.old.room }
+    ensures first { IsSessionOf office.now first.new }
+    ensures second { IsSessionOf office.now second.new }
+    ensures room { ended.new.room ≡ ended.old.room }
+{
+    let database = database(rt);
+    wait_for(rt, office, second, database, 8, 4);
+    assert!(rt; first.is_idle());
+    assert!(rt; office.publish(first, Call::Commit) == Posted::Listed);
+    let (reply, told) = poll_telling(rt, office, second, ended);
+    assert!(rt; reply == Reply::Clear && told == 1);
+    let committed = Answer {
+        place: 10,
+        reply: Reply::Committed(1),
+    };
+    assert!(rt; office.collect(first) == Some(committed));
+}
+
+/// Session 1 waits for session 2, which commits by a whole call, and goes on with it if memory is refused for it: that tells of
+/// session 1.
+pub(crate) fn tell_by_call(
+    rt: &impl Abort,
+    office: &Office,
+    first: &mut Session,
+    second: &mut Session,
+    ended: &mut Ended,
+)
+    requires first { IsSessionOf office.now first.old }
+    requires second { IsSessionOf office.now second.old }
+    requires room { office.now.sessions ≤ ended.old.room }
+    ensures first { IsSessionOf office.now first.new }
+    ensures second { IsSessionOf office.now second.new }
+{
+    let database = database(rt);
+    wait_for(rt, office, first, database, 12, 5);
+    assert!(rt; second.is_idle());
+    let mut called = call(office, second, Call::Commit, 1, ended);
+    if called == Called::Starved {
+        assert!(rt; ended.sessions().is_empty() && !second.is_idle());
+        called = resume(office, second, 1, ended);
+    }
+    let committed = Answer {
+        place: 14,
+        reply: Reply::Committed(1),
+    };
+    assert!(rt; called == Called::Answered(committed));
+    want_told(rt, ended, 1);
 }

@@ -5,7 +5,7 @@ ghost use Rattle.lock_office.specs.Sessions.{IsSessionOf, IsIdle};
 
 use crate::workers::{Task, Worked, work_and_judge};
 use lock_desk::{Book, Call, Entry, Mode, NoMemory, Reply, Resource, Why};
-use lock_office::{Answer, Called, Office, Session, resume};
+use lock_office::{Answer, Called, Nobody, Office, Session, resume};
 use std::process::Abort;
 use std::test::Fail;
 use std::thread;
@@ -119,10 +119,10 @@ fn call_whole(office: &Office, session: &mut Session, asked: &Call) -> Option<An
     ensures ours { IsSessionOf office.now session.new }
     ensures idle { IfSome result (λ _. IsIdle session.new) }
 {
-    let called = match lock_office::call(office, session, *asked, 1) {
+    let called = match lock_office::call(office, session, *asked, 1, &mut Nobody) {
         Called::Answered(answer) => return Some(answer),
         Called::Starved => return None,
-        Called::NotYet => resume(office, session, TURNS),
+        Called::NotYet => resume(office, session, TURNS, &mut Nobody),
     };
     match called {
         Called::Answered(answer) => Some(answer),

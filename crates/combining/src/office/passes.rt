@@ -5,7 +5,7 @@ ghost use Rattle.sequential.specs.Histories.{calls_of};
 ghost use Rattle.publication.specs.Rule.{IsHome};
 ghost use Rattle.publication.specs.Boards.{IsOf, OpensNone, HasCallsOf, heard_from};
 ghost use Rattle.combining.specs.Sessions.{IsSessionOf, IsPendingServed, HasTriedToList, IsPassed};
-ghost use Rattle.combining.specs.Ended.{entered_since};
+ghost use Rattle.combining.specs.Ended.{entered_since, HasRoom};
 ghost use Rattle.combining.specs.inner.Passes.{HasMadePass};
 ghost use Rattle.combining.specs.inner.EndedList.{HasAddedTold};
 
@@ -73,7 +73,7 @@ impl<O: Batching> Office<O> {
     #[inline(always)]
     pub(crate) fn pass<T: Told<O>>(&self, session: &mut Session<O>, told: &mut T) -> Turn
         requires ours { IsSessionOf self.now session.old }
-        requires room { T.has_room told.old self.now.sessions }
+        requires room { HasRoom (T.room told.old) self.now.sessions }
         ensures ours { IsSessionOf self.now session.new }
         ensures elsewhere { result ≡ Turn.Elsewhere → HasTriedToList session.old session.new × (1 < self.now.sessions) }
         ensures pass { (served : _) (starved : _) → result ≡ Turn.Pass served starved → IsPassed O.Sequential session.old session.new served }
@@ -84,7 +84,7 @@ impl<O: Batching> Office<O> {
         ensures heard { (served j : _) → result ≡ Turn.Pass served false → 0 < j → j ≤ self.now.sessions
             → heard_from session.old j ≤ length (calls_of j session.new.front) }
         ensures told { HasAddedTold T.ends self.now.sessions session.new.front (entered_since session.old session.new) (T.list told.old) (T.list told.new) }
-        ensures room { T.has_room told.new self.now.sessions }
+        ensures room { T.room told.new ≡ T.room told.old }
     {
         let Some(made) = self.make_pass(session) else {
             return Turn::Elsewhere;

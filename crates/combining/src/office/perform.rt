@@ -4,7 +4,7 @@ ghost use Rattle.std.specs.Prelude.{◌≡◌, ◌+◌, ◌<◌, ◌≤◌, ◌�
 ghost use Rattle.sequential.specs.Histories.{calls_of};
 ghost use Rattle.publication.specs.Boards.{HasCallsOf, heard_from};
 ghost use Rattle.combining.specs.Sessions.{IsSessionOf, IsIdle, IsPerformed, IsRefused};
-ghost use Rattle.combining.specs.Ended.{AreToldBy, entered_since};
+ghost use Rattle.combining.specs.Ended.{AreToldBy, entered_since, HasRoom};
 ghost use Rattle.combining.specs.inner.EndedList.{HasAddedTold};
 
 use crate::office::{Answer, Office};
@@ -72,7 +72,7 @@ impl<O: Batching> Office<O> {
     ) -> Performed<O::Reply>
         requires ours { IsSessionOf self.now session.old }
         requires idle { IsIdle session.old }
-        requires room { T.has_room told.old self.now.sessions }
+        requires room { HasRoom (T.room told.old) self.now.sessions }
         ensures ours { IsSessionOf self.now session.new }
         ensures idle { IsIdle session.new }
         ensures answered { (answer : _) (served : _) (starved : _) → result ≡ Performed.Answered answer served starved
@@ -85,7 +85,7 @@ impl<O: Batching> Office<O> {
         ensures refused { result ≡ Performed.Starved → IsRefused O.Sequential session.old session.new }
         ensures calls { HasCallsOf session.new.front session.new }
         ensures told { AreToldBy T.ends self.now.sessions session.new.front (entered_since session.old session.new) (T.list told.new) }
-        ensures room { T.has_room told.new self.now.sessions }
+        ensures room { T.room told.new ≡ T.room told.old }
     {
         told.clear();
         self.perform_adding(session, call, told)
@@ -100,7 +100,7 @@ impl<O: Batching> Office<O> {
     ) -> Performed<O::Reply>
         requires ours { IsSessionOf self.now session.old }
         requires idle { IsIdle session.old }
-        requires room { T.has_room told.old self.now.sessions }
+        requires room { HasRoom (T.room told.old) self.now.sessions }
         ensures ours { IsSessionOf self.now session.new }
         ensures idle { IsIdle session.new }
         ensures answered { (answer : _) (served : _) (starved : _) → result ≡ Performed.Answered answer served starved
@@ -113,7 +113,7 @@ impl<O: Batching> Office<O> {
         ensures refused { result ≡ Performed.Starved → IsRefused O.Sequential session.old session.new }
         ensures calls { HasCallsOf session.new.front session.new }
         ensures told { HasAddedTold T.ends self.now.sessions session.new.front (entered_since session.old session.new) (T.list told.old) (T.list told.new) }
-        ensures room { T.has_room told.new self.now.sessions }
+        ensures room { T.room told.new ≡ T.room told.old }
     {
         let Some(mut load) = self.board.seize(session) else {
             return Performed::Elsewhere;

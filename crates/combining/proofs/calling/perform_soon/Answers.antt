@@ -35,5 +35,5 @@ loop-tried-preserved g c =
       told = told-from n u.front v.front [] (g.T.Told.list c.args.told.now) (g.T.Told.list c.loop-tried.told) (g.T.Told.list c.perform_adding-performed.new.told) i.told
           (subst (λ (places : List _). HasAddedTold g.T.Told.ends n v.front places (g.T.Told.list c.loop-tried.told) (g.T.Told.list c.perform_adding-performed.new.told))
           (entered-none u v (ap (λ (x : TicketView _ _). x.entered) kept.0)) e.told);
-      room = e.room;
+      room = e.room ∙ i.room;
     }

@@ -8,5 +8,5 @@ invariant-loop-tried g l = record {
   same : l.session ≡ l.initial.session;
   others : 0 < l.tried → 1 < l.office.sessions;
   told : HasAddedTold g.T.Told.ends l.office.sessions l.session.front [] (g.T.Told.list l.initial.told) (g.T.Told.list l.told);
-  room : g.T.Told.has_room l.told l.office.sessions;
+  room : g.T.Told.room l.told ≡ g.T.Told.room l.initial.told;
 }

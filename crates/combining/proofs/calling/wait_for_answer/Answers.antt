@@ -1,4 +1,4 @@
-use Rattle.std.proofs.Common.{rules}
+use Rattle.std.proofs.Common.{rules, ◌∙◌}
 use Rattle.combining.proofs.EndedWaits.{told-on}
 use Rattle.combining.proofs.Turns.{waiting-on, waiting-trans, on-trans}
 use Rattle.combining.proofs.calling.wait_for_answer.Goals as goal
@@ -24,7 +24,7 @@ loop-look-preserved g c =
       waits = waiting-trans t u v i.waits c.in_default.ensures.none;
       others = search rules;
       told = told-on c.args.office.now.sessions t u v (g.T.Told.list c.args.told.now) (g.T.Told.list c.loop-look.told) (g.T.Told.list c.turn.new.told) i.waits.entered on.longer on.entered i.told c.turn.ensures.told;
-      room = c.turn.ensures.room;
+      room = c.turn.ensures.room ∙ i.room;
     }
 
 pub returns-in-Some-clause-on : goal.returns-in-Some-clause-on

@@ -1,4 +1,4 @@
-use Rattle.std.proofs.Common.{◌<◌}
+use Rattle.std.proofs.Common.{◌≡◌, ◌<◌}
 use Rattle.combining.specs.Sessions.{IsSessionOf}
 use Rattle.combining.specs.Calls.{IsWaitingOn}
 use Rattle.combining.specs.Ended.{entered_since}
@@ -12,5 +12,5 @@ invariant-loop-look g l = record {
   waits : IsWaitingOn l.initial.session l.session;
   others : 0 < l.look → 1 < l.office.sessions;
   told : HasAddedTold g.T.Told.ends l.office.sessions l.session.front (entered_since l.initial.session l.session) (g.T.Told.list l.initial.told) (g.T.Told.list l.told);
-  room : g.T.Told.has_room l.told l.office.sessions;
+  room : g.T.Told.room l.told ≡ g.T.Told.room l.initial.told;
 }

@@ -1,4 +1,5 @@
-use Rattle.std.proofs.Common.{◌∙◌, List, length, ap, arith, subst}
+use Rattle.std.proofs.Common.{◌∙◌, ℕ, List, length, ap, arith, subst}
+use Rattle.combining.specs.Ended.{HasRoom}
 use Rattle.combining.proofs.EndedWaits.{told-step}
 use Rattle.combining.proofs.Places.{entered-step}
 use Rattle.combining.proofs.own_call.serve_published_telling.Goals as goal
@@ -9,7 +10,7 @@ add-requires g c =
     let sessions = pass.ensures.work.home.sessions in
     record {
       tells = λ some. (length c.args.session.now.front, pass.ensures.tells some);
-      room = subst (λ (n : _). g.T.Told.has_room c.args.told.now n) (omega (arith, sessions)) c.requires.room;
+      room = subst (λ (n : ℕ). HasRoom (g.T.Told.room c.args.told.now) n) (omega (arith, sessions)) c.requires.room;
     }
 
 pub returns-clause-told : goal.returns-clause-told

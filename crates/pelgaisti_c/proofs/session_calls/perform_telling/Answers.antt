@@ -11,7 +11,7 @@ pub returns-clause-ok : goal.returns-clause-ok
 returns-clause-ok c = λ e.
     let done = c.perform_telling-performed.ensures in
     let many : c.deref.result.now.sessions ≡ c.args.share.now.sessions = search rules in
-    let told = c.perform_telling-performed.new.ended.list in
+    let told = c.perform_telling-performed.new.told.list in
     let written = c.write_performed-status.ensures in
     let pass = c.write_performed-status.new.pass in
     let found = written.ok e in

@@ -10,7 +10,7 @@ pub returns-clause-ok : goal.returns-clause-ok
 returns-clause-ok c = λ e.
     let turn = c.serve_telling-turn.ensures in
     let many : c.deref.result.now.sessions ≡ c.args.share.now.sessions = search rules in
-    let told = c.serve_telling-turn.new.ended.list in
+    let told = c.serve_telling-turn.new.told.list in
     let written = c.write_turn-status.ensures in
     let pass = c.write_turn-status.new.pass in
     let is = written.ok e in

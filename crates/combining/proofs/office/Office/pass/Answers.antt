@@ -3,7 +3,7 @@ use Rattle.std.specs.List.{Contains}
 use Rattle.publication.specs.Views.{TicketView}
 use Rattle.publication.specs.declared.slot.Load.{Load}
 use Rattle.combining.specs.Sessions.{IsPassed}
-use Rattle.combining.specs.Ended.{IsEndedFrom}
+use Rattle.combining.specs.Ended.{HasRoom, IsEndedFrom}
 use Rattle.combining.proofs.EndedWaits.{told-step}
 use Rattle.combining.proofs.Places.{entered-step}
 use Rattle.combining.proofs.TakenPieces.{pass-ended}
@@ -17,7 +17,7 @@ add-requires g c =
     let many = ap (λ (load : Load _ _ _). g.O.Sequential.sessions load.object) at in
     record {
       tells = λ some. (length (c.args.session.now.front ++ m.others), subst (λ (load : Load _ _ _). g.O.Serving.tells_from load.object (length (c.args.session.now.front ++ m.others))) (sym at) (m.tells some));
-      room = subst (λ (n : ℕ). g.T.Told.has_room c.args.told.now n) (omega (arith, many, sessions)) c.requires.room;
+      room = subst (λ (n : ℕ). HasRoom (g.T.Told.room c.args.told.now) n) (omega (arith, many, sessions)) c.requires.room;
     }
 
 pub returns-clause-pass : goal.returns-clause-pass
