@@ -60,6 +60,7 @@ fn serve(
     ensures ticket { IfOk result (λ _. ticket.new ≡ record ticket.old {
       front = ticket.new.front;
       opened = slice_set ticket.old.opened whose None;
+      entered = ticket.new.entered;
     }) }
     ensures home { IfOk result (λ _. IsHome ticket.new.front (board.now.sessions + 1) load.new) }
     ensures taken { IfOk result (λ _. load.new.pieces.items ≡ load.old.pieces.items) }
