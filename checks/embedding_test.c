@@ -1999,7 +1999,7 @@ static void wakers_are_registered(void) {
     pelgaisti_book book = PELGAISTI_EMPTY;
     pelgaisti_call begin = call_of(PELGAISTI_BEGIN, 0, 0, 0, 0), commit = call_of(PELGAISTI_COMMIT, 0, 0, 0, 0);
     const pelgaisti_waker nobody = {NULL, tally};
-    uint64_t waker = 99, first = 99;
+    uint64_t waker = 99, first = 99, mark = 99;
     uint32_t list[2] = {77, 77};
     size_t count = 99;
 
@@ -2016,6 +2016,7 @@ static void wakers_are_registered(void) {
     for (int s = 0; s < 2; s++) {
         waker = 99;
         CHECK(pelgaisti_raw_session_waker(&sessions[s], &waker) == PELGAISTI_OK && waker == (uint64_t)(uintptr_t)&tallies);
+        CHECK(pelgaisti_session_mark(&sessions[s], &mark) == PELGAISTI_OK && mark == (uint64_t)(uintptr_t)sessions);
         CHECK(pelgaisti_raw_session_told(&sessions[s], 0, list, 2, &count) == PELGAISTI_OK && count == 0 && list[0] == 77);
     }
     CHECK(pelgaisti_raw_session_waker(&other[0], &waker) == PELGAISTI_OK && waker == 0);
@@ -2081,7 +2082,22 @@ static void each_pass_wakes(void) {
         }
 }
 
-/* A pass that ends many waits wakes each session once, and sessions tell whom their passes have woken, from any index on. */
+/* Session 1 tells whom its last pass has woken, so many, from any index on. */
+static void tells_from_any_index(pelgaisti_session *session, size_t woken_by_it) {
+    uint32_t list[MANY + 1], all[MANY];
+    size_t count = 99;
+    CHECK(pelgaisti_raw_session_told(session, 0, all, MANY, &count) == PELGAISTI_OK && count == woken_by_it);
+    for (size_t first = 0; first <= woken_by_it + 1; first++) {
+        size_t left = first < woken_by_it ? woken_by_it - first : 0, room = left < 3 ? left + 1 : left / 2;
+        size_t written = left < room ? left : room;
+        memset(list, 0x55, sizeof list);
+        CHECK(pelgaisti_raw_session_told(session, first, list, room, &count) == PELGAISTI_OK && count == woken_by_it);
+        CHECK(written == 0 || !memcmp(list, all + first, written * sizeof *list));
+        CHECK(list[written] == 0x55555555);
+    }
+}
+
+/* A pass that ends many waits wakes each session once, whether its call tells of them too or not. */
 static void many_are_woken(void) {
     static pelgaisti_session sessions[MANY];
     pelgaisti_book book = PELGAISTI_EMPTY;
@@ -2091,27 +2107,27 @@ static void many_are_woken(void) {
     CHECK(pelgaisti_office_open_waking(sessions, MANY, UINT64_MAX, &tallies) == PELGAISTI_OK);
     /* from one waiter to all others: below, at and above what is read at a time */
     for (uint32_t waiters = 1; waiters < MANY; waiters++) {
-        uint32_t list[MANY + 1], all[MANY];
+        uint32_t list[MANY];
+        pelgaisti_answer answer;
         size_t count = 99;
-        int once = 1;
+        int once = 1, is_telling = waiters % 4 == 0;
         for (uint32_t s = 0; s <= waiters; s++) {
             CHECK(kind_of(&sessions[s], begin) == PELGAISTI_BEGAN);
             CHECK(kind_of(&sessions[s], s == 0 ? write : read) == (uint32_t)(s == 0 ? PELGAISTI_GRANTED : PELGAISTI_WAITING));
         }
-        CHECK(was_woken(MANY, 0) && kind_of(&sessions[0], commit) == PELGAISTI_COMMITTED);
+        CHECK(was_woken(MANY, 0));
+        if (is_telling) {
+            CHECK(pelgaisti_session_perform_telling(&sessions[0], &commit, NULL, &answer, list, MANY, &count) == PELGAISTI_OK);
+            CHECK(answer.reply.kind == PELGAISTI_COMMITTED && count == waiters);
+        } else {
+            CHECK(kind_of(&sessions[0], commit) == PELGAISTI_COMMITTED);
+            tells_from_any_index(&sessions[0], waiters);
+        }
         for (uint32_t s = 1; s <= MANY; s++) {
             once &= tally[s] == (2 <= s && s <= waiters + 1);
             tally[s] = 0;
         }
         CHECK(once);
-        CHECK(pelgaisti_raw_session_told(&sessions[0], 0, all, MANY, &count) == PELGAISTI_OK && count == waiters);
-        for (size_t first = 0; first <= waiters + 1; first++) {
-            size_t left = first < waiters ? waiters - first : 0, room = left < 3 ? left + 1 : left / 2, written = left < room ? left : room;
-            memset(list, 0x55, sizeof list);
-            CHECK(pelgaisti_raw_session_told(&sessions[0], first, list, room, &count) == PELGAISTI_OK && count == waiters);
-            CHECK(written == 0 || !memcmp(list, all + first, written * sizeof *list));
-            CHECK(list[written] == 0x55555555);
-        }
         for (uint32_t s = 1; s <= waiters; s++) {
             CHECK(kind_of(&sessions[s], poll) == PELGAISTI_CLEAR && kind_of(&sessions[s], commit) == PELGAISTI_COMMITTED);
         }

@@ -2,8 +2,9 @@
    the passes. Each thread runs programs: it begins, asks for locks that conflict and close cycles, and commits, or aborts when it is a
    victim. Each call is made in one of the ways in which a call can be made. A thread whose request waits sleeps on its semaphore, and
    then its poll has to reply CLEAR or DEADLOCK. In the end each wait has had one wake-up. If no call is answered for 20 seconds, a
-   thread sleeps for ever, and the program fails.
-   Usage: embedding_wakes [PROGRAMS [refuse]]. With `refuse` one allocation in 50 is refused, at random. Link with
+   thread sleeps for ever, and the program fails. After each 1,000 programs the office is closed and a new one opened, since an office
+   takes nearly all of its memory in its first calls.
+   Usage: embedding_wakes [PROGRAMS [refuse]]. With `refuse` one allocation in 8 is refused, at random. Link with
    -Wl,--wrap=malloc,--wrap=realloc and -lpthread. */
 #define _XOPEN_SOURCE 600 /* for nanosleep under -std=c99 */
 #include "pelgaisti.h"
@@ -15,7 +16,7 @@
 #include <string.h>
 #include <time.h>
 
-enum { THREADS = 64, KEPT = 1024, DATABASES = 12, PAGES = 3, MOST_LOCKS = 4, STILL = 20, ONE_IN = 50 };
+enum { THREADS = 64, KEPT = 1024, DATABASES = 12, PAGES = 3, MOST_LOCKS = 4, STILL = 20, ONE_IN = 8, IN_A_ROUND = 1000 };
 
 /* The ways in which a call is made, and in which a path is locked. */
 enum { PERFORM, AT_ONCE, TELLING, SERVE, SERVE_TELLING, TRY_TWICE, WAYS };
@@ -23,14 +24,14 @@ enum { PERFORM, AT_ONCE, TELLING, SERVE, SERVE_TELLING, TRY_TWICE, WAYS };
 typedef struct worker {
     pelgaisti_session *session;
     uint32_t number, random;
-    uint64_t waits, victims, programs, bad;
-    uint64_t made[WAYS], paths;
+    uint64_t waits, victims, programs, bad, paths, starved;
+    uint64_t made[WAYS];
 } worker;
 
 static pelgaisti_session sessions[THREADS];
 static worker workers[THREADS];
 static sem_t woken[THREADS + 1];
-static uint64_t wakes, answered, left, finished, allocations, refused;
+static uint64_t wakes, answered, left, finished, allocations, refused, bad;
 static int refuses;
 
 void *__real_malloc(size_t size);
@@ -64,8 +65,9 @@ static uint32_t random_below(worker *w, uint32_t bound) {
     return (uint32_t)(((uint64_t)(w->random >> 8) * bound) >> 24);
 }
 
-/* Makes a call that is performed at once, or tells of a pass of its own, until it is made: with ELSEWHERE and NO_MEMORY it wasn't. */
-static int is_to_be_repeated(pelgaisti_status status) {
+/* Whether a call that is performed at once has to be made again: with ELSEWHERE and NO_MEMORY it wasn't performed. */
+static int is_to_be_repeated(worker *w, pelgaisti_status status) {
+    w->starved += status == PELGAISTI_NO_MEMORY;
     if (status != PELGAISTI_ELSEWHERE && status != PELGAISTI_NO_MEMORY) return 0;
     sched_yield();
     return 1;
@@ -75,14 +77,23 @@ static int is_to_be_repeated(pelgaisti_status status) {
 static pelgaisti_status collect(worker *w, int is_telling, pelgaisti_answer *answer) {
     uint32_t list[THREADS];
     pelgaisti_status status;
+    pelgaisti_pass pass;
     size_t count;
     for (;;) {
-        if (is_telling) pelgaisti_session_serve_telling(w->session, NULL, list, THREADS, &count);
-        else pelgaisti_session_serve(w->session, NULL);
+        pass.starved = 0;
+        if (is_telling) pelgaisti_session_serve_telling(w->session, &pass, list, THREADS, &count);
+        else pelgaisti_session_serve(w->session, &pass);
+        w->starved += pass.starved;
         status = pelgaisti_session_collect(w->session, answer);
         if (status != PELGAISTI_NOT_SERVED) return status;
         sched_yield();
     }
+}
+
+/* Whether a call was left pending. */
+static int is_to_be_finished(worker *w, pelgaisti_status status) {
+    w->starved += status == PELGAISTI_NO_MEMORY;
+    return status == PELGAISTI_NOT_SERVED || status == PELGAISTI_NO_MEMORY;
 }
 
 /* Makes a call in one of the ways. */
@@ -95,11 +106,11 @@ static pelgaisti_reply ask(worker *w, const pelgaisti_call *call) {
     switch (way) {
     case AT_ONCE:
         do status = pelgaisti_session_perform_at_once(w->session, call, NULL, &answer);
-        while (is_to_be_repeated(status));
+        while (is_to_be_repeated(w, status));
         break;
     case TELLING:
         do status = pelgaisti_session_perform_telling(w->session, call, NULL, &answer, list, THREADS, &count);
-        while (is_to_be_repeated(status));
+        while (is_to_be_repeated(w, status));
         break;
     case SERVE:
     case SERVE_TELLING:
@@ -108,8 +119,7 @@ static pelgaisti_reply ask(worker *w, const pelgaisti_call *call) {
         break;
     default: /* with few turns the call may be left pending, and is finished */
         status = pelgaisti_session_perform(w->session, call, way == TRY_TWICE ? 2 : UINT64_MAX, &answer);
-        while (status == PELGAISTI_NOT_SERVED || status == PELGAISTI_NO_MEMORY)
-            status = pelgaisti_session_perform(w->session, NULL, UINT64_MAX, &answer);
+        while (is_to_be_finished(w, status)) status = pelgaisti_session_perform(w->session, NULL, UINT64_MAX, &answer);
     }
     w->bad += status != PELGAISTI_OK;
     __atomic_fetch_add(&answered, 1, __ATOMIC_RELAXED);
@@ -143,8 +153,7 @@ static int lock_path(worker *w, const pelgaisti_resource *page, uint32_t mode) {
         pelgaisti_answer answer = {0, {0, 0}};
         pelgaisti_status status = pelgaisti_session_lock_path(w->session, page, mode, &level, UINT64_MAX, &answer);
         /* the path's next call is pending, and its answer is one of the path */
-        while (status == PELGAISTI_NO_MEMORY || status == PELGAISTI_NOT_SERVED)
-            status = pelgaisti_session_perform(w->session, NULL, UINT64_MAX, &answer);
+        while (is_to_be_finished(w, status)) status = pelgaisti_session_perform(w->session, NULL, UINT64_MAX, &answer);
         __atomic_fetch_add(&answered, 1, __ATOMIC_RELAXED);
         w->bad += status != PELGAISTI_OK;
         if (!settle(w, answer.reply)) return 0;
@@ -186,56 +195,73 @@ static void *work(void *argument) {
 
 /* Returns when all threads have finished. Ends the program if no call is answered for STILL seconds. */
 static void watch(void) {
-    const struct timespec tenth = {0, 100000000};
+    const struct timespec tick = {0, 1000000};
     uint64_t before = UINT64_MAX;
     int still = 0;
     while (__atomic_load_n(&finished, __ATOMIC_ACQUIRE) < THREADS) {
         uint64_t now = __atomic_load_n(&answered, __ATOMIC_RELAXED);
         still = now == before ? still + 1 : 0;
         before = now;
-        if (still > 10 * STILL) {
+        if (still > 1000 * STILL) { /* each tick takes a millisecond or more */
             fprintf(stderr, "wakes: no call was answered for %d seconds: a wake-up is lost\n", STILL);
             exit(1);
         }
-        nanosleep(&tenth, NULL);
+        nanosleep(&tick, NULL);
     }
 }
 
-int main(int argc, char **argv) {
-    uint64_t programs = argc > 1 ? strtoull(argv[1], NULL, 10) : 50000, done = 0, waits = 0, victims = 0, bad = 0, paths = 0;
-    uint64_t made[WAYS] = {0};
+/* Runs so many programs in an office of its own. Memory is refused only while they run: to open an office takes so many allocations
+   that one of them would always be refused. */
+static int run_round(uint64_t programs, int is_refusing) {
     pthread_t threads[THREADS];
     pelgaisti_book book = PELGAISTI_EMPTY;
-    pelgaisti_status status = pelgaisti_office_open_waking(sessions, THREADS, KEPT, &waker);
-    if (status != PELGAISTI_OK) return 2;
     left = programs;
-    refuses = argc > 2 && !strcmp(argv[2], "refuse");
-    for (uint32_t t = 0; t < THREADS; t++) {
-        workers[t].session = &sessions[t];
-        workers[t].number = t + 1;
-        workers[t].random = 2654435761u * (t + 1);
-        if (sem_init(&woken[t + 1], 0, 0) != 0) return 2;
-    }
+    finished = 0;
+    if (pelgaisti_office_open_waking(sessions, THREADS, KEPT, &waker) != PELGAISTI_OK) return 0;
+    __atomic_store_n(&refuses, is_refusing, __ATOMIC_RELAXED);
     for (int t = 0; t < THREADS; t++)
-        if (pthread_create(&threads[t], NULL, work, &workers[t]) != 0) return 2;
+        if (pthread_create(&threads[t], NULL, work, &workers[t]) != 0) return 0;
     watch();
     __atomic_store_n(&refuses, 0, __ATOMIC_RELAXED);
     for (int t = 0; t < THREADS; t++) {
         int posted = 9;
         pthread_join(threads[t], NULL);
         /* one wake-up for each wait, and none is left over */
-        bad += workers[t].bad + (sem_getvalue(&woken[t + 1], &posted) != 0 || posted != 0);
-        done += workers[t].programs;
-        waits += workers[t].waits;
-        victims += workers[t].victims;
-        paths += workers[t].paths;
-        for (int way = 0; way < WAYS; way++) made[way] += workers[t].made[way];
+        bad += sem_getvalue(&woken[t + 1], &posted) != 0 || posted != 0;
     }
-    for (int way = 0; way < WAYS; way++) bad += made[way] == 0;
     for (int t = THREADS - 1; t > 0; t--) bad += pelgaisti_session_hand_in(&sessions[t], &sessions[0]) != PELGAISTI_OK;
-    bad += pelgaisti_office_close(&sessions[0], &book) != PELGAISTI_OK || pelgaisti_book_close(&book) != PELGAISTI_OK;
-    printf("%lu programs, %lu calls and paths (%lu), %lu waits, %lu wake-ups, %lu victims, %lu allocations refused; wrong: %lu\n",
-           (unsigned long)done, (unsigned long)answered, (unsigned long)paths, (unsigned long)waits, (unsigned long)wakes,
-           (unsigned long)victims, (unsigned long)refused, (unsigned long)bad);
-    return bad != 0 || done != programs || waits != wakes || waits == 0 || victims == 0 || paths == 0;
+    return pelgaisti_office_close(&sessions[0], &book) == PELGAISTI_OK && pelgaisti_book_close(&book) == PELGAISTI_OK;
+}
+
+int main(int argc, char **argv) {
+    uint64_t programs = argc > 1 ? strtoull(argv[1], NULL, 10) : 50000, begun = 0;
+    int is_refusing = argc > 2 && !strcmp(argv[2], "refuse");
+    worker all = {NULL, 0, 0, 0, 0, 0, 0, 0, 0, {0}};
+    for (uint32_t t = 0; t < THREADS; t++) {
+        workers[t].session = &sessions[t];
+        workers[t].number = t + 1;
+        workers[t].random = 2654435761u * (t + 1);
+        if (sem_init(&woken[t + 1], 0, 0) != 0) return 2;
+    }
+    while (begun < programs) {
+        uint64_t some = programs - begun < IN_A_ROUND ? programs - begun : IN_A_ROUND;
+        if (!run_round(some, is_refusing)) return 2;
+        begun += some;
+    }
+    for (int t = 0; t < THREADS; t++) {
+        all.programs += workers[t].programs;
+        all.waits += workers[t].waits;
+        all.victims += workers[t].victims;
+        all.paths += workers[t].paths;
+        all.starved += workers[t].starved;
+        bad += workers[t].bad;
+        for (int way = 0; way < WAYS; way++) all.made[way] += workers[t].made[way];
+    }
+    for (int way = 0; way < WAYS; way++) bad += all.made[way] == 0;
+    printf("%lu programs, %lu answers, %lu paths, %lu waits, %lu wake-ups, %lu victims; %lu allocations refused, %lu calls or passes "
+           "without memory; wrong: %lu\n", (unsigned long)all.programs, (unsigned long)answered, (unsigned long)all.paths,
+           (unsigned long)all.waits, (unsigned long)wakes, (unsigned long)all.victims, (unsigned long)refused,
+           (unsigned long)all.starved, (unsigned long)bad);
+    return bad != 0 || all.programs != programs || all.waits != wakes || all.waits == 0 || all.victims == 0 || all.paths == 0 ||
+           is_refusing != (all.starved > 0);
 }

@@ -792,6 +792,13 @@ static inline pelgaisti_status pelgaisti_office_open_waking(pelgaisti_session *s
     return PELGAISTI_CALL_(pelgaisti_raw_office_open(sessions, count, mark, bound, (uint64_t)(uintptr_t)waker));
 }
 
+/* A function that isn't inlined, so that calls whose passes wake nobody are short. */
+#if defined(__GNUC__)
+#define PELGAISTI_APART_ static __attribute__((noinline, cold, unused))
+#else
+#define PELGAISTI_APART_ static inline
+#endif
+
 /* The waker of the session's office, or NULL. */
 static inline const pelgaisti_waker *pelgaisti_waker_(pelgaisti_session *session) {
     uint64_t at = 0;
@@ -799,7 +806,7 @@ static inline const pelgaisti_waker *pelgaisti_waker_(pelgaisti_session *session
 }
 
 /* Wakes the sessions that the session's last pass has told of, so many. */
-static inline void pelgaisti_wake_told_(pelgaisti_session *session, size_t told) PELGAISTI_NOEXCEPT_ {
+PELGAISTI_APART_ void pelgaisti_wake_told_(pelgaisti_session *session, size_t told) PELGAISTI_NOEXCEPT_ {
     const pelgaisti_waker *waker = pelgaisti_waker_(session);
     uint32_t list[16];
     size_t first, k, count = 0;
@@ -810,7 +817,7 @@ static inline void pelgaisti_wake_told_(pelgaisti_session *session, size_t told)
 }
 
 /* Wakes the sessions of a list, if the session's office has a waker. */
-static inline void pelgaisti_wake_list_(pelgaisti_session *session, const uint32_t *list, size_t count) PELGAISTI_NOEXCEPT_ {
+PELGAISTI_APART_ void pelgaisti_wake_list_(pelgaisti_session *session, const uint32_t *list, size_t count) PELGAISTI_NOEXCEPT_ {
     const pelgaisti_waker *waker = count > 0 ? pelgaisti_waker_(session) : NULL;
     size_t k;
     for (k = 0; waker && k < count; k++) waker->wake(waker->engine, list[k]);
@@ -1128,6 +1135,7 @@ static inline pelgaisti_status pelgaisti_session_lock_path(pelgaisti_session *se
 }
 
 #undef PELGAISTI_CALL_
+#undef PELGAISTI_APART_
 #undef PELGAISTI_NOEXCEPT_TYPE_
 #undef PELGAISTI_NOEXCEPT_
 

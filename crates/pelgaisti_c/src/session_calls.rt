@@ -242,9 +242,10 @@ fn write_performed(
     }
 }
 
-/// Tries once to become the combiner, and if that succeeds, performs the call at once, in a pass. In an office with a waker it lists
-/// whom to wake in the share.
+/// Tries once to become the combiner, and if that succeeds, performs the call at once, in a pass. The office has a waker: lists whom to
+/// wake in the share.
 fn make_call(share: &mut SessionShare, call: Call) -> Performed<Reply>
+    requires waking { share.old.waker ≢ 0 }
     requires idle { IsIdle share.old.session }
     ensures answered { (answer : _) (served : _) (starved : _) → result ≡ Performed.Answered answer served starved
         → IsPerformed share.old.session share.new.session call answer.place answer.reply served }
@@ -254,24 +255,48 @@ fn make_call(share: &mut SessionShare, call: Call) -> Performed<Reply>
         → heard_from share.old.session j ≤ length (calls_of j share.new.session.front) }
     ensures refused { result ≡ Performed.Starved → IsRefused share.old.session share.new.session }
     ensures calls { HasCallsOf share.new.session.front share.new.session }
-    ensures told { (answer : _) (served : _) (starved : _) → result ≡ Performed.Answered answer served starved → share.new.waker ≢ 0
+    ensures told { (answer : _) (served : _) (starved : _) → result ≡ Performed.Answered answer served starved
         → AreToldBy share.new.sessions (served + 1) share.new.session.front share.new.told.list }
-    ensures told_refused { result ≡ Performed.Starved → (served : ℕ) × (share.new.waker ≢ 0
-        → AreToldBy share.new.sessions served share.new.session.front share.new.told.list) }
+    ensures told_refused { result ≡ Performed.Starved → (served : ℕ) × AreToldBy share.new.sessions served share.new.session.front share.new.told.list }
     ensures same { IsSameOffice share.old share.new }
     ensures elsewhere { result ≡ Performed.Elsewhere → HasToldNone share.old share.new × (1 < share.old.sessions) }
-    ensures unchanged { result ≡ Performed.Elsewhere → share.old.waker ≡ 0 → share.new ≡ share.old }
 {
-    if share.waker == 0 {
-        return share.office.perform(&mut share.session, call);
-    }
     share
         .office
         .perform_telling(&mut share.session, call, &mut share.told)
 }
 
-/// Performs the call that the numbers encode at once, as `make_call` does. Writes how many sessions are to be woken to `told`, also if
-/// memory was refused.
+/// Performs the call, which the numbers encode, at once, as `make_call` does. Writes how many sessions are to be woken to `told`, also if
+/// memory was refused. It stands apart, so that an office without a waker pays for a test alone.
+#[inline(never)]
+fn perform_waking(
+    share: &mut SessionShare,
+    asked: &CallNumbers,
+    call: Call,
+    pass: &mut PassNumbers,
+    answer: &mut AnswerNumbers,
+    told: &mut usize,
+) -> u32
+    requires waking { share.old.waker ≢ 0 }
+    requires call { IsCall asked.now call }
+    requires idle { IsIdle share.old.session }
+    ensures ok { result ≡ OK → IsPerformedAtOnce share.old share.new asked.now answer.new pass.new.served pass.new.starved }
+    ensures told { result ≡ OK → AreToWake share.new (pass.new.served + 1) told.new }
+    ensures told_refused { result ≡ NO_MEMORY → (served : ℕ) × AreToWake share.new served told.new }
+    ensures untold { result ≡ ELSEWHERE → told.new ≡ 0 }
+    ensures failed { result ≢ OK → (pass.new ≡ pass.old) × (answer.new ≡ answer.old) }
+    ensures emptied { result ≡ ELSEWHERE → HasToldNone share.old share.new }
+    ensures memory { result ≡ NO_MEMORY → IsRefusedAtOnce share.old share.new asked.now }
+    ensures elsewhere { result ≡ ELSEWHERE → (2 ≤ share.old.sessions) × MayCall share.old asked.now }
+    ensures statuses { (result ≡ OK) ⊎ ((result ≡ NO_MEMORY) ⊎ (result ≡ ELSEWHERE)) }
+{
+    let performed = make_call(share, call);
+    *told = share.told.sessions().len();
+    write_performed(performed, pass, answer)
+}
+
+/// Tries once to become the combiner, and if that succeeds, performs the call that the numbers encode at once, in a pass. In an office
+/// with a waker it lists whom to wake in the share. Writes how many they are to `told`, also if memory was refused.
 pub(crate) fn perform_at_once(
     share: &mut SessionShare,
     asked: &CallNumbers,
@@ -298,8 +323,11 @@ pub(crate) fn perform_at_once(
         Ok(call) => call,
         Err(fault) => return fault,
     };
-    let performed = make_call(share, call);
-    *told = share.told.sessions().len();
+    if share.waker != 0 {
+        return perform_waking(share, asked, call, pass, answer, told);
+    }
+    let performed = share.office.perform(&mut share.session, call);
+    *told = 0;
     write_performed(performed, pass, answer)
 }
 
