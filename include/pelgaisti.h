@@ -58,9 +58,9 @@
  * its comment lists the statuses; the first test that fails gives the status. A status other than PELGAISTI_OK means that nothing
  * has changed and nothing was written: no handle, no history, no memory that an argument points to. There are four exceptions: a
  * serve that returns ELSEWHERE may put the session's record on the publication list; COPIED closes the session's handle; where
- * memory was refused for a call that was to be performed at once, a pass was made that may have served other calls; and where it was
- * refused for the answer to a question of a session, the session may know more of the history. The calls made
- * of several others say for themselves what they leave (pelgaisti_session_perform, .._lock_path).
+ * memory was refused for a call that was to be performed at once, a pass was made that may have served other calls, and the waker was
+ * called for whom it has told of; and where memory was refused for the answer to a question of a session, the session may know more
+ * of the history. The calls made of several others say for themselves what they leave (pelgaisti_session_perform, .._lock_path).
  *
  * WHAT IS PROVED. Each function of the archive has a contract, which crates/pelgaisti_c states and proves: what PELGAISTI_OK means,
  * which other statuses the call can return, and what each of these implies. The inline functions of this header are tested, and so
@@ -792,9 +792,9 @@ static inline pelgaisti_status pelgaisti_office_open_waking(pelgaisti_session *s
     return PELGAISTI_CALL_(pelgaisti_raw_office_open(sessions, count, mark, bound, (uint64_t)(uintptr_t)waker));
 }
 
-/* A function that isn't inlined, so that calls whose passes wake nobody are short. */
+/* A function that is seldom called, so that compilers keep it out of the calls whose passes wake nobody. */
 #if defined(__GNUC__)
-#define PELGAISTI_APART_ static __attribute__((noinline, cold, unused))
+#define PELGAISTI_APART_ static inline __attribute__((cold))
 #else
 #define PELGAISTI_APART_ static inline
 #endif
